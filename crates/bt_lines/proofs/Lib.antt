@@ -1,0 +1,2 @@
+pub mod PiecesLemmas
+pub mod NumberLemmas

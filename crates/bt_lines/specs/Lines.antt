@@ -1,0 +1,53 @@
+-- The lines of a text, as the UCSC BED description and the SAM specification have them: one a line
+-- feed. A carriage return before the line feed, or at the very end, belongs to the line end.
+use Rattle.std.specs.Prelude.{ℕ, suc, List, [], ◌∷◌, ◌++◌, Bool, length, ◌==◌, if◌then◌else◌}
+use Rattle.std.specs.List.{slice_split}
+use Rattle.std.specs.Io.BufRead.{ends_with_byte, strip_last}
+use Rattle.bt_lines.specs.declared.line.LineEnd.{LineEnd}
+use Rattle.bt_lines.specs.declared.line.LineEnd.TheVariants.{Absent, Lf, CrLf, Cr}
+
+-- a line: its number, counted from 1, its text without the line end, and how it ended
+pub record TextLine : Type 0 where
+  pub number : ℕ
+  pub text : List ℕ
+  pub ending : LineEnd
+
+-- the pieces of a text between separators; a text without a separator is one piece
+abbrev pub pieces : ℕ → List ℕ → List (List ℕ)
+pieces separator bytes = slice_split (λ byte. byte == separator) bytes
+
+-- the line of a piece with a line feed behind it
+abbrev pub fed_line : ℕ → List ℕ → TextLine
+fed_line number piece =
+    record { number = number; text = strip_last 13 piece; ending = if ends_with_byte 13 piece then CrLf else Lf }
+
+-- the line of the last piece, which has no line feed behind it; an empty one is no line
+abbrev pub last_line : ℕ → List ℕ → List TextLine
+last_line number [] = []
+last_line number (byte ∷ bytes) =
+    record { number = number; text = strip_last 13 (byte ∷ bytes); ending = if ends_with_byte 13 (byte ∷ bytes) then Cr else Absent } ∷ []
+
+-- the lines of the pieces between line feeds, numbered from the number given
+abbrev pub numbered : ℕ → List (List ℕ) → List TextLine
+numbered number [] = []
+numbered number (piece ∷ []) = last_line number piece
+numbered number (piece ∷ next ∷ rest) = fed_line number piece ∷ numbered (suc number) (next ∷ rest)
+
+-- the lines of a text of which the first has the number given
+unfoldable pub lines_from : ℕ → List ℕ → List TextLine
+lines_from number bytes = numbered number (pieces 10 bytes)
+
+-- the lines of a text
+abbrev pub text_lines : List ℕ → List TextLine
+text_lines bytes = lines_from 1 bytes
+
+-- the bytes of a line end
+abbrev pub end_bytes : LineEnd → List ℕ
+end_bytes Absent = []
+end_bytes Lf = 10 ∷ []
+end_bytes CrLf = 13 ∷ 10 ∷ []
+end_bytes Cr = 13 ∷ []
+
+-- a line as it stood in the text
+abbrev pub spelled : TextLine → List ℕ
+spelled line = line.text ++ end_bytes line.ending

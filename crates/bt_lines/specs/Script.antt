@@ -1,0 +1,36 @@
+-- What scripted devices hold: they stand for a file or a terminal in tests.
+use Rattle.std.specs.Prelude.{ℕ, ◌-◌, Bool, List, min, length, drop, Option, Some, None, nat_le, false}
+
+-- a source that hands over its bytes in order, at most step of them a call, and fails once good bytes were given
+pub record Reading : Type 0 where
+  pub bytes : List ℕ
+  pub step : ℕ
+  pub good : Option ℕ
+  pub given : ℕ
+  pub has_failed : Bool
+  pub end_told : Bool
+
+-- a sink that takes at most step bytes a call, and fails once good bytes were taken
+pub record Writing : Type 0 where
+  pub taken : List ℕ
+  pub step : ℕ
+  pub good : Option ℕ
+  pub has_failed : Bool
+
+-- the script has used up its good bytes
+abbrev pub is_spent : Option ℕ → ℕ → Bool
+is_spent None moved = false
+is_spent (Some good) moved = nat_le good moved
+
+-- how many of n bytes the script lets pass
+abbrev pub let_through : Option ℕ → ℕ → ℕ → ℕ
+let_through None moved n = n
+let_through (Some good) moved n = min n (good - moved)
+
+-- how many bytes a reading hands over into a block of this size
+abbrev pub hands_over : Reading → ℕ → ℕ
+hands_over r room = let_through r.good r.given (min (min r.step room) (length r.bytes - r.given))
+
+-- how many of n bytes a writing takes
+abbrev pub takes_of : Writing → ℕ → ℕ
+takes_of w n = let_through w.good (length w.taken) (min w.step n)

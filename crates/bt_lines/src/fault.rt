@@ -1,0 +1,79 @@
+//! What went wrong, and where.
+
+ghost use Rattle.std.specs.Prelude.{◌≡◌, is_some, IfOk};
+
+use std::alloc::{AllocError, Global};
+use std::marker::Model;
+
+/// What went wrong.
+#[derive(Clone, Copy, Debug, PartialEq, Eq)]
+pub enum Kind {
+    /// A line has fewer columns than its format asks for.
+    TooFewColumns,
+    /// The chromosome's name is empty.
+    EmptyName,
+    /// The start isn't a number.
+    BadStart,
+    /// The end isn't a number.
+    BadStop,
+    /// The start isn't below the end, so that the feature has no base.
+    EmptyFeature,
+    /// The genome file doesn't have the chromosome.
+    UnknownChrom,
+    /// The record's place lies below that of the record before it.
+    OutOfOrder,
+    /// A chromosome's length isn't a number, or is 0.
+    BadLength,
+    /// An earlier line of the genome file has the name.
+    RepeatedChrom,
+    /// The input couldn't be read further, or is longer than 2^63 - 1 bytes.
+    ReadFailed,
+    /// The output couldn't be written.
+    WriteFailed,
+    /// A buffer couldn't grow.
+    NoMemory,
+}
+
+/// One of the inputs of a run: the genome file, the input of `-i`, `-a` or `-fi`, and that of `-b`
+/// or `-bed`.
+#[derive(Clone, Copy, Debug, PartialEq, Eq)]
+pub enum Input {
+    Genome,
+    First,
+    Second,
+}
+
+/// A line of an input, counted from 1.
+#[derive(Clone, Copy, Debug, PartialEq, Eq)]
+pub struct Place {
+    pub input: Input,
+    pub line: u64,
+}
+
+/// What ended a run. It has a place but for a failed write and for want of memory.
+#[derive(Clone, Copy, Debug, PartialEq, Eq)]
+pub struct Fault {
+    pub kind: Kind,
+    pub place: Option<Place>,
+}
+
+impl Model for Fault {
+    ghost use Rattle.std.specs.Prelude.{◌≡◌, is_some};
+    ghost use Rattle.bt_lines.specs.Fault.{Told, has_place};
+
+    ghost Value = { Told };
+
+    ghost view = { λ f. record { kind = f.kind; place = f.place } };
+
+    ghost invariant = { λ f. is_some f.place ≡ has_place f.kind };
+
+    ghost inverse = { λ t. record { kind = t.kind; place = t.place } };
+}
+
+/// The names of a run's inputs, as the user gave them.
+#[derive(Clone, Copy, Debug)]
+pub struct Names<'a> {
+    pub genome: &'a [u8],
+    pub first: &'a [u8],
+    pub second: &'a [u8],
+}

@@ -1,0 +1,27 @@
+//! Lines in, bytes out, and faults with a name and a place.
+//!
+//! The lowest layer: it reads lines from any [`Source`], hands bytes to any [`Sink`], and tells
+//! what went wrong where. It knows nothing of BED.
+#![tactic(auto)]
+
+pub mod column_iter;
+pub mod device;
+pub mod fault;
+pub mod from_read;
+pub mod line;
+pub mod numbers;
+pub mod script_sink;
+pub mod script_source;
+pub mod split;
+pub mod to_write;
+
+pub use column_iter::Columns;
+pub use device::{DeviceFailed, Sink, Source};
+pub use fault::{Fault, Input, Kind, Names, Place};
+pub use from_read::FromRead;
+pub use line::{Line, LineEnd};
+pub use numbers::{MAX_NUMBER, number};
+pub use script_sink::ScriptSink;
+pub use script_source::ScriptSource;
+pub use split::columns;
+pub use to_write::ToWrite;
