@@ -1,2 +1,4 @@
 pub mod PiecesLemmas
 pub mod NumberLemmas
+pub mod OutputLemmas
+pub mod ResultLemmas

@@ -52,3 +52,15 @@ place_text names (Some place) = name_of names place.input ++ codes ":" ++ decima
 abbrev pub line_of : List ℕ → InputNames → Told → List ℕ
 line_of command names fault =
     codes "bedtools " ++ command ++ codes ": " ++ place_text names fault.place ++ text_of fault.kind ++ codes "\n"
+
+-- the fault of a failed write
+abbrev pub write_failed : Told
+write_failed = record { kind = WriteFailed; place = None }
+
+-- the fault of a refused growth
+abbrev pub no_memory : Told
+no_memory = record { kind = NoMemory; place = None }
+
+-- the fault of a failed read, at a line of an input
+abbrev pub read_failed : Input → ℕ → Told
+read_failed input line = record { kind = ReadFailed; place = Some (record { input = input; line = line }) }

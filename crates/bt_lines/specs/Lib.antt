@@ -5,3 +5,5 @@ pub mod Script
 pub mod Lines
 pub mod Number
 pub mod Columns
+pub mod Output
+pub mod Names

@@ -1,8 +1,8 @@
 //! What went wrong, and where.
 
-ghost use Rattle.std.specs.Prelude.{◌≡◌, is_some, IfOk};
+ghost use Rattle.std.specs.Prelude.{◌≡◌};
+ghost use Rattle.bt_lines.specs.Fault.{text_of};
 
-use std::alloc::{AllocError, Global};
 use std::marker::Model;
 
 /// What went wrong.
@@ -32,6 +32,28 @@ pub enum Kind {
     WriteFailed,
     /// A buffer couldn't grow.
     NoMemory,
+}
+
+impl Kind {
+    /// The words for it on a fault line.
+    pub fn text(self) -> &'static [u8]
+        ensures { result.now ≡ text_of self }
+    {
+        match self {
+            Kind::TooFewColumns => b"too few columns",
+            Kind::EmptyName => b"empty chromosome name",
+            Kind::BadStart => b"start is not a number",
+            Kind::BadStop => b"end is not a number",
+            Kind::EmptyFeature => b"start is not below end",
+            Kind::UnknownChrom => b"chromosome is not in the genome file",
+            Kind::OutOfOrder => b"record is out of order",
+            Kind::BadLength => b"length is not a number",
+            Kind::RepeatedChrom => b"chromosome is repeated",
+            Kind::ReadFailed => b"reading failed",
+            Kind::WriteFailed => b"writing failed",
+            Kind::NoMemory => b"no memory",
+        }
+    }
 }
 
 /// One of the inputs of a run: the genome file, the input of `-i`, `-a` or `-fi`, and that of `-b`
@@ -68,12 +90,4 @@ impl Model for Fault {
     ghost invariant = { λ f. is_some f.place ≡ has_place f.kind };
 
     ghost inverse = { λ t. record { kind = t.kind; place = t.place } };
-}
-
-/// The names of a run's inputs, as the user gave them.
-#[derive(Clone, Copy, Debug)]
-pub struct Names<'a> {
-    pub genome: &'a [u8],
-    pub first: &'a [u8],
-    pub second: &'a [u8],
 }

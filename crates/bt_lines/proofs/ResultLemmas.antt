@@ -1,0 +1,7 @@
+-- Lemmas on clauses that speak of one outcome.
+use Rattle.std.specs.Prelude.{Result, Ok, Err, OnErr, OnOk}
+
+-- what always holds, holds at an error
+pub always_err : {T E P : Type 0} (r : Result T E) → P → OnErr r P
+always_err (Ok x) p = tt
+always_err (Err e) p = p

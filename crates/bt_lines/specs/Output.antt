@@ -1,0 +1,28 @@
+-- What an output has put and what its sink has taken.
+use Rattle.std.specs.Prelude.{◌≡◌, ℕ, ◌≤◌, Bool, List, ◌++◌, length, Option, Some, None, ⊤}
+use Rattle.std.specs.Io.KnownBytes.{Appends}
+
+-- how many bytes a reader may have taken ahead, and an output may hold back
+abbrev pub block_size : ℕ
+block_size = 1
+
+-- an output over a sink: the bytes put and the bytes that the sink took, where they are known
+pub record Output : Type 0 where
+  pub put : Option (List ℕ)
+  pub took : Option (List ℕ)
+  pub has_failed : Bool
+  pub sink_has_failed : Bool
+
+-- what was put and what was taken differ by at most a block, held back
+abbrev pub HoldsBlock : Option (List ℕ) → Option (List ℕ) → Type 0
+HoldsBlock took put = (held : List ℕ) × Appends took put held × (length held ≤ block_size)
+
+-- new is a front of the known bytes old, with more bytes behind them
+abbrev pub IsFrontOf : Option (List ℕ) → Option (List ℕ) → List ℕ → Type 0
+IsFrontOf None old more = ⊤
+IsFrontOf (Some new) None more = ⊤
+IsFrontOf (Some new) (Some old) more = (rest : List ℕ) × (new ++ rest ≡ old ++ more)
+
+-- known bytes stay at the front, and some may have come
+abbrev pub Grows : Option (List ℕ) → Option (List ℕ) → Type 0
+Grows old new = (more : List ℕ) × Appends old new more

@@ -1,0 +1,135 @@
+//! Bytes out, in order, to a sink.
+
+ghost use Rattle.std.specs.Prelude.{◌≡◌, ℕ, false, true, [], length, OnOk, OnErr, IfErr, IsErr, Some, None};
+ghost use Rattle.std.specs.Io.KnownBytes.{Appends, Keeps};
+ghost use Rattle.bt_lines.specs.Output.{HoldsBlock, IsFrontOf, Grows};
+ghost use Rattle.bt_lines.specs.Fault.{write_failed};
+
+use crate::device::{DeviceFailed, Sink};
+use crate::fault::{Fault, Kind};
+use std::marker::Model;
+
+/// Puts bytes to a sink in order. Once the sink has failed, nothing more is written, and each call
+/// answers that writing failed.
+pub struct Out<K: Sink> {
+    sink: K,
+    has_failed: bool,
+}
+
+impl<K: Sink> Model for Out<K> {
+    ghost use Rattle.std.specs.Prelude.{◌≡◌, true};
+    ghost use Rattle.bt_lines.specs.Output.{Output};
+
+    ghost Value = { Output };
+
+    ghost view = { λ o. record {
+        put = K.took o.sink;
+        took = K.took o.sink;
+        has_failed = o.has_failed;
+        sink_has_failed = K.has_failed o.sink
+    } };
+
+    ghost invariant = { λ o. o.has_failed ≡ true → K.has_failed o.sink ≡ true };
+}
+
+impl<K: Sink> Out<K> {
+    /// An output that has put nothing yet beside what the sink took before.
+    pub fn new(sink: K) -> Out<K>
+        ensures { result ≡ record {
+            put = K.took sink;
+            took = K.took sink;
+            has_failed = false;
+            sink_has_failed = K.has_failed sink
+        } }
+    {
+        Out {
+            sink,
+            has_failed: false,
+        }
+    }
+
+    /// Puts a piece behind what was put before. It may stay held back until a `flush`.
+    pub fn put(&mut self, piece: &[u8]) -> Result<(), Fault>
+        ensures put { OnOk result (Appends self.old.put self.new.put piece.now) }
+        ensures block { OnOk result (HoldsBlock self.new.took self.new.put) }
+        ensures front { OnErr result (IsFrontOf self.new.took self.old.put piece.now) }
+        ensures grows { Grows self.old.took self.new.took }
+
+        ensures served { OnOk result ((self.new.has_failed ≡ false)
+            × (self.old.has_failed ≡ false)
+            × (self.new.sink_has_failed ≡ self.old.sink_has_failed)) }
+        ensures fault { IfErr result (λ fault. fault ≡ write_failed) }
+        ensures cause { OnErr result ((self.new.has_failed ≡ true)
+            × (self.new.sink_has_failed ≡ true)) }
+        ensures again { self.old.has_failed ≡ true → IsErr result × (self.new ≡ self.old) }
+    {
+        if self.has_failed {
+            return Err(write_failed());
+        }
+        if write_whole(&mut self.sink, piece).is_err() {
+            self.has_failed = true;
+            return Err(write_failed());
+        }
+        Ok(())
+    }
+
+    /// Hands on all that is held back. After an `Ok` the sink has taken all bytes put.
+    pub fn flush(&mut self) -> Result<(), Fault>
+        ensures put { OnOk result (Keeps self.old.put self.new.put) }
+        ensures taken { OnOk result (Keeps self.new.put self.new.took) }
+        ensures front { OnErr result (IsFrontOf self.new.took self.old.put []) }
+        ensures grows { Grows self.old.took self.new.took }
+
+        ensures served { OnOk result ((self.new.has_failed ≡ false)
+            × (self.old.has_failed ≡ false)
+            × (self.new.sink_has_failed ≡ self.old.sink_has_failed)) }
+        ensures fault { IfErr result (λ fault. fault ≡ write_failed) }
+        ensures cause { OnErr result ((self.new.has_failed ≡ true)
+            × (self.new.sink_has_failed ≡ true)) }
+        ensures again { self.old.has_failed ≡ true → IsErr result × (self.new ≡ self.old) }
+    {
+        if self.has_failed {
+            return Err(write_failed());
+        }
+        if self.sink.flush().is_err() {
+            self.has_failed = true;
+            return Err(write_failed());
+        }
+        Ok(())
+    }
+
+    /// Gives back the sink. What was held back and not flushed is lost.
+    pub fn into_sink(self) -> K
+        ensures took { K.took result ≡ self.took }
+        ensures failed { K.has_failed result ≡ self.sink_has_failed }
+    {
+        let Out { sink, has_failed: _ } = self;
+        sink
+    }
+}
+
+// The fault of a failed write.
+fn write_failed() -> Fault
+    ensures { result ≡ write_failed }
+{
+    Fault {
+        kind: Kind::WriteFailed,
+        place: None,
+    }
+}
+
+// Hands a whole piece to the sink, by as many writes as it takes.
+fn write_whole<K: Sink>(sink: &mut K, piece: &[u8]) -> Result<(), DeviceFailed>
+    ensures whole { OnOk result (Appends (K.took sink.old) (K.took sink.new) piece.now) }
+    ensures front { OnErr result (IsFrontOf (K.took sink.new) (K.took sink.old) piece.now) }
+    ensures grows { Grows (K.took sink.old) (K.took sink.new) }
+    ensures served { OnOk result (K.has_failed sink.new ≡ K.has_failed sink.old) }
+    ensures failed { OnErr result (K.has_failed sink.new ≡ true) }
+{
+    let mut rest = piece;
+    while !rest.is_empty() {
+        let count = sink.write(rest)?;
+        rest = &rest[count..];
+    }
+    Ok(())
+}
