@@ -7,3 +7,6 @@ pub mod Number
 pub mod Columns
 pub mod Output
 pub mod Names
+pub mod Given
+pub mod Reader
+pub mod Filling

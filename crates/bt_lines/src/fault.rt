@@ -1,9 +1,7 @@
 //! What went wrong, and where.
 
-ghost use Rattle.std.specs.Prelude.{◌≡◌};
-ghost use Rattle.bt_lines.specs.Fault.{text_of};
-
-use std::marker::Model;
+ghost use Rattle.std.specs.Prelude.{◌≡◌, is_some};
+ghost use Rattle.bt_lines.specs.Fault.{has_place, text_of};
 
 /// What went wrong.
 #[derive(Clone, Copy, Debug, PartialEq, Eq)]
@@ -77,17 +75,5 @@ pub struct Place {
 pub struct Fault {
     pub kind: Kind,
     pub place: Option<Place>,
-}
-
-impl Model for Fault {
-    ghost use Rattle.std.specs.Prelude.{◌≡◌, is_some};
-    ghost use Rattle.bt_lines.specs.Fault.{Told, has_place};
-
-    ghost Value = { Told };
-
-    ghost view = { λ f. record { kind = f.kind; place = f.place } };
-
-    ghost invariant = { λ f. is_some f.place ≡ has_place f.kind };
-
-    ghost inverse = { λ t. record { kind = t.kind; place = t.place } };
+    ghost placed: { is_some place ≡ has_place kind },
 }

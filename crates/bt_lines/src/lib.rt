@@ -7,8 +7,10 @@
 pub mod column_iter;
 pub mod device;
 pub mod fault;
+mod filling;
 pub mod from_read;
 pub mod line;
+pub mod line_reader;
 pub mod numbers;
 pub mod output;
 pub mod report;
@@ -22,6 +24,7 @@ pub use device::{DeviceFailed, Sink, Source};
 pub use fault::{Fault, Input, Kind, Place};
 pub use from_read::FromRead;
 pub use line::{Line, LineEnd};
+pub use line_reader::LineReader;
 pub use numbers::{MAX_NUMBER, number};
 pub use output::Out;
 pub use report::{Names, fault_line};

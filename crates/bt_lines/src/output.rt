@@ -4,6 +4,7 @@ ghost use Rattle.std.specs.Prelude.{◌≡◌, ℕ, false, true, [], length, OnO
 ghost use Rattle.std.specs.Io.KnownBytes.{Appends, Keeps};
 ghost use Rattle.bt_lines.specs.Output.{HoldsBlock, IsFrontOf, Grows};
 ghost use Rattle.bt_lines.specs.Fault.{write_failed};
+ghost use Rattle.bt_lines.specs.Names.{told};
 
 use crate::device::{DeviceFailed, Sink};
 use crate::fault::{Fault, Kind};
@@ -58,7 +59,7 @@ impl<K: Sink> Out<K> {
         ensures served { OnOk result ((self.new.has_failed ≡ false)
             × (self.old.has_failed ≡ false)
             × (self.new.sink_has_failed ≡ self.old.sink_has_failed)) }
-        ensures fault { IfErr result (λ fault. fault ≡ write_failed) }
+        ensures fault { IfErr result (λ fault. told fault ≡ write_failed) }
         ensures cause { OnErr result ((self.new.has_failed ≡ true)
             × (self.new.sink_has_failed ≡ true)) }
         ensures again { self.old.has_failed ≡ true → IsErr result × (self.new ≡ self.old) }
@@ -83,7 +84,7 @@ impl<K: Sink> Out<K> {
         ensures served { OnOk result ((self.new.has_failed ≡ false)
             × (self.old.has_failed ≡ false)
             × (self.new.sink_has_failed ≡ self.old.sink_has_failed)) }
-        ensures fault { IfErr result (λ fault. fault ≡ write_failed) }
+        ensures fault { IfErr result (λ fault. told fault ≡ write_failed) }
         ensures cause { OnErr result ((self.new.has_failed ≡ true)
             × (self.new.sink_has_failed ≡ true)) }
         ensures again { self.old.has_failed ≡ true → IsErr result × (self.new ≡ self.old) }
@@ -110,7 +111,7 @@ impl<K: Sink> Out<K> {
 
 // The fault of a failed write.
 fn write_failed() -> Fault
-    ensures { result ≡ write_failed }
+    ensures { told result ≡ write_failed }
 {
     Fault {
         kind: Kind::WriteFailed,
