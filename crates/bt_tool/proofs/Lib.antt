@@ -1,0 +1,10 @@
+pub mod Apart
+pub mod Scan
+pub mod Bridging
+pub mod OneOpen
+pub mod Names
+pub mod Standing
+pub mod Steps
+pub mod Placed
+pub mod PlainSpans
+pub mod Examples

@@ -1,0 +1,237 @@
+-- Records in the order of a list of names: their chromosomes come in that order, each once.
+use Rattle.std.proofs.Common.{◌≡◌, ℕ, suc, ◌+◌, ◌<◌, ◌≤◌, inl, inr, List, [], ◌∷◌, ◌++◌, refl, sym, ap, subst, ◌∙◌, arith, map, drop, length, filter, cond, Bool, true, false, ◌||◌, bytes_eq, nat_lt, IsSome, Option, Some, None, option_map}
+use Rattle.std.proofs.lemmas.Bool.{cases_Bool, cond-true, cond-false, or_parts, or_from, or_left, false≢true}
+use Rattle.bt_tool.specs.Interval.{last_from, Interval, placed_on}
+use Rattle.bt_tool.specs.Stretches.{stretches_from}
+use Rattle.bt_tool.specs.Merged.{runs_of, runs_on, merged, without, chromosomes}
+use Rattle.bt_tool.specs.Place.{is_among, AreDistinct, rank_of, IsPlacedUpTo, ArePlaced, has_records, IsFollowed, placed_are_together, placed_grows}
+use Rattle.bt_tool.specs.Settled.{names_before, settled, merged_in_order, settled_in_order, kept_in_order, settled_begins_in_order}
+use Rattle.bt_tool.proofs.Names.{name_eq, name_ne, name_ne-sym, cases_name, spans_on-none, among_chromosomes, without-here, without-other, has_records-last}
+use Rattle.bt_tool.proofs.Steps.{begins_settled}
+
+-- ranks
+rank_of-here : (n name : List ℕ) (ns : List (List ℕ)) → n ≡ name → rank_of (n ∷ ns) name ≡ Some 0
+rank_of-here n name ns e = cond-true (bytes_eq n name) (Some 0) (option_map (λ rank. suc rank) (rank_of ns name)) (name_eq n name e)
+
+rank_of-later : (n name : List ℕ) (ns : List (List ℕ)) → bytes_eq n name ≡ false → rank_of (n ∷ ns) name ≡ option_map (λ rank. suc rank) (rank_of ns name)
+rank_of-later n name ns f = cond-false (bytes_eq n name) (Some 0) (option_map (λ rank. suc rank) (rank_of ns name)) f
+
+one_less : (o : Option ℕ) (i : ℕ) → option_map (λ rank. suc rank) o ≡ Some i → (k : ℕ) × (o ≡ Some k) × (i ≡ suc k)
+one_less None i e = absurd (cc)
+one_less (Some k) i e = (k, refl, cc)
+
+-- the rank past the first name
+rank_past : (n name : List ℕ) (ns : List (List ℕ)) (i : ℕ) → bytes_eq n name ≡ false → rank_of (n ∷ ns) name ≡ Some i → (k : ℕ) × (rank_of ns name ≡ Some k) × (i ≡ suc k)
+rank_past n name ns i f e = one_less (rank_of ns name) i (sym (rank_of-later n name ns f) ∙ e)
+
+rank_first : (n name : List ℕ) (ns : List (List ℕ)) (i : ℕ) → n ≡ name → rank_of (n ∷ ns) name ≡ Some i → i ≡ 0
+rank_first n name ns i same e = let h = rank_of-here n name ns same in cc
+
+-- two names of one rank are one
+same_rank : (names : List (List ℕ)) (a b : List ℕ) (i : ℕ) → rank_of names a ≡ Some i → rank_of names b ≡ Some i → a ≡ b
+same_rank [] a b i p q = absurd (cc)
+same_rank (n ∷ ns) a b i p q =
+    elim (cases_name n a) [
+      | inl ea ↦
+          let first = rank_first n a ns i ea p in
+          elim (cases_name n b) [
+            | inl eb ↦ sym ea ∙ eb
+            | inr fb ↦ let h = rank_past n b ns i fb q in absurd (omega (arith, h.2))
+          ]
+      | inr fa ↦
+          let h = rank_past n a ns i fa p in
+          elim (cases_name n b) [
+            | inl eb ↦ let first = rank_first n b ns i eb q in absurd (omega (arith, h.2))
+            | inr fb ↦
+                let g = rank_past n b ns i fb q in
+                let one : g.0 ≡ h.0 = omega (arith, h.2, g.2) in
+                same_rank ns a b h.0 h.1 (subst (λ (k : ℕ). rank_of ns b ≡ Some k) one g.1)
+          ]
+    ]
+
+some_rank : (o : Option ℕ) → IsSome o → (i : ℕ) × (o ≡ Some i)
+some_rank None h = absurd (false≢true h)
+some_rank (Some i) h = (i, refl)
+
+-- a chromosome of lower rank than the first record's has no records
+lower_is_absent : (names : List (List ℕ)) (name : List ℕ) (i j : ℕ) (s : Interval) (ss : List Interval) → ArePlaced names (s ∷ ss) → rank_of names name ≡ Some i → rank_of names s.chrom ≡ Some j → i < j → has_records name (s ∷ ss) ≡ false
+lower_is_absent names name i j s [] placed p q l =
+    or_from (bytes_eq s.chrom name) false (name_ne s.chrom name (λ e. let h = ap (λ c. rank_of names c) e in let same : i ≡ j = cc in absurd (omega arith))) refl
+lower_is_absent names name i j s (t ∷ ts) placed p q l =
+    let next = placed.1 in
+    let one : next.rank ≡ j = let h = next.rank_is in cc in
+    let higher : i < next.next_rank = elim next.up_to [ inl h ↦ omega arith | inr h ↦ omega (arith, h.0) ] in
+    let rest = lower_is_absent names name i next.next_rank t ts placed.2 p next.next_rank_is higher in
+    or_from (bytes_eq s.chrom name) (has_records name (t ∷ ts)) (name_ne s.chrom name (λ e. let h = ap (λ c. rank_of names c) e in let same : i ≡ j = cc in absurd (omega arith))) rest
+
+-- what comes next is on the same chromosome, or has none of it
+followed : (names : List (List ℕ)) (r : Interval) (rs : List Interval) → ArePlaced names (r ∷ rs) → IsFollowed r rs
+followed names r [] placed = tt
+followed names r (s ∷ ss) placed =
+    let next = placed.1 in
+    elim next.up_to [
+      | inl lower ↦ inr (lower_is_absent names r.chrom next.rank next.next_rank s ss placed.2 next.rank_is next.next_rank_is lower)
+      | inr same ↦ inl (sym (same_rank names r.chrom s.chrom next.rank next.rank_is (subst (λ (k : ℕ). rank_of names s.chrom ≡ Some k) (sym same.0) next.next_rank_is)), same.1)
+    ]
+
+pub placed_together : placed_are_together
+placed_together names [] placed = tt
+placed_together names (r ∷ rs) placed = (followed names r rs placed, placed_together names rs placed.2)
+
+pub placed_front : (names : List (List ℕ)) (xs ys : List Interval) → ArePlaced names (xs ++ ys) → ArePlaced names xs
+placed_front names [] ys placed = tt
+placed_front names (x ∷ []) ys placed = (placed.0, tt, tt)
+placed_front names (x ∷ y ∷ zs) ys placed = (placed.0, placed.1, placed_front names (y ∷ zs) ys placed.2)
+
+placed_from : (names : List (List ℕ)) (q : Interval) (qs : List Interval) (r : Interval) → ArePlaced names (q ∷ qs) → IsSome (rank_of names r.chrom) → IsPlacedUpTo names (last_from q qs) r → ArePlaced names (q ∷ qs ++ r ∷ [])
+placed_from names q [] r placed known next = (placed.0, next, (known, tt, tt))
+placed_from names q (s ∷ ss) r placed known next = (placed.0, placed.1, placed_from names s ss r placed.2 known next)
+
+pub grows_placed : placed_grows
+grows_placed names [] r placed known next = (known, tt, tt)
+grows_placed names (q ∷ qs) r placed known next = placed_from names q qs r placed known next
+
+-- filters of names
+filter_same : (p q : List ℕ → Bool) → ((n : List ℕ) → p n ≡ q n) → (names : List (List ℕ)) → filter p names ≡ filter q names
+filter_same p q same [] = refl
+filter_same p q same (n ∷ ns) =
+    let rest = filter_same p q same ns in
+    let here = same n in
+    ap (λ b. cond b (n ∷ filter p ns) (filter p ns)) here ∙ ap (λ ms. cond (q n) (n ∷ ms) ms) rest
+
+filter_none : (names : List (List ℕ)) → filter (λ (n : List ℕ). false) names ≡ []
+filter_none [] = refl
+filter_none (n ∷ ns) = filter_none ns
+
+-- the test, or that the name is c, picks c where it stands among names that come before all others that pass
+pick_absent : (c : List ℕ) (q : List ℕ → Bool) (names : List (List ℕ)) → is_among names c ≡ false → filter (λ n. bytes_eq c n || q n) names ≡ filter q names
+pick_absent c q [] f = refl
+pick_absent c q (n ∷ ns) f =
+    let parts = or_parts (bytes_eq n c) (is_among ns c) f in
+    let rest = pick_absent c q ns parts.1 in
+    let here : (bytes_eq c n || q n) ≡ q n = ap (λ b. b || q n) (name_ne-sym n c parts.0) in
+    ap (λ b. cond b (n ∷ filter (λ m. bytes_eq c m || q m) ns) (filter (λ m. bytes_eq c m || q m) ns)) here ∙ ap (λ ms. cond (q n) (n ∷ ms) ms) rest
+
+pick_first : (names : List (List ℕ)) (c : List ℕ) (i : ℕ) (q : List ℕ → Bool) → AreDistinct names → rank_of names c ≡ Some i → ((n : List ℕ) (j : ℕ) → rank_of names n ≡ Some j → j ≤ i → q n ≡ false) → filter (λ n. bytes_eq c n || q n) names ≡ c ∷ filter q names
+pick_first [] c i q distinct r low = absurd (cc)
+pick_first (n ∷ ns) c i q distinct r low =
+    let p : List ℕ → Bool = λ m. bytes_eq c m || q m in
+    let absent : q n ≡ false = low n 0 (rank_of-here n n ns refl) (omega arith) in
+    let dropped : filter q (n ∷ ns) ≡ filter q ns = cond-false (q n) (n ∷ filter q ns) (filter q ns) absent in
+    elim (cases_name n c) [
+      | inl e ↦
+          let out : is_among ns c ≡ false = subst (λ (m : List ℕ). is_among ns m ≡ false) e distinct.0 in
+          let here : p n ≡ true = or_left (bytes_eq c n) (q n) (name_eq c n (sym e)) in
+          cond-true (p n) (n ∷ filter p ns) (filter p ns) here ∙ ap (λ ms. n ∷ ms) (pick_absent c q ns out ∙ sym dropped) ∙ ap (λ m. m ∷ filter q (n ∷ ns)) e
+      | inr f ↦
+          let past = rank_past n c ns i f r in
+          let here : p n ≡ false = or_from (bytes_eq c n) (q n) (name_ne-sym n c f) absent in
+          let rest = pick_first ns c past.0 q distinct.1 past.1 (λ m j h l. elim (cases_name n m) [
+            | inl e ↦ subst (λ (x : List ℕ). q x ≡ false) e absent
+            | inr g ↦ low m (suc j) (rank_of-later n m ns g ∙ ap (λ o. option_map (λ rank. suc rank) o) h) (omega (arith, past.2))
+          ]) in
+          cond-false (p n) (n ∷ filter p ns) (filter p ns) here ∙ rest ∙ ap (λ ms. c ∷ ms) (sym dropped)
+    ]
+
+without_absent : (name : List ℕ) (names : List (List ℕ)) → is_among names name ≡ false → without name names ≡ names
+without_absent name [] f = refl
+without_absent name (n ∷ ns) f =
+    let parts = or_parts (bytes_eq n name) (is_among ns name) f in
+    without-other name n ns parts.0 ∙ ap (λ ms. n ∷ ms) (without_absent name ns parts.1)
+
+without_twice : (name : List ℕ) (names : List (List ℕ)) → without name (without name names) ≡ without name names
+without_twice name [] = refl
+without_twice name (n ∷ ns) =
+    elim (cases_name n name) [
+      | inl e ↦ ap (λ ms. without name ms) (without-here name n ns e) ∙ without_twice name ns ∙ sym (without-here name n ns e)
+      | inr f ↦ ap (λ ms. without name ms) (without-other name n ns f) ∙ without-other name n (without name ns) f ∙ ap (λ ms. n ∷ ms) (without_twice name ns) ∙ sym (without-other name n ns f)
+    ]
+
+-- a record on the chromosome of the next adds no name
+same_chromosome : (r s : Interval) (ss : List Interval) → r.chrom ≡ s.chrom → chromosomes (r ∷ s ∷ ss) ≡ chromosomes (s ∷ ss)
+same_chromosome r s ss e =
+    let first = without-here r.chrom s.chrom (without s.chrom (chromosomes ss)) (sym e) in
+    ap (λ ns. r.chrom ∷ ns) first ∙ ap (λ c. c ∷ without c (without s.chrom (chromosomes ss))) e ∙ ap (λ ns. s.chrom ∷ ns) (without_twice s.chrom (chromosomes ss))
+
+or_twice : (x y : Bool) → (x || (x || y)) ≡ (x || y)
+or_twice true y = refl
+or_twice false y = refl
+
+-- the names that have records, in the order of the names, are those in the order of first records
+names_in_order : (names : List (List ℕ)) (records : List Interval) → AreDistinct names → ArePlaced names records → filter (λ n. has_records n records) names ≡ chromosomes records
+names_in_order names [] distinct placed = filter_none names
+names_in_order names (r ∷ []) distinct placed =
+    let rank = some_rank (rank_of names r.chrom) placed.0 in
+    pick_first names r.chrom rank.0 (λ n. false) distinct rank.1 (λ n j h l. refl) ∙ ap (λ ns. r.chrom ∷ ns) (filter_none names)
+names_in_order names (r ∷ s ∷ ss) distinct placed =
+    let next = placed.1 in
+    let rest = names_in_order names (s ∷ ss) distinct placed.2 in
+    let has : List ℕ → Bool = λ n. has_records n (s ∷ ss) in
+    elim next.up_to [
+      | inl lower ↦
+          let absent = lower_is_absent names r.chrom next.rank next.next_rank s ss placed.2 next.rank_is next.next_rank_is lower in
+          let picked = pick_first names r.chrom next.rank has distinct next.rank_is (λ n j h l. lower_is_absent names n j next.next_rank s ss placed.2 h next.next_rank_is (omega arith)) in
+          picked ∙ ap (λ ns. r.chrom ∷ ns) (rest ∙ sym (without_absent r.chrom (chromosomes (s ∷ ss)) (among_chromosomes r.chrom (s ∷ ss) ∙ absent)))
+      | inr same ↦
+          let e : r.chrom ≡ s.chrom = same_rank names r.chrom s.chrom next.rank next.rank_is (subst (λ (k : ℕ). rank_of names s.chrom ≡ Some k) (sym same.0) next.next_rank_is) in
+          filter_same (λ n. has_records n (r ∷ s ∷ ss)) has (λ n. ap (λ c. bytes_eq c n || has n) e ∙ or_twice (bytes_eq s.chrom n) (has_records n ss)) names ∙ rest ∙ sym (same_chromosome r s ss e)
+    ]
+
+-- names without records give no runs
+runs_of-nil : (gap : ℕ) → runs_of gap [] ≡ []
+unfolding runs_of stretches_from
+runs_of-nil gap = refl
+
+runs_on-none : (name : List ℕ) (gap : ℕ) (records : List Interval) → has_records name records ≡ false → runs_on name gap records ≡ []
+runs_on-none name gap records f = ap (λ spans. map (placed_on name) (runs_of gap spans)) (spans_on-none name records f) ∙ ap (λ runs. map (placed_on name) runs) (runs_of-nil gap)
+
+merged-filter : (names : List (List ℕ)) (gap : ℕ) (records : List Interval) → merged (filter (λ n. has_records n records) names) gap records ≡ merged names gap records
+merged-filter [] gap records = refl
+merged-filter (n ∷ ns) gap records =
+    let has : List ℕ → Bool = λ m. has_records m records in
+    let rest = merged-filter ns gap records in
+    elim (cases_Bool (has n)) [
+      | inl t ↦ ap (λ ms. merged ms gap records) (cond-true (has n) (n ∷ filter has ns) (filter has ns) t) ∙ ap (λ runs. runs_on n gap records ++ runs) rest
+      | inr f ↦ ap (λ ms. merged ms gap records) (cond-false (has n) (n ∷ filter has ns) (filter has ns) f) ∙ rest ∙ ap (λ runs. runs ++ merged ns gap records) (sym (runs_on-none n gap records f))
+    ]
+
+pub merged_by_chromosomes : merged_in_order
+merged_by_chromosomes names gap records distinct placed = sym (merged-filter names gap records) ∙ ap (λ ns. merged ns gap records) (names_in_order names records distinct placed)
+
+-- the names before one that passes a test
+names_before-filter : (c : List ℕ) (q : List ℕ → Bool) (names : List (List ℕ)) → q c ≡ true → names_before c (filter q names) ≡ filter q (names_before c names)
+names_before-filter c q [] t = refl
+names_before-filter c q (n ∷ ns) t =
+    let rest = names_before-filter c q ns t in
+    elim (cases_name n c) [
+      | inl e ↦
+          let passes : q n ≡ true = subst (λ (m : List ℕ). q m ≡ true) (sym e) t in
+          ap (λ ms. names_before c ms) (cond-true (q n) (n ∷ filter q ns) (filter q ns) passes) ∙ cond-true (bytes_eq n c) [] (n ∷ names_before c (filter q ns)) (name_eq n c e) ∙ sym (ap (λ ms. filter q ms) (cond-true (bytes_eq n c) [] (n ∷ names_before c ns) (name_eq n c e)))
+      | inr f ↦
+          let other = ap (λ ms. filter q ms) (cond-false (bytes_eq n c) [] (n ∷ names_before c ns) f) in
+          elim (cases_Bool (q n)) [
+            | inl y ↦ ap (λ ms. names_before c ms) (cond-true (q n) (n ∷ filter q ns) (filter q ns) y) ∙ cond-false (bytes_eq n c) [] (n ∷ names_before c (filter q ns)) f ∙ ap (λ ms. n ∷ ms) rest ∙ sym (other ∙ cond-true (q n) (n ∷ filter q (names_before c ns)) (filter q (names_before c ns)) y)
+            | inr y ↦ ap (λ ms. names_before c ms) (cond-false (q n) (n ∷ filter q ns) (filter q ns) y) ∙ rest ∙ sym (other ∙ cond-false (q n) (n ∷ filter q (names_before c ns)) (filter q (names_before c ns)) y)
+          ]
+    ]
+
+pub settled_by_chromosomes : settled_in_order
+settled_by_chromosomes names gap [] distinct placed = refl
+settled_by_chromosomes names gap (q ∷ qs) distinct placed =
+    let past = q ∷ qs in
+    let last = last_from q qs in
+    let has : List ℕ → Bool = λ n. has_records n past in
+    let before : names_before last.chrom (chromosomes past) ≡ filter has (names_before last.chrom names) = ap (λ ns. names_before last.chrom ns) (sym (names_in_order names past distinct placed)) ∙ names_before-filter last.chrom has names (has_records-last q qs) in
+    let all = sym (merged-filter (names_before last.chrom names) gap past) ∙ ap (λ ns. merged ns gap past) (sym before) in
+    ap (λ runs. runs ++ filter (λ run. nat_lt (run.stop + gap) last.start) (runs_on last.chrom gap past)) all
+
+pub kept_by_chromosomes : kept_in_order
+kept_by_chromosomes names gap past distinct placed =
+    ap (λ runs. drop (length runs) (merged names gap past)) (settled_by_chromosomes names gap past distinct placed) ∙ ap (λ runs. drop (length (settled (chromosomes past) gap past)) runs) (merged_by_chromosomes names gap past distinct placed)
+
+pub begins_in_order : settled_begins_in_order
+begins_in_order names gap past more distinct placed full =
+    let all = merged_by_chromosomes names gap (past ++ more) distinct placed in
+    let front = settled_by_chromosomes names gap past distinct (placed_front names past more placed) in
+    let begins = begins_settled gap past more (placed_together names (past ++ more) placed) full in
+    (begins.0, all ∙ begins.1 ∙ ap (λ runs. runs ++ begins.0) (sym front))

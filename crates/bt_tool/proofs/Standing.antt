@@ -1,0 +1,86 @@
+-- Where the merge of a past in order stands: the chromosomes before the last record's, the runs that are done on its own, and the open run.
+use Rattle.std.proofs.Common.{◌≡◌, ℕ, ◌+◌, ◌<◌, ◌≤◌, List, [], ◌∷◌, ◌++◌, append_assoc, refl, sym, ap, ◌∙◌, map, filter, drop, length, Bool, true, false, nat_lt, Some}
+use Rattle.std.proofs.lemmas.List.{map-append, drop_at}
+use Rattle.bt_tool.specs.Interval.{last_of, Interval, Span, span_of, placed_on, spans_on}
+use Rattle.bt_tool.specs.Merged.{runs_on, merged, chromosomes}
+use Rattle.bt_tool.specs.Place.{is_among, has_records}
+use Rattle.bt_tool.specs.Settled.{names_before, settled_at, settled, kept, first_of, open_of}
+use Rattle.bt_tool.proofs.OneOpen.{OneOpen, first_open, join_open, next_open, open_runs, filter_done, longer}
+use Rattle.bt_tool.proofs.Names.{spans_on-push_here, spans_on-here, spans_on-none, chromosomes-push_new, chromosomes-push_known, among_chromosomes, merged-append, merged-one, last_of-push, names_before-at}
+
+pub record Standing (gap : ℕ) (past : List Interval) (last : Interval) (front : List (List ℕ)) (done : List Span) (run : Span) : Type 0 where
+  pub last_is : last_of past ≡ Some last
+  pub names : chromosomes past ≡ front ++ last.chrom ∷ []
+  pub is_new : is_among front last.chrom ≡ false
+  pub one : OneOpen gap (spans_on last.chrom past) last.start done run
+
+-- the runs that are settled: all of the chromosomes before, and those that are done
+abbrev pub settled_here : ℕ → List Interval → Interval → List (List ℕ) → List Span → List Interval
+settled_here gap past last front done = merged front gap past ++ map (placed_on last.chrom) done
+
+module _ (gap : ℕ) (past : List Interval) (last : Interval) (front : List (List ℕ)) (done : List Span) (run : Span) (s : Standing gap past last front done run) where
+  pub runs_here : runs_on last.chrom gap past ≡ map (placed_on last.chrom) (done ++ run ∷ [])
+  runs_here = ap (λ runs. map (placed_on last.chrom) runs) (sym (open_runs gap (spans_on last.chrom past) last.start done run s.one))
+
+  pub settled_is : settled (chromosomes past) gap past ≡ settled_here gap past last front done
+  settled_is =
+      let known = ap (λ o. settled_at (chromosomes past) gap past o) s.last_is in
+      let before : names_before last.chrom (chromosomes past) ≡ front = ap (λ ns. names_before last.chrom ns) s.names ∙ names_before-at last.chrom front [] s.is_new in
+      let test : Interval → Bool = λ r. nat_lt (r.stop + gap) last.start in
+      let kept_out : filter test (runs_on last.chrom gap past) ≡ map (placed_on last.chrom) done = ap (λ runs. filter test runs) runs_here ∙ filter_done last.chrom gap 0 last.start done run s.one.joined.apart s.one.began s.one.reaches in
+      known ∙ ap (λ ns. merged ns gap past ++ filter test (runs_on last.chrom gap past)) before ∙ ap (λ runs. merged front gap past ++ runs) kept_out
+
+  pub merged_is : merged (chromosomes past) gap past ≡ settled_here gap past last front done ++ placed_on last.chrom run ∷ []
+  merged_is =
+      let split = ap (λ ns. merged ns gap past) s.names ∙ merged-append front (last.chrom ∷ []) gap past in
+      let here = merged-one last.chrom gap past ∙ runs_here ∙ map-append (placed_on last.chrom) done (run ∷ []) in
+      split ∙ ap (λ runs. merged front gap past ++ runs) here ∙ sym (append_assoc (merged front gap past) (map (placed_on last.chrom) done) (placed_on last.chrom run ∷ []))
+
+  pub kept_is : kept (chromosomes past) gap past ≡ placed_on last.chrom run ∷ []
+  kept_is =
+      ap (λ runs. drop (length (settled (chromosomes past) gap past)) runs) merged_is
+      ∙ ap (λ runs. drop (length runs) (settled_here gap past last front done ++ placed_on last.chrom run ∷ [])) settled_is
+      ∙ drop_at (settled_here gap past last front done) (placed_on last.chrom run ∷ []) (length (settled_here gap past last front done)) refl
+
+  pub open_is : open_of gap past ≡ Some (placed_on last.chrom run)
+  open_is = ap first_of kept_is
+
+-- one record alone
+pub first_standing : (gap : ℕ) (r : Interval) → r.start < r.stop → Standing gap (r ∷ []) r [] [] (span_of r)
+first_standing gap r full = record {
+  last_is = refl;
+  names = refl;
+  is_new = refl;
+  one = rw (spans_on-here r.chrom r [] refl) (first_open gap (span_of r) full);
+}
+
+-- the next record on the chromosome of the last
+known_names : (past : List Interval) (last r : Interval) (front : List (List ℕ)) → chromosomes past ≡ front ++ last.chrom ∷ [] → has_records last.chrom past ≡ true → r.chrom ≡ last.chrom → chromosomes (past ++ r ∷ []) ≡ front ++ r.chrom ∷ []
+known_names past last r front names known same =
+    let here : has_records r.chrom past ≡ true = rw same known in
+    chromosomes-push_known past r here ∙ names ∙ ap (λ c. front ++ c ∷ []) (sym same)
+
+pub join_standing : (gap : ℕ) (past : List Interval) (last r : Interval) (front : List (List ℕ)) (done : List Span) (run : Span) → Standing gap past last front done run → has_records last.chrom past ≡ true → r.chrom ≡ last.chrom → last.start ≤ r.start → r.start < r.stop → r.start ≤ run.stop + gap → Standing gap (past ++ r ∷ []) r front done (longer run (span_of r))
+join_standing gap past last r front done run s known same up full near = record {
+  last_is = last_of-push past r;
+  names = known_names past last r front s.names known same;
+  is_new = rw same s.is_new;
+  one = rw (spans_on-push_here r.chrom past r refl) (rw same (join_open gap (spans_on last.chrom past) last.start done run (span_of r) s.one up full near));
+}
+
+pub next_standing : (gap : ℕ) (past : List Interval) (last r : Interval) (front : List (List ℕ)) (done : List Span) (run : Span) → Standing gap past last front done run → has_records last.chrom past ≡ true → r.chrom ≡ last.chrom → r.start < r.stop → run.stop + gap < r.start → Standing gap (past ++ r ∷ []) r front (done ++ run ∷ []) (span_of r)
+next_standing gap past last r front done run s known same full far = record {
+  last_is = last_of-push past r;
+  names = known_names past last r front s.names known same;
+  is_new = rw same s.is_new;
+  one = rw (spans_on-push_here r.chrom past r refl) (rw same (next_open gap (spans_on last.chrom past) last.start done run (span_of r) s.one full far));
+}
+
+-- the first record of a chromosome
+pub new_standing : (gap : ℕ) (past : List Interval) (r : Interval) → has_records r.chrom past ≡ false → r.start < r.stop → Standing gap (past ++ r ∷ []) r (chromosomes past) [] (span_of r)
+new_standing gap past r new full = record {
+  last_is = last_of-push past r;
+  names = chromosomes-push_new past r new;
+  is_new = among_chromosomes r.chrom past ∙ new;
+  one = rw (spans_on-push_here r.chrom past r refl) (rw (spans_on-none r.chrom past new) (first_open gap (span_of r) full));
+}

@@ -1,0 +1,6 @@
+//! The seven tools, from a list of words and the bytes of the inputs to the bytes written.
+#![tactic(auto)]
+
+mod bed;
+pub mod laws;
+pub mod plain;
