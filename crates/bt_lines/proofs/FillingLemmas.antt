@@ -37,6 +37,12 @@ module _ {S : Type 0} (left : S → Option (List ℕ)) (failed : S → Bool) (ol
   }
 
   pub line_grown : (grown : List ℕ) → grown ≡ text ++ byte ∷ [] → (byte ≡ 10 → ⊥) → ReadSoFar left failed old old_text old_taken new grown (taken + 1)
-  line_grown grown e other =
-      (so_far.0 ++ byte ∷ [], more, count, e ∙ ap (λ l. l ++ byte ∷ []) so_far.3 ∙ append_assoc old_text so_far.0 (byte ∷ []),
-       rw e (All-push (λ b. eqb b 10 ≡ false) text byte so_far.4 (ne_eqb byte 10 other)), served ∙ so_far.5, omega arith)
+  line_grown grown e other = (
+    so_far.0 ++ byte ∷ [],
+    more,
+    count,
+    e ∙ ap (λ l. l ++ byte ∷ []) so_far.3 ∙ append_assoc old_text so_far.0 (byte ∷ []),
+    rw e (All-push (λ b. eqb b 10 ≡ false) text byte so_far.4 (ne_eqb byte 10 other)),
+    served ∙ so_far.5,
+    omega arith,
+  )

@@ -45,7 +45,7 @@ strip_last-push byte xs e =
     let i = length xs - 1 in
     let is : get_or xs i 0 ≡ byte = eqb-true (get_or xs i 0) byte tests.1 in
     let end : drop i xs ≡ byte ∷ [] =
-        drop_more xs i 0 (omega arith) ∙ ap (λ b. b ∷ drop (i + 1) xs) is ∙ ap (λ l. byte ∷ l) (drop_all (i + 1) xs (omega arith)) in
+    drop_more xs i 0 (omega arith) ∙ ap (λ b. b ∷ drop (i + 1) xs) is ∙ ap (λ l. byte ∷ l) (drop_all (i + 1) xs (omega arith)) in
     rw e (ap (λ l. take i xs ++ l) (sym end) ∙ take-append-drop i xs)
 
 pub strip_last-other : (byte : ℕ) (xs : List ℕ) → ends_with_byte byte xs ≡ false → strip_last byte xs ≡ xs

@@ -44,10 +44,10 @@ front_le text i =
     let rest = map digit_value (drop i text) in
     let joined : map digit_value text ≡ front ++ rest = ap (map digit_value) (sym (take-append-drop i text)) ∙ map-append digit_value (take i text) (drop i text) in
     let whole : digits_value 10 text ≡ number_from_digits_after 10 (number_from_digits_after 10 0 front) rest =
-        digits_value_is 10 text ∙ ap (number_from_digits 10) joined ∙ number_after_append 10 0 front rest in
+    digits_value_is 10 text ∙ ap (number_from_digits 10) joined ∙ number_after_append 10 0 front rest in
     let part : digits_value 10 (take i text) ≡ number_from_digits_after 10 0 front = digits_value_is 10 (take i text) in
     let more : number_from_digits_after 10 0 front ≤ number_from_digits_after 10 (number_from_digits_after 10 0 front) rest =
-        number_after_ge 10 (number_from_digits_after 10 0 front) rest (omega arith) in
+    number_after_ge 10 (number_from_digits_after 10 0 front) rest (omega arith) in
     rw (part, whole) more
 
 pub value_of_large : (text : List ℕ) (i : ℕ) → 999999999999 < digits_value 10 (take i text) → None ≡ value_of text

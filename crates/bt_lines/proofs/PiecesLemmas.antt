@@ -16,8 +16,8 @@ pieces_cut s bytes i first =
     let below : i < length bytes = first.0.high in
     let size : length (take i bytes) ≡ i = length-take-le i bytes (omega arith) in
     let clear : All (λ x. eqb x s ≡ false) (take i bytes) =
-        λ k d h. let small : k < i = omega (arith, size, h) in
-            rw (get_or-take i bytes k d small, get_or_default bytes k d 0 (omega arith)) (not_true _ (first.0.before k (omega arith) small)) in
+    λ k d h. let small : k < i = omega (arith, size, h) in
+    rw (get_or-take i bytes k d small, get_or_default bytes k d 0 (omega arith)) (not_true _ (first.0.before k (omega arith) small)) in
     let cut = slice_split_at (λ x. eqb x s) (take i bytes) (get_or bytes i 0) (drop (i + 1) bytes) clear first.1 in
     ap (pieces s) (sym (take-append-drop i bytes) ∙ ap (λ l. take i bytes ++ l) (drop_more bytes i 0 below)) ∙ cut
 

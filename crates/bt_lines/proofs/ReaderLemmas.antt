@@ -63,7 +63,7 @@ module _ {S : Type 0} (left : S → Option (List ℕ)) (failed : S → Bool) (ol
       let whole : fills.bytes ≡ piece ++ 10 ∷ [] = fills.stopped.0 in
       let size : length fills.bytes ≡ length piece + 1 = ap length whole ∙ length-append piece (10 ∷ []) in
       let first : (ys : List ℕ) → left new.source ≡ Some ys → lines_from n (fills.bytes ++ ys) ≡ fed_line n piece ∷ lines_from (suc n) ys =
-          λ ys h. ap (λ l. lines_from n (l ++ ys)) whole ∙ ap (lines_from n) (append_assoc piece (10 ∷ []) ys) ∙ lines_from-fed n piece ys fills.stopped.1 in
+      λ ys h. ap (λ l. lines_from n (l ++ ys)) whole ∙ ap (lines_from n) (append_assoc piece (10 ∷ []) ys) ∙ lines_from-fed n piece ys fills.stopped.1 in
       let gives : GivesLine left failed old (fed_line n piece) new = record {
         first = rw (was, going, number) (first_of_known n (left old.source) (left new.source) fills.bytes (fed_line n piece) fills.consumed first);
         bytes = (fills.bytes, record { left_over = fills.consumed; counted = fills.counted; same_input = same }, rw (was, going) (whole ∙ sym (spelled-fed n piece) ∙ sym (append-nil (spelled (fed_line n piece)))));

@@ -10,3 +10,4 @@ pub mod Names
 pub mod Given
 pub mod Reader
 pub mod Filling
+pub mod Counting

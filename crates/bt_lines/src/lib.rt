@@ -5,10 +5,12 @@
 #![tactic(auto)]
 
 pub mod column_iter;
+pub mod counting;
 pub mod device;
 pub mod fault;
 mod filling;
 pub mod from_read;
+pub mod laws;
 pub mod line;
 pub mod line_reader;
 pub mod numbers;
@@ -20,6 +22,7 @@ pub mod split;
 pub mod to_write;
 
 pub use column_iter::Columns;
+pub use counting::count_lines;
 pub use device::{DeviceFailed, Sink, Source};
 pub use fault::{Fault, Input, Kind, Place};
 pub use from_read::FromRead;
@@ -32,3 +35,6 @@ pub use script_sink::ScriptSink;
 pub use script_source::ScriptSource;
 pub use split::columns;
 pub use to_write::ToWrite;
+
+#[cfg(test)]
+mod tests;

@@ -37,7 +37,7 @@ pub(crate) struct Progress {
 
 /// Reads the lines of a source. A line is lent until the next call, and its buffer is used again for
 /// the next line.
-#[derive(Debug)]
+#[derive(Debug, Drop)]
 pub struct LineReader<S> {
     source: S,
     input: Input,
@@ -140,7 +140,10 @@ impl<S: Source> LineReader<S> {
         match stop {
             Stop::LineFeed => {
                 self.ending = split_ending(&mut self.text, LineEnd::CrLf, LineEnd::Lf);
-                self.progress = Progress { lines: lines + 1, bytes };
+                self.progress = Progress {
+                    lines: lines + 1,
+                    bytes,
+                };
                 Ok(())
             }
             Stop::End if self.text.is_empty() => {
@@ -149,7 +152,10 @@ impl<S: Source> LineReader<S> {
             }
             Stop::End => {
                 self.ending = split_ending(&mut self.text, LineEnd::Cr, LineEnd::Absent);
-                self.progress = Progress { lines: lines + 1, bytes };
+                self.progress = Progress {
+                    lines: lines + 1,
+                    bytes,
+                };
                 self.state = State::LastLine;
                 Ok(())
             }

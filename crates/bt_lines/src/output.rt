@@ -12,6 +12,7 @@ use std::marker::Model;
 
 /// Puts bytes to a sink in order. Once the sink has failed, nothing more is written, and each call
 /// answers that writing failed.
+#[derive(Drop)]
 pub struct Out<K: Sink> {
     sink: K,
     has_failed: bool,
@@ -24,10 +25,10 @@ impl<K: Sink> Model for Out<K> {
     ghost Value = { Output };
 
     ghost view = { λ o. record {
-        put = K.took o.sink;
-        took = K.took o.sink;
-        has_failed = o.has_failed;
-        sink_has_failed = K.has_failed o.sink
+      put = K.took o.sink;
+      took = K.took o.sink;
+      has_failed = o.has_failed;
+      sink_has_failed = K.has_failed o.sink;
     } };
 
     ghost invariant = { λ o. o.has_failed ≡ true → K.has_failed o.sink ≡ true };
@@ -37,10 +38,10 @@ impl<K: Sink> Out<K> {
     /// An output that has put nothing yet beside what the sink took before.
     pub fn new(sink: K) -> Out<K>
         ensures { result ≡ record {
-            put = K.took sink;
-            took = K.took sink;
-            has_failed = false;
-            sink_has_failed = K.has_failed sink
+          put = K.took sink;
+          took = K.took sink;
+          has_failed = false;
+          sink_has_failed = K.has_failed sink;
         } }
     {
         Out {
@@ -104,7 +105,10 @@ impl<K: Sink> Out<K> {
         ensures took { K.took result ≡ self.took }
         ensures failed { K.has_failed result ≡ self.sink_has_failed }
     {
-        let Out { sink, has_failed: _ } = self;
+        let Out {
+            sink,
+            has_failed: _,
+        } = self;
         sink
     }
 }

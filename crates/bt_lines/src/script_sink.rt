@@ -25,10 +25,10 @@ impl Model for ScriptSink {
     ghost Value = { Writing };
 
     ghost view = { λ s. record {
-        taken = s.taken.items;
-        step = s.step;
-        good = s.good;
-        has_failed = s.has_failed
+      taken = s.taken.items;
+      step = s.step;
+      good = s.good;
+      has_failed = s.has_failed;
     } };
 
     ghost invariant = { λ s. 0 < s.step };

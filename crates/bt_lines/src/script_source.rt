@@ -27,12 +27,12 @@ impl<'a> Model for ScriptSource<'a> {
     ghost Value = { Reading };
 
     ghost view = { λ s. record {
-        bytes = s.bytes.now;
-        step = s.step;
-        good = s.good;
-        given = s.given;
-        has_failed = s.has_failed;
-        end_told = s.end_told
+      bytes = s.bytes.now;
+      step = s.step;
+      good = s.good;
+      given = s.given;
+      has_failed = s.has_failed;
+      end_told = s.end_told;
     } };
 
     ghost invariant = { λ s. (0 < s.step) × (s.given ≤ length s.bytes.now) };
@@ -43,12 +43,12 @@ impl<'a> ScriptSource<'a> {
     pub fn new(bytes: &'a [u8], step: usize, good: Option<usize>) -> ScriptSource<'a>
         requires { 0 < step }
         ensures { result ≡ record {
-            bytes = bytes.now;
-            step = step;
-            good = good;
-            given = 0;
-            has_failed = false;
-            end_told = false
+          bytes = bytes.now;
+          step = step;
+          good = good;
+          given = 0;
+          has_failed = false;
+          end_told = false;
         } }
     {
         ScriptSource {

@@ -31,7 +31,10 @@ impl<W> ToWrite<W> {
     pub fn into_inner(self) -> W
         ensures { result ≡ writer_of self }
     {
-        let ToWrite { writer, has_failed: _ } = self;
+        let ToWrite {
+            writer,
+            has_failed: _,
+        } = self;
         writer
     }
 }

@@ -16,7 +16,7 @@ pub loop-taken-preserved : goal.loop-taken-preserved
 loop-taken-preserved g c =
     let read = rw c.in-Ok-Some.field-0-is at c.in-Ok-Some.ensures.byte in
     let grown : c.push.new.self.items ≡ c.loop-taken.text.items ++ c.in-Ok-Some.byte ∷ [] =
-        c.push.ensures.items ∙ rw (c.is_err.ensures.negation, c.if-is_err.false) refl in
+    c.push.ensures.items ∙ rw (c.is_err.ensures.negation, c.if-is_err.false) refl in
     line_grown g.S.Source.left g.S.Source.has_failed c.args.source.now c.args.text.now.items c.args.taken.now c.loop-taken.source
     c.loop-taken.text.items c.loop-taken.taken c.next_byte.new.source c.in-Ok-Some.byte
     c.loop-taken.invariant read c.in-Ok-Some.ensures.served c.loop-taken-test.true _ grown c.if-byte-eq10.false

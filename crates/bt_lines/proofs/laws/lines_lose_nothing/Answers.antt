@@ -1,0 +1,5 @@
+use Rattle.bt_lines.proofs.LinesLemmas.{lines_lose_nothing}
+use Rattle.bt_lines.proofs.laws.lines_lose_nothing.Goals as goal
+
+pub returns : goal.returns
+returns c = lines_lose_nothing 1

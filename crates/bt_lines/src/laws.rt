@@ -1,0 +1,47 @@
+//! What holds of the definitions, each law as the contract of a function that does nothing.
+
+ghost use Rattle.std.specs.Prelude.{◌≡◌, ℕ, [], ◌∷◌, ◌++◌, List, Some, None, codes, flat_map};
+ghost use Rattle.bt_lines.specs.Lines.{text_lines, spelled, pieces};
+ghost use Rattle.bt_lines.specs.Number.{value_of};
+
+use crate::line::LineEnd;
+
+/// The lines of a text lose nothing: with their line ends, one after another, they are its bytes.
+pub fn lines_lose_nothing()
+    ensures { (bytes : List ℕ) → flat_map spelled (text_lines bytes) ≡ bytes }
+{}
+
+/// The lines of small texts.
+#[tactic(auto, unfolding(crate::specs::Lines::lines_from))]
+pub fn lines_of_small_texts()
+    ensures empty { text_lines [] ≡ [] }
+    ensures line_feed { text_lines (10 ∷ [])
+        ≡ record { number = 1; text = []; ending = LineEnd.Lf } ∷ [] }
+    ensures both { text_lines (13 ∷ 10 ∷ [])
+        ≡ record { number = 1; text = []; ending = LineEnd.CrLf } ∷ [] }
+    ensures two_returns { text_lines (13 ∷ 13 ∷ 10 ∷ [])
+        ≡ record { number = 1; text = 13 ∷ []; ending = LineEnd.CrLf } ∷ [] }
+    ensures lone_return { text_lines (codes "a" ++ 13 ∷ [])
+        ≡ record { number = 1; text = codes "a"; ending = LineEnd.Cr } ∷ [] }
+    ensures return_inside { text_lines (97 ∷ 13 ∷ 98 ∷ 10 ∷ [])
+        ≡ record { number = 1; text = 97 ∷ 13 ∷ 98 ∷ []; ending = LineEnd.Lf } ∷ [] }
+    ensures no_last_feed { text_lines (codes "a\nb")
+        ≡ record { number = 1; text = codes "a"; ending = LineEnd.Lf }
+        ∷ record { number = 2; text = codes "b"; ending = LineEnd.Absent } ∷ [] }
+    ensures last_feed { text_lines (codes "a\n\n")
+        ≡ record { number = 1; text = codes "a"; ending = LineEnd.Lf }
+        ∷ record { number = 2; text = []; ending = LineEnd.Lf } ∷ [] }
+{}
+
+/// The columns and the numbers of small texts.
+#[tactic(auto, unfolding(crate::specs::Number::value_of))]
+pub fn columns_and_numbers_of_small_texts()
+    ensures one_column { pieces 9 [] ≡ [] ∷ [] }
+    ensures empty_columns { pieces 9 (codes "a\t\tb\t")
+        ≡ codes "a" ∷ [] ∷ codes "b" ∷ [] ∷ [] }
+    ensures leading_zeros { value_of (codes "007") ≡ Some 7 }
+    ensures greatest { value_of (codes "999999999999") ≡ Some 999999999999 }
+    ensures too_great { value_of (codes "1000000000000") ≡ None }
+    ensures empty { value_of [] ≡ None }
+    ensures signed { value_of (codes "+1") ≡ None }
+{}

@@ -1,0 +1,223 @@
+use crate::{
+    Fault, Input, Kind, LineEnd, LineReader, Names, Out, Place, ScriptSink, ScriptSource, Sink,
+    Source, columns, count_lines, fault_line, number,
+};
+use std::alloc::AllocError;
+use std::test::Fail;
+
+#[test]
+fn numbers(rt: HostRuntime) {
+    let cases: [(&[u8], Option<u64>); 8] = [
+        (b"007", Some(7)),
+        (b"0", Some(0)),
+        (b"999999999999", Some(999_999_999_999)),
+        (b"0000000000000000000000012", Some(12)),
+        (b"1000000000000", None),
+        (b"", None),
+        (b"+1", None),
+        (b"1 ", None),
+    ];
+    for (text, want) in cases {
+        assert_eq!(rt; number(text), want);
+    }
+}
+
+#[test]
+fn columns_of_texts(rt: HostRuntime) -> Result<(), Fail> {
+    let cases: [(&[u8], &[&[u8]]); 4] = [
+        (b"", &[b""]),
+        (b"a", &[b"a"]),
+        (b"a\t\tb\t", &[b"a", b"", b"b", b""]),
+        (b"chr1\t5\t9", &[b"chr1", b"5", b"9"]),
+    ];
+    for (text, want) in cases {
+        let mut rest = columns(text);
+        for column in want {
+            assert_eq!(rt; rest.next(), Some(*column));
+        }
+        assert_eq!(rt; rest.next(), None);
+        assert_eq!(rt; rest.next(), None);
+    }
+    Ok(())
+}
+
+// The lines of a text, whose ends are given apart from their texts.
+const TEXTS: [(&[u8], &[(&[u8], LineEnd)]); 9] = [
+    (b"", &[]),
+    (b"\n", &[(b"", LineEnd::Lf)]),
+    (b"\r\n", &[(b"", LineEnd::CrLf)]),
+    (b"\r\r\n", &[(b"\r", LineEnd::CrLf)]),
+    (b"\r", &[(b"", LineEnd::Cr)]),
+    (b"a\r", &[(b"a", LineEnd::Cr)]),
+    (b"a\rb\n", &[(b"a\rb", LineEnd::Lf)]),
+    (b"a\nb", &[(b"a", LineEnd::Lf), (b"b", LineEnd::Absent)]),
+    (
+        b"\n\nchr1\r\n",
+        &[
+            (b"", LineEnd::Lf),
+            (b"", LineEnd::Lf),
+            (b"chr1", LineEnd::CrLf),
+        ],
+    ),
+];
+
+#[test]
+fn lines_of_texts(rt: HostRuntime) -> Result<(), Fail> {
+    for step in [1, 7] {
+        for (text, want) in TEXTS {
+            let source = ScriptSource::new(text, step, None);
+            let mut reader = LineReader::new(rt.alloc(), source, Input::First);
+            let mut count = 0u64;
+            for (line, ending) in want {
+                count = count.wrapping_add(1);
+                let next = reader.next()?.ok_or("a line")?;
+                assert_eq!(rt; next.number, count);
+                assert_eq!(rt; next.text, *line);
+                assert_eq!(rt; next.ending, *ending);
+            }
+            assert!(rt; reader.next()?.is_none());
+            assert!(rt; reader.next()?.is_none());
+            assert_eq!(rt; reader.input(), Input::First);
+            assert_eq!(rt; reader.into_source().given(), text.len());
+        }
+    }
+    Ok(())
+}
+
+#[test]
+fn a_source_that_fails_at_each_byte(rt: HostRuntime) -> Result<(), Fail> {
+    let text = b"ab\n\r\ncd";
+    // How many whole lines there are in so many bytes.
+    let whole = [0u64, 0, 0, 1, 1, 2, 2, 2];
+    for (good, lines) in whole.iter().enumerate() {
+        let source = ScriptSource::new(text, 7, Some(good));
+        let mut reader = LineReader::new(rt.alloc(), source, Input::Second);
+        for _ in 0..*lines {
+            assert!(rt; reader.next()?.is_some());
+        }
+        let fault = Fault {
+            kind: Kind::ReadFailed,
+            place: Some(Place {
+                input: Input::Second,
+                line: lines.wrapping_add(1),
+            }),
+        };
+        assert_eq!(rt; reader.next().err(), Some(fault));
+        assert_eq!(rt; reader.next().err(), Some(fault), "the same fault again");
+        let source = reader.into_source();
+        assert_eq!(rt; source.given(), good);
+        assert!(rt; source.failed());
+    }
+    Ok(())
+}
+
+#[test]
+fn lines_are_counted(rt: HostRuntime) -> Result<(), Fail> {
+    let source = ScriptSource::new(b"a\n\nb", 1, None);
+    let mut reader = LineReader::new(rt.alloc(), source, Input::Genome);
+    assert_eq!(rt; count_lines(&mut reader)?, 3);
+    Ok(())
+}
+
+// Puts the pieces, and gives back the sink with the first fault.
+fn put_all(sink: ScriptSink, pieces: &[&[u8]]) -> (ScriptSink, Option<Fault>) {
+    let mut output = Out::new(sink);
+    for piece in pieces {
+        if let Err(fault) = output.put(piece) {
+            let again = output.put(b"more").err();
+            return (output.into_sink(), again.filter(|other| *other == fault));
+        }
+    }
+    let fault = output.flush().err();
+    (output.into_sink(), fault)
+}
+
+#[test]
+fn a_sink_that_fails_at_each_byte(rt: HostRuntime) {
+    let pieces: [&[u8]; 4] = [b"chr1", b"", b"\t10\t", b"20\n"];
+    let whole = b"chr1\t10\t20\n";
+    let fault = Fault {
+        kind: Kind::WriteFailed,
+        place: None,
+    };
+    for step in [1, 7] {
+        for good in 0..whole.len() {
+            let sink = ScriptSink::new(rt.alloc(), step, Some(good));
+            let (sink, told) = put_all(sink, &pieces);
+            assert_eq!(rt; told, Some(fault));
+            assert_eq!(rt; sink.taken(), &whole[..good]);
+            assert!(rt; sink.failed());
+        }
+        let sink = ScriptSink::new(rt.alloc(), step, Some(whole.len()));
+        let (sink, told) = put_all(sink, &pieces);
+        assert_eq!(rt; told, None);
+        assert_eq!(rt; sink.taken(), whole.as_slice());
+    }
+}
+
+#[test]
+fn devices_of_std(rt: HostRuntime) -> Result<(), Fail> {
+    let bytes = b"ab\ncd\n";
+    let mut reader = LineReader::new(
+        rt.alloc(),
+        crate::FromRead::new(bytes.as_slice()),
+        Input::First,
+    );
+    assert_eq!(rt; count_lines(&mut reader)?, 2);
+    assert_eq!(rt; reader.into_source().into_inner().len(), 0);
+    let mut output = Out::new(crate::ToWrite::new(Vec::new(rt.alloc())));
+    output.put(b"ab")?;
+    output.put(b"c")?;
+    output.flush()?;
+    assert_eq!(rt;
+        output.into_sink().into_inner().as_slice(),
+        b"abc".as_slice()
+    );
+    Ok(())
+}
+
+#[test]
+fn fault_lines(rt: HostRuntime) -> Result<(), AllocError> {
+    let names = Names {
+        genome: b"g.txt",
+        first: b"a.bed",
+        second: b"b.bed",
+    };
+    let cases: [(Kind, Option<(Input, u64)>, &[u8]); 5] = [
+        (
+            Kind::OutOfOrder,
+            Some((Input::First, 3)),
+            b"bedtools merge: a.bed:3: record is out of order\n",
+        ),
+        (
+            Kind::RepeatedChrom,
+            Some((Input::Genome, 2)),
+            b"bedtools merge: g.txt:2: chromosome is repeated\n",
+        ),
+        (
+            Kind::BadStart,
+            Some((Input::Second, 12)),
+            b"bedtools merge: b.bed:12: start is not a number\n",
+        ),
+        (Kind::WriteFailed, None, b"bedtools merge: writing failed\n"),
+        (Kind::NoMemory, None, b"bedtools merge: no memory\n"),
+    ];
+    for (kind, place, want) in cases {
+        let place = place.map(|(input, line)| Place { input, line });
+        let Some(fault) = fault_of(kind, place) else {
+            assert!(rt; false, "a fault has a place by its kind");
+            return Ok(());
+        };
+        let line = fault_line(rt.alloc(), b"merge", &names, &fault)?;
+        assert_eq!(rt; line.as_slice(), want);
+    }
+    Ok(())
+}
+
+// The fault, where its kind goes with its place.
+fn fault_of(kind: Kind, place: Option<Place>) -> Option<Fault> {
+    if place.is_some() != kind.has_place() {
+        return None;
+    }
+    Some(Fault { kind, place })
+}
