@@ -30,18 +30,18 @@ abbrev names : List (List ℕ)
 names = (1 ∷ []) ∷ (2 ∷ []) ∷ (3 ∷ []) ∷ []
 
 all_runs : merged names 0 records ≡ on 1 0 4 ∷ on 3 1 2 ∷ on 3 4 6 ∷ []
-unfolding runs_of is_bridged stretches_from with_position
+unfolding merged runs_of is_bridged stretches_from with_position
 all_runs = refl
 
 settled_runs : settled names 0 records ≡ on 1 0 4 ∷ on 3 1 2 ∷ []
-unfolding runs_of is_bridged stretches_from with_position
+unfolding merged settled runs_of is_bridged stretches_from with_position
 settled_runs = refl
 
 kept_runs : kept names 0 records ≡ on 3 4 6 ∷ []
-unfolding runs_of is_bridged stretches_from with_position
+unfolding merged settled kept runs_of is_bridged stretches_from with_position
 kept_runs = refl
 
 -- across a gap of two the last two records are one run, which is open
 settled_bridged : settled names 2 records ≡ on 1 0 4 ∷ []
-unfolding runs_of is_bridged stretches_from with_position
+unfolding merged settled runs_of is_bridged stretches_from with_position
 settled_bridged = refl

@@ -8,3 +8,6 @@ pub mod Steps
 pub mod Placed
 pub mod PlainSpans
 pub mod Examples
+pub mod Asked
+pub mod Division
+pub mod Reading

@@ -5,7 +5,7 @@ use Rattle.std.proofs.lemmas.Slice.Eq.{bytes_eq-Decides}
 use Rattle.std.proofs.lemmas.List.Elements.{filter-append}
 use Rattle.bt_tool.specs.Interval.{last_from, last_of, Interval, span_of, placed_on, spans_on}
 use Rattle.bt_tool.specs.Merged.{runs_of, runs_on, merged, without, chromosomes}
-use Rattle.bt_tool.specs.Place.{is_among, AreDistinct, has_records, IsFollowed, AreTogether, together_grows}
+use Rattle.bt_tool.specs.Place.{fronts_stand_together, is_among, AreDistinct, has_records, IsFollowed, AreTogether, together_grows}
 use Rattle.bt_tool.specs.Settled.{names_before, chromosomes_are_distinct}
 use Rattle.std.proofs.lemmas.List.Concat.{flat_map-append}
 
@@ -121,6 +121,7 @@ pub runs_on-push_elsewhere : (name : List ℕ) (gap : ℕ) (past : List Interval
 runs_on-push_elsewhere name gap past r f = ap (λ spans. map (placed_on name) (runs_of gap spans)) (spans_on-push_elsewhere name past r f)
 
 pub merged-push_elsewhere : (names : List (List ℕ)) (gap : ℕ) (past : List Interval) (r : Interval) → is_among names r.chrom ≡ false → merged names gap (past ++ r ∷ []) ≡ merged names gap past
+unfolding merged
 merged-push_elsewhere [] gap past r f = refl
 merged-push_elsewhere (n ∷ ns) gap past r f =
     let parts = or_parts (bytes_eq n r.chrom) (is_among ns r.chrom) f in
@@ -129,13 +130,15 @@ merged-push_elsewhere (n ∷ ns) gap past r f =
     cc
 
 pub merged-append : (xs ys : List (List ℕ)) (gap : ℕ) (records : List Interval) → merged (xs ++ ys) gap records ≡ merged xs gap records ++ merged ys gap records
+unfolding merged
 merged-append xs ys gap records = flat_map-append (λ name. runs_on name gap records) xs ys
 
 pub merged-one : (name : List ℕ) (gap : ℕ) (records : List Interval) → merged (name ∷ []) gap records ≡ runs_on name gap records
+unfolding merged
 merged-one name gap records = append-nil (runs_on name gap records)
 
 -- records in order: the last of them, and one more
-pub together_front : (xs ys : List Interval) → AreTogether (xs ++ ys) → AreTogether xs
+pub together_front : fronts_stand_together
 together_front [] ys t = tt
 together_front (x ∷ []) ys t = (tt, tt)
 together_front (x ∷ y ∷ zs) ys t =

@@ -4,8 +4,8 @@ use Rattle.std.proofs.lemmas.Bool.{cases_Bool, cond-true, cond-false, or_parts, 
 use Rattle.bt_tool.specs.Interval.{last_from, Interval, placed_on}
 use Rattle.bt_tool.specs.Stretches.{stretches_from}
 use Rattle.bt_tool.specs.Merged.{runs_of, runs_on, merged, without, chromosomes}
-use Rattle.bt_tool.specs.Place.{is_among, AreDistinct, rank_of, IsPlacedUpTo, ArePlaced, has_records, IsFollowed, placed_are_together, placed_grows}
-use Rattle.bt_tool.specs.Settled.{names_before, settled, merged_in_order, settled_in_order, kept_in_order, settled_begins_in_order}
+use Rattle.bt_tool.specs.Place.{fronts_are_placed, is_among, AreDistinct, rank_of, IsPlacedUpTo, ArePlaced, has_records, IsFollowed, placed_are_together, placed_grows}
+use Rattle.bt_tool.specs.Settled.{kept, names_before, settled, merged_in_order, settled_in_order, kept_in_order, settled_begins_in_order, nothing_at_first, first_of, open_of}
 use Rattle.bt_tool.proofs.Names.{name_eq, name_ne, name_ne-sym, cases_name, spans_on-none, among_chromosomes, without-here, without-other, has_records-last}
 use Rattle.bt_tool.proofs.Steps.{begins_settled}
 
@@ -78,7 +78,7 @@ pub placed_together : placed_are_together
 placed_together names [] placed = tt
 placed_together names (r ∷ rs) placed = (followed names r rs placed, placed_together names rs placed.2)
 
-pub placed_front : (names : List (List ℕ)) (xs ys : List Interval) → ArePlaced names (xs ++ ys) → ArePlaced names xs
+pub placed_front : fronts_are_placed
 placed_front names [] ys placed = tt
 placed_front names (x ∷ []) ys placed = (placed.0, tt, tt)
 placed_front names (x ∷ y ∷ zs) ys placed = (placed.0, placed.1, placed_front names (y ∷ zs) ys placed.2)
@@ -186,6 +186,7 @@ runs_on-none : (name : List ℕ) (gap : ℕ) (records : List Interval) → has_r
 runs_on-none name gap records f = ap (λ spans. map (placed_on name) (runs_of gap spans)) (spans_on-none name records f) ∙ ap (λ runs. map (placed_on name) runs) (runs_of-nil gap)
 
 merged-filter : (names : List (List ℕ)) (gap : ℕ) (records : List Interval) → merged (filter (λ n. has_records n records) names) gap records ≡ merged names gap records
+unfolding merged
 merged-filter [] gap records = refl
 merged-filter (n ∷ ns) gap records =
     let has : List ℕ → Bool = λ m. has_records m records in
@@ -197,6 +198,20 @@ merged-filter (n ∷ ns) gap records =
 
 pub merged_by_chromosomes : merged_in_order
 merged_by_chromosomes names gap records distinct placed = sym (merged-filter names gap records) ∙ ap (λ ns. merged ns gap records) (names_in_order names records distinct placed)
+
+merged-none : (names : List (List ℕ)) (gap : ℕ) → merged names gap [] ≡ []
+unfolding merged
+merged-none [] gap = refl
+merged-none (n ∷ ns) gap = ap (λ runs. map (placed_on n) runs ++ merged ns gap []) (runs_of-nil gap) ∙ merged-none ns gap
+
+pub none_at_first : nothing_at_first
+unfolding settled kept open_of
+none_at_first names gap = record {
+  merged_none = merged-none names gap;
+  settled_none = refl;
+  kept_none = merged-none names gap;
+  open_none = ap first_of (merged-none [] gap);
+}
 
 -- the names before one that passes a test
 names_before-filter : (c : List ℕ) (q : List ℕ → Bool) (names : List (List ℕ)) → q c ≡ true → names_before c (filter q names) ≡ filter q (names_before c names)
@@ -216,6 +231,7 @@ names_before-filter c q (n ∷ ns) t =
     ]
 
 pub settled_by_chromosomes : settled_in_order
+unfolding settled
 settled_by_chromosomes names gap [] distinct placed = refl
 settled_by_chromosomes names gap (q ∷ qs) distinct placed =
     let past = q ∷ qs in
@@ -226,6 +242,7 @@ settled_by_chromosomes names gap (q ∷ qs) distinct placed =
     ap (λ runs. runs ++ filter (λ run. nat_lt (run.stop + gap) last.start) (runs_on last.chrom gap past)) all
 
 pub kept_by_chromosomes : kept_in_order
+unfolding kept
 kept_by_chromosomes names gap past distinct placed =
     ap (λ runs. drop (length runs) (merged names gap past)) (settled_by_chromosomes names gap past distinct placed) ∙ ap (λ runs. drop (length (settled (chromosomes past) gap past)) runs) (merged_by_chromosomes names gap past distinct placed)
 

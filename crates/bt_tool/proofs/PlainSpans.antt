@@ -93,9 +93,6 @@ with_next-adds p (s ∷ ss) a below = with_next_after-adds 0 p s ss a below
 abbrev pub AreRunsBelow : ℕ → List Span → ℕ → List Span → Type 0
 AreRunsBelow gap spans n runs = AreStretchesOf (λ p. (p < n) × Bridged gap spans p) runs
 
-pub runs_below-none : (gap : ℕ) (spans : List Span) → AreRunsBelow gap spans 0 []
-runs_below-none gap spans = record { apart = tt; within = λ p c. absurd c; whole = λ p c. absurd (omega (arith, c.0)) }
-
 pub runs_below-bridged : (gap : ℕ) (spans : List Span) (n : ℕ) (runs : List Span) → AreRunsBelow gap spans n runs → Bridged gap spans n → AreRunsBelow gap spans (n + 1) (with_next runs n)
 runs_below-bridged gap spans n runs r b =
     let adds = with_next-adds n runs r.apart (λ q c. (r.within q c).0) in

@@ -23,6 +23,7 @@ module _ (gap : ℕ) (past : List Interval) (last : Interval) (front : List (Lis
   runs_here = ap (λ runs. map (placed_on last.chrom) runs) (sym (open_runs gap (spans_on last.chrom past) last.start done run s.one))
 
   pub settled_is : settled (chromosomes past) gap past ≡ settled_here gap past last front done
+  unfolding settled
   settled_is =
       let known = ap (λ o. settled_at (chromosomes past) gap past o) s.last_is in
       let before : names_before last.chrom (chromosomes past) ≡ front = ap (λ ns. names_before last.chrom ns) s.names ∙ names_before-at last.chrom front [] s.is_new in
@@ -37,12 +38,14 @@ module _ (gap : ℕ) (past : List Interval) (last : Interval) (front : List (Lis
       split ∙ ap (λ runs. merged front gap past ++ runs) here ∙ sym (append_assoc (merged front gap past) (map (placed_on last.chrom) done) (placed_on last.chrom run ∷ []))
 
   pub kept_is : kept (chromosomes past) gap past ≡ placed_on last.chrom run ∷ []
+  unfolding kept
   kept_is =
       ap (λ runs. drop (length (settled (chromosomes past) gap past)) runs) merged_is
       ∙ ap (λ runs. drop (length runs) (settled_here gap past last front done ++ placed_on last.chrom run ∷ [])) settled_is
       ∙ drop_at (settled_here gap past last front done) (placed_on last.chrom run ∷ []) (length (settled_here gap past last front done)) refl
 
   pub open_is : open_of gap past ≡ Some (placed_on last.chrom run)
+  unfolding open_of
   open_is = ap first_of kept_is
 
 -- one record alone

@@ -7,7 +7,7 @@ use Rattle.std.proofs.lemmas.List.Elements.{recursion_from_All, All-take, All-co
 use Rattle.bt_tool.specs.Interval.{last_from, Interval, Span, span_of, placed_on, AreNonEmpty}
 use Rattle.bt_tool.specs.Merged.{merged, chromosomes}
 use Rattle.bt_tool.specs.Place.{is_among, has_records, AreTogether}
-use Rattle.bt_tool.specs.Settled.{settled, open_of, kept_is_open, merged_is_settled_and_open, step_opens, step_settles, settled_stays, settled_begins}
+use Rattle.bt_tool.specs.Settled.{kept, settled, open_of, kept_is_open, merged_is_settled_and_open, step_opens, step_settles, settled_stays, settled_begins}
 use Rattle.bt_tool.specs.Step.{joins, joined_run, merge_step}
 use Rattle.bt_tool.proofs.OneOpen.{longer}
 use Rattle.bt_tool.proofs.Names.{name_eq, name_ne, among_chromosomes, merged-push_elsewhere, together_front, next_place, has_records-last}
@@ -88,6 +88,7 @@ full_last xs r full = All-contains (λ r. r.start < r.stop) (xs ++ r ∷ []) r f
 
 -- on the first record
 step_first : (gap : ℕ) (r : Interval) → r.start < r.stop → Steps gap [] r
+unfolding open_of kept settled merged
 step_first gap r full =
     let s = first_standing gap r full in
     record {
@@ -135,12 +136,14 @@ pub settles_by_step : step_settles
 settles_by_step gap past r together full = (steps_in_order gap past r together full).settles
 
 pub kept_open : kept_is_open
+unfolding open_of kept settled merged
 kept_open gap [] together full = refl
 kept_open gap (q ∷ qs) together full =
     let s = stands_in_order gap q qs together full in
     kept_is gap (q ∷ qs) s.last s.front s.done s.run s.here ∙ ap option_to_list (sym (open_is gap (q ∷ qs) s.last s.front s.done s.run s.here))
 
 pub settled_and_open : merged_is_settled_and_open
+unfolding open_of kept settled merged
 settled_and_open gap [] together full = refl
 settled_and_open gap (q ∷ qs) together full =
     let s = stands_in_order gap q qs together full in

@@ -6,3 +6,11 @@ pub mod Settled
 pub mod Step
 pub mod Plain
 pub mod Bed
+pub mod Given
+pub mod Items
+pub mod OptionLaws
+pub mod Options
+pub mod Plan
+pub mod Refusal
+pub mod Table
+pub mod Usage

@@ -49,7 +49,7 @@ abbrev pub runs_on : List ℕ → ℕ → List Interval → List Interval
 runs_on name gap records = map (placed_on name) (runs_of gap (spans_on name records))
 
 -- the merged runs, chromosome by chromosome in the order of the names
-abbrev pub merged : List (List ℕ) → ℕ → List Interval → List Interval
+unfoldable pub merged : List (List ℕ) → ℕ → List Interval → List Interval
 merged names gap records = flat_map (λ name. runs_on name gap records) names
 
 -- the names but this one

@@ -61,3 +61,11 @@ placed_grows = (names : List (List ℕ)) (past : List Interval) (r : Interval) �
 -- a record keeps them together that goes on from the last, or is the first of its chromosome
 abbrev pub together_grows : Type 0
 together_grows = (past : List Interval) (r : Interval) → AreTogether past → IfSome (last_of past) (λ last. ((r.chrom ≡ last.chrom) × (last.start ≤ r.start)) ⊎ IsFalse (has_records r.chrom past)) → AreTogether (past ++ r ∷ [])
+
+-- the first of records that are placed are placed
+abbrev pub fronts_are_placed : Type 0
+fronts_are_placed = (names : List (List ℕ)) (front rest : List Interval) → ArePlaced names (front ++ rest) → ArePlaced names front
+
+-- the first of records that stand together stand together
+abbrev pub fronts_stand_together : Type 0
+fronts_stand_together = (front rest : List Interval) → AreTogether (front ++ rest) → AreTogether front

@@ -20,11 +20,11 @@ settled_at names gap past None = []
 settled_at names gap past (Some last) = settled_by names gap past last
 
 -- the runs that are settled after the records of the past, which no later record in order changes
-abbrev pub settled : List (List ℕ) → ℕ → List Interval → List Interval
+unfoldable pub settled : List (List ℕ) → ℕ → List Interval → List Interval
 settled names gap past = settled_at names gap past (last_of past)
 
 -- the runs that come after the settled ones
-abbrev pub kept : List (List ℕ) → ℕ → List Interval → List Interval
+unfoldable pub kept : List (List ℕ) → ℕ → List Interval → List Interval
 kept names gap past = drop (length (settled names gap past)) (merged names gap past)
 
 -- the first of the runs, where there is one
@@ -33,12 +33,23 @@ first_of [] = None
 first_of (r ∷ rs) = Some r
 
 -- the run that is still open after the records of the past
-abbrev pub open_of : ℕ → List Interval → Option Interval
+unfoldable pub open_of : ℕ → List Interval → Option Interval
 open_of gap past = first_of (kept (chromosomes past) gap past)
 
 -- the first list begins the second
 abbrev pub Begins : List Interval → List Interval → Type 0
 Begins front whole = (rest : List Interval) × (whole ≡ front ++ rest)
+
+-- before the first record there is nothing
+pub record NothingYet (names : List (List ℕ)) (gap : ℕ) : Type 0 where
+  pub merged_none : merged names gap [] ≡ []
+  pub settled_none : settled names gap [] ≡ []
+  pub kept_none : kept names gap [] ≡ []
+  pub open_none : open_of gap [] ≡ None
+
+-- so it is, whatever the names and the gap
+abbrev pub nothing_at_first : Type 0
+nothing_at_first = (names : List (List ℕ)) (gap : ℕ) → NothingYet names gap
 
 -- for non-empty records that stand together, at most one run comes after the settled ones: the open one
 abbrev pub kept_is_open : Type 0

@@ -1,8 +1,8 @@
 //! The laws of the definitions, each as the contract of a function that does nothing.
 
 ghost use Rattle.bt_tool.specs.Merged.{runs_are, runs_only};
-ghost use Rattle.bt_tool.specs.Place.{placed_are_together, placed_grows, together_grows};
-ghost use Rattle.bt_tool.specs.Settled.{chromosomes_are_distinct, kept_in_order, kept_is_open, merged_in_order, merged_is_settled_and_open, settled_begins, settled_begins_in_order, settled_in_order, settled_stays, step_opens, step_settles};
+ghost use Rattle.bt_tool.specs.Place.{fronts_are_placed, fronts_stand_together, placed_are_together, placed_grows, together_grows};
+ghost use Rattle.bt_tool.specs.Settled.{chromosomes_are_distinct, kept_in_order, kept_is_open, merged_in_order, merged_is_settled_and_open, nothing_at_first, settled_begins, settled_begins_in_order, settled_in_order, settled_stays, step_opens, step_settles};
 ghost use Rattle.bt_tool.specs.Stretches.{scan_finds_stretches, stretches_are_one};
 
 /// A set of positions is made up by one list of intervals, which a scan finds.
@@ -27,10 +27,12 @@ pub fn names_give_the_order()
     ensures kept { kept_in_order }
 {}
 
-/// Records in order stay so with a next one that isn't below the last.
+/// Records in order stay so with a next one that isn't below the last, and so do the first of them.
 pub fn order_grows()
     ensures placed { placed_grows }
     ensures together { together_grows }
+    ensures placed_front { fronts_are_placed }
+    ensures together_front { fronts_stand_together }
 {}
 
 /// No later record in order changes a settled run.
@@ -42,6 +44,7 @@ pub fn settled_runs_stay()
 
 /// One open run and the settled ones are all, and the step says how the next record changes them.
 pub fn steps_are_determined()
+    ensures none { nothing_at_first }
     ensures kept { kept_is_open }
     ensures whole { merged_is_settled_and_open }
     ensures opens { step_opens }

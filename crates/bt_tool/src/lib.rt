@@ -3,4 +3,12 @@
 
 mod bed;
 pub mod laws;
-pub mod plain;
+pub mod option_laws;
+mod options;
+mod plain;
+mod plan_type;
+mod usage;
+
+pub use options::plan;
+pub use plan_type::{Command, Plan};
+pub use usage::{Refusal, Usage, usage_line};

@@ -1,5 +1,5 @@
-use Rattle.bt_tool.proofs.Names.{grows_together}
-use Rattle.bt_tool.proofs.Placed.{grows_placed}
+use Rattle.bt_tool.proofs.Names.{grows_together, together_front}
+use Rattle.bt_tool.proofs.Placed.{grows_placed, placed_front}
 use Rattle.bt_tool.proofs.laws.order_grows.Goals as goal
 
 pub returns-clause-placed : goal.returns-clause-placed
@@ -7,3 +7,9 @@ returns-clause-placed c = grows_placed
 
 pub returns-clause-together : goal.returns-clause-together
 returns-clause-together c = grows_together
+
+pub returns-clause-placed_front : goal.returns-clause-placed_front
+returns-clause-placed_front c = placed_front
+
+pub returns-clause-together_front : goal.returns-clause-together_front
+returns-clause-together_front c = together_front

@@ -1,3 +1,4 @@
+use Rattle.bt_tool.proofs.Placed.{none_at_first}
 use Rattle.bt_tool.proofs.Steps.{kept_open, settled_and_open, opens_by_step, settles_by_step}
 use Rattle.bt_tool.proofs.laws.steps_are_determined.Goals as goal
 
@@ -12,3 +13,6 @@ returns-clause-opens c = opens_by_step
 
 pub returns-clause-settles : goal.returns-clause-settles
 returns-clause-settles c = settles_by_step
+
+pub returns-clause-none : goal.returns-clause-none
+returns-clause-none c = none_at_first

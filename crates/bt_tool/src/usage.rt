@@ -1,0 +1,144 @@
+//! The faults of a command line, and the line that tells each.
+
+ghost use Rattle.std.specs.Prelude.{◌≡◌, IfOk, length};
+ghost use Rattle.bt_tool.specs.Plan.{words_seen};
+ghost use Rattle.bt_tool.specs.Usage.{IsTellable, usage_text};
+
+use std::alloc::{AllocError, Global};
+
+/// The fault of a command line.
+#[derive(Clone, Copy, Debug, PartialEq, Eq)]
+pub struct Usage {
+    /// From 1 to 7: which fault it is. `usage_line` has the text of each.
+    pub number: u8,
+    /// The index among the words of the option that is at fault (numbers 2 to 4), else 0.
+    pub word: usize,
+}
+
+/// Why there is no plan. `NoMemory` says nothing of the words but that they have one.
+#[derive(Clone, Copy, Debug, PartialEq, Eq)]
+pub enum Refusal {
+    Usage(Usage),
+    NoMemory,
+}
+
+impl From<Usage> for Refusal {
+    ghost use Rattle.std.specs.Prelude.{◌≡◌};
+    ghost use Rattle.bt_tool.specs.declared.usage.Refusal.{Refusal};
+
+    ghost from_gives = { λ usage refusal. refusal ≡ Refusal.Usage usage };
+
+    fn from(usage: Usage) -> Refusal {
+        Refusal::Usage(usage)
+    }
+}
+
+impl From<AllocError> for Refusal {
+    ghost use Rattle.std.specs.Prelude.{◌≡◌};
+    ghost use Rattle.bt_tool.specs.declared.usage.Refusal.{Refusal};
+
+    ghost from_gives = { λ _ refusal. refusal ≡ Refusal.NoMemory };
+
+    fn from(_error: AllocError) -> Refusal {
+        Refusal::NoMemory
+    }
+}
+
+/// What can be wrong with a command line.
+#[derive(Clone, Copy)]
+pub(crate) enum Kind {
+    NoCommand = 1,
+    UnknownOption = 2,
+    ValueMissing = 3,
+    BadValue = 4,
+    RequiredMissing = 5,
+    OptionsExclusive = 6,
+    InputNamedTwice = 7,
+}
+
+impl Kind {
+    ghost use Rattle.std.specs.Prelude.{◌≡◌, ◌≤◌};
+    ghost use Rattle.bt_tool.specs.Usage.{names_word, number_of, text_of};
+
+    fn numbered(number: u8) -> Kind
+        requires at_least { 1 ≤ number }
+        requires at_most { number ≤ 7 }
+        ensures { number_of result ≡ number }
+    {
+        match number {
+            1 => Kind::NoCommand,
+            2 => Kind::UnknownOption,
+            3 => Kind::ValueMissing,
+            4 => Kind::BadValue,
+            5 => Kind::RequiredMissing,
+            6 => Kind::OptionsExclusive,
+            _ => Kind::InputNamedTwice,
+        }
+    }
+
+    /// Whether the fault is that of one option.
+    fn names_option(self) -> bool
+        ensures { result ≡ names_word (number_of self) }
+    {
+        matches!(
+            self,
+            Kind::UnknownOption | Kind::ValueMissing | Kind::BadValue
+        )
+    }
+
+    fn text(self) -> &'static str
+        ensures { result.now ≡ text_of (number_of self) }
+    {
+        match self {
+            Kind::NoCommand => "no or unknown command",
+            Kind::UnknownOption => "unknown option",
+            Kind::ValueMissing => "value missing",
+            Kind::BadValue => "bad value",
+            Kind::RequiredMissing => "required option missing",
+            Kind::OptionsExclusive => "options exclude one another",
+            Kind::InputNamedTwice => "standard input named twice",
+        }
+    }
+}
+
+impl Usage {
+    ghost use Rattle.std.specs.Prelude.{◌≡◌};
+    ghost use Rattle.bt_tool.specs.Usage.{number_of};
+
+    /// A fault of the words as a whole.
+    pub(crate) fn new(kind: Kind) -> Usage
+        ensures { result ≡ record { number = number_of kind; word = 0 } }
+    {
+        Usage {
+            number: kind as u8,
+            word: 0,
+        }
+    }
+
+    /// The fault of the option at this index among the words.
+    pub(crate) fn of_option(kind: Kind, word: usize) -> Usage
+        ensures { result ≡ record { number = number_of kind; word = word } }
+    {
+        Usage {
+            number: kind as u8,
+            word,
+        }
+    }
+}
+
+/// The line on standard error that tells a fault of these words.
+pub fn usage_line(alloc: Global, words: &[String], usage: &Usage) -> Result<Vec<u8>, AllocError>
+    requires { IsTellable usage.now (length words.now) }
+    ensures { IfOk result (λ line. line.items ≡ usage_text (words_seen words.now) usage.now) }
+{
+    let kind = Kind::numbered(usage.number);
+    let mut line = Vec::new(alloc);
+    line.extend_from_slice(b"bedtools: ")?;
+    line.extend_from_slice(kind.text().as_bytes())?;
+    if kind.names_option() {
+        line.extend_from_slice(b": ")?;
+        line.extend_from_slice(words[usage.word].as_bytes())?;
+    }
+    line.push(b'\n')?;
+    Ok(line)
+}
