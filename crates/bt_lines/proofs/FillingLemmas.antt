@@ -1,14 +1,12 @@
 -- Lemmas on the bytes of a line that are read one at a time.
-use Rattle.std.proofs.Common.{◌≡◌, ℕ, ◌+◌, ◌^◌, ◌<◌, ◌≤◌, Bool, true, false, List, [], ◌∷◌, ◌++◌, Option, None, Some, Ok, Err, Result, refl, sym, ap, ◌∙◌, append_assoc, length, length-append, eqb, arith, inl, inr, get_or}
+use Rattle.std.proofs.Common.{◌≡◌, ℕ, ◌+◌, ◌^◌, ◌<◌, ◌≤◌, Bool, false, List, [], ◌∷◌, ◌++◌, Option, sym, ap, ◌∙◌, append_assoc, length, length-append, eqb, arith, inr}
 use Rattle.std.proofs.KnownBytes.{Consumes-trans}
 use Rattle.std.proofs.lemmas.List.Elements.{All-push}
 use Rattle.std.proofs.lemmas.Bool.{ne_eqb}
 use Rattle.std.specs.Io.KnownBytes.{Consumes}
-use Rattle.std.specs.List.{All}
-use Rattle.bt_lines.specs.Filling.{Fills, ByteRead}
+use Rattle.bt_lines.specs.Filling.{Fills}
 use Rattle.bt_lines.specs.Given.{NoLineFeed}
-use Rattle.bt_lines.specs.declared.filling.Stop.{Stop}
-use Rattle.bt_lines.specs.declared.filling.Stop.TheVariants.{LineFeed, End, Failed, NoMemory}
+use Rattle.bt_lines.specs.declared.filling.Stop.TheVariants.{LineFeed, Failed}
 
 -- the bytes so far are in the line, and none is a line feed
 abbrev pub ReadSoFar : {S : Type 0} → (S → Option (List ℕ)) → (S → Bool) → S → List ℕ → ℕ → S → List ℕ → ℕ → Type 0

@@ -1,15 +1,13 @@
 -- Lemmas on the lines of a text.
-use Rattle.std.proofs.Common.{◌≡◌, ℕ, suc, ◌+◌, ◌-◌, ◌<◌, ◌≤◌, Bool, true, false, cond, ◌&&◌, List, [], ◌∷◌, ◌++◌, length, take, drop, get_or, Option, None, Some, refl, sym, ap, ◌∙◌, subst, append_assoc, append-nil, eqb, ltb, arith, rules}
-use Rattle.std.specs.Prelude.{flat_map, slice_index, nat_lt}
-use Rattle.std.specs.List.{All, slice_split, join_with_byte}
+use Rattle.std.proofs.Common.{◌≡◌, ℕ, suc, ◌+◌, ◌-◌, ◌<◌, Bool, true, false, cond, ◌&&◌, List, [], ◌∷◌, ◌++◌, length, take, drop, get_or, refl, sym, ap, ◌∙◌, append_assoc, append-nil, eqb, arith}
+use Rattle.std.specs.Prelude.{flat_map, nat_lt}
+use Rattle.std.specs.List.{join_with_byte}
 use Rattle.std.specs.Io.BufRead.{ends_with_byte, strip_last}
 use Rattle.std.proofs.lemmas.List.{take-append-drop, drop_more, drop_all}
 use Rattle.std.proofs.lemmas.List.Splits.{slice_split_at, slice_split_none, length-slice_split, join_with_byte-slice_split}
 use Rattle.std.proofs.lemmas.Bool.{false≢true, eqb-true, ltb-true}
-use Rattle.std.proofs.lemmas.Bool.Decides.{nat_tests}
-use Rattle.bt_lines.specs.Lines.{TextLine, pieces, fed_line, last_line, numbered, lines_from, text_lines, spelled, end_bytes}
+use Rattle.bt_lines.specs.Lines.{pieces, fed_line, last_line, numbered, lines_from, spelled, end_bytes}
 use Rattle.bt_lines.specs.Given.{NoLineFeed}
-use Rattle.bt_lines.specs.declared.line.LineEnd.{LineEnd}
 use Rattle.bt_lines.specs.declared.line.LineEnd.TheVariants.{Absent, Lf, CrLf, Cr}
 
 -- a piece is followed by others

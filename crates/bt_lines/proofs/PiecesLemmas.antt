@@ -1,9 +1,9 @@
 -- Lemmas on the pieces of a text between separators.
-use Rattle.std.proofs.Common.{◌≡◌, ℕ, ◌+◌, ◌<◌, ◌≤◌, Bool, true, false, List, [], ◌∷◌, ◌++◌, length, take, drop, get_or, Some, None, refl, sym, ap, ◌∙◌, subst, arith, eqb, length-take}
+use Rattle.std.proofs.Common.{◌≡◌, ℕ, ◌+◌, ◌<◌, Bool, true, false, List, [], ◌∷◌, ◌++◌, length, take, drop, get_or, Some, None, refl, sym, ap, ◌∙◌, arith, eqb}
 use Rattle.std.proofs.lemmas.List.{take-append-drop, drop_more, get_or-take, get_or_default, length-take-le}
 use Rattle.std.proofs.lemmas.List.Splits.{slice_split_at, slice_split_none}
 use Rattle.std.specs.List.{All}
-use Rattle.memchr.specs.Find.{IsFirstByte, is_byte, NoneBefore}
+use Rattle.memchr.specs.Find.{IsFirstByte, is_byte}
 use Rattle.bt_lines.specs.Lines.{pieces}
 
 not_true : (b : Bool) → (b ≡ true → ⊥) → b ≡ false

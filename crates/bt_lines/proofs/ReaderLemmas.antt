@@ -1,21 +1,19 @@
 -- Lemmas on a step of the reader of lines.
-use Rattle.std.proofs.Common.{◌≡◌, ℕ, suc, ◌+◌, ◌-◌, ◌^◌, ◌<◌, ◌≤◌, Bool, true, false, cond, List, [], ◌∷◌, ◌++◌, length, Option, None, Some, Result, Ok, Err, refl, sym, ap, ◌∙◌, subst, append-nil, add-one, add-zero, length-append, arith, inl, inr}
-use Rattle.std.specs.Prelude.{◌⊎◌, option_map, IfSome, flat_map}
+use Rattle.std.proofs.Common.{◌≡◌, ℕ, suc, ◌+◌, ◌<◌, Bool, true, cond, List, [], ◌∷◌, ◌++◌, length, Option, None, Some, Ok, refl, sym, ap, ◌∙◌, subst, append-nil, add-zero, length-append, arith}
+use Rattle.std.specs.Prelude.{option_map, IfSome, flat_map}
 use Rattle.std.proofs.lemmas.List.{append_assoc, nil_from_length}
 use Rattle.std.proofs.lemmas.Bool.{false≢true}
 use Rattle.std.proofs.KnownBytes.{Consumes-nil}
-use Rattle.std.specs.Io.KnownBytes.{Consumes, IsAtEnd, prepend_known}
+use Rattle.std.specs.Io.KnownBytes.{Consumes, IsAtEnd}
 use Rattle.std.specs.Io.BufRead.{ends_with_byte, strip_last}
 use Rattle.bt_lines.proofs.LinesLemmas.{lines_from-fed, lines_from-last, lines_from-nil, spelled-fed, spelled-last}
 use Rattle.bt_lines.specs.Lines.{TextLine, fed_line, last_line, lines_from, spelled}
-use Rattle.bt_lines.specs.Given.{NoLineFeed, GivesFirst}
+use Rattle.bt_lines.specs.Given.{GivesFirst}
 use Rattle.bt_lines.specs.Filling.{Fills}
-use Rattle.bt_lines.specs.Reader.{StepsTo, Stepped, end_told, GivesLine, GivesEnd, Hands, line_at, state_of, source_of, input_of, lines_given, bytes_taken, held, fault_kept, has_ended, bytes_left, lines_left}
-use Rattle.bt_lines.specs.declared.line.LineEnd.{LineEnd}
+use Rattle.bt_lines.specs.Reader.{StepsTo, Stepped, end_told, GivesLine, GivesEnd, line_at, source_of, input_of, lines_given, bytes_taken, held, fault_kept, has_ended, bytes_left}
 use Rattle.bt_lines.specs.declared.line.LineEnd.TheVariants.{Absent, Lf, CrLf, Cr}
 use Rattle.bt_lines.specs.declared.filling.Stop.TheVariants.{LineFeed, End}
 use Rattle.bt_lines.specs.declared.line_reader.LineReader.{LineReader}
-use Rattle.bt_lines.specs.declared.line_reader.State.{State}
 use Rattle.bt_lines.specs.declared.line_reader.State.TheVariants.{Reading, LastLine, Ended}
 
 -- the first of the lines of known bytes, and no more of them

@@ -1,5 +1,5 @@
 -- Words on lines that are lent.
-use Rattle.std.specs.Prelude.{◌≡◌, ℕ, List, ◌∷◌, ◌==◌, Bool, false, Option, Some, None, ⊤}
+use Rattle.std.specs.Prelude.{◌≡◌, ℕ, List, ◌∷◌, ◌==◌, false, Option, Some, None, ⊤}
 use Rattle.std.specs.List.{All}
 use Rattle.bt_lines.specs.Lines.{TextLine}
 use Rattle.bt_lines.specs.declared.line.Line.{Line}

@@ -1,6 +1,6 @@
 -- The lines of a text, as the UCSC BED description and the SAM specification have them: one a line
 -- feed. A carriage return before the line feed, or at the very end, belongs to the line end.
-use Rattle.std.specs.Prelude.{ℕ, suc, List, [], ◌∷◌, ◌++◌, Bool, length, ◌==◌, if◌then◌else◌}
+use Rattle.std.specs.Prelude.{ℕ, suc, List, [], ◌∷◌, ◌++◌, ◌==◌, if◌then◌else◌}
 use Rattle.std.specs.List.{slice_split}
 use Rattle.std.specs.Io.BufRead.{ends_with_byte, strip_last}
 use Rattle.bt_lines.specs.declared.line.LineEnd.{LineEnd}

@@ -122,6 +122,7 @@ impl Sink for ScriptSink {
         ensures served { OnOk result (self.new.has_failed ≡ self.old.has_failed) }
         ensures failed { OnErr result (self.new.has_failed ≡ true) }
         ensures only_after { OnErr result (self.old.has_failed ≡ true) }
+        ensures for_good { IsTrue self.old.has_failed → IsErr result }
         ensures unchanged { self.new ≡ self.old }
     {
         if self.has_failed {

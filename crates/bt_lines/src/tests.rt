@@ -1,6 +1,8 @@
+ghost use Rattle.std.specs.Prelude.{None};
+
 use crate::{
-    Fault, Input, Kind, LineEnd, LineReader, Names, Out, Place, ScriptSink, ScriptSource, Sink,
-    Source, columns, count_lines, fault_line, number,
+    DeviceFailed, Fault, Input, Kind, LineEnd, LineReader, Names, Out, Place, ScriptSink,
+    ScriptSource, Sink, Source, columns, count_lines, fault_line, number,
 };
 use std::alloc::AllocError;
 use std::test::Fail;
@@ -153,6 +155,50 @@ fn a_sink_that_fails_at_each_byte(rt: HostRuntime) {
         assert_eq!(rt; told, None);
         assert_eq!(rt; sink.taken(), whole.as_slice());
     }
+}
+
+// A sink that takes everything, and whose first flush fails.
+#[derive(Drop)]
+struct FlushFails {
+    flushes: u8,
+    has_failed: bool,
+}
+
+impl Sink for FlushFails {
+    ghost took = { λ _. None };
+
+    ghost has_failed = { λ s. s.has_failed };
+
+    fn write(&mut self, bytes: &[u8]) -> Result<usize, DeviceFailed> {
+        Ok(bytes.len())
+    }
+
+    fn flush(&mut self) -> Result<(), DeviceFailed> {
+        self.flushes = self.flushes.saturating_add(1);
+        self.has_failed = true;
+        Err(DeviceFailed)
+    }
+
+    fn failed(&self) -> bool {
+        self.has_failed
+    }
+}
+
+#[test]
+fn a_flush_that_fails(rt: HostRuntime) {
+    let mut output = Out::new(FlushFails {
+        flushes: 0,
+        has_failed: false,
+    });
+    let fault = Fault {
+        kind: Kind::WriteFailed,
+        place: None,
+    };
+    assert_eq!(rt; output.put(b"chr1"), Ok(()));
+    assert_eq!(rt; output.flush(), Err(fault));
+    assert_eq!(rt; output.put(b"more"), Err(fault));
+    assert_eq!(rt; output.flush(), Err(fault));
+    assert_eq!(rt; output.into_sink().flushes, 1, "the sink was asked once");
 }
 
 #[test]

@@ -1,4 +1,4 @@
-use Rattle.std.proofs.Common.{◌≡◌, ◌+◌, ◌≤◌}
+use Rattle.std.proofs.Common.{◌≤◌}
 use Rattle.bt_lines.specs.Counting.{CountsFirst}
 use Rattle.bt_lines.specs.Reader.{lines_given, lines_left, room}
 use Rattle.bt_lines.proofs.counting.count_lines.Given as goal

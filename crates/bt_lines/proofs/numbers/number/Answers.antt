@@ -1,8 +1,4 @@
-use Rattle.std.proofs.Common.{rules, ◌≡◌, ◌+◌, ◌-◌, ◌<◌, ◌≤◌, ◌*◌, true, false, length, get_or, take, None, subst, sym, ◌∙◌, ap, arith}
-use Rattle.std.proofs.lemmas.List.{take_all}
-use Rattle.std.specs.Char.{is_ascii_digit}
-use Rattle.std.specs.List.{list_all}
-use Rattle.std.specs.Str.Parse.{digits_value}
+use Rattle.std.proofs.Common.{rules, ◌+◌, sym, ◌∙◌}
 use Rattle.bt_lines.proofs.NumberLemmas.{value_of_empty, value_of_other, value_of_large, value_of_whole, value_more, digits_more}
 use Rattle.bt_lines.proofs.numbers.number.Goals as goal
 

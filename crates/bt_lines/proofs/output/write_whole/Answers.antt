@@ -1,4 +1,4 @@
-use Rattle.std.proofs.Common.{rules, ◌≡◌, ◌∙◌, ◌++◌, take, drop, length, refl}
+use Rattle.std.proofs.Common.{◌∙◌, ◌++◌, take}
 use Rattle.std.proofs.lemmas.List.{take_rest}
 use Rattle.bt_lines.proofs.OutputLemmas.{front_part, more_taken}
 use Rattle.bt_lines.proofs.ResultLemmas.{always_err}

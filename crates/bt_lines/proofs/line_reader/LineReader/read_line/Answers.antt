@@ -1,4 +1,4 @@
-use Rattle.std.proofs.Common.{rules, ◌≡◌, ◌∙◌, ◌<◌, ◌+◌, true, false, length, refl, sym, arith, subst}
+use Rattle.std.proofs.Common.{rules, refl}
 use Rattle.bt_lines.proofs.ReaderLemmas.{stepped_fed, stepped_last, stepped_end}
 use Rattle.bt_lines.proofs.line_reader.LineReader.read_line.Goals as goal
 

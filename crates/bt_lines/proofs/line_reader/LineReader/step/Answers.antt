@@ -1,4 +1,4 @@
-use Rattle.std.proofs.Common.{◌≡◌, refl}
+use Rattle.std.proofs.Common.{refl}
 use Rattle.bt_lines.proofs.ReaderLemmas.{stepped_from_last, stepped_again}
 use Rattle.bt_lines.proofs.line_reader.LineReader.step.Goals as goal
 
