@@ -78,3 +78,7 @@ commands = (codes "merge", Merge) ∷ []
 
 abbrev pub command_named : Word → Option Command
 command_named word = option_map (λ row. row.1) (find (λ row. bytes_eq word row.0) commands)
+
+-- the word that names a command
+abbrev pub name_of : Command → Word
+name_of Merge = codes "merge"

@@ -10,7 +10,7 @@ pub enum Command {
 
 impl Command {
     ghost use Rattle.std.specs.Prelude.{◌≡◌};
-    ghost use Rattle.bt_tool.specs.Table.{command_named, is_required, table_of};
+    ghost use Rattle.bt_tool.specs.Table.{command_named, is_required, name_of, table_of};
 
     pub(crate) fn named(name: &str) -> Option<Command>
         ensures { result ≡ command_named name.now }
@@ -18,6 +18,15 @@ impl Command {
         match name {
             "merge" => Some(Command::Merge),
             _ => None,
+        }
+    }
+
+    /// The word that names the tool.
+    pub fn name(self) -> &'static str
+        ensures { result.now ≡ name_of self }
+    {
+        match self {
+            Command::Merge => "merge",
         }
     }
 

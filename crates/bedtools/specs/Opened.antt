@@ -1,0 +1,18 @@
+-- Whether an opened device has failed.
+use Rattle.std.specs.Prelude.{Bool}
+use Rattle.bt_lines.specs.Adapter.{read_has_failed, read_end_told, write_has_failed}
+use Rattle.bedtools.specs.declared.opened.Opened.{Opened}
+use Rattle.bedtools.specs.declared.opened.Opened.TheVariants.{File, Standard}
+use Rattle.bedtools.specs.declared.standard_output.Output.{Output}
+use Rattle.bedtools.specs.declared.standard_output.Output.TheVariants.{Standard as StandardOutput}
+
+abbrev pub opened_has_failed : Opened → Bool
+opened_has_failed (File source) = read_has_failed source
+opened_has_failed (Standard source) = read_has_failed source
+
+abbrev pub opened_end_told : Opened → Bool
+opened_end_told (File source) = read_end_told source
+opened_end_told (Standard source) = read_end_told source
+
+abbrev pub output_has_failed : Output → Bool
+output_has_failed (StandardOutput sink) = write_has_failed sink

@@ -1,0 +1,45 @@
+//! Where the program writes to.
+
+ghost use Rattle.std.specs.Prelude.{None};
+ghost use Rattle.bedtools.specs.Opened.{output_has_failed};
+
+use bt_lines::{DeviceFailed, Sink, ToWrite};
+use std::io;
+use std::io::{BufWriter, Stdout};
+
+/// An output, written in blocks.
+pub enum Output {
+    Standard(ToWrite<BufWriter<Stdout>>),
+}
+
+impl Output {
+    /// Standard output.
+    pub fn standard(rt: &HostRuntime) -> io::Result<Output> {
+        let writer = BufWriter::new(rt.alloc(), rt.stdout())?;
+        Ok(Output::Standard(ToWrite::new(writer)))
+    }
+}
+
+impl Sink for Output {
+    ghost took = { λ _. None };
+
+    ghost has_failed = { output_has_failed };
+
+    fn write(&mut self, bytes: &[u8]) -> Result<usize, DeviceFailed> {
+        match self {
+            Output::Standard(sink) => sink.write(bytes),
+        }
+    }
+
+    fn flush(&mut self) -> Result<(), DeviceFailed> {
+        match self {
+            Output::Standard(sink) => sink.flush(),
+        }
+    }
+
+    fn failed(&self) -> bool {
+        match self {
+            Output::Standard(sink) => sink.failed(),
+        }
+    }
+}
