@@ -2,5 +2,7 @@
 #![tactic(auto)]
 
 mod bed;
+mod bed_line;
 pub mod laws;
+mod merge;
 pub mod plain;
