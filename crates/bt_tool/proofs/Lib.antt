@@ -9,3 +9,4 @@ pub mod Placed
 pub mod PlainSpans
 pub mod Examples
 pub mod OutputSteps
+pub mod EngineLemmas

@@ -120,3 +120,10 @@ abbrev pub TakesNext : {A : Type 0} → Merging → Interval → Output → Resu
 TakesNext old r out (Ok done) new grown = Takes old r out new grown
 TakesNext old r out (Err Write) new grown = FailsToWrite old r out new grown
 TakesNext old r out (Err Memory) new grown = FailsToKeep old r out new grown
+
+-- the output works as it did before: what was put is known as before, and at most a block of it is held back
+pub record WorksAsBefore (old new : Output) : Type 0 where
+  pub served : new.has_failed ≡ old.has_failed
+  pub sink_served : new.sink_has_failed ≡ old.sink_has_failed
+  pub put : Grows old.put new.put
+  pub block : HoldsBlock old.took old.put → HoldsBlock new.took new.put
