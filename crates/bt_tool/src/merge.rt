@@ -48,7 +48,7 @@ impl Ended {
 
 /// Merges records that come in order. It holds the open run alone, and writes each run once a record
 /// begins the next.
-#[derive(Drop)]
+#[derive(Drop, Debug)]
 pub(crate) struct Merge {
     gap: u64,
     // The open run's chromosome, whose buffer is used again.
@@ -65,9 +65,9 @@ impl Model for Merge {
     ghost Value = { Merging };
 
     ghost view = { λ m. record {
-        gap = m.gap;
-        open_run = option_map (run_at m.chrom.items) m.run;
-        fault = option_map fault_of m.ended
+      gap = m.gap;
+      open_run = option_map (run_at m.chrom.items) m.run;
+      fault = option_map fault_of m.ended;
     } };
 
     ghost invariant = { λ m. (m.gap ≤ 999999999999) × ForSome m.run (λ run. run.stop ≤ 999999999999) };
@@ -100,16 +100,16 @@ impl Merge {
         ensures writes { (gap : ℕ) (past : List Interval) → StandsAfter gap past self.old
             → ComesNext past (interval_of bed.now)
             → OnOk result ((lines : List ℕ) × AreSettledBy gap past (interval_of bed.now) lines
-                × Appends out.old.put out.new.put lines) }
+            × Appends out.old.put out.new.put lines) }
         ensures text { (gap : ℕ) (past : List Interval) (before : List ℕ)
             → StandsAfter gap past self.old → ComesNext past (interval_of bed.now)
             → out.old.put ≡ Some (before ++ settled_lines gap past)
             → OnOk result (out.new.put
-                ≡ Some (before ++ settled_lines gap (past ++ interval_of bed.now ∷ []))) }
+            ≡ Some (before ++ settled_lines gap (past ++ interval_of bed.now ∷ []))) }
         ensures front { (gap : ℕ) (past : List Interval) → StandsAfter gap past self.old
             → ComesNext past (interval_of bed.now) → HoldsBlock out.old.took out.old.put
             → OnErr result ((lines : List ℕ) × AreSettledBy gap past (interval_of bed.now) lines
-                × IsFrontOf out.new.took out.old.put lines) }
+            × IsFrontOf out.new.took out.old.put lines) }
         ensures grows { Grows out.old.took out.new.took }
 
         ensures served { OnOk result (WorksAsBefore out.old out.new) }
@@ -125,13 +125,13 @@ impl Merge {
         ensures settles { (gap : ℕ) (past : List Interval) → StandsAfter gap past self.old
             → ComesNext past (interval_of bed.now)
             → IfErr result (λ fault. told fault ≡ no_memory
-                → (lines : List ℕ) × AreSettledBy gap past (interval_of bed.now) lines
-                    × Appends out.old.put out.new.put lines) }
+            → (lines : List ℕ) × AreSettledBy gap past (interval_of bed.now) lines
+            × Appends out.old.put out.new.put lines) }
         ensures new_name { IfErr result (λ fault. self.old.fault ≡ None → told fault ≡ no_memory
             → IfSome self.old.open_run (λ run. bed.now.chrom.now ≢ run.chrom)) }
         ensures again { (before : Told) → self.old.fault ≡ Some before
             → IsErrAnd result (λ fault. told fault ≡ before)
-                × (self.new ≡ self.old) × (out.new ≡ out.old) }
+            × (self.new ≡ self.old) × (out.new ≡ out.old) }
         ensures after_failure { out.old.has_failed ≡ true → out.new ≡ out.old }
     {
         if let Some(ended) = self.ended {
@@ -152,7 +152,7 @@ impl Merge {
         ensures writes { (gap : ℕ) (past : List Interval) → StandsAfter gap past self
             → AreTogether past → AreNonEmpty past
             → OnOk result ((lines : List ℕ) × AreUnsettled gap past lines
-                × Appends out.old.put out.new.put lines) }
+            × Appends out.old.put out.new.put lines) }
         ensures text { (gap : ℕ) (past : List Interval) (before : List ℕ)
             → StandsAfter gap past self → AreTogether past → AreNonEmpty past
             → out.old.put ≡ Some (before ++ settled_lines gap past)
@@ -160,7 +160,7 @@ impl Merge {
         ensures front { (gap : ℕ) (past : List Interval) → StandsAfter gap past self
             → AreTogether past → AreNonEmpty past
             → OnErr result ((lines : List ℕ) × AreUnsettled gap past lines
-                × IsFrontOf out.new.took out.old.put lines) }
+            × IsFrontOf out.new.took out.old.put lines) }
         ensures grows { Grows out.old.took out.new.took }
 
         ensures served { OnOk result (WorksAsBefore out.old out.new) }
@@ -241,3 +241,6 @@ fn joins(chrom: &[u8], run: Run, gap: u64, bed: &BedRef<'_>) -> bool
 {
     chrom == bed.chrom && bed.start <= run.stop + gap
 }
+
+#[cfg(test)]
+mod tests;
