@@ -11,3 +11,5 @@ pub mod Examples
 pub mod Asked
 pub mod Division
 pub mod Reading
+pub mod OutputSteps
+pub mod EngineLemmas

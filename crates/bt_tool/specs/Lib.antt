@@ -14,3 +14,4 @@ pub mod Plan
 pub mod Refusal
 pub mod Table
 pub mod Usage
+pub mod Engine

@@ -2,7 +2,9 @@
 #![tactic(auto)]
 
 mod bed;
+mod bed_line;
 pub mod laws;
+mod merge;
 pub mod option_laws;
 mod options;
 mod plain;
