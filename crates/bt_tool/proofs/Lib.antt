@@ -8,3 +8,4 @@ pub mod Steps
 pub mod Placed
 pub mod PlainSpans
 pub mod Examples
+pub mod RecordLemmas

@@ -6,3 +6,4 @@ pub mod Settled
 pub mod Step
 pub mod Plain
 pub mod Bed
+pub mod Record

@@ -4,3 +4,4 @@
 mod bed;
 pub mod laws;
 pub mod plain;
+mod record;
