@@ -9,3 +9,5 @@ pub mod Placed
 pub mod PlainSpans
 pub mod Examples
 pub mod RecordLemmas
+pub mod GoodLemmas
+pub mod GenomeLemmas

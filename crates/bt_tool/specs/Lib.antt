@@ -7,3 +7,5 @@ pub mod Step
 pub mod Plain
 pub mod Bed
 pub mod Record
+pub mod Good
+pub mod Genome
