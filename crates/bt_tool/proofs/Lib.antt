@@ -11,3 +11,5 @@ pub mod Examples
 pub mod RecordLemmas
 pub mod GoodLemmas
 pub mod GenomeLemmas
+pub mod TableLemmas
+pub mod ResultLemmas

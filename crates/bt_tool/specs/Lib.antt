@@ -9,3 +9,4 @@ pub mod Bed
 pub mod Record
 pub mod Good
 pub mod Genome
+pub mod Table

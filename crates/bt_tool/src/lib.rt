@@ -2,6 +2,8 @@
 #![tactic(auto)]
 
 mod bed;
+mod faults;
+mod genome;
 pub mod laws;
 pub mod plain;
 mod record;
