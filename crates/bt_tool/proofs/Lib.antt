@@ -13,3 +13,8 @@ pub mod Division
 pub mod Reading
 pub mod OutputSteps
 pub mod EngineLemmas
+pub mod RecordLemmas
+pub mod GoodLemmas
+pub mod GenomeLemmas
+pub mod TableLemmas
+pub mod ResultLemmas

@@ -15,3 +15,7 @@ pub mod Refusal
 pub mod Table
 pub mod Usage
 pub mod Engine
+pub mod Record
+pub mod Good
+pub mod Genome
+pub mod GenomeTable

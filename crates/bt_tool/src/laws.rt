@@ -1,5 +1,7 @@
 //! The laws of the definitions, each as the contract of a function that does nothing.
 
+ghost use Rattle.bt_tool.specs.Genome.{genome_names_are_distinct};
+ghost use Rattle.bt_tool.specs.Good.{good_are_non_empty, good_are_placed};
 ghost use Rattle.bt_tool.specs.Merged.{runs_are, runs_only};
 ghost use Rattle.bt_tool.specs.Place.{fronts_are_placed, fronts_stand_together, placed_are_together, placed_grows, together_grows};
 ghost use Rattle.bt_tool.specs.Settled.{chromosomes_are_distinct, kept_in_order, kept_is_open, merged_in_order, merged_is_settled_and_open, nothing_at_first, settled_begins, settled_begins_in_order, settled_in_order, settled_stays, step_opens, step_settles};
@@ -49,4 +51,15 @@ pub fn steps_are_determined()
     ensures whole { merged_is_settled_and_open }
     ensures opens { step_opens }
     ensures settles { step_settles }
+{}
+
+/// The good records of an input are in order, and each has a base.
+pub fn good_records_are_in_order()
+    ensures placed { good_are_placed }
+    ensures non_empty { good_are_non_empty }
+{}
+
+/// A genome file without a fault has each chromosome once.
+pub fn chromosomes_come_once()
+    ensures { genome_names_are_distinct }
 {}

@@ -3,12 +3,15 @@
 
 mod bed;
 mod bed_line;
+mod faults;
+mod genome;
 pub mod laws;
 mod merge;
 pub mod option_laws;
 mod options;
 mod plain;
 mod plan_type;
+mod record;
 mod usage;
 
 pub use options::plan;
