@@ -19,3 +19,4 @@ pub mod Record
 pub mod Good
 pub mod Genome
 pub mod GenomeTable
+pub mod Report

@@ -9,11 +9,13 @@ pub mod laws;
 mod merge;
 pub mod option_laws;
 mod options;
+mod outcome;
 mod plain;
 mod plan_type;
 mod record;
 mod usage;
 
 pub use options::plan;
+pub use outcome::Outcome;
 pub use plan_type::{Command, Plan};
 pub use usage::{Refusal, Usage, usage_line};
