@@ -161,7 +161,7 @@ module _ {S : Type 0} where
   -- a fault was answered
   pub record GivesFault (left : S → Option (List ℕ)) (failed : S → Bool) (old : LineReader S) (fault : Told) (new : LineReader S) : Type 0 where
     pub kept : fault_kept new ≡ Some fault
-    pub same_input : input_of new ≡ input_of old
+    pub bytes : (bytes : List ℕ) × Hands left old bytes new
     pub counted : lines_given new ≡ lines_given old
     -- a fault is answered again, and nothing is read
     pub again : (before : Told) → fault_kept old ≡ Some before → (fault ≡ before) × (new ≡ old)
