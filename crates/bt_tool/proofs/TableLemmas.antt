@@ -1,5 +1,5 @@
 -- Lemmas on a table of chromosomes and on reading one.
-use Rattle.std.proofs.Common.{◌≡◌, ℕ, suc, ◌+◌, ◌^◌, ◌<◌, ◌≤◌, Bool, true, false, ◌&&◌, ◌||◌, cond, List, [], ◌∷◌, ◌++◌, map, length, drop, get_or, Option, Some, None, Result, Ok, Err, refl, sym, ap, ◌∙◌, subst, append_assoc, append-nil, inl, inr, arith}
+use Rattle.std.proofs.Common.{◌≡◌, ℕ, suc, ◌+◌, ◌^◌, ◌<◌, ◌≤◌, Bool, true, false, ◌&&◌, ◌||◌, cond, List, [], ◌∷◌, ◌++◌, map, length, drop, get_or, Option, Some, None, Result, Ok, Err, refl, sym, ap, ◌∙◌, subst, append_assoc, append-nil, add-zero, length-append, inl, inr, arith}
 use Rattle.std.specs.Prelude.{◌⊎◌, ◌==◌, IfSome, IsFalse, bytes_eq, is_some, option_map, slice_get}
 use Rattle.std.specs.Option.{option_to_list}
 use Rattle.std.specs.Io.KnownBytes.{Consumes}
@@ -9,7 +9,7 @@ use Rattle.bt_lines.specs.Fault.{Told, has_place, read_failed, no_memory}
 use Rattle.bt_lines.specs.Given.{GivesFirst}
 use Rattle.bt_lines.specs.Lines.{TextLine, pieces}
 use Rattle.bt_lines.specs.Number.{value_of}
-use Rattle.bt_lines.specs.Reader.{GivesLine, GivesEnd, GivesFault, FailsToRead, source_of, input_of, lines_given, bytes_taken, has_ended, fault_kept, lines_left}
+use Rattle.bt_lines.specs.Reader.{Hands as HandsBytes, GivesLine, GivesEnd, GivesFault, FailsToRead, source_of, input_of, lines_given, bytes_taken, has_ended, fault_kept, lines_left}
 use Rattle.bt_lines.specs.declared.fault.Input.{Input}
 use Rattle.bt_lines.specs.declared.fault.Kind.{Kind}
 use Rattle.bt_lines.specs.declared.fault.Kind.TheVariants.{TooFewColumns, EmptyName, BadLength, RepeatedChrom}
@@ -217,15 +217,19 @@ module _ {S : Type 0} (left : S → Option (List ℕ)) (failed : S → Bool) (ol
     going = going;
     served = refl;
     same_input = refl;
-    bytes = ([], Consumes-nil (left (source_of old)));
+    bytes = ([], Consumes-nil (left (source_of old)), sym (add-zero (bytes_taken old)));
   }
 
   distinct_line : (text : List ℕ) (genome grown : Genome) → AreDistinct (names_of genome) → LineAdded text genome grown → AreDistinct (names_of grown)
   distinct_line text genome grown d added = rw added.added (distinct_more (entries genome) (entry_of text) added.entry d added.says)
 
+  both : (now next : LineReader S) → Hands left old now → (bytes : List ℕ) × HandsBytes left now bytes next → Hands left old next
+  both now next h more =
+      (h.0 ++ more.0, Consumes-trans (left (source_of old)) (left (source_of now)) (left (source_of next)) h.0 more.0 h.1 more.1.left_over,
+       omega (arith, h.2, more.1.counted, length-append h.0 more.0))
+
   handed : (now next : LineReader S) (line : TextLine) → Hands left old now → GivesLine left failed now line next → Hands left old next
-  handed now next line h gives =
-      (h.0 ++ gives.bytes.0, Consumes-trans (left (source_of old)) (left (source_of now)) (left (source_of next)) h.0 gives.bytes.0 h.1 gives.bytes.1.left_over)
+  handed now next line h gives = both now next h (gives.bytes.0, gives.bytes.1)
 
   pub going_line : (now next : LineReader S) (line : TextLine) (genome grown : Genome) → Going left failed old now genome → GivesLine left failed now line next → LineAdded line.text genome grown → Going left failed old next grown
   going_line now next line genome grown g gives added = record {
@@ -243,7 +247,7 @@ module _ {S : Type 0} (left : S → Option (List ℕ)) (failed : S → Bool) (ol
     distinct = g.distinct;
     ended = gives.ends;
     served = gives.served ∙ g.served;
-    bytes = (g.bytes.0 ++ gives.bytes.0, Consumes-trans (left (source_of old)) (left (source_of now)) (left (source_of new)) g.bytes.0 gives.bytes.0 g.bytes.1 gives.bytes.1.left_over);
+    bytes = both now new g.bytes (gives.bytes.0, gives.bytes.1);
   }
 
   pub going_refused : (now next : LineReader S) (line : TextLine) (genome : Genome) (place : Place) (fault : Told) → Going left failed old now genome → GivesLine left failed now line next
@@ -264,11 +268,12 @@ module _ {S : Type 0} (left : S → Option (List ℕ)) (failed : S → Bool) (ol
 
   -- why the reading stopped
   abbrev Stops : LineReader S → Told → Type 0
-  Stops new fault = ReadingFails failed old new fault ⊎ MemoryRanOut failed old new fault
+  Stops new fault = ReadingFails left failed old new fault ⊎ MemoryRanOut failed old new fault
 
   stops_by : (now new : LineReader S) (genome : Genome) (fault : Told) → Going left failed old now genome → GivesFault left failed now fault new → FailsToRead left failed now fault new ⊎ (fault ≡ no_memory) → Stops new fault
   stops_by now new genome fault g gives (inl fails) = inl (record {
     is = fails.is ∙ ap (λ i. read_failed i (suc (lines_given now))) g.same_input ∙ ap (λ n. read_failed (input_of old) (suc n)) (sym gives.counted);
+    bytes = both now new g.bytes gives.bytes;
     cause = fails.cause;
   })
   stops_by now new genome fault g gives (inr is) = inr (record { is = is; served = gives.served is ∙ g.served })
@@ -279,6 +284,6 @@ module _ {S : Type 0} (left : S → Option (List ℕ)) (failed : S → Bool) (ol
   -- a line could not be added
   pub going_err : (now next : LineReader S) (line : TextLine) (genome : Genome) (place : Place) (fault : Told) → Going left failed old now genome → GivesLine left failed now line next
       → place ≡ record { input = input_of old; line = line.number } → LineRefused place line.text genome fault ⊎ (fault ≡ no_memory)
-      → LineAtFault left failed old next fault ⊎ (ReadingFails failed old next fault ⊎ MemoryRanOut failed old next fault)
+      → LineAtFault left failed old next fault ⊎ (ReadingFails left failed old next fault ⊎ MemoryRanOut failed old next fault)
   going_err now next line genome place fault g gives at (inl refused) = inl (going_refused now next line genome place fault g gives at refused)
   going_err now next line genome place fault g gives at (inr is) = inr (inr (record { is = is; served = gives.served ∙ g.served }))

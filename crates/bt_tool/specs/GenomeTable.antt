@@ -1,5 +1,5 @@
 -- What a table of chromosomes holds, and what reading one does.
-use Rattle.std.specs.Prelude.{◌≡◌, ℕ, suc, ◌^◌, ◌≤◌, ◌⊎◌, Bool, true, List, ◌++◌, map, Option, Some, None, Result, Ok, Err, IfSome, option_map}
+use Rattle.std.specs.Prelude.{◌≡◌, ℕ, suc, ◌+◌, ◌^◌, ◌≤◌, ◌⊎◌, Bool, true, length, List, ◌++◌, map, Option, Some, None, Result, Ok, Err, IfSome, option_map}
 use Rattle.std.specs.Option.{option_to_list}
 use Rattle.std.specs.Io.KnownBytes.{Consumes}
 use Rattle.bt_lines.specs.Fault.{Told, read_failed, no_memory}
@@ -53,9 +53,9 @@ pub record LineRefused (place : Place) (text : List ℕ) (old : Genome) (fault :
   pub is : fault ≡ fault_at_line place.input place.line kind
 
 module _ {S : Type 0} where
-  -- the reader handed over these bytes of its source
+  -- the source handed over some bytes, which the reader counted
   abbrev pub Hands : (S → Option (List ℕ)) → LineReader S → LineReader S → Type 0
-  Hands left old new = (bytes : List ℕ) × Consumes (left (source_of old)) (left (source_of new)) bytes
+  Hands left old new = (bytes : List ℕ) × Consumes (left (source_of old)) (left (source_of new)) bytes × (bytes_taken new ≡ bytes_taken old + length bytes)
 
   -- the whole genome file was read
   pub record ReadsAll (left : S → Option (List ℕ)) (failed : S → Bool) (old new : LineReader S) (genome : Genome) : Type 0 where
@@ -78,8 +78,9 @@ module _ {S : Type 0} where
     pub bytes : Hands left old new
 
   -- the source failed, or its text is too long
-  pub record ReadingFails (failed : S → Bool) (old new : LineReader S) (fault : Told) : Type 0 where
+  pub record ReadingFails (left : S → Option (List ℕ)) (failed : S → Bool) (old new : LineReader S) (fault : Told) : Type 0 where
     pub is : fault ≡ read_failed (input_of old) (suc (lines_given new))
+    pub bytes : Hands left old new
     pub cause : (failed (source_of new) ≡ true) ⊎ (2 ^ 63 ≤ bytes_taken new)
 
   -- memory ran out
@@ -91,4 +92,4 @@ module _ {S : Type 0} where
   abbrev pub ReadsGenome : (S → Option (List ℕ)) → (S → Bool) → LineReader S → Result Genome Fault → LineReader S → Type 0
   ReadsGenome left failed old (Ok genome) new = ReadsAll left failed old new genome
   ReadsGenome left failed old (Err fault) new =
-      LineAtFault left failed old new (told fault) ⊎ (ReadingFails failed old new (told fault) ⊎ MemoryRanOut failed old new (told fault))
+      LineAtFault left failed old new (told fault) ⊎ (ReadingFails left failed old new (told fault) ⊎ MemoryRanOut failed old new (told fault))

@@ -1,11 +1,11 @@
-use Rattle.std.proofs.Common.{◌≡◌, ◌∙◌, ap, refl, rules, map}
+use Rattle.std.proofs.Common.{◌≡◌, ◌∙◌, ap, refl, rules, map, inr}
 use Rattle.bt_lines.specs.Given.{line_seen}
 use Rattle.bt_lines.specs.Names.{told}
 use Rattle.bt_lines.specs.declared.fault.Place.{Place}
 use Rattle.bt_lines.specs.declared.fault.Input.{Input}
 use Rattle.bt_lines.specs.Reader.{input_of}
 use Rattle.bt_tool.proofs.ResultLemmas.{passed_on}
-use Rattle.bt_tool.proofs.TableLemmas.{going_start, going_line, going_end, going_err}
+use Rattle.bt_tool.proofs.TableLemmas.{going_start, going_line, going_end, going_err, going_fault}
 use Rattle.bt_tool.specs.GenomeTable.{ReadsGenome, entries, entry_seen}
 use Rattle.bt_tool.proofs.genome.Genome.read.Goals as goal
 
@@ -26,6 +26,13 @@ returns-in_err-add_line g c =
     passed_on (λ r. ReadsGenome g.S.Source.left g.S.Source.has_failed c.args.reader.now r c.next.follows.lender-at-none) c.from_residual-in_err-add_line.result c.in_err-add_line.field-0.0
         c.from_residual-in_err-add_line.ensures.1
         (going_err _ _ c.args.reader.now c.loop-genome.reader c.next.follows.lender-at-none (line_seen c.in-Some.line) c.loop-genome.genome _ (told c.in_err-add_line.field-0.0) c.loop-genome.invariant.0 gives.answers at c.in_err-add_line.ensures.refused)
+
+pub returns-in_err-line : goal.returns-in_err-line
+returns-in_err-line g c =
+    let gives = rw c.in_err-line.was at c.next.follows.holds-at-none in
+    passed_on (λ r. ReadsGenome g.S.Source.left g.S.Source.has_failed c.args.reader.now r c.next.follows.lender-at-none) c.from_residual.result c.in_err-line.field-0.0
+        c.from_residual.ensures.1
+        (inr (going_fault _ _ c.args.reader.now c.loop-genome.reader c.next.follows.lender-at-none c.loop-genome.genome (told c.in_err-line.field-0.0) c.loop-genome.invariant.0 gives.answers))
 
 pub returns : goal.returns
 returns g c =
