@@ -18,3 +18,4 @@ pub mod GoodLemmas
 pub mod GenomeLemmas
 pub mod TableLemmas
 pub mod ResultLemmas
+pub mod ReportLemmas
