@@ -20,3 +20,4 @@ pub mod Good
 pub mod Genome
 pub mod GenomeTable
 pub mod Report
+pub mod Flushing

@@ -4,6 +4,7 @@
 mod bed;
 mod bed_line;
 mod faults;
+mod flushing;
 mod genome;
 pub mod laws;
 mod merge;
