@@ -1,5 +1,5 @@
 -- What an engine that merges holds, what it writes, and what it does to its output.
-use Rattle.std.specs.Prelude.{◌≡◌, ◌≢◌, ℕ, Bool, true, false, List, [], ◌∷◌, ◌++◌, codes, decimal, flat_map, IfSome, Option, Some, None, Result, Ok, Err}
+use Rattle.std.specs.Prelude.{◌≡◌, ◌≢◌, ◌≤◌, ℕ, length, Bool, true, false, List, [], ◌∷◌, ◌++◌, codes, decimal, flat_map, IfSome, Option, Some, None, Result, Ok, Err}
 use Rattle.std.specs.Io.KnownBytes.{Appends}
 use Rattle.bt_lines.specs.Fault.{Told, no_memory, write_failed}
 use Rattle.bt_lines.specs.Names.{told}
@@ -8,7 +8,7 @@ use Rattle.bt_lines.specs.declared.fault.Fault.{Fault}
 use Rattle.bt_tool.specs.Interval.{Interval, AreNonEmpty}
 use Rattle.bt_tool.specs.Merged.{merged, chromosomes}
 use Rattle.bt_tool.specs.Place.{AreTogether}
-use Rattle.bt_tool.specs.Settled.{settled, open_of}
+use Rattle.bt_tool.specs.Settled.{settled, kept, open_of}
 use Rattle.bt_tool.specs.Step.{merge_step}
 use Rattle.bt_tool.specs.declared.merge.Run.{Run}
 use Rattle.bt_tool.specs.declared.merge.Ended.{Ended}
@@ -50,6 +50,11 @@ pub record ComesNext (past : List Interval) (r : Interval) : Type 0 where
 -- the lines of the runs that the next record settles
 abbrev pub AreSettledBy : ℕ → List Interval → Interval → List ℕ → Type 0
 AreSettledBy gap past r lines = settled_lines gap (past ++ r ∷ []) ≡ settled_lines gap past ++ lines
+
+-- the record settles nothing, and no more runs are kept with it
+pub record SettlesNothing (gap : ℕ) (past : List Interval) (r : Interval) : Type 0 where
+  pub same_settled : settled (chromosomes (past ++ r ∷ [])) gap (past ++ r ∷ []) ≡ settled (chromosomes past) gap past
+  pub no_more_kept : length (kept (chromosomes (past ++ r ∷ [])) gap (past ++ r ∷ [])) ≤ length (kept (chromosomes past) gap past)
 
 -- the lines of the runs that are still unsettled
 abbrev pub AreUnsettled : ℕ → List Interval → List ℕ → Type 0

@@ -11,7 +11,7 @@ ghost use Rattle.bt_tool.specs.Merged.{chromosomes};
 ghost use Rattle.bt_tool.specs.Place.{AreTogether};
 ghost use Rattle.bt_tool.specs.Settled.{kept};
 ghost use Rattle.bt_tool.specs.Step.{joins, merge_step};
-ghost use Rattle.bt_tool.specs.Engine.{AreSettledBy, AreUnsettled, ComesNext, StandsAfter, TakesNext, WorksAsBefore, fault_of, merged_lines, run_at, settled_lines};
+ghost use Rattle.bt_tool.specs.Engine.{AreSettledBy, AreUnsettled, ComesNext, SettlesNothing, StandsAfter, TakesNext, WorksAsBefore, fault_of, merged_lines, run_at, settled_lines};
 
 use crate::bed::BedRef;
 use crate::bed_line::put_bed_line;
@@ -115,6 +115,9 @@ impl Merge {
         ensures served { OnOk result (WorksAsBefore out.old out.new) }
         ensures quiet { self.old.fault ≡ None → IsSome self.old.open_run
             → (merge_step self.old.gap self.old.open_run (interval_of bed.now)).1 ≡ []
+            → IsOk result × (out.new ≡ out.old) }
+        ensures quiet_in_order { (gap : ℕ) (past : List Interval) → StandsAfter gap past self.old
+            → ComesNext past (interval_of bed.now) → SettlesNothing gap past (interval_of bed.now)
             → IsOk result × (out.new ≡ out.old) }
         ensures fault { IfErr result (λ fault. (told fault ≡ write_failed) ⊎ (told fault ≡ no_memory)) }
         ensures kept { IfErr result (λ fault. self.new.fault ≡ Some (told fault)) }
