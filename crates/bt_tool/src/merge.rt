@@ -177,10 +177,10 @@ impl Merge {
         if let Some(ended) = self.ended {
             return Err(ended.fault());
         }
-        let Some(run) = self.run else {
-            return Ok(());
-        };
-        put_bed_line(self.chrom.as_slice(), run.start, run.stop, out)
+        match self.run {
+            None => Ok(()),
+            Some(run) => put_bed_line(self.chrom.as_slice(), run.start, run.stop, out),
+        }
     }
 
     /// How many runs it holds: 0 or 1.

@@ -13,14 +13,14 @@ left_for : (gap : ℕ) (past : List Interval) (merge : Merging) (open_run : Opti
 left_for gap past merge open_run e stands together full =
     subst (λ o. AreUnsettled gap past (run_lines (option_to_list o))) e (unsettled_open gap past merge stands together full)
 
-pub returns-in_default-run-clause-writes : goal.returns-in_default-run-clause-writes
-returns-in_default-run-clause-writes g c = λ gap past stands together full.
-    let none : c.args.self.open_run ≡ None = ap (λ m. m.open_run) (sym c.self.view_is) ∙ ap (option_map (run_at c.self.inside.chrom.items)) c.in_default-run.is in
+pub returns-in-None-clause-writes : goal.returns-in-None-clause-writes
+returns-in-None-clause-writes g c = λ gap past stands together full.
+    let none : c.args.self.open_run ≡ None = ap (λ m. m.open_run) (sym c.self.view_is) ∙ ap (option_map (run_at c.self.inside.chrom.items)) c.in-None.is in
     ([], left_for gap past c.args.self None none stands together full, Appends-nil _)
 
-pub returns-in_default-run-clause-text : goal.returns-in_default-run-clause-text
-returns-in_default-run-clause-text g c = λ gap past before stands together full was.
-    let none : c.args.self.open_run ≡ None = ap (λ m. m.open_run) (sym c.self.view_is) ∙ ap (option_map (run_at c.self.inside.chrom.items)) c.in_default-run.is in
+pub returns-in-None-clause-text : goal.returns-in-None-clause-text
+returns-in-None-clause-text g c = λ gap past before stands together full was.
+    let none : c.args.self.open_run ≡ None = ap (λ m. m.open_run) (sym c.self.view_is) ∙ ap (option_map (run_at c.self.inside.chrom.items)) c.in-None.is in
     text_grows _ _ before _ [] _ (left_for gap past c.args.self None none stands together full) (Appends-nil _) was
 
 pub returns-clause-writes : goal.returns-clause-writes
