@@ -1,5 +1,5 @@
 -- From the exact step of a merge to what it writes after the records of the past.
-use Rattle.std.proofs.Common.{arith, ◌≡◌, ℕ, ◌⊎◌, inl, inr, List, [], ◌∷◌, ◌++◌, Option, None, Some, Result, Ok, Err, refl, sym, ap, subst, ◌∙◌, append_assoc, append-nil, option_to_list}
+use Rattle.std.proofs.Common.{arith, ◌≡◌, ℕ, List, [], ◌∷◌, ◌++◌, Option, None, Some, Result, Ok, Err, refl, sym, ap, ◌∙◌, append_assoc, append-nil, option_to_list}
 use Rattle.std.proofs.lemmas.Grind.{flat_map-append}
 use Rattle.std.specs.Io.KnownBytes.{Appends}
 use Rattle.bt_lines.specs.Fault.{no_memory}
@@ -8,13 +8,13 @@ use Rattle.bt_lines.specs.declared.fault.Fault.{Fault}
 use Rattle.std.specs.Prelude.{OnOk, OnErr, IsSome, IfSome, ◌≢◌, length, ◌≤◌}
 use Rattle.bt_lines.specs.Output.{Output, HoldsBlock, IsFrontOf}
 use Rattle.bt_tool.specs.Interval.{Interval, AreNonEmpty}
-use Rattle.bt_tool.specs.Merged.{merged, chromosomes}
+use Rattle.bt_tool.specs.Merged.{chromosomes}
 use Rattle.bt_tool.specs.Place.{AreTogether}
 use Rattle.bt_tool.specs.Settled.{settled, open_of}
 use Rattle.bt_tool.specs.Step.{merge_step}
 use Rattle.bt_tool.specs.declared.merge.Ended.{Ended}
 use Rattle.bt_tool.specs.declared.merge.Ended.TheVariants.{Write, Memory}
-use Rattle.bt_tool.specs.Engine.{run_line, run_lines, settled_lines, merged_lines, Merging, StandsAfter, ComesNext, SettlesNothing, AreSettledBy, AreUnsettled, fault_of, Puts, TakesNext}
+use Rattle.bt_tool.specs.Engine.{run_line, run_lines, settled_lines, Merging, StandsAfter, ComesNext, SettlesNothing, AreSettledBy, AreUnsettled, fault_of, Puts, TakesNext}
 use Rattle.bt_tool.proofs.OutputSteps.{front_held}
 use Rattle.bt_tool.proofs.Steps.{step_elsewhere, full_front, kept_open, opens_by_step, settles_by_step, settled_and_open}
 use Rattle.bt_tool.proofs.Names.{name_ne, together_front}

@@ -1,5 +1,5 @@
 -- What an engine that merges holds, what it writes, and what it does to its output.
-use Rattle.std.specs.Prelude.{◌≡◌, ◌≢◌, ◌≤◌, ℕ, length, Bool, true, false, List, [], ◌∷◌, ◌++◌, codes, decimal, flat_map, IfSome, Option, Some, None, Result, Ok, Err}
+use Rattle.std.specs.Prelude.{◌≡◌, ◌≢◌, ◌≤◌, ℕ, length, true, false, List, [], ◌∷◌, ◌++◌, codes, decimal, flat_map, IfSome, Option, None, Result, Ok, Err}
 use Rattle.std.specs.Io.KnownBytes.{Appends}
 use Rattle.bt_lines.specs.Fault.{Told, no_memory, write_failed}
 use Rattle.bt_lines.specs.Names.{told}
