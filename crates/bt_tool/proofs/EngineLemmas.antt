@@ -14,7 +14,9 @@ use Rattle.bt_tool.specs.Settled.{settled, open_of}
 use Rattle.bt_tool.specs.Step.{merge_step}
 use Rattle.bt_tool.specs.declared.merge.Ended.{Ended}
 use Rattle.bt_tool.specs.declared.merge.Ended.TheVariants.{Write, Memory}
-use Rattle.bt_tool.specs.Engine.{run_line, run_lines, settled_lines, Merging, StandsAfter, ComesNext, SettlesNothing, AreSettledBy, AreUnsettled, fault_of, Puts, TakesNext}
+use Rattle.bt_tool.specs.Engine.{run_line, run_lines, settled_lines, Merging, StandsAfter, ComesNext, SettlesNothing, AreSettledBy, AreUnsettled}
+use Rattle.bt_tool.specs.Taking.{fault_of, TakesNext}
+use Rattle.bt_tool.specs.Putting.{Puts}
 use Rattle.bt_tool.proofs.OutputSteps.{front_held}
 use Rattle.bt_tool.proofs.Steps.{step_elsewhere, full_front, kept_open, opens_by_step, settles_by_step, settled_and_open}
 use Rattle.bt_tool.proofs.Names.{name_ne, together_front}

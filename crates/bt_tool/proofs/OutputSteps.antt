@@ -9,7 +9,8 @@ use Rattle.bt_lines.specs.Names.{told}
 use Rattle.bt_lines.specs.Output.{Output, HoldsBlock, IsFrontOf, Grows}
 use Rattle.bt_lines.specs.declared.fault.Fault.{Fault}
 use Rattle.bt_tool.specs.Interval.{Interval}
-use Rattle.bt_tool.specs.Engine.{run_line, PutsAll, FailsToPut, Puts, Grown}
+use Rattle.bt_tool.specs.Engine.{run_line}
+use Rattle.bt_tool.specs.Putting.{PutsAll, FailsToPut, Puts, Grown}
 
 -- a front of the first bytes is a front of them and more
 pub front_longer : (new old : Option (List ℕ)) (xs ys : List ℕ) → IsFrontOf new old xs → IsFrontOf new old (xs ++ ys)

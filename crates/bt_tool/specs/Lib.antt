@@ -6,4 +6,6 @@ pub mod Settled
 pub mod Step
 pub mod Plain
 pub mod Bed
+pub mod Putting
 pub mod Engine
+pub mod Taking

@@ -3,7 +3,8 @@ use Rattle.std.proofs.KnownBytes.{Appends-nil}
 use Rattle.std.proofs.lemmas.Result.{on_ok_weaker}
 use Rattle.bt_tool.specs.Interval.{Interval, AreNonEmpty}
 use Rattle.bt_tool.specs.Place.{AreTogether}
-use Rattle.bt_tool.specs.Engine.{Merging, StandsAfter, run_at, AreUnsettled, run_lines}
+use Rattle.bt_tool.specs.Engine.{Merging, StandsAfter, AreUnsettled, run_lines}
+use Rattle.bt_tool.specs.Taking.{run_at}
 use Rattle.bt_tool.proofs.EngineLemmas.{unsettled_open, last_writes, last_front, text_grows}
 use Rattle.bt_tool.proofs.merge.Merge.finish.Goals as goal
 
