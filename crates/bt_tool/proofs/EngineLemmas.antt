@@ -16,8 +16,8 @@ use Rattle.bt_tool.specs.declared.merge.Ended.{Ended}
 use Rattle.bt_tool.specs.declared.merge.Ended.TheVariants.{Write, Memory}
 use Rattle.bt_tool.specs.Engine.{run_line, run_lines, settled_lines, Merging, StandsAfter, ComesNext, SettlesNothing, AreSettledBy, AreUnsettled}
 use Rattle.bt_tool.specs.Taking.{fault_of, TakesNext}
-use Rattle.bt_tool.specs.Putting.{Puts}
-use Rattle.bt_tool.proofs.OutputSteps.{front_held}
+use Rattle.bt_tool.specs.Putting.{WorksAsBefore, Puts}
+use Rattle.bt_tool.proofs.OutputSteps.{front_held, grown_works}
 use Rattle.bt_tool.proofs.Steps.{step_elsewhere, full_front, kept_open, opens_by_step, settles_by_step, settled_and_open}
 use Rattle.bt_tool.proofs.Names.{name_ne, together_front}
 use Rattle.std.proofs.lemmas.List.{append_cancel_left}
@@ -95,6 +95,11 @@ pub never_quiet : (old : Merging) (r : Interval) (out : Output) (new : Merging) 
     → (merge_step old.gap old.open_run r).1 ≡ [] → IsSome old.open_run → ⊥
 never_quiet old r out new grown Write p nothing some = p.settles nothing
 never_quiet old r out new grown Memory p nothing some = new_name_settles old.gap old.open_run r some p.new_name nothing
+
+-- where memory ran out, the output works as before
+pub works_next : (old : Merging) (r : Interval) (out : Output) (new : Merging) (grown : Output) (ended : Ended) → TakesNext {A = Unit {0}} old r out (Err ended) new grown → fault_of ended ≡ no_memory → WorksAsBefore out grown
+works_next old r out new grown Write p e = let kind : WriteFailed ≡ NoMemory = ap (λ t. t.kind) e in absurd (cc)
+works_next old r out new grown Memory p e = grown_works out grown (step_lines old r) p.puts
 
 -- a known text grows by the lines
 pub text_grows : (old new : Option (List ℕ)) (before done lines whole : List ℕ) → whole ≡ done ++ lines → Appends old new lines → old ≡ Some (before ++ done) → new ≡ Some (before ++ whole)
