@@ -1,26 +1,43 @@
 -- From the exact step of a merge to what it writes after the records of the past.
-use Rattle.std.proofs.Common.{◌≡◌, ℕ, ◌⊎◌, inl, inr, List, [], ◌∷◌, ◌++◌, Option, None, Some, Result, Ok, Err, refl, sym, ap, subst, ◌∙◌, append_assoc, append-nil, option_to_list}
+use Rattle.std.proofs.Common.{arith, ◌≡◌, ℕ, List, [], ◌∷◌, ◌++◌, Option, None, Some, Result, Ok, Err, refl, sym, ap, ◌∙◌, append_assoc, append-nil, option_to_list}
 use Rattle.std.proofs.lemmas.Grind.{flat_map-append}
 use Rattle.std.specs.Io.KnownBytes.{Appends}
 use Rattle.bt_lines.specs.Fault.{no_memory}
 use Rattle.bt_lines.specs.declared.fault.Kind.TheVariants.{WriteFailed, NoMemory}
 use Rattle.bt_lines.specs.declared.fault.Fault.{Fault}
-use Rattle.std.specs.Prelude.{OnOk, OnErr}
+use Rattle.std.specs.Prelude.{OnOk, OnErr, IsSome, IfSome, ◌≢◌, length, ◌≤◌}
 use Rattle.bt_lines.specs.Output.{Output, HoldsBlock, IsFrontOf}
 use Rattle.bt_tool.specs.Interval.{Interval, AreNonEmpty}
-use Rattle.bt_tool.specs.Merged.{merged, chromosomes}
+use Rattle.bt_tool.specs.Merged.{chromosomes}
 use Rattle.bt_tool.specs.Place.{AreTogether}
 use Rattle.bt_tool.specs.Settled.{settled, open_of}
 use Rattle.bt_tool.specs.Step.{merge_step}
 use Rattle.bt_tool.specs.declared.merge.Ended.{Ended}
 use Rattle.bt_tool.specs.declared.merge.Ended.TheVariants.{Write, Memory}
-use Rattle.bt_tool.specs.Engine.{run_line, run_lines, settled_lines, merged_lines, Merging, StandsAfter, ComesNext, AreSettledBy, AreUnsettled, fault_of, Puts, TakesNext}
-use Rattle.bt_tool.proofs.OutputSteps.{front_held}
-use Rattle.bt_tool.proofs.Steps.{opens_by_step, settles_by_step, settled_and_open}
+use Rattle.bt_tool.specs.Engine.{run_line, run_lines, settled_lines, Merging, StandsAfter, ComesNext, SettlesNothing, AreSettledBy, AreUnsettled}
+use Rattle.bt_tool.specs.Taking.{fault_of, TakesNext}
+use Rattle.bt_tool.specs.Putting.{WorksAsBefore, Puts}
+use Rattle.bt_tool.proofs.OutputSteps.{front_held, grown_works}
+use Rattle.bt_tool.proofs.Steps.{step_elsewhere, full_front, kept_open, opens_by_step, settles_by_step, settled_and_open}
+use Rattle.bt_tool.proofs.Names.{name_ne, together_front}
+use Rattle.std.proofs.lemmas.List.{append_cancel_left}
 
 -- the lines of the runs that the step gives
 abbrev pub step_lines : Merging → Interval → List ℕ
 step_lines merge r = run_lines (merge_step merge.gap merge.open_run r).1
+
+-- a step leaves a run open, so one was open where no more are
+some_where_more : (gap : ℕ) (o : Option Interval) (r : Interval) → length (option_to_list (merge_step gap o r).0) ≤ length (option_to_list o) → IsSome o
+some_where_more gap None r h = absurd (omega arith)
+some_where_more gap (Some run) r h = refl
+
+-- a record on another chromosome settles the open run
+new_name_settles : (gap : ℕ) (o : Option Interval) (r : Interval) → IsSome o → IfSome o (λ run. r.chrom ≢ run.chrom) → (merge_step gap o r).1 ≡ [] → ⊥
+new_name_settles gap None r some other nothing = absurd (cc)
+new_name_settles gap (Some run) r some other nothing =
+    let step = step_elsewhere gap run r (name_ne r.chrom run.chrom other) in
+    let e : run ∷ [] ≡ [] = sym (ap (λ s. s.1) step) ∙ nothing in
+    absurd (cc)
 
 module _ (gap : ℕ) (past : List Interval) (old : Merging) (stands : StandsAfter gap past old) where
   same_step : (r : Interval) → merge_step gap (open_of gap past) r ≡ merge_step old.gap old.open_run r
@@ -61,6 +78,28 @@ module _ (gap : ℕ) (past : List Interval) (old : Merging) (stands : StandsAfte
       → (lines : List ℕ) × AreSettledBy gap past r lines × Appends out.put grown.put lines
   puts_next r out new grown Write next p e = let kind : WriteFailed ≡ NoMemory = ap (λ t. t.kind) e in absurd (cc)
   puts_next r out new grown Memory next p e = (step_lines old r, settles_next r next, p.puts.appends)
+
+  -- a record that settles nothing, with no more runs kept, writes nothing, and a run was open
+  pub quiet_next : (r : Interval) → ComesNext past r → SettlesNothing gap past r → ((merge_step old.gap old.open_run r).1 ≡ []) × IsSome old.open_run
+  quiet_next r next quiet =
+      let before = settled (chromosomes past) gap past in
+      let nothing = append_cancel_left before (merge_step gap (open_of gap past) r).1 [] (sym (settles_by_step gap past r next.together next.non_empty) ∙ quiet.same_settled ∙ sym (append-nil before)) in
+      let was = kept_open gap past (together_front past (r ∷ []) next.together) (full_front past (r ∷ []) next.non_empty) in
+      let is = kept_open gap (past ++ r ∷ []) next.together next.non_empty in
+      let opened = opens_by_step gap past r next.together next.non_empty in
+      let more : length (option_to_list (merge_step gap (open_of gap past) r).0) ≤ length (option_to_list (open_of gap past)) = rw (← opened, ← is, ← was) quiet.no_more_kept in
+      (sym (ap (λ s. s.1) (same_step r)) ∙ nothing, rw stands.open_run (some_where_more gap (open_of gap past) r more))
+
+-- a step that can't write settles a run, or has a new name to keep
+pub never_quiet : (old : Merging) (r : Interval) (out : Output) (new : Merging) (grown : Output) (ended : Ended) → TakesNext {A = Unit {0}} old r out (Err ended) new grown
+    → (merge_step old.gap old.open_run r).1 ≡ [] → IsSome old.open_run → ⊥
+never_quiet old r out new grown Write p nothing some = p.settles nothing
+never_quiet old r out new grown Memory p nothing some = new_name_settles old.gap old.open_run r some p.new_name nothing
+
+-- where memory ran out, the output works as before
+pub works_next : (old : Merging) (r : Interval) (out : Output) (new : Merging) (grown : Output) (ended : Ended) → TakesNext {A = Unit {0}} old r out (Err ended) new grown → fault_of ended ≡ no_memory → WorksAsBefore out grown
+works_next old r out new grown Write p e = let kind : WriteFailed ≡ NoMemory = ap (λ t. t.kind) e in absurd (cc)
+works_next old r out new grown Memory p e = grown_works out grown (step_lines old r) p.puts
 
 -- a known text grows by the lines
 pub text_grows : (old new : Option (List ℕ)) (before done lines whole : List ℕ) → whole ≡ done ++ lines → Appends old new lines → old ≡ Some (before ++ done) → new ≡ Some (before ++ whole)

@@ -1,5 +1,5 @@
 -- What one put after another does to an output.
-use Rattle.std.proofs.Common.{◌≡◌, ℕ, List, [], ◌∷◌, ◌++◌, Option, None, Some, Result, Ok, Err, true, false, refl, sym, ap, subst, ◌∙◌, append_assoc, codes, decimal}
+use Rattle.std.proofs.Common.{◌≡◌, ℕ, List, [], ◌++◌, Option, None, Some, Result, Ok, Err, true, false, refl, sym, ap, subst, ◌∙◌, append_assoc, codes, decimal}
 use Rattle.std.specs.Prelude.{OnOk, OnErr, IfErr, IsErr}
 use Rattle.std.proofs.KnownBytes.{Appends-trans, Appends-nil}
 use Rattle.std.proofs.lemmas.Bool.{false≢true}
@@ -9,7 +9,8 @@ use Rattle.bt_lines.specs.Names.{told}
 use Rattle.bt_lines.specs.Output.{Output, HoldsBlock, IsFrontOf, Grows}
 use Rattle.bt_lines.specs.declared.fault.Fault.{Fault}
 use Rattle.bt_tool.specs.Interval.{Interval}
-use Rattle.bt_tool.specs.Engine.{run_line, PutsAll, FailsToPut, Puts, Grown}
+use Rattle.bt_tool.specs.Engine.{run_line}
+use Rattle.bt_tool.specs.Putting.{WorksAsBefore, PutsAll, FailsToPut, Puts, Grown}
 
 -- a front of the first bytes is a front of them and more
 pub front_longer : (new old : Option (List ℕ)) (xs ys : List ℕ) → IsFrontOf new old xs → IsFrontOf new old (xs ++ ys)
@@ -107,6 +108,9 @@ grown_none old = record {
   again = λ e. refl;
   nothing = λ e. refl;
 }
+
+pub grown_works : (old new : Output) (bytes : List ℕ) → Grown old bytes new → WorksAsBefore old new
+grown_works old new bytes g = record { served = g.served; sink_served = g.sink_served; put = (bytes, g.appends); block = g.block }
 
 -- a run's line in its three columns, each with what ends it
 line_parts : (run : Interval) → (run.chrom ++ codes "\t") ++ ((decimal run.start ++ codes "\t") ++ (decimal run.stop ++ codes "\n")) ≡ run_line run

@@ -33,7 +33,7 @@ step_joins gap run r same near = cond-true (joins gap run r) (Some (joined_run r
 step_far : (gap : ℕ) (run r : Interval) → run.stop + gap < r.start → merge_step gap (Some run) r ≡ (Some r, run ∷ [])
 step_far gap run r far = cond-false (joins gap run r) (Some (joined_run run r), []) (Some r, run ∷ []) (and_right (bytes_eq r.chrom run.chrom) (nat_le r.start (run.stop + gap)) (lt-leb r.start (run.stop + gap) far))
 
-step_elsewhere : (gap : ℕ) (run r : Interval) → bytes_eq r.chrom run.chrom ≡ false → merge_step gap (Some run) r ≡ (Some r, run ∷ [])
+pub step_elsewhere : (gap : ℕ) (run r : Interval) → bytes_eq r.chrom run.chrom ≡ false → merge_step gap (Some run) r ≡ (Some r, run ∷ [])
 step_elsewhere gap run r other = cond-false (joins gap run r) (Some (joined_run run r), []) (Some r, run ∷ []) (and_left (bytes_eq r.chrom run.chrom) (nat_le r.start (run.stop + gap)) other)
 
 -- from what the step is, and where the merge stands before and after, what it does

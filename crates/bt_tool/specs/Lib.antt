@@ -21,3 +21,5 @@ pub mod Genome
 pub mod GenomeTable
 pub mod Report
 pub mod Flushing
+pub mod Putting
+pub mod Taking

@@ -1,7 +1,8 @@
 //! The line of an interval in BED output.
 
 ghost use Rattle.std.specs.Prelude.{◌++◌};
-ghost use Rattle.bt_tool.specs.Engine.{Puts, run_line};
+ghost use Rattle.bt_tool.specs.Putting.{Puts};
+ghost use Rattle.bt_tool.specs.Engine.{run_line};
 
 use bt_lines::{Fault, Out, Sink};
 use itoa::Buffer;

@@ -11,7 +11,9 @@ ghost use Rattle.bt_tool.specs.Merged.{chromosomes};
 ghost use Rattle.bt_tool.specs.Place.{AreTogether};
 ghost use Rattle.bt_tool.specs.Settled.{kept};
 ghost use Rattle.bt_tool.specs.Step.{joins, merge_step};
-ghost use Rattle.bt_tool.specs.Engine.{AreSettledBy, AreUnsettled, ComesNext, StandsAfter, TakesNext, WorksAsBefore, fault_of, merged_lines, run_at, settled_lines};
+ghost use Rattle.bt_tool.specs.Engine.{AreSettledBy, AreUnsettled, ComesNext, SettlesNothing, StandsAfter, merged_lines, settled_lines};
+ghost use Rattle.bt_tool.specs.Taking.{TakesNext, fault_of, run_at};
+ghost use Rattle.bt_tool.specs.Putting.{WorksAsBefore};
 
 use crate::bed::BedRef;
 use crate::bed_line::put_bed_line;
@@ -47,7 +49,7 @@ impl Ended {
 }
 
 /// Merges records that come in order. It holds the open run alone, and writes each run once a record
-/// begins the next.
+/// begins the next. Starts are zero-based, and ends aren't included.
 #[derive(Drop, Debug)]
 pub(crate) struct Merge {
     gap: u64,
@@ -60,7 +62,8 @@ pub(crate) struct Merge {
 impl Model for Merge {
     ghost use Rattle.std.specs.Prelude.{◌≤◌, option_map};
     ghost use Rattle.std.specs.Option.{ForSome};
-    ghost use Rattle.bt_tool.specs.Engine.{Merging, fault_of, run_at};
+    ghost use Rattle.bt_tool.specs.Engine.{Merging};
+    ghost use Rattle.bt_tool.specs.Taking.{fault_of, run_at};
 
     ghost Value = { Merging };
 
@@ -78,7 +81,7 @@ impl Merge {
     /// those that overlap or touch become one.
     pub(crate) fn new(alloc: Global, gap: u64) -> Merge
         requires { gap ≤ 999999999999 }
-        ensures { result ≡ record { gap = gap; open_run = None; fault = None } }
+        ensures stands { StandsAfter gap [] result }
     {
         Merge {
             gap,
@@ -115,6 +118,9 @@ impl Merge {
         ensures served { OnOk result (WorksAsBefore out.old out.new) }
         ensures quiet { self.old.fault ≡ None → IsSome self.old.open_run
             → (merge_step self.old.gap self.old.open_run (interval_of bed.now)).1 ≡ []
+            → IsOk result × (out.new ≡ out.old) }
+        ensures quiet_in_order { (gap : ℕ) (past : List Interval) → StandsAfter gap past self.old
+            → ComesNext past (interval_of bed.now) → SettlesNothing gap past (interval_of bed.now)
             → IsOk result × (out.new ≡ out.old) }
         ensures fault { IfErr result (λ fault. (told fault ≡ write_failed) ⊎ (told fault ≡ no_memory)) }
         ensures kept { IfErr result (λ fault. self.new.fault ≡ Some (told fault)) }
@@ -174,10 +180,10 @@ impl Merge {
         if let Some(ended) = self.ended {
             return Err(ended.fault());
         }
-        let Some(run) = self.run else {
-            return Ok(());
-        };
-        put_bed_line(self.chrom.as_slice(), run.start, run.stop, out)
+        match self.run {
+            None => Ok(()),
+            Some(run) => put_bed_line(self.chrom.as_slice(), run.start, run.stop, out),
+        }
     }
 
     /// How many runs it holds: 0 or 1.

@@ -1,4 +1,4 @@
-use Rattle.std.proofs.Common.{◌≡◌, ◌++◌, Ok, Err}
+use Rattle.std.proofs.Common.{Ok, Err}
 use Rattle.std.proofs.lemmas.Result.{err_from_is_err_and}
 use Rattle.bt_tool.proofs.OutputSteps.{puts_from, puts_more, fails_before}
 use Rattle.bt_tool.proofs.bed_line.put_column.Goals as goal

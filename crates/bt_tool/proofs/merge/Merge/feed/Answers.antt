@@ -1,6 +1,7 @@
-use Rattle.std.proofs.Common.{sym, ◌∙◌}
+use Rattle.std.proofs.Common.{refl, ap, sym, ◌∙◌}
+use Rattle.bt_tool.specs.Engine.{run_lines}
 use Rattle.bt_tool.specs.Bed.{interval_of}
-use Rattle.bt_tool.proofs.EngineLemmas.{step_lines, settles_next, stands_next, front_next, puts_next, text_grows}
+use Rattle.bt_tool.proofs.EngineLemmas.{step_lines, settles_next, stands_next, front_next, puts_next, quiet_next, never_quiet, works_next, text_grows}
 use Rattle.bt_tool.proofs.merge.Merge.feed.Goals as goal
 
 pub returns-in-Ok-clause-stands : goal.returns-in-Ok-clause-stands
@@ -24,3 +25,17 @@ returns-in-Err-clause-front g c = λ gap past stands next held.
 pub returns-in-Err-clause-settles : goal.returns-in-Err-clause-settles
 returns-in-Err-clause-settles g c = λ gap past stands next is_memory.
     puts_next gap past c.args.self.now stands _ _ _ _ c.in-Err.ended next c.in-Err.ensures (sym c.fault-in-Err.ensures ∙ is_memory)
+
+pub returns-in-Ok-clause-quiet_in_order : goal.returns-in-Ok-clause-quiet_in_order
+returns-in-Ok-clause-quiet_in_order g c = λ gap past stands next quiet.
+    let q = quiet_next gap past c.args.self.now stands _ next quiet in
+    (refl, c.in-Ok.ensures.puts.nothing (ap run_lines q.0))
+
+pub returns-in-Err-clause-quiet_in_order : goal.returns-in-Err-clause-quiet_in_order
+returns-in-Err-clause-quiet_in_order g c = λ gap past stands next quiet.
+    let q = quiet_next gap past c.args.self.now stands _ next quiet in
+    absurd (never_quiet _ _ _ _ _ c.in-Err.ended c.in-Err.ensures q.0 q.1)
+
+pub returns-in-Err-clause-memory : goal.returns-in-Err-clause-memory
+returns-in-Err-clause-memory g c = λ is_memory.
+    works_next _ _ _ _ _ c.in-Err.ended c.in-Err.ensures (sym c.fault-in-Err.ensures ∙ is_memory)
