@@ -13,3 +13,5 @@ pub mod GoodLemmas
 pub mod GenomeLemmas
 pub mod TableLemmas
 pub mod ResultLemmas
+pub mod TrackLemmas
+pub mod RecordsLemmas

@@ -1,15 +1,14 @@
 -- Lemmas on a table of chromosomes and on reading one.
-use Rattle.std.proofs.Common.{◌≡◌, ℕ, suc, ◌+◌, ◌^◌, ◌<◌, ◌≤◌, Bool, true, false, ◌&&◌, ◌||◌, cond, List, [], ◌∷◌, ◌++◌, map, length, drop, get_or, Option, Some, None, Result, Ok, Err, refl, sym, ap, ◌∙◌, subst, append_assoc, append-nil, inl, inr, arith}
-use Rattle.std.specs.Prelude.{◌⊎◌, ◌==◌, IfSome, IsFalse, bytes_eq, is_some, option_map, slice_get}
+use Rattle.std.proofs.Common.{◌≡◌, ℕ, suc, ◌+◌, ◌<◌, ◌≤◌, Bool, true, false, ◌||◌, cond, List, [], ◌∷◌, ◌++◌, map, length, drop, get_or, Option, Some, None, Result, Ok, Err, refl, sym, ap, ◌∙◌, subst, append_assoc, append-nil, inl, inr, arith}
+use Rattle.std.specs.Prelude.{◌⊎◌, ◌==◌, IfSome, bytes_eq, is_some, option_map, slice_get}
 use Rattle.std.specs.Option.{option_to_list}
-use Rattle.std.specs.Io.KnownBytes.{Consumes}
 use Rattle.std.proofs.KnownBytes.{Consumes-nil, Consumes-trans}
 use Rattle.std.proofs.lemmas.List.{map-append, drop_more, drop_all}
 use Rattle.bt_lines.specs.Fault.{Told, has_place, read_failed, no_memory}
 use Rattle.bt_lines.specs.Given.{GivesFirst}
 use Rattle.bt_lines.specs.Lines.{TextLine, pieces}
 use Rattle.bt_lines.specs.Number.{value_of}
-use Rattle.bt_lines.specs.Reader.{GivesLine, GivesEnd, GivesFault, FailsToRead, source_of, input_of, lines_given, bytes_taken, has_ended, fault_kept, lines_left}
+use Rattle.bt_lines.specs.Reader.{GivesLine, GivesEnd, GivesFault, FailsToRead, source_of, input_of, lines_given, fault_kept, lines_left}
 use Rattle.bt_lines.specs.declared.fault.Input.{Input}
 use Rattle.bt_lines.specs.declared.fault.Kind.{Kind}
 use Rattle.bt_lines.specs.declared.fault.Kind.TheVariants.{TooFewColumns, EmptyName, BadLength, RepeatedChrom}
@@ -17,7 +16,7 @@ use Rattle.bt_lines.specs.declared.fault.Place.{Place}
 use Rattle.bt_lines.specs.declared.line_reader.LineReader.{LineReader}
 use Rattle.bt_tool.proofs.GenomeLemmas.{distinct_push, is_new}
 use Rattle.std.proofs.lemmas.Option.{slice_get-map}
-use Rattle.bt_tool.specs.Genome.{Entry, is_skipped, genome_names, genome_from, genome_with, genome_of, new_entry, entry_of, entry_from, columns_give, with_entry}
+use Rattle.bt_tool.specs.Genome.{Entry, is_skipped, genome_names, genome_from, genome_of, new_entry, entry_of, entry_from, columns_give, with_entry}
 use Rattle.bt_tool.specs.Good.{fault_at_line}
 use Rattle.bt_tool.specs.Place.{is_among, rank_of, AreDistinct}
 use Rattle.bt_tool.specs.Record.{not_skipped}
@@ -39,7 +38,7 @@ among_ranked [] name = refl
 among_ranked (n ∷ ns) name = is_some-cond (bytes_eq n name) (rank_of ns name) ∙ ap (λ b. bytes_eq n name || b) (among_ranked ns name)
 
 -- the kind of an answer has a place where the kind that it was has one
-same_place : {T : Type 0} (was : Result T Kind) (a kind : Kind) → was ≡ Err a → was ≡ Err kind → has_place a ≡ true → has_place kind ≡ true
+pub same_place : {T : Type 0} (was : Result T Kind) (a kind : Kind) → was ≡ Err a → was ≡ Err kind → has_place a ≡ true → has_place kind ≡ true
 same_place was a kind p q placed = let is : a ≡ kind = cc in subst (λ k. has_place k ≡ true) is placed
 
 place_of_length : (b : Bool) (entry : Entry) (kind : Kind) → cond b (Err BadLength) (Ok entry) ≡ Err kind → has_place kind ≡ true

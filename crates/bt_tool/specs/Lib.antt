@@ -10,3 +10,6 @@ pub mod Record
 pub mod Good
 pub mod Genome
 pub mod Table
+pub mod Ahead
+pub mod Track
+pub mod Records

@@ -7,3 +7,6 @@ mod genome;
 pub mod laws;
 pub mod plain;
 mod record;
+mod records;
+mod spot;
+mod track;
