@@ -1,6 +1,6 @@
 -- Lemmas on the entries of a genome file.
-use Rattle.std.proofs.Common.{◌≡◌, ℕ, Bool, true, false, ◌&&◌, ◌||◌, cond, List, [], ◌∷◌, ◌++◌, map, Option, Some, None, Result, Ok, Err, refl, sym, ap, ◌∙◌, subst, append_assoc, append-nil, inl, inr}
-use Rattle.std.specs.Prelude.{◌⊎◌, IsFalse, bytes_eq}
+use Rattle.std.proofs.Common.{◌≡◌, ℕ, Bool, true, false, ◌||◌, cond, List, [], ◌∷◌, ◌++◌, Option, Some, None, Result, Ok, Err, refl, sym, ap, ◌∙◌, subst, append_assoc, append-nil}
+use Rattle.std.specs.Prelude.{bytes_eq}
 use Rattle.std.proofs.lemmas.Bool.{false≢true}
 use Rattle.bt_lines.specs.Fault.{Told}
 use Rattle.bt_lines.specs.Lines.{TextLine}
@@ -8,7 +8,7 @@ use Rattle.bt_lines.specs.declared.fault.Input.{Input}
 use Rattle.bt_lines.specs.declared.fault.Kind.{Kind}
 use Rattle.bt_lines.specs.declared.fault.Kind.TheVariants.{RepeatedChrom}
 use Rattle.bt_tool.specs.Place.{is_among, AreDistinct}
-use Rattle.bt_tool.specs.Genome.{Entry, genome_names, genome_from, genome_with, genome_of, genome_names_are_distinct, new_entry, entry_of, with_entry}
+use Rattle.bt_tool.specs.Genome.{Entry, genome_names, genome_from, genome_with, genome_names_are_distinct, new_entry, entry_of, with_entry}
 use Rattle.bt_tool.proofs.Names.{name_ne-sym}
 
 neither : (a b : Bool) → (a || b) ≡ false → (a ≡ false) × (b ≡ false)

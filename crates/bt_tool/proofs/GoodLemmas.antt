@@ -1,10 +1,9 @@
 -- Lemmas on what is good of the lines.
-use Rattle.std.proofs.Common.{◌≡◌, ℕ, ◌<◌, ◌≤◌, Bool, true, false, ◌&&◌, ◌||◌, cond, List, [], ◌∷◌, Option, Some, None, Result, Ok, Err, refl, sym, ap, ◌∙◌, subst, arith, ltb, eqb, inl, inr}
-use Rattle.std.specs.Prelude.{◌⊎◌, IsSome, All, nat_lt, ◌==◌, ⊤}
-use Rattle.std.proofs.lemmas.Bool.{false≢true, leb-true, ltb-true}
+use Rattle.std.proofs.Common.{◌≡◌, ℕ, ◌<◌, ◌≤◌, Bool, true, false, cond, List, [], ◌∷◌, Option, Some, None, Result, Ok, Err, refl, sym, ap, ◌∙◌, subst, arith}
+use Rattle.std.specs.Prelude.{◌⊎◌, IsSome, nat_lt}
+use Rattle.std.proofs.lemmas.Bool.{ltb-true}
 use Rattle.std.proofs.lemmas.Bool.Decides.{nat_tests}
 use Rattle.std.proofs.lemmas.List.Elements.{All-nil, All-cons}
-use Rattle.bt_lines.specs.Fault.{Told}
 use Rattle.bt_lines.specs.Lines.{TextLine, pieces}
 use Rattle.bt_lines.specs.Number.{value_of}
 use Rattle.bt_lines.specs.declared.fault.Input.{Input}
@@ -98,7 +97,7 @@ follow_said : (names : List (List ℕ)) (last : Option Interval) (r : Interval) 
 follow_said names None r rs rank is stays = tt
 follow_said names (Some last) r rs rank is stays = λ last_rank was. placed_after names last r last_rank rank was is stays
 
-is_known : (rank : Option ℕ) (n : ℕ) → rank ≡ Some n → IsSome rank
+pub is_known : (rank : Option ℕ) (n : ℕ) → rank ≡ Some n → IsSome rank
 is_known rank n e = rw e refl
 
 placed_with : (input : Input) (names : List (List ℕ)) (last : Option Interval) (line : TextLine) (rest : Option Interval → Good) → ((now : Option Interval) → Placed names now (rest now).records)

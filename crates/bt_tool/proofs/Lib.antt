@@ -19,3 +19,6 @@ pub mod GenomeLemmas
 pub mod TableLemmas
 pub mod ResultLemmas
 pub mod ReportLemmas
+pub mod TrackLemmas
+pub mod RecordsLemmas
+pub mod HandsLemmas

@@ -1,13 +1,11 @@
 -- Lemmas on what a line says.
-use Rattle.std.proofs.Common.{◌≡◌, ℕ, ◌<◌, ◌≤◌, Bool, true, false, ◌&&◌, cond, List, [], ◌∷◌, length, Option, Some, None, Result, Ok, Err, refl, sym, ap, ◌∙◌, subst, arith, ltb, leb}
+use Rattle.std.proofs.Common.{◌≡◌, ℕ, ◌<◌, ◌≤◌, Bool, true, false, ◌&&◌, cond, List, [], ◌∷◌, length, Some, None, Ok, refl, subst, arith, ltb, leb}
 use Rattle.std.proofs.lemmas.Bool.{false≢true, leb-true}
 use Rattle.std.specs.List.{list_all}
 use Rattle.std.specs.Char.{is_ascii_digit}
 use Rattle.std.specs.Str.Parse.{digits_value}
 use Rattle.bt_lines.specs.Lines.{pieces}
 use Rattle.bt_lines.specs.Number.{value_of, is_number}
-use Rattle.bt_lines.specs.declared.fault.Kind.{Kind}
-use Rattle.bt_tool.specs.Interval.{Interval}
 use Rattle.bt_tool.specs.Record.{record_of, not_skipped, columns_say}
 
 last_of_both : (a b : Bool) → (a && b) ≡ true → b ≡ true

@@ -39,7 +39,7 @@ among_ranked [] name = refl
 among_ranked (n ∷ ns) name = is_some-cond (bytes_eq n name) (rank_of ns name) ∙ ap (λ b. bytes_eq n name || b) (among_ranked ns name)
 
 -- the kind of an answer has a place where the kind that it was has one
-same_place : {T : Type 0} (was : Result T Kind) (a kind : Kind) → was ≡ Err a → was ≡ Err kind → has_place a ≡ true → has_place kind ≡ true
+pub same_place : {T : Type 0} (was : Result T Kind) (a kind : Kind) → was ≡ Err a → was ≡ Err kind → has_place a ≡ true → has_place kind ≡ true
 same_place was a kind p q placed = let is : a ≡ kind = cc in subst (λ k. has_place k ≡ true) is placed
 
 place_of_length : (b : Bool) (entry : Entry) (kind : Kind) → cond b (Err BadLength) (Ok entry) ≡ Err kind → has_place kind ≡ true

@@ -1,5 +1,5 @@
 -- A feature as the definitions see it.
-use Rattle.std.specs.Prelude.{Option, Some, None, Result, Ok, Err, option_map}
+use Rattle.std.specs.Prelude.{Option, Result, Ok, Err, option_map}
 use Rattle.bt_lines.specs.declared.fault.Kind.{Kind}
 use Rattle.bt_tool.specs.Interval.{Interval}
 use Rattle.bt_tool.specs.declared.bed.BedRef.{BedRef}

@@ -1,5 +1,5 @@
 -- The chromosomes of a genome file, in its order: a name, a tab and a length on each line, further columns ignored, so that an index of samtools faidx is one too. Blank lines and lines that begin with `#` are skipped (bedtools manual, genome file format).
-use Rattle.std.specs.Prelude.{◌≡◌, ℕ, suc, zero, Bool, true, false, ◌==◌, List, [], ◌∷◌, ◌++◌, map, Option, Some, None, Result, Ok, Err, if◌then◌else◌}
+use Rattle.std.specs.Prelude.{◌≡◌, ℕ, Bool, true, ◌==◌, List, [], ◌∷◌, ◌++◌, map, Option, Some, None, Result, Ok, Err, if◌then◌else◌}
 use Rattle.bt_lines.specs.Fault.{Told}
 use Rattle.bt_lines.specs.Lines.{TextLine, pieces}
 use Rattle.bt_lines.specs.Number.{value_of}

@@ -23,3 +23,6 @@ pub mod Report
 pub mod Flushing
 pub mod Putting
 pub mod Taking
+pub mod Ahead
+pub mod Track
+pub mod Records

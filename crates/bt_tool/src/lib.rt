@@ -14,6 +14,9 @@ mod outcome;
 mod plain;
 mod plan_type;
 mod record;
+mod records;
+mod spot;
+mod track;
 mod usage;
 
 pub use options::plan;

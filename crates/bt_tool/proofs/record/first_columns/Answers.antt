@@ -1,4 +1,4 @@
-use Rattle.std.proofs.Common.{◌≡◌, ◌∙◌, sym}
+use Rattle.std.proofs.Common.{◌∙◌, sym}
 use Rattle.bt_tool.proofs.RecordLemmas.{value_at_most}
 use Rattle.bt_tool.proofs.record.first_columns.Goals as goal
 

@@ -1,5 +1,4 @@
-use Rattle.std.proofs.Common.{◌≡◌, ◌∙◌, ◌<◌, sym, ap, refl, rules, arith, length}
-use Rattle.bt_tool.specs.Record.{not_skipped}
+use Rattle.std.proofs.Common.{◌<◌, sym, refl, rules, length}
 use Rattle.bt_tool.proofs.RecordLemmas.{blank_says, columns_of_line}
 use Rattle.bt_tool.proofs.record.parse.Goals as goal
 

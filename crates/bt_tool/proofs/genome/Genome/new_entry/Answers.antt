@@ -1,4 +1,4 @@
-use Rattle.std.proofs.Common.{◌≡◌, ◌∙◌, sym, ap, refl, rules, true, false}
+use Rattle.std.proofs.Common.{◌≡◌, ◌∙◌, sym, refl, rules, true, false}
 use Rattle.std.specs.Prelude.{is_some}
 use Rattle.bt_tool.proofs.TableLemmas.{among_ranked}
 use Rattle.bt_tool.specs.Place.{is_among, rank_of}
