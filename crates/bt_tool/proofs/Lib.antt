@@ -22,3 +22,4 @@ pub mod ReportLemmas
 pub mod TrackLemmas
 pub mod RecordsLemmas
 pub mod HandsLemmas
+pub mod FeedLemmas

@@ -26,3 +26,4 @@ pub mod Taking
 pub mod Ahead
 pub mod Track
 pub mod Records
+pub mod Run

@@ -8,6 +8,7 @@ mod flushing;
 mod genome;
 pub mod laws;
 mod merge;
+mod merging;
 pub mod option_laws;
 mod options;
 mod outcome;

@@ -1,0 +1,101 @@
+-- What a run of merge does to its devices, from the records that it reads.
+use Rattle.std.specs.Prelude.{◌≡◌, ℕ, ◌+◌, ◌^◌, ◌<◌, ◌≤◌, ◌⊎◌, Bool, true, List, [], ◌∷◌, ◌++◌, length, Option, Some, None, Result, Ok, Err, IfSome, ⊤}
+use Rattle.bt_lines.specs.Fault.{Told, read_failed, no_memory, write_failed}
+use Rattle.bt_lines.specs.Names.{told}
+use Rattle.bt_lines.specs.Output.{Output, HoldsBlock, IsFrontOf, Grows}
+use Rattle.bt_lines.specs.Reader.{source_of, input_of, bytes_taken}
+use Rattle.bt_lines.specs.declared.fault.Fault.{Fault}
+use Rattle.bt_lines.specs.declared.fault.Input.{Input}
+use Rattle.bt_lines.specs.declared.fault.Kind.{Kind}
+use Rattle.bt_tool.specs.Engine.{Merging, StandsAfter, settled_lines}
+use Rattle.bt_tool.specs.Putting.{WorksAsBefore}
+use Rattle.bt_tool.specs.GenomeTable.{Hands}
+use Rattle.bt_tool.specs.Good.{Good, fault_at_line}
+use Rattle.bt_tool.specs.Interval.{Interval, AreNonEmpty}
+use Rattle.bt_tool.specs.Place.{ArePlaced}
+use Rattle.bt_tool.specs.Records.{below, names_in, good_left}
+use Rattle.bt_tool.specs.declared.records.RecordReader.{RecordReader}
+
+-- these records came first of what was to come, and the others are still to come
+abbrev pub ComeFirst : Option Good → List Interval → Option Good → Type 0
+ComeFirst None past now = ⊤
+ComeFirst (Some old) past None = ⊥
+ComeFirst (Some old) past (Some now) = (old.records ≡ past ++ now.records) × (old.fault ≡ now.fault)
+
+-- the lines that the records settle were put behind what was put before
+abbrev pub PutsSettled : Output → List Interval → Output → Type 0
+PutsSettled old past new = (before : List ℕ) → old.put ≡ Some before → new.put ≡ Some (before ++ settled_lines 0 past)
+
+-- the sink took a front of these lines and of what was put before, and failed
+pub record CutsSettled (old : Output) (past : List Interval) (new : Output) : Type 0 where
+  pub front : (before : List ℕ) → old.put ≡ Some before → IsFrontOf new.took (Some (before ++ settled_lines 0 past)) []
+  pub failed : new.has_failed ≡ true
+  pub sink_failed : new.sink_has_failed ≡ true
+
+module _ {S : Type 0} (left : S → Option (List ℕ)) (failed : S → Bool) where
+  -- these records were taken, in the order of the genome file
+  pub record Took (old : RecordReader S) (out : Output) (past : List Interval) (new : RecordReader S) (grown : Output) : Type 0 where
+    pub names : names_in new ≡ names_in old
+    pub bytes : Hands left (below old) (below new)
+    pub placed : ArePlaced (names_in old) past
+    pub full : AreNonEmpty past
+    pub grows : Grows out.took grown.took
+
+  -- all records were taken
+  pub record FeedsAll (old : RecordReader S) (out : Output) (new : RecordReader S) (merge : Merging) (grown : Output) : Type 0 where
+    pub past : List Interval
+    pub took : Took old out past new grown
+    pub whole : IfSome (good_left left old) (λ good. (good.records ≡ past) × (good.fault ≡ None))
+    pub stands : StandsAfter 0 past merge
+    pub puts : PutsSettled out past grown
+    pub works : WorksAsBefore out grown
+    pub served : failed (source_of (below new)) ≡ failed (source_of (below old))
+
+  -- a line is at fault
+  pub record StopsAtLine (old : RecordReader S) (out : Output) (past : List Interval) (fault : Told) (new : RecordReader S) (grown : Output) : Type 0 where
+    pub whole : IfSome (good_left left old) (λ good. (good.records ≡ past) × (good.fault ≡ Some fault))
+    pub line : ℕ
+    pub kind : Kind
+    pub is : fault ≡ fault_at_line (input_of (below old)) line kind
+    pub puts : PutsSettled out past grown
+    pub works : WorksAsBefore out grown
+    pub served : failed (source_of (below new)) ≡ failed (source_of (below old))
+
+  -- the source failed, or its text is too long
+  pub record StopsReading (old : RecordReader S) (out : Output) (past : List Interval) (fault : Told) (new : RecordReader S) (grown : Output) : Type 0 where
+    pub line : ℕ
+    pub is : fault ≡ read_failed (input_of (below old)) line
+    pub cause : (failed (source_of (below new)) ≡ true) ⊎ (2 ^ 63 ≤ bytes_taken (below new))
+    pub puts : PutsSettled out past grown
+    pub works : WorksAsBefore out grown
+
+  -- memory ran out
+  pub record StopsGrowing (old : RecordReader S) (out : Output) (past : List Interval) (fault : Told) (new : RecordReader S) (grown : Output) : Type 0 where
+    pub is : fault ≡ no_memory
+    pub puts : PutsSettled out past grown
+    pub works : WorksAsBefore out grown
+    pub served : failed (source_of (below new)) ≡ failed (source_of (below old))
+
+  -- the sink failed
+  pub record StopsWriting (old : RecordReader S) (out : Output) (past : List Interval) (fault : Told) (new : RecordReader S) (grown : Output) : Type 0 where
+    pub is : fault ≡ write_failed
+    pub cuts : CutsSettled out past grown
+    pub served : failed (source_of (below new)) ≡ failed (source_of (below old))
+
+  -- why the records weren't all taken
+  abbrev pub Cause : RecordReader S → Output → List Interval → Told → RecordReader S → Output → Type 0
+  Cause old out past fault new grown =
+      (StopsAtLine old out past fault new grown ⊎ StopsReading old out past fault new grown)
+      ⊎ (StopsGrowing old out past fault new grown ⊎ StopsWriting old out past fault new grown)
+
+  -- the records were taken up to a fault
+  pub record FeedsUpTo (old : RecordReader S) (out : Output) (fault : Told) (new : RecordReader S) (grown : Output) : Type 0 where
+    pub past : List Interval
+    pub took : Took old out past new grown
+    pub begins : IfSome (good_left left old) (λ good. (rest : List Interval) × (good.records ≡ past ++ rest))
+    pub cause : Cause old out past fault new grown
+
+  -- what feeding a merge with all records does
+  abbrev pub Feeds : {A : Type 0} → RecordReader S → Output → Result A Fault → RecordReader S → Merging → Output → Type 0
+  Feeds old out (Ok done) new merge grown = FeedsAll old out new merge grown
+  Feeds old out (Err fault) new merge grown = FeedsUpTo old out (told fault) new grown
