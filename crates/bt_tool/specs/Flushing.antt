@@ -6,6 +6,7 @@ use Rattle.bt_lines.specs.Output.{Output, IsFrontOf, Grows}
 
 -- all that was put has been taken, and the fault stays what it was
 pub record FlushesAll (old : Output) (fault : Option Told) (answer : Option Told) (new : Output) : Type 0 where
+  pub was : fault ≢ Some write_failed
   pub same_fault : answer ≡ fault
   pub taken : Keeps old.put new.took
   pub sink_served : new.sink_has_failed ≡ old.sink_has_failed

@@ -27,3 +27,4 @@ pub mod Ahead
 pub mod Track
 pub mod Records
 pub mod Run
+pub mod RunMerge
