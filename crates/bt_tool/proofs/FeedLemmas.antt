@@ -20,6 +20,7 @@ use Rattle.bt_tool.specs.declared.records.RecordReader.{RecordReader}
 use Rattle.bt_tool.proofs.EngineLemmas.{text_grows}
 use Rattle.bt_tool.proofs.HandsLemmas.{hands_none, hands_both}
 use Rattle.bt_tool.proofs.Names.{last_of-push}
+use Rattle.bt_tool.proofs.TrackLemmas.{says_of_line}
 use Rattle.bt_tool.proofs.Placed.{grows_placed, none_at_first, placed_together}
 
 -- the first record of what is to come was passed
@@ -59,13 +60,13 @@ begins_more (Some o) None past r c f = absurd c
 begins_more (Some o) (Some n) past r c f = (f.0, c.0 ∙ ap (λ l. past ++ l) f.1 ∙ sym (append_assoc past (r ∷ []) f.0))
 
 -- a sink that took a front of the lines took a front of all
-front_all : (took : Option (List ℕ)) (put : Option (List ℕ)) (before done lines whole : List ℕ) → whole ≡ done ++ lines → put ≡ Some (before ++ done) → IsFrontOf took put lines → IsFrontOf took (Some (before ++ whole)) []
+pub front_all : (took : Option (List ℕ)) (put : Option (List ℕ)) (before done lines whole : List ℕ) → whole ≡ done ++ lines → put ≡ Some (before ++ done) → IsFrontOf took put lines → IsFrontOf took (Some (before ++ whole)) []
 front_all None put before done lines whole e p f = tt
 front_all (Some took) put before done lines whole e p f =
     let at : IsFrontOf (Some took) (Some (before ++ done)) lines = subst (λ x. IsFrontOf (Some took) x lines) p f in
     (at.0, at.1 ∙ append_assoc before done lines ∙ ap (λ l. before ++ l) (sym e) ∙ sym (append-nil (before ++ whole)))
 
-grows_both : (old mid new : Option (List ℕ)) → Grows old mid → Grows mid new → Grows old new
+pub grows_both : (old mid new : Option (List ℕ)) → Grows old mid → Grows mid new → Grows old new
 grows_both old mid new h more = (h.0 ++ more.0, Appends-trans old mid new h.0 more.0 h.1 more.1)
 
 works_both : (old mid new : Output) → WorksAsBefore old mid → WorksAsBefore mid new → WorksAsBefore old new
@@ -234,6 +235,7 @@ module _ {S : Type 0} (left : S → Option (List ℕ)) (failed : S → Bool) (ol
       line = lines_given (below new);
       kind = at.kind;
       is = at.place ∙ ap (λ input. fault_at_line input (lines_given (below new)) at.kind) g.same_input;
+      of_line = says_of_line (names_in now) (last_record now) at.text at.kind at.says;
       puts = g.puts;
       works = g.works;
       served = at.served ∙ g.served;

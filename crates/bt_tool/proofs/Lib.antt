@@ -23,3 +23,4 @@ pub mod TrackLemmas
 pub mod RecordsLemmas
 pub mod HandsLemmas
 pub mod FeedLemmas
+pub mod MergingLemmas

@@ -5,7 +5,7 @@ use Rattle.std.specs.Option.{option_to_list}
 use Rattle.std.specs.Io.KnownBytes.{Consumes}
 use Rattle.std.proofs.KnownBytes.{Consumes-nil, Consumes-trans}
 use Rattle.std.proofs.lemmas.List.{map-append, drop_more, drop_all}
-use Rattle.bt_lines.specs.Fault.{Told, has_place, read_failed, no_memory}
+use Rattle.bt_lines.specs.Fault.{Told, read_failed, no_memory}
 use Rattle.bt_lines.specs.Given.{GivesFirst}
 use Rattle.bt_lines.specs.Lines.{TextLine, pieces}
 use Rattle.bt_lines.specs.Number.{value_of}
@@ -18,6 +18,7 @@ use Rattle.bt_lines.specs.declared.line_reader.LineReader.{LineReader}
 use Rattle.bt_tool.proofs.GenomeLemmas.{distinct_push, is_new}
 use Rattle.std.proofs.lemmas.Option.{slice_get-map}
 use Rattle.bt_tool.specs.Genome.{Entry, is_skipped, genome_names, genome_from, genome_with, genome_of, new_entry, entry_of, entry_from, columns_give, with_entry}
+use Rattle.bt_tool.specs.LineKind.{is_of_line}
 use Rattle.bt_tool.specs.Good.{fault_at_line}
 use Rattle.bt_tool.specs.Place.{is_among, rank_of, AreDistinct}
 use Rattle.bt_tool.specs.Record.{not_skipped}
@@ -38,47 +39,47 @@ pub among_ranked : (names : List (List ℕ)) (name : List ℕ) → is_some (rank
 among_ranked [] name = refl
 among_ranked (n ∷ ns) name = is_some-cond (bytes_eq n name) (rank_of ns name) ∙ ap (λ b. bytes_eq n name || b) (among_ranked ns name)
 
--- the kind of an answer has a place where the kind that it was has one
-pub same_place : {T : Type 0} (was : Result T Kind) (a kind : Kind) → was ≡ Err a → was ≡ Err kind → has_place a ≡ true → has_place kind ≡ true
-same_place was a kind p q placed = let is : a ≡ kind = cc in subst (λ k. has_place k ≡ true) is placed
+-- the kind of an answer is of a line where the kind that it was is
+pub same_place : {T : Type 0} (was : Result T Kind) (a kind : Kind) → was ≡ Err a → was ≡ Err kind → is_of_line a ≡ true → is_of_line kind ≡ true
+same_place was a kind p q placed = let is : a ≡ kind = cc in subst (λ k. is_of_line k ≡ true) is placed
 
-place_of_length : (b : Bool) (entry : Entry) (kind : Kind) → cond b (Err BadLength) (Ok entry) ≡ Err kind → has_place kind ≡ true
+place_of_length : (b : Bool) (entry : Entry) (kind : Kind) → cond b (Err BadLength) (Ok entry) ≡ Err kind → is_of_line kind ≡ true
 place_of_length true entry kind e = same_place {T = Entry} (Err BadLength) BadLength kind refl e refl
 place_of_length false entry kind e = cc
 
-place_of_entry : (name : List ℕ) (size : Option ℕ) (kind : Kind) → entry_from name size ≡ Err kind → has_place kind ≡ true
+place_of_entry : (name : List ℕ) (size : Option ℕ) (kind : Kind) → entry_from name size ≡ Err kind → is_of_line kind ≡ true
 place_of_entry [] size kind e = same_place {T = Entry} (Err EmptyName) EmptyName kind refl e refl
 place_of_entry (byte ∷ bytes) None kind e = same_place {T = Entry} (Err BadLength) BadLength kind refl e refl
 place_of_entry (byte ∷ bytes) (Some n) kind e = place_of_length (n == 0) (record { name = byte ∷ bytes; length = n }) kind e
 
-place_of_columns : (columns : List (List ℕ)) (kind : Kind) → columns_give columns ≡ Err kind → has_place kind ≡ true
+place_of_columns : (columns : List (List ℕ)) (kind : Kind) → columns_give columns ≡ Err kind → is_of_line kind ≡ true
 place_of_columns [] kind e = same_place {T = Entry} (Err TooFewColumns) TooFewColumns kind refl e refl
 place_of_columns (name ∷ []) kind e = same_place {T = Entry} (Err TooFewColumns) TooFewColumns kind refl e refl
 place_of_columns (name ∷ size ∷ rest) kind e = place_of_entry name (value_of size) kind e
 
-place_of_said : (said : Result Entry Kind) (kind : Kind) → not_skipped said ≡ Err kind → ((k : Kind) → said ≡ Err k → has_place k ≡ true) → has_place kind ≡ true
+place_of_said : (said : Result Entry Kind) (kind : Kind) → not_skipped said ≡ Err kind → ((k : Kind) → said ≡ Err k → is_of_line k ≡ true) → is_of_line kind ≡ true
 place_of_said (Ok entry) kind e h = cc
 place_of_said (Err k) kind e h = same_place {T = Option Entry} (Err k) k kind refl e (h k refl)
 
-place_of_line : (b : Bool) (columns : List (List ℕ)) (kind : Kind) → cond b (Ok None) (not_skipped (columns_give columns)) ≡ Err kind → has_place kind ≡ true
+place_of_line : (b : Bool) (columns : List (List ℕ)) (kind : Kind) → cond b (Ok None) (not_skipped (columns_give columns)) ≡ Err kind → is_of_line kind ≡ true
 place_of_line true columns kind e = cc
 place_of_line false columns kind e = place_of_said (columns_give columns) kind e (place_of_columns columns)
 
-place_of_text : (text : List ℕ) (kind : Kind) → entry_of text ≡ Err kind → has_place kind ≡ true
+place_of_text : (text : List ℕ) (kind : Kind) → entry_of text ≡ Err kind → is_of_line kind ≡ true
 unfolding entry_of
 place_of_text text kind e = place_of_line (is_skipped text) (pieces 9 text) kind e
 
-place_of_repeated : (b : Bool) (entry : Entry) (kind : Kind) → cond b (Err RepeatedChrom) (Ok (Some entry)) ≡ Err kind → has_place kind ≡ true
+place_of_repeated : (b : Bool) (entry : Entry) (kind : Kind) → cond b (Err RepeatedChrom) (Ok (Some entry)) ≡ Err kind → is_of_line kind ≡ true
 place_of_repeated true entry kind e = same_place {T = Option Entry} (Err RepeatedChrom) RepeatedChrom kind refl e refl
 place_of_repeated false entry kind e = cc
 
-place_of_new : (names : List (List ℕ)) (said : Result (Option Entry) Kind) (kind : Kind) → new_entry names said ≡ Err kind → ((k : Kind) → said ≡ Err k → has_place k ≡ true) → has_place kind ≡ true
+place_of_new : (names : List (List ℕ)) (said : Result (Option Entry) Kind) (kind : Kind) → new_entry names said ≡ Err kind → ((k : Kind) → said ≡ Err k → is_of_line k ≡ true) → is_of_line kind ≡ true
 place_of_new names (Err k) kind e h = same_place {T = Option Entry} (Err k) k kind refl e (h k refl)
 place_of_new names (Ok None) kind e h = cc
 place_of_new names (Ok (Some entry)) kind e h = place_of_repeated (is_among names entry.name) entry kind e
 
--- what is wrong with a line has a place
-pub refused_at_place : (names : List (List ℕ)) (text : List ℕ) (kind : Kind) → new_entry names (entry_of text) ≡ Err kind → has_place kind ≡ true
+-- what is wrong with a line is of a line
+pub refused_at_place : (names : List (List ℕ)) (text : List ℕ) (kind : Kind) → new_entry names (entry_of text) ≡ Err kind → is_of_line kind ≡ true
 refused_at_place names text kind e = place_of_new names (entry_of text) kind e (place_of_text text)
 
 -- a rank is counted from n

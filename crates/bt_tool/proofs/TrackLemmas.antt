@@ -1,12 +1,12 @@
 -- Lemmas on what a line says behind the last record.
 use Rattle.std.proofs.Common.{◌≡◌, ℕ, Bool, true, false, cond, List, [], ◌∷◌, Option, Some, None, Result, Ok, Err, refl, sym, ap, ◌∙◌}
 use Rattle.std.specs.Prelude.{nat_lt, option_map}
-use Rattle.bt_lines.specs.Fault.{has_place}
 use Rattle.bt_lines.specs.Lines.{pieces}
 use Rattle.bt_lines.specs.Number.{value_of}
 use Rattle.bt_lines.specs.declared.fault.Kind.{Kind}
 use Rattle.bt_lines.specs.declared.fault.Kind.TheVariants.{TooFewColumns, EmptyName, BadStart, BadStop, EmptyFeature, UnknownChrom, OutOfOrder}
 use Rattle.bt_tool.proofs.TableLemmas.{same_place}
+use Rattle.bt_tool.specs.LineKind.{is_of_line}
 use Rattle.bt_tool.specs.Good.{line_says, said_after, in_order, falls_below}
 use Rattle.bt_tool.specs.Interval.{Interval}
 use Rattle.bt_tool.specs.Place.{rank_of}
@@ -32,38 +32,38 @@ module _ (names : List (List ℕ)) (last : Option Interval) (text : List ℕ) wh
   unfolding line_says
   says_record r rank e is stays = ap (said_after names last) (sym e) ∙ ap (in_order names last r) is ∙ (rw stays refl)
 
-place_of_feature : (b : Bool) (r : Interval) (kind : Kind) → cond b (Ok r) (Err EmptyFeature) ≡ Err kind → has_place kind ≡ true
+place_of_feature : (b : Bool) (r : Interval) (kind : Kind) → cond b (Ok r) (Err EmptyFeature) ≡ Err kind → is_of_line kind ≡ true
 place_of_feature true r kind e = cc
 place_of_feature false r kind e = same_place {T = Interval} (Err EmptyFeature) EmptyFeature kind refl e refl
 
-place_of_numbers : (chrom : List ℕ) (start stop : Option ℕ) (kind : Kind) → feature_of chrom start stop ≡ Err kind → has_place kind ≡ true
+place_of_numbers : (chrom : List ℕ) (start stop : Option ℕ) (kind : Kind) → feature_of chrom start stop ≡ Err kind → is_of_line kind ≡ true
 place_of_numbers [] start stop kind e = same_place {T = Interval} (Err EmptyName) EmptyName kind refl e refl
 place_of_numbers (byte ∷ bytes) None stop kind e = same_place {T = Interval} (Err BadStart) BadStart kind refl e refl
 place_of_numbers (byte ∷ bytes) (Some start) None kind e = same_place {T = Interval} (Err BadStop) BadStop kind refl e refl
 place_of_numbers (byte ∷ bytes) (Some start) (Some stop) kind e = place_of_feature (nat_lt start stop) _ kind e
 
-place_of_fields : (columns : List (List ℕ)) (kind : Kind) → columns_say columns ≡ Err kind → has_place kind ≡ true
+place_of_fields : (columns : List (List ℕ)) (kind : Kind) → columns_say columns ≡ Err kind → is_of_line kind ≡ true
 place_of_fields [] kind e = same_place {T = Interval} (Err TooFewColumns) TooFewColumns kind refl e refl
 place_of_fields (chrom ∷ []) kind e = same_place {T = Interval} (Err TooFewColumns) TooFewColumns kind refl e refl
 place_of_fields (chrom ∷ start ∷ []) kind e = same_place {T = Interval} (Err TooFewColumns) TooFewColumns kind refl e refl
 place_of_fields (chrom ∷ start ∷ stop ∷ rest) kind e = place_of_numbers chrom (value_of start) (value_of stop) kind e
 
-place_of_answer : (said : Result Interval Kind) (kind : Kind) → not_skipped said ≡ Err kind → ((k : Kind) → said ≡ Err k → has_place k ≡ true) → has_place kind ≡ true
+place_of_answer : (said : Result Interval Kind) (kind : Kind) → not_skipped said ≡ Err kind → ((k : Kind) → said ≡ Err k → is_of_line k ≡ true) → is_of_line kind ≡ true
 place_of_answer (Ok r) kind e h = cc
 place_of_answer (Err k) kind e h = same_place {T = Option Interval} (Err k) k kind refl e (h k refl)
 
--- what is wrong with a line by itself has a place
-pub wrong_at_place : (text : List ℕ) (kind : Kind) → Err kind ≡ record_of text → has_place kind ≡ true
+-- what is wrong with a line by itself is of a line
+pub wrong_at_place : (text : List ℕ) (kind : Kind) → Err kind ≡ record_of text → is_of_line kind ≡ true
 unfolding record_of
 wrong_at_place [] kind e = cc
 wrong_at_place (byte ∷ bytes) kind e = place_of_answer (columns_say (pieces 9 (byte ∷ bytes))) kind (sym e) (place_of_fields (pieces 9 (byte ∷ bytes)))
 
-place_of_order : (b : Bool) (r : Interval) (kind : Kind) → cond b (Err OutOfOrder) (Ok (Some r)) ≡ Err kind → has_place kind ≡ true
+place_of_order : (b : Bool) (r : Interval) (kind : Kind) → cond b (Err OutOfOrder) (Ok (Some r)) ≡ Err kind → is_of_line kind ≡ true
 place_of_order true r kind e = same_place {T = Option Interval} (Err OutOfOrder) OutOfOrder kind refl e refl
 place_of_order false r kind e = cc
 
 -- and so has what is wrong with a record behind the last one
-pub misplaced_at_place : (names : List (List ℕ)) (last : Option Interval) (r : Interval) (rank : Option ℕ) (kind : Kind) → in_order names last r rank ≡ Err kind → has_place kind ≡ true
+pub misplaced_at_place : (names : List (List ℕ)) (last : Option Interval) (r : Interval) (rank : Option ℕ) (kind : Kind) → in_order names last r rank ≡ Err kind → is_of_line kind ≡ true
 misplaced_at_place names last r None kind e = same_place {T = Option Interval} (Err UnknownChrom) UnknownChrom kind refl e refl
 misplaced_at_place names last r (Some rank) kind e = place_of_order (falls_below names last rank r.start) r kind e
 
@@ -75,3 +75,13 @@ none_below (Some s) f g e = cc
 pub no_line : (track : Track) → track_ahead track ≡ None → track_line track ≡ None
 unfolding track_ahead track_line
 no_line track e = none_below track.ahead _ (λ spot. spot.line) e
+
+said_of_line : (names : List (List ℕ)) (last : Option Interval) (said : Result (Option Interval) Kind) (kind : Kind) → said_after names last said ≡ Err kind → ((k : Kind) → said ≡ Err k → is_of_line k ≡ true) → is_of_line kind ≡ true
+said_of_line names last (Ok None) kind e h = cc
+said_of_line names last (Ok (Some r)) kind e h = misplaced_at_place names last r (rank_of names r.chrom) kind e
+said_of_line names last (Err k) kind e h = same_place {T = Option Interval} (Err k) k kind refl e (h k refl)
+
+-- what a line says wrong is of a line
+pub says_of_line : (names : List (List ℕ)) (last : Option Interval) (text : List ℕ) (kind : Kind) → line_says names last text ≡ Err kind → is_of_line kind ≡ true
+unfolding line_says
+says_of_line names last text kind e = said_of_line names last (record_of text) kind e (λ k h. wrong_at_place text k (sym h))

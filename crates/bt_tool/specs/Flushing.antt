@@ -12,7 +12,8 @@ pub record FlushesAll (old : Output) (fault : Option Told) (answer : Option Told
   pub sink_served : new.sink_has_failed ≡ old.sink_has_failed
 
 -- the sink failed now, and took a front of what was put
-pub record FlushFails (old : Output) (answer : Option Told) (new : Output) : Type 0 where
+pub record FlushFails (old : Output) (fault : Option Told) (answer : Option Told) (new : Output) : Type 0 where
+  pub was : fault ≢ Some write_failed
   pub is : answer ≡ Some write_failed
   pub front : IsFrontOf new.took old.put []
   pub sink_failed : new.sink_has_failed ≡ true
@@ -25,5 +26,5 @@ pub record StaysFailed (old : Output) (fault : Option Told) (answer : Option Tol
 
 -- the output of a run that ends with this fault, or without one, is handed on, unless a write failed
 pub record Flushes (old : Output) (fault : Option Told) (answer : Option Told) (new : Output) : Type 0 where
-  pub ends : (FlushesAll old fault answer new ⊎ FlushFails old answer new) ⊎ StaysFailed old fault answer new
+  pub ends : (FlushesAll old fault answer new ⊎ FlushFails old fault answer new) ⊎ StaysFailed old fault answer new
   pub grows : Grows old.took new.took

@@ -28,3 +28,4 @@ pub mod Track
 pub mod Records
 pub mod Run
 pub mod RunMerge
+pub mod LineKind

@@ -12,6 +12,7 @@ use Rattle.bt_tool.specs.Putting.{WorksAsBefore}
 use Rattle.bt_tool.specs.GenomeTable.{Hands}
 use Rattle.bt_tool.specs.Good.{Good, fault_at_line}
 use Rattle.bt_tool.specs.Interval.{Interval, AreNonEmpty}
+use Rattle.bt_tool.specs.LineKind.{is_of_line}
 use Rattle.bt_tool.specs.Place.{ArePlaced}
 use Rattle.bt_tool.specs.Records.{below, names_in, good_left}
 use Rattle.bt_tool.specs.declared.records.RecordReader.{RecordReader}
@@ -57,6 +58,7 @@ module _ {S : Type 0} (left : S → Option (List ℕ)) (failed : S → Bool) whe
     pub line : ℕ
     pub kind : Kind
     pub is : fault ≡ fault_at_line (input_of (below old)) line kind
+    pub of_line : is_of_line kind ≡ true
     pub puts : PutsSettled out past grown
     pub works : WorksAsBefore out grown
     pub served : failed (source_of (below new)) ≡ failed (source_of (below old))

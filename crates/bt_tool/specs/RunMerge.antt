@@ -13,18 +13,9 @@ use Rattle.bt_tool.specs.Report.{Report, merge_good, merge_on, report_of}
 abbrev pub records_report : List (List ℕ) → List ℕ → Report
 records_report names first = merge_good names (good First names (text_lines first)) (good First names (text_lines first)).fault
 
--- what was put behind what was put before is a front of the output, or what was taken is one
-abbrev pub PutsFront : List ℕ → List ℕ → Output → Type 0
-PutsFront before output out =
-    (front : List ℕ) × (rest : List ℕ) × (output ≡ front ++ rest) × ((out.put ≡ Some (before ++ front)) ⊎ IsFrontOf out.took (Some (before ++ front)) [])
-
 -- the source handed over more bytes than a text may have
 abbrev pub PassesBound : Option (List ℕ) → Option (List ℕ) → Type 0
 PassesBound old new = (bytes : List ℕ) × Consumes old new bytes × (2 ^ 63 ≤ length bytes)
-
--- why a run ended with this fault
-pub record HasCause {S : Type 0} (left : S → Option (List ℕ)) (failed : S → Bool) (input : Input) (old : S) (fault : Option Told) (new : S) : Type 0 where
-  pub reading : (line : ℕ) → fault ≡ Some (read_failed input line) → (failed new ≡ true) ⊎ PassesBound (left old) (left new)
 
 module _ {A : Type 0} (left : A → Option (List ℕ)) (failed : A → Bool) where
   -- the records of an input were merged
@@ -33,9 +24,10 @@ module _ {A : Type 0} (left : A → Option (List ℕ)) (failed : A → Bool) whe
     pub whole : (text before : List ℕ) → left first ≡ Some text → out.put ≡ Some before → length text < 2 ^ 63
         → failed new ≡ false → grown.sink_has_failed ≡ false → fault ≢ Some no_memory
         → (fault ≡ (records_report names text).fault) × (grown.put ≡ Some (before ++ (records_report names text).output))
-    -- whatever fails: a front of the report's output
-    pub front : (text before : List ℕ) → left first ≡ Some text → out.put ≡ Some before → PutsFront before (records_report names text).output grown
-    -- as long as no write failed, all that is written was put
+    -- where a write failed: the sink took a front of the report's output
+    pub cut : fault ≡ Some write_failed → (text before : List ℕ) → left first ≡ Some text → out.put ≡ Some before
+        → (front : List ℕ) × (rest : List ℕ) × ((records_report names text).output ≡ front ++ rest) × IsFrontOf grown.took (Some (before ++ front)) []
+    -- whatever else fails: a front of the report's output was put
     pub kept : fault ≢ Some write_failed → (text before : List ℕ) → left first ≡ Some text → out.put ≡ Some before
         → (front : List ℕ) × (rest : List ℕ) × ((records_report names text).output ≡ front ++ rest) × (grown.put ≡ Some (before ++ front))
     pub grows : Grows out.took grown.took

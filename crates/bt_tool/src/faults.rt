@@ -1,7 +1,8 @@
 //! Faults of a line, and of want of memory.
 
 ghost use Rattle.std.specs.Prelude.{◌≡◌, true};
-ghost use Rattle.bt_lines.specs.Fault.{has_place, no_memory};
+ghost use Rattle.bt_tool.specs.LineKind.{is_of_line};
+ghost use Rattle.bt_lines.specs.Fault.{no_memory};
 ghost use Rattle.bt_lines.specs.Names.{told};
 ghost use Rattle.bt_tool.specs.Good.{fault_at_line};
 
@@ -9,7 +10,7 @@ use bt_lines::{Fault, Kind, Place};
 
 /// A fault of this kind at this line.
 pub(crate) fn at_line(kind: Kind, place: Place) -> Fault
-    requires { has_place kind ≡ true }
+    requires { is_of_line kind ≡ true }
     ensures { told result ≡ fault_at_line place.input place.line kind }
 {
     Fault {

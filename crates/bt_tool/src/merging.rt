@@ -1,14 +1,20 @@
 //! A run of `bedtools merge`.
 
-ghost use Rattle.std.specs.Prelude.{◌≡◌, [], None};
+ghost use Rattle.std.specs.Prelude.{◌≡◌, [], None, option_map};
+ghost use Rattle.bt_lines.specs.Names.{told};
+ghost use Rattle.bt_lines.specs.Output.{HoldsBlock};
 ghost use Rattle.bt_tool.specs.Engine.{StandsAfter};
 ghost use Rattle.bt_tool.specs.Records.{fault_kept, last_record, record_ahead};
 ghost use Rattle.bt_tool.specs.Run.{Feeds};
-ghost use Rattle.bt_lines.specs.Output.{HoldsBlock};
+ghost use Rattle.bt_tool.specs.RunMerge.{MergesRecords};
+ghost use Rattle.bt_tool.specs.GenomeTable.{names_of};
+ghost use Rattle.bt_tool.specs.Place.{AreDistinct};
 
+use crate::genome::Genome;
 use crate::merge::Merge;
 use crate::records::RecordReader;
-use bt_lines::{Fault, Out, Sink, Source};
+use bt_lines::{Fault, Input, LineReader, Out, Sink, Source};
+use std::alloc::Global;
 
 // Feeds a merge that has taken no record with all records of a reader.
 fn feed_all<S: Source, K: Sink>(
@@ -28,4 +34,31 @@ fn feed_all<S: Source, K: Sink>(
         records.advance();
     }
     Ok(())
+}
+
+// Merges the records of an input in the order of a genome file. It gives the source back, and the
+// fault that the run ends with, if there is one.
+pub(crate) fn merge_records<A: Source, K: Sink>(
+    alloc: Global,
+    genome: &Genome,
+    first: A,
+    out: &mut Out<K>,
+) -> (Option<Fault>, A)
+    requires distinct { AreDistinct (names_of genome.now) }
+    requires block { HoldsBlock out.old.took out.old.put }
+    ensures { MergesRecords A.left A.has_failed (names_of genome.now) first out.old
+        (option_map told result.0) result.1 out.new }
+{
+    let reader = LineReader::new(alloc, first, Input::First);
+    let mut records = RecordReader::new(alloc, reader, genome);
+    let mut merge = Merge::new(alloc, 0);
+    let fed = feed_all(&mut records, &mut merge, out);
+    let first = records.into_reader().into_source();
+    if let Err(fault) = fed {
+        return (Some(fault), first);
+    }
+    if let Err(fault) = merge.finish(out) {
+        return (Some(fault), first);
+    }
+    (None, first)
 }

@@ -1,0 +1,189 @@
+-- Lemmas on a run of merge, from the records that it takes to the report of the whole texts.
+use Rattle.std.proofs.Common.{◌≡◌, ℕ, ◌+◌, ◌^◌, ◌<◌, ◌≤◌, Bool, true, false, List, [], ◌∷◌, ◌++◌, length, Option, None, Some, Result, Ok, Err, refl, sym, ap, ◌∙◌, subst, append-nil, append_assoc, length-append, arith, inl, inr, ⊎_elim}
+use Rattle.std.specs.Prelude.{◌⊎◌, ◌≢◌, IfSome, option_map}
+use Rattle.std.proofs.lemmas.Bool.{false≢true}
+use Rattle.std.specs.Io.KnownBytes.{Consumes}
+use Rattle.bt_lines.specs.Fault.{Told, write_failed, no_memory, read_failed}
+use Rattle.bt_lines.specs.Lines.{text_lines}
+use Rattle.bt_lines.specs.Output.{Output, HoldsBlock, IsFrontOf, Grows}
+use Rattle.bt_lines.specs.Reader.{source_of, input_of, bytes_taken, lines_left, fault_kept as line_fault}
+use Rattle.bt_lines.specs.declared.line_reader.LineReader.{LineReader}
+use Rattle.bt_lines.specs.declared.fault.Input.{Input}
+use Rattle.bt_lines.specs.declared.fault.Input.TheVariants.{First}
+use Rattle.bt_lines.specs.declared.fault.Kind.{Kind}
+use Rattle.bt_lines.specs.declared.fault.Kind.TheVariants.{ReadFailed, WriteFailed, NoMemory}
+use Rattle.bt_lines.specs.declared.fault.Place.{Place}
+use Rattle.bt_tool.specs.Engine.{Merging, StandsAfter, settled_lines, merged_lines, AreUnsettled}
+use Rattle.bt_tool.specs.Good.{Good, good, fault_at_line}
+use Rattle.bt_tool.specs.Interval.{Interval, AreNonEmpty}
+use Rattle.bt_tool.specs.LineKind.{is_of_line}
+use Rattle.bt_tool.specs.Place.{AreDistinct, ArePlaced}
+use Rattle.bt_tool.specs.Records.{below, names_in, good_left}
+use Rattle.bt_tool.specs.Report.{Report, merge_good}
+use Rattle.bt_tool.specs.Run.{Cause, PutsSettled, CutsSettled, Took, FeedsAll, FeedsUpTo, StopsAtLine, StopsReading, StopsGrowing, StopsWriting}
+use Rattle.bt_tool.specs.RunMerge.{MergesRecords, PassesBound, records_report}
+use Rattle.bt_tool.specs.GenomeTable.{Hands}
+use Rattle.bt_tool.specs.declared.records.RecordReader.{RecordReader}
+use Rattle.bt_tool.proofs.FeedLemmas.{front_all, grows_both}
+use Rattle.bt_tool.proofs.GoodLemmas.{placed_good, non_empty_good}
+use Rattle.bt_tool.proofs.ReportLemmas.{output_whole, output_settled, output_begins}
+
+-- a fault of a line is no failed read
+line_no_read : (input : Input) (line : ℕ) (kind : Kind) (other : Input) (at : ℕ) → is_of_line kind ≡ true → fault_at_line input line kind ≡ read_failed other at → ⊥
+line_no_read input line kind other at of_line e =
+    let same : kind ≡ ReadFailed = ap (λ (f : Told). f.kind) e in
+    false≢true (subst (λ k. is_of_line k ≡ true) same of_line)
+
+some_no_none : (place : Place) → Some place ≡ None → ⊥
+some_no_none place e = cc
+
+-- a fault with a place is no failed write
+placed_no_write : (input : Input) (line : ℕ) (kind : Kind) → fault_at_line input line kind ≡ write_failed → ⊥
+placed_no_write input line kind e = some_no_none (record { input = input; line = line }) (ap (λ (f : Told). f.place) e)
+
+memory_no_write : no_memory ≡ write_failed → ⊥
+memory_no_write e = let apart : NoMemory ≡ WriteFailed = ap (λ (f : Told). f.kind) e in cc
+
+memory_no_read : (input : Input) (line : ℕ) → no_memory ≡ read_failed input line → ⊥
+memory_no_read input line e = let apart : NoMemory ≡ ReadFailed = ap (λ (f : Told). f.kind) e in cc
+
+write_no_read : (input : Input) (line : ℕ) → write_failed ≡ read_failed input line → ⊥
+write_no_read input line e = let apart : WriteFailed ≡ ReadFailed = ap (λ (f : Told). f.kind) e in cc
+
+some_is : (a b : Told) → Some a ≡ Some b → a ≡ b
+some_is a b e = cc
+
+-- no more bytes were handed over than there are
+consumes_short : (a b : Option (List ℕ)) (bytes text : List ℕ) → a ≡ Some text → Consumes a b bytes → length bytes ≤ length text
+consumes_short None b bytes text e c = cc
+consumes_short (Some x) None bytes text e c = absurd c
+consumes_short (Some x) (Some y) bytes text e c =
+    let same : x ≡ text = cc in
+    omega (arith, ap length same, ap length c, length-append bytes y)
+
+-- what is to come from a reader that has given nothing
+pub good_start : {S : Type 0} (left : S → Option (List ℕ)) (names : List (List ℕ)) (first : S) (reader : LineReader S) (records : RecordReader S) → line_fault reader ≡ None → input_of reader ≡ First
+    → lines_left left reader ≡ option_map text_lines (left first) → (line_fault reader ≡ None → good_left left records ≡ option_map (good (input_of reader) names) (lines_left left reader))
+    → good_left left records ≡ option_map (good First names) (option_map text_lines (left first))
+good_start left names first reader records going input lines is = is going ∙ ap (λ i. option_map (good i names) (lines_left left reader)) input ∙ ap (option_map (good First names)) lines
+
+module _ {S : Type 0} (left : S → Option (List ℕ)) (failed : S → Bool) (names : List (List ℕ)) (distinct : AreDistinct names) (old : RecordReader S) (first : S) (out : Output)
+    (named : names_in old ≡ names) (known : good_left left old ≡ option_map (good First names) (option_map text_lines (left first)))
+    (source : source_of (below old) ≡ first) (input : input_of (below old) ≡ First) (fresh : bytes_taken (below old) ≡ 0) (new : RecordReader S) (last : S) (ended : source_of (below new) ≡ last) where
+  -- the good records of a text
+  abbrev records_of : List ℕ → Good
+  records_of text = good First names (text_lines text)
+
+  at_text : (text : List ℕ) (P : Good → Type 0) → left first ≡ Some text → IfSome (good_left left old) P → P (records_of text)
+  at_text text P e h = subst (λ o. IfSome o P) (known ∙ ap (λ o. option_map (good First names) (option_map text_lines o)) e) h
+
+  placed : (text : List ℕ) → ArePlaced names (records_of text).records
+  placed text = placed_good First names (text_lines text)
+
+  full : (text : List ℕ) → AreNonEmpty (records_of text).records
+  full text = non_empty_good First names (text_lines text)
+
+  -- a front of the records gives a front of the output
+  begins_output : (text : List ℕ) (past : List Interval) → (rest : List Interval) × ((records_of text).records ≡ past ++ rest) → (rest : List ℕ) × ((records_report names text).output ≡ settled_lines 0 past ++ rest)
+  begins_output text past b = output_begins names (records_of text) distinct (placed text) (full text) past b.0 (records_of text).fault b.1
+
+  within_bound : (text : List ℕ) → left first ≡ Some text → length text < 2 ^ 63 → Hands left (below old) (below new) → 2 ^ 63 ≤ bytes_taken (below new) → ⊥
+  within_bound text e short hands past =
+      let few = consumes_short (left (source_of (below old))) (left (source_of (below new))) hands.0 text (ap left source ∙ e) hands.1 in
+      omega (arith, few, short, past, hands.2, fresh)
+
+  passes : Hands left (below old) (below new) → 2 ^ 63 ≤ bytes_taken (below new) → PassesBound (left first) (left last)
+  passes hands past =
+      let handed : Consumes (left first) (left last) hands.0 = subst (λ s. Consumes (left first) (left s) hands.0) ended (subst (λ s. Consumes (left s) (left (source_of (below new))) hands.0) source hands.1) in
+      (hands.0, handed, omega (arith, past, hands.2, fresh))
+
+  module _ (fault : Told) (grown : Output) where
+    abbrev Whole : List ℕ → List ℕ → Type 0
+    Whole text before = (Some fault ≡ (records_report names text).fault) × (grown.put ≡ Some (before ++ (records_report names text).output))
+
+    whole_at_line : (past : List Interval) (text before : List ℕ) → left first ≡ Some text → out.put ≡ Some before → StopsAtLine left failed old out past fault new grown → Whole text before
+    whole_at_line past text before e put at =
+        let w = at_text text (λ g. (g.records ≡ past) × (g.fault ≡ Some fault)) e at.whole in
+        let good = records_of text in
+        let lines : settled_lines 0 past ≡ (merge_good names good (Some fault)).output = ap (settled_lines 0) (sym w.0) ∙ sym (output_settled names good distinct (placed text) (full text) fault) in
+        subst (λ f. (Some fault ≡ (merge_good names good f).fault) × (grown.put ≡ Some (before ++ (merge_good names good f).output))) (sym w.1)
+        (refl, at.puts before put ∙ ap (λ l. Some (before ++ l)) lines)
+
+    whole_by : (past : List Interval) (text before : List ℕ) → left first ≡ Some text → out.put ≡ Some before → length text < 2 ^ 63 → failed last ≡ false → grown.sink_has_failed ≡ false → Some fault ≢ Some no_memory
+        → Hands left (below old) (below new) → Cause left failed old out past fault new grown → Whole text before
+    whole_by past text before e put short served sink memory hands (inl (inl at)) = whole_at_line past text before e put at
+    whole_by past text before e put short served sink memory hands (inl (inr reading)) =
+        absurd (⊎_elim (λ fails. false≢true (sym served ∙ ap failed (sym ended) ∙ fails)) (λ past. within_bound text e short hands past) reading.cause)
+    whole_by past text before e put short served sink memory hands (inr (inl growing)) = absurd (memory (ap Some growing.is))
+    whole_by past text before e put short served sink memory hands (inr (inr writing)) = absurd (false≢true (sym sink ∙ writing.cuts.sink_failed))
+
+    puts_by : (past : List Interval) → Cause left failed old out past fault new grown → fault ≢ write_failed → PutsSettled out past grown
+    puts_by past (inl (inl at)) other = at.puts
+    puts_by past (inl (inr reading)) other = reading.puts
+    puts_by past (inr (inl growing)) other = growing.puts
+    puts_by past (inr (inr writing)) other = absurd (other writing.is)
+
+    cut_by : (past : List Interval) → Cause left failed old out past fault new grown → fault ≡ write_failed → CutsSettled out past grown
+    cut_by past (inl (inl at)) e = absurd (placed_no_write (input_of (below old)) at.line at.kind (sym at.is ∙ e))
+    cut_by past (inl (inr reading)) e = absurd (placed_no_write (input_of (below old)) reading.line ReadFailed (sym reading.is ∙ e))
+    cut_by past (inr (inl growing)) e = absurd (memory_no_write (sym growing.is ∙ e))
+    cut_by past (inr (inr writing)) e = writing.cuts
+
+    read_by : (past : List Interval) → Hands left (below old) (below new) → Cause left failed old out past fault new grown → (line : ℕ) → fault ≡ read_failed First line → (failed last ≡ true) ⊎ PassesBound (left first) (left last)
+    read_by past hands (inl (inl at)) line e = absurd (line_no_read (input_of (below old)) at.line at.kind First line at.of_line (sym at.is ∙ e))
+    read_by past hands (inl (inr reading)) line e = ⊎_elim (λ fails. inl (ap failed (sym ended) ∙ fails)) (λ past. inr (passes hands past)) reading.cause
+    read_by past hands (inr (inl growing)) line e = absurd (memory_no_read First line (sym growing.is ∙ e))
+    read_by past hands (inr (inr writing)) line e = absurd (write_no_read First line (sym writing.is ∙ e))
+
+    pub merges_fault : FeedsUpTo left failed old out fault new grown → MergesRecords left failed names first out (Some fault) last grown
+    merges_fault fed = record {
+      whole = λ text before e put short served sink memory. whole_by fed.past text before e put short served sink memory fed.took.bytes fed.cause;
+      cut = λ is text before e put.
+          let begins = begins_output text fed.past (at_text text (λ g. (rest : List Interval) × (g.records ≡ fed.past ++ rest)) e fed.begins) in
+          (settled_lines 0 fed.past, begins.0, begins.1, (cut_by fed.past fed.cause (some_is fault write_failed is)).front before put);
+      kept = λ other text before e put.
+          let begins = begins_output text fed.past (at_text text (λ g. (rest : List Interval) × (g.records ≡ fed.past ++ rest)) e fed.begins) in
+          (settled_lines 0 fed.past, begins.0, begins.1, puts_by fed.past fed.cause (λ is. other (ap Some is)) before put);
+      grows = fed.took.grows;
+      writing = λ e. (cut_by fed.past fed.cause (some_is fault write_failed e)).sink_failed;
+      reading = λ line e. read_by fed.past fed.took.bytes fed.cause line (some_is fault (read_failed First line) e);
+    }
+
+  module _ (merge : Merging) (grown : Output) (fed : FeedsAll left failed old out new merge grown) (finished : Output) (grows : Grows grown.took finished.took) where
+    abbrev Ends : Option Told → Type 0
+    Ends fault = MergesRecords left failed names first out fault last finished
+
+    -- the report where all records were taken
+    report_whole : (text : List ℕ) → left first ≡ Some text → ((records_report names text).fault ≡ None) × ((records_report names text).output ≡ merged_lines 0 fed.past)
+    report_whole text e =
+        let w = at_text text (λ g. (g.records ≡ fed.past) × (g.fault ≡ None)) e fed.whole in
+        let good = records_of text in
+        subst (λ f. ((merge_good names good f).fault ≡ None) × ((merge_good names good f).output ≡ merged_lines 0 fed.past)) (sym w.1)
+        (refl, output_whole names good distinct (placed text) (full text) ∙ ap (merged_lines 0) w.0)
+
+    no_fault : (fault : Told) → None ≡ Some fault → ⊥
+    no_fault fault e = cc
+
+    pub merges_all : ((before : List ℕ) → grown.put ≡ Some (before ++ settled_lines 0 fed.past) → finished.put ≡ Some (before ++ merged_lines 0 fed.past)) → Ends None
+    merges_all puts = record {
+      whole = λ text before e put short served sink memory.
+          let w = report_whole text e in
+          (sym w.0, puts before (fed.puts before put) ∙ ap (λ l. Some (before ++ l)) (sym w.1));
+      cut = λ is. absurd (no_fault write_failed is);
+      kept = λ other text before e put. (merged_lines 0 fed.past, [], (report_whole text e).1 ∙ sym (append-nil (merged_lines 0 fed.past)), puts before (fed.puts before put));
+      grows = grows_both out.took grown.took finished.took fed.took.grows grows;
+      writing = λ e. absurd (no_fault write_failed e);
+      reading = λ line e. absurd (no_fault (read_failed First line) e);
+    }
+
+    pub merges_cut : (fault : Told) → fault ≡ write_failed → (lines : List ℕ) × AreUnsettled 0 fed.past lines × IsFrontOf finished.took grown.put lines → finished.sink_has_failed ≡ true → Ends (Some fault)
+    merges_cut fault is front sink_failed = record {
+      whole = λ text before e put short served sink memory. absurd (false≢true (sym sink ∙ sink_failed));
+      cut = λ written text before e put.
+          (merged_lines 0 fed.past, [], (report_whole text e).1 ∙ sym (append-nil (merged_lines 0 fed.past)),
+           (front_all finished.took grown.put before (settled_lines 0 fed.past) front.0 (merged_lines 0 fed.past) front.1 (fed.puts before put) front.2));
+      kept = λ other. absurd (other (ap Some is));
+      grows = grows_both out.took grown.took finished.took fed.took.grows grows;
+      writing = λ e. sink_failed;
+      reading = λ line e. absurd (write_no_read First line (sym is ∙ some_is fault (read_failed First line) e));
+    }
