@@ -24,3 +24,4 @@ pub mod RecordsLemmas
 pub mod HandsLemmas
 pub mod FeedLemmas
 pub mod MergingLemmas
+pub mod RunningLemmas

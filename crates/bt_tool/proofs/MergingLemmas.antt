@@ -29,7 +29,7 @@ use Rattle.bt_tool.proofs.GoodLemmas.{placed_good, non_empty_good}
 use Rattle.bt_tool.proofs.ReportLemmas.{output_whole, output_settled, output_begins}
 
 -- a fault of a line is no failed read
-line_no_read : (input : Input) (line : ℕ) (kind : Kind) (other : Input) (at : ℕ) → is_of_line kind ≡ true → fault_at_line input line kind ≡ read_failed other at → ⊥
+pub line_no_read : (input : Input) (line : ℕ) (kind : Kind) (other : Input) (at : ℕ) → is_of_line kind ≡ true → fault_at_line input line kind ≡ read_failed other at → ⊥
 line_no_read input line kind other at of_line e =
     let same : kind ≡ ReadFailed = ap (λ (f : Told). f.kind) e in
     false≢true (subst (λ k. is_of_line k ≡ true) same of_line)
@@ -38,23 +38,30 @@ some_no_none : (place : Place) → Some place ≡ None → ⊥
 some_no_none place e = cc
 
 -- a fault with a place is no failed write
-placed_no_write : (input : Input) (line : ℕ) (kind : Kind) → fault_at_line input line kind ≡ write_failed → ⊥
+pub placed_no_write : (input : Input) (line : ℕ) (kind : Kind) → fault_at_line input line kind ≡ write_failed → ⊥
 placed_no_write input line kind e = some_no_none (record { input = input; line = line }) (ap (λ (f : Told). f.place) e)
 
-memory_no_write : no_memory ≡ write_failed → ⊥
+pub memory_no_write : no_memory ≡ write_failed → ⊥
 memory_no_write e = let apart : NoMemory ≡ WriteFailed = ap (λ (f : Told). f.kind) e in cc
 
-memory_no_read : (input : Input) (line : ℕ) → no_memory ≡ read_failed input line → ⊥
+pub memory_no_read : (input : Input) (line : ℕ) → no_memory ≡ read_failed input line → ⊥
 memory_no_read input line e = let apart : NoMemory ≡ ReadFailed = ap (λ (f : Told). f.kind) e in cc
 
-write_no_read : (input : Input) (line : ℕ) → write_failed ≡ read_failed input line → ⊥
+pub write_no_read : (input : Input) (line : ℕ) → write_failed ≡ read_failed input line → ⊥
 write_no_read input line e = let apart : WriteFailed ≡ ReadFailed = ap (λ (f : Told). f.kind) e in cc
 
-some_is : (a b : Told) → Some a ≡ Some b → a ≡ b
+some_place : (a b : Place) → Some a ≡ Some b → a ≡ b
+some_place a b e = cc
+
+pub some_is : (a b : Told) → Some a ≡ Some b → a ≡ b
 some_is a b e = cc
 
+-- two faults of reading that are one are of one input
+pub same_read : (a b : Input) (m n : ℕ) → read_failed a m ≡ read_failed b n → a ≡ b
+same_read a b m n e = let places : Some (record { input = a; line = m }) ≡ Some (record { input = b; line = n }) = ap (λ (f : Told). f.place) e in ap (λ (p : Place). p.input) (some_place _ _ places)
+
 -- no more bytes were handed over than there are
-consumes_short : (a b : Option (List ℕ)) (bytes text : List ℕ) → a ≡ Some text → Consumes a b bytes → length bytes ≤ length text
+pub consumes_short : (a b : Option (List ℕ)) (bytes text : List ℕ) → a ≡ Some text → Consumes a b bytes → length bytes ≤ length text
 consumes_short None b bytes text e c = cc
 consumes_short (Some x) None bytes text e c = absurd c
 consumes_short (Some x) (Some y) bytes text e c =
@@ -129,11 +136,12 @@ module _ {S : Type 0} (left : S → Option (List ℕ)) (failed : S → Bool) (na
     cut_by past (inr (inl growing)) e = absurd (memory_no_write (sym growing.is ∙ e))
     cut_by past (inr (inr writing)) e = writing.cuts
 
-    read_by : (past : List Interval) → Hands left (below old) (below new) → Cause left failed old out past fault new grown → (line : ℕ) → fault ≡ read_failed First line → (failed last ≡ true) ⊎ PassesBound (left first) (left last)
-    read_by past hands (inl (inl at)) line e = absurd (line_no_read (input_of (below old)) at.line at.kind First line at.of_line (sym at.is ∙ e))
-    read_by past hands (inl (inr reading)) line e = ⊎_elim (λ fails. inl (ap failed (sym ended) ∙ fails)) (λ past. inr (passes hands past)) reading.cause
-    read_by past hands (inr (inl growing)) line e = absurd (memory_no_read First line (sym growing.is ∙ e))
-    read_by past hands (inr (inr writing)) line e = absurd (write_no_read First line (sym writing.is ∙ e))
+    read_by : (past : List Interval) → Hands left (below old) (below new) → Cause left failed old out past fault new grown → (i : Input) (line : ℕ) → fault ≡ read_failed i line
+        → (i ≡ First) × ((failed last ≡ true) ⊎ PassesBound (left first) (left last))
+    read_by past hands (inl (inl at)) i line e = absurd (line_no_read (input_of (below old)) at.line at.kind i line at.of_line (sym at.is ∙ e))
+    read_by past hands (inl (inr reading)) i line e = (sym (same_read (input_of (below old)) i reading.line line (sym reading.is ∙ e)) ∙ input, ⊎_elim (λ fails. inl (ap failed (sym ended) ∙ fails)) (λ past. inr (passes hands past)) reading.cause)
+    read_by past hands (inr (inl growing)) i line e = absurd (memory_no_read i line (sym growing.is ∙ e))
+    read_by past hands (inr (inr writing)) i line e = absurd (write_no_read i line (sym writing.is ∙ e))
 
     pub merges_fault : FeedsUpTo left failed old out fault new grown → MergesRecords left failed names first out (Some fault) last grown
     merges_fault fed = record {
@@ -146,7 +154,7 @@ module _ {S : Type 0} (left : S → Option (List ℕ)) (failed : S → Bool) (na
           (settled_lines 0 fed.past, begins.0, begins.1, puts_by fed.past fed.cause (λ is. other (ap Some is)) before put);
       grows = fed.took.grows;
       writing = λ e. (cut_by fed.past fed.cause (some_is fault write_failed e)).sink_failed;
-      reading = λ line e. read_by fed.past fed.took.bytes fed.cause line (some_is fault (read_failed First line) e);
+      reading = λ i line e. read_by fed.past fed.took.bytes fed.cause i line (some_is fault (read_failed i line) e);
     }
 
   module _ (merge : Merging) (grown : Output) (fed : FeedsAll left failed old out new merge grown) (finished : Output) (grows : Grows grown.took finished.took) where
@@ -173,7 +181,7 @@ module _ {S : Type 0} (left : S → Option (List ℕ)) (failed : S → Bool) (na
       kept = λ other text before e put. (merged_lines 0 fed.past, [], (report_whole text e).1 ∙ sym (append-nil (merged_lines 0 fed.past)), puts before (fed.puts before put));
       grows = grows_both out.took grown.took finished.took fed.took.grows grows;
       writing = λ e. absurd (no_fault write_failed e);
-      reading = λ line e. absurd (no_fault (read_failed First line) e);
+      reading = λ i line e. absurd (no_fault (read_failed i line) e);
     }
 
     pub merges_cut : (fault : Told) → fault ≡ write_failed → (lines : List ℕ) × AreUnsettled 0 fed.past lines × IsFrontOf finished.took grown.put lines → finished.sink_has_failed ≡ true → Ends (Some fault)
@@ -185,5 +193,5 @@ module _ {S : Type 0} (left : S → Option (List ℕ)) (failed : S → Bool) (na
       kept = λ other. absurd (other (ap Some is));
       grows = grows_both out.took grown.took finished.took fed.took.grows grows;
       writing = λ e. sink_failed;
-      reading = λ line e. absurd (write_no_read First line (sym is ∙ some_is fault (read_failed First line) e));
+      reading = λ i line e. absurd (write_no_read i line (sym is ∙ some_is fault (read_failed i line) e));
     }

@@ -1,0 +1,168 @@
+-- Lemmas on a run, from its devices to the report of the whole texts.
+use Rattle.std.proofs.Common.{◌≡◌, ℕ, suc, ◌+◌, ◌^◌, ◌<◌, ◌≤◌, Bool, true, false, List, [], ◌∷◌, ◌++◌, length, Option, None, Some, Result, Ok, Err, refl, sym, ap, ◌∙◌, subst, append-nil, append_assoc, arith, inl, inr, ⊎_elim}
+use Rattle.std.specs.Prelude.{◌⊎◌, ◌≢◌, IfSome, option_map}
+use Rattle.std.proofs.lemmas.Bool.{false≢true}
+use Rattle.std.proofs.lemmas.List.{append_cancel_left}
+use Rattle.std.specs.Io.KnownBytes.{Appends, Consumes, Keeps}
+use Rattle.std.proofs.KnownBytes.{Appends-nil}
+use Rattle.bt_lines.specs.Fault.{Told, write_failed, no_memory, read_failed}
+use Rattle.bt_lines.specs.Output.{Output, IsFrontOf, Grows}
+use Rattle.bt_lines.specs.Lines.{TextLine, text_lines}
+use Rattle.bt_lines.specs.Reader.{source_of, input_of, bytes_taken, lines_given, lines_left}
+use Rattle.bt_lines.specs.declared.fault.Input.{Input}
+use Rattle.bt_lines.specs.declared.fault.Input.TheVariants.{Genome as FromGenome, First}
+use Rattle.bt_lines.specs.declared.fault.Kind.TheVariants.{ReadFailed}
+use Rattle.bt_lines.specs.declared.line_reader.LineReader.{LineReader}
+use Rattle.bt_tool.specs.Flushing.{Flushes, FlushesAll, FlushFails, StaysFailed}
+use Rattle.bt_tool.specs.Genome.{genome_of}
+use Rattle.bt_tool.specs.GenomeTable.{Hands, ReadsAll, LineAtFault, ReadingFails, MemoryRanOut, entries, names_of}
+use Rattle.bt_tool.specs.Report.{Report, merge_on}
+use Rattle.bt_tool.specs.RunMerge.{MergesRecords, PassesBound, Runs, records_report}
+use Rattle.bt_tool.specs.declared.genome.Genome.{Genome}
+use Rattle.bt_tool.proofs.FeedLemmas.{grows_both}
+use Rattle.bt_tool.proofs.TableLemmas.{refused_at_place}
+use Rattle.bt_tool.proofs.MergingLemmas.{consumes_short, line_no_read, memory_no_read, memory_no_write, placed_no_write, same_read, some_is, write_no_read}
+
+genome_no_first : FromGenome ≡ First → ⊥
+genome_no_first e = cc
+
+-- known bytes that are kept
+kept_known : (a b : Option (List ℕ)) (x : List ℕ) → a ≡ Some x → Keeps a b → b ≡ Some x
+kept_known None b x e k = cc
+kept_known (Some y) None x e k = absurd k
+kept_known (Some y) (Some z) x e k = ap Some k ∙ e
+
+-- what a sink took is a front of the output, where it's a front of what was put
+cut_front : (a took : Option (List ℕ)) (before front rest output : List ℕ) → a ≡ Some before → Grows a took → output ≡ front ++ rest → IsFrontOf took (Some (before ++ front)) []
+    → (front : List ℕ) × (rest : List ℕ) × (took ≡ Some (before ++ front)) × (output ≡ front ++ rest)
+cut_front None took before front rest output e g o f = cc
+cut_front (Some x) None before front rest output e g o f = absurd g.1
+cut_front (Some x) (Some y) before front rest output e g o f =
+    let same : x ≡ before = cc in
+    let grown : y ≡ before ++ g.0 = g.1 ∙ ap (λ l. l ++ g.0) same in
+    let joined : before ++ (g.0 ++ f.0) ≡ before ++ front = sym (append_assoc before g.0 f.0) ∙ ap (λ l. l ++ f.0) (sym grown) ∙ f.1 ∙ append-nil (before ++ front) in
+    let parts : g.0 ++ f.0 ≡ front = append_cancel_left before (g.0 ++ f.0) front joined in
+    (g.0, f.0 ++ rest, ap Some grown, o ∙ ap (λ l. l ++ rest) (sym parts) ∙ append_assoc g.0 f.0 rest)
+
+-- a fault that stands before a flush
+module _ (out mid new : Output) (fault answer : Option Told) where
+  front_by : (before output : List ℕ) → out.took ≡ Some before → Grows out.took mid.took → Grows mid.took new.took
+      → (fault ≢ Some write_failed → (front : List ℕ) × (rest : List ℕ) × (output ≡ front ++ rest) × (mid.put ≡ Some (before ++ front)))
+      → (fault ≡ Some write_failed → (front : List ℕ) × (rest : List ℕ) × (output ≡ front ++ rest) × IsFrontOf mid.took (Some (before ++ front)) [])
+      → (FlushesAll mid fault answer new ⊎ FlushFails mid fault answer new) ⊎ StaysFailed mid fault answer new
+      → (front : List ℕ) × (rest : List ℕ) × (new.took ≡ Some (before ++ front)) × (output ≡ front ++ rest)
+  front_by before output took grows more kept cut (inl (inl all)) =
+      let k = kept all.was in
+      (k.0, k.1, kept_known mid.put new.took (before ++ k.0) k.3 all.taken, k.2)
+  front_by before output took grows more kept cut (inl (inr fails)) =
+      let k = kept fails.was in
+      cut_front out.took new.took before k.0 k.1 output took (grows_both out.took mid.took new.took grows more) k.2 (subst (λ put. IsFrontOf new.took put []) k.3 fails.front)
+  front_by before output took grows more kept cut (inr stays) =
+      let c = cut stays.was in
+      cut_front out.took new.took before c.0 c.1 output took (grows_both out.took mid.took new.took grows more) c.2 (subst (λ (o : Output). IsFrontOf o.took (Some (before ++ c.0)) []) (sym stays.unchanged) c.3)
+
+  whole_by : (told : Option Told) (whole : List ℕ) → (mid.sink_has_failed ≡ false → fault ≢ Some no_memory → (fault ≡ told) × (mid.put ≡ Some whole)) → (fault ≡ Some write_failed → mid.sink_has_failed ≡ true)
+      → new.sink_has_failed ≡ false → answer ≢ Some no_memory → (FlushesAll mid fault answer new ⊎ FlushFails mid fault answer new) ⊎ StaysFailed mid fault answer new
+      → (answer ≡ told) × (new.took ≡ Some whole)
+  whole_by told whole gives writing served memory (inl (inl all)) =
+      let w = gives (sym all.sink_served ∙ served) (λ e. memory (all.same_fault ∙ e)) in
+      (all.same_fault ∙ w.0, kept_known mid.put new.took whole w.1 all.taken)
+  whole_by told whole gives writing served memory (inl (inr fails)) = absurd (false≢true (sym served ∙ fails.sink_failed))
+  whole_by told whole gives writing served memory (inr stays) =
+      absurd (false≢true (sym served ∙ ap (λ (o : Output). o.sink_has_failed) stays.unchanged ∙ writing stays.was))
+
+  writing_by : (fault ≡ Some write_failed → mid.sink_has_failed ≡ true) → answer ≡ Some write_failed → (FlushesAll mid fault answer new ⊎ FlushFails mid fault answer new) ⊎ StaysFailed mid fault answer new → new.sink_has_failed ≡ true
+  writing_by writing e (inl (inl all)) = absurd (all.was (sym all.same_fault ∙ e))
+  writing_by writing e (inl (inr fails)) = fails.sink_failed
+  writing_by writing e (inr stays) = ap (λ (o : Output). o.sink_has_failed) stays.unchanged ∙ writing stays.was
+
+  reading_by : (input : Input) (line : ℕ) → answer ≡ Some (read_failed input line) → (FlushesAll mid fault answer new ⊎ FlushFails mid fault answer new) ⊎ StaysFailed mid fault answer new → fault ≡ Some (read_failed input line)
+  reading_by input line e (inl (inl all)) = sym all.same_fault ∙ e
+  reading_by input line e (inl (inr fails)) = absurd (write_no_read input line (some_is write_failed (read_failed input line) (sym fails.is ∙ e)))
+  reading_by input line e (inr stays) = absurd (write_no_read input line (some_is write_failed (read_failed input line) (sym stays.is ∙ e)))
+
+module _ {G A K : Type 0} (g_left : G → Option (List ℕ)) (g_failed : G → Bool) (a_left : A → Option (List ℕ)) (a_failed : A → Bool) (k_took : K → Option (List ℕ)) (k_failed : K → Bool)
+    (genome : G) (first : A) (out : K) (reader : LineReader G) (source : source_of reader ≡ genome) (input : input_of reader ≡ FromGenome) (fresh : bytes_taken reader ≡ 0)
+    (lines : lines_left g_left reader ≡ option_map text_lines (g_left genome)) (read : LineReader G) (genome_after : G) (ended : source_of read ≡ genome_after)
+    (begun : Output) (put : begun.put ≡ k_took out) (took : begun.took ≡ k_took out) (new : Output) (out_after : K) (took_after : k_took out_after ≡ new.took) (failed_after : k_failed out_after ≡ new.sink_has_failed)
+    (answer : Option Told) where
+  abbrev GivesReport : A → Type 0
+  GivesReport first_after = Runs g_left g_failed a_left a_failed k_took k_failed genome first out answer genome_after first_after out_after
+
+  abbrev report_on : List ℕ → List ℕ → Report
+  report_on genome_text first_text = merge_on (genome_of FromGenome (text_lines genome_text)) first_text
+
+  -- what was read of the genome file, on its known text
+  at_genome : (text : List ℕ) (P : List TextLine → Type 0) → g_left genome ≡ Some text → IfSome (lines_left g_left reader) P → P (text_lines text)
+  at_genome text P e h = subst (λ o. IfSome o P) (lines ∙ ap (option_map text_lines) e) h
+
+  module _ (table : Genome) (reads : ReadsAll g_left g_failed reader read table) (mid : Output) (fault : Option Told) (first_after : A)
+      (merges : MergesRecords a_left a_failed (names_of table) first begun fault first_after mid) (flushes : Flushes mid fault answer new) where
+    same_report : (genome_text first_text : List ℕ) → g_left genome ≡ Some genome_text → report_on genome_text first_text ≡ records_report (names_of table) first_text
+    same_report genome_text first_text e =
+        let is = at_genome genome_text (λ lines. genome_of (input_of reader) lines ≡ Ok (entries table)) e reads.is in
+        ap (λ r. merge_on r first_text) (ap (λ i. genome_of i (text_lines genome_text)) (sym input) ∙ is)
+
+    pub gives_merged : GivesReport first_after
+    gives_merged = record {
+      whole = λ genome_text first_text before eg ea ek short_genome short_first served_genome served_first served_out memory.
+          let w = whole_by begun mid new fault answer (records_report (names_of table) first_text).fault (before ++ (records_report (names_of table) first_text).output)
+              (λ sink no_growth. merges.whole first_text before ea (put ∙ ek) short_first served_first sink no_growth)
+              merges.writing (sym failed_after ∙ served_out) memory flushes.ends in
+          subst (λ (r : Report). (answer ≡ r.fault) × (k_took out_after ≡ Some (before ++ r.output))) (sym (same_report genome_text first_text eg)) (w.0, took_after ∙ w.1);
+      front = λ genome_text first_text before eg ea ek.
+          let f = front_by begun mid new fault answer before (records_report (names_of table) first_text).output (took ∙ ek) merges.grows flushes.grows
+              (λ other. merges.kept other first_text before ea (put ∙ ek)) (λ is. merges.cut is first_text before ea (put ∙ ek)) flushes.ends in
+          (f.0, f.1, took_after ∙ f.2, ap (λ (r : Report). r.output) (same_report genome_text first_text eg) ∙ f.3);
+      writing = λ e. failed_after ∙ writing_by begun mid new fault answer merges.writing e flushes.ends;
+      reading_genome = λ line e. absurd (genome_no_first (merges.reading FromGenome line (reading_by begun mid new fault answer FromGenome line e flushes.ends)).0);
+      reading_first = λ line e. (merges.reading First line (reading_by begun mid new fault answer First line e flushes.ends)).1;
+    }
+
+  module _ (fault : Told) (flushes : Flushes begun (Some fault) answer new) where
+    abbrev Wrong : Type 0
+    Wrong = LineAtFault g_left g_failed reader read fault ⊎ (ReadingFails g_left g_failed reader read fault ⊎ MemoryRanOut g_failed reader read fault)
+
+    no_write : Wrong → fault ≡ write_failed → ⊥
+    no_write (inl at) e = placed_no_write (input_of reader) (lines_given read) at.kind (sym at.place ∙ e)
+    no_write (inr (inl fails)) e = placed_no_write (input_of reader) (suc (lines_given read)) ReadFailed (sym fails.is ∙ e)
+    no_write (inr (inr ran)) e = memory_no_write (sym ran.is ∙ e)
+
+    passed : Hands g_left reader read → 2 ^ 63 ≤ bytes_taken read → PassesBound (g_left genome) (g_left genome_after)
+    passed hands past =
+        let handed : Consumes (g_left genome) (g_left genome_after) hands.0 = subst (λ s. Consumes (g_left genome) (g_left s) hands.0) ended (subst (λ s. Consumes (g_left s) (g_left (source_of read)) hands.0) source hands.1) in
+        (hands.0, handed, omega (arith, past, hands.2, fresh))
+
+    read_cause : Wrong → (i : Input) (line : ℕ) → fault ≡ read_failed i line → (i ≡ FromGenome) × ((g_failed genome_after ≡ true) ⊎ PassesBound (g_left genome) (g_left genome_after))
+    read_cause (inl at) i line e = absurd (line_no_read (input_of reader) (lines_given read) at.kind i line (refused_at_place at.names at.text at.kind at.says) (sym at.place ∙ e))
+    read_cause (inr (inl fails)) i line e =
+        (sym (same_read (input_of reader) i (suc (lines_given read)) line (sym fails.is ∙ e)) ∙ input, ⊎_elim (λ failed. inl (ap g_failed (sym ended) ∙ failed)) (λ past. inr (passed fails.bytes past)) fails.cause)
+    read_cause (inr (inr ran)) i line e = absurd (memory_no_read i line (sym ran.is ∙ e))
+
+    -- the genome file's fault is the report's
+    wrong_whole : (genome_text first_text before : List ℕ) → g_left genome ≡ Some genome_text → k_took out ≡ Some before → length genome_text < 2 ^ 63 → g_failed genome_after ≡ false → Some fault ≢ Some no_memory → Wrong
+        → (Some fault ≡ (report_on genome_text first_text).fault) × (begun.put ≡ Some (before ++ (report_on genome_text first_text).output))
+    wrong_whole genome_text first_text before eg ek short served memory (inl at) =
+        let is = at_genome genome_text (λ lines. genome_of (input_of reader) lines ≡ Err fault) eg at.is in
+        let same : report_on genome_text first_text ≡ record { output = []; fault = Some fault } = ap (λ r. merge_on r first_text) (ap (λ i. genome_of i (text_lines genome_text)) (sym input) ∙ is) in
+        subst (λ (r : Report). (Some fault ≡ r.fault) × (begun.put ≡ Some (before ++ r.output))) (sym same) (refl, put ∙ ek ∙ ap Some (sym (append-nil before)))
+    wrong_whole genome_text first_text before eg ek short served memory (inr (inl fails)) =
+        absurd (⊎_elim (λ failed. false≢true (sym served ∙ ap g_failed (sym ended) ∙ failed))
+        (λ past. let few = consumes_short (g_left (source_of reader)) (g_left (source_of read)) fails.bytes.0 genome_text (ap g_left source ∙ eg) fails.bytes.1 in omega (arith, few, short, past, fails.bytes.2, fresh)) fails.cause)
+    wrong_whole genome_text first_text before eg ek short served memory (inr (inr ran)) = absurd (memory (ap Some ran.is))
+
+    pub gives_wrong : Wrong → GivesReport first
+    gives_wrong wrong = record {
+      whole = λ genome_text first_text before eg ea ek short_genome short_first served_genome served_first served_out memory.
+          let w = whole_by begun begun new (Some fault) answer (report_on genome_text first_text).fault (before ++ (report_on genome_text first_text).output)
+              (λ sink no_growth. wrong_whole genome_text first_text before eg ek short_genome served_genome no_growth wrong)
+              (λ e. absurd (no_write wrong (some_is fault write_failed e))) (sym failed_after ∙ served_out) memory flushes.ends in
+          (w.0, took_after ∙ w.1);
+      front = λ genome_text first_text before eg ea ek.
+          let f = front_by begun begun new (Some fault) answer before (report_on genome_text first_text).output (took ∙ ek) ([], Appends-nil begun.took) flushes.grows
+              (λ other. ([], (report_on genome_text first_text).output, refl, put ∙ ek ∙ ap Some (sym (append-nil before)))) (λ is. absurd (no_write wrong (some_is fault write_failed is))) flushes.ends in
+          (f.0, f.1, took_after ∙ f.2, f.3);
+      writing = λ e. failed_after ∙ writing_by begun begun new (Some fault) answer (λ is. absurd (no_write wrong (some_is fault write_failed is))) e flushes.ends;
+      reading_genome = λ line e. (read_cause wrong FromGenome line (some_is fault (read_failed FromGenome line) (reading_by begun begun new (Some fault) answer FromGenome line e flushes.ends))).1;
+      reading_first = λ line e. absurd (genome_no_first (sym (read_cause wrong First line (some_is fault (read_failed First line) (reading_by begun begun new (Some fault) answer First line e flushes.ends))).0));
+    }
