@@ -16,8 +16,11 @@ use Rattle.bt_lines.specs.declared.line_reader.LineReader.{LineReader}
 use Rattle.bt_tool.specs.Flushing.{Flushes, FlushesAll, FlushFails, StaysFailed}
 use Rattle.bt_tool.specs.Genome.{genome_of}
 use Rattle.bt_tool.specs.GenomeTable.{Hands, ReadsAll, LineAtFault, ReadingFails, MemoryRanOut, entries, names_of}
-use Rattle.bt_tool.specs.Report.{Report, merge_on}
-use Rattle.bt_tool.specs.RunMerge.{MergesRecords, PassesBound, Runs, records_report}
+use Rattle.bt_tool.specs.Report.{Report, merge_on, report_of}
+use Rattle.bt_tool.specs.Options.{PlanSeen}
+use Rattle.bt_tool.specs.declared.plan_type.Command.{Command}
+use Rattle.bt_tool.specs.declared.plan_type.Command.TheVariants.{Merge}
+use Rattle.bt_tool.specs.RunMerge.{Gives, MergesRecords, PassesBound, Runs, RunsPlan, records_report}
 use Rattle.bt_tool.specs.declared.genome.Genome.{Genome}
 use Rattle.bt_tool.proofs.FeedLemmas.{grows_both}
 use Rattle.bt_tool.proofs.TableLemmas.{refused_at_place}
@@ -166,3 +169,22 @@ module _ {G A K : Type 0} (g_left : G → Option (List ℕ)) (g_failed : G → B
       reading_genome = λ line e. (read_cause wrong FromGenome line (some_is fault (read_failed FromGenome line) (reading_by begun begun new (Some fault) answer FromGenome line e flushes.ends))).1;
       reading_first = λ line e. absurd (genome_no_first (sym (read_cause wrong First line (some_is fault (read_failed First line) (reading_by begun begun new (Some fault) answer First line e flushes.ends))).0));
     }
+
+module _ {G A K : Type 0} (g_left : G → Option (List ℕ)) (g_failed : G → Bool) (a_left : A → Option (List ℕ)) (a_failed : A → Bool) (k_took : K → Option (List ℕ)) (k_failed : K → Bool) where
+  same_some : (a b : G) → Some a ≡ Some b → a ≡ b
+  same_some a b e = cc
+
+  gives_by : (command : Command) (genome : G) (first : A) (out : K) (fault : Option Told) (back : G) (first_after : A) (out_after : K)
+      → Runs g_left g_failed a_left a_failed k_took k_failed genome first out fault back first_after out_after
+      → Gives g_left g_failed a_left a_failed k_took k_failed (λ genome first. report_of command genome first []) genome first out fault back first_after out_after
+  unfolding report_of
+  gives_by Merge genome first out fault back first_after out_after runs = runs
+
+  -- a run of a plan is a run of its command
+  pub runs_plan : (plan : PlanSeen) (genome : Option G) (given : G) (first : A) (out : K) (fault : Option Told) (back : G) (first_after : A) (out_after : K) → genome ≡ Some given
+      → Runs g_left g_failed a_left a_failed k_took k_failed given first out fault back first_after out_after
+      → RunsPlan g_left g_failed a_left a_failed k_took k_failed plan genome first out fault (Some back) first_after out_after
+  runs_plan plan genome given first out fault back first_after out_after e runs was after f h =
+      let gives = gives_by plan.command given first out fault back first_after out_after runs in
+      subst (λ it. Gives g_left g_failed a_left a_failed k_took k_failed (λ genome first. report_of plan.command genome first []) it first out fault after first_after out_after) (same_some given was (sym e ∙ f))
+      (subst (λ it. Gives g_left g_failed a_left a_failed k_took k_failed (λ genome first. report_of plan.command genome first []) given first out fault it first_after out_after) (same_some back after h) gives)
