@@ -58,7 +58,7 @@ distinct_with input line names rest d h (Ok (Some entry)) was entries e =
     let new = is_new names (entry_of line.text) entry was in
     let more = h (names ++ entry.name ∷ []) (distinct_push names entry.name d new) parts.0 parts.1 in
     let joined : names ++ genome_names entries ≡ (names ++ entry.name ∷ []) ++ genome_names parts.0 =
-        ap (λ l. names ++ genome_names l) parts.2 ∙ sym (append_assoc names (entry.name ∷ []) (genome_names parts.0)) in
+    ap (λ l. names ++ genome_names l) parts.2 ∙ sym (append_assoc names (entry.name ∷ []) (genome_names parts.0)) in
     rw joined more
 
 distinct_from : (input : Input) (names : List (List ℕ)) (lines : List TextLine) → AreDistinct names → KeepsDistinct names (genome_from input names lines)

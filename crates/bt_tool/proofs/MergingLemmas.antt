@@ -187,9 +187,12 @@ module _ {S : Type 0} (left : S → Option (List ℕ)) (failed : S → Bool) (na
     pub merges_cut : (fault : Told) → fault ≡ write_failed → (lines : List ℕ) × AreUnsettled 0 fed.past lines × IsFrontOf finished.took grown.put lines → finished.sink_has_failed ≡ true → Ends (Some fault)
     merges_cut fault is front sink_failed = record {
       whole = λ text before e put short served sink memory. absurd (false≢true (sym sink ∙ sink_failed));
-      cut = λ written text before e put.
-          (merged_lines 0 fed.past, [], (report_whole text e).1 ∙ sym (append-nil (merged_lines 0 fed.past)),
-           (front_all finished.took grown.put before (settled_lines 0 fed.past) front.0 (merged_lines 0 fed.past) front.1 (fed.puts before put) front.2));
+      cut = λ written text before e put. (
+        merged_lines 0 fed.past,
+        [],
+        (report_whole text e).1 ∙ sym (append-nil (merged_lines 0 fed.past)),
+        (front_all finished.took grown.put before (settled_lines 0 fed.past) front.0 (merged_lines 0 fed.past) front.1 (fed.puts before put) front.2),
+      );
       kept = λ other. absurd (other (ap Some is));
       grows = grows_both out.took grown.took finished.took fed.took.grows grows;
       writing = λ e. sink_failed;

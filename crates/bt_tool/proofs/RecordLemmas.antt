@@ -21,7 +21,7 @@ pub value_at_most : (text : List ℕ) (n : ℕ) → value_of text ≡ Some n →
 unfolding value_of
 value_at_most text n e =
     some_of (is_number text) (digits_value 10 text) n
-        (λ yes. leb-true (digits_value 10 text) 999999999999 (last_of_both (ltb 0 (length text) && list_all is_ascii_digit text) (leb (digits_value 10 text) 999999999999) yes)) e
+    (λ yes. leb-true (digits_value 10 text) 999999999999 (last_of_both (ltb 0 (length text) && list_all is_ascii_digit text) (leb (digits_value 10 text) 999999999999) yes)) e
 
 -- a blank line says nothing
 pub blank_says : (text : List ℕ) → length text ≡ 0 → record_of text ≡ Ok None

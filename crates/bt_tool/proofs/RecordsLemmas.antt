@@ -218,7 +218,7 @@ module _ {S : Type 0} (left : S → Option (List ℕ)) (failed : S → Bool) whe
     -- the old reader had no fault
     was_faultless : (now : RecordReader S) → Going left failed old now → line_fault (below now) ≡ None → fault_kept old ≡ None
     was_faultless now g going = elim g.begun [
-      inl same ↦ no_fault_kept old g.had_no_fault (ap (λ it. line_fault (below it)) (sym same) ∙ going)
+      | inl same ↦ no_fault_kept old g.had_no_fault (ap (λ it. line_fault (below it)) (sym same) ∙ going)
       | inr begun ↦ no_fault_kept old g.had_no_fault begun.was_going
     ]
 
@@ -302,7 +302,7 @@ module _ {S : Type 0} (left : S → Option (List ℕ)) (failed : S → Bool) whe
         let counted : line.number ≡ lines_given (below new) = gives.number ∙ sym gives.counted in
         let before = good_is now None g.no_fault gives.was_going.0 g.none_ahead in
         let none : IfSome (good_left left now) (λ good. good ≡ ends_with (Some (fault_at_line (input_of (below now)) line.number wrong.kind))) =
-            rw before (good_fault (input_of (below now)) (names_in now) (last_record now) line (lines_left left (below now)) (lines_left left (below new)) wrong.kind gives.first wrong.says) in
+        rw before (good_fault (input_of (below now)) (names_in now) (last_record now) line (lines_left left (below now)) (lines_left left (below new)) wrong.kind gives.first wrong.says) in
         let none_at : IfSome (good_left left now) (λ good. good ≡ ends_with (Some fault)) = rw is (rw g.input at none) in
         record {
           none_left = remains_if (good_left left old) (good_left left now) (λ good. good ≡ ends_with (Some fault)) g.good none_at;

@@ -110,12 +110,12 @@ module _ {G A K : Type 0} (g_left : G → Option (List ℕ)) (g_failed : G → B
     gives_merged = record {
       whole = λ genome_text first_text before eg ea ek short_genome short_first served_genome served_first served_out memory.
           let w = whole_by begun mid new fault answer (records_report (names_of table) first_text).fault (before ++ (records_report (names_of table) first_text).output)
-              (λ sink no_growth. merges.whole first_text before ea (put ∙ ek) short_first served_first sink no_growth)
-              merges.writing (sym failed_after ∙ served_out) memory flushes.ends in
+          (λ sink no_growth. merges.whole first_text before ea (put ∙ ek) short_first served_first sink no_growth)
+          merges.writing (sym failed_after ∙ served_out) memory flushes.ends in
           subst (λ (r : Report). (answer ≡ r.fault) × (k_took out_after ≡ Some (before ++ r.output))) (sym (same_report genome_text first_text eg)) (w.0, took_after ∙ w.1);
       front = λ genome_text first_text before eg ea ek.
           let f = front_by begun mid new fault answer before (records_report (names_of table) first_text).output (took ∙ ek) merges.grows flushes.grows
-              (λ other. merges.kept other first_text before ea (put ∙ ek)) (λ is. merges.cut is first_text before ea (put ∙ ek)) flushes.ends in
+          (λ other. merges.kept other first_text before ea (put ∙ ek)) (λ is. merges.cut is first_text before ea (put ∙ ek)) flushes.ends in
           (f.0, f.1, took_after ∙ f.2, ap (λ (r : Report). r.output) (same_report genome_text first_text eg) ∙ f.3);
       writing = λ e. failed_after ∙ writing_by begun mid new fault answer merges.writing e flushes.ends;
       reading_genome = λ line e. absurd (genome_no_first (merges.reading FromGenome line (reading_by begun mid new fault answer FromGenome line e flushes.ends)).0);
@@ -158,12 +158,12 @@ module _ {G A K : Type 0} (g_left : G → Option (List ℕ)) (g_failed : G → B
     gives_wrong wrong = record {
       whole = λ genome_text first_text before eg ea ek short_genome short_first served_genome served_first served_out memory.
           let w = whole_by begun begun new (Some fault) answer (report_on genome_text first_text).fault (before ++ (report_on genome_text first_text).output)
-              (λ sink no_growth. wrong_whole genome_text first_text before eg ek short_genome served_genome no_growth wrong)
-              (λ e. absurd (no_write wrong (some_is fault write_failed e))) (sym failed_after ∙ served_out) memory flushes.ends in
+          (λ sink no_growth. wrong_whole genome_text first_text before eg ek short_genome served_genome no_growth wrong)
+          (λ e. absurd (no_write wrong (some_is fault write_failed e))) (sym failed_after ∙ served_out) memory flushes.ends in
           (w.0, took_after ∙ w.1);
       front = λ genome_text first_text before eg ea ek.
           let f = front_by begun begun new (Some fault) answer before (report_on genome_text first_text).output (took ∙ ek) ([], Appends-nil begun.took) flushes.grows
-              (λ other. ([], (report_on genome_text first_text).output, refl, put ∙ ek ∙ ap Some (sym (append-nil before)))) (λ is. absurd (no_write wrong (some_is fault write_failed is))) flushes.ends in
+          (λ other. ([], (report_on genome_text first_text).output, refl, put ∙ ek ∙ ap Some (sym (append-nil before)))) (λ is. absurd (no_write wrong (some_is fault write_failed is))) flushes.ends in
           (f.0, f.1, took_after ∙ f.2, f.3);
       writing = λ e. failed_after ∙ writing_by begun begun new (Some fault) answer (λ is. absurd (no_write wrong (some_is fault write_failed is))) e flushes.ends;
       reading_genome = λ line e. (read_cause wrong FromGenome line (some_is fault (read_failed FromGenome line) (reading_by begun begun new (Some fault) answer FromGenome line e flushes.ends))).1;

@@ -225,9 +225,11 @@ module _ {S : Type 0} (left : S → Option (List ℕ)) (failed : S → Bool) (ol
   distinct_line text genome grown d added = rw added.added (distinct_more (entries genome) (entry_of text) added.entry d added.says)
 
   both : (now next : LineReader S) → Hands left old now → (bytes : List ℕ) × HandsBytes left now bytes next → Hands left old next
-  both now next h more =
-      (h.0 ++ more.0, Consumes-trans (left (source_of old)) (left (source_of now)) (left (source_of next)) h.0 more.0 h.1 more.1.left_over,
-       omega (arith, h.2, more.1.counted, length-append h.0 more.0))
+  both now next h more = (
+    h.0 ++ more.0,
+    Consumes-trans (left (source_of old)) (left (source_of now)) (left (source_of next)) h.0 more.0 h.1 more.1.left_over,
+    omega (arith, h.2, more.1.counted, length-append h.0 more.0),
+  )
 
   handed : (now next : LineReader S) (line : TextLine) → Hands left old now → GivesLine left failed now line next → Hands left old next
   handed now next line h gives = both now next h (gives.bytes.0, gives.bytes.1)

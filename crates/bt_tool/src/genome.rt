@@ -38,7 +38,10 @@ pub(crate) struct Genome {
 impl Genome {
     /// Reads a genome file to its end. A line that couldn't be read is told before what is wrong with
     /// it, and want of memory for the table after.
-    pub(crate) fn read<S: Source>(alloc: Global, reader: &mut LineReader<S>) -> Result<Genome, Fault>
+    pub(crate) fn read<S: Source>(
+        alloc: Global,
+        reader: &mut LineReader<S>,
+    ) -> Result<Genome, Fault>
         requires { fault_kept reader.old ≡ None }
         ensures { ReadsGenome S.left S.has_failed reader.old result reader.new }
     {

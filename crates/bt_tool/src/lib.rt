@@ -26,3 +26,6 @@ pub use outcome::Outcome;
 pub use plan_type::{Command, Plan};
 pub use running::{Ended, run};
 pub use usage::{Refusal, Usage, usage_line};
+
+#[cfg(test)]
+mod tests;

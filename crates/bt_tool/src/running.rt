@@ -15,7 +15,7 @@ use std::alloc::Global;
 
 /// How a run ended, and the devices that it was given: `genome` and `second` are there exactly where
 /// they were.
-#[derive(Debug)]
+#[derive(Debug, Drop)]
 pub struct Ended<G, A, B, K> {
     pub outcome: Outcome,
     pub genome: Option<G>,

@@ -1,5 +1,5 @@
 use super::*;
-use crate::laws::{division, worked_cases};
+use crate::option_laws::{division, worked_cases};
 use crate::usage::usage_line;
 use std::test::Fail;
 

@@ -14,8 +14,8 @@ pub returns-in_err-record : goal.returns-in_err-record
 returns-in_err-record g c =
     let gives = rw c.in_err-record.was at c.peek.follows.holds-at-none in
     passed_on (λ r. Feeds g.S.Source.left g.S.Source.has_failed c.args.records.now c.args.out.now r c.peek.follows.lender-at-none c.loop-record.merge c.loop-record.out) c.from_residual.result c.in_err-record.field-0.0
-        c.from_residual.ensures.1
-        (stops_reading _ _ c.args.records.now c.args.out.now c.loop-record.records c.loop-record.merge c.loop-record.out c.loop-record.invariant c.peek.follows.lender-at-none (told c.in_err-record.field-0.0) gives.answers)
+    c.from_residual.ensures.1
+    (stops_reading _ _ c.args.records.now c.args.out.now c.loop-record.records c.loop-record.merge c.loop-record.out c.loop-record.invariant c.peek.follows.lender-at-none (told c.in_err-record.field-0.0) gives.answers)
 
 pub returns-in_err-feed : goal.returns-in_err-feed
 returns-in_err-feed g c =
@@ -25,9 +25,9 @@ returns-in_err-feed g c =
     let comes = comes_next _ _ c.args.records.now c.args.out.now c.loop-record.records c.loop-record.merge c.loop-record.out now c.peek.follows.lender-at-none r gives.answers in
     let said = c.in_err-feed.ensures in
     passed_on (λ r. Feeds g.S.Source.left g.S.Source.has_failed c.args.records.now c.args.out.now r c.peek.follows.lender-at-none c.feed.new.self c.feed.new.out) c.from_residual-in_err-feed.result c.in_err-feed.field-0.0
-        c.from_residual-in_err-feed.ensures.1
-        (stops_feeding _ _ c.args.records.now c.args.out.now c.loop-record.records c.loop-record.merge c.loop-record.out now c.peek.follows.lender-at-none r gives.answers
-        (told c.in_err-feed.field-0.0) c.feed.new.out said.fault (said.front 0 now.past now.stands comes now.block) (said.write now.stands.going) (said.settles 0 now.past now.stands comes) said.memory c.feed.ensures.grows)
+    c.from_residual-in_err-feed.ensures.1
+    (stops_feeding _ _ c.args.records.now c.args.out.now c.loop-record.records c.loop-record.merge c.loop-record.out now c.peek.follows.lender-at-none r gives.answers
+    (told c.in_err-feed.field-0.0) c.feed.new.out said.fault (said.front 0 now.past now.stands comes now.block) (said.write now.stands.going) (said.settles 0 now.past now.stands comes) said.memory c.feed.ensures.grows)
 
 pub loop-record-preserved : goal.loop-record-preserved
 loop-record-preserved g c =
@@ -36,9 +36,9 @@ loop-record-preserved g c =
     let now = c.loop-record.invariant in
     let comes = comes_next _ _ c.args.records.now c.args.out.now c.loop-record.records c.loop-record.merge c.loop-record.out now c.peek.follows.lender-at-none r gives.answers in
     going_more _ _ c.args.records.now c.args.out.now c.loop-record.records c.loop-record.merge c.loop-record.out now c.peek.follows.lender-at-none r gives.answers
-        c.advance.new.self c.feed.new.self c.feed.new.out c.advance.ensures
-        (c.in_ok-feed.ensures.stands 0 now.past now.stands comes) (λ before e. c.in_ok-feed.ensures.text 0 now.past before now.stands comes e)
-        c.in_ok-feed.ensures.served c.feed.ensures.grows
+    c.advance.new.self c.feed.new.self c.feed.new.out c.advance.ensures
+    (c.in_ok-feed.ensures.stands 0 now.past now.stands comes) (λ before e. c.in_ok-feed.ensures.text 0 now.past before now.stands comes e)
+    c.in_ok-feed.ensures.served c.feed.ensures.grows
 
 pub returns : goal.returns
 returns g c =

@@ -18,13 +18,13 @@ returns-in-Err g c =
     let left = g.A.Source.left in
     let names = names_of c.args.genome.now in
     let known : good_left left records.result ≡ option_map (good First names) (option_map text_lines (left c.args.first)) =
-        good_start left names c.args.first reader.result records.result reader.ensures.going.0 reader.ensures.input reader.ensures.lines records.ensures.good in
+    good_start left names c.args.first reader.result records.result reader.ensures.going.0 reader.ensures.input reader.ensures.lines records.ensures.good in
     let source = ap source_of records.ensures.below ∙ reader.ensures.source in
     let input = ap input_of records.ensures.below ∙ reader.ensures.input in
     let fresh = ap bytes_taken records.ensures.below ∙ reader.ensures.none_taken.0 in
     let ended = sym (c.into_source-first.ensures ∙ ap source_of c.into_reader.ensures) in
     merges_fault left g.A.Source.has_failed names c.requires.distinct records.result c.args.first c.args.out.now records.ensures.names known source input fresh c.feed_all-fed.new.records c.into_source-first.result ended
-        (told c.in-Err.fault) c.feed_all-fed.new.out c.in-Err.ensures
+    (told c.in-Err.fault) c.feed_all-fed.new.out c.in-Err.ensures
 
 pub returns-in-Err-finish : goal.returns-in-Err-finish
 returns-in-Err-finish g c =
@@ -33,7 +33,7 @@ returns-in-Err-finish g c =
     let left = g.A.Source.left in
     let names = names_of c.args.genome.now in
     let known : good_left left records.result ≡ option_map (good First names) (option_map text_lines (left c.args.first)) =
-        good_start left names c.args.first reader.result records.result reader.ensures.going.0 reader.ensures.input reader.ensures.lines records.ensures.good in
+    good_start left names c.args.first reader.result records.result reader.ensures.going.0 reader.ensures.input reader.ensures.lines records.ensures.good in
     let source = ap source_of records.ensures.below ∙ reader.ensures.source in
     let input = ap input_of records.ensures.below ∙ reader.ensures.input in
     let fresh = ap bytes_taken records.ensures.below ∙ reader.ensures.none_taken.0 in
@@ -41,8 +41,8 @@ returns-in-Err-finish g c =
     let fed = c.in_default.ensures in
     let said = c.in-Err-finish.ensures in
     merges_cut left g.A.Source.has_failed names c.requires.distinct records.result c.args.first c.args.out.now records.ensures.names known source input fresh c.feed_all-fed.new.records c.into_source-first.result ended
-        c.feed_all-fed.new.merge c.feed_all-fed.new.out fed c.finish.new.out c.finish.ensures.grows
-        (told c.in-Err-finish.fault) (said.fault fed.stands.going) (said.front 0 fed.past fed.stands (placed_together (names_in records.result) fed.past fed.took.placed) fed.took.full) (said.write fed.stands.going).1
+    c.feed_all-fed.new.merge c.feed_all-fed.new.out fed c.finish.new.out c.finish.ensures.grows
+    (told c.in-Err-finish.fault) (said.fault fed.stands.going) (said.front 0 fed.past fed.stands (placed_together (names_in records.result) fed.past fed.took.placed) fed.took.full) (said.write fed.stands.going).1
 
 pub returns : goal.returns
 returns g c =
@@ -51,12 +51,12 @@ returns g c =
     let left = g.A.Source.left in
     let names = names_of c.args.genome.now in
     let known : good_left left records.result ≡ option_map (good First names) (option_map text_lines (left c.args.first)) =
-        good_start left names c.args.first reader.result records.result reader.ensures.going.0 reader.ensures.input reader.ensures.lines records.ensures.good in
+    good_start left names c.args.first reader.result records.result reader.ensures.going.0 reader.ensures.input reader.ensures.lines records.ensures.good in
     let source = ap source_of records.ensures.below ∙ reader.ensures.source in
     let input = ap input_of records.ensures.below ∙ reader.ensures.input in
     let fresh = ap bytes_taken records.ensures.below ∙ reader.ensures.none_taken.0 in
     let ended = sym (c.into_source-first.ensures ∙ ap source_of c.into_reader.ensures) in
     let fed = c.in_default.ensures in
     merges_all left g.A.Source.has_failed names c.requires.distinct records.result c.args.first c.args.out.now records.ensures.names known source input fresh c.feed_all-fed.new.records c.into_source-first.result ended
-        c.feed_all-fed.new.merge c.feed_all-fed.new.out fed c.finish.new.out c.finish.ensures.grows
-        (λ before e. c.in_default-finish.ensures.text 0 fed.past before fed.stands (placed_together (names_in records.result) fed.past fed.took.placed) fed.took.full e)
+    c.feed_all-fed.new.merge c.feed_all-fed.new.out fed c.finish.new.out c.finish.ensures.grows
+    (λ before e. c.in_default-finish.ensures.text 0 fed.past before fed.stands (placed_together (names_in records.result) fed.past fed.took.placed) fed.took.full e)

@@ -11,19 +11,19 @@ returns-in-Ok g c =
     let reader = c.new-lines in
     let begun = c.new-out in
     gives_merged g.G.Source.left g.G.Source.has_failed g.A.Source.left g.A.Source.has_failed g.K.Sink.took g.K.Sink.has_failed
-        c.args.genome c.args.first c.args.out reader.result reader.ensures.source reader.ensures.input reader.ensures.none_taken.0 reader.ensures.lines
-        c.read.new.reader c.into_source.result (sym c.into_source.ensures)
-        begun.result (ap (λ (o : Output). o.put) begun.ensures) (ap (λ (o : Output). o.took) begun.ensures) c.flushed-fault.new.out c.into_sink.result c.into_sink.ensures.took c.into_sink.ensures.failed
-        (option_map told c.flushed-fault.result)
-        c.in-Ok.table c.in-Ok.ensures c.merge_records-fault.new.out (option_map told c.merge_records-fault.result.0) c.merge_records-fault.result.1 c.merge_records-fault.ensures c.flushed-fault.ensures
+    c.args.genome c.args.first c.args.out reader.result reader.ensures.source reader.ensures.input reader.ensures.none_taken.0 reader.ensures.lines
+    c.read.new.reader c.into_source.result (sym c.into_source.ensures)
+    begun.result (ap (λ (o : Output). o.put) begun.ensures) (ap (λ (o : Output). o.took) begun.ensures) c.flushed-fault.new.out c.into_sink.result c.into_sink.ensures.took c.into_sink.ensures.failed
+    (option_map told c.flushed-fault.result)
+    c.in-Ok.table c.in-Ok.ensures c.merge_records-fault.new.out (option_map told c.merge_records-fault.result.0) c.merge_records-fault.result.1 c.merge_records-fault.ensures c.flushed-fault.ensures
 
 pub returns-in-Err : goal.returns-in-Err
 returns-in-Err g c =
     let reader = c.new-lines in
     let begun = c.new-out in
     gives_wrong g.G.Source.left g.G.Source.has_failed g.A.Source.left g.A.Source.has_failed g.K.Sink.took g.K.Sink.has_failed
-        c.args.genome c.args.first c.args.out reader.result reader.ensures.source reader.ensures.input reader.ensures.none_taken.0 reader.ensures.lines
-        c.read.new.reader c.into_source-in-Err.result (sym c.into_source-in-Err.ensures)
-        begun.result (ap (λ (o : Output). o.put) begun.ensures) (ap (λ (o : Output). o.took) begun.ensures) c.flushed-fault-in-Err.new.out c.into_sink-in-Err.result c.into_sink-in-Err.ensures.took c.into_sink-in-Err.ensures.failed
-        (option_map told c.flushed-fault-in-Err.result)
-        (told c.in-Err.fault) c.flushed-fault-in-Err.ensures c.in-Err.ensures
+    c.args.genome c.args.first c.args.out reader.result reader.ensures.source reader.ensures.input reader.ensures.none_taken.0 reader.ensures.lines
+    c.read.new.reader c.into_source-in-Err.result (sym c.into_source-in-Err.ensures)
+    begun.result (ap (λ (o : Output). o.put) begun.ensures) (ap (λ (o : Output). o.took) begun.ensures) c.flushed-fault-in-Err.new.out c.into_sink-in-Err.result c.into_sink-in-Err.ensures.took c.into_sink-in-Err.ensures.failed
+    (option_map told c.flushed-fault-in-Err.result)
+    (told c.in-Err.fault) c.flushed-fault-in-Err.ensures c.in-Err.ensures

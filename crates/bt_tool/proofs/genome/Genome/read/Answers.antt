@@ -22,17 +22,17 @@ pub returns-in_err-add_line : goal.returns-in_err-add_line
 returns-in_err-add_line g c =
     let gives = rw (c.in_ok-line.was, c.in-Some.is) at c.next.follows.holds-at-none in
     let at : ◌≡◌ {A = Place} (record { input = c.input-input.result; line = c.in-Some.line.number }) (record { input = input_of c.args.reader.now; line = c.in-Some.line.number }) =
-        ap (λ (i : Input). record { input = i; line = c.in-Some.line.number }) c.loop-genome.invariant.1 in
+    ap (λ (i : Input). record { input = i; line = c.in-Some.line.number }) c.loop-genome.invariant.1 in
     passed_on (λ r. ReadsGenome g.S.Source.left g.S.Source.has_failed c.args.reader.now r c.next.follows.lender-at-none) c.from_residual-in_err-add_line.result c.in_err-add_line.field-0.0
-        c.from_residual-in_err-add_line.ensures.1
-        (going_err _ _ c.args.reader.now c.loop-genome.reader c.next.follows.lender-at-none (line_seen c.in-Some.line) c.loop-genome.genome _ (told c.in_err-add_line.field-0.0) c.loop-genome.invariant.0 gives.answers at c.in_err-add_line.ensures.refused)
+    c.from_residual-in_err-add_line.ensures.1
+    (going_err _ _ c.args.reader.now c.loop-genome.reader c.next.follows.lender-at-none (line_seen c.in-Some.line) c.loop-genome.genome _ (told c.in_err-add_line.field-0.0) c.loop-genome.invariant.0 gives.answers at c.in_err-add_line.ensures.refused)
 
 pub returns-in_err-line : goal.returns-in_err-line
 returns-in_err-line g c =
     let gives = rw c.in_err-line.was at c.next.follows.holds-at-none in
     passed_on (λ r. ReadsGenome g.S.Source.left g.S.Source.has_failed c.args.reader.now r c.next.follows.lender-at-none) c.from_residual.result c.in_err-line.field-0.0
-        c.from_residual.ensures.1
-        (inr (going_fault _ _ c.args.reader.now c.loop-genome.reader c.next.follows.lender-at-none c.loop-genome.genome (told c.in_err-line.field-0.0) c.loop-genome.invariant.0 gives.answers))
+    c.from_residual.ensures.1
+    (inr (going_fault _ _ c.args.reader.now c.loop-genome.reader c.next.follows.lender-at-none c.loop-genome.genome (told c.in_err-line.field-0.0) c.loop-genome.invariant.0 gives.answers))
 
 pub returns : goal.returns
 returns g c =

@@ -14,8 +14,8 @@ unfolding below
 returns-in_err-line g c =
     let gives = rw c.in_err-line.was at c.next.follows.holds-at-none in
     passed_on (λ r. Stepped g.S.Source.left g.S.Source.has_failed c.args.self.now r (moved c.loop-line.self c.next.follows.lender-at-none c.loop-line.self.track)) c.from_residual.result c.in_err-line.field-0.0
-        c.from_residual.ensures.1
-        (going_unread _ _ c.args.self.now c.loop-line.self c.next.follows.lender-at-none (told c.in_err-line.field-0.0) c.loop-line.invariant.0 gives.answers)
+    c.from_residual.ensures.1
+    (going_unread _ _ c.args.self.now c.loop-line.self c.next.follows.lender-at-none (told c.in_err-line.field-0.0) c.loop-line.invariant.0 gives.answers)
 
 pub take_line-requires : goal.take_line-requires
 unfolding record_ahead
@@ -40,7 +40,7 @@ unfolding below
 returns-in-Err g c =
     let gives = rw (c.in_ok-line.was, c.in-Some.is) at c.next.follows.holds-at-none in
     let at : ◌≡◌ {A = Place} (record { input = c.input-input.result; line = c.in-Some.line.number }) (record { input = input_of (below c.args.self.now); line = c.in-Some.line.number }) =
-        ap (λ (i : Input). record { input = i; line = c.in-Some.line.number }) c.loop-line.invariant.1 in
+    ap (λ (i : Input). record { input = i; line = c.in-Some.line.number }) c.loop-line.invariant.1 in
     going_lost _ _ c.args.self.now c.loop-line.self (line_seen c.in-Some.line) c.next.follows.lender-at-none c.take_line.new.self _ c.in-Err.fault c.loop-line.invariant.0 gives.answers at c.in-Err.ensures
 
 pub returns : goal.returns

@@ -1,0 +1,421 @@
+ghost use Rattle.std.specs.Prelude.{◌≡◌, ◌<◌, is_some};
+
+use crate::{plan, run};
+use bt_lines::{ScriptSink, ScriptSource};
+use std::alloc::{AllocError, Global};
+use std::test::Fail;
+
+// The genome file of the cases that name no other.
+const GENOME: &[u8] = b"chr1\t1000\nchr2\t50\n";
+
+// A run of `merge` over scripts, and what it gives.
+#[derive(Clone, Copy)]
+struct Case {
+    name: &'static str,
+    genome: &'static [u8],
+    first: &'static [u8],
+    output: &'static [u8],
+    line: Option<&'static [u8]>,
+}
+
+const CASES: [Case; 26] = [
+    Case {
+        name: "overlapping and touching features",
+        genome: GENOME,
+        first: b"chr1\t100\t200\nchr1\t180\t250\nchr1\t250\t500\nchr1\t501\t1000\n",
+        output: b"chr1\t100\t500\nchr1\t501\t1000\n",
+        line: None,
+    },
+    Case {
+        name: "empty input",
+        genome: GENOME,
+        first: b"",
+        output: b"",
+        line: None,
+    },
+    Case {
+        name: "out of order",
+        genome: GENOME,
+        first: b"chr1\t0\t10\nchr1\t20\t30\nchr1\t5\t8\n",
+        output: b"chr1\t0\t10\n",
+        line: Some(b"bedtools merge: a.bed:3: record is out of order\n"),
+    },
+    Case {
+        name: "a chromosome that returns",
+        genome: GENOME,
+        first: b"chr1\t0\t5\nchr2\t0\t5\nchr1\t6\t8\n",
+        output: b"chr1\t0\t5\n",
+        line: Some(b"bedtools merge: a.bed:3: record is out of order\n"),
+    },
+    Case {
+        name: "two chromosomes, in the order of the genome file",
+        genome: b"chr2\t50\nchr10\t1000\n",
+        first: b"chr2\t0\t5\nchr10\t7\t9\nchr10\t8\t20\n",
+        output: b"chr2\t0\t5\nchr10\t7\t20\n",
+        line: None,
+    },
+    Case {
+        name: "line ends, blank lines and leading zeros",
+        genome: b"# name\tlength\nchr1\t1000\r\n\nchr2\t50",
+        first: b"chr1\t007\t9\r\n\r\nchr1\t20\t30",
+        output: b"chr1\t7\t9\nchr1\t20\t30\n",
+        line: None,
+    },
+    Case {
+        name: "further columns aren't looked at",
+        genome: b"chr1\t10\t52\t60\t61\n",
+        first: b"chr1\t1\t2\tname\t0\t+\nchr1\t1\t3\n",
+        output: b"chr1\t1\t3\n",
+        line: None,
+    },
+    Case {
+        name: "a name that isn't in the genome file",
+        genome: GENOME,
+        first: b"trackX\t1\t2\n",
+        output: b"",
+        line: Some(b"bedtools merge: a.bed:1: chromosome is not in the genome file\n"),
+    },
+    Case {
+        name: "a start of thirteen digits",
+        genome: GENOME,
+        first: b"chr1\t1000000000000\t5\n",
+        output: b"",
+        line: Some(b"bedtools merge: a.bed:1: start is not a number\n"),
+    },
+    Case {
+        name: "an empty feature",
+        genome: GENOME,
+        first: b"chr1\t5\t5\n",
+        output: b"",
+        line: Some(b"bedtools merge: a.bed:1: start is not below end\n"),
+    },
+    Case {
+        name: "two columns",
+        genome: GENOME,
+        first: b"chr1\t5\n",
+        output: b"",
+        line: Some(b"bedtools merge: a.bed:1: too few columns\n"),
+    },
+    Case {
+        name: "two columns on a last line without a line feed",
+        genome: GENOME,
+        first: b"chr1\t5",
+        output: b"",
+        line: Some(b"bedtools merge: a.bed:1: too few columns\n"),
+    },
+    Case {
+        name: "an empty name",
+        genome: GENOME,
+        first: b"\t1\t2\n",
+        output: b"",
+        line: Some(b"bedtools merge: a.bed:1: empty chromosome name\n"),
+    },
+    Case {
+        name: "an end that is no number",
+        genome: GENOME,
+        first: b"chr1\t1\tx\n",
+        output: b"",
+        line: Some(b"bedtools merge: a.bed:1: end is not a number\n"),
+    },
+    Case {
+        name: "the greatest numbers",
+        genome: GENOME,
+        first: b"chr1\t999999999998\t999999999999\n",
+        output: b"chr1\t999999999998\t999999999999\n",
+        line: None,
+    },
+    Case {
+        name: "a start past any number of 64 bits",
+        genome: GENOME,
+        first: b"chr1\t18446744073709551616\t5\n",
+        output: b"",
+        line: Some(b"bedtools merge: a.bed:1: start is not a number\n"),
+    },
+    Case {
+        name: "a negative start",
+        genome: GENOME,
+        first: b"chr1\t-1\t5\n",
+        output: b"",
+        line: Some(b"bedtools merge: a.bed:1: start is not a number\n"),
+    },
+    Case {
+        name: "two carriage returns at the end",
+        genome: GENOME,
+        first: b"chr1\t1\t5\r\r\n",
+        output: b"",
+        line: Some(b"bedtools merge: a.bed:1: end is not a number\n"),
+    },
+    Case {
+        name: "a carriage return inside",
+        genome: GENOME,
+        first: b"chr1\t1\t5\rx\n",
+        output: b"",
+        line: Some(b"bedtools merge: a.bed:1: end is not a number\n"),
+    },
+    Case {
+        name: "a lone carriage return",
+        genome: GENOME,
+        first: b"\r",
+        output: b"",
+        line: None,
+    },
+    Case {
+        name: "a genome line of one column",
+        genome: b"chr1\n",
+        first: b"chr1\t1\t2\n",
+        output: b"",
+        line: Some(b"bedtools merge: g.txt:1: too few columns\n"),
+    },
+    Case {
+        name: "a length of 0",
+        genome: b"chr1\t0\n",
+        first: b"chr1\t1\t2\n",
+        output: b"",
+        line: Some(b"bedtools merge: g.txt:1: length is not a number\n"),
+    },
+    Case {
+        name: "an empty name in the genome file",
+        genome: b"\t10\n",
+        first: b"chr1\t1\t2\n",
+        output: b"",
+        line: Some(b"bedtools merge: g.txt:1: empty chromosome name\n"),
+    },
+    Case {
+        name: "a repeated chromosome",
+        genome: b"chr1\t10\nchr1\t20\n",
+        first: b"chr1\t1\t2\n",
+        output: b"",
+        line: Some(b"bedtools merge: g.txt:2: chromosome is repeated\n"),
+    },
+    Case {
+        name: "the genome file's fault comes first",
+        genome: b"chr1\tx\n",
+        first: b"x\n",
+        output: b"",
+        line: Some(b"bedtools merge: g.txt:1: length is not a number\n"),
+    },
+    Case {
+        name: "an empty genome file",
+        genome: b"",
+        first: b"chr1\t1\t2\n",
+        output: b"",
+        line: Some(b"bedtools merge: a.bed:1: chromosome is not in the genome file\n"),
+    },
+];
+
+// The words as strings.
+fn strings(alloc: Global, words: &[&str]) -> Result<Vec<String>, AllocError> {
+    let mut strings = Vec::new(alloc);
+    for word in words {
+        strings.push(String::from_str(alloc, word)?)?;
+    }
+    Ok(strings)
+}
+
+// How many bytes a scripted device moves a call, and how many bytes are good.
+#[derive(Clone, Copy)]
+struct Script {
+    step: usize,
+    good: Option<usize>,
+    ghost moves: { 0 < step },
+}
+
+// A device that serves to the end.
+fn whole(step: usize) -> Script
+    requires { 0 < step }
+{
+    Script { step, good: None }
+}
+
+// A device that fails once so many bytes were moved.
+fn failing(good: usize) -> Script {
+    Script {
+        step: 7,
+        good: Some(good),
+    }
+}
+
+// A source of these bytes where the plan names the input.
+fn source_if<'a>(name: &Option<String>, bytes: &'a [u8], script: Script) -> Option<ScriptSource<'a>>
+    ensures { is_some result ≡ is_some name.now }
+{
+    if name.is_none() {
+        return None;
+    }
+    Some(ScriptSource::new(bytes, script.step, script.good))
+}
+
+// What a run gives, or what its plan is refused with.
+#[derive(Drop)]
+struct Answer {
+    output: Vec<u8>,
+    line: Option<Vec<u8>>,
+    status: u8,
+}
+
+// Plans and runs `merge -i a.bed -g g.txt` over scripts.
+fn merge(
+    alloc: Global,
+    genome: (&[u8], Script),
+    first: (&[u8], Script),
+    out: Script,
+) -> Result<Answer, Fail> {
+    let words = strings(alloc, &["merge", "-i", "a.bed", "-g", "g.txt"])?;
+    let plan = plan(alloc, words.as_slice()).ok().ok_or("a plan")?;
+    let ended = run(
+        alloc,
+        &plan,
+        source_if(&plan.genome, genome.0, genome.1),
+        ScriptSource::new(first.0, first.1.step, first.1.good),
+        source_if(&plan.second, b"", whole(1)),
+        ScriptSink::new(alloc, out.step, out.good),
+    );
+    Ok(Answer {
+        output: Vec::from_slice(alloc, ended.out.taken())?,
+        line: ended.outcome.fault_line(alloc, &plan)?,
+        status: ended.outcome.status(),
+    })
+}
+
+// The line that an answer tells, or an empty one.
+fn line_of(answer: &Answer) -> &[u8] {
+    match &answer.line {
+        Some(line) => line.as_slice(),
+        None => b"",
+    }
+}
+
+#[test]
+fn worked_cases(rt: HostRuntime) -> Result<(), Fail> {
+    for step in [1, 7, 8192] {
+        for case in &CASES {
+            let script = whole(step);
+            let answer = merge(
+                rt.alloc(),
+                (case.genome, script),
+                (case.first, script),
+                script,
+            )?;
+            assert_eq!(rt; answer.output.as_slice(), case.output, "{}", case.name);
+            assert_eq!(rt; line_of(&answer), case.line.unwrap_or(b""), "{}", case.name);
+            assert_eq!(rt;
+                answer.status,
+                u8::from(case.line.is_some()),
+                "{}",
+                case.name
+            );
+        }
+    }
+    Ok(())
+}
+
+const TOUCHING: &[u8] = b"chr1\t100\t200\nchr1\t180\t250\nchr1\t250\t500\nchr1\t501\t1000\n";
+
+const OUT_OF_ORDER: &[u8] = b"chr1\t0\t10\nchr1\t20\t30\nchr1\t5\t8\n";
+
+#[test]
+fn inputs_that_fail(rt: HostRuntime) -> Result<(), Fail> {
+    // The input, its good bytes, the output and the fault line.
+    let cases: [(&[u8], usize, &[u8], &[u8]); 6] = [
+        (
+            TOUCHING,
+            0,
+            b"",
+            b"bedtools merge: a.bed:1: reading failed\n",
+        ),
+        (
+            TOUCHING,
+            39,
+            b"",
+            b"bedtools merge: a.bed:4: reading failed\n",
+        ),
+        (
+            TOUCHING,
+            52,
+            b"",
+            b"bedtools merge: a.bed:4: reading failed\n",
+        ),
+        (
+            TOUCHING,
+            53,
+            b"chr1\t100\t500\n",
+            b"bedtools merge: a.bed:5: reading failed\n",
+        ),
+        (
+            OUT_OF_ORDER,
+            21,
+            b"chr1\t0\t10\n",
+            b"bedtools merge: a.bed:3: reading failed\n",
+        ),
+        (
+            OUT_OF_ORDER,
+            31,
+            b"chr1\t0\t10\n",
+            b"bedtools merge: a.bed:3: record is out of order\n",
+        ),
+    ];
+    for (first, good, output, line) in cases {
+        let answer = merge(
+            rt.alloc(),
+            (GENOME, whole(7)),
+            (first, failing(good)),
+            whole(7),
+        )?;
+        assert_eq!(rt; answer.output.as_slice(), output);
+        assert_eq!(rt; line_of(&answer), line);
+        assert_eq!(rt; answer.status, 1);
+    }
+    Ok(())
+}
+
+#[test]
+fn a_genome_file_that_fails(rt: HostRuntime) -> Result<(), Fail> {
+    let answer = merge(
+        rt.alloc(),
+        (GENOME, failing(10)),
+        (TOUCHING, whole(1)),
+        whole(1),
+    )?;
+    assert_eq!(rt; answer.output.len(), 0);
+    assert_eq!(rt;
+        line_of(&answer),
+        b"bedtools merge: g.txt:2: reading failed\n".as_slice()
+    );
+    Ok(())
+}
+
+#[test]
+fn an_output_that_fails_at_each_byte(rt: HostRuntime) -> Result<(), Fail> {
+    let output = b"chr1\t100\t500\nchr1\t501\t1000\n";
+    for good in 0..output.len() {
+        let answer = merge(
+            rt.alloc(),
+            (GENOME, whole(7)),
+            (TOUCHING, whole(7)),
+            failing(good),
+        )?;
+        assert_eq!(rt; answer.output.as_slice(), &output[..good]);
+        assert_eq!(rt;
+            line_of(&answer),
+            b"bedtools merge: writing failed\n".as_slice()
+        );
+        assert_eq!(rt; answer.status, 1);
+    }
+    let answer = merge(
+        rt.alloc(),
+        (GENOME, whole(7)),
+        (TOUCHING, whole(7)),
+        failing(output.len()),
+    )?;
+    assert_eq!(rt; answer.output.as_slice(), output.as_slice());
+    assert_eq!(rt; answer.status, 0);
+    Ok(())
+}
+
+#[test]
+fn nothing_to_write(rt: HostRuntime) -> Result<(), Fail> {
+    let answer = merge(rt.alloc(), (GENOME, whole(1)), (b"", whole(1)), failing(0))?;
+    assert_eq!(rt; answer.status, 0);
+    assert!(rt; answer.line.is_none());
+    Ok(())
+}
