@@ -25,3 +25,4 @@ pub mod HandsLemmas
 pub mod FeedLemmas
 pub mod MergingLemmas
 pub mod RunningLemmas
+pub mod InputExamples

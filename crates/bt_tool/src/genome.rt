@@ -97,7 +97,8 @@ impl Genome {
     // Adds what a line says.
     fn add_line(&mut self, alloc: Global, place: Place, text: &[u8]) -> Result<(), Fault>
         ensures added { OnOk result (LineAdded text.now self.old self.new) }
-        ensures refused { IfErr result (λ fault. LineRefused place text.now self.old (told fault) ⊎ (told fault ≡ no_memory)) }
+        ensures refused { IfErr result (λ fault.
+            LineRefused place text.now self.old (told fault) ⊎ (told fault ≡ no_memory)) }
     {
         let entry = match self.new_entry(text) {
             Ok(Some(entry)) => entry,
@@ -170,5 +171,98 @@ fn first_columns(text: &[u8]) -> Result<EntryRef<'_>, Kind>
     match number(length) {
         None | Some(0) => Err(Kind::BadLength),
         Some(length) => Ok(EntryRef { name, length }),
+    }
+}
+
+#[cfg(test)]
+mod tests {
+    use super::*;
+    use bt_lines::{Input, ScriptSource};
+
+    // The genome file of a text that comes in pieces of this many bytes.
+    fn read(alloc: Global, text: &[u8], step: usize, good: Option<usize>) -> Result<Genome, Fault>
+        requires { 0 < step }
+    {
+        let source = ScriptSource::new(text, step, good);
+        let mut reader = LineReader::new(alloc, source, Input::Genome);
+        let genome = Genome::read(alloc, &mut reader);
+        let _ = reader.into_source();
+        genome
+    }
+
+    // How many chromosomes the text has, or what is wrong with it at which line.
+    fn count(
+        alloc: Global,
+        text: &[u8],
+        step: usize,
+        good: Option<usize>,
+    ) -> Result<usize, (Kind, Option<Place>)>
+        requires { 0 < step }
+    {
+        match read(alloc, text, step, good) {
+            Ok(genome) => Ok(genome.count()),
+            Err(fault) => Err((fault.kind, fault.place)),
+        }
+    }
+
+    fn at(kind: Kind, line: u64) -> Result<usize, (Kind, Option<Place>)> {
+        let place = Place {
+            input: Input::Genome,
+            line,
+        };
+        Err((kind, Some(place)))
+    }
+
+    #[test]
+    fn counts_chromosomes(rt: HostRuntime) {
+        let cases: [(&[u8], Result<usize, (Kind, Option<Place>)>); 11] = [
+            (b"", Ok(0)),
+            (b"chr1\t10\nchr2\t5\n", Ok(2)),
+            (b"chr1\t10\t52\t60\t61\n", Ok(1)),
+            (b"# all\n\nchr1\t10\n\r\n#\t\t\nchr2\t20", Ok(2)),
+            (b"chr1\n", at(Kind::TooFewColumns, 1)),
+            (b"\n\t10\n", at(Kind::EmptyName, 2)),
+            (b"chr1\t0\n", at(Kind::BadLength, 1)),
+            (b"chr1\tx\n", at(Kind::BadLength, 1)),
+            (b"chr1\t10\nchr1\t20\n", at(Kind::RepeatedChrom, 2)),
+            (b"chr1\t10\nchr1\t0\n", at(Kind::BadLength, 2)),
+            (b"chr1\t10\nchr2\nchr1\t10\n", at(Kind::TooFewColumns, 2)),
+        ];
+        for (text, want) in cases {
+            assert_eq!(rt; count(rt.alloc(), text, 1, None), want);
+            assert_eq!(rt; count(rt.alloc(), text, 7, None), want);
+        }
+    }
+
+    #[test]
+    fn tells_a_failed_read(rt: HostRuntime) {
+        let text = b"chr1\t10\nchr2\t5\n";
+        assert_eq!(rt;
+            count(rt.alloc(), text, 7, Some(8)),
+            at(Kind::ReadFailed, 2)
+        );
+        assert_eq!(rt;
+            count(rt.alloc(), text, 1, Some(15)),
+            at(Kind::ReadFailed, 3)
+        );
+    }
+
+    #[test]
+    fn finds_chromosomes(rt: HostRuntime) {
+        let found = match read(rt.alloc(), b"b\t10\na\t5\n", 1, None) {
+            Ok(genome) => (genome.rank(b"a"), genome.rank(b"b"), genome.rank(b"c")),
+            Err(_fault) => (None, None, None),
+        };
+        assert_eq!(rt; found, (Some(1), Some(0), None));
+    }
+
+    #[test]
+    fn tells_names_and_lengths(rt: HostRuntime) {
+        let found = match read(rt.alloc(), b"b\t10\na\t5\n", 1, None) {
+            Ok(genome) if genome.count() == 2 => genome.name(1) == b"a".as_slice()
+                && genome.length(1) == 5,
+            _ => false,
+        };
+        assert!(rt; found);
     }
 }

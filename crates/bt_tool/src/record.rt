@@ -58,3 +58,49 @@ fn feature(chrom: &[u8], start: Option<u64>, stop: Option<u64>) -> Result<BedRef
     }
     Ok(BedRef { chrom, start, stop })
 }
+
+#[cfg(test)]
+mod tests {
+    use super::*;
+
+    #[test]
+    fn lines_say_features(rt: HostRuntime) {
+        let cases: [(&[u8], Result<Option<(u64, u64)>, Kind>); 15] = [
+            (b"", Ok(None)),
+            (b"chr1\t10\t20", Ok(Some((10, 20)))),
+            (b"chr1\t007\t9", Ok(Some((7, 9)))),
+            (b"chr1\t1\t2\tname\t0\t+", Ok(Some((1, 2)))),
+            (
+                b"chr1\t999999999998\t999999999999",
+                Ok(Some((999_999_999_998, 999_999_999_999))),
+            ),
+            (b"trackX\t1\t2", Ok(Some((1, 2)))),
+            (b"chr1\t5", Err(Kind::TooFewColumns)),
+            (b"chr1", Err(Kind::TooFewColumns)),
+            (b"\t1\t2", Err(Kind::EmptyName)),
+            (b"\tx\ty", Err(Kind::EmptyName)),
+            (b"chr1\t1000000000000\t5", Err(Kind::BadStart)),
+            (b"chr1\t-1\tx", Err(Kind::BadStart)),
+            (b"chr1\t1\tx", Err(Kind::BadStop)),
+            (b"chr1\t5\t5", Err(Kind::EmptyFeature)),
+            (b"chr1\t6\t5", Err(Kind::EmptyFeature)),
+        ];
+        for (text, want) in cases {
+            let found = match parse(text) {
+                Ok(Some(bed)) => Ok(Some((bed.start, bed.stop))),
+                Ok(None) => Ok(None),
+                Err(kind) => Err(kind),
+            };
+            assert_eq!(rt; found, want);
+        }
+    }
+
+    #[test]
+    fn features_keep_the_name(rt: HostRuntime) {
+        let found = match parse(b"chr 1\t3\t4\tx") {
+            Ok(Some(bed)) => bed.chrom == b"chr 1".as_slice(),
+            _ => false,
+        };
+        assert!(rt; found);
+    }
+}

@@ -125,3 +125,198 @@ impl<'g, S: Source> RecordReader<'g, S> {
         Ok(())
     }
 }
+
+#[cfg(test)]
+mod tests {
+    use super::*;
+    use bt_lines::{Input, Kind, ScriptSource};
+    use std::alloc::AllocError;
+    use std::test::Fail;
+
+    const GENOME: &[u8] = b"chr1\t100\nchr2\t100\n";
+
+    // A record's line, the rank of its chromosome, its start and its stop.
+    type Found = (u64, Option<usize>, u64, u64);
+
+    // A text, its records, and what is wrong at which line.
+    type Row<'a> = (&'a [u8], &'a [Found], Option<(Kind, u64)>);
+
+    fn read_genome(alloc: Global) -> Result<Genome, Fault> {
+        let mut lines = LineReader::new(alloc, ScriptSource::new(GENOME, 7, None), Input::Genome);
+        let genome = Genome::read(alloc, &mut lines);
+        let _ = lines.into_source();
+        genome
+    }
+
+    fn seen(genome: &Genome, line: u64, bed: BedRef<'_>) -> Found {
+        (line, genome.rank(bed.chrom), bed.start, bed.stop)
+    }
+
+    // The records that are left, each where it is given again as it was, and the fault.
+    fn collect<S: Source>(
+        alloc: Global,
+        genome: &Genome,
+        records: &mut RecordReader<'_, S>,
+    ) -> Result<(Vec<Found>, Option<Fault>), AllocError> {
+        let mut found = Vec::new(alloc);
+        loop {
+            let first = match records.peek() {
+                Ok(Some(bed)) => seen(genome, 0, bed),
+                Ok(None) => return Ok((found, None)),
+                Err(fault) => return Ok((found, Some(fault))),
+            };
+            let line = records.line();
+            match records.peek() {
+                Ok(Some(bed)) if seen(genome, 0, bed) == first => {
+                    found.push(seen(genome, line, bed))?;
+                }
+                _ => return Ok((found, None)),
+            }
+            records.advance();
+        }
+    }
+
+    // Whether a text that comes in pieces of this many bytes, and fails after the good ones, gives
+    // the records and the fault.
+    fn agrees(
+        alloc: Global,
+        genome: &Genome,
+        row: Row<'_>,
+        step: usize,
+        good: Option<usize>,
+    ) -> Result<bool, AllocError> {
+        let (text, want, want_fault) = row;
+        let source = ScriptSource::new(text, step.max(1), good);
+        let lines = LineReader::new(alloc, source, Input::First);
+        let mut records = RecordReader::new(alloc, lines, genome);
+        let collected = collect(alloc, genome, &mut records);
+        let _ = records.into_reader().into_source();
+        let (found, fault) = collected?;
+        Ok(found.as_slice() == want && is_fault(fault, want_fault))
+    }
+
+    fn is_fault(found: Option<Fault>, want: Option<(Kind, u64)>) -> bool {
+        match (found, want) {
+            (None, None) => true,
+            (Some(fault), Some((kind, line))) => {
+                let place = Place {
+                    input: Input::First,
+                    line,
+                };
+                fault.kind == kind && fault.place == Some(place)
+            }
+            _ => false,
+        }
+    }
+
+    #[test]
+    fn reads_records_in_order(rt: HostRuntime) -> Result<(), Fail> {
+        let one = (1, Some(0), 0, 5);
+        let rows: [Row; 6] = [
+            (b"", &[], None),
+            (b"\n\r\n", &[], None),
+            (b"chr1\t0\t5", &[one], None),
+            (
+                b"chr1\t0\t5\n\nchr1\t0\t3\r\n",
+                &[one, (3, Some(0), 0, 3)],
+                None,
+            ),
+            (
+                b"chr1\t0\t5\nchr2\t0\t9\n",
+                &[one, (2, Some(1), 0, 9)],
+                None,
+            ),
+            (
+                b"chr2\t4\t5\nchr2\t4\t9\n",
+                &[(1, Some(1), 4, 5), (2, Some(1), 4, 9)],
+                None,
+            ),
+        ];
+        let genome = read_genome(rt.alloc())?;
+        for row in rows {
+            assert!(rt; agrees(rt.alloc(), &genome, row, 1, None)?);
+            assert!(rt; agrees(rt.alloc(), &genome, row, 7, None)?);
+        }
+        Ok(())
+    }
+
+    #[test]
+    fn tells_what_is_wrong(rt: HostRuntime) -> Result<(), Fail> {
+        let one = (1, Some(0), 0, 5);
+        let two = (2, Some(1), 0, 5);
+        let rows: [Row; 9] = [
+            (
+                b"chr1\t0\t5\nchr2\t0\t5\nchr1\t6\t8\n",
+                &[one, two],
+                Some((Kind::OutOfOrder, 3)),
+            ),
+            (
+                b"chr1\t0\t5\nchr1\t6\t8\nchr1\t5\t8\n",
+                &[one, (2, Some(0), 6, 8)],
+                Some((Kind::OutOfOrder, 3)),
+            ),
+            (b"trackX\t1\t2\n", &[], Some((Kind::UnknownChrom, 1))),
+            (
+                b"chr1\t0\t5\nchr10\t0\t5\nchr2\t0\t5\n",
+                &[one],
+                Some((Kind::UnknownChrom, 2)),
+            ),
+            (
+                b"chr1\t0\t5\nchr2\t0\t5\nchr1\tx\t5\n",
+                &[one, two],
+                Some((Kind::BadStart, 3)),
+            ),
+            (
+                b"\nchr1\t1000000000000\t5\n",
+                &[],
+                Some((Kind::BadStart, 2)),
+            ),
+            (b"chr1\t5\t5\n", &[], Some((Kind::EmptyFeature, 1))),
+            (b"\t1\t2\n", &[], Some((Kind::EmptyName, 1))),
+            (
+                b"#chr1\t5\nchr1\t1\t2\n",
+                &[],
+                Some((Kind::TooFewColumns, 1)),
+            ),
+        ];
+        let genome = read_genome(rt.alloc())?;
+        for row in rows {
+            assert!(rt; agrees(rt.alloc(), &genome, row, 1, None)?);
+            assert!(rt; agrees(rt.alloc(), &genome, row, 7, None)?);
+        }
+        Ok(())
+    }
+
+    #[test]
+    fn tells_a_failed_read(rt: HostRuntime) -> Result<(), Fail> {
+        let text = b"chr1\t0\t5\nchr2\t0\t5\n".as_slice();
+        let (one, two) = ((1, Some(0), 0, 5), (2, Some(1), 0, 5));
+        let genome = read_genome(rt.alloc())?;
+        let rows: [(usize, Row); 4] = [
+            (0, (text, &[], Some((Kind::ReadFailed, 1)))),
+            (12, (text, &[one], Some((Kind::ReadFailed, 2)))),
+            (18, (text, &[one, two], Some((Kind::ReadFailed, 3)))),
+            (19, (text, &[one, two], None)),
+        ];
+        for (good, row) in rows {
+            assert!(rt; agrees(rt.alloc(), &genome, row, 7, Some(good))?);
+        }
+        Ok(())
+    }
+
+    #[test]
+    fn answers_a_fault_again(rt: HostRuntime) -> Result<(), Fail> {
+        let genome = read_genome(rt.alloc())?;
+        let source = ScriptSource::new(b"chr2\t0\t5\nchr1\t0\t5\nchr2\t6\t8\n", 1, None);
+        let lines = LineReader::new(rt.alloc(), source, Input::First);
+        let mut records = RecordReader::new(rt.alloc(), lines, &genome);
+        let first = collect(rt.alloc(), &genome, &mut records);
+        let again = collect(rt.alloc(), &genome, &mut records);
+        let source = records.into_reader().into_source();
+        let ((found, fault), (none, kept)) = (first?, again?);
+        assert_eq!(rt; (found.len(), none.len(), source.given()), (1, 0, 18));
+        assert!(rt; is_fault(fault, Some((Kind::OutOfOrder, 2))));
+        assert!(rt; is_fault(kept, Some((Kind::OutOfOrder, 2))));
+        Ok(())
+    }
+}

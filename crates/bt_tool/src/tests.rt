@@ -287,9 +287,8 @@ fn line_of(answer: &Answer) -> &[u8] {
 
 #[test]
 fn worked_cases(rt: HostRuntime) -> Result<(), Fail> {
-    for step in [1, 7, 8192] {
+    for script in [whole(1), whole(7), whole(8192)] {
         for case in &CASES {
-            let script = whole(step);
             let answer = merge(
                 rt.alloc(),
                 (case.genome, script),

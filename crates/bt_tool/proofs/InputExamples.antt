@@ -1,0 +1,46 @@
+-- The definitions of records and genome files at small inputs, worked by hand.
+use Rattle.std.proofs.Common.{◌≡◌, ℕ, List, [], ◌∷◌, Some, Ok, Err, refl}
+use Rattle.std.specs.Prelude.{codes}
+use Rattle.bt_lines.specs.Lines.{text_lines, lines_from}
+use Rattle.bt_lines.specs.Number.{value_of}
+use Rattle.bt_lines.specs.declared.fault.Input.TheVariants.{Genome, First}
+use Rattle.bt_lines.specs.declared.fault.Kind.TheVariants.{EmptyFeature, UnknownChrom, OutOfOrder, RepeatedChrom}
+use Rattle.bt_tool.specs.Genome.{entry_of, genome_from, genome_of}
+use Rattle.bt_tool.specs.Good.{good, good_from, line_says, fault_at_line}
+use Rattle.bt_tool.specs.Interval.{Interval}
+use Rattle.bt_tool.specs.Record.{record_of}
+
+abbrev on : List ℕ → ℕ → ℕ → Interval
+on name start stop = record { chrom = name; start = start; stop = stop }
+
+-- leading zeros are allowed, and further columns aren't looked at
+leading_zeros : record_of (codes "a\t007\t9\tx") ≡ Ok (Some (on (codes "a") 7 9))
+unfolding record_of value_of
+leading_zeros = refl
+
+-- a start that isn't below the end
+no_base : record_of (codes "a\t5\t5") ≡ Err EmptyFeature
+unfolding record_of value_of
+no_base = refl
+
+abbrev names : List (List ℕ)
+names = codes "a" ∷ codes "b" ∷ []
+
+-- a chromosome that comes back ends the good records, and what comes after isn't looked at
+returning : good First names (text_lines (codes "a\t0\t5\n\nb\t0\t5\r\na\t6\t8\nx")) ≡ record { records = on (codes "a") 0 5 ∷ on (codes "b") 0 5 ∷ []; fault = Some (fault_at_line First 4 OutOfOrder) }
+unfolding good_from line_says record_of value_of lines_from
+returning = refl
+
+-- equal places are in order, and a name that the genome file lacks is not
+unknown : good First names (text_lines (codes "b\t3\t9\nb\t3\t4\nc\t0\t1\n")) ≡ record { records = on (codes "b") 3 9 ∷ on (codes "b") 3 4 ∷ []; fault = Some (fault_at_line First 3 UnknownChrom) }
+unfolding good_from line_says record_of value_of lines_from
+unknown = refl
+
+-- an index of a sequence file is a genome file
+index : genome_of Genome (text_lines (codes "# all\na\t10\t52\t60\t61\n\nb\t5\n")) ≡ Ok (record { name = codes "a"; length = 10 } ∷ record { name = codes "b"; length = 5 } ∷ [])
+unfolding genome_from entry_of value_of lines_from
+index = refl
+
+repeated : genome_of Genome (text_lines (codes "a\t10\na\t20\n")) ≡ Err (fault_at_line Genome 2 RepeatedChrom)
+unfolding genome_from entry_of value_of lines_from
+repeated = refl
