@@ -10,6 +10,7 @@ use std::io;
 use std::io::{BufReader, Stdin};
 
 /// An opened input, read in blocks.
+#[derive(Drop)]
 pub enum Opened {
     File(FromRead<BufReader<File>>),
     Standard(FromRead<BufReader<Stdin>>),

@@ -8,6 +8,7 @@ use std::io;
 use std::io::{BufWriter, Stdout};
 
 /// An output, written in blocks.
+#[derive(Drop)]
 pub enum Output {
     Standard(ToWrite<BufWriter<Stdout>>),
 }
