@@ -26,3 +26,4 @@ pub mod FeedLemmas
 pub mod MergingLemmas
 pub mod RunningLemmas
 pub mod InputExamples
+pub mod ReportWords

@@ -14,6 +14,8 @@ use Rattle.bt_tool.specs.Settled.{settled}
 use Rattle.bt_tool.specs.Table.{Word, name_of}
 use Rattle.bt_tool.specs.Usage.{usage_text}
 use Rattle.bt_tool.specs.declared.usage.Usage.{Usage}
+use Rattle.bt_tool.specs.declared.usage.Refusal.{Refusal}
+use Rattle.bt_tool.specs.declared.usage.Refusal.TheVariants.{Usage as InWords, NoMemory}
 
 -- what a run writes, and the fault that it tells, if there is one
 pub record Report : Type 0 where
@@ -68,3 +70,16 @@ answer_of words (Ok plan) genome first second = seen_of plan (report_of plan.com
 -- what the words and the whole texts of the inputs give
 unfoldable pub report : List Word → List ℕ → List ℕ → List ℕ → Seen
 report words genome first second = answer_of words (options words) genome first second
+
+-- what a user sees of these words is what the plan's run gives, whatever the texts of the inputs
+abbrev pub ReportsPlan : List Word → PlanSeen → Type 0
+ReportsPlan words plan = (genome first second : List ℕ) → report words genome first second ≡ seen_of plan (report_of plan.command genome first second)
+
+-- what a user sees of these words is the fault's line and the exit status 2, whatever the texts of the inputs
+abbrev pub ReportsUsage : List Word → Usage → Type 0
+ReportsUsage words usage = (genome first second : List ℕ) → report words genome first second ≡ record { output = []; line = Some (usage_text words usage); status = 2 }
+
+-- so it is for a refusal, unless memory ran out
+abbrev pub ReportsRefusal : List Word → Refusal → Type 0
+ReportsRefusal words (InWords usage) = ReportsUsage words usage
+ReportsRefusal words NoMemory = Unit {0}

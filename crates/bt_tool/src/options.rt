@@ -7,6 +7,7 @@ ghost use Rattle.bt_tool.specs.Items.{IsItem, items_of};
 ghost use Rattle.bt_tool.specs.Options.{command_of, is_standard_input, options, word_fault, plan_of, settled, IsSettled};
 ghost use Rattle.bt_tool.specs.Plan.{seen, words_seen};
 ghost use Rattle.bt_tool.specs.Refusal.{CanBeTold, IsRefusalOf};
+ghost use Rattle.bt_tool.specs.Report.{ReportsPlan, ReportsRefusal};
 ghost use Rattle.bt_tool.specs.Table.{Word, file_name, table_of, takes, IsNamedBy};
 ghost use Rattle.bt_tool.specs.Usage.{no_command};
 
@@ -169,6 +170,19 @@ fn made(alloc: Global, command: Command, given: Given<'_>) -> Result<Plan, Alloc
 ///
 /// The plan has copies of its names, so memory can run out where the words have a plan.
 pub fn plan(alloc: Global, words: &[String]) -> Result<Plan, Refusal>
+    ensures asked { IfOk result (λ plan. options (words_seen words.now) ≡ Ok (seen plan)) }
+    ensures refused { IfErr result (IsRefusalOf (words_seen words.now)) }
+    ensures tellable { IfErr result (CanBeTold (length words.now)) }
+
+    // What a user sees of the words, by the report over the whole texts of the inputs.
+    ensures reported { IfOk result (λ plan. ReportsPlan (words_seen words.now) (seen plan)) }
+    ensures told { IfErr result (ReportsRefusal (words_seen words.now)) }
+{
+    planned(alloc, words)
+}
+
+// The plan, read from the words.
+fn planned(alloc: Global, words: &[String]) -> Result<Plan, Refusal>
     ensures asked { IfOk result (λ plan. options (words_seen words.now) ≡ Ok (seen plan)) }
     ensures refused { IfErr result (IsRefusalOf (words_seen words.now)) }
     ensures tellable { IfErr result (CanBeTold (length words.now)) }

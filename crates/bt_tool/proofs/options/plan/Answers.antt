@@ -1,67 +1,9 @@
-use Rattle.std.proofs.Common.{Ok, Err, drop, ◌∙◌, ap, sym}
-use Rattle.std.proofs.lemmas.List.{length-map}
-use Rattle.std.specs.Prelude.{is_ok, string_bytes}
-use Rattle.std.proofs.lemmas.Result.{err_from_is_err_and}
 use Rattle.bt_tool.specs.Plan.{words_seen}
-use Rattle.bt_tool.proofs.Asked.{options-no_command, options-fault, options-settled, options-tellable}
+use Rattle.bt_tool.proofs.ReportWords.{reports_plan, reports_refusal}
 use Rattle.bt_tool.proofs.options.plan.Goals as goal
 
-pub returns-in_err-command-clause-refused : goal.returns-in_err-command-clause-refused
-returns-in_err-command-clause-refused c =
-    let exit = c.from_residual in
-    let told = err_from_is_err_and exit.result exit.ensures.1 in
-    let unnamed = c.in_err-command.ensures in
-    let words = words_seen c.args.words.now in
-    rw (told.1, told.2) (options-no_command words unnamed.0 ∙ ap Err (sym unnamed.1))
+pub returns-clause-reported : goal.returns-clause-reported
+returns-clause-reported c = reports_plan (words_seen c.args.words.now) c.planned.result c.planned.ensures.asked
 
-pub returns-in_err-given-clause-refused : goal.returns-in_err-given-clause-refused
-returns-in_err-given-clause-refused c =
-    let exit = c.from_residual-in_err-given in
-    let told = err_from_is_err_and exit.result exit.ensures.1 in
-    let words = words_seen c.args.words.now in
-    let named = c.in_ok-command in
-    rw (told.1, told.2)
-    (options-fault words named.command c.in_err-given.field-0.0 named.ensures
-    c.in_err-given.ensures)
-
-pub returns-in_err-given-clause-tellable : goal.returns-in_err-given-clause-tellable
-returns-in_err-given-clause-tellable c =
-    let exit = c.from_residual-in_err-given in
-    let told = err_from_is_err_and exit.result exit.ensures.1 in
-    let words = words_seen c.args.words.now in
-    let named = c.in_ok-command in
-    let usage = c.in_err-given.field-0.0 in
-    let fault = options-fault words named.command usage named.ensures c.in_err-given.ensures in
-    let tellable = options-tellable words usage fault in
-    rw (told.1, told.2) (rw (length-map c.args.words.now string_bytes) at tellable)
-
-pub returns-in_err-check-clause-refused : goal.returns-in_err-check-clause-refused
-returns-in_err-check-clause-refused c =
-    let exit = c.from_residual-in_err-check in
-    let told = err_from_is_err_and exit.result exit.ensures.1 in
-    let words = words_seen c.args.words.now in
-    let named = c.in_ok-command in
-    let given = c.in_ok-given.ensures in
-    rw (told.1, told.2)
-    (options-settled words named.command named.ensures given.no_fault
-    ∙ c.in_err-check.ensures.settles (drop 1 words) given)
-
-pub returns-in_err-made-clause-refused : goal.returns-in_err-made-clause-refused
-returns-in_err-made-clause-refused c =
-    let exit = c.from_residual-in_err-made in
-    let told = err_from_is_err_and exit.result exit.ensures.1 in
-    let words = words_seen c.args.words.now in
-    let named = c.in_ok-command in
-    let given = c.in_ok-given.ensures in
-    let planned = options-settled words named.command named.ensures given.no_fault
-    ∙ c.in_ok-check.ensures.settles (drop 1 words) given in
-    rw (told.1, told.2) (ap is_ok planned)
-
-pub returns-clause-asked : goal.returns-clause-asked
-returns-clause-asked c =
-    let words = words_seen c.args.words.now in
-    let named = c.in_ok-command in
-    let given = c.in_ok-given.ensures in
-    options-settled words named.command named.ensures given.no_fault
-    ∙ c.in_ok-check.ensures.settles (drop 1 words) given
-    ∙ ap Ok (sym (c.in_ok-made.ensures (drop 1 words) given))
+pub returns-clause-told : goal.returns-clause-told
+returns-clause-told c = reports_refusal (words_seen c.args.words.now) c.planned.result c.planned.ensures.refused

@@ -1,0 +1,25 @@
+-- Lemmas on what a user sees of the words of a command line.
+use Rattle.std.proofs.Common.{◌≡◌, List, ℕ, Result, Ok, Err, ap}
+use Rattle.std.specs.Prelude.{IfOk, IfErr}
+use Rattle.bt_tool.specs.Options.{PlanSeen, options}
+use Rattle.bt_tool.specs.Plan.{seen}
+use Rattle.bt_tool.specs.Refusal.{IsRefusalOf}
+use Rattle.bt_tool.specs.Report.{ReportsPlan, ReportsUsage, ReportsRefusal, report, answer_of}
+use Rattle.bt_tool.specs.Table.{Word}
+use Rattle.bt_tool.specs.declared.plan_type.Plan.{Plan}
+use Rattle.bt_tool.specs.declared.usage.Refusal.{Refusal}
+use Rattle.bt_tool.specs.declared.usage.Refusal.TheVariants.{Usage as InWords, NoMemory}
+
+pub reports_plan : {E : Type 0} (words : List Word) (result : Result Plan E) → IfOk result (λ plan. options words ≡ Ok (seen plan)) → IfOk result (λ plan. ReportsPlan words (seen plan))
+unfolding report
+reports_plan words (Ok plan) h = λ genome first second. ap (λ answer. answer_of words answer genome first second) h
+reports_plan words (Err e) h = tt
+
+refusal_reports : (words : List Word) (refusal : Refusal) → IsRefusalOf words refusal → ReportsRefusal words refusal
+unfolding report
+refusal_reports words (InWords usage) h = λ genome first second. ap (λ answer. answer_of words answer genome first second) h
+refusal_reports words NoMemory h = tt
+
+pub reports_refusal : {T : Type 0} (words : List Word) (result : Result T Refusal) → IfErr result (IsRefusalOf words) → IfErr result (ReportsRefusal words)
+reports_refusal words (Ok plan) h = tt
+reports_refusal words (Err refusal) h = refusal_reports words refusal h
