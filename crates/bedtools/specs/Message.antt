@@ -1,5 +1,5 @@
 -- The lines that the program itself tells, and the exit statuses that go with them.
-use Rattle.std.specs.Prelude.{ℕ, List, [], ◌∷◌, ◌++◌, String, codes, length, string_bytes}
+use Rattle.std.specs.Prelude.{ℕ, List, ◌++◌, codes, length}
 use Rattle.bt_tool.specs.Plan.{words_seen}
 use Rattle.bt_tool.specs.Usage.{IsTellable, usage_text}
 use Rattle.bedtools.specs.declared.message.Trouble.{Trouble}

@@ -12,10 +12,9 @@ use bt_tool::{Ended, Outcome, Plan, Refusal, plan, run};
 use message::{NO_MEMORY, Trouble, message_of};
 use opened::Opened;
 use standard_output::Output;
-use std::env;
-use std::io;
 use std::io::Write;
 use std::process::ExitCode;
+use std::{env, io};
 
 fn main(rt: HostRuntime) -> ExitCode {
     let status = match words(&rt) {
@@ -66,11 +65,7 @@ fn carry_out(rt: &HostRuntime, plan: &Plan) -> u8 {
 }
 
 // Opens an input that the plan may not have. `Err` is the exit status where it can't be opened.
-fn open_if_named(
-    rt: &HostRuntime,
-    plan: &Plan,
-    name: &Option<String>,
-) -> Result<Option<Opened>, u8>
+fn open_if_named(rt: &HostRuntime, plan: &Plan, name: &Option<String>) -> Result<Option<Opened>, u8>
     ensures { IfOk result (λ input. is_some input ≡ is_some name.now) }
 {
     match name {

@@ -88,11 +88,7 @@ mod tests {
                 b"bedtools merge: g.txt: cannot be opened\n",
                 1,
             ),
-            (
-                Trouble::NotUnicode,
-                b"bedtools: argument is not UTF-8\n",
-                2,
-            ),
+            (Trouble::NotUnicode, b"bedtools: argument is not UTF-8\n", 2),
             (
                 Trouble::Usage(&words, usage),
                 b"bedtools: unknown option: -q\n",

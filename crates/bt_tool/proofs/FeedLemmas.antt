@@ -1,13 +1,12 @@
 -- Lemmas on feeding a merge with the records of a reader.
-use Rattle.std.proofs.Common.{◌≡◌, ℕ, ◌+◌, ◌<◌, ◌≤◌, Bool, true, false, List, [], ◌∷◌, ◌++◌, length, suc, Option, None, Some, Result, Ok, Err, refl, sym, ap, ◌∙◌, subst, append-nil, append_assoc, add-zero, length-append, arith, inl, inr}
+use Rattle.std.proofs.Common.{◌≡◌, ℕ, ◌<◌, Bool, true, List, [], ◌∷◌, ◌++◌, suc, Option, None, Some, refl, sym, ap, ◌∙◌, subst, append-nil, append_assoc, arith, inl, inr}
 use Rattle.std.specs.Prelude.{◌⊎◌, IfSome, IsSome, option_map}
 use Rattle.std.proofs.lemmas.List.Elements.{All-push}
-use Rattle.std.proofs.KnownBytes.{Consumes-nil, Consumes-trans, Appends-nil, Appends-trans}
+use Rattle.std.proofs.KnownBytes.{Appends-nil, Appends-trans}
 use Rattle.std.specs.Io.KnownBytes.{Appends}
 use Rattle.bt_lines.specs.Fault.{Told, write_failed, no_memory, read_failed}
 use Rattle.bt_lines.specs.Output.{Output, HoldsBlock, IsFrontOf, Grows}
-use Rattle.bt_lines.specs.Reader.{source_of, input_of, bytes_taken, lines_given}
-use Rattle.bt_lines.specs.declared.line_reader.LineReader.{LineReader}
+use Rattle.bt_lines.specs.Reader.{source_of, input_of, lines_given}
 use Rattle.bt_tool.specs.Engine.{Merging, StandsAfter, ComesNext, AreSettledBy, run_lines, settled_lines}
 use Rattle.bt_tool.specs.Putting.{WorksAsBefore}
 use Rattle.bt_tool.specs.GenomeTable.{Hands}
@@ -15,7 +14,7 @@ use Rattle.bt_tool.specs.Good.{Good, fault_at_line}
 use Rattle.bt_tool.specs.Interval.{Interval, AreNonEmpty, last_of}
 use Rattle.bt_tool.specs.Place.{ArePlaced, IsPlacedUpTo, rank_of}
 use Rattle.bt_tool.specs.Records.{GivesRecord, GivesEnd, GivesFault, Stays, Advances, Remains, Cause as PeekCause, ends_with, with_record, below, names_in, last_record, record_ahead, fault_kept, good_left}
-use Rattle.bt_tool.specs.Run.{Cause, ComeFirst, PutsSettled, CutsSettled, Took, FeedsAll, FeedsUpTo, StopsAtLine, StopsReading, StopsGrowing, StopsWriting}
+use Rattle.bt_tool.specs.Run.{Cause, ComeFirst, PutsSettled, Took, FeedsAll, FeedsUpTo}
 use Rattle.bt_tool.specs.declared.records.RecordReader.{RecordReader}
 use Rattle.bt_tool.proofs.EngineLemmas.{text_grows}
 use Rattle.bt_tool.proofs.HandsLemmas.{hands_none, hands_both}

@@ -1,5 +1,5 @@
 -- Lemmas on the bytes that a reader of lines took from its source.
-use Rattle.std.proofs.Common.{◌≡◌, ℕ, ◌+◌, List, [], ◌++◌, Option, length, sym, add-zero, length-append, arith}
+use Rattle.std.proofs.Common.{ℕ, List, [], ◌++◌, Option, sym, add-zero, length-append, arith}
 use Rattle.std.proofs.KnownBytes.{Consumes-nil, Consumes-trans}
 use Rattle.bt_lines.specs.Reader.{Hands as HandsBytes, source_of, bytes_taken}
 use Rattle.bt_lines.specs.declared.line_reader.LineReader.{LineReader}

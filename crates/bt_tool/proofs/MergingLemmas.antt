@@ -1,11 +1,11 @@
 -- Lemmas on a run of merge, from the records that it takes to the report of the whole texts.
-use Rattle.std.proofs.Common.{◌≡◌, ℕ, ◌+◌, ◌^◌, ◌<◌, ◌≤◌, Bool, true, false, List, [], ◌∷◌, ◌++◌, length, Option, None, Some, Result, Ok, Err, refl, sym, ap, ◌∙◌, subst, append-nil, append_assoc, length-append, arith, inl, inr, ⊎_elim}
+use Rattle.std.proofs.Common.{◌≡◌, ℕ, ◌^◌, ◌<◌, ◌≤◌, Bool, true, false, List, [], ◌++◌, length, Option, None, Some, refl, sym, ap, ◌∙◌, subst, append-nil, length-append, arith, inl, inr, ⊎_elim}
 use Rattle.std.specs.Prelude.{◌⊎◌, ◌≢◌, IfSome, option_map}
 use Rattle.std.proofs.lemmas.Bool.{false≢true}
 use Rattle.std.specs.Io.KnownBytes.{Consumes}
 use Rattle.bt_lines.specs.Fault.{Told, write_failed, no_memory, read_failed}
 use Rattle.bt_lines.specs.Lines.{text_lines}
-use Rattle.bt_lines.specs.Output.{Output, HoldsBlock, IsFrontOf, Grows}
+use Rattle.bt_lines.specs.Output.{Output, IsFrontOf, Grows}
 use Rattle.bt_lines.specs.Reader.{source_of, input_of, bytes_taken, lines_left, fault_kept as line_fault}
 use Rattle.bt_lines.specs.declared.line_reader.LineReader.{LineReader}
 use Rattle.bt_lines.specs.declared.fault.Input.{Input}
@@ -13,14 +13,14 @@ use Rattle.bt_lines.specs.declared.fault.Input.TheVariants.{First}
 use Rattle.bt_lines.specs.declared.fault.Kind.{Kind}
 use Rattle.bt_lines.specs.declared.fault.Kind.TheVariants.{ReadFailed, WriteFailed, NoMemory}
 use Rattle.bt_lines.specs.declared.fault.Place.{Place}
-use Rattle.bt_tool.specs.Engine.{Merging, StandsAfter, settled_lines, merged_lines, AreUnsettled}
+use Rattle.bt_tool.specs.Engine.{Merging, settled_lines, merged_lines, AreUnsettled}
 use Rattle.bt_tool.specs.Good.{Good, good, fault_at_line}
 use Rattle.bt_tool.specs.Interval.{Interval, AreNonEmpty}
 use Rattle.bt_tool.specs.LineKind.{is_of_line}
 use Rattle.bt_tool.specs.Place.{AreDistinct, ArePlaced}
 use Rattle.bt_tool.specs.Records.{below, names_in, good_left}
-use Rattle.bt_tool.specs.Report.{Report, merge_good}
-use Rattle.bt_tool.specs.Run.{Cause, PutsSettled, CutsSettled, Took, FeedsAll, FeedsUpTo, StopsAtLine, StopsReading, StopsGrowing, StopsWriting}
+use Rattle.bt_tool.specs.Report.{merge_good}
+use Rattle.bt_tool.specs.Run.{Cause, PutsSettled, CutsSettled, FeedsAll, FeedsUpTo, StopsAtLine}
 use Rattle.bt_tool.specs.RunMerge.{MergesRecords, PassesBound, records_report}
 use Rattle.bt_tool.specs.GenomeTable.{Hands}
 use Rattle.bt_tool.specs.declared.records.RecordReader.{RecordReader}

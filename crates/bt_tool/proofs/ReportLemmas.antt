@@ -1,15 +1,13 @@
 -- Lemmas on what a run of merge gives, from the records that it has read.
-use Rattle.std.proofs.Common.{◌≡◌, ℕ, List, [], ◌∷◌, ◌++◌, Option, None, Some, refl, sym, ap, ◌∙◌, subst, append-nil, append_assoc}
-use Rattle.std.specs.Prelude.{flat_map}
+use Rattle.std.proofs.Common.{◌≡◌, ℕ, List, ◌++◌, Option, None, Some, ap, ◌∙◌, subst}
 use Rattle.std.proofs.lemmas.Grind.{flat_map-append}
 use Rattle.bt_lines.specs.Fault.{Told}
 use Rattle.bt_tool.specs.Engine.{run_line, run_lines, settled_lines, merged_lines}
 use Rattle.bt_tool.specs.Good.{Good}
 use Rattle.bt_tool.specs.Interval.{Interval, AreNonEmpty}
-use Rattle.bt_tool.specs.Merged.{merged, chromosomes}
 use Rattle.bt_tool.specs.Place.{AreDistinct, ArePlaced, AreTogether}
 use Rattle.bt_tool.specs.Report.{merge_good}
-use Rattle.bt_tool.specs.Settled.{settled, Begins}
+use Rattle.bt_tool.specs.Settled.{Begins}
 use Rattle.bt_tool.proofs.Placed.{placed_together, merged_by_chromosomes, settled_by_chromosomes}
 use Rattle.bt_tool.proofs.Steps.{stays_settled, begins_settled}
 

@@ -1,10 +1,10 @@
 -- Lemmas on what a user sees of the words of a command line.
-use Rattle.std.proofs.Common.{◌≡◌, List, ℕ, Result, Ok, Err, ap}
+use Rattle.std.proofs.Common.{◌≡◌, List, Result, Ok, Err, ap}
 use Rattle.std.specs.Prelude.{IfOk, IfErr}
-use Rattle.bt_tool.specs.Options.{PlanSeen, options}
+use Rattle.bt_tool.specs.Options.{options}
 use Rattle.bt_tool.specs.Plan.{seen}
 use Rattle.bt_tool.specs.Refusal.{IsRefusalOf}
-use Rattle.bt_tool.specs.Report.{ReportsPlan, ReportsUsage, ReportsRefusal, report, answer_of}
+use Rattle.bt_tool.specs.Report.{ReportsPlan, ReportsRefusal, report, answer_of}
 use Rattle.bt_tool.specs.Table.{Word}
 use Rattle.bt_tool.specs.declared.plan_type.Plan.{Plan}
 use Rattle.bt_tool.specs.declared.usage.Refusal.{Refusal}

@@ -1,15 +1,14 @@
 -- Lemmas on a table of chromosomes and on reading one.
-use Rattle.std.proofs.Common.{◌≡◌, ℕ, suc, ◌+◌, ◌^◌, ◌<◌, ◌≤◌, Bool, true, false, ◌&&◌, ◌||◌, cond, List, [], ◌∷◌, ◌++◌, map, length, drop, get_or, Option, Some, None, Result, Ok, Err, refl, sym, ap, ◌∙◌, subst, append_assoc, append-nil, add-zero, length-append, inl, inr, arith}
-use Rattle.std.specs.Prelude.{◌⊎◌, ◌==◌, IfSome, IsFalse, bytes_eq, is_some, option_map, slice_get}
+use Rattle.std.proofs.Common.{◌≡◌, ℕ, suc, ◌+◌, ◌<◌, ◌≤◌, Bool, true, false, ◌||◌, cond, List, [], ◌∷◌, ◌++◌, map, length, drop, get_or, Option, Some, None, Result, Ok, Err, refl, sym, ap, ◌∙◌, subst, append_assoc, append-nil, add-zero, length-append, inl, inr, arith}
+use Rattle.std.specs.Prelude.{◌⊎◌, ◌==◌, IfSome, bytes_eq, is_some, option_map, slice_get}
 use Rattle.std.specs.Option.{option_to_list}
-use Rattle.std.specs.Io.KnownBytes.{Consumes}
 use Rattle.std.proofs.KnownBytes.{Consumes-nil, Consumes-trans}
 use Rattle.std.proofs.lemmas.List.{map-append, drop_more, drop_all}
 use Rattle.bt_lines.specs.Fault.{Told, read_failed, no_memory}
 use Rattle.bt_lines.specs.Given.{GivesFirst}
 use Rattle.bt_lines.specs.Lines.{TextLine, pieces}
 use Rattle.bt_lines.specs.Number.{value_of}
-use Rattle.bt_lines.specs.Reader.{Hands as HandsBytes, GivesLine, GivesEnd, GivesFault, FailsToRead, source_of, input_of, lines_given, bytes_taken, has_ended, fault_kept, lines_left}
+use Rattle.bt_lines.specs.Reader.{Hands as HandsBytes, GivesLine, GivesEnd, GivesFault, FailsToRead, source_of, input_of, lines_given, bytes_taken, fault_kept, lines_left}
 use Rattle.bt_lines.specs.declared.fault.Input.{Input}
 use Rattle.bt_lines.specs.declared.fault.Kind.{Kind}
 use Rattle.bt_lines.specs.declared.fault.Kind.TheVariants.{TooFewColumns, EmptyName, BadLength, RepeatedChrom}
@@ -17,7 +16,7 @@ use Rattle.bt_lines.specs.declared.fault.Place.{Place}
 use Rattle.bt_lines.specs.declared.line_reader.LineReader.{LineReader}
 use Rattle.bt_tool.proofs.GenomeLemmas.{distinct_push, is_new}
 use Rattle.std.proofs.lemmas.Option.{slice_get-map}
-use Rattle.bt_tool.specs.Genome.{Entry, is_skipped, genome_names, genome_from, genome_with, genome_of, new_entry, entry_of, entry_from, columns_give, with_entry}
+use Rattle.bt_tool.specs.Genome.{Entry, is_skipped, genome_names, genome_from, genome_of, new_entry, entry_of, entry_from, columns_give, with_entry}
 use Rattle.bt_tool.specs.LineKind.{is_of_line}
 use Rattle.bt_tool.specs.Good.{fault_at_line}
 use Rattle.bt_tool.specs.Place.{is_among, rank_of, AreDistinct}

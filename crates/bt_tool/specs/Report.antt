@@ -1,5 +1,5 @@
 -- What a run gives: the bytes written, the fault told and the exit status, from the words of the command line and the whole texts of the inputs.
-use Rattle.std.specs.Prelude.{◌≡◌, ℕ, List, [], ◌∷◌, ◌++◌, Option, Some, None, Result, Ok, Err, option_map, unwrap_or}
+use Rattle.std.specs.Prelude.{◌≡◌, ℕ, List, [], Option, Some, None, Result, Ok, Err, option_map, unwrap_or}
 use Rattle.bt_lines.specs.Fault.{Told, InputNames, line_of}
 use Rattle.bt_lines.specs.Lines.{text_lines}
 use Rattle.bt_lines.specs.declared.fault.Input.TheVariants.{Genome, First}

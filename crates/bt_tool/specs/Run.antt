@@ -1,11 +1,10 @@
 -- What a run of merge does to its devices, from the records that it reads.
-use Rattle.std.specs.Prelude.{◌≡◌, ℕ, ◌+◌, ◌^◌, ◌<◌, ◌≤◌, ◌⊎◌, Bool, true, List, [], ◌∷◌, ◌++◌, length, Option, Some, None, Result, Ok, Err, IfSome, ⊤}
+use Rattle.std.specs.Prelude.{◌≡◌, ℕ, ◌^◌, ◌≤◌, ◌⊎◌, Bool, true, List, [], ◌++◌, Option, Some, None, Result, Ok, Err, IfSome, ⊤}
 use Rattle.bt_lines.specs.Fault.{Told, read_failed, no_memory, write_failed}
 use Rattle.bt_lines.specs.Names.{told}
-use Rattle.bt_lines.specs.Output.{Output, HoldsBlock, IsFrontOf, Grows}
+use Rattle.bt_lines.specs.Output.{Output, IsFrontOf, Grows}
 use Rattle.bt_lines.specs.Reader.{source_of, input_of, bytes_taken}
 use Rattle.bt_lines.specs.declared.fault.Fault.{Fault}
-use Rattle.bt_lines.specs.declared.fault.Input.{Input}
 use Rattle.bt_lines.specs.declared.fault.Kind.{Kind}
 use Rattle.bt_tool.specs.Engine.{Merging, StandsAfter, settled_lines}
 use Rattle.bt_tool.specs.Putting.{WorksAsBefore}

@@ -1,5 +1,5 @@
 -- What a run of merge does, from the whole texts of its inputs.
-use Rattle.std.specs.Prelude.{◌≡◌, ◌≢◌, ℕ, ◌^◌, ◌<◌, ◌≤◌, ◌⊎◌, Bool, true, false, List, [], ◌++◌, length, Option, Some, None, IfSome}
+use Rattle.std.specs.Prelude.{◌≡◌, ◌≢◌, ℕ, ◌^◌, ◌<◌, ◌≤◌, ◌⊎◌, Bool, true, false, List, [], ◌++◌, length, Option, Some}
 use Rattle.std.specs.Io.KnownBytes.{Consumes}
 use Rattle.bt_lines.specs.Fault.{Told, read_failed, no_memory, write_failed}
 use Rattle.bt_lines.specs.Lines.{text_lines}

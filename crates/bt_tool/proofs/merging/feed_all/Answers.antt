@@ -1,7 +1,6 @@
-use Rattle.std.proofs.Common.{◌≡◌, ◌∙◌, refl, rules, sym, inl, inr}
 use Rattle.bt_lines.specs.Names.{told}
 use Rattle.bt_tool.specs.Bed.{interval_of}
-use Rattle.bt_tool.specs.Run.{Feeds, FeedsUpTo}
+use Rattle.bt_tool.specs.Run.{Feeds}
 use Rattle.bt_tool.proofs.FeedLemmas.{going_start, going_more, comes_next, feeds_all, stops_reading, stops_feeding}
 use Rattle.bt_tool.proofs.ResultLemmas.{passed_on}
 use Rattle.bt_tool.proofs.merging.feed_all.Goals as goal

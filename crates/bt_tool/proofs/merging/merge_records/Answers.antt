@@ -1,4 +1,4 @@
-use Rattle.std.proofs.Common.{◌≡◌, ◌∙◌, ap, refl, sym}
+use Rattle.std.proofs.Common.{◌≡◌, ◌∙◌, ap, sym}
 use Rattle.std.specs.Prelude.{option_map}
 use Rattle.bt_lines.specs.Lines.{text_lines}
 use Rattle.bt_lines.specs.Names.{told}

@@ -1,8 +1,7 @@
-use Rattle.std.proofs.Common.{◌≡◌, ◌∙◌, ap, refl, sym}
+use Rattle.std.proofs.Common.{ap, sym}
 use Rattle.std.specs.Prelude.{option_map}
 use Rattle.bt_lines.specs.Names.{told}
 use Rattle.bt_lines.specs.Output.{Output}
-use Rattle.bt_lines.specs.Reader.{source_of}
 use Rattle.bt_tool.proofs.RunningLemmas.{gives_merged, gives_wrong}
 use Rattle.bt_tool.proofs.running.run_merge.Goals as goal
 

@@ -1,6 +1,6 @@
-use Rattle.std.proofs.Common.{◌≡◌, ◌∙◌, ◌<◌, ◌≤◌, sym, rules, arith, true, false, cond, length, ap, refl, get_or}
+use Rattle.std.proofs.Common.{◌≡◌, ◌∙◌, ◌<◌, sym, rules, true, false, length, refl, get_or}
 use Rattle.std.specs.Prelude.{bytes_eq}
-use Rattle.bt_tool.proofs.TableLemmas.{rank_from, rank_from_first, rank_from_next, rank_from_end, same_test}
+use Rattle.bt_tool.proofs.TableLemmas.{rank_from_first, rank_from_next, rank_from_end, same_test}
 use Rattle.bt_tool.specs.GenomeTable.{entries}
 use Rattle.bt_tool.proofs.genome.Genome.rank.Goals as goal
 

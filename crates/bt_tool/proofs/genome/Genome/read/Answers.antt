@@ -1,4 +1,4 @@
-use Rattle.std.proofs.Common.{◌≡◌, ◌∙◌, ap, refl, rules, map, inr}
+use Rattle.std.proofs.Common.{◌≡◌, ap, rules, map, inr}
 use Rattle.bt_lines.specs.Given.{line_seen}
 use Rattle.bt_lines.specs.Names.{told}
 use Rattle.bt_lines.specs.declared.fault.Place.{Place}

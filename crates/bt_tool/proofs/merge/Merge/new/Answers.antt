@@ -1,4 +1,4 @@
-use Rattle.std.proofs.Common.{List, [], refl, sym}
+use Rattle.std.proofs.Common.{[], refl, sym}
 use Rattle.bt_tool.proofs.Placed.{none_at_first}
 use Rattle.bt_tool.proofs.merge.Merge.new.Goals as goal
 
