@@ -1,8 +1,10 @@
 //! `bedtools`: makes the plan of a command line, opens its files, runs it, and tells what went wrong.
 #![tactic(auto)]
 
-ghost use Rattle.std.specs.Prelude.{◌≡◌, is_some, IfOk};
-ghost use Rattle.bedtools.specs.Message.{CanBeTold};
+ghost use Rattle.std.specs.Prelude.{◌≡◌, ◌⊎◌, is_some, option_map, IfOk, IfErr};
+ghost use Rattle.bt_lines.specs.Names.{told};
+ghost use Rattle.bt_tool.specs.Report.{status_of as run_status};
+ghost use Rattle.bedtools.specs.Message.{CanBeTold, status_of};
 
 mod message;
 mod opened;
@@ -66,7 +68,8 @@ fn carry_out(rt: &HostRuntime, plan: &Plan) -> u8 {
 
 // Opens an input that the plan may not have. `Err` is the exit status where it can't be opened.
 fn open_if_named(rt: &HostRuntime, plan: &Plan, name: &Option<String>) -> Result<Option<Opened>, u8>
-    ensures { IfOk result (λ input. is_some input ≡ is_some name.now) }
+    ensures input { IfOk result (λ input. is_some input ≡ is_some name.now) }
+    ensures status { IfErr result (λ status. status ≡ 1) }
 {
     match name {
         Some(name) => Ok(Some(open(rt, plan, name.as_str())?)),
@@ -75,7 +78,9 @@ fn open_if_named(rt: &HostRuntime, plan: &Plan, name: &Option<String>) -> Result
 }
 
 // Opens an input. `Err` is the exit status where it can't be opened.
-fn open(rt: &HostRuntime, plan: &Plan, name: &str) -> Result<Opened, u8> {
+fn open(rt: &HostRuntime, plan: &Plan, name: &str) -> Result<Opened, u8>
+    ensures { IfErr result (λ status. status ≡ 1) }
+{
     match Opened::open(rt, name) {
         Ok(input) => Ok(input),
         Err(error) if error.kind() == io::ErrorKind::OutOfMemory => {
@@ -86,7 +91,9 @@ fn open(rt: &HostRuntime, plan: &Plan, name: &str) -> Result<Opened, u8> {
 }
 
 // Tells how a run ended.
-fn tell_outcome(rt: &HostRuntime, plan: &Plan, outcome: &Outcome) -> u8 {
+fn tell_outcome(rt: &HostRuntime, plan: &Plan, outcome: &Outcome) -> u8
+    ensures { (result ≡ run_status (option_map told outcome.now.fault)) ⊎ (result ≡ 1) }
+{
     match outcome.fault_line(rt.alloc(), plan) {
         Ok(Some(line)) => print_error(rt, line.as_slice()),
         Ok(None) => {}
@@ -95,9 +102,11 @@ fn tell_outcome(rt: &HostRuntime, plan: &Plan, outcome: &Outcome) -> u8 {
     outcome.status()
 }
 
-// Tells what kept a run from beginning, or its fault from being told.
+// Tells what kept a run from beginning, or its fault from being told. Want of memory for that has
+// status 1.
 fn tell(rt: &HostRuntime, trouble: &Trouble<'_>) -> u8
     requires { CanBeTold trouble.now }
+    ensures { (result ≡ status_of trouble.now) ⊎ (result ≡ 1) }
 {
     match message_of(rt.alloc(), trouble) {
         Ok(message) => {
