@@ -36,23 +36,32 @@ pub fn message_of(alloc: Global, trouble: &Trouble<'_>) -> Result<Message, Alloc
     ensures line { IfOk result (λ message. message.line.items ≡ line_of trouble.now) }
     ensures status { IfOk result (λ message. message.status ≡ status_of trouble.now) }
 {
+    Ok(Message {
+        line: line_of(alloc, trouble)?,
+        status: status_of(trouble),
+    })
+}
+
+// The line that tells a trouble.
+fn line_of(alloc: Global, trouble: &Trouble<'_>) -> Result<Vec<u8>, AllocError>
+    requires { CanBeTold trouble.now }
+    ensures { IfOk result (λ line. line.items ≡ line_of trouble.now) }
+{
     match trouble {
-        Trouble::NotUnicode => Ok(Message {
-            line: Vec::from_slice(alloc, b"bedtools: argument is not UTF-8\n")?,
-            status: 2,
-        }),
-        Trouble::Usage(words, usage) => Ok(Message {
-            line: usage_line(alloc, words, usage)?,
-            status: 2,
-        }),
-        Trouble::CannotOpen(command, name) => Ok(Message {
-            line: cannot_open(alloc, command, name)?,
-            status: 1,
-        }),
-        Trouble::NoMemory => Ok(Message {
-            line: Vec::from_slice(alloc, NO_MEMORY)?,
-            status: 1,
-        }),
+        Trouble::NotUnicode => Vec::from_slice(alloc, b"bedtools: argument is not UTF-8\n"),
+        Trouble::Usage(words, usage) => usage_line(alloc, words, usage),
+        Trouble::CannotOpen(command, name) => cannot_open(alloc, command, name),
+        Trouble::NoMemory => Vec::from_slice(alloc, NO_MEMORY),
+    }
+}
+
+// The exit status of a trouble.
+fn status_of(trouble: &Trouble<'_>) -> u8
+    ensures { result ≡ status_of trouble.now }
+{
+    match trouble {
+        Trouble::NotUnicode | Trouble::Usage(_, _) => 2,
+        Trouble::CannotOpen(_, _) | Trouble::NoMemory => 1,
     }
 }
 
