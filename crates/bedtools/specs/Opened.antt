@@ -1,6 +1,6 @@
--- Whether an opened device has failed.
+-- Whether an opened device has failed, and whether it was flushed.
 use Rattle.std.specs.Prelude.{Bool}
-use Rattle.bt_lines.specs.Adapter.{read_has_failed, read_end_told, write_has_failed}
+use Rattle.bt_lines.specs.Adapter.{read_has_failed, read_end_told, write_has_failed, write_is_flushed}
 use Rattle.bedtools.specs.declared.opened.Opened.{Opened}
 use Rattle.bedtools.specs.declared.opened.Opened.TheVariants.{File, Standard}
 use Rattle.bedtools.specs.declared.standard_output.Output.{Output}
@@ -16,3 +16,7 @@ opened_end_told (Standard source) = read_end_told source
 
 abbrev pub output_has_failed : Output → Bool
 output_has_failed (StandardOutput sink) = write_has_failed sink
+
+-- whether it was flushed since the last write
+abbrev pub output_is_flushed : Output → Bool
+output_is_flushed (StandardOutput sink) = write_is_flushed sink

@@ -1,7 +1,7 @@
 //! Where the program writes to.
 
 ghost use Rattle.std.specs.Prelude.{None};
-ghost use Rattle.bedtools.specs.Opened.{output_has_failed};
+ghost use Rattle.bedtools.specs.Opened.{output_has_failed, output_is_flushed};
 
 use bt_lines::{DeviceFailed, Sink, ToWrite};
 use std::io;
@@ -25,6 +25,8 @@ impl Sink for Output {
     ghost took = { λ _. None };
 
     ghost has_failed = { output_has_failed };
+
+    ghost is_flushed = { output_is_flushed };
 
     fn write(&mut self, bytes: &[u8]) -> Result<usize, DeviceFailed> {
         match self {

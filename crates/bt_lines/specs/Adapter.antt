@@ -22,3 +22,7 @@ writer_of s = s.writer
 -- whether the writer has failed
 abbrev pub write_has_failed : {W : Type 0} → ToWrite W → Bool
 write_has_failed s = s.has_failed
+
+-- whether the writer was flushed since the last write
+abbrev pub write_is_flushed : {W : Type 0} → ToWrite W → Bool
+write_is_flushed s = s.is_flushed

@@ -12,6 +12,8 @@ pub record Output : Type 0 where
   pub took : Option (List ℕ)
   pub has_failed : Bool
   pub sink_has_failed : Bool
+  -- whether the sink has passed on all that it took
+  pub sink_is_flushed : Bool
 
 -- what was put and what was taken differ by at most a block, held back
 abbrev pub HoldsBlock : Option (List ℕ) → Option (List ℕ) → Type 0

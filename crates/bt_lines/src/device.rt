@@ -42,6 +42,9 @@ pub trait Sink {
     // Whether a write or a flush has failed.
     ghost has_failed: { Self → Bool };
 
+    // Whether it has passed on all that it took, by a flush at the latest.
+    ghost is_flushed: { Self → Bool };
+
     /// Takes a front of the bytes, at least one byte where there is one, and tells how many. An error
     /// takes none of them, and isn't tried again.
     fn write(&mut self, bytes: &[u8]) -> Result<usize, DeviceFailed>
@@ -54,6 +57,7 @@ pub trait Sink {
     /// Passes on what it may still hold back.
     fn flush(&mut self) -> Result<(), DeviceFailed>
         ensures bytes { Keeps (took self.old) (took self.new) }
+        ensures flushed { OnOk result (is_flushed self.new ≡ true) }
         ensures served { OnOk result (has_failed self.new ≡ has_failed self.old) }
         ensures failed { OnErr result (has_failed self.new ≡ true) };
 

@@ -29,6 +29,7 @@ impl<K: Sink> Model for Out<K> {
       took = K.took o.sink;
       has_failed = o.has_failed;
       sink_has_failed = K.has_failed o.sink;
+      sink_is_flushed = K.is_flushed o.sink;
     } };
 
     ghost invariant = { λ o. o.has_failed ≡ true → K.has_failed o.sink ≡ true };
@@ -42,6 +43,7 @@ impl<K: Sink> Out<K> {
           took = K.took sink;
           has_failed = false;
           sink_has_failed = K.has_failed sink;
+          sink_is_flushed = K.is_flushed sink;
         } }
     {
         Out {
@@ -79,6 +81,7 @@ impl<K: Sink> Out<K> {
     pub fn flush(&mut self) -> Result<(), Fault>
         ensures put { OnOk result (Keeps self.old.put self.new.put) }
         ensures taken { OnOk result (Keeps self.new.put self.new.took) }
+        ensures flushed { OnOk result (self.new.sink_is_flushed ≡ true) }
         ensures front { OnErr result (IsFrontOf self.new.took self.old.put []) }
         ensures grows { Grows self.old.took self.new.took }
 
@@ -104,6 +107,7 @@ impl<K: Sink> Out<K> {
     pub fn into_sink(self) -> K
         ensures took { K.took result ≡ self.took }
         ensures failed { K.has_failed result ≡ self.sink_has_failed }
+        ensures flushed { K.is_flushed result ≡ self.sink_is_flushed }
     {
         let Out {
             sink,

@@ -85,6 +85,8 @@ impl Sink for ScriptSink {
 
     ghost has_failed = { λ s. s.has_failed };
 
+    ghost is_flushed = { λ _. true };
+
     fn write(&mut self, bytes: &[u8]) -> Result<usize, DeviceFailed>
         ensures within { IfOk result (λ n. n ≤ length bytes.now) }
         ensures progress { IfOk result (λ n. 0 < length bytes.now → 0 < n) }

@@ -1,10 +1,11 @@
-ghost use Rattle.std.specs.Prelude.{None};
+ghost use Rattle.std.specs.Prelude.{None, true};
 
 use crate::{
     DeviceFailed, Fault, Input, Kind, LineEnd, LineReader, Names, Out, Place, ScriptSink,
     ScriptSource, Sink, Source, columns, count_lines, fault_line, number,
 };
 use std::alloc::AllocError;
+use std::io::BufWriter;
 use std::test::Fail;
 
 #[test]
@@ -169,6 +170,8 @@ impl Sink for FlushFails {
 
     ghost has_failed = { λ s. s.has_failed };
 
+    ghost is_flushed = { λ _. true };
+
     fn write(&mut self, bytes: &[u8]) -> Result<usize, DeviceFailed> {
         Ok(bytes.len())
     }
@@ -219,6 +222,17 @@ fn devices_of_std(rt: HostRuntime) -> Result<(), Fail> {
         output.into_sink().into_inner().as_slice(),
         b"abc".as_slice()
     );
+    Ok(())
+}
+
+#[test]
+fn a_flush_reaches_the_writer(rt: HostRuntime) -> Result<(), Fail> {
+    let writer = BufWriter::new(rt.alloc(), Vec::new(rt.alloc()))?;
+    let mut output = Out::new(crate::ToWrite::new(writer));
+    output.put(b"abc")?;
+    output.flush()?;
+    let writer = output.into_sink().into_inner();
+    assert_eq!(rt; writer.get_ref().as_slice(), b"abc".as_slice());
     Ok(())
 }
 

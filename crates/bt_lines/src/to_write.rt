@@ -2,7 +2,7 @@
 
 ghost use Rattle.std.specs.Prelude.{◌≡◌, ℕ, ◌<◌, ◌≤◌, false, true, IsTrue, IsErr, length, IfOk, OnOk, OnErr};
 ghost use Rattle.std.specs.Io.KnownBytes.{Keeps, WriteAppends};
-ghost use Rattle.bt_lines.specs.Adapter.{writer_of, write_has_failed};
+ghost use Rattle.bt_lines.specs.Adapter.{writer_of, write_has_failed, write_is_flushed};
 
 use crate::device::{DeviceFailed, Sink};
 use std::io::Write;
@@ -13,6 +13,7 @@ use std::io::Write;
 pub struct ToWrite<W> {
     writer: W,
     has_failed: bool,
+    is_flushed: bool,
 }
 
 impl<W> ToWrite<W> {
@@ -24,6 +25,7 @@ impl<W> ToWrite<W> {
         ToWrite {
             writer,
             has_failed: false,
+            is_flushed: false,
         }
     }
 
@@ -34,6 +36,7 @@ impl<W> ToWrite<W> {
         let ToWrite {
             writer,
             has_failed: _,
+            is_flushed: _,
         } = self;
         writer
     }
@@ -43,6 +46,8 @@ impl<W: Write> Sink for ToWrite<W> {
     ghost took = { λ s. W.contents (writer_of s) };
 
     ghost has_failed = { write_has_failed };
+
+    ghost is_flushed = { write_is_flushed };
 
     fn write(&mut self, bytes: &[u8]) -> Result<usize, DeviceFailed>
         ensures within { IfOk result (λ n. n ≤ length bytes.now) }
@@ -56,6 +61,7 @@ impl<W: Write> Sink for ToWrite<W> {
         if self.has_failed {
             return Err(DeviceFailed);
         }
+        self.is_flushed = false;
         match self.writer.write(bytes) {
             Ok(count) if count > 0 || bytes.is_empty() => Ok(count),
             _ => {
@@ -67,6 +73,7 @@ impl<W: Write> Sink for ToWrite<W> {
 
     fn flush(&mut self) -> Result<(), DeviceFailed>
         ensures bytes { Keeps (W.contents (writer_of self.old)) (W.contents (writer_of self.new)) }
+        ensures flushed { OnOk result (write_is_flushed self.new ≡ true) }
         ensures served { OnOk result (write_has_failed self.new ≡ write_has_failed self.old) }
         ensures failed { OnErr result (write_has_failed self.new ≡ true) }
         ensures for_good { IsTrue (write_has_failed self.old) → IsErr result }
@@ -78,6 +85,7 @@ impl<W: Write> Sink for ToWrite<W> {
             self.has_failed = true;
             return Err(DeviceFailed);
         }
+        self.is_flushed = true;
         Ok(())
     }
 

@@ -1,6 +1,7 @@
 //! How a run ends at its output.
 
-ghost use Rattle.std.specs.Prelude.{option_map};
+ghost use Rattle.std.specs.Prelude.{◌≡◌, ◌⊎◌, true, Some, option_map};
+ghost use Rattle.bt_lines.specs.Fault.{write_failed};
 ghost use Rattle.bt_lines.specs.Names.{told};
 ghost use Rattle.bt_tool.specs.Flushing.{Flushes};
 
@@ -8,7 +9,9 @@ use bt_lines::{Fault, Kind, Out, Sink};
 
 // Hands on what is held back, unless a write failed, and tells the fault that the run ends with.
 pub(crate) fn flushed<K: Sink>(fault: Option<Fault>, out: &mut Out<K>) -> Option<Fault>
-    ensures { Flushes out.old (option_map told fault) (option_map told result) out.new }
+    ensures ends { Flushes out.old (option_map told fault) (option_map told result) out.new }
+    ensures flushed { (option_map told result ≡ Some write_failed)
+        ⊎ (out.new.sink_is_flushed ≡ true) }
 {
     if let Some(fault) = fault {
         if fault.kind == Kind::WriteFailed {

@@ -1,6 +1,7 @@
 //! Running a plan over its devices.
 
-ghost use Rattle.std.specs.Prelude.{◌≡◌, is_some, option_map};
+ghost use Rattle.std.specs.Prelude.{◌≡◌, ◌⊎◌, true, Some, is_some, option_map};
+ghost use Rattle.bt_lines.specs.Fault.{write_failed};
 ghost use Rattle.bt_lines.specs.Names.{told};
 ghost use Rattle.bt_tool.specs.RunMerge.{Runs, RunsPlan};
 ghost use Rattle.bt_tool.specs.Plan.{seen};
@@ -38,6 +39,8 @@ pub fn run<G: Source, A: Source, B: Source, K: Sink>(
     requires second { is_some second ≡ is_some plan.now.second }
     ensures genome { is_some result.genome ≡ is_some genome }
     ensures second { result.second ≡ second }
+    ensures flushed { (option_map told result.outcome.fault ≡ Some write_failed)
+        ⊎ (K.is_flushed result.out ≡ true) }
     ensures report { RunsPlan G.left G.has_failed A.left A.has_failed K.took K.has_failed (seen plan.now)
         genome first out (option_map told result.outcome.fault) result.genome result.first result.out }
 {
@@ -63,7 +66,9 @@ fn run_merge<G: Source, A: Source, K: Sink>(
     first: A,
     out: K,
 ) -> (Option<Fault>, G, A, K)
-    ensures { Runs G.left G.has_failed A.left A.has_failed K.took K.has_failed
+    ensures flushed { (option_map told result.0 ≡ Some write_failed)
+        ⊎ (K.is_flushed result.3 ≡ true) }
+    ensures report { Runs G.left G.has_failed A.left A.has_failed K.took K.has_failed
         genome first out (option_map told result.0) result.1 result.2 result.3 }
 {
     let mut out = Out::new(out);

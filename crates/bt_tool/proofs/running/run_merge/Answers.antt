@@ -5,8 +5,8 @@ use Rattle.bt_lines.specs.Output.{Output}
 use Rattle.bt_tool.proofs.RunningLemmas.{gives_merged, gives_wrong}
 use Rattle.bt_tool.proofs.running.run_merge.Goals as goal
 
-pub returns-in-Ok : goal.returns-in-Ok
-returns-in-Ok g c =
+pub returns-in-Ok-clause-report : goal.returns-in-Ok-clause-report
+returns-in-Ok-clause-report g c =
     let reader = c.new-lines in
     let begun = c.new-out in
     gives_merged g.G.Source.left g.G.Source.has_failed g.A.Source.left g.A.Source.has_failed g.K.Sink.took g.K.Sink.has_failed
@@ -14,10 +14,10 @@ returns-in-Ok g c =
     c.read.new.reader c.into_source.result (sym c.into_source.ensures)
     begun.result (ap (λ (o : Output). o.put) begun.ensures) (ap (λ (o : Output). o.took) begun.ensures) c.flushed-fault.new.out c.into_sink.result c.into_sink.ensures.took c.into_sink.ensures.failed
     (option_map told c.flushed-fault.result)
-    c.in-Ok.table c.in-Ok.ensures c.merge_records-fault.new.out (option_map told c.merge_records-fault.result.0) c.merge_records-fault.result.1 c.merge_records-fault.ensures c.flushed-fault.ensures
+    c.in-Ok.table c.in-Ok.ensures c.merge_records-fault.new.out (option_map told c.merge_records-fault.result.0) c.merge_records-fault.result.1 c.merge_records-fault.ensures c.flushed-fault.ensures.ends
 
-pub returns-in-Err : goal.returns-in-Err
-returns-in-Err g c =
+pub returns-in-Err-clause-report : goal.returns-in-Err-clause-report
+returns-in-Err-clause-report g c =
     let reader = c.new-lines in
     let begun = c.new-out in
     gives_wrong g.G.Source.left g.G.Source.has_failed g.A.Source.left g.A.Source.has_failed g.K.Sink.took g.K.Sink.has_failed
@@ -25,4 +25,4 @@ returns-in-Err g c =
     c.read.new.reader c.into_source-in-Err.result (sym c.into_source-in-Err.ensures)
     begun.result (ap (λ (o : Output). o.put) begun.ensures) (ap (λ (o : Output). o.took) begun.ensures) c.flushed-fault-in-Err.new.out c.into_sink-in-Err.result c.into_sink-in-Err.ensures.took c.into_sink-in-Err.ensures.failed
     (option_map told c.flushed-fault-in-Err.result)
-    (told c.in-Err.fault) c.flushed-fault-in-Err.ensures c.in-Err.ensures
+    (told c.in-Err.fault) c.flushed-fault-in-Err.ensures.ends c.in-Err.ensures
