@@ -21,7 +21,7 @@ use Rattle.bt_tool.specs.Place.{AreDistinct, ArePlaced}
 use Rattle.bt_tool.specs.Records.{below, names_in, good_left}
 use Rattle.bt_tool.specs.Report.{merge_good}
 use Rattle.bt_tool.specs.Run.{Cause, PutsSettled, CutsSettled, FeedsAll, FeedsUpTo, StopsAtLine}
-use Rattle.bt_tool.specs.RunMerge.{MergesRecords, PassesBound, records_report}
+use Rattle.bt_tool.specs.RunMerge.{IsOfInput, MergesRecords, PassesBound, records_report}
 use Rattle.bt_tool.specs.GenomeTable.{Hands}
 use Rattle.bt_tool.specs.declared.records.RecordReader.{RecordReader}
 use Rattle.bt_tool.proofs.FeedLemmas.{front_all, grows_both}
@@ -124,6 +124,12 @@ module _ {S : Type 0} (left : S → Option (List ℕ)) (failed : S → Bool) (na
     whole_by past text before e put short served sink memory hands (inr (inl growing)) = absurd (memory (ap Some growing.is))
     whole_by past text before e put short served sink memory hands (inr (inr writing)) = absurd (false≢true (sym sink ∙ writing.cuts.sink_failed))
 
+    told_by : (past : List Interval) (text before : List ℕ) → left first ≡ Some text → out.put ≡ Some before → IsOfInput (Some fault) → Cause left failed old out past fault new grown → Whole text before
+    told_by past text before e put is (inl (inl at)) = whole_at_line past text before e put at
+    told_by past text before e put is (inl (inr reading)) = absurd (is.no_read (input_of (below old)) reading.line (ap Some reading.is))
+    told_by past text before e put is (inr (inl growing)) = absurd (is.no_growth (ap Some growing.is))
+    told_by past text before e put is (inr (inr writing)) = absurd (is.no_write (ap Some writing.is))
+
     puts_by : (past : List Interval) → Cause left failed old out past fault new grown → fault ≢ write_failed → PutsSettled out past grown
     puts_by past (inl (inl at)) other = at.puts
     puts_by past (inl (inr reading)) other = reading.puts
@@ -146,6 +152,7 @@ module _ {S : Type 0} (left : S → Option (List ℕ)) (failed : S → Bool) (na
     pub merges_fault : FeedsUpTo left failed old out fault new grown → MergesRecords left failed names first out (Some fault) last grown
     merges_fault fed = record {
       whole = λ text before e put short served sink memory. whole_by fed.past text before e put short served sink memory fed.took.bytes fed.cause;
+      told = λ text before e put is. told_by fed.past text before e put is fed.cause;
       cut = λ is text before e put.
           let begins = begins_output text fed.past (at_text text (λ g. (rest : List Interval) × (g.records ≡ fed.past ++ rest)) e fed.begins) in
           (settled_lines 0 fed.past, begins.0, begins.1, (cut_by fed.past fed.cause (some_is fault write_failed is)).front before put);
@@ -172,11 +179,16 @@ module _ {S : Type 0} (left : S → Option (List ℕ)) (failed : S → Bool) (na
     no_fault : (fault : Told) → None ≡ Some fault → ⊥
     no_fault fault e = cc
 
+    all_told : ((before : List ℕ) → grown.put ≡ Some (before ++ settled_lines 0 fed.past) → finished.put ≡ Some (before ++ merged_lines 0 fed.past)) → (text before : List ℕ) → left first ≡ Some text → out.put ≡ Some before
+        → (None ≡ (records_report names text).fault) × (finished.put ≡ Some (before ++ (records_report names text).output))
+    all_told puts text before e put =
+        let w = report_whole text e in
+        (sym w.0, puts before (fed.puts before put) ∙ ap (λ l. Some (before ++ l)) (sym w.1))
+
     pub merges_all : ((before : List ℕ) → grown.put ≡ Some (before ++ settled_lines 0 fed.past) → finished.put ≡ Some (before ++ merged_lines 0 fed.past)) → Ends None
     merges_all puts = record {
-      whole = λ text before e put short served sink memory.
-          let w = report_whole text e in
-          (sym w.0, puts before (fed.puts before put) ∙ ap (λ l. Some (before ++ l)) (sym w.1));
+      whole = λ text before e put short served sink memory. all_told puts text before e put;
+      told = λ text before e put is. all_told puts text before e put;
       cut = λ is. absurd (no_fault write_failed is);
       kept = λ other text before e put. (merged_lines 0 fed.past, [], (report_whole text e).1 ∙ sym (append-nil (merged_lines 0 fed.past)), puts before (fed.puts before put));
       grows = grows_both out.took grown.took finished.took fed.took.grows grows;
@@ -187,6 +199,7 @@ module _ {S : Type 0} (left : S → Option (List ℕ)) (failed : S → Bool) (na
     pub merges_cut : (fault : Told) → fault ≡ write_failed → (lines : List ℕ) × AreUnsettled 0 fed.past lines × IsFrontOf finished.took grown.put lines → finished.sink_has_failed ≡ true → Ends (Some fault)
     merges_cut fault is front sink_failed = record {
       whole = λ text before e put short served sink memory. absurd (false≢true (sym sink ∙ sink_failed));
+      told = λ text before e put of_input. absurd (of_input.no_write (ap Some is));
       cut = λ written text before e put. (
         merged_lines 0 fed.past,
         [],

@@ -20,7 +20,7 @@ use Rattle.bt_tool.specs.Report.{Report, merge_on, report_of}
 use Rattle.bt_tool.specs.Options.{PlanSeen}
 use Rattle.bt_tool.specs.declared.plan_type.Command.{Command}
 use Rattle.bt_tool.specs.declared.plan_type.Command.TheVariants.{Merge}
-use Rattle.bt_tool.specs.RunMerge.{Gives, MergesRecords, PassesBound, Runs, RunsPlan, records_report}
+use Rattle.bt_tool.specs.RunMerge.{Gives, IsOfInput, MergesRecords, PassesBound, Runs, RunsPlan, records_report}
 use Rattle.bt_tool.specs.declared.genome.Genome.{Genome}
 use Rattle.bt_tool.proofs.FeedLemmas.{grows_both}
 use Rattle.bt_tool.proofs.TableLemmas.{refused_at_place}
@@ -74,6 +74,15 @@ module _ (out mid new : Output) (fault answer : Option Told) where
   whole_by told whole gives writing served memory (inr stays) =
       absurd (false≢true (sym served ∙ ap (λ (o : Output). o.sink_has_failed) stays.unchanged ∙ writing stays.was))
 
+  told_by : (told : Option Told) (whole : List ℕ) → (IsOfInput fault → (fault ≡ told) × (mid.put ≡ Some whole)) → IsOfInput answer → (FlushesAll mid fault answer new ⊎ FlushFails mid fault answer new) ⊎ StaysFailed mid fault answer new
+      → (answer ≡ told) × (new.took ≡ Some whole)
+  told_by told whole gives is (inl (inl all)) =
+      let of_input : IsOfInput fault = record { no_read = λ i line e. is.no_read i line (all.same_fault ∙ e); no_write = all.was; no_growth = λ e. is.no_growth (all.same_fault ∙ e) } in
+      let w = gives of_input in
+      (all.same_fault ∙ w.0, kept_known mid.put new.took whole w.1 all.taken)
+  told_by told whole gives is (inl (inr fails)) = absurd (is.no_write fails.is)
+  told_by told whole gives is (inr stays) = absurd (is.no_write stays.is)
+
   writing_by : (fault ≡ Some write_failed → mid.sink_has_failed ≡ true) → answer ≡ Some write_failed → (FlushesAll mid fault answer new ⊎ FlushFails mid fault answer new) ⊎ StaysFailed mid fault answer new → new.sink_has_failed ≡ true
   writing_by writing e (inl (inl all)) = absurd (all.was (sym all.same_fault ∙ e))
   writing_by writing e (inl (inr fails)) = fails.sink_failed
@@ -113,6 +122,10 @@ module _ {G A K : Type 0} (g_left : G → Option (List ℕ)) (g_failed : G → B
           (λ sink no_growth. merges.whole first_text before ea (put ∙ ek) short_first served_first sink no_growth)
           merges.writing (sym failed_after ∙ served_out) memory flushes.ends in
           subst (λ (r : Report). (answer ≡ r.fault) × (k_took out_after ≡ Some (before ++ r.output))) (sym (same_report genome_text first_text eg)) (w.0, took_after ∙ w.1);
+      told = λ genome_text first_text before eg ea ek is.
+          let w = told_by begun mid new fault answer (records_report (names_of table) first_text).fault (before ++ (records_report (names_of table) first_text).output)
+          (λ of_input. merges.told first_text before ea (put ∙ ek) of_input) is flushes.ends in
+          subst (λ (r : Report). (answer ≡ r.fault) × (k_took out_after ≡ Some (before ++ r.output))) (sym (same_report genome_text first_text eg)) (w.0, took_after ∙ w.1);
       front = λ genome_text first_text before eg ea ek.
           let f = front_by begun mid new fault answer before (records_report (names_of table) first_text).output (took ∙ ek) merges.grows flushes.grows
           (λ other. merges.kept other first_text before ea (put ∙ ek)) (λ is. merges.cut is first_text before ea (put ∙ ek)) flushes.ends in
@@ -142,13 +155,23 @@ module _ {G A K : Type 0} (g_left : G → Option (List ℕ)) (g_failed : G → B
         (sym (same_read (input_of reader) i (suc (lines_given read)) line (sym fails.is ∙ e)) ∙ input, ⊎_elim (λ failed. inl (ap g_failed (sym ended) ∙ failed)) (λ past. inr (passed fails.bytes past)) fails.cause)
     read_cause (inr (inr ran)) i line e = absurd (memory_no_read i line (sym ran.is ∙ e))
 
-    -- the genome file's fault is the report's
-    wrong_whole : (genome_text first_text before : List ℕ) → g_left genome ≡ Some genome_text → k_took out ≡ Some before → length genome_text < 2 ^ 63 → g_failed genome_after ≡ false → Some fault ≢ Some no_memory → Wrong
+    wrong_at_line : (genome_text first_text before : List ℕ) → g_left genome ≡ Some genome_text → k_took out ≡ Some before → LineAtFault g_left g_failed reader read fault
         → (Some fault ≡ (report_on genome_text first_text).fault) × (begun.put ≡ Some (before ++ (report_on genome_text first_text).output))
-    wrong_whole genome_text first_text before eg ek short served memory (inl at) =
+    wrong_at_line genome_text first_text before eg ek at =
         let is = at_genome genome_text (λ lines. genome_of (input_of reader) lines ≡ Err fault) eg at.is in
         let same : report_on genome_text first_text ≡ record { output = []; fault = Some fault } = ap (λ r. merge_on r first_text) (ap (λ i. genome_of i (text_lines genome_text)) (sym input) ∙ is) in
         subst (λ (r : Report). (Some fault ≡ r.fault) × (begun.put ≡ Some (before ++ r.output))) (sym same) (refl, put ∙ ek ∙ ap Some (sym (append-nil before)))
+
+    wrong_told : (genome_text first_text before : List ℕ) → g_left genome ≡ Some genome_text → k_took out ≡ Some before → Wrong → IsOfInput (Some fault)
+        → (Some fault ≡ (report_on genome_text first_text).fault) × (begun.put ≡ Some (before ++ (report_on genome_text first_text).output))
+    wrong_told genome_text first_text before eg ek (inl at) of_input = wrong_at_line genome_text first_text before eg ek at
+    wrong_told genome_text first_text before eg ek (inr (inl fails)) of_input = absurd (of_input.no_read (input_of reader) (suc (lines_given read)) (ap Some fails.is))
+    wrong_told genome_text first_text before eg ek (inr (inr ran)) of_input = absurd (of_input.no_growth (ap Some ran.is))
+
+    -- the genome file's fault is the report's
+    wrong_whole : (genome_text first_text before : List ℕ) → g_left genome ≡ Some genome_text → k_took out ≡ Some before → length genome_text < 2 ^ 63 → g_failed genome_after ≡ false → Some fault ≢ Some no_memory → Wrong
+        → (Some fault ≡ (report_on genome_text first_text).fault) × (begun.put ≡ Some (before ++ (report_on genome_text first_text).output))
+    wrong_whole genome_text first_text before eg ek short served memory (inl at) = wrong_at_line genome_text first_text before eg ek at
     wrong_whole genome_text first_text before eg ek short served memory (inr (inl fails)) =
         absurd (⊎_elim (λ failed. false≢true (sym served ∙ ap g_failed (sym ended) ∙ failed))
         (λ past. let few = consumes_short (g_left (source_of reader)) (g_left (source_of read)) fails.bytes.0 genome_text (ap g_left source ∙ eg) fails.bytes.1 in omega (arith, few, short, past, fails.bytes.2, fresh)) fails.cause)
@@ -160,6 +183,9 @@ module _ {G A K : Type 0} (g_left : G → Option (List ℕ)) (g_failed : G → B
           let w = whole_by begun begun new (Some fault) answer (report_on genome_text first_text).fault (before ++ (report_on genome_text first_text).output)
           (λ sink no_growth. wrong_whole genome_text first_text before eg ek short_genome served_genome no_growth wrong)
           (λ e. absurd (no_write wrong (some_is fault write_failed e))) (sym failed_after ∙ served_out) memory flushes.ends in
+          (w.0, took_after ∙ w.1);
+      told = λ genome_text first_text before eg ea ek is.
+          let w = told_by begun begun new (Some fault) answer (report_on genome_text first_text).fault (before ++ (report_on genome_text first_text).output) (λ of_input. wrong_told genome_text first_text before eg ek wrong of_input) is flushes.ends in
           (w.0, took_after ∙ w.1);
       front = λ genome_text first_text before eg ea ek.
           let f = front_by begun begun new (Some fault) answer before (report_on genome_text first_text).output (took ∙ ek) ([], Appends-nil begun.took) flushes.grows

@@ -19,12 +19,21 @@ records_report names first = merge_good names (good First names (text_lines firs
 abbrev pub PassesBound : Option (List ℕ) → Option (List ℕ) → Type 0
 PassesBound old new = (bytes : List ℕ) × Consumes old new bytes × (2 ^ 63 ≤ length bytes)
 
+-- a fault, if there is one, is what a line says: no device failed, and no growth was refused
+pub record IsOfInput (fault : Option Told) : Type 0 where
+  pub no_read : (input : Input) (line : ℕ) → fault ≢ Some (read_failed input line)
+  pub no_write : fault ≢ Some write_failed
+  pub no_growth : fault ≢ Some no_memory
+
 module _ {A : Type 0} (left : A → Option (List ℕ)) (failed : A → Bool) where
   -- the records of an input were merged
   pub record MergesRecords (names : List (List ℕ)) (first : A) (out : Output) (fault : Option Told) (new : A) (grown : Output) : Type 0 where
     -- all is served: the report's fault and its output
     pub whole : (text before : List ℕ) → left first ≡ Some text → out.put ≡ Some before → length text < 2 ^ 63
         → failed new ≡ false → grown.sink_has_failed ≡ false → fault ≢ Some no_memory
+        → (fault ≡ (records_report names text).fault) × (grown.put ≡ Some (before ++ (records_report names text).output))
+    -- no device's fault is told: the report's fault and its output
+    pub told : (text before : List ℕ) → left first ≡ Some text → out.put ≡ Some before → IsOfInput fault
         → (fault ≡ (records_report names text).fault) × (grown.put ≡ Some (before ++ (records_report names text).output))
     -- where a write failed: the sink took a front of the report's output
     pub cut : fault ≡ Some write_failed → (text before : List ℕ) → left first ≡ Some text → out.put ≡ Some before
@@ -45,6 +54,10 @@ module _ {G A K : Type 0} (g_left : G → Option (List ℕ)) (g_failed : G → B
     pub whole : (genome_text first_text before : List ℕ) → g_left genome ≡ Some genome_text → a_left first ≡ Some first_text → k_took out ≡ Some before
         → length genome_text < 2 ^ 63 → length first_text < 2 ^ 63
         → g_failed genome_after ≡ false → a_failed first_after ≡ false → k_failed out_after ≡ false → fault ≢ Some no_memory
+        → (fault ≡ (report genome_text first_text).fault) × (k_took out_after ≡ Some (before ++ (report genome_text first_text).output))
+    -- Whatever the devices do: where the run ends without a fault, or tells a line's, that fault and the bytes
+    -- written are those of the report. So a failed read or write never ends with status 0.
+    pub told : (genome_text first_text before : List ℕ) → g_left genome ≡ Some genome_text → a_left first ≡ Some first_text → k_took out ≡ Some before → IsOfInput fault
         → (fault ≡ (report genome_text first_text).fault) × (k_took out_after ≡ Some (before ++ (report genome_text first_text).output))
     -- Whatever read, write or growth fails, what was written is a front of the report's output for the whole texts,
     -- what wasn't handed over of them included.
