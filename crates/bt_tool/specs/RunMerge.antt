@@ -19,7 +19,7 @@ records_report names first = merge_good names (good First names (text_lines firs
 abbrev pub PassesBound : Option (List ℕ) → Option (List ℕ) → Type 0
 PassesBound old new = (bytes : List ℕ) × Consumes old new bytes × (2 ^ 63 ≤ length bytes)
 
--- a fault, if there is one, is what a line says: no device failed, and no growth was refused
+-- a fault, if there is one, is what a line says: it tells no device's failure and no refused growth
 pub record IsOfInput (fault : Option Told) : Type 0 where
   pub no_read : (input : Input) (line : ℕ) → fault ≢ Some (read_failed input line)
   pub no_write : fault ≢ Some write_failed
