@@ -1,6 +1,7 @@
 -- Lemmas on a step of the reader of lines.
 use Rattle.std.proofs.Common.{◌≡◌, ℕ, suc, ◌+◌, ◌<◌, Bool, true, cond, List, [], ◌∷◌, ◌++◌, length, Option, None, Some, Ok, refl, sym, ap, ◌∙◌, subst, append-nil, add-zero, length-append, arith}
-use Rattle.std.specs.Prelude.{option_map, IfSome, flat_map}
+use Rattle.std.specs.Prelude.{option_map, IfSome, flat_map, nat_lt}
+use Rattle.std.proofs.lemmas.Bool.Decides.{nat_tests}
 use Rattle.std.proofs.lemmas.List.{append_assoc, nil_from_length}
 use Rattle.std.proofs.lemmas.Bool.{false≢true}
 use Rattle.std.proofs.KnownBytes.{Consumes-nil}
@@ -57,7 +58,8 @@ module _ {S : Type 0} (left : S → Option (List ℕ)) (failed : S → Bool) (ol
   steps_fed stripped more going ending fills =
       let n = suc old.progress.lines in
       let number : new.progress.lines ≡ suc old.progress.lines = omega arith in
-      let at : line_at new ≡ Some (fed_line n piece) = rw (going, number, stripped, ending) refl in
+      let some_given : nat_lt 0 n ≡ true = grind (arith, nat_tests) in
+      let at : line_at new ≡ Some (fed_line n piece) = rw (going, number, stripped, ending, some_given) refl in
       let whole : fills.bytes ≡ piece ++ 10 ∷ [] = fills.stopped.0 in
       let size : length fills.bytes ≡ length piece + 1 = ap length whole ∙ length-append piece (10 ∷ []) in
       let first : (ys : List ℕ) → left new.source ≡ Some ys → lines_from n (fills.bytes ++ ys) ≡ fed_line n piece ∷ lines_from (suc n) ys =
@@ -67,6 +69,7 @@ module _ {S : Type 0} (left : S → Option (List ℕ)) (failed : S → Bool) (ol
         bytes = (fills.bytes, record { left_over = fills.consumed; counted = fills.counted; same_input = same }, rw (was, going) (whole ∙ sym (spelled-fed n piece) ∙ sym (append-nil (spelled (fed_line n piece)))));
         ahead = rw going (omega arith);
         number = refl;
+        at = at;
         counted = number;
         below = omega (arith, new.progress.a_byte_each, fills.stopped.2);
         shrinks = rw (was, going) (omega (arith, fills.counted, size, fills.stopped.2));
@@ -83,7 +86,8 @@ module _ {S : Type 0} (left : S → Option (List ℕ)) (failed : S → Bool) (ol
       let n = suc old.progress.lines in
       let line : TextLine = record { number = n; text = strip_last 13 piece; ending = cond (ends_with_byte 13 piece) Cr Absent } in
       let number : new.progress.lines ≡ suc old.progress.lines = omega arith in
-      let at : line_at new ≡ Some line = rw (going, number, stripped, ending) refl in
+      let some_given : nat_lt 0 n ≡ true = grind (arith, nat_tests) in
+      let at : line_at new ≡ Some line = rw (going, number, stripped, ending, some_given) refl in
       let whole : fills.bytes ≡ piece = fills.stopped.0 in
       let size : length fills.bytes ≡ length piece = ap length whole in
       let one = last_line-some n piece some in
@@ -94,6 +98,7 @@ module _ {S : Type 0} (left : S → Option (List ℕ)) (failed : S → Bool) (ol
         bytes = (fills.bytes, record { left_over = fills.consumed; counted = fills.counted; same_input = same }, rw (was, going) (whole ∙ sym stood));
         ahead = rw going (omega arith);
         number = refl;
+        at = at;
         counted = number;
         below = omega (arith, new.progress.a_byte_each, fills.stopped.2);
         shrinks = rw (was, going) (omega (arith, fills.counted, size, fills.stopped.2, some));

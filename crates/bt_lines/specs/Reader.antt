@@ -1,5 +1,5 @@
 -- What a reader of lines holds, and what one call of `next` does.
-use Rattle.std.specs.Prelude.{◌≡◌, ℕ, suc, ◌+◌, ◌-◌, ◌^◌, ◌<◌, ◌≤◌, ◌⊎◌, Bool, true, false, List, [], ◌++◌, length, Option, Some, None, option_map, Result, Ok, Err, IfSome, if◌then◌else◌}
+use Rattle.std.specs.Prelude.{◌≡◌, ℕ, suc, ◌+◌, ◌-◌, ◌^◌, ◌<◌, ◌≤◌, ◌⊎◌, Bool, true, false, List, [], ◌++◌, length, Option, Some, None, option_map, Result, Ok, Err, IfSome, nat_lt, if◌then◌else◌}
 use Rattle.std.specs.Io.KnownBytes.{Consumes, IsAtEnd, prepend_known}
 use Rattle.bt_lines.specs.Lines.{TextLine, lines_from, spelled}
 use Rattle.bt_lines.specs.Output.{block_size}
@@ -53,13 +53,13 @@ ended_at Ended = true
 ended_at ReadFailed = false
 ended_at NoMemory = false
 
--- whether the reader is at a line, once it was asked for one
-abbrev is_at_line : State → Bool
-is_at_line Reading = true
-is_at_line LastLine = true
-is_at_line Ended = false
-is_at_line ReadFailed = false
-is_at_line NoMemory = false
+-- whether the reader is at a line, once it has given so many
+abbrev pub is_at_line : State → ℕ → Bool
+is_at_line Reading lines = nat_lt 0 lines
+is_at_line LastLine lines = nat_lt 0 lines
+is_at_line Ended lines = false
+is_at_line ReadFailed lines = false
+is_at_line NoMemory lines = false
 
 module _ {S : Type 0} where
   -- the source
@@ -112,6 +112,10 @@ module _ {S : Type 0} where
   abbrev pub EndIsTold : (S → Option (List ℕ)) → (S → Bool) → LineReader S → Type 0
   EndIsTold left told reader = end_told reader ≡ true → (told (source_of reader) ≡ true) × IsAtEnd (left (source_of reader))
 
+  -- the line that a reader is at
+  unfoldable pub line_at : LineReader S → Option TextLine
+  line_at reader = if is_at_line reader.state reader.progress.lines then Some (record { number = reader.progress.lines; text = reader.text.items; ending = reader.ending }) else None
+
   -- the source handed over these bytes in the call
   pub record Hands (left : S → Option (List ℕ)) (old : LineReader S) (bytes : List ℕ) (new : LineReader S) : Type 0 where
     pub left_over : Consumes (left (source_of old)) (left (source_of new)) bytes
@@ -126,6 +130,8 @@ module _ {S : Type 0} where
     pub bytes : (bytes : List ℕ) × Hands left old bytes new × (held old ++ bytes ≡ spelled line ++ held new)
     pub ahead : length (held new) ≤ block_size
     pub number : line.number ≡ suc (lines_given old)
+    -- the reader is at it
+    pub at : line_at new ≡ Some line
     pub counted : lines_given new ≡ suc (lines_given old)
     pub below : lines_given new < 2 ^ 63
     pub shrinks : room new < room old
@@ -181,10 +187,6 @@ module _ {S : Type 0} where
   pub record NextLine (left : S → Option (List ℕ)) (failed : S → Bool) (end : S → Bool) (old : LineReader S) (answer : Result (Option Line) Fault) (new : LineReader S) : Type 0 where
     pub answers : Answers left failed old answer new
     pub end_kept : EndIsTold left end old → EndIsTold left end new
-
-  -- the line that a reader is at
-  unfoldable pub line_at : LineReader S → Option TextLine
-  line_at reader = if is_at_line reader.state then Some (record { number = reader.progress.lines; text = reader.text.items; ending = reader.ending }) else None
 
   -- what a step to the next line gives, or to the end where there is none
   abbrev pub StepsTo : (S → Option (List ℕ)) → (S → Bool) → LineReader S → Option TextLine → LineReader S → Type 0

@@ -89,6 +89,21 @@ impl<S: Source> LineReader<S> {
         Ok(self.line())
     }
 
+    /// The line that the last `next` gave, once more. There is none before the first line, at the end
+    /// and after a fault. It reads nothing.
+    pub fn line(&self) -> Option<Line<'_>>
+        ensures { option_map line_seen result ≡ line_at self.now }
+    {
+        match self.state {
+            State::Reading | State::LastLine if self.progress.lines > 0 => Some(Line {
+                number: self.progress.lines,
+                text: self.text.as_slice(),
+                ending: self.ending,
+            }),
+            _ => None,
+        }
+    }
+
     /// The input that the reader stands for.
     pub fn input(&self) -> Input
         ensures { result ≡ input_of self.now }
@@ -181,20 +196,6 @@ impl<S: Source> LineReader<S> {
         Fault {
             kind: Kind::ReadFailed,
             place: Some(place),
-        }
-    }
-
-    // The line that the reader is at, if it is at one.
-    fn line(&self) -> Option<Line<'_>>
-        ensures { option_map line_seen result ≡ line_at self.now }
-    {
-        match self.state {
-            State::Reading | State::LastLine => Some(Line {
-                number: self.progress.lines,
-                text: self.text.as_slice(),
-                ending: self.ending,
-            }),
-            State::Ended | State::ReadFailed | State::NoMemory => None,
         }
     }
 }

@@ -88,6 +88,25 @@ fn lines_of_texts(rt: HostRuntime) -> Result<(), Fail> {
 }
 
 #[test]
+fn the_line_given_is_told_once_more(rt: HostRuntime) -> Result<(), Fail> {
+    let source = ScriptSource::new(b"a\r\nb", 1, None);
+    let mut reader = LineReader::new(rt.alloc(), source, Input::First);
+    assert!(rt; reader.line().is_none());
+    let want: [(u64, &[u8], LineEnd); 2] = [(1, b"a", LineEnd::CrLf), (2, b"b", LineEnd::Absent)];
+    for (number, text, ending) in want {
+        assert!(rt; reader.next()?.is_some());
+        let line = reader.line().ok_or("a line")?;
+        assert_eq!(rt; line.number, number);
+        assert_eq!(rt; line.text, text);
+        assert_eq!(rt; line.ending, ending);
+    }
+    assert!(rt; reader.next()?.is_none());
+    assert!(rt; reader.line().is_none());
+    let _ = reader.into_source();
+    Ok(())
+}
+
+#[test]
 fn a_source_that_fails_at_each_byte(rt: HostRuntime) -> Result<(), Fail> {
     let text = b"ab\n\r\ncd";
     // How many whole lines there are in so many bytes.

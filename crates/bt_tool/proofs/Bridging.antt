@@ -2,11 +2,11 @@
 use Rattle.std.proofs.Common.{◌≡◌, ℕ, ◌+◌, ◌-◌, ◌<◌, ◌≤◌, inl, inr, List, [], ◌∷◌, refl, arith, Bool, ◌&&◌, Decides, nat_le, nat_lt, leb-true, le-leb}
 use Rattle.std.proofs.lemmas.Bool.{false≢true}
 use Rattle.std.proofs.lemmas.Bool.Decides.{Decides-and, Decides-or, Decides-ltb, Decides-like, Decides-below_or}
-use Rattle.bt_tool.specs.Interval.{Span}
-use Rattle.bt_tool.specs.Stretches.{IsCovered, AreApartFrom}
+use Rattle.bt_bed.specs.Interval.{Span}
+use Rattle.bt_bed.specs.Stretches.{IsCovered, AreApartFrom}
+use Rattle.bt_bed.proofs.Apart.{IsWithin, covered_from, stretches_are_same}
+use Rattle.bt_bed.proofs.Scan.{scan_finds}
 use Rattle.bt_tool.specs.Merged.{Bridged, some_below, is_covered, is_bridged, end_of, runs_of, runs_are, runs_only}
-use Rattle.bt_tool.proofs.Apart.{IsWithin, covered_from, stretches_are_same}
-use Rattle.bt_tool.proofs.Scan.{scan_finds}
 
 Decides-le : (a b : ℕ) → Decides (nat_le a b) (a ≤ b)
 Decides-le a b = (leb-true a b, le-leb a b)

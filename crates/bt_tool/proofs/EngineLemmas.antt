@@ -7,9 +7,11 @@ use Rattle.bt_lines.specs.declared.fault.Kind.TheVariants.{WriteFailed, NoMemory
 use Rattle.bt_lines.specs.declared.fault.Fault.{Fault}
 use Rattle.std.specs.Prelude.{OnOk, OnErr, IsSome, IfSome, ◌≢◌, length, ◌≤◌}
 use Rattle.bt_lines.specs.Output.{Output, HoldsBlock, IsFrontOf}
-use Rattle.bt_tool.specs.Interval.{Interval, AreNonEmpty}
+use Rattle.bt_bed.specs.Interval.{Interval, AreNonEmpty}
+use Rattle.bt_bed.specs.Together.{AreTogether}
+use Rattle.bt_bed.proofs.NameLemmas.{name_ne}
+use Rattle.bt_bed.proofs.TogetherLemmas.{together_front}
 use Rattle.bt_tool.specs.Merged.{chromosomes}
-use Rattle.bt_tool.specs.Place.{AreTogether}
 use Rattle.bt_tool.specs.Settled.{settled, open_of}
 use Rattle.bt_tool.specs.Step.{merge_step}
 use Rattle.bt_tool.specs.declared.merge.Ended.{Ended}
@@ -19,7 +21,6 @@ use Rattle.bt_tool.specs.Taking.{fault_of, TakesNext}
 use Rattle.bt_tool.specs.Putting.{WorksAsBefore, Puts}
 use Rattle.bt_tool.proofs.OutputSteps.{front_held, grown_works}
 use Rattle.bt_tool.proofs.Steps.{step_elsewhere, full_front, kept_open, opens_by_step, settles_by_step, settled_and_open}
-use Rattle.bt_tool.proofs.Names.{name_ne, together_front}
 use Rattle.std.proofs.lemmas.List.{append_cancel_left}
 
 -- the lines of the runs that the step gives

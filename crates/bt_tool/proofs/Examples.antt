@@ -1,7 +1,7 @@
 -- The definitions at small inputs, worked by hand.
 use Rattle.std.proofs.Common.{◌≡◌, ℕ, List, [], ◌∷◌, refl}
-use Rattle.bt_tool.specs.Interval.{Interval, Span}
-use Rattle.bt_tool.specs.Stretches.{with_position, stretches_from}
+use Rattle.bt_bed.specs.Interval.{Interval, Span}
+use Rattle.bt_bed.specs.Stretches.{with_position, stretches_from}
 use Rattle.bt_tool.specs.Merged.{is_bridged, runs_of, merged}
 use Rattle.bt_tool.specs.Settled.{settled, kept}
 

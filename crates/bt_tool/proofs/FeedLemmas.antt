@@ -1,30 +1,33 @@
 -- Lemmas on feeding a merge with the records of a reader.
 use Rattle.std.proofs.Common.{◌≡◌, ℕ, ◌<◌, Bool, true, List, [], ◌∷◌, ◌++◌, suc, Option, None, Some, refl, sym, ap, ◌∙◌, subst, append-nil, append_assoc, arith, inl, inr}
-use Rattle.std.specs.Prelude.{◌⊎◌, IfSome, IsSome, option_map}
+use Rattle.std.specs.Prelude.{◌⊎◌, IfSome, IsTrue, option_map}
 use Rattle.std.proofs.lemmas.List.Elements.{All-push}
 use Rattle.std.proofs.KnownBytes.{Appends-nil, Appends-trans}
 use Rattle.std.specs.Io.KnownBytes.{Appends}
 use Rattle.bt_lines.specs.Fault.{Told, write_failed, no_memory, read_failed}
 use Rattle.bt_lines.specs.Output.{Output, HoldsBlock, IsFrontOf, Grows}
 use Rattle.bt_lines.specs.Reader.{source_of, input_of, lines_given}
+use Rattle.bt_bed.specs.Reading.{Hands}
+use Rattle.bt_bed.specs.Feature.{Feature, interval_of, intervals_of}
+use Rattle.bt_bed.specs.Good.{Good, place_at}
+use Rattle.bt_bed.specs.LineKind.{fault_at_line}
+use Rattle.bt_bed.specs.Interval.{Interval, AreNonEmpty, last_of}
+use Rattle.bt_bed.specs.Order.{Order, IsTotal}
+use Rattle.bt_bed.specs.Place.{Place, place_of, IsUpTo, ArePlaced}
+use Rattle.bt_bed.specs.Records.{GivesRecord, GivesEnd, GivesFault, Stays, Advances, Remains, Cause as PeekCause, ends_with, with_record, below, order_in, last_place, fault_kept, good_left}
+use Rattle.bt_bed.specs.declared.order.ChromOrder.{Ghosts}
+use Rattle.bt_bed.specs.declared.records.Records.{Records}
+use Rattle.bt_bed.proofs.HandsLemmas.{hands_none, hands_both}
+use Rattle.bt_bed.proofs.TogetherLemmas.{last_of-push, grows_placed, placed_together}
 use Rattle.bt_tool.specs.Engine.{Merging, StandsAfter, ComesNext, AreSettledBy, run_lines, settled_lines}
 use Rattle.bt_tool.specs.Putting.{WorksAsBefore}
-use Rattle.bt_tool.specs.GenomeTable.{Hands}
-use Rattle.bt_tool.specs.Good.{Good, fault_at_line}
-use Rattle.bt_tool.specs.Interval.{Interval, AreNonEmpty, last_of}
-use Rattle.bt_tool.specs.Place.{ArePlaced, IsPlacedUpTo, rank_of}
-use Rattle.bt_tool.specs.Records.{GivesRecord, GivesEnd, GivesFault, Stays, Advances, Remains, Cause as PeekCause, ends_with, with_record, below, names_in, last_record, record_ahead, fault_kept, good_left}
 use Rattle.bt_tool.specs.Run.{Cause, ComeFirst, PutsSettled, Took, FeedsAll, FeedsUpTo}
-use Rattle.bt_tool.specs.declared.records.RecordReader.{RecordReader}
 use Rattle.bt_tool.proofs.EngineLemmas.{text_grows}
-use Rattle.bt_tool.proofs.HandsLemmas.{hands_none, hands_both}
-use Rattle.bt_tool.proofs.Names.{last_of-push}
-use Rattle.bt_tool.proofs.TrackLemmas.{says_of_line}
-use Rattle.bt_tool.proofs.Placed.{grows_placed, none_at_first, placed_together}
+use Rattle.bt_tool.proofs.Placed.{none_at_first}
 
 -- the first record of what is to come was passed
-come_more : (old now peeked next : Option Good) (past : List Interval) (r : Interval) → ComeFirst old past now → Remains now peeked → IfSome now (λ good. (rest : List Interval) × (good.records ≡ r ∷ rest))
-    → option_map (with_record r) next ≡ peeked → ComeFirst old (past ++ r ∷ []) next
+come_more : (old now peeked next : Option Good) (past : List Interval) (r : Feature) → ComeFirst old past now → Remains now peeked → IfSome now (λ good. (rest : List Feature) × (good.records ≡ r ∷ rest))
+    → option_map (with_record r) next ≡ peeked → ComeFirst old (past ++ interval_of r ∷ []) next
 come_more None now peeked next past r c m f a = tt
 come_more (Some o) None peeked next past r c m f a = absurd c
 come_more (Some o) (Some n) None next past r c m f a = absurd m
@@ -32,7 +35,7 @@ come_more (Some o) (Some n) (Some p) None past r c m f a = cc
 come_more (Some o) (Some n) (Some p) (Some x) past r c m f a =
     let same : with_record r x ≡ p = cc in
     let is : with_record r x ≡ n = same ∙ m in
-    (c.0 ∙ ap (λ (g : Good). past ++ g.records) (sym is) ∙ sym (append_assoc past (r ∷ []) x.records), c.1 ∙ ap (λ (g : Good). g.fault) (sym is))
+    (c.0 ∙ ap (λ (g : Good). past ++ intervals_of g.records) (sym is) ∙ sym (append_assoc past (interval_of r ∷ []) (intervals_of x.records)), c.1 ∙ ap (λ (g : Good). g.fault) (sym is))
 
 come_none : (good : Option Good) → ComeFirst good [] good
 come_none None = tt
@@ -40,23 +43,28 @@ come_none (Some good) = (refl, refl)
 
 -- nothing is to come but a fault, if there is one
 whole_with : (old now : Option Good) (past : List Interval) (fault : Option Told) → ComeFirst old past now → IfSome now (λ good. good ≡ ends_with fault)
-    → IfSome old (λ good. (good.records ≡ past) × (good.fault ≡ fault))
+    → IfSome old (λ good. (intervals_of good.records ≡ past) × (good.fault ≡ fault))
 whole_with None now past fault c e = tt
 whole_with (Some o) None past fault c e = absurd c
 whole_with (Some o) (Some n) past fault c e =
-    (c.0 ∙ ap (λ (g : Good). past ++ g.records) e ∙ append-nil past, c.1 ∙ ap (λ (g : Good). g.fault) e)
+    (c.0 ∙ ap (λ (g : Good). past ++ intervals_of g.records) e ∙ append-nil past, c.1 ∙ ap (λ (g : Good). g.fault) e)
 
 -- the records that were taken begin those that were to come
-begins_with : (old now : Option Good) (past : List Interval) → ComeFirst old past now → IfSome old (λ good. (rest : List Interval) × (good.records ≡ past ++ rest))
+begins_with : (old now : Option Good) (past : List Interval) → ComeFirst old past now → IfSome old (λ good. (rest : List Interval) × (intervals_of good.records ≡ past ++ rest))
 begins_with None now past c = tt
 begins_with (Some o) None past c = absurd c
-begins_with (Some o) (Some n) past c = (n.records, c.0)
+begins_with (Some o) (Some n) past c = (intervals_of n.records, c.0)
 
-begins_more : (old now : Option Good) (past : List Interval) (r : Interval) → ComeFirst old past now → IfSome now (λ good. (rest : List Interval) × (good.records ≡ r ∷ rest))
-    → IfSome old (λ good. (rest : List Interval) × (good.records ≡ (past ++ r ∷ []) ++ rest))
+begins_more : (old now : Option Good) (past : List Interval) (r : Feature) → ComeFirst old past now → IfSome now (λ good. (rest : List Feature) × (good.records ≡ r ∷ rest))
+    → IfSome old (λ good. (rest : List Interval) × (intervals_of good.records ≡ (past ++ interval_of r ∷ []) ++ rest))
 begins_more None now past r c f = tt
 begins_more (Some o) None past r c f = absurd c
-begins_more (Some o) (Some n) past r c f = (f.0, c.0 ∙ ap (λ l. past ++ l) f.1 ∙ sym (append_assoc past (r ∷ []) f.0))
+begins_more (Some o) (Some n) past r c f = (intervals_of f.0, c.0 ∙ ap (λ l. past ++ intervals_of l) f.1 ∙ sym (append_assoc past (interval_of r ∷ []) (intervals_of f.0)))
+
+-- what is asked of the last place is asked of the last record's
+last_up_to : (last : Option Interval) (P : Place → Type 0) → IfSome (option_map place_of last) P → IfSome last (λ r. P (place_of r))
+last_up_to None P h = tt
+last_up_to (Some r) P h = h
 
 -- a sink that took a front of the lines took a front of all
 pub front_all : (took : Option (List ℕ)) (put : Option (List ℕ)) (before done lines whole : List ℕ) → whole ≡ done ++ lines → put ≡ Some (before ++ done) → IsFrontOf took put lines → IsFrontOf took (Some (before ++ whole)) []
@@ -77,13 +85,12 @@ works_both old mid new w more = record {
 }
 
 -- the records so far were taken
-pub record Going {S : Type 0} (left : S → Option (List ℕ)) (failed : S → Bool) (old : RecordReader S) (out : Output) (now : RecordReader S) (merge : Merging) (grown : Output) : Type 0 where
+pub record Going {S O : Type 0} {ghosts : Ghosts O} (left : S → Option (List ℕ)) (failed : S → Bool) (old : Records S O ghosts) (out : Output) (now : Records S O ghosts) (merge : Merging) (grown : Output) : Type 0 where
   pub past : List Interval
   pub took : Took left failed old out past now grown
   pub come : ComeFirst (good_left left old) past (good_left left now)
   pub stands : StandsAfter 0 past merge
-  pub last : last_record now ≡ last_of past
-  pub none_ahead : record_ahead now ≡ None
+  pub last : last_place now ≡ option_map place_of (last_of past)
   pub going : fault_kept now ≡ None
   pub puts : PutsSettled out past grown
   pub works : WorksAsBefore out grown
@@ -91,39 +98,39 @@ pub record Going {S : Type 0} (left : S → Option (List ℕ)) (failed : S → B
   pub served : failed (source_of (below now)) ≡ failed (source_of (below old))
   pub same_input : input_of (below now) ≡ input_of (below old)
 
-module _ {S : Type 0} (left : S → Option (List ℕ)) (failed : S → Bool) (old : RecordReader S) (out : Output) (now : RecordReader S) (merge : Merging) (grown : Output) (g : Going left failed old out now merge grown)
-    (peeked : RecordReader S) (r : Interval) (gives : GivesRecord left failed now r peeked) where
+module _ {S O : Type 0} {ghosts : Ghosts O} (left : S → Option (List ℕ)) (failed : S → Bool) (old : Records S O ghosts) (out : Output) (now : Records S O ghosts) (merge : Merging) (grown : Output) (g : Going left failed old out now merge grown)
+    (peeked : Records S O ghosts) (r : Feature) (gives : GivesRecord left failed now r peeked) where
   -- the records so far and the next one
-  placed_more : ArePlaced (names_in old) (g.past ++ r ∷ [])
+  placed_more : ArePlaced (order_in old) (g.past ++ interval_of r ∷ [])
   placed_more =
-      grows_placed (names_in old) g.past r g.took.placed (subst (λ names. IsSome (rank_of names r.chrom)) g.took.names gives.known)
-      (subst (λ last. IfSome last (λ last. IsPlacedUpTo (names_in old) last r)) g.last (subst (λ names. IfSome (last_record now) (λ last. IsPlacedUpTo names last r)) g.took.names gives.in_order))
+      grows_placed (order_in old) g.past (interval_of r) g.took.placed (subst (λ (order : Order). IsTrue (order.knows r.chrom)) g.took.order gives.known)
+      (last_up_to (last_of g.past) (λ last. IsUpTo (order_in old) last (place_at r)) (subst (λ last. IfSome last (λ last. IsUpTo (order_in old) last (place_at r))) g.last (subst (λ (order : Order). IfSome (last_place now) (λ last. IsUpTo order last (place_at r))) g.took.order gives.in_order)))
 
-  full_more : AreNonEmpty (g.past ++ r ∷ [])
-  full_more = All-push (λ r. r.start < r.stop) g.past r g.took.full gives.non_empty
+  full_more : AreNonEmpty (g.past ++ interval_of r ∷ [])
+  full_more = All-push (λ r. r.start < r.stop) g.past (interval_of r) g.took.full gives.feature.non_empty
 
-  pub comes_next : ComesNext g.past r
-  comes_next = record { together = placed_together (names_in old) (g.past ++ r ∷ []) placed_more; non_empty = full_more }
+  pub comes_next : IsTotal (order_in old) → ComesNext g.past (interval_of r)
+  comes_next total = record { together = placed_together (order_in old) (g.past ++ interval_of r ∷ []) total placed_more; non_empty = full_more }
 
   -- what feed does with it, where it fails too
-  took_more : (grown_more : Output) → Grows grown.took grown_more.took → Took left failed old out (g.past ++ r ∷ []) peeked grown_more
+  took_more : (grown_more : Output) → Grows grown.took grown_more.took → Took left failed old out (g.past ++ interval_of r ∷ []) peeked grown_more
   took_more grown_more grows = record {
-    names = gives.stays.names ∙ g.took.names;
+    order = gives.stays.order ∙ g.took.order;
     bytes = hands_both left (below old) (below now) (below peeked) g.took.bytes gives.stays.bytes;
     placed = placed_more;
     full = full_more;
     grows = grows_both out.took grown.took grown_more.took g.took.grows grows;
   }
 
-  pub going_more : (next : RecordReader S) (merge_more : Merging) (grown_more : Output) → Advances left peeked next → StandsAfter 0 (g.past ++ r ∷ []) merge_more
-      → ((before : List ℕ) → grown.put ≡ Some (before ++ settled_lines 0 g.past) → grown_more.put ≡ Some (before ++ settled_lines 0 (g.past ++ r ∷ [])))
+  pub going_more : (next : Records S O ghosts) (merge_more : Merging) (grown_more : Output) → Advances left peeked next → StandsAfter 0 (g.past ++ interval_of r ∷ []) merge_more
+      → ((before : List ℕ) → grown.put ≡ Some (before ++ settled_lines 0 g.past) → grown_more.put ≡ Some (before ++ settled_lines 0 (g.past ++ interval_of r ∷ [])))
       → WorksAsBefore grown grown_more → Grows grown.took grown_more.took → Going left failed old out next merge_more grown_more
   going_more next merge_more grown_more advances stands text works grows =
       let taken = took_more grown_more grows in
       record {
-        past = g.past ++ r ∷ [];
+        past = g.past ++ interval_of r ∷ [];
         took = record {
-          names = advances.names ∙ taken.names;
+          order = advances.order ∙ taken.order;
           bytes = subst (λ reader. Hands left (below old) reader) (sym advances.reads_nothing) taken.bytes;
           placed = taken.placed;
           full = taken.full;
@@ -131,8 +138,7 @@ module _ {S : Type 0} (left : S → Option (List ℕ)) (failed : S → Bool) (ol
         };
         come = come_more (good_left left old) (good_left left now) (good_left left peeked) (good_left left next) g.past r g.come gives.good gives.first (advances.good r gives.ahead);
         stands = stands;
-        last = advances.last ∙ gives.ahead ∙ sym (last_of-push g.past r);
-        none_ahead = advances.none_ahead;
+        last = advances.last ∙ ap (option_map place_at) gives.ahead ∙ ap (option_map place_of) (sym (last_of-push g.past (interval_of r)));
         going = advances.goes ∙ gives.goes ∙ g.going;
         puts = λ before e. text before (g.puts before e);
         works = works_both out grown grown_more g.works works;
@@ -142,16 +148,16 @@ module _ {S : Type 0} (left : S → Option (List ℕ)) (failed : S → Bool) (ol
       }
 
   -- the merge failed to write
-  pub stops_writing : (fault : Told) (grown_more : Output) → fault ≡ write_failed → (lines : List ℕ) × AreSettledBy 0 g.past r lines × IsFrontOf grown_more.took grown.put lines
+  pub stops_writing : (fault : Told) (grown_more : Output) → fault ≡ write_failed → (lines : List ℕ) × AreSettledBy 0 g.past (interval_of r) lines × IsFrontOf grown_more.took grown.put lines
       → (grown_more.has_failed ≡ true) × (grown_more.sink_has_failed ≡ true) → Grows grown.took grown_more.took → FeedsUpTo left failed old out fault peeked grown_more
   stops_writing fault grown_more is front fails grows = record {
-    past = g.past ++ r ∷ [];
+    past = g.past ++ interval_of r ∷ [];
     took = took_more grown_more grows;
     begins = begins_more (good_left left old) (good_left left now) g.past r g.come gives.first;
     cause = inr (inr (record {
       is = is;
       cuts = record {
-        front = λ before e. front_all grown_more.took grown.put before (settled_lines 0 g.past) front.0 (settled_lines 0 (g.past ++ r ∷ [])) front.1 (g.puts before e) front.2;
+        front = λ before e. front_all grown_more.took grown.put before (settled_lines 0 g.past) front.0 (settled_lines 0 (g.past ++ interval_of r ∷ [])) front.1 (g.puts before e) front.2;
         failed = fails.0;
         sink_failed = fails.1;
       };
@@ -160,35 +166,35 @@ module _ {S : Type 0} (left : S → Option (List ℕ)) (failed : S → Bool) (ol
   }
 
   -- the merge found no memory
-  pub stops_growing : (fault : Told) (grown_more : Output) → fault ≡ no_memory → (lines : List ℕ) × AreSettledBy 0 g.past r lines × Appends grown.put grown_more.put lines
+  pub stops_growing : (fault : Told) (grown_more : Output) → fault ≡ no_memory → (lines : List ℕ) × AreSettledBy 0 g.past (interval_of r) lines × Appends grown.put grown_more.put lines
       → WorksAsBefore grown grown_more → Grows grown.took grown_more.took → FeedsUpTo left failed old out fault peeked grown_more
   stops_growing fault grown_more is puts works grows = record {
-    past = g.past ++ r ∷ [];
+    past = g.past ++ interval_of r ∷ [];
     took = took_more grown_more grows;
     begins = begins_more (good_left left old) (good_left left now) g.past r g.come gives.first;
     cause = inr (inl (record {
       is = is;
-      puts = λ before e. text_grows grown.put grown_more.put before (settled_lines 0 g.past) puts.0 (settled_lines 0 (g.past ++ r ∷ [])) puts.1 puts.2 (g.puts before e);
+      puts = λ before e. text_grows grown.put grown_more.put before (settled_lines 0 g.past) puts.0 (settled_lines 0 (g.past ++ interval_of r ∷ [])) puts.1 puts.2 (g.puts before e);
       works = works_both out grown grown_more g.works works;
       served = gives.served ∙ g.served;
     }));
   }
 
   -- the merge failed
-  pub stops_feeding : (fault : Told) (grown_more : Output) → (fault ≡ write_failed) ⊎ (fault ≡ no_memory) → (lines : List ℕ) × AreSettledBy 0 g.past r lines × IsFrontOf grown_more.took grown.put lines
+  pub stops_feeding : (fault : Told) (grown_more : Output) → (fault ≡ write_failed) ⊎ (fault ≡ no_memory) → (lines : List ℕ) × AreSettledBy 0 g.past (interval_of r) lines × IsFrontOf grown_more.took grown.put lines
       → (fault ≡ write_failed → (grown_more.has_failed ≡ true) × (grown_more.sink_has_failed ≡ true))
-      → (fault ≡ no_memory → (lines : List ℕ) × AreSettledBy 0 g.past r lines × Appends grown.put grown_more.put lines) → (fault ≡ no_memory → WorksAsBefore grown grown_more)
+      → (fault ≡ no_memory → (lines : List ℕ) × AreSettledBy 0 g.past (interval_of r) lines × Appends grown.put grown_more.put lines) → (fault ≡ no_memory → WorksAsBefore grown grown_more)
       → Grows grown.took grown_more.took → FeedsUpTo left failed old out fault peeked grown_more
   stops_feeding fault grown_more (inl is) front fails puts works grows = stops_writing fault grown_more is front (fails is) grows
   stops_feeding fault grown_more (inr is) front fails puts works grows = stops_growing fault grown_more is (puts is) (works is) grows
 
-module _ {S : Type 0} (left : S → Option (List ℕ)) (failed : S → Bool) (old : RecordReader S) (out : Output) where
+module _ {S O : Type 0} {ghosts : Ghosts O} (left : S → Option (List ℕ)) (failed : S → Bool) (old : Records S O ghosts) (out : Output) where
   -- before the first record
-  pub going_start : (merge : Merging) → last_record old ≡ None → record_ahead old ≡ None → fault_kept old ≡ None → StandsAfter 0 [] merge → HoldsBlock out.took out.put → Going left failed old out old merge out
-  going_start merge none_last none_ahead going stands block = record {
+  pub going_start : (merge : Merging) → last_place old ≡ None → fault_kept old ≡ None → StandsAfter 0 [] merge → HoldsBlock out.took out.put → Going left failed old out old merge out
+  going_start merge none_last going stands block = record {
     past = [];
     took = record {
-      names = refl;
+      order = refl;
       bytes = hands_none left (below old);
       placed = tt;
       full = λ k d h. absurd (omega arith);
@@ -197,7 +203,6 @@ module _ {S : Type 0} (left : S → Option (List ℕ)) (failed : S → Bool) (ol
     come = come_none (good_left left old);
     stands = stands;
     last = none_last;
-    none_ahead = none_ahead;
     going = going;
     puts = λ before e. e ∙ ap Some (sym (ap (λ runs. before ++ run_lines runs) (none_at_first [] 0).settled_none ∙ append-nil before));
     works = record { served = refl; sink_served = refl; put = ([], Appends-nil out.put); block = λ h. h };
@@ -206,10 +211,10 @@ module _ {S : Type 0} (left : S → Option (List ℕ)) (failed : S → Bool) (ol
     same_input = refl;
   }
 
-  module _ (now : RecordReader S) (merge : Merging) (grown : Output) (g : Going left failed old out now merge grown) (new : RecordReader S) where
+  module _ (now : Records S O ghosts) (merge : Merging) (grown : Output) (g : Going left failed old out now merge grown) (new : Records S O ghosts) where
     took_last : Stays left now new → Took left failed old out g.past new grown
     took_last stays = record {
-      names = stays.names ∙ g.took.names;
+      order = stays.order ∙ g.took.order;
       bytes = hands_both left (below old) (below now) (below new) g.took.bytes stays.bytes;
       placed = g.took.placed;
       full = g.took.full;
@@ -234,7 +239,7 @@ module _ {S : Type 0} (left : S → Option (List ℕ)) (failed : S → Bool) (ol
       line = lines_given (below new);
       kind = at.kind;
       is = at.place ∙ ap (λ input. fault_at_line input (lines_given (below new)) at.kind) g.same_input;
-      of_line = says_of_line (names_in now) (last_record now) at.text at.kind at.says;
+      of_line = at.of_line;
       puts = g.puts;
       works = g.works;
       served = at.served ∙ g.served;

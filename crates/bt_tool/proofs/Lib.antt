@@ -1,5 +1,3 @@
-pub mod Apart
-pub mod Scan
 pub mod Bridging
 pub mod OneOpen
 pub mod Names
@@ -13,15 +11,7 @@ pub mod Division
 pub mod Reading
 pub mod OutputSteps
 pub mod EngineLemmas
-pub mod RecordLemmas
-pub mod GoodLemmas
-pub mod GenomeLemmas
-pub mod TableLemmas
-pub mod ResultLemmas
 pub mod ReportLemmas
-pub mod TrackLemmas
-pub mod RecordsLemmas
-pub mod HandsLemmas
 pub mod FeedLemmas
 pub mod MergingLemmas
 pub mod RunningLemmas

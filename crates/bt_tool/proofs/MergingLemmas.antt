@@ -13,19 +13,23 @@ use Rattle.bt_lines.specs.declared.fault.Input.TheVariants.{First}
 use Rattle.bt_lines.specs.declared.fault.Kind.{Kind}
 use Rattle.bt_lines.specs.declared.fault.Kind.TheVariants.{ReadFailed, WriteFailed, NoMemory}
 use Rattle.bt_lines.specs.declared.fault.Place.{Place}
+use Rattle.bt_bed.specs.Feature.{intervals_of}
+use Rattle.bt_bed.specs.Good.{Good, good}
+use Rattle.bt_bed.specs.Interval.{Interval, AreNonEmpty}
+use Rattle.bt_bed.specs.LineKind.{fault_at_line, is_of_line}
+use Rattle.bt_bed.specs.Rank.{AreDistinct, rank_order}
+use Rattle.bt_bed.specs.RankTotal.{ranks_total}
+use Rattle.bt_bed.specs.Place.{ArePlaced}
+use Rattle.bt_bed.specs.Records.{below, good_left}
+use Rattle.bt_bed.specs.Reading.{Hands}
+use Rattle.bt_bed.specs.declared.order.ChromOrder.{Ghosts}
+use Rattle.bt_bed.specs.declared.records.Records.{Records}
+use Rattle.bt_bed.proofs.GoodLemmas.{placed_good, non_empty_good}
 use Rattle.bt_tool.specs.Engine.{Merging, settled_lines, merged_lines, AreUnsettled}
-use Rattle.bt_tool.specs.Good.{Good, good, fault_at_line}
-use Rattle.bt_tool.specs.Interval.{Interval, AreNonEmpty}
-use Rattle.bt_tool.specs.LineKind.{is_of_line}
-use Rattle.bt_tool.specs.Place.{AreDistinct, ArePlaced}
-use Rattle.bt_tool.specs.Records.{below, names_in, good_left}
 use Rattle.bt_tool.specs.Report.{merge_good}
 use Rattle.bt_tool.specs.Run.{Cause, PutsSettled, CutsSettled, FeedsAll, FeedsUpTo, StopsAtLine}
 use Rattle.bt_tool.specs.RunMerge.{IsOfInput, MergesRecords, PassesBound, records_report}
-use Rattle.bt_tool.specs.GenomeTable.{Hands}
-use Rattle.bt_tool.specs.declared.records.RecordReader.{RecordReader}
 use Rattle.bt_tool.proofs.FeedLemmas.{front_all, grows_both}
-use Rattle.bt_tool.proofs.GoodLemmas.{placed_good, non_empty_good}
 use Rattle.bt_tool.proofs.ReportLemmas.{output_whole, output_settled, output_begins}
 
 -- a fault of a line is no failed read
@@ -69,29 +73,29 @@ consumes_short (Some x) (Some y) bytes text e c =
     omega (arith, ap length same, ap length c, length-append bytes y)
 
 -- what is to come from a reader that has given nothing
-pub good_start : {S : Type 0} (left : S → Option (List ℕ)) (names : List (List ℕ)) (first : S) (reader : LineReader S) (records : RecordReader S) → line_fault reader ≡ None → input_of reader ≡ First
-    → lines_left left reader ≡ option_map text_lines (left first) → (line_fault reader ≡ None → good_left left records ≡ option_map (good (input_of reader) names) (lines_left left reader))
-    → good_left left records ≡ option_map (good First names) (option_map text_lines (left first))
-good_start left names first reader records going input lines is = is going ∙ ap (λ i. option_map (good i names) (lines_left left reader)) input ∙ ap (option_map (good First names)) lines
+pub good_start : {S O : Type 0} {ghosts : Ghosts O} (left : S → Option (List ℕ)) (names : List (List ℕ)) (first : S) (reader : LineReader S) (records : Records S O ghosts) → line_fault reader ≡ None → input_of reader ≡ First
+    → lines_left left reader ≡ option_map text_lines (left first) → (line_fault reader ≡ None → good_left left records ≡ option_map (good (input_of reader) (rank_order names)) (lines_left left reader))
+    → good_left left records ≡ option_map (good First (rank_order names)) (option_map text_lines (left first))
+good_start left names first reader records going input lines is = is going ∙ ap (λ i. option_map (good i (rank_order names)) (lines_left left reader)) input ∙ ap (option_map (good First (rank_order names))) lines
 
-module _ {S : Type 0} (left : S → Option (List ℕ)) (failed : S → Bool) (names : List (List ℕ)) (distinct : AreDistinct names) (old : RecordReader S) (first : S) (out : Output)
-    (named : names_in old ≡ names) (known : good_left left old ≡ option_map (good First names) (option_map text_lines (left first)))
-    (source : source_of (below old) ≡ first) (input : input_of (below old) ≡ First) (fresh : bytes_taken (below old) ≡ 0) (new : RecordReader S) (last : S) (ended : source_of (below new) ≡ last) where
+module _ {S O : Type 0} {ghosts : Ghosts O} (left : S → Option (List ℕ)) (failed : S → Bool) (names : List (List ℕ)) (distinct : AreDistinct names) (old : Records S O ghosts) (first : S) (out : Output)
+    (known : good_left left old ≡ option_map (good First (rank_order names)) (option_map text_lines (left first)))
+    (source : source_of (below old) ≡ first) (input : input_of (below old) ≡ First) (fresh : bytes_taken (below old) ≡ 0) (new : Records S O ghosts) (last : S) (ended : source_of (below new) ≡ last) where
   -- the good records of a text
   abbrev records_of : List ℕ → Good
-  records_of text = good First names (text_lines text)
+  records_of text = good First (rank_order names) (text_lines text)
 
   at_text : (text : List ℕ) (P : Good → Type 0) → left first ≡ Some text → IfSome (good_left left old) P → P (records_of text)
-  at_text text P e h = subst (λ o. IfSome o P) (known ∙ ap (λ o. option_map (good First names) (option_map text_lines o)) e) h
+  at_text text P e h = subst (λ o. IfSome o P) (known ∙ ap (λ o. option_map (good First (rank_order names)) (option_map text_lines o)) e) h
 
-  placed : (text : List ℕ) → ArePlaced names (records_of text).records
-  placed text = placed_good First names (text_lines text)
+  placed : (text : List ℕ) → ArePlaced (rank_order names) (intervals_of (records_of text).records)
+  placed text = placed_good First (rank_order names) (text_lines text) (ranks_total names)
 
-  full : (text : List ℕ) → AreNonEmpty (records_of text).records
-  full text = non_empty_good First names (text_lines text)
+  full : (text : List ℕ) → AreNonEmpty (intervals_of (records_of text).records)
+  full text = non_empty_good First (rank_order names) (text_lines text)
 
   -- a front of the records gives a front of the output
-  begins_output : (text : List ℕ) (past : List Interval) → (rest : List Interval) × ((records_of text).records ≡ past ++ rest) → (rest : List ℕ) × ((records_report names text).output ≡ settled_lines 0 past ++ rest)
+  begins_output : (text : List ℕ) (past : List Interval) → (rest : List Interval) × (intervals_of (records_of text).records ≡ past ++ rest) → (rest : List ℕ) × ((records_report names text).output ≡ settled_lines 0 past ++ rest)
   begins_output text past b = output_begins names (records_of text) distinct (placed text) (full text) past b.0 (records_of text).fault b.1
 
   within_bound : (text : List ℕ) → left first ≡ Some text → length text < 2 ^ 63 → Hands left (below old) (below new) → 2 ^ 63 ≤ bytes_taken (below new) → ⊥
@@ -110,7 +114,7 @@ module _ {S : Type 0} (left : S → Option (List ℕ)) (failed : S → Bool) (na
 
     whole_at_line : (past : List Interval) (text before : List ℕ) → left first ≡ Some text → out.put ≡ Some before → StopsAtLine left failed old out past fault new grown → Whole text before
     whole_at_line past text before e put at =
-        let w = at_text text (λ g. (g.records ≡ past) × (g.fault ≡ Some fault)) e at.whole in
+        let w = at_text text (λ g. (intervals_of g.records ≡ past) × (g.fault ≡ Some fault)) e at.whole in
         let good = records_of text in
         let lines : settled_lines 0 past ≡ (merge_good names good (Some fault)).output = ap (settled_lines 0) (sym w.0) ∙ sym (output_settled names good distinct (placed text) (full text) fault) in
         subst (λ f. (Some fault ≡ (merge_good names good f).fault) × (grown.put ≡ Some (before ++ (merge_good names good f).output))) (sym w.1)
@@ -154,10 +158,10 @@ module _ {S : Type 0} (left : S → Option (List ℕ)) (failed : S → Bool) (na
       whole = λ text before e put short served sink memory. whole_by fed.past text before e put short served sink memory fed.took.bytes fed.cause;
       told = λ text before e put is. told_by fed.past text before e put is fed.cause;
       cut = λ is text before e put.
-          let begins = begins_output text fed.past (at_text text (λ g. (rest : List Interval) × (g.records ≡ fed.past ++ rest)) e fed.begins) in
+          let begins = begins_output text fed.past (at_text text (λ g. (rest : List Interval) × (intervals_of g.records ≡ fed.past ++ rest)) e fed.begins) in
           (settled_lines 0 fed.past, begins.0, begins.1, (cut_by fed.past fed.cause (some_is fault write_failed is)).front before put);
       kept = λ other text before e put.
-          let begins = begins_output text fed.past (at_text text (λ g. (rest : List Interval) × (g.records ≡ fed.past ++ rest)) e fed.begins) in
+          let begins = begins_output text fed.past (at_text text (λ g. (rest : List Interval) × (intervals_of g.records ≡ fed.past ++ rest)) e fed.begins) in
           (settled_lines 0 fed.past, begins.0, begins.1, puts_by fed.past fed.cause (λ is. other (ap Some is)) before put);
       grows = fed.took.grows;
       writing = λ e. (cut_by fed.past fed.cause (some_is fault write_failed e)).sink_failed;
@@ -171,7 +175,7 @@ module _ {S : Type 0} (left : S → Option (List ℕ)) (failed : S → Bool) (na
     -- the report where all records were taken
     report_whole : (text : List ℕ) → left first ≡ Some text → ((records_report names text).fault ≡ None) × ((records_report names text).output ≡ merged_lines 0 fed.past)
     report_whole text e =
-        let w = at_text text (λ g. (g.records ≡ fed.past) × (g.fault ≡ None)) e fed.whole in
+        let w = at_text text (λ g. (intervals_of g.records ≡ fed.past) × (g.fault ≡ None)) e fed.whole in
         let good = records_of text in
         subst (λ f. ((merge_good names good f).fault ≡ None) × ((merge_good names good f).output ≡ merged_lines 0 fed.past)) (sym w.1)
         (refl, output_whole names good distinct (placed text) (full text) ∙ ap (merged_lines 0) w.0)

@@ -1,32 +1,14 @@
--- Names of chromosomes, and the records of one of them, in a past that grows at its end.
-use Rattle.std.proofs.Common.{◌≡◌, ℕ, ◌≤◌, ◌⊎◌, inl, inr, List, [], ◌∷◌, ◌++◌, append-nil, refl, sym, ap, ◌∙◌, map, true, false, not, ◌||◌, bytes_eq, Some}
-use Rattle.std.proofs.lemmas.Bool.{cases_Bool, cond-true, cond-false, or_parts, or_cases, or_from, or_left, or_right, false_from_ne_true, false≢true, not_from_true, not_from_false}
-use Rattle.std.proofs.lemmas.Slice.Eq.{bytes_eq-Decides}
+-- The records of one chromosome, and the chromosomes that have records, in a past that grows at its end.
+use Rattle.std.proofs.Common.{◌≡◌, ℕ, inl, inr, List, [], ◌∷◌, ◌++◌, append-nil, refl, sym, ap, ◌∙◌, map, true, false, not, ◌||◌, bytes_eq}
+use Rattle.std.proofs.lemmas.Bool.{cases_Bool, cond-true, cond-false, or_parts, or_cases, or_from, or_left, false≢true, not_from_true, not_from_false}
 use Rattle.std.proofs.lemmas.List.Elements.{filter-append}
-use Rattle.bt_tool.specs.Interval.{last_from, last_of, Interval, span_of, placed_on, spans_on}
+use Rattle.bt_bed.specs.Interval.{Interval, span_of, placed_on, spans_on}
+use Rattle.bt_bed.specs.Together.{has_records}
+use Rattle.bt_bed.specs.Rank.{is_among, AreDistinct}
+use Rattle.bt_bed.proofs.NameLemmas.{same_name, name_eq, name_ne, other_name, name_ne-sym, cases_name}
 use Rattle.bt_tool.specs.Merged.{runs_of, runs_on, merged, without, chromosomes}
-use Rattle.bt_tool.specs.Place.{fronts_stand_together, is_among, AreDistinct, has_records, IsFollowed, AreTogether, together_grows}
 use Rattle.bt_tool.specs.Settled.{names_before, chromosomes_are_distinct}
 use Rattle.std.proofs.lemmas.List.Concat.{flat_map-append}
-
-pub same_name : (a b : List ℕ) → bytes_eq a b ≡ true → a ≡ b
-same_name a b t = (bytes_eq-Decides a b).0 t
-
-pub name_eq : (a b : List ℕ) → a ≡ b → bytes_eq a b ≡ true
-name_eq a b e = (bytes_eq-Decides a b).1 e
-
-pub name_ne : (a b : List ℕ) → (a ≡ b → ⊥) → bytes_eq a b ≡ false
-name_ne a b n = false_from_ne_true (bytes_eq a b) (λ t. n (same_name a b t))
-
-pub other_name : (a b : List ℕ) → bytes_eq a b ≡ false → a ≡ b → ⊥
-other_name a b f e = let t = name_eq a b e in absurd (cc)
-
-pub name_ne-sym : (a b : List ℕ) → bytes_eq a b ≡ false → bytes_eq b a ≡ false
-name_ne-sym a b f = name_ne b a (λ e. other_name a b f (sym e))
-
--- names that are one, or not
-pub cases_name : (a b : List ℕ) → (a ≡ b) ⊎ (bytes_eq a b ≡ false)
-cases_name a b = elim (cases_Bool (bytes_eq a b)) [ inl t ↦ inl (same_name a b t) | inr f ↦ inr f ]
 
 -- the records of one chromosome
 pub spans_on-here : (name : List ℕ) (r : Interval) (rs : List Interval) → r.chrom ≡ name → spans_on name (r ∷ rs) ≡ span_of r ∷ spans_on name rs
@@ -55,13 +37,6 @@ spans_on-none name [] f = refl
 spans_on-none name (r ∷ rs) f =
     let parts = or_parts (bytes_eq r.chrom name) (has_records name rs) f in
     spans_on-elsewhere name r rs parts.0 ∙ spans_on-none name rs parts.1
-
-pub has_records-append : (name : List ℕ) (xs ys : List Interval) → has_records name (xs ++ ys) ≡ false → (has_records name xs ≡ false) × (has_records name ys ≡ false)
-has_records-append name [] ys f = (refl, f)
-has_records-append name (x ∷ xs) ys f =
-    let parts = or_parts (bytes_eq x.chrom name) (has_records name (xs ++ ys)) f in
-    let rest = has_records-append name xs ys parts.1 in
-    (or_from (bytes_eq x.chrom name) (has_records name xs) parts.0 rest.0, rest.1)
 
 -- the names of the chromosomes that have records
 pub without-append : (name : List ℕ) (xs ys : List (List ℕ)) → without name (xs ++ ys) ≡ without name xs ++ without name ys
@@ -137,84 +112,11 @@ pub merged-one : (name : List ℕ) (gap : ℕ) (records : List Interval) → mer
 unfolding merged
 merged-one name gap records = append-nil (runs_on name gap records)
 
--- records in order: the last of them, and one more
-pub together_front : fronts_stand_together
-together_front [] ys t = tt
-together_front (x ∷ []) ys t = (tt, tt)
-together_front (x ∷ y ∷ zs) ys t =
-    let rest = together_front (y ∷ zs) ys t.1 in
-    let next : IsFollowed x (y ∷ zs) = elim t.0 [
-      | inl same ↦ inl same
-      | inr gone ↦ inr (has_records-append x.chrom (y ∷ zs) ys gone).0
-    ] in
-    (next, rest)
-
-pub next_place : (q : Interval) (qs : List Interval) (r : Interval) → AreTogether (q ∷ qs ++ r ∷ []) → ((r.chrom ≡ (last_from q qs).chrom) × ((last_from q qs).start ≤ r.start)) ⊎ (has_records r.chrom (q ∷ qs) ≡ false)
-next_place q [] r t = elim t.0 [
-  | inl same ↦ inl same
-  | inr gone ↦ inr (or_from (bytes_eq q.chrom r.chrom) false (name_ne-sym r.chrom q.chrom (or_parts (bytes_eq r.chrom q.chrom) false gone).0) refl)
-]
-next_place q (s ∷ ss) r t = elim (next_place s ss r t.1) [
-  | inl same ↦ inl same
-  | inr gone ↦
-      let parts = or_parts (bytes_eq s.chrom r.chrom) (has_records r.chrom ss) gone in
-      let miss : bytes_eq q.chrom r.chrom ≡ false = elim t.0 [
-        | inl same ↦ name_ne q.chrom r.chrom (λ e. other_name s.chrom r.chrom parts.0 (same.0 ∙ e))
-        | inr away ↦
-            let behind = has_records-append q.chrom (s ∷ ss) (r ∷ []) away in
-            name_ne-sym r.chrom q.chrom (or_parts (bytes_eq r.chrom q.chrom) false behind.1).0
-      ] in
-      inr (or_from (bytes_eq q.chrom r.chrom) (has_records r.chrom (s ∷ ss)) miss gone)
-]
-
-pub last_of-push : (past : List Interval) (r : Interval) → last_of (past ++ r ∷ []) ≡ Some r
-last_of-push [] r = refl
-last_of-push (q ∷ []) r = refl
-last_of-push (q ∷ s ∷ ss) r = last_of-push (s ∷ ss) r
-
--- the last record's chromosome has records
-pub has_records-last : (q : Interval) (qs : List Interval) → has_records (last_from q qs).chrom (q ∷ qs) ≡ true
-has_records-last q [] = or_left (bytes_eq q.chrom q.chrom) false (name_eq q.chrom q.chrom refl)
-has_records-last q (s ∷ ss) = or_right (bytes_eq q.chrom (last_from s ss).chrom) (has_records (last_from s ss).chrom (s ∷ ss)) (has_records-last s ss)
-
 pub names_before-at : (name : List ℕ) (front more : List (List ℕ)) → is_among front name ≡ false → names_before name (front ++ name ∷ more) ≡ front
 names_before-at name [] more f = cond-true (bytes_eq name name) [] (name ∷ names_before name more) (name_eq name name refl)
 names_before-at name (n ∷ ns) more f =
     let parts = or_parts (bytes_eq n name) (is_among ns name) f in
     cond-false (bytes_eq n name) [] (n ∷ names_before name (ns ++ name ∷ more)) parts.0 ∙ ap (λ ms. n ∷ ms) (names_before-at name ns more parts.1)
-
-has_records-push : (name : List ℕ) (xs : List Interval) (r : Interval) → has_records name xs ≡ false → bytes_eq r.chrom name ≡ false → has_records name (xs ++ r ∷ []) ≡ false
-has_records-push name [] r f g = or_from (bytes_eq r.chrom name) false g refl
-has_records-push name (x ∷ xs) r f g =
-    let parts = or_parts (bytes_eq x.chrom name) (has_records name xs) f in
-    or_from (bytes_eq x.chrom name) (has_records name (xs ++ r ∷ [])) parts.0 (has_records-push name xs r parts.1 g)
-
--- the next of a past in order: what the last record asks of it, it asks of all
-grows_from : (q : Interval) (qs : List Interval) (r : Interval) → AreTogether (q ∷ qs) → ((r.chrom ≡ (last_from q qs).chrom) × ((last_from q qs).start ≤ r.start)) ⊎ (has_records r.chrom (q ∷ qs) ≡ false) → AreTogether (q ∷ qs ++ r ∷ [])
-grows_from q [] r t next = (
-  elim next [
-    | inl same ↦ inl same
-    | inr new ↦ inr (or_from (bytes_eq r.chrom q.chrom) false (name_ne-sym q.chrom r.chrom (or_parts (bytes_eq q.chrom r.chrom) false new).0) refl)
-  ],
-  (tt, tt),
-)
-grows_from q (s ∷ ss) r t next =
-    let later : ((r.chrom ≡ (last_from s ss).chrom) × ((last_from s ss).start ≤ r.start)) ⊎ (has_records r.chrom (s ∷ ss) ≡ false) = elim next [
-      | inl same ↦ inl same
-      | inr new ↦ inr (or_parts (bytes_eq q.chrom r.chrom) (has_records r.chrom (s ∷ ss)) new).1
-    ] in
-    let first : IsFollowed q (s ∷ ss ++ r ∷ []) = elim t.0 [
-      | inl same ↦ inl same
-      | inr gone ↦ inr (has_records-push q.chrom (s ∷ ss) r gone (elim next [
-        | inl same ↦ name_ne r.chrom q.chrom (λ e. false≢true (sym gone ∙ ap (λ name. has_records name (s ∷ ss)) (sym e ∙ same.0) ∙ has_records-last s ss))
-        | inr new ↦ name_ne-sym q.chrom r.chrom (or_parts (bytes_eq q.chrom r.chrom) (has_records r.chrom (s ∷ ss)) new).0
-      ]))
-    ] in
-    (first, grows_from s ss r t.1 later)
-
-pub grows_together : together_grows
-grows_together [] r t next = (tt, tt)
-grows_together (q ∷ qs) r t next = grows_from q qs r t next
 
 -- each name comes once
 among_without-self : (name : List ℕ) (names : List (List ℕ)) → is_among (without name names) name ≡ false

@@ -1,10 +1,10 @@
 -- On one chromosome, with starts that don't fall, one run is open: the one that holds the start of the last record.
 use Rattle.std.proofs.Common.{◌≡◌, ℕ, ◌+◌, ◌-◌, ◌<◌, ◌≤◌, ◌⊎◌, inl, inr, List, [], ◌∷◌, ◌++◌, refl, ap, ◌∙◌, arith, max, map, filter, nat_lt, lt-ltb, le-ltb}
 use Rattle.std.proofs.lemmas.Bool.{cases_lt, cond-true, cond-false}
-use Rattle.bt_tool.specs.Interval.{Interval, Span, placed_on}
-use Rattle.bt_tool.specs.Stretches.{IsCovered}
+use Rattle.bt_bed.specs.Interval.{Interval, Span, placed_on}
+use Rattle.bt_bed.specs.Stretches.{IsCovered}
+use Rattle.bt_bed.proofs.Apart.{IsWithin}
 use Rattle.bt_tool.specs.Merged.{Bridged, runs_of}
-use Rattle.bt_tool.proofs.Apart.{IsWithin}
 use Rattle.bt_tool.proofs.Bridging.{AreApartBy, AreJoined, joined_are_runs}
 
 -- the runs of the spans are those that are done and one more, which holds the start of the last span and ends where a span ends

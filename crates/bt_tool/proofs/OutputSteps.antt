@@ -8,7 +8,7 @@ use Rattle.bt_lines.specs.Fault.{Told, write_failed}
 use Rattle.bt_lines.specs.Names.{told}
 use Rattle.bt_lines.specs.Output.{Output, HoldsBlock, IsFrontOf, Grows}
 use Rattle.bt_lines.specs.declared.fault.Fault.{Fault}
-use Rattle.bt_tool.specs.Interval.{Interval}
+use Rattle.bt_bed.specs.Interval.{Interval}
 use Rattle.bt_tool.specs.Engine.{run_line}
 use Rattle.bt_tool.specs.Putting.{WorksAsBefore, PutsAll, FailsToPut, Puts, Grown}
 

@@ -1,12 +1,19 @@
 -- Records in the order of a list of names: their chromosomes come in that order, each once.
-use Rattle.std.proofs.Common.{◌≡◌, ℕ, suc, ◌+◌, ◌<◌, ◌≤◌, inl, inr, List, [], ◌∷◌, ◌++◌, refl, sym, ap, subst, ◌∙◌, arith, map, drop, length, filter, cond, Bool, true, false, ◌||◌, bytes_eq, nat_lt, IsSome, Option, Some, None, option_map}
+use Rattle.std.specs.Cmp.{ranked}
+use Rattle.std.specs.declared.cmp.Ordering.TheVariants.{Less}
+use Rattle.std.proofs.Common.{◌≡◌, ℕ, suc, ◌+◌, ◌<◌, ◌≤◌, ◌⊎◌, inl, inr, List, [], ◌∷◌, ◌++◌, refl, sym, ap, subst, ◌∙◌, arith, map, drop, length, filter, cond, Bool, true, false, ◌||◌, bytes_eq, nat_lt, IsSome, Option, Some, None, option_map}
 use Rattle.std.proofs.lemmas.Bool.{cases_Bool, cond-true, cond-false, or_parts, or_from, or_left, false≢true}
-use Rattle.bt_tool.specs.Interval.{last_from, Interval, placed_on}
-use Rattle.bt_tool.specs.Stretches.{stretches_from}
+use Rattle.bt_bed.specs.Interval.{last_from, Interval, placed_on}
+use Rattle.bt_bed.specs.Stretches.{stretches_from}
+use Rattle.bt_bed.specs.Place.{place_of, IsUpTo, ArePlaced}
+use Rattle.bt_bed.specs.Rank.{is_among, AreDistinct, rank_of, compare_ranks, rank_order}
+use Rattle.bt_bed.specs.RankTotal.{ranks_total}
+use Rattle.bt_bed.specs.Together.{has_records}
+use Rattle.bt_bed.proofs.NameLemmas.{name_eq, name_ne, name_ne-sym, cases_name}
+use Rattle.bt_bed.proofs.TogetherLemmas.{has_records-last, placed_front, placed_together}
 use Rattle.bt_tool.specs.Merged.{runs_of, runs_on, merged, without, chromosomes}
-use Rattle.bt_tool.specs.Place.{fronts_are_placed, is_among, AreDistinct, rank_of, IsPlacedUpTo, ArePlaced, has_records, IsFollowed, placed_are_together, placed_grows}
 use Rattle.bt_tool.specs.Settled.{kept, names_before, settled, merged_in_order, settled_in_order, kept_in_order, settled_begins_in_order, nothing_at_first, first_of, open_of}
-use Rattle.bt_tool.proofs.Names.{name_eq, name_ne, name_ne-sym, cases_name, spans_on-none, among_chromosomes, without-here, without-other, has_records-last}
+use Rattle.bt_tool.proofs.Names.{spans_on-none, among_chromosomes, without-here, without-other}
 use Rattle.bt_tool.proofs.Steps.{begins_settled}
 
 -- ranks
@@ -53,8 +60,44 @@ some_rank : (o : Option ℕ) → IsSome o → (i : ℕ) × (o ≡ Some i)
 some_rank None h = absurd (false≢true h)
 some_rank (Some i) h = (i, refl)
 
+-- the place of r, by rank and then by start, isn't after that of s
+record IsRankedUpTo (names : List (List ℕ)) (r s : Interval) : Type 0 where
+  rank : ℕ
+  next_rank : ℕ
+  rank_is : rank_of names r.chrom ≡ Some rank
+  next_rank_is : rank_of names s.chrom ≡ Some next_rank
+  up_to : (rank < next_rank) ⊎ ((rank ≡ next_rank) × (r.start ≤ s.start))
+
+abbrev IsRankedBefore : List (List ℕ) → Interval → List Interval → Type 0
+IsRankedBefore names r [] = Unit {0}
+IsRankedBefore names r (s ∷ ss) = IsRankedUpTo names r s
+
+-- each chromosome has a rank, and places, by rank and then by start, never fall
+abbrev AreRanked : List (List ℕ) → List Interval → Type 0
+AreRanked names [] = Unit {0}
+AreRanked names (r ∷ rs) = IsSome (rank_of names r.chrom) × IsRankedBefore names r rs × AreRanked names rs
+
+less_ranks : (o p : Option ℕ) → compare_ranks o p ≡ Less → (i : ℕ) × (j : ℕ) × (o ≡ Some i) × (p ≡ Some j) × (i < j)
+less_ranks None p e = cc
+less_ranks (Some i) None e = cc
+less_ranks (Some i) (Some j) e = (i, j, refl, refl, ranked i j Less (sym e))
+
+up_to_ranked : (names : List (List ℕ)) (r s : Interval) → IsSome (rank_of names r.chrom) → IsUpTo (rank_order names) (place_of r) (place_of s) → IsRankedUpTo names r s
+up_to_ranked names r s known (inl less) =
+    let ranks = less_ranks (rank_of names r.chrom) (rank_of names s.chrom) less in
+    record { rank = ranks.0; next_rank = ranks.1; rank_is = ranks.2; next_rank_is = ranks.3; up_to = inl ranks.4 }
+up_to_ranked names r s known (inr same) =
+    let rank = some_rank (rank_of names r.chrom) known in
+    record { rank = rank.0; next_rank = rank.0; rank_is = rank.1; next_rank_is = ap (rank_of names) (sym same.0) ∙ rank.1; up_to = inr (refl, same.1) }
+
+-- in the order of a list of names, places never fall by rank and start
+placed_ranked : (names : List (List ℕ)) (records : List Interval) → ArePlaced (rank_order names) records → AreRanked names records
+placed_ranked names [] placed = tt
+placed_ranked names (r ∷ []) placed = (placed.0, tt, tt)
+placed_ranked names (r ∷ s ∷ ss) placed = (placed.0, up_to_ranked names r s placed.0 placed.1, placed_ranked names (s ∷ ss) placed.2)
+
 -- a chromosome of lower rank than the first record's has no records
-lower_is_absent : (names : List (List ℕ)) (name : List ℕ) (i j : ℕ) (s : Interval) (ss : List Interval) → ArePlaced names (s ∷ ss) → rank_of names name ≡ Some i → rank_of names s.chrom ≡ Some j → i < j → has_records name (s ∷ ss) ≡ false
+lower_is_absent : (names : List (List ℕ)) (name : List ℕ) (i j : ℕ) (s : Interval) (ss : List Interval) → AreRanked names (s ∷ ss) → rank_of names name ≡ Some i → rank_of names s.chrom ≡ Some j → i < j → has_records name (s ∷ ss) ≡ false
 lower_is_absent names name i j s [] placed p q l =
     or_from (bytes_eq s.chrom name) false (name_ne s.chrom name (λ e. let h = ap (λ c. rank_of names c) e in let same : i ≡ j = cc in absurd (omega arith))) refl
 lower_is_absent names name i j s (t ∷ ts) placed p q l =
@@ -63,33 +106,6 @@ lower_is_absent names name i j s (t ∷ ts) placed p q l =
     let higher : i < next.next_rank = elim next.up_to [ inl h ↦ omega arith | inr h ↦ omega (arith, h.0) ] in
     let rest = lower_is_absent names name i next.next_rank t ts placed.2 p next.next_rank_is higher in
     or_from (bytes_eq s.chrom name) (has_records name (t ∷ ts)) (name_ne s.chrom name (λ e. let h = ap (λ c. rank_of names c) e in let same : i ≡ j = cc in absurd (omega arith))) rest
-
--- what comes next is on the same chromosome, or has none of it
-followed : (names : List (List ℕ)) (r : Interval) (rs : List Interval) → ArePlaced names (r ∷ rs) → IsFollowed r rs
-followed names r [] placed = tt
-followed names r (s ∷ ss) placed =
-    let next = placed.1 in
-    elim next.up_to [
-      | inl lower ↦ inr (lower_is_absent names r.chrom next.rank next.next_rank s ss placed.2 next.rank_is next.next_rank_is lower)
-      | inr same ↦ inl (sym (same_rank names r.chrom s.chrom next.rank next.rank_is (subst (λ (k : ℕ). rank_of names s.chrom ≡ Some k) (sym same.0) next.next_rank_is)), same.1)
-    ]
-
-pub placed_together : placed_are_together
-placed_together names [] placed = tt
-placed_together names (r ∷ rs) placed = (followed names r rs placed, placed_together names rs placed.2)
-
-pub placed_front : fronts_are_placed
-placed_front names [] ys placed = tt
-placed_front names (x ∷ []) ys placed = (placed.0, tt, tt)
-placed_front names (x ∷ y ∷ zs) ys placed = (placed.0, placed.1, placed_front names (y ∷ zs) ys placed.2)
-
-placed_from : (names : List (List ℕ)) (q : Interval) (qs : List Interval) (r : Interval) → ArePlaced names (q ∷ qs) → IsSome (rank_of names r.chrom) → IsPlacedUpTo names (last_from q qs) r → ArePlaced names (q ∷ qs ++ r ∷ [])
-placed_from names q [] r placed known next = (placed.0, next, (known, tt, tt))
-placed_from names q (s ∷ ss) r placed known next = (placed.0, placed.1, placed_from names s ss r placed.2 known next)
-
-pub grows_placed : placed_grows
-grows_placed names [] r placed known next = (known, tt, tt)
-grows_placed names (q ∷ qs) r placed known next = placed_from names q qs r placed known next
 
 -- filters of names
 filter_same : (p q : List ℕ → Bool) → ((n : List ℕ) → p n ≡ q n) → (names : List (List ℕ)) → filter p names ≡ filter q names
@@ -158,7 +174,7 @@ or_twice true y = refl
 or_twice false y = refl
 
 -- the names that have records, in the order of the names, are those in the order of first records
-names_in_order : (names : List (List ℕ)) (records : List Interval) → AreDistinct names → ArePlaced names records → filter (λ n. has_records n records) names ≡ chromosomes records
+names_in_order : (names : List (List ℕ)) (records : List Interval) → AreDistinct names → AreRanked names records → filter (λ n. has_records n records) names ≡ chromosomes records
 names_in_order names [] distinct placed = filter_none names
 names_in_order names (r ∷ []) distinct placed =
     let rank = some_rank (rank_of names r.chrom) placed.0 in
@@ -197,7 +213,7 @@ merged-filter (n ∷ ns) gap records =
     ]
 
 pub merged_by_chromosomes : merged_in_order
-merged_by_chromosomes names gap records distinct placed = sym (merged-filter names gap records) ∙ ap (λ ns. merged ns gap records) (names_in_order names records distinct placed)
+merged_by_chromosomes names gap records distinct placed = sym (merged-filter names gap records) ∙ ap (λ ns. merged ns gap records) (names_in_order names records distinct (placed_ranked names records placed))
 
 merged-none : (names : List (List ℕ)) (gap : ℕ) → merged names gap [] ≡ []
 unfolding merged
@@ -237,7 +253,7 @@ settled_by_chromosomes names gap (q ∷ qs) distinct placed =
     let past = q ∷ qs in
     let last = last_from q qs in
     let has : List ℕ → Bool = λ n. has_records n past in
-    let before : names_before last.chrom (chromosomes past) ≡ filter has (names_before last.chrom names) = ap (λ ns. names_before last.chrom ns) (sym (names_in_order names past distinct placed)) ∙ names_before-filter last.chrom has names (has_records-last q qs) in
+    let before : names_before last.chrom (chromosomes past) ≡ filter has (names_before last.chrom names) = ap (λ ns. names_before last.chrom ns) (sym (names_in_order names past distinct (placed_ranked names past placed))) ∙ names_before-filter last.chrom has names (has_records-last q qs) in
     let all = sym (merged-filter (names_before last.chrom names) gap past) ∙ ap (λ ns. merged ns gap past) (sym before) in
     ap (λ runs. runs ++ filter (λ run. nat_lt (run.stop + gap) last.start) (runs_on last.chrom gap past)) all
 
@@ -249,6 +265,6 @@ kept_by_chromosomes names gap past distinct placed =
 pub begins_in_order : settled_begins_in_order
 begins_in_order names gap past more distinct placed full =
     let all = merged_by_chromosomes names gap (past ++ more) distinct placed in
-    let front = settled_by_chromosomes names gap past distinct (placed_front names past more placed) in
-    let begins = begins_settled gap past more (placed_together names (past ++ more) placed) full in
+    let front = settled_by_chromosomes names gap past distinct (placed_front (rank_order names) past more placed) in
+    let begins = begins_settled gap past more (placed_together (rank_order names) (past ++ more) (ranks_total names) placed) full in
     (begins.0, all ∙ begins.1 ∙ ap (λ runs. runs ++ begins.0) (sym front))

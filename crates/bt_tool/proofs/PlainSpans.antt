@@ -5,9 +5,9 @@ use Rattle.std.proofs.lemmas.Bool.{cases_eq, false≢true, cond-true, cond-false
 use Rattle.std.proofs.lemmas.Bool.Decides.{Decides-and, Decides-or, Decides-ltb}
 use Rattle.std.proofs.lemmas.List.{map-append}
 use Rattle.std.proofs.lemmas.List.Elements.{All-head, All-tail}
+use Rattle.bt_bed.specs.Interval.{Span}
+use Rattle.bt_bed.specs.Stretches.{IsCovered, AreApartFrom, AreStretchesOf}
 use Rattle.bt_tool.specs.declared.plain.Span.{Span as PlainSpan}
-use Rattle.bt_tool.specs.Interval.{Span}
-use Rattle.bt_tool.specs.Stretches.{IsCovered, AreApartFrom, AreStretchesOf}
 use Rattle.bt_tool.specs.Merged.{Bridged, runs_of}
 use Rattle.bt_tool.specs.Plain.{span_in, spans_in, with_next_after, with_next}
 use Rattle.bt_tool.proofs.Bridging.{only_runs}

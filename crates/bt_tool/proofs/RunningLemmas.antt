@@ -13,17 +13,17 @@ use Rattle.bt_lines.specs.declared.fault.Input.{Input}
 use Rattle.bt_lines.specs.declared.fault.Input.TheVariants.{Genome as FromGenome, First}
 use Rattle.bt_lines.specs.declared.fault.Kind.TheVariants.{ReadFailed}
 use Rattle.bt_lines.specs.declared.line_reader.LineReader.{LineReader}
+use Rattle.bt_bed.specs.Genome.{genome_of}
+use Rattle.bt_bed.specs.Reading.{Hands, ReadingFails, MemoryRanOut}
+use Rattle.bt_bed.specs.GenomeTable.{ReadsAll, LineAtFault, entries, names_of}
+use Rattle.bt_bed.specs.declared.genome.Genome.{Genome}
 use Rattle.bt_tool.specs.Flushing.{Flushes, FlushesAll, FlushFails, StaysFailed}
-use Rattle.bt_tool.specs.Genome.{genome_of}
-use Rattle.bt_tool.specs.GenomeTable.{Hands, ReadsAll, LineAtFault, ReadingFails, MemoryRanOut, entries, names_of}
 use Rattle.bt_tool.specs.Report.{Report, merge_on, report_of}
 use Rattle.bt_tool.specs.Options.{PlanSeen}
 use Rattle.bt_tool.specs.declared.plan_type.Command.{Command}
 use Rattle.bt_tool.specs.declared.plan_type.Command.TheVariants.{Merge}
 use Rattle.bt_tool.specs.RunMerge.{Gives, IsOfInput, MergesRecords, PassesBound, Runs, RunsPlan, records_report}
-use Rattle.bt_tool.specs.declared.genome.Genome.{Genome}
 use Rattle.bt_tool.proofs.FeedLemmas.{grows_both}
-use Rattle.bt_tool.proofs.TableLemmas.{refused_at_place}
 use Rattle.bt_tool.proofs.MergingLemmas.{consumes_short, line_no_read, memory_no_read, memory_no_write, placed_no_write, same_read, some_is, write_no_read}
 
 genome_no_first : FromGenome ≡ First → ⊥
@@ -150,7 +150,7 @@ module _ {G A K : Type 0} (g_left : G → Option (List ℕ)) (g_failed : G → B
         (hands.0, handed, omega (arith, past, hands.2, fresh))
 
     read_cause : Wrong → (i : Input) (line : ℕ) → fault ≡ read_failed i line → (i ≡ FromGenome) × ((g_failed genome_after ≡ true) ⊎ PassesBound (g_left genome) (g_left genome_after))
-    read_cause (inl at) i line e = absurd (line_no_read (input_of reader) (lines_given read) at.kind i line (refused_at_place at.names at.text at.kind at.says) (sym at.place ∙ e))
+    read_cause (inl at) i line e = absurd (line_no_read (input_of reader) (lines_given read) at.kind i line at.of_line (sym at.place ∙ e))
     read_cause (inr (inl fails)) i line e =
         (sym (same_read (input_of reader) i (suc (lines_given read)) line (sym fails.is ∙ e)) ∙ input, ⊎_elim (λ failed. inl (ap g_failed (sym ended) ∙ failed)) (λ past. inr (passed fails.bytes past)) fails.cause)
     read_cause (inr (inr ran)) i line e = absurd (memory_no_read i line (sym ran.is ∙ e))

@@ -1,12 +1,14 @@
 -- Where the merge of a past in order stands: the chromosomes before the last record's, the runs that are done on its own, and the open run.
 use Rattle.std.proofs.Common.{◌≡◌, ℕ, ◌+◌, ◌<◌, ◌≤◌, List, [], ◌∷◌, ◌++◌, append_assoc, refl, sym, ap, ◌∙◌, map, filter, drop, length, Bool, true, false, nat_lt, Some}
 use Rattle.std.proofs.lemmas.List.{map-append, drop_at}
-use Rattle.bt_tool.specs.Interval.{last_of, Interval, Span, span_of, placed_on, spans_on}
+use Rattle.bt_bed.specs.Interval.{last_of, Interval, Span, span_of, placed_on, spans_on}
+use Rattle.bt_bed.specs.Rank.{is_among}
+use Rattle.bt_bed.specs.Together.{has_records}
+use Rattle.bt_bed.proofs.TogetherLemmas.{last_of-push}
 use Rattle.bt_tool.specs.Merged.{runs_on, merged, chromosomes}
-use Rattle.bt_tool.specs.Place.{is_among, has_records}
 use Rattle.bt_tool.specs.Settled.{names_before, settled_at, settled, kept, first_of, open_of}
 use Rattle.bt_tool.proofs.OneOpen.{OneOpen, first_open, join_open, next_open, open_runs, filter_done, longer}
-use Rattle.bt_tool.proofs.Names.{spans_on-push_here, spans_on-here, spans_on-none, chromosomes-push_new, chromosomes-push_known, among_chromosomes, merged-append, merged-one, last_of-push, names_before-at}
+use Rattle.bt_tool.proofs.Names.{spans_on-push_here, spans_on-here, spans_on-none, chromosomes-push_new, chromosomes-push_known, among_chromosomes, merged-append, merged-one, names_before-at}
 
 pub record Standing (gap : ℕ) (past : List Interval) (last : Interval) (front : List (List ℕ)) (done : List Span) (run : Span) : Type 0 where
   pub last_is : last_of past ≡ Some last

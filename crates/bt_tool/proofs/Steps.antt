@@ -4,13 +4,16 @@ use Rattle.std.proofs.lemmas.Bool.{cases_lt, false≢true, cond-true, cond-false
 use Rattle.std.specs.List.{AllByRecursion}
 use Rattle.std.proofs.lemmas.List.{map-append, take_at}
 use Rattle.std.proofs.lemmas.List.Elements.{recursion_from_All, All-take, All-contains, Contains-push}
-use Rattle.bt_tool.specs.Interval.{last_from, Interval, Span, span_of, placed_on, AreNonEmpty}
+use Rattle.bt_bed.specs.Interval.{last_from, Interval, Span, span_of, placed_on, AreNonEmpty}
+use Rattle.bt_bed.specs.Rank.{is_among}
+use Rattle.bt_bed.specs.Together.{has_records, AreTogether}
+use Rattle.bt_bed.proofs.NameLemmas.{name_eq, name_ne}
+use Rattle.bt_bed.proofs.TogetherLemmas.{together_front, next_place, has_records-last}
 use Rattle.bt_tool.specs.Merged.{merged, chromosomes}
-use Rattle.bt_tool.specs.Place.{is_among, has_records, AreTogether}
 use Rattle.bt_tool.specs.Settled.{kept, settled, open_of, kept_is_open, merged_is_settled_and_open, step_opens, step_settles, settled_stays, settled_begins}
 use Rattle.bt_tool.specs.Step.{joins, joined_run, merge_step}
 use Rattle.bt_tool.proofs.OneOpen.{longer}
-use Rattle.bt_tool.proofs.Names.{name_eq, name_ne, among_chromosomes, merged-push_elsewhere, together_front, next_place, has_records-last}
+use Rattle.bt_tool.proofs.Names.{among_chromosomes, merged-push_elsewhere}
 use Rattle.bt_tool.proofs.Standing.{Standing, settled_here, settled_is, merged_is, kept_is, open_is, first_standing, join_standing, next_standing, new_standing}
 
 -- the merge of the past stands somewhere

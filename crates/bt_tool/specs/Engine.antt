@@ -1,9 +1,9 @@
 -- What a merge holds after the records of the past, and the lines that it writes.
 use Rattle.std.specs.Prelude.{◌≡◌, ◌≤◌, ℕ, length, List, [], ◌∷◌, ◌++◌, codes, decimal, flat_map, Option, None}
 use Rattle.bt_lines.specs.Fault.{Told}
-use Rattle.bt_tool.specs.Interval.{Interval, AreNonEmpty}
+use Rattle.bt_bed.specs.Interval.{Interval, AreNonEmpty}
+use Rattle.bt_bed.specs.Together.{AreTogether}
 use Rattle.bt_tool.specs.Merged.{merged, chromosomes}
-use Rattle.bt_tool.specs.Place.{AreTogether}
 use Rattle.bt_tool.specs.Settled.{settled, kept, open_of}
 
 -- the line of a run: chromosome, start and stop with tabs between them (UCSC BED description, fields chrom, chromStart and chromEnd; bedtools manual, merge)

@@ -1,6 +1,3 @@
-pub mod Interval
-pub mod Place
-pub mod Stretches
 pub mod Merged
 pub mod Settled
 pub mod Step
@@ -15,17 +12,9 @@ pub mod Refusal
 pub mod Table
 pub mod Usage
 pub mod Engine
-pub mod Record
-pub mod Good
-pub mod Genome
-pub mod GenomeTable
 pub mod Report
 pub mod Flushing
 pub mod Putting
 pub mod Taking
-pub mod Ahead
-pub mod Track
-pub mod Records
 pub mod Run
 pub mod RunMerge
-pub mod LineKind

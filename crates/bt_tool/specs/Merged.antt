@@ -1,7 +1,7 @@
 -- What `bedtools merge` gives: overlapping and touching features become one, and with -d also those up to a gap apart (bedtools manual, merge).
 use Rattle.std.specs.Prelude.{◌≡◌, ℕ, zero, suc, ◌+◌, ◌-◌, ◌≤◌, Bool, false, not, ◌&&◌, ◌||◌, List, [], ◌∷◌, map, filter, flat_map, max, nat_le, nat_lt, bytes_eq}
-use Rattle.bt_tool.specs.Interval.{Interval, Span, spans_on, placed_on}
-use Rattle.bt_tool.specs.Stretches.{IsCovered, AreStretchesOf, stretches_from}
+use Rattle.bt_bed.specs.Interval.{Interval, Span, spans_on, placed_on}
+use Rattle.bt_bed.specs.Stretches.{IsCovered, AreStretchesOf, stretches_from}
 
 -- covered positions lie on both sides, or here, with at most `gap` positions between them
 pub record Bridged (gap : ℕ) (spans : List Span) (p : ℕ) : Type 0 where

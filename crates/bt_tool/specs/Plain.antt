@@ -1,8 +1,8 @@
 -- What the plain program is said to do, in the words of the definitions.
 use Rattle.std.specs.Prelude.{ℕ, ◌+◌, ◌-◌, ◌≤◌, cond, ◌==◌, List, [], ◌∷◌, map}
+use Rattle.bt_bed.specs.Interval.{Span}
+use Rattle.bt_bed.specs.Stretches.{IsCovered}
 use Rattle.bt_tool.specs.declared.plain.Span.{Span as PlainSpan}
-use Rattle.bt_tool.specs.Interval.{Span}
-use Rattle.bt_tool.specs.Stretches.{IsCovered}
 
 -- a span of the program as one of the definitions
 abbrev pub span_in : PlainSpan → Span

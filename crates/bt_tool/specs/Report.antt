@@ -3,11 +3,13 @@ use Rattle.std.specs.Prelude.{◌≡◌, ℕ, List, [], Option, Some, None, Resu
 use Rattle.bt_lines.specs.Fault.{Told, InputNames, line_of}
 use Rattle.bt_lines.specs.Lines.{text_lines}
 use Rattle.bt_lines.specs.declared.fault.Input.TheVariants.{Genome, First}
+use Rattle.bt_bed.specs.Genome.{Entry, genome_of, genome_names}
+use Rattle.bt_bed.specs.Feature.{intervals_of}
+use Rattle.bt_bed.specs.Good.{Good, good}
+use Rattle.bt_bed.specs.Rank.{rank_order}
 use Rattle.bt_tool.specs.declared.plan_type.Command.{Command}
 use Rattle.bt_tool.specs.declared.plan_type.Command.TheVariants.{Merge}
 use Rattle.bt_tool.specs.Engine.{run_lines}
-use Rattle.bt_tool.specs.Genome.{Entry, genome_of, genome_names}
-use Rattle.bt_tool.specs.Good.{Good, good}
 use Rattle.bt_tool.specs.Merged.{merged}
 use Rattle.bt_tool.specs.Options.{PlanSeen, options}
 use Rattle.bt_tool.specs.Settled.{settled}
@@ -24,15 +26,15 @@ pub record Report : Type 0 where
 
 -- the lines of all runs, or where a line is at fault, those that the records before it settle
 abbrev pub merge_good : List (List ℕ) → Good → Option Told → Report
-merge_good names good None = record { output = run_lines (merged names 0 good.records); fault = None }
-merge_good names good (Some fault) = record { output = run_lines (settled names 0 good.records); fault = Some fault }
+merge_good names good None = record { output = run_lines (merged names 0 (intervals_of good.records)); fault = None }
+merge_good names good (Some fault) = record { output = run_lines (settled names 0 (intervals_of good.records)); fault = Some fault }
 
 -- the good records of the input merged in the order of the genome file, whose own fault comes first
 abbrev pub merge_on : Result (List Entry) Told → List ℕ → Report
 merge_on (Err fault) first = record { output = []; fault = Some fault }
 merge_on (Ok entries) first =
     let names = genome_names entries in
-    let records = good First names (text_lines first) in
+    let records = good First (rank_order names) (text_lines first) in
     merge_good names records records.fault
 
 -- the report of a plan, on the texts of the genome file, the first and the second input

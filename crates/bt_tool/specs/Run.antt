@@ -6,21 +6,23 @@ use Rattle.bt_lines.specs.Output.{Output, IsFrontOf, Grows}
 use Rattle.bt_lines.specs.Reader.{source_of, input_of, bytes_taken}
 use Rattle.bt_lines.specs.declared.fault.Fault.{Fault}
 use Rattle.bt_lines.specs.declared.fault.Kind.{Kind}
+use Rattle.bt_bed.specs.Feature.{intervals_of}
+use Rattle.bt_bed.specs.Good.{Good}
+use Rattle.bt_bed.specs.Interval.{Interval, AreNonEmpty}
+use Rattle.bt_bed.specs.LineKind.{fault_at_line, is_of_line}
+use Rattle.bt_bed.specs.Place.{ArePlaced}
+use Rattle.bt_bed.specs.Reading.{Hands}
+use Rattle.bt_bed.specs.Records.{below, good_left, order_in}
+use Rattle.bt_bed.specs.declared.order.ChromOrder.{Ghosts}
+use Rattle.bt_bed.specs.declared.records.Records.{Records}
 use Rattle.bt_tool.specs.Engine.{Merging, StandsAfter, settled_lines}
 use Rattle.bt_tool.specs.Putting.{WorksAsBefore}
-use Rattle.bt_tool.specs.GenomeTable.{Hands}
-use Rattle.bt_tool.specs.Good.{Good, fault_at_line}
-use Rattle.bt_tool.specs.Interval.{Interval, AreNonEmpty}
-use Rattle.bt_tool.specs.LineKind.{is_of_line}
-use Rattle.bt_tool.specs.Place.{ArePlaced}
-use Rattle.bt_tool.specs.Records.{below, names_in, good_left}
-use Rattle.bt_tool.specs.declared.records.RecordReader.{RecordReader}
 
--- these records came first of what was to come, and the others are still to come
+-- records at these intervals came first of what was to come, and the others are still to come
 abbrev pub ComeFirst : Option Good → List Interval → Option Good → Type 0
 ComeFirst None past now = ⊤
 ComeFirst (Some old) past None = ⊥
-ComeFirst (Some old) past (Some now) = (old.records ≡ past ++ now.records) × (old.fault ≡ now.fault)
+ComeFirst (Some old) past (Some now) = (intervals_of old.records ≡ past ++ intervals_of now.records) × (old.fault ≡ now.fault)
 
 -- the lines that the records settle were put behind what was put before
 abbrev pub PutsSettled : Output → List Interval → Output → Type 0
@@ -32,28 +34,28 @@ pub record CutsSettled (old : Output) (past : List Interval) (new : Output) : Ty
   pub failed : new.has_failed ≡ true
   pub sink_failed : new.sink_has_failed ≡ true
 
-module _ {S : Type 0} (left : S → Option (List ℕ)) (failed : S → Bool) where
-  -- these records were taken, in the order of the genome file
-  pub record Took (old : RecordReader S) (out : Output) (past : List Interval) (new : RecordReader S) (grown : Output) : Type 0 where
-    pub names : names_in new ≡ names_in old
+module _ {S O : Type 0} {g : Ghosts O} (left : S → Option (List ℕ)) (failed : S → Bool) where
+  -- these records were taken, in the order of the reader
+  pub record Took (old : Records S O g) (out : Output) (past : List Interval) (new : Records S O g) (grown : Output) : Type 0 where
+    pub order : order_in new ≡ order_in old
     pub bytes : Hands left (below old) (below new)
-    pub placed : ArePlaced (names_in old) past
+    pub placed : ArePlaced (order_in old) past
     pub full : AreNonEmpty past
     pub grows : Grows out.took grown.took
 
   -- all records were taken
-  pub record FeedsAll (old : RecordReader S) (out : Output) (new : RecordReader S) (merge : Merging) (grown : Output) : Type 0 where
+  pub record FeedsAll (old : Records S O g) (out : Output) (new : Records S O g) (merge : Merging) (grown : Output) : Type 0 where
     pub past : List Interval
     pub took : Took old out past new grown
-    pub whole : IfSome (good_left left old) (λ good. (good.records ≡ past) × (good.fault ≡ None))
+    pub whole : IfSome (good_left left old) (λ good. (intervals_of good.records ≡ past) × (good.fault ≡ None))
     pub stands : StandsAfter 0 past merge
     pub puts : PutsSettled out past grown
     pub works : WorksAsBefore out grown
     pub served : failed (source_of (below new)) ≡ failed (source_of (below old))
 
   -- a line is at fault
-  pub record StopsAtLine (old : RecordReader S) (out : Output) (past : List Interval) (fault : Told) (new : RecordReader S) (grown : Output) : Type 0 where
-    pub whole : IfSome (good_left left old) (λ good. (good.records ≡ past) × (good.fault ≡ Some fault))
+  pub record StopsAtLine (old : Records S O g) (out : Output) (past : List Interval) (fault : Told) (new : Records S O g) (grown : Output) : Type 0 where
+    pub whole : IfSome (good_left left old) (λ good. (intervals_of good.records ≡ past) × (good.fault ≡ Some fault))
     pub line : ℕ
     pub kind : Kind
     pub is : fault ≡ fault_at_line (input_of (below old)) line kind
@@ -63,7 +65,7 @@ module _ {S : Type 0} (left : S → Option (List ℕ)) (failed : S → Bool) whe
     pub served : failed (source_of (below new)) ≡ failed (source_of (below old))
 
   -- the source failed, or its text is too long
-  pub record StopsReading (old : RecordReader S) (out : Output) (past : List Interval) (fault : Told) (new : RecordReader S) (grown : Output) : Type 0 where
+  pub record StopsReading (old : Records S O g) (out : Output) (past : List Interval) (fault : Told) (new : Records S O g) (grown : Output) : Type 0 where
     pub line : ℕ
     pub is : fault ≡ read_failed (input_of (below old)) line
     pub cause : (failed (source_of (below new)) ≡ true) ⊎ (2 ^ 63 ≤ bytes_taken (below new))
@@ -71,32 +73,32 @@ module _ {S : Type 0} (left : S → Option (List ℕ)) (failed : S → Bool) whe
     pub works : WorksAsBefore out grown
 
   -- memory ran out
-  pub record StopsGrowing (old : RecordReader S) (out : Output) (past : List Interval) (fault : Told) (new : RecordReader S) (grown : Output) : Type 0 where
+  pub record StopsGrowing (old : Records S O g) (out : Output) (past : List Interval) (fault : Told) (new : Records S O g) (grown : Output) : Type 0 where
     pub is : fault ≡ no_memory
     pub puts : PutsSettled out past grown
     pub works : WorksAsBefore out grown
     pub served : failed (source_of (below new)) ≡ failed (source_of (below old))
 
   -- the sink failed
-  pub record StopsWriting (old : RecordReader S) (out : Output) (past : List Interval) (fault : Told) (new : RecordReader S) (grown : Output) : Type 0 where
+  pub record StopsWriting (old : Records S O g) (out : Output) (past : List Interval) (fault : Told) (new : Records S O g) (grown : Output) : Type 0 where
     pub is : fault ≡ write_failed
     pub cuts : CutsSettled out past grown
     pub served : failed (source_of (below new)) ≡ failed (source_of (below old))
 
   -- why the records weren't all taken
-  abbrev pub Cause : RecordReader S → Output → List Interval → Told → RecordReader S → Output → Type 0
+  abbrev pub Cause : Records S O g → Output → List Interval → Told → Records S O g → Output → Type 0
   Cause old out past fault new grown =
       (StopsAtLine old out past fault new grown ⊎ StopsReading old out past fault new grown)
       ⊎ (StopsGrowing old out past fault new grown ⊎ StopsWriting old out past fault new grown)
 
   -- the records were taken up to a fault
-  pub record FeedsUpTo (old : RecordReader S) (out : Output) (fault : Told) (new : RecordReader S) (grown : Output) : Type 0 where
+  pub record FeedsUpTo (old : Records S O g) (out : Output) (fault : Told) (new : Records S O g) (grown : Output) : Type 0 where
     pub past : List Interval
     pub took : Took old out past new grown
-    pub begins : IfSome (good_left left old) (λ good. (rest : List Interval) × (good.records ≡ past ++ rest))
+    pub begins : IfSome (good_left left old) (λ good. (rest : List Interval) × (intervals_of good.records ≡ past ++ rest))
     pub cause : Cause old out past fault new grown
 
   -- what feeding a merge with all records does
-  abbrev pub Feeds : {A : Type 0} → RecordReader S → Output → Result A Fault → RecordReader S → Merging → Output → Type 0
+  abbrev pub Feeds : {A : Type 0} → Records S O g → Output → Result A Fault → Records S O g → Merging → Output → Type 0
   Feeds old out (Ok done) new merge grown = FeedsAll old out new merge grown
   Feeds old out (Err fault) new merge grown = FeedsUpTo old out (told fault) new grown

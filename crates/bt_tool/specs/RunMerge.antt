@@ -6,14 +6,15 @@ use Rattle.bt_lines.specs.Lines.{text_lines}
 use Rattle.bt_lines.specs.Output.{Output, IsFrontOf, Grows}
 use Rattle.bt_lines.specs.declared.fault.Input.{Input}
 use Rattle.bt_lines.specs.declared.fault.Input.TheVariants.{Genome, First}
-use Rattle.bt_tool.specs.Genome.{genome_of}
-use Rattle.bt_tool.specs.Good.{good}
+use Rattle.bt_bed.specs.Genome.{genome_of}
+use Rattle.bt_bed.specs.Good.{good}
+use Rattle.bt_bed.specs.Rank.{rank_order}
 use Rattle.bt_tool.specs.Options.{PlanSeen}
 use Rattle.bt_tool.specs.Report.{Report, merge_good, merge_on, report_of}
 
 -- the report on the records of an input, by the names of a genome file
 abbrev pub records_report : List (List ℕ) → List ℕ → Report
-records_report names first = merge_good names (good First names (text_lines first)) (good First names (text_lines first)).fault
+records_report names first = merge_good names (good First (rank_order names) (text_lines first)) (good First (rank_order names) (text_lines first)).fault
 
 -- the source handed over more bytes than a text may have
 abbrev pub PassesBound : Option (List ℕ) → Option (List ℕ) → Type 0

@@ -1,8 +1,10 @@
 -- Which merged runs no later record can change, where the records come in order, and which are still open.
 use Rattle.std.specs.Prelude.{◌≡◌, ℕ, ◌+◌, cond, List, [], ◌∷◌, ◌++◌, drop, length, filter, Option, Some, None, option_to_list, nat_lt, bytes_eq}
-use Rattle.bt_tool.specs.Interval.{Interval, AreNonEmpty, last_of}
+use Rattle.bt_bed.specs.Interval.{Interval, AreNonEmpty, last_of}
+use Rattle.bt_bed.specs.Rank.{AreDistinct, rank_order}
+use Rattle.bt_bed.specs.Place.{ArePlaced}
+use Rattle.bt_bed.specs.Together.{AreTogether}
 use Rattle.bt_tool.specs.Merged.{merged, runs_on, chromosomes}
-use Rattle.bt_tool.specs.Place.{AreDistinct, ArePlaced, AreTogether}
 use Rattle.bt_tool.specs.Step.{merge_step}
 
 -- the names that come before this one
@@ -81,16 +83,16 @@ chromosomes_are_distinct = (records : List Interval) → AreDistinct (chromosome
 
 -- in the order of a list of names, the chromosomes that have records come in the order of their first records
 abbrev pub merged_in_order : Type 0
-merged_in_order = (names : List (List ℕ)) (gap : ℕ) (records : List Interval) → AreDistinct names → ArePlaced names records → merged names gap records ≡ merged (chromosomes records) gap records
+merged_in_order = (names : List (List ℕ)) (gap : ℕ) (records : List Interval) → AreDistinct names → ArePlaced (rank_order names) records → merged names gap records ≡ merged (chromosomes records) gap records
 
 -- the settled runs too
 abbrev pub settled_in_order : Type 0
-settled_in_order = (names : List (List ℕ)) (gap : ℕ) (past : List Interval) → AreDistinct names → ArePlaced names past → settled names gap past ≡ settled (chromosomes past) gap past
+settled_in_order = (names : List (List ℕ)) (gap : ℕ) (past : List Interval) → AreDistinct names → ArePlaced (rank_order names) past → settled names gap past ≡ settled (chromosomes past) gap past
 
 -- and the kept ones
 abbrev pub kept_in_order : Type 0
-kept_in_order = (names : List (List ℕ)) (gap : ℕ) (past : List Interval) → AreDistinct names → ArePlaced names past → kept names gap past ≡ kept (chromosomes past) gap past
+kept_in_order = (names : List (List ℕ)) (gap : ℕ) (past : List Interval) → AreDistinct names → ArePlaced (rank_order names) past → kept names gap past ≡ kept (chromosomes past) gap past
 
 -- in the order of a list of names, what is settled begins what the merge of all records is
 abbrev pub settled_begins_in_order : Type 0
-settled_begins_in_order = (names : List (List ℕ)) (gap : ℕ) (past more : List Interval) → AreDistinct names → ArePlaced names (past ++ more) → AreNonEmpty (past ++ more) → Begins (settled names gap past) (merged names gap (past ++ more))
+settled_begins_in_order = (names : List (List ℕ)) (gap : ℕ) (past more : List Interval) → AreDistinct names → ArePlaced (rank_order names) (past ++ more) → AreNonEmpty (past ++ more) → Begins (settled names gap past) (merged names gap (past ++ more))

@@ -1,6 +1,6 @@
 -- What one more record does to the run that is open.
 use Rattle.std.specs.Prelude.{ℕ, ◌+◌, Bool, cond, ◌&&◌, List, [], ◌∷◌, Option, Some, None, max, nat_le, bytes_eq}
-use Rattle.bt_tool.specs.Interval.{Interval}
+use Rattle.bt_bed.specs.Interval.{Interval}
 
 -- whether the record joins the run: it's on the same chromosome and starts at most `gap` past the run's stop
 abbrev pub joins : ℕ → Interval → Interval → Bool

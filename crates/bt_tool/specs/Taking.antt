@@ -2,8 +2,8 @@
 use Rattle.std.specs.Prelude.{◌≡◌, ◌≢◌, ℕ, List, [], IfSome, Result, Ok, Err}
 use Rattle.bt_lines.specs.Fault.{Told, no_memory, write_failed}
 use Rattle.bt_lines.specs.Output.{Output}
+use Rattle.bt_bed.specs.Interval.{Interval}
 use Rattle.bt_tool.specs.Engine.{Merging, run_lines}
-use Rattle.bt_tool.specs.Interval.{Interval}
 use Rattle.bt_tool.specs.Putting.{FailsToPut, Grown}
 use Rattle.bt_tool.specs.Step.{merge_step}
 use Rattle.bt_tool.specs.declared.merge.Run.{Run}

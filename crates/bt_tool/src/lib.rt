@@ -1,11 +1,8 @@
 //! The seven tools, from a list of words and the bytes of the inputs to the bytes written.
 #![tactic(auto)]
 
-mod bed;
 mod bed_line;
-mod faults;
 mod flushing;
-mod genome;
 pub mod laws;
 mod merge;
 mod merging;
@@ -14,11 +11,7 @@ mod options;
 mod outcome;
 mod plain;
 mod plan_type;
-mod record;
-mod records;
 mod running;
-mod spot;
-mod track;
 mod usage;
 
 pub use options::plan;

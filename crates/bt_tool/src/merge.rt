@@ -5,18 +5,18 @@ ghost use Rattle.std.specs.Io.KnownBytes.{Appends};
 ghost use Rattle.bt_lines.specs.Fault.{Told, no_memory, write_failed};
 ghost use Rattle.bt_lines.specs.Names.{told};
 ghost use Rattle.bt_lines.specs.Output.{HoldsBlock, IsFrontOf, Grows};
-ghost use Rattle.bt_tool.specs.Bed.{interval_of};
-ghost use Rattle.bt_tool.specs.Interval.{Interval, AreNonEmpty};
+ghost use Rattle.bt_bed.specs.Interval.{Interval, AreNonEmpty};
+ghost use Rattle.bt_bed.specs.Together.{AreTogether};
+ghost use Rattle.bt_tool.specs.Bed.{interval_lent};
 ghost use Rattle.bt_tool.specs.Merged.{chromosomes};
-ghost use Rattle.bt_tool.specs.Place.{AreTogether};
 ghost use Rattle.bt_tool.specs.Settled.{kept};
 ghost use Rattle.bt_tool.specs.Step.{joins, merge_step};
 ghost use Rattle.bt_tool.specs.Engine.{AreSettledBy, AreUnsettled, ComesNext, SettlesNothing, StandsAfter, merged_lines, settled_lines};
 ghost use Rattle.bt_tool.specs.Taking.{TakesNext, fault_of, run_at};
 ghost use Rattle.bt_tool.specs.Putting.{WorksAsBefore};
 
-use crate::bed::BedRef;
 use crate::bed_line::put_bed_line;
+use bt_bed::BedRef;
 use bt_lines::{Fault, Kind, Out, Sink};
 use std::alloc::Global;
 use std::marker::Model;
@@ -98,29 +98,29 @@ impl Merge {
     /// from then on.
     pub(crate) fn feed<K: Sink>(&mut self, bed: &BedRef<'_>, out: &mut Out<K>) -> Result<(), Fault>
         ensures stands { (gap : ℕ) (past : List Interval) → StandsAfter gap past self.old
-            → ComesNext past (interval_of bed.now)
-            → OnOk result (StandsAfter gap (past ++ interval_of bed.now ∷ []) self.new) }
+            → ComesNext past (interval_lent bed.now)
+            → OnOk result (StandsAfter gap (past ++ interval_lent bed.now ∷ []) self.new) }
         ensures writes { (gap : ℕ) (past : List Interval) → StandsAfter gap past self.old
-            → ComesNext past (interval_of bed.now)
-            → OnOk result ((lines : List ℕ) × AreSettledBy gap past (interval_of bed.now) lines
+            → ComesNext past (interval_lent bed.now)
+            → OnOk result ((lines : List ℕ) × AreSettledBy gap past (interval_lent bed.now) lines
             × Appends out.old.put out.new.put lines) }
         ensures text { (gap : ℕ) (past : List Interval) (before : List ℕ)
-            → StandsAfter gap past self.old → ComesNext past (interval_of bed.now)
+            → StandsAfter gap past self.old → ComesNext past (interval_lent bed.now)
             → out.old.put ≡ Some (before ++ settled_lines gap past)
             → OnOk result (out.new.put
-            ≡ Some (before ++ settled_lines gap (past ++ interval_of bed.now ∷ []))) }
+            ≡ Some (before ++ settled_lines gap (past ++ interval_lent bed.now ∷ []))) }
         ensures front { (gap : ℕ) (past : List Interval) → StandsAfter gap past self.old
-            → ComesNext past (interval_of bed.now) → HoldsBlock out.old.took out.old.put
-            → OnErr result ((lines : List ℕ) × AreSettledBy gap past (interval_of bed.now) lines
+            → ComesNext past (interval_lent bed.now) → HoldsBlock out.old.took out.old.put
+            → OnErr result ((lines : List ℕ) × AreSettledBy gap past (interval_lent bed.now) lines
             × IsFrontOf out.new.took out.old.put lines) }
         ensures grows { Grows out.old.took out.new.took }
 
         ensures served { OnOk result (WorksAsBefore out.old out.new) }
         ensures quiet { self.old.fault ≡ None → IsSome self.old.open_run
-            → (merge_step self.old.gap self.old.open_run (interval_of bed.now)).1 ≡ []
+            → (merge_step self.old.gap self.old.open_run (interval_lent bed.now)).1 ≡ []
             → IsOk result × (out.new ≡ out.old) }
         ensures quiet_in_order { (gap : ℕ) (past : List Interval) → StandsAfter gap past self.old
-            → ComesNext past (interval_of bed.now) → SettlesNothing gap past (interval_of bed.now)
+            → ComesNext past (interval_lent bed.now) → SettlesNothing gap past (interval_lent bed.now)
             → IsOk result × (out.new ≡ out.old) }
         ensures fault { IfErr result (λ fault. (told fault ≡ write_failed) ⊎ (told fault ≡ no_memory)) }
         ensures kept { IfErr result (λ fault. self.new.fault ≡ Some (told fault)) }
@@ -129,9 +129,9 @@ impl Merge {
         ensures memory { IfErr result (λ fault. told fault ≡ no_memory
             → WorksAsBefore out.old out.new) }
         ensures settles { (gap : ℕ) (past : List Interval) → StandsAfter gap past self.old
-            → ComesNext past (interval_of bed.now)
+            → ComesNext past (interval_lent bed.now)
             → IfErr result (λ fault. told fault ≡ no_memory
-            → (lines : List ℕ) × AreSettledBy gap past (interval_of bed.now) lines
+            → (lines : List ℕ) × AreSettledBy gap past (interval_lent bed.now) lines
             × Appends out.old.put out.new.put lines) }
         ensures new_name { IfErr result (λ fault. self.old.fault ≡ None → told fault ≡ no_memory
             → IfSome self.old.open_run (λ run. bed.now.chrom.now ≢ run.chrom)) }
@@ -198,7 +198,7 @@ impl Merge {
 
     // Takes one more record.
     fn advance<K: Sink>(&mut self, bed: &BedRef<'_>, out: &mut Out<K>) -> Result<(), Ended>
-        ensures { TakesNext self.old (interval_of bed.now) out.old result self.new out.new }
+        ensures { TakesNext self.old (interval_lent bed.now) out.old result self.new out.new }
     {
         let Some(run) = self.run else {
             return self.open(bed);
@@ -220,7 +220,7 @@ impl Merge {
     // Opens a run with the record, in place of the one that was open.
     fn open(&mut self, bed: &BedRef<'_>) -> Result<(), Ended>
         ensures opened { OnOk result (self.new
-            ≡ record self.old { open_run = Some (interval_of bed.now) }) }
+            ≡ record self.old { open_run = Some (interval_lent bed.now) }) }
         ensures new_name { IfErr result (λ ended. (ended ≡ Ended.Memory)
             × IfSome self.old.open_run (λ run. bed.now.chrom.now ≢ run.chrom)) }
     {
@@ -243,7 +243,7 @@ impl Merge {
 fn joins(chrom: &[u8], run: Run, gap: u64, bed: &BedRef<'_>) -> bool
     requires stop_in_range { run.stop ≤ 999999999999 }
     requires gap_in_range { gap ≤ 999999999999 }
-    ensures { result ≡ joins gap (run_at chrom.now run) (interval_of bed.now) }
+    ensures { result ≡ joins gap (run_at chrom.now run) (interval_lent bed.now) }
 {
     chrom == bed.chrom && bed.start <= run.stop + gap
 }

@@ -3,27 +3,27 @@
 ghost use Rattle.std.specs.Prelude.{◌≡◌, [], None, option_map};
 ghost use Rattle.bt_lines.specs.Names.{told};
 ghost use Rattle.bt_lines.specs.Output.{HoldsBlock};
+ghost use Rattle.bt_bed.specs.Order.{IsTotal};
+ghost use Rattle.bt_bed.specs.Records.{fault_kept, last_place, order_in};
+ghost use Rattle.bt_bed.specs.GenomeTable.{names_of};
+ghost use Rattle.bt_bed.specs.Rank.{AreDistinct};
 ghost use Rattle.bt_tool.specs.Engine.{StandsAfter};
-ghost use Rattle.bt_tool.specs.Records.{fault_kept, last_record, record_ahead};
 ghost use Rattle.bt_tool.specs.Run.{Feeds};
 ghost use Rattle.bt_tool.specs.RunMerge.{MergesRecords};
-ghost use Rattle.bt_tool.specs.GenomeTable.{names_of};
-ghost use Rattle.bt_tool.specs.Place.{AreDistinct};
 
-use crate::genome::Genome;
 use crate::merge::Merge;
-use crate::records::RecordReader;
+use bt_bed::{ChromOrder, Genome, Records};
 use bt_lines::{Fault, Input, LineReader, Out, Sink, Source};
 use std::alloc::Global;
 
 // Feeds a merge that has taken no record with all records of a reader.
-fn feed_all<S: Source, K: Sink>(
-    records: &mut RecordReader<'_, S>,
+fn feed_all<S: Source, O: ChromOrder, K: Sink>(
+    records: &mut Records<'_, S, O>,
     merge: &mut Merge,
     out: &mut Out<K>,
 ) -> Result<(), Fault>
-    requires none_last { last_record records.old ≡ None }
-    requires none_ahead { record_ahead records.old ≡ None }
+    requires total { IsTotal (order_in records.old) }
+    requires none_last { last_place records.old ≡ None }
     requires going { fault_kept records.old ≡ None }
     requires stands { StandsAfter 0 [] merge.old }
     requires block { HoldsBlock out.old.took out.old.put }
@@ -50,7 +50,7 @@ pub(crate) fn merge_records<A: Source, K: Sink>(
         (option_map told result.0) result.1 out.new }
 {
     let reader = LineReader::new(alloc, first, Input::First);
-    let mut records = RecordReader::new(alloc, reader, genome);
+    let mut records = Records::new(alloc, reader, genome);
     let mut merge = Merge::new(alloc, 0);
     let fed = feed_all(&mut records, &mut merge, out);
     let first = records.into_reader().into_source();

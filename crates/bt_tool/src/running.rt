@@ -7,10 +7,10 @@ ghost use Rattle.bt_tool.specs.RunMerge.{Runs, RunsPlan};
 ghost use Rattle.bt_tool.specs.Plan.{seen};
 
 use crate::flushing::flushed;
-use crate::genome::Genome;
 use crate::merging::merge_records;
 use crate::outcome::Outcome;
 use crate::plan_type::{Command, Plan};
+use bt_bed::Genome;
 use bt_lines::{Fault, Input, LineReader, Out, Sink, Source};
 use std::alloc::Global;
 

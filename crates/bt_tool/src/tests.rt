@@ -18,7 +18,7 @@ struct Case {
     line: Option<&'static [u8]>,
 }
 
-const CASES: [Case; 26] = [
+const CASES: [Case; 29] = [
     Case {
         name: "overlapping and touching features",
         genome: GENOME,
@@ -59,6 +59,27 @@ const CASES: [Case; 26] = [
         genome: b"# name\tlength\nchr1\t1000\r\n\nchr2\t50",
         first: b"chr1\t007\t9\r\n\r\nchr1\t20\t30",
         output: b"chr1\t7\t9\nchr1\t20\t30\n",
+        line: None,
+    },
+    Case {
+        name: "a header line",
+        genome: GENOME,
+        first: b"track\tname=x\r\nchr1\t007\t9\r\nchr1\t20\t30",
+        output: b"chr1\t7\t9\nchr1\t20\t30\n",
+        line: None,
+    },
+    Case {
+        name: "header lines anywhere",
+        genome: GENOME,
+        first: b"browser\tposition\tchr1\r\n#\tc\r\nchr1\t5\t9\r\ntrack\tx\r\nchr1\t20\t30",
+        output: b"chr1\t5\t9\nchr1\t20\t30\n",
+        line: None,
+    },
+    Case {
+        name: "a comment",
+        genome: GENOME,
+        first: b"#chr1\t5\nchr1\t1\t2\n",
+        output: b"chr1\t1\t2\n",
         line: None,
     },
     Case {

@@ -1,9 +1,6 @@
 use Rattle.bt_tool.proofs.Names.{distinct_chromosomes}
-use Rattle.bt_tool.proofs.Placed.{placed_together, merged_by_chromosomes, settled_by_chromosomes, kept_by_chromosomes}
+use Rattle.bt_tool.proofs.Placed.{merged_by_chromosomes, settled_by_chromosomes, kept_by_chromosomes}
 use Rattle.bt_tool.proofs.laws.names_give_the_order.Goals as goal
-
-pub returns-clause-together : goal.returns-clause-together
-returns-clause-together c = placed_together
 
 pub returns-clause-merged : goal.returns-clause-merged
 returns-clause-merged c = merged_by_chromosomes

@@ -1,13 +1,13 @@
 use Rattle.bt_lines.specs.Names.{told}
-use Rattle.bt_tool.specs.Bed.{interval_of}
+use Rattle.bt_bed.specs.Bed.{feature_lent}
+use Rattle.bt_bed.proofs.ResultLemmas.{passed_on}
 use Rattle.bt_tool.specs.Run.{Feeds}
 use Rattle.bt_tool.proofs.FeedLemmas.{going_start, going_more, comes_next, feeds_all, stops_reading, stops_feeding}
-use Rattle.bt_tool.proofs.ResultLemmas.{passed_on}
 use Rattle.bt_tool.proofs.merging.feed_all.Goals as goal
 
 pub loop-record-init : goal.loop-record-init
 loop-record-init g c =
-    going_start _ _ c.args.records.now c.args.out.now c.args.merge.now c.requires.none_last c.requires.none_ahead c.requires.going c.requires.stands c.requires.block
+    going_start _ _ c.args.records.now c.args.out.now c.args.merge.now c.requires.none_last c.requires.going c.requires.stands c.requires.block
 
 pub returns-in_err-record : goal.returns-in_err-record
 returns-in_err-record g c =
@@ -19,9 +19,10 @@ returns-in_err-record g c =
 pub returns-in_err-feed : goal.returns-in_err-feed
 returns-in_err-feed g c =
     let gives = rw (c.in_ok-record.was, c.in-Some.is) at c.peek.follows.holds-at-none in
-    let r = interval_of c.in-Some.record in
+    let r = feature_lent c.in-Some.record in
     let now = c.loop-record.invariant in
-    let comes = comes_next _ _ c.args.records.now c.args.out.now c.loop-record.records c.loop-record.merge c.loop-record.out now c.peek.follows.lender-at-none r gives.answers in
+    let total = c.requires.total in
+    let comes = comes_next _ _ c.args.records.now c.args.out.now c.loop-record.records c.loop-record.merge c.loop-record.out now c.peek.follows.lender-at-none r gives.answers total in
     let said = c.in_err-feed.ensures in
     passed_on (λ r. Feeds g.S.Source.left g.S.Source.has_failed c.args.records.now c.args.out.now r c.peek.follows.lender-at-none c.feed.new.self c.feed.new.out) c.from_residual-in_err-feed.result c.in_err-feed.field-0.0
     c.from_residual-in_err-feed.ensures.1
@@ -31,9 +32,10 @@ returns-in_err-feed g c =
 pub loop-record-preserved : goal.loop-record-preserved
 loop-record-preserved g c =
     let gives = rw (c.in_ok-record.was, c.in-Some.is) at c.peek.follows.holds-at-none in
-    let r = interval_of c.in-Some.record in
+    let r = feature_lent c.in-Some.record in
     let now = c.loop-record.invariant in
-    let comes = comes_next _ _ c.args.records.now c.args.out.now c.loop-record.records c.loop-record.merge c.loop-record.out now c.peek.follows.lender-at-none r gives.answers in
+    let total = c.requires.total in
+    let comes = comes_next _ _ c.args.records.now c.args.out.now c.loop-record.records c.loop-record.merge c.loop-record.out now c.peek.follows.lender-at-none r gives.answers total in
     going_more _ _ c.args.records.now c.args.out.now c.loop-record.records c.loop-record.merge c.loop-record.out now c.peek.follows.lender-at-none r gives.answers
     c.advance.new.self c.feed.new.self c.feed.new.out c.advance.ensures
     (c.in_ok-feed.ensures.stands 0 now.past now.stands comes) (λ before e. c.in_ok-feed.ensures.text 0 now.past before now.stands comes e)

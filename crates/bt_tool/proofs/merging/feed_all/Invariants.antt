@@ -1,4 +1,4 @@
-use Rattle.bt_tool.specs.Records.{room}
+use Rattle.bt_bed.specs.Records.{room}
 use Rattle.bt_tool.proofs.FeedLemmas.{Going}
 use Rattle.bt_tool.proofs.merging.feed_all.Given as goal
 

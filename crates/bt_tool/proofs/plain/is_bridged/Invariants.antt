@@ -1,5 +1,5 @@
 use Rattle.std.proofs.Common.{ℕ, ◌<◌}
-use Rattle.bt_tool.specs.Stretches.{IsCovered}
+use Rattle.bt_bed.specs.Stretches.{IsCovered}
 use Rattle.bt_tool.specs.Plain.{spans_in, HasRight}
 use Rattle.bt_tool.proofs.plain.is_bridged.Given as goal
 

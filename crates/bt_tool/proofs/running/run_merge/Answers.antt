@@ -25,4 +25,4 @@ returns-in-Err-clause-report g c =
     c.read.new.reader c.into_source-in-Err.result (sym c.into_source-in-Err.ensures)
     begun.result (ap (λ (o : Output). o.put) begun.ensures) (ap (λ (o : Output). o.took) begun.ensures) c.flushed-fault-in-Err.new.out c.into_sink-in-Err.result c.into_sink-in-Err.ensures.took c.into_sink-in-Err.ensures.failed
     (option_map told c.flushed-fault-in-Err.result)
-    (told c.in-Err.fault) c.flushed-fault-in-Err.ensures.ends c.in-Err.ensures
+    (told c.in-Err.fault) c.flushed-fault-in-Err.ensures.ends (c.in-Err.ensures.first reader.ensures.going.0)

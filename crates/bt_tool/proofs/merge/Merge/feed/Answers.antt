@@ -1,6 +1,6 @@
 use Rattle.std.proofs.Common.{refl, ap, sym, ◌∙◌}
 use Rattle.bt_tool.specs.Engine.{run_lines}
-use Rattle.bt_tool.specs.Bed.{interval_of}
+use Rattle.bt_tool.specs.Bed.{interval_lent}
 use Rattle.bt_tool.proofs.EngineLemmas.{step_lines, settles_next, stands_next, front_next, puts_next, quiet_next, never_quiet, works_next, text_grows}
 use Rattle.bt_tool.proofs.merge.Merge.feed.Goals as goal
 
@@ -11,7 +11,7 @@ returns-in-Ok-clause-stands g c = λ gap past stands next.
 
 pub returns-in-Ok-clause-writes : goal.returns-in-Ok-clause-writes
 returns-in-Ok-clause-writes g c = λ gap past stands next.
-    let r = interval_of c.args.bed.now in
+    let r = interval_lent c.args.bed.now in
     (step_lines c.args.self.now r, settles_next gap past c.args.self.now stands r next, c.in-Ok.ensures.puts.appends)
 
 pub returns-in-Ok-clause-text : goal.returns-in-Ok-clause-text

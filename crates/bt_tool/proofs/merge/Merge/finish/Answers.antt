@@ -1,8 +1,8 @@
 use Rattle.std.proofs.Common.{◌≡◌, ℕ, List, [], ap, sym, ◌∙◌, subst, option_map, option_to_list, Option, Some, None}
 use Rattle.std.proofs.KnownBytes.{Appends-nil}
 use Rattle.std.proofs.lemmas.Result.{on_ok_weaker}
-use Rattle.bt_tool.specs.Interval.{Interval, AreNonEmpty}
-use Rattle.bt_tool.specs.Place.{AreTogether}
+use Rattle.bt_bed.specs.Interval.{Interval, AreNonEmpty}
+use Rattle.bt_bed.specs.Together.{AreTogether}
 use Rattle.bt_tool.specs.Engine.{Merging, StandsAfter, AreUnsettled, run_lines}
 use Rattle.bt_tool.specs.Taking.{run_at}
 use Rattle.bt_tool.proofs.EngineLemmas.{unsettled_open, last_writes, last_front, text_grows}

@@ -1,0 +1,59 @@
+-- Lemmas on the first word of a text.
+use Rattle.std.proofs.Common.{◌≡◌, ℕ, ◌<◌, ◌≤◌, Bool, true, false, cond, not, List, [], ◌∷◌, ◌++◌, length, refl, sym, ap, ◌∙◌, arith, bytes_eq, take, drop, get_or, append-nil}
+use Rattle.std.proofs.lemmas.Bool.{false_from_ne_true}
+use Rattle.std.proofs.lemmas.List.{length-append, take-append-drop}
+use Rattle.std.proofs.lemmas.List.Elements.{All-head, All-tail}
+use Rattle.std.proofs.lemmas.List.Sums.{take_while-cons}
+use Rattle.std.proofs.lemmas.Slice.Eq.{bytes_eq-Decides}
+use Rattle.std.specs.List.{All}
+use Rattle.bt_bed.specs.Header.{ends_word, first_word}
+
+-- the byte doesn't end a word
+abbrev pub IsOfWord : ℕ → Type 0
+IsOfWord byte = ends_word byte ≡ false
+
+pub of_word : (byte : ℕ) (bytes : List ℕ) (b : Bool) → ends_word byte ≡ b → first_word (byte ∷ bytes) ≡ cond b [] (byte ∷ first_word bytes)
+of_word byte bytes true e = take_while-cons (λ x. not (ends_word x)) byte bytes ∙ rw e refl
+of_word byte bytes false e = take_while-cons (λ x. not (ends_word x)) byte bytes ∙ rw e refl
+
+-- bytes that don't end a word begin the first one
+pub word_first : (word text : List ℕ) → All IsOfWord word → first_word (word ++ text) ≡ word ++ first_word text
+word_first [] text h = refl
+word_first (byte ∷ word) text h =
+    of_word byte (word ++ text) false (All-head IsOfWord byte word h) ∙ ap (λ l. byte ∷ l) (word_first word text (All-tail IsOfWord byte word h))
+
+same_word : (word : List ℕ) → true ≡ bytes_eq (word ++ []) word
+same_word word = sym ((bytes_eq-Decides (word ++ []) word).1 (append-nil word))
+
+longer_word : (word bytes : List ℕ) (byte : ℕ) → false ≡ bytes_eq (word ++ byte ∷ bytes) word
+longer_word word bytes byte =
+    sym (false_from_ne_true (bytes_eq (word ++ byte ∷ bytes) word)
+    (λ yes. let same = ap length ((bytes_eq-Decides (word ++ byte ∷ bytes) word).0 yes) in absurd (omega (arith, length-append word (byte ∷ bytes), same))))
+
+-- a text of which a word was taken off
+stripped : (text word rest : List ℕ) → bytes_eq (take (length word) text) word ≡ true → rest ≡ drop (length word) text → text ≡ word ++ rest
+stripped text word rest same e =
+    let front : take (length word) text ≡ word = (bytes_eq-Decides (take (length word) text) word).0 same in
+    sym (take-append-drop (length word) text) ∙ ap (λ l. l ++ drop (length word) text) front ∙ ap (λ l. word ++ l) (sym e)
+
+alone : (word rest : List ℕ) → All IsOfWord word → length rest < 1 → true ≡ bytes_eq (first_word (word ++ rest)) word
+alone word [] h short = rw (word_first word [] h) (same_word word)
+alone word (byte ∷ bytes) h short = absurd (omega arith)
+
+ended_by : (word bytes : List ℕ) (byte : ℕ) (b : Bool) → ends_word byte ≡ b → b ≡ bytes_eq (word ++ first_word (byte ∷ bytes)) word
+ended_by word bytes byte true e = rw (of_word byte bytes true e) (same_word word)
+ended_by word bytes byte false e = rw (of_word byte bytes false e) (longer_word word (first_word bytes) byte)
+
+ended : (word rest : List ℕ) → All IsOfWord word → 1 ≤ length rest → ends_word (get_or rest 0 0) ≡ bytes_eq (first_word (word ++ rest)) word
+ended word [] h some = absurd (omega arith)
+ended word (byte ∷ bytes) h some = rw (word_first word (byte ∷ bytes) h) (ended_by word bytes byte (ends_word byte) refl)
+
+-- a text that is a word
+pub word_alone : (text word rest : List ℕ) → All IsOfWord word → bytes_eq (take (length word) text) word ≡ true → rest ≡ drop (length word) text → length rest < 1
+    → true ≡ bytes_eq (first_word text) word
+word_alone text word rest h same e short = rw (stripped text word rest same e) (alone word rest h short)
+
+-- a text that goes on behind a word
+pub word_ended : (text word rest : List ℕ) → All IsOfWord word → bytes_eq (take (length word) text) word ≡ true → rest ≡ drop (length word) text → 1 ≤ length rest
+    → ends_word (get_or rest 0 0) ≡ bytes_eq (first_word text) word
+word_ended text word rest h same e some = rw (stripped text word rest same e) (ended word rest h some)

@@ -1,0 +1,102 @@
+-- What a table of chromosomes holds, and what reading one does.
+use Rattle.std.specs.Prelude.{◌≡◌, ℕ, ◌-◌, ◌⊎◌, Bool, true, List, ◌++◌, take, map, Option, Some, None, Result, Ok, Err, IfSome, Vec, option_map}
+use Rattle.std.specs.Option.{option_to_list}
+use Rattle.std.specs.declared.alloc.Global.{Global}
+use Rattle.bt_lines.specs.Fault.{Told, no_memory}
+use Rattle.bt_lines.specs.Lines.{TextLine}
+use Rattle.bt_lines.specs.Names.{told}
+use Rattle.bt_lines.specs.Reader.{source_of, input_of, lines_given, fault_kept, has_ended, lines_left}
+use Rattle.bt_lines.specs.declared.fault.Fault.{Fault}
+use Rattle.bt_lines.specs.declared.fault.Input.{Input}
+use Rattle.bt_lines.specs.declared.fault.Kind.{Kind}
+use Rattle.bt_lines.specs.declared.fault.Place.{Place}
+use Rattle.bt_lines.specs.declared.line_reader.LineReader.{LineReader}
+use Rattle.bt_bed.specs.Genome.{Entry, entry_of, genome_names, genome_of, new_entry}
+use Rattle.bt_bed.specs.LineKind.{fault_at_line, is_of_line}
+use Rattle.bt_bed.specs.Rank.{AreDistinct}
+use Rattle.bt_bed.specs.Reading.{Hands, ReadingFails, MemoryRanOut}
+use Rattle.bt_bed.specs.declared.genome.EntryRef.{EntryRef}
+use Rattle.bt_bed.specs.declared.genome.Genome.{Genome}
+
+-- an entry that is borrowed, as the definitions have it
+abbrev pub entry_lent : EntryRef → Entry
+entry_lent entry = record { name = entry.name.now; length = entry.length }
+
+abbrev pub columns_lent : Result EntryRef Kind → Result Entry Kind
+columns_lent (Ok entry) = Ok (entry_lent entry)
+columns_lent (Err kind) = Err kind
+
+abbrev pub entry_said : Result (Option EntryRef) Kind → Result (Option Entry) Kind
+entry_said (Ok entry) = Ok (option_map entry_lent entry)
+entry_said (Err kind) = Err kind
+
+-- a chromosome of the table, which has its length by its name
+abbrev pub entry_seen : Vec ℕ Global × ℕ → Entry
+entry_seen chromosome = record { name = chromosome.0.items; length = chromosome.1 }
+
+-- the entries of the table, in the order of the genome file
+unfoldable pub entries : Genome → List Entry
+entries genome = map entry_seen genome.lengths.entries
+
+-- the names of its chromosomes, in that order
+abbrev pub names_of : Genome → List (List ℕ)
+names_of genome = genome_names (entries genome)
+
+-- a line was added to the table
+pub record LineAdded (text : List ℕ) (old new : Genome) : Type 0 where
+  pub entry : Option Entry
+  pub says : new_entry (names_of old) (entry_of text) ≡ Ok entry
+  pub added : entries new ≡ entries old ++ option_to_list entry
+
+-- the line is at fault
+pub record LineRefused (place : Place) (text : List ℕ) (old : Genome) (fault : Told) : Type 0 where
+  pub kind : Kind
+  pub says : new_entry (names_of old) (entry_of text) ≡ Err kind
+  pub is : fault ≡ fault_at_line place.input place.line kind
+
+-- the line has an entry, for which memory ran out
+pub record LineUnkept (text : List ℕ) (old : Genome) (fault : Told) : Type 0 where
+  pub entry : Entry
+  pub says : new_entry (names_of old) (entry_of text) ≡ Ok (Some entry)
+  pub is : fault ≡ no_memory
+
+-- where one of the first lines is at fault, its fault is the one told
+abbrev pub IsToldFirst : Input → Option (List TextLine) → ℕ → Told → Type 0
+IsToldFirst input lines count fault = IfSome lines (λ all. (other : Told) → genome_of input (take count all) ≡ Err other → fault ≡ other)
+
+module _ {S : Type 0} where
+  -- the whole genome file was read
+  pub record ReadsAll (left : S → Option (List ℕ)) (failed : S → Bool) (old new : LineReader S) (genome : Genome) : Type 0 where
+    pub was_going : fault_kept old ≡ None
+    pub is : IfSome (lines_left left old) (λ lines. genome_of (input_of old) lines ≡ Ok (entries genome))
+    pub distinct : AreDistinct (names_of genome)
+    pub ended : has_ended new ≡ true
+    pub served : failed (source_of new) ≡ failed (source_of old)
+    pub bytes : Hands left old new
+
+  -- a line is at fault: the last one given
+  pub record LineAtFault (left : S → Option (List ℕ)) (failed : S → Bool) (old new : LineReader S) (fault : Told) : Type 0 where
+    pub is : IfSome (lines_left left old) (λ lines. genome_of (input_of old) lines ≡ Err fault)
+    -- known or not, it is what is wrong with some text behind some names
+    pub kind : Kind
+    pub names : List (List ℕ)
+    pub text : List ℕ
+    pub says : new_entry names (entry_of text) ≡ Err kind
+    pub of_line : is_of_line kind ≡ true
+    pub place : fault ≡ fault_at_line (input_of old) (lines_given new) kind
+    pub served : failed (source_of new) ≡ failed (source_of old)
+    pub bytes : Hands left old new
+
+  -- the reading stopped at a fault
+  pub record ReadingStops (left : S → Option (List ℕ)) (failed : S → Bool) (old new : LineReader S) (fault : Told) : Type 0 where
+    -- a fault that the reader had is answered again, and nothing is read
+    pub again : (before : Told) → fault_kept old ≡ Some before → (fault ≡ before) × (new ≡ old)
+    -- a reader that had none meets the first
+    pub first : fault_kept old ≡ None → LineAtFault left failed old new fault ⊎ (ReadingFails left failed old new fault ⊎ MemoryRanOut failed old new fault)
+    -- the fault of a line given comes before any other
+    pub checked : IsToldFirst (input_of old) (lines_left left old) (lines_given new - lines_given old) fault
+
+  -- what reading a genome file does
+  abbrev pub ReadsGenome : (S → Option (List ℕ)) → (S → Bool) → LineReader S → Result Genome Fault → LineReader S → Type 0
+  ReadsGenome left failed old (Ok genome) new = ReadsAll left failed old new genome
+  ReadsGenome left failed old (Err fault) new = ReadingStops left failed old new (told fault)

@@ -1,0 +1,317 @@
+//! The chromosomes of a genome file.
+
+ghost use Rattle.std.specs.Prelude.{◌≡◌, ◌<◌, ◌⊎◌, false, [], ◌∷◌, ◌++◌, length, slice_get, Some, IfErr, OnOk, option_map};
+ghost use Rattle.bt_lines.specs.Fault.{no_memory};
+ghost use Rattle.bt_lines.specs.Lines.{pieces};
+ghost use Rattle.bt_lines.specs.Names.{told};
+ghost use Rattle.bt_bed.specs.Genome.{columns_give, entry_of, is_skipped, new_entry};
+ghost use Rattle.bt_bed.specs.Rank.{is_among, rank_of};
+ghost use Rattle.bt_bed.specs.GenomeTable.{LineAdded, LineRefused, LineUnkept, ReadsGenome, columns_lent, entries, entry_lent, entry_said, names_of};
+
+use crate::faults::{at_line, no_memory};
+use bt_lines::{Fault, Kind, LineReader, Place, Source, columns, number};
+use indexmap::IndexMap;
+use std::alloc::Global;
+
+// A name and a length, borrowed from a line.
+#[derive(Clone, Copy, Debug)]
+pub(crate) struct EntryRef<'a> {
+    name: &'a [u8],
+    length: u64,
+}
+
+/// The chromosomes of a genome file, each with its length in bases. They stand in the file's order,
+/// and a chromosome's rank is its index there, from 0 (bedtools manual, genome file format). A look-up
+/// by name is hashed.
+#[derive(Drop, Debug)]
+pub struct Genome {
+    lengths: IndexMap<Vec<u8>, u64>,
+}
+
+#[tactic(auto, unfolding(crate::specs::GenomeTable::entries))]
+impl Genome {
+    /// Reads a genome file to its end. Each line has a name, a tab and a length, and further columns
+    /// are ignored, so that an index of `samtools faidx` serves too. Blank lines and lines that begin
+    /// with `#` are skipped (bedtools manual, genome file format).
+    ///
+    /// The first line at fault is told, and nothing behind it is read: `TooFewColumns` where it has no
+    /// second column, else `EmptyName`, else `BadLength` where the length is 0 or no number, else
+    /// `RepeatedChrom` where a line before it has the name. Want of memory for the table comes after
+    /// these, and the reader's own faults, `ReadFailed` and `NoMemory`, before. A fault that the reader
+    /// had already is answered again.
+    pub fn read<S: Source>(alloc: Global, reader: &mut LineReader<S>) -> Result<Genome, Fault>
+        ensures { ReadsGenome S.left S.has_failed reader.old result reader.new }
+    {
+        let input = reader.input();
+        let mut genome = Genome {
+            lengths: IndexMap::new(alloc),
+        };
+        while let Some(line) = reader.next()? {
+            let place = Place {
+                input,
+                line: line.number,
+            };
+            genome.add_line(alloc, place, line.text)?;
+        }
+        Ok(genome)
+    }
+
+    /// The rank of a chromosome, if the genome file has it. Names are compared byte for byte.
+    pub fn rank(&self, name: &[u8]) -> Option<usize>
+        ensures { result ≡ rank_of (names_of self.now) name.now }
+    {
+        self.lengths.get_index_of(name)
+    }
+
+    /// How many chromosomes there are.
+    pub fn count(&self) -> usize
+        ensures { result ≡ length (entries self.now) }
+    {
+        self.lengths.len()
+    }
+
+    /// The name of the chromosome of this rank.
+    pub fn name(&self, rank: usize) -> &[u8]
+        requires { rank < length (entries self.now) }
+        ensures { slice_get (names_of self.now) rank ≡ Some result.now }
+    {
+        let (name, _) = self.lengths.get_index(rank).unwrap();
+        name.as_slice()
+    }
+
+    /// The length in bases of the chromosome of this rank.
+    pub fn length(&self, rank: usize) -> u64
+        requires { rank < length (entries self.now) }
+        ensures { option_map (λ entry. entry.length) (slice_get (entries self.now) rank) ≡ Some result }
+    {
+        self.lengths[rank]
+    }
+
+    // Adds what a line says.
+    fn add_line(&mut self, alloc: Global, place: Place, text: &[u8]) -> Result<(), Fault>
+        ensures added { OnOk result (LineAdded text.now self.old self.new) }
+        ensures refused { IfErr result (λ fault.
+            LineRefused place text.now self.old (told fault) ⊎ LineUnkept text.now self.old (told fault)) }
+    {
+        match self.new_entry(text) {
+            Ok(Some(entry)) => self.push(alloc, entry),
+            Ok(None) => Ok(()),
+            Err(kind) => Err(at_line(kind, place)),
+        }
+    }
+
+    // Adds a new chromosome behind the others.
+    fn push(&mut self, alloc: Global, entry: EntryRef<'_>) -> Result<(), Fault>
+        requires { is_among (names_of self.old) entry.name.now ≡ false }
+        ensures added { OnOk result (entries self.new ≡ entries self.old ++ entry_lent entry.entry ∷ []) }
+        ensures refused { IfErr result (λ fault. told fault ≡ no_memory) }
+    {
+        let Ok(name) = Vec::from_slice(alloc, entry.name) else {
+            return Err(no_memory());
+        };
+        match self.lengths.insert(name, entry.length) {
+            Ok(_new) => Ok(()),
+            Err(_failed) => Err(no_memory()),
+        }
+    }
+
+    // What a line says behind the lines before it.
+    fn new_entry<'t>(&self, text: &'t [u8]) -> Result<Option<EntryRef<'t>>, Kind>
+        ensures { entry_said result ≡ new_entry (names_of self.now) (entry_of text.now) }
+    {
+        let Some(entry) = entry(text)? else {
+            return Ok(None);
+        };
+        if self.rank(entry.name).is_some() {
+            return Err(Kind::RepeatedChrom);
+        }
+        Ok(Some(entry))
+    }
+}
+
+// Whether a line is a comment or blank.
+fn is_skipped(text: &[u8]) -> bool
+    ensures { result ≡ is_skipped text.now }
+{
+    match text {
+        [] => true,
+        [first, ..] => *first == b'#',
+    }
+}
+
+// What a line says by itself.
+#[tactic(auto, unfolding(crate::specs::Genome::entry_of))]
+fn entry(text: &[u8]) -> Result<Option<EntryRef<'_>>, Kind>
+    ensures { entry_said result ≡ entry_of text.now }
+{
+    if is_skipped(text) {
+        return Ok(None);
+    }
+    let entry = first_columns(text)?;
+    Ok(Some(entry))
+}
+
+// The entry of the first two columns.
+fn first_columns(text: &[u8]) -> Result<EntryRef<'_>, Kind>
+    ensures { columns_lent result ≡ columns_give (pieces 9 text.now) }
+{
+    let mut columns = columns(text);
+    let Some(name) = columns.next() else {
+        return Err(Kind::TooFewColumns);
+    };
+    let Some(length) = columns.next() else {
+        return Err(Kind::TooFewColumns);
+    };
+    if name.is_empty() {
+        return Err(Kind::EmptyName);
+    }
+    match number(length) {
+        None | Some(0) => Err(Kind::BadLength),
+        Some(length) => Ok(EntryRef { name, length }),
+    }
+}
+
+#[cfg(test)]
+mod tests {
+    use super::*;
+    use crate::order::ChromOrder;
+    use bt_lines::{Input, ScriptSource};
+    use std::alloc::AllocError;
+    use std::cmp::Ordering;
+
+    // The genome file of a text that comes in pieces of this many bytes.
+    fn read(alloc: Global, text: &[u8], step: usize, good: Option<usize>) -> Result<Genome, Fault>
+        requires { 0 < step }
+    {
+        let source = ScriptSource::new(text, step, good);
+        let mut reader = LineReader::new(alloc, source, Input::Genome);
+        let genome = Genome::read(alloc, &mut reader);
+        let _ = reader.into_source();
+        genome
+    }
+
+    // How many chromosomes the text has, or what is wrong with it at which line.
+    fn count(
+        alloc: Global,
+        text: &[u8],
+        step: usize,
+        good: Option<usize>,
+    ) -> Result<usize, (Kind, Option<Place>)>
+        requires { 0 < step }
+    {
+        match read(alloc, text, step, good) {
+            Ok(genome) => Ok(genome.count()),
+            Err(fault) => Err((fault.kind, fault.place)),
+        }
+    }
+
+    fn at(kind: Kind, line: u64) -> Result<usize, (Kind, Option<Place>)> {
+        let place = Place {
+            input: Input::Genome,
+            line,
+        };
+        Err((kind, Some(place)))
+    }
+
+    #[test]
+    fn counts_chromosomes(rt: HostRuntime) {
+        let cases: [(&[u8], Result<usize, (Kind, Option<Place>)>); 11] = [
+            (b"", Ok(0)),
+            (b"chr1\t10\nchr2\t5\n", Ok(2)),
+            (b"chr1\t10\t52\t60\t61\n", Ok(1)),
+            (b"# all\n\nchr1\t10\n\r\n#\t\t\nchr2\t20", Ok(2)),
+            (b"chr1\n", at(Kind::TooFewColumns, 1)),
+            (b"\n\t10\n", at(Kind::EmptyName, 2)),
+            (b"chr1\t0\n", at(Kind::BadLength, 1)),
+            (b"chr1\tx\n", at(Kind::BadLength, 1)),
+            (b"chr1\t10\nchr1\t20\n", at(Kind::RepeatedChrom, 2)),
+            (b"chr1\t10\nchr1\t0\n", at(Kind::BadLength, 2)),
+            (b"chr1\t10\nchr2\nchr1\t10\n", at(Kind::TooFewColumns, 2)),
+        ];
+        for (text, want) in cases {
+            assert_eq!(rt; count(rt.alloc(), text, 1, None), want);
+            assert_eq!(rt; count(rt.alloc(), text, 7, None), want);
+        }
+    }
+
+    #[test]
+    fn tells_a_failed_read(rt: HostRuntime) {
+        let text = b"chr1\t10\nchr2\t5\n";
+        assert_eq!(rt;
+            count(rt.alloc(), text, 7, Some(8)),
+            at(Kind::ReadFailed, 2)
+        );
+        assert_eq!(rt;
+            count(rt.alloc(), text, 1, Some(15)),
+            at(Kind::ReadFailed, 3)
+        );
+    }
+
+    #[test]
+    fn finds_chromosomes(rt: HostRuntime) {
+        let found = match read(rt.alloc(), b"b\t10\na\t5\n", 1, None) {
+            Ok(genome) => (genome.rank(b"a"), genome.rank(b"b"), genome.rank(b"c")),
+            Err(_fault) => (None, None, None),
+        };
+        assert_eq!(rt; found, (Some(1), Some(0), None));
+    }
+
+    #[test]
+    fn tells_names_and_lengths(rt: HostRuntime) {
+        let found = match read(rt.alloc(), b"b\t10\na\t5\n", 1, None) {
+            Ok(genome) if genome.count() == 2 => genome.name(1) == b"a".as_slice()
+                && genome.length(1) == 5,
+            _ => false,
+        };
+        assert!(rt; found);
+    }
+
+    // Which of two names comes first, where the order knows both.
+    fn compared<O: ChromOrder>(order: &O, left: &[u8], right: &[u8]) -> Option<Ordering> {
+        if order.knows(left) && order.knows(right) {
+            Some(order.compare(left, right))
+        } else {
+            None
+        }
+    }
+
+    #[test]
+    fn orders_chromosomes_by_their_lines(rt: HostRuntime) {
+        let cases: [(&[u8], &[u8], Option<Ordering>); 5] = [
+            (b"chr10", b"chr2", Some(Ordering::Less)),
+            (b"chr2", b"chr10", Some(Ordering::Greater)),
+            (b"chr2", b"chr2", Some(Ordering::Equal)),
+            (b"chr2", b"chr3", None),
+            (b"chr3", b"chr2", None),
+        ];
+        for (left, right, want) in cases {
+            let found = match read(rt.alloc(), b"chr10\t5\nchr2\t7\n", 1, None) {
+                Ok(genome) => compared(&genome, left, right),
+                Err(_fault) => None,
+            };
+            assert_eq!(rt; found, want);
+        }
+    }
+
+    // A genome file of the names c0, c1 and so on.
+    fn numbered(alloc: Global, count: u64) -> Result<Vec<u8>, AllocError> {
+        let mut text = Vec::new(alloc);
+        for n in 0..count {
+            let line = format!(in alloc; "c{n}\t5\n")?;
+            text.extend_from_slice(line.as_bytes())?;
+        }
+        Ok(text)
+    }
+
+    #[test]
+    fn finds_the_last_of_many(rt: HostRuntime) {
+        let found = match numbered(rt.alloc(), 2000) {
+            Ok(text) => match read(rt.alloc(), text.as_slice(), 512, None) {
+                Ok(genome) => (genome.count(), genome.rank(b"c1999"), genome.rank(b"c2000")),
+                Err(_fault) => (0, None, None),
+            },
+            Err(_failed) => (0, None, None),
+        };
+        assert_eq!(rt; found, (2000, Some(1999), None));
+    }
+}

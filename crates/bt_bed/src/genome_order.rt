@@ -1,0 +1,28 @@
+//! The order of chromosomes that a genome file gives.
+
+ghost use Rattle.bt_bed.specs.RankTotal.{ranks_total};
+ghost use Rattle.bt_bed.specs.GenomeTable.{names_of};
+ghost use Rattle.bt_bed.specs.Rank.{rank_order};
+
+use crate::genome::Genome;
+use crate::order::ChromOrder;
+use std::cmp::Ordering;
+
+/// The chromosomes of a genome file, in the order of its lines. It knows no others.
+impl ChromOrder for Genome {
+    ghost order = { λ genome. rank_order (names_of genome) };
+
+    ghost total = { λ genome. ranks_total (names_of genome) };
+
+    fn knows(&self, name: &[u8]) -> bool {
+        self.rank(name).is_some()
+    }
+
+    fn compare(&self, left: &[u8], right: &[u8]) -> Ordering {
+        match (self.rank(left), self.rank(right)) {
+            (Some(left), Some(right)) => left.cmp(&right),
+            // Both are known, so this isn't reached.
+            _ => Ordering::Equal,
+        }
+    }
+}

@@ -1,0 +1,89 @@
+//! The laws of the definitions, each as the contract of a function that does nothing.
+
+ghost use Rattle.std.specs.Prelude.{◌≡◌, [], ◌∷◌, ◌++◌, Some, None, Ok, Err, codes};
+ghost use Rattle.bt_bed.specs.Bases.{shared_are_common};
+ghost use Rattle.bt_bed.specs.Genome.{genome_names_are_distinct};
+ghost use Rattle.bt_bed.specs.Good.{good_are_non_empty, good_are_placed};
+ghost use Rattle.bt_bed.specs.Place.{fronts_are_placed, placed_grows};
+ghost use Rattle.bt_bed.specs.Rank.{ranks_are_total};
+ghost use Rattle.bt_bed.specs.Record.{read_are_rewritten, record_of, said_are_features, written_are_read};
+ghost use Rattle.bt_bed.specs.Stretches.{scan_finds_stretches, stretches_are_one};
+ghost use Rattle.bt_bed.specs.Together.{fronts_stand_together, placed_are_together, together_grows};
+
+use crate::strand::Strand;
+use bt_lines::Kind;
+
+/// The bases that two intervals share are those that both have.
+pub fn shared_bases_are_common()
+    ensures { shared_are_common }
+{}
+
+/// A set of positions is made up by one list of intervals, which a scan finds.
+pub fn stretches_are_determined()
+    ensures one { stretches_are_one }
+    ensures found { scan_finds_stretches }
+{}
+
+/// Records in order stay so with a next one that isn't below the last, and so do the first of them.
+pub fn order_grows()
+    ensures placed { placed_grows }
+    ensures together { together_grows }
+    ensures placed_front { fronts_are_placed }
+    ensures together_front { fronts_stand_together }
+{}
+
+/// In a total order of the chromosomes the records of each stand together.
+pub fn order_gathers()
+    ensures { placed_are_together }
+{}
+
+/// The good records of an input are in order, and each has a base.
+pub fn good_records_are_in_order()
+    ensures placed { good_are_placed }
+    ensures non_empty { good_are_non_empty }
+{}
+
+/// A genome file without a fault has each chromosome once.
+pub fn chromosomes_come_once()
+    ensures { genome_names_are_distinct }
+{}
+
+/// The ranks of names give a total order of them, in which only equal names compare as equal.
+pub fn ranks_give_an_order()
+    ensures { ranks_are_total }
+{}
+
+/// What a line says is a feature: its name is one column, it has a base, and its numbers have at most
+/// twelve digits.
+pub fn lines_say_features()
+    ensures { said_are_features }
+{}
+
+/// A feature's bytes, unless they are a header line, say the feature again; and so do those of each
+/// feature that was read.
+pub fn written_records_are_read_back()
+    ensures read_back { written_are_read }
+    ensures rewritten { read_are_rewritten }
+{}
+
+/// What small texts say.
+#[tactic(auto, unfolding(crate::specs::Record::record_of, bt_lines::specs::Number::value_of))]
+pub fn records_of_small_texts()
+    ensures blank { record_of [] ≡ Ok None }
+    ensures comment { record_of (codes "#chr1\t1\t2") ≡ Ok None }
+    ensures track { record_of (codes "track name=x") ≡ Ok None }
+    ensures browser { record_of (codes "browser\tposition") ≡ Ok None }
+    ensures no_track { record_of (codes "tracks\t1\t2")
+        ≡ Ok (Some (record { chrom = codes "tracks"; start = 1; stop = 2; strand = Strand.Dot; rest = [] })) }
+    ensures six_columns { record_of (codes "chr1\t007\t9\tn\t0\t+")
+        ≡ Ok (Some (record { chrom = codes "chr1"; start = 7; stop = 9; strand = Strand.Plus; rest = codes "\tn\t0\t+" })) }
+    ensures two_pluses { record_of (codes "chr1\t5\t9\tn\t0\t++")
+        ≡ Ok (Some (record { chrom = codes "chr1"; start = 5; stop = 9; strand = Strand.Dot; rest = codes "\tn\t0\t++" })) }
+    ensures trailing_tab { record_of (codes "chr1\t5\t9\t")
+        ≡ Ok (Some (record { chrom = codes "chr1"; start = 5; stop = 9; strand = Strand.Dot; rest = codes "\t" })) }
+    ensures few_columns { record_of (codes "chr1\t5") ≡ Err Kind.TooFewColumns }
+    ensures no_name { record_of (codes "\tx\t1") ≡ Err Kind.EmptyName }
+    ensures bad_start { record_of (codes "chr1\t-1\tx") ≡ Err Kind.BadStart }
+    ensures bad_stop { record_of (codes "chr1\t1\tx") ≡ Err Kind.BadStop }
+    ensures no_base { record_of (codes "chr1\t5\t5") ≡ Err Kind.EmptyFeature }
+{}

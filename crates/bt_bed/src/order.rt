@@ -1,0 +1,24 @@
+//! Orders of chromosomes.
+
+ghost use Rattle.std.specs.Prelude.{◌≡◌, IsTrue};
+ghost use Rattle.bt_bed.specs.Order.{IsTotal, Order};
+
+use std::cmp::Ordering;
+
+/// An order of the chromosomes that it knows, by which sorted input is sorted. It is total, and only
+/// equal names compare as equal.
+pub trait ChromOrder {
+    ghost order: { Self → Order };
+
+    /// Whether the chromosome of this name is known.
+    fn knows(&self, name: &[u8]) -> bool
+        ensures { result ≡ (order self.now).knows name.now };
+
+    /// Which of two known chromosomes comes first.
+    fn compare(&self, left: &[u8], right: &[u8]) -> Ordering
+        requires left { IsTrue ((order self.now).knows left.now) }
+        requires right { IsTrue ((order self.now).knows right.now) }
+        ensures { result ≡ (order self.now).compare left.now right.now };
+
+    ghost total: { (chroms : Self) → IsTotal (order chroms) };
+}

@@ -1,0 +1,220 @@
+//! What a line of a BED file says.
+
+ghost use Rattle.std.specs.Prelude.{◌≡◌, ◌≤◌, List, drop, length, ℕ};
+ghost use Rattle.bt_bed.specs.Bed.{EndsWithRest, feature_between, feature_seen, record_seen};
+ghost use Rattle.bt_bed.specs.Record.{columns_say, feature_of, record_of, strand_named, strand_of};
+ghost use Rattle.bt_lines.specs.Columns.{columns_left};
+ghost use Rattle.bt_lines.specs.Lines.{pieces};
+ghost use Rattle.bt_lines.specs.Number.{value_of};
+
+use crate::bed::BedRef;
+use crate::header::is_header;
+use crate::strand::Strand;
+use bt_lines::{Columns, Kind, columns, number};
+
+/// The feature of a line's text, or none where the line is blank or a header (UCSC BED description:
+/// columns stand between tabs, the first base is numbered 0, and the end isn't included). `Err` tells
+/// the first that applies: fewer than three columns, an empty name of a chromosome, a start or an end
+/// that isn't a number of at most twelve digits, a start that isn't below the end. No memory is taken,
+/// and the feature borrows from the text.
+pub fn parse_bed(text: &[u8]) -> Result<Option<BedRef<'_>>, Kind>
+    ensures said { record_seen result ≡ record_of text.now }
+    ensures suffix { EndsWithRest text.now result }
+{
+    if is_header(text) {
+        return Ok(None);
+    }
+    let feature = first_columns(text)?;
+    Ok(Some(feature))
+}
+
+// The feature of a text's columns. What it keeps isn't copied: it begins at the tab behind the third
+// column.
+fn first_columns(text: &[u8]) -> Result<BedRef<'_>, Kind>
+    ensures { feature_seen result ≡ columns_say (pieces 9 text.now) }
+{
+    let mut columns = columns(text);
+    let Some(chrom) = columns.next() else {
+        return Err(Kind::TooFewColumns);
+    };
+    let Some(start) = columns.next() else {
+        return Err(Kind::TooFewColumns);
+    };
+    let Some(stop) = columns.next() else {
+        return Err(Kind::TooFewColumns);
+    };
+    let end = chrom.len() + start.len() + stop.len() + 2;
+    let rest = behind(text, end);
+    let (start, stop) = bounds(chrom, start, stop)?;
+    let strand = third_strand(columns);
+    Ok(BedRef {
+        chrom,
+        start,
+        stop,
+        strand,
+        rest,
+    })
+}
+
+// What stands in a text from an index on.
+fn behind(text: &[u8], from: usize) -> &[u8]
+    requires { from ≤ length text.now }
+    ensures { result.now ≡ drop from text.now }
+{
+    &text[from..]
+}
+
+// The start and the end that two columns denote.
+fn bounds(chrom: &[u8], start: &[u8], stop: &[u8]) -> Result<(u64, u64), Kind>
+    ensures { (rest : List (List ℕ)) → feature_between chrom.now result rest
+        ≡ feature_of chrom.now (value_of start.now) (value_of stop.now) rest }
+{
+    if chrom.is_empty() {
+        return Err(Kind::EmptyName);
+    }
+    let Some(start) = number(start) else {
+        return Err(Kind::BadStart);
+    };
+    let Some(stop) = number(stop) else {
+        return Err(Kind::BadStop);
+    };
+    if start >= stop {
+        return Err(Kind::EmptyFeature);
+    }
+    Ok((start, stop))
+}
+
+// The strand of the columns from the fourth on: the third of them names it.
+fn third_strand(mut columns: Columns<'_>) -> Strand
+    ensures { result ≡ strand_of (columns_left columns.entry) }
+{
+    let _name = columns.next();
+    let _score = columns.next();
+    match columns.next() {
+        Some(column) => strand_named(column),
+        None => Strand::Dot,
+    }
+}
+
+// The strand that a column names.
+fn strand_named(column: &[u8]) -> Strand
+    ensures { result ≡ strand_named column.now }
+{
+    match column {
+        b"+" => Strand::Plus,
+        b"-" => Strand::Minus,
+        _ => Strand::Dot,
+    }
+}
+
+#[cfg(test)]
+mod tests {
+    use super::*;
+
+    // A text, and the start, the end, the strand and what is kept of its record.
+    const RECORDS: [(&[u8], (u64, u64, Strand, &[u8])); 15] = [
+        (b"chr1\t5\t9", (5, 9, Strand::Dot, b"")),
+        (b"chr1\t5\t9\t", (5, 9, Strand::Dot, b"\t")),
+        (b"chr1\t007\t9\tn\t0\t+", (7, 9, Strand::Plus, b"\tn\t0\t+")),
+        (
+            b"chr1\t007\t9\tn\t0\t-",
+            (7, 9, Strand::Minus, b"\tn\t0\t-"),
+        ),
+        (b"chr1\t007\t9\tn\t0\t.", (7, 9, Strand::Dot, b"\tn\t0\t.")),
+        (
+            b"chr1\t007\t9\tn\t0\t++",
+            (7, 9, Strand::Dot, b"\tn\t0\t++"),
+        ),
+        (b"chr1\t007\t9\tn\t0\t", (7, 9, Strand::Dot, b"\tn\t0\t")),
+        (b"chr1\t7\t9\tn\t+", (7, 9, Strand::Dot, b"\tn\t+")),
+        (b"chr1\t7\t9\t\t\t+", (7, 9, Strand::Plus, b"\t\t\t+")),
+        (
+            b"chr1\t7\t9\tn\t0\t-\t+",
+            (7, 9, Strand::Minus, b"\tn\t0\t-\t+"),
+        ),
+        (
+            b"chr1\t7\t9\t+\t+\t.\t+",
+            (7, 9, Strand::Dot, b"\t+\t+\t.\t+"),
+        ),
+        (b"tracks\t1\t2", (1, 2, Strand::Dot, b"")),
+        (b"trackX\t1\t2", (1, 2, Strand::Dot, b"")),
+        (b"Track\t1\t2", (1, 2, Strand::Dot, b"")),
+        (
+            b"chr1\t999999999998\t999999999999",
+            (999_999_999_998, 999_999_999_999, Strand::Dot, b""),
+        ),
+    ];
+
+    #[test]
+    fn lines_say_records(rt: HostRuntime) {
+        for (text, want) in RECORDS {
+            let found = match parse_bed(text) {
+                Ok(Some(bed)) => Some((bed.start, bed.stop, bed.strand, bed.rest)),
+                _ => None,
+            };
+            assert_eq!(rt; found, Some(want), "at {text:?}");
+        }
+    }
+
+    #[test]
+    fn records_keep_the_name(rt: HostRuntime) {
+        let cases: [(&[u8], &[u8]); 3] = [
+            (b"chr1\t3\t4", b"chr1"),
+            (b"chr 1\t3\t4\tx", b"chr 1"),
+            (b" \t3\t4", b" "),
+        ];
+        for (text, want) in cases {
+            let found = match parse_bed(text) {
+                Ok(Some(bed)) => Some(bed.chrom),
+                _ => None,
+            };
+            assert_eq!(rt; found, Some(want), "at {text:?}");
+        }
+    }
+
+    #[test]
+    fn headers_say_nothing(rt: HostRuntime) {
+        let cases: [&[u8]; 7] = [
+            b"",
+            b"#",
+            b"#chr1\t1\t2",
+            b"track",
+            b"track\tx",
+            b"track name=x",
+            b"browser position",
+        ];
+        for text in cases {
+            assert!(rt; matches!(parse_bed(text), Ok(None)), "at {text:?}");
+        }
+    }
+
+    #[test]
+    fn lines_are_at_fault(rt: HostRuntime) {
+        let cases: [(&[u8], Kind); 17] = [
+            (b"chr1", Kind::TooFewColumns),
+            (b"chr1\t5", Kind::TooFewColumns),
+            (b"\tx", Kind::TooFewColumns),
+            (b"chr1 5 9", Kind::TooFewColumns),
+            (b"\t1\t2", Kind::EmptyName),
+            (b"\tx\ty", Kind::EmptyName),
+            (b"\t\t\t\t\t\t\t\t\t\t\t\t\t\t\t\t\t\t\t\t", Kind::EmptyName),
+            (b"chr1\t\t5", Kind::BadStart),
+            (b"chr1\t-1\tx", Kind::BadStart),
+            (b"chr1\t1000000000000\t5", Kind::BadStart),
+            (b"chr1\t18446744073709551616\t5", Kind::BadStart),
+            (b"chr1\t1\tx", Kind::BadStop),
+            (b"chr1\t1\t2\r", Kind::BadStop),
+            (b"chr1\t5\t1000000000000", Kind::BadStop),
+            (b"chr1\t5\t", Kind::BadStop),
+            (b"chr1\t5\t5", Kind::EmptyFeature),
+            (b"chr1\t6\t5", Kind::EmptyFeature),
+        ];
+        for (text, want) in cases {
+            let found = match parse_bed(text) {
+                Err(kind) => Some(kind),
+                Ok(_) => None,
+            };
+            assert_eq!(rt; found, Some(want), "at {text:?}");
+        }
+    }
+}

@@ -1,0 +1,341 @@
+//! The records of a BED input, one after another.
+
+use crate::bed::BedRef;
+use crate::cursor::Cursor;
+use crate::order::ChromOrder;
+use bt_lines::{Fault, LineReader, Source};
+use std::alloc::Global;
+
+/// Reads the records of a BED input, and tells the first line at fault: one that isn't a feature, has
+/// a chromosome that the order doesn't know, or lies below the record before it, by chromosome and
+/// then by start. Header lines and blank lines are skipped. The record ahead is lent until the next
+/// call.
+#[derive(Debug, Drop)]
+pub struct Records<'o, S, O: ChromOrder> {
+    cursor: Cursor<'o, S, O>,
+    fault: Option<Fault>,
+}
+
+#[tactic(auto, unfolding(crate::specs::Records::below, crate::specs::Records::order_in, crate::specs::Records::last_place, crate::specs::Records::record_ahead, crate::specs::Records::line_ahead, crate::specs::Records::fault_kept, crate::specs::Records::good_left))]
+impl<'o, S: Source, O: ChromOrder> Records<'o, S, O> {
+    ghost use Rattle.std.specs.Prelude.{◌≡◌, [], Some, None, IsSome, option_map};
+    ghost use Rattle.std.specs.Borrow.{sem};
+    ghost use Rattle.std.specs.Io.BufRead.{Rests};
+    ghost use mir.Syntax.{named};
+    ghost use Rattle.bt_lines.specs.Reader.{fault_kept as line_fault, input_of, lines_left};
+    ghost use Rattle.bt_bed.specs.contracts.records.Records.{the_row};
+    ghost use Rattle.bt_bed.specs.Good.{good};
+    ghost use Rattle.bt_bed.specs.Order.{IsTotal};
+    ghost use Rattle.bt_bed.specs.Records.{Advances, PeeksRecord, Stepped, below, fault_kept, good_left, last_place, line_ahead, order_in};
+
+    /// A reader of the records that the reader of lines has left.
+    pub fn new(alloc: Global, reader: LineReader<S>, order: &'o O) -> Records<'o, S, O>
+        ensures below { below result ≡ reader }
+        ensures order { order_in result ≡ O.order order.now }
+        ensures total { IsTotal (order_in result) }
+        ensures fault { fault_kept result ≡ line_fault reader }
+        ensures good { line_fault reader ≡ None → good_left S.left result
+            ≡ option_map (good (input_of reader) (O.order order.now)) (lines_left S.left reader) }
+        ensures none_last { last_place result ≡ None }
+        ensures none_ahead { line_ahead result ≡ None }
+    {
+        Records {
+            cursor: Cursor::new(alloc, reader, order),
+            fault: None,
+        }
+    }
+
+    /// The record ahead, or none at the end of the input. It reads on only where no record is ahead,
+    /// and after a fault and after the end nothing is read. A line that couldn't be read is told
+    /// before what is wrong with it, and want of memory for its chromosome's name after. Memory is
+    /// taken for the line, and where the chromosome is another than that of the record before.
+    pub fn peek(&mut self) -> Result<Option<BedRef<'_>>, Fault>
+        ensures* after { sem 𝓛 (Rests (the_row (record { mir = named 0; lft = [] }) S.row O.row O.ChromOrder)
+            self.entry
+            (λ new. PeeksRecord S.left S.has_failed self.old result new)) }
+    {
+        self.step()?;
+        Ok(self.cursor.record())
+    }
+
+    /// Passes the record ahead, which the last `peek` gave. It reads nothing and takes no memory.
+    pub fn advance(&mut self)
+        requires { IsSome (line_ahead self.old) }
+        ensures { Advances S.left self.old self.new }
+    {
+        self.cursor.advance();
+    }
+
+    /// The line of the record ahead, which the last `peek` gave.
+    pub fn line(&self) -> u64
+        requires { IsSome (line_ahead self.now) }
+        ensures { line_ahead self.now ≡ Some result }
+    {
+        self.cursor.line()
+    }
+
+    /// Gives back the reader of lines.
+    pub fn into_reader(self) -> LineReader<S>
+        ensures { result ≡ below self.entry }
+    {
+        let Records { cursor, fault: _ } = self;
+        cursor.into_reader()
+    }
+
+    // Reads on to the next record, if none is ahead and there is one.
+    fn step(&mut self) -> Result<(), Fault>
+        ensures { Stepped S.left S.has_failed self.old result self.new }
+    {
+        if self.cursor.has_record() {
+            return Ok(());
+        }
+        if let Some(fault) = self.fault {
+            return Err(fault);
+        }
+        let read = self.cursor.read_record();
+        if let Err(fault) = read {
+            self.fault = Some(fault);
+        }
+        read
+    }
+}
+
+#[cfg(test)]
+mod tests {
+    use super::*;
+    use crate::genome::Genome;
+    use crate::strand::Strand;
+    use bt_lines::{Input, Kind, Place, ScriptSource};
+    use std::alloc::AllocError;
+    use std::test::Fail;
+
+    const GENOME: &[u8] = b"chr1\t100\nchr2\t100\n";
+
+    // A record's line, the rank of its chromosome, its start and its stop.
+    type Found = (u64, Option<usize>, u64, u64);
+
+    // A text, its records, and what is wrong at which line.
+    type Row<'a> = (&'a [u8], &'a [Found], Option<(Kind, u64)>);
+
+    fn read_genome(alloc: Global) -> Result<Genome, Fault> {
+        let mut lines = LineReader::new(alloc, ScriptSource::new(GENOME, 7, None), Input::Genome);
+        let genome = Genome::read(alloc, &mut lines);
+        let _ = lines.into_source();
+        genome
+    }
+
+    fn seen(genome: &Genome, line: u64, bed: BedRef<'_>) -> Found {
+        (line, genome.rank(bed.chrom), bed.start, bed.stop)
+    }
+
+    // The records that are left, each where it is given again as it was, and the fault.
+    fn collect<S: Source>(
+        alloc: Global,
+        genome: &Genome,
+        records: &mut Records<'_, S, Genome>,
+    ) -> Result<(Vec<Found>, Option<Fault>), AllocError> {
+        let mut found = Vec::new(alloc);
+        loop {
+            let first = match records.peek() {
+                Ok(Some(bed)) => seen(genome, 0, bed),
+                Ok(None) => return Ok((found, None)),
+                Err(fault) => return Ok((found, Some(fault))),
+            };
+            let line = records.line();
+            match records.peek() {
+                Ok(Some(bed)) if seen(genome, 0, bed) == first => {
+                    found.push(seen(genome, line, bed))?;
+                }
+                _ => return Ok((found, None)),
+            }
+            records.advance();
+        }
+    }
+
+    // Whether a text that comes in pieces of this many bytes, and fails after the good ones, gives
+    // the records and the fault.
+    fn agrees(
+        alloc: Global,
+        genome: &Genome,
+        row: Row<'_>,
+        step: usize,
+        good: Option<usize>,
+    ) -> Result<bool, AllocError> {
+        let (text, want, want_fault) = row;
+        let source = ScriptSource::new(text, step.max(1), good);
+        let lines = LineReader::new(alloc, source, Input::First);
+        let mut records = Records::new(alloc, lines, genome);
+        let collected = collect(alloc, genome, &mut records);
+        let _ = records.into_reader().into_source();
+        let (found, fault) = collected?;
+        Ok(found.as_slice() == want && is_fault(fault, want_fault))
+    }
+
+    fn is_fault(found: Option<Fault>, want: Option<(Kind, u64)>) -> bool {
+        match (found, want) {
+            (None, None) => true,
+            (Some(fault), Some((kind, line))) => {
+                let place = Place {
+                    input: Input::First,
+                    line,
+                };
+                fault.kind == kind && fault.place == Some(place)
+            }
+            _ => false,
+        }
+    }
+
+    #[test]
+    fn reads_records_in_order(rt: HostRuntime) -> Result<(), Fail> {
+        let one = (1, Some(0), 0, 5);
+        let rows: [Row; 9] = [
+            (b"", &[], None),
+            (b"\n\r\n", &[], None),
+            (b"track name=x\n#chr1\t5\nbrowser\n", &[], None),
+            (
+                b"track name=x\r\nchr1\t000\t5\r\nchr1\t20\t30",
+                &[(2, Some(0), 0, 5), (3, Some(0), 20, 30)],
+                None,
+            ),
+            (
+                b"chr1\t0\t5\n#\nbrowser position\ntrack\tx\nchr1\t0\t3\tn\t0\t-\n",
+                &[one, (5, Some(0), 0, 3)],
+                None,
+            ),
+            (b"chr1\t0\t5", &[one], None),
+            (
+                b"chr1\t0\t5\n\nchr1\t0\t3\r\n",
+                &[one, (3, Some(0), 0, 3)],
+                None,
+            ),
+            (
+                b"chr1\t0\t5\nchr2\t0\t9\n",
+                &[one, (2, Some(1), 0, 9)],
+                None,
+            ),
+            (
+                b"chr2\t4\t5\nchr2\t4\t9\n",
+                &[(1, Some(1), 4, 5), (2, Some(1), 4, 9)],
+                None,
+            ),
+        ];
+        let genome = read_genome(rt.alloc())?;
+        for row in rows {
+            assert!(rt; agrees(rt.alloc(), &genome, row, 1, None)?);
+            assert!(rt; agrees(rt.alloc(), &genome, row, 7, None)?);
+        }
+        Ok(())
+    }
+
+    #[test]
+    fn tells_what_is_wrong(rt: HostRuntime) -> Result<(), Fail> {
+        let one = (1, Some(0), 0, 5);
+        let two = (2, Some(1), 0, 5);
+        let rows: [Row; 11] = [
+            (
+                b"chr1\t5\t9\nchr1\t4\t9\nchr1\t6\t9\n",
+                &[(1, Some(0), 5, 9)],
+                Some((Kind::OutOfOrder, 2)),
+            ),
+            (
+                b"chr1\t5\t9\n#\nchr1\t4\t9\n",
+                &[(1, Some(0), 5, 9)],
+                Some((Kind::OutOfOrder, 3)),
+            ),
+            (
+                b"chr1\t0\t5\nchr2\t0\t5\nchr1\t6\t8\n",
+                &[one, two],
+                Some((Kind::OutOfOrder, 3)),
+            ),
+            (
+                b"chr1\t0\t5\nchr1\t6\t8\nchr1\t5\t8\n",
+                &[one, (2, Some(0), 6, 8)],
+                Some((Kind::OutOfOrder, 3)),
+            ),
+            (b"trackX\t1\t2\n", &[], Some((Kind::UnknownChrom, 1))),
+            (
+                b"chr1\t0\t5\nchr10\t0\t5\nchr2\t0\t5\n",
+                &[one],
+                Some((Kind::UnknownChrom, 2)),
+            ),
+            (
+                b"chr1\t0\t5\nchr2\t0\t5\nchr1\tx\t5\n",
+                &[one, two],
+                Some((Kind::BadStart, 3)),
+            ),
+            (
+                b"\nchr1\t1000000000000\t5\n",
+                &[],
+                Some((Kind::BadStart, 2)),
+            ),
+            (b"chr1\t5\t5\n", &[], Some((Kind::EmptyFeature, 1))),
+            (b"\t1\t2\n", &[], Some((Kind::EmptyName, 1))),
+            (b"#chr1\t5\nchr1\t1\n", &[], Some((Kind::TooFewColumns, 2))),
+        ];
+        let genome = read_genome(rt.alloc())?;
+        for row in rows {
+            assert!(rt; agrees(rt.alloc(), &genome, row, 1, None)?);
+            assert!(rt; agrees(rt.alloc(), &genome, row, 7, None)?);
+        }
+        Ok(())
+    }
+
+    #[test]
+    fn tells_a_failed_read(rt: HostRuntime) -> Result<(), Fail> {
+        let text = b"chr1\t0\t5\nchr2\t0\t5\n".as_slice();
+        let (one, two) = ((1, Some(0), 0, 5), (2, Some(1), 0, 5));
+        let genome = read_genome(rt.alloc())?;
+        let rows: [(usize, Row); 4] = [
+            (0, (text, &[], Some((Kind::ReadFailed, 1)))),
+            (12, (text, &[one], Some((Kind::ReadFailed, 2)))),
+            (18, (text, &[one, two], Some((Kind::ReadFailed, 3)))),
+            (19, (text, &[one, two], None)),
+        ];
+        for (good, row) in rows {
+            assert!(rt; agrees(rt.alloc(), &genome, row, 7, Some(good))?);
+        }
+        Ok(())
+    }
+
+    #[test]
+    fn answers_a_fault_again(rt: HostRuntime) -> Result<(), Fail> {
+        let genome = read_genome(rt.alloc())?;
+        let source = ScriptSource::new(b"chr2\t0\t5\nchr1\t0\t5\nchr2\t6\t8\n", 1, None);
+        let lines = LineReader::new(rt.alloc(), source, Input::First);
+        let mut records = Records::new(rt.alloc(), lines, &genome);
+        let first = collect(rt.alloc(), &genome, &mut records);
+        let again = collect(rt.alloc(), &genome, &mut records);
+        let source = records.into_reader().into_source();
+        let ((found, fault), (none, kept)) = (first?, again?);
+        assert_eq!(rt; (found.len(), none.len(), source.given()), (1, 0, 18));
+        assert!(rt; is_fault(fault, Some((Kind::OutOfOrder, 2))));
+        assert!(rt; is_fault(kept, Some((Kind::OutOfOrder, 2))));
+        Ok(())
+    }
+
+    #[test]
+    fn lends_what_the_line_says(rt: HostRuntime) -> Result<(), Fail> {
+        let genome = read_genome(rt.alloc())?;
+        let text = b"chr1\t007\t9\tn\t0\t+\nchr1\t8\t9\nchr2\t1\t2\t\n";
+        let want: [(&[u8], Strand, &[u8]); 3] = [
+            (b"chr1", Strand::Plus, b"\tn\t0\t+"),
+            (b"chr1", Strand::Dot, b""),
+            (b"chr2", Strand::Dot, b"\t"),
+        ];
+        let lines = LineReader::new(rt.alloc(), ScriptSource::new(text, 1, None), Input::First);
+        let mut records = Records::new(rt.alloc(), lines, &genome);
+        for (chrom, strand, rest) in want {
+            let agrees = match records.peek() {
+                Ok(Some(bed)) => { bed.chrom == chrom && bed.strand == strand && bed.rest == rest }
+                _ => {
+                    assert!(rt; false);
+                    return Ok(());
+                }
+            };
+            assert!(rt; agrees);
+            records.advance();
+        }
+        let _ = records.into_reader().into_source();
+        Ok(())
+    }
+}
