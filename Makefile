@@ -15,7 +15,8 @@ $(PROGRAM): $(SOURCES)
 	cp crates/bedtools/out/bedtools $@
 
 example: $(PROGRAM)
-	$(PROGRAM) merge -i examples/exons.bed -g examples/genome.txt
+	$(PROGRAM) merge -i examples/exons.bed -g examples/genome.txt -d 1000
+	$(PROGRAM) complement -i examples/exons.bed -g examples/genome.txt -L
 
 test:
 	rt ci

@@ -2,7 +2,7 @@
 use Rattle.std.proofs.Common.{◌≡◌, ℕ, ◌+◌, ◌<◌, ◌≤◌, Bool, true, false, List, [], ◌∷◌, length, Option, Some, None, Ok, Err, drop, refl, sym, ap, ◌∙◌, arith, length-drop}
 use Rattle.std.specs.Prelude.{IsTrue, is_some, if◌then◌else◌}
 use Rattle.std.proofs.lemmas.Bool.Decides.{nat_tests}
-use Rattle.bt_tool.specs.declared.plan_type.Command.{Command}
+use Rattle.bt_tool.specs.declared.tool.Tool.{Tool}
 use Rattle.bt_tool.specs.declared.usage.Usage.{Usage}
 use Rattle.bt_tool.specs.Items.{Item, items_of, spelled}
 use Rattle.bt_tool.specs.Options.{PlanSeen, asked, command_of, fault_at, options, plan_of, settled, word_fault}
@@ -14,16 +14,16 @@ module _ (words : List Word) where
   unfolding options
   options-no_command h = rw (h, options) refl
 
-  pub options-command : (command : Command) → command_of words ≡ Some command
+  pub options-command : (command : Tool) → command_of words ≡ Some command
       → options words ≡ asked command (drop 1 words)
   unfolding options
   options-command command h = rw (h, options) refl
 
-  pub options-fault : (command : Command) (usage : Usage) → command_of words ≡ Some command
+  pub options-fault : (command : Tool) (usage : Usage) → command_of words ≡ Some command
       → word_fault (table_of command) 1 (drop 1 words) ≡ Some usage → options words ≡ Err usage
   options-fault command usage h g = options-command command h ∙ rw (g, asked) refl
 
-  pub options-settled : (command : Command) → command_of words ≡ Some command
+  pub options-settled : (command : Tool) → command_of words ≡ Some command
       → word_fault (table_of command) 1 (drop 1 words) ≡ None
       → options words ≡ settled command (items_of (table_of command) (drop 1 words))
   options-settled command h g = options-command command h ∙ rw (g, asked) refl
@@ -73,7 +73,7 @@ word_fault-tellable table at words usage e =
     let within : usage.word < at + length words = omega (arith, one.word, one.some, left) in
     record { at_least = one.at_least; at_most = one.at_most; in_words = λ _. within }
 
-command_of-some : (words : List Word) (command : Command) → command_of words ≡ Some command
+command_of-some : (words : List Word) (command : Tool) → command_of words ≡ Some command
     → 1 + length (drop 1 words) ≡ length words
 command_of-some [] command e = cc
 command_of-some (word ∷ words) command e = omega arith
@@ -109,12 +109,12 @@ chosen-tellable false false true plan usage count e =
     whole-tellable input_named_twice usage count (omega arith) (omega arith) (cc)
 chosen-tellable false false false plan usage count e = cc
 
-settled-tellable : (command : Command) (items : List Item) (usage : Usage) (count : ℕ)
+settled-tellable : (command : Tool) (items : List Item) (usage : Usage) (count : ℕ)
     → settled command items ≡ Err usage → IsTellable usage count
 settled-tellable command items usage count e =
     chosen-tellable _ _ _ (plan_of command items) usage count e
 
-asked-tellable : (command : Command) (words : List Word) (fault : Option Usage) (usage : Usage)
+asked-tellable : (command : Tool) (words : List Word) (fault : Option Usage) (usage : Usage)
     → word_fault (table_of command) 1 words ≡ fault → asked command words ≡ Err usage
     → IsTellable usage (1 + length words)
 asked-tellable command words None usage f e =
@@ -130,7 +130,7 @@ no_command-tellable count =
     let high : 1 ≤ 7 = omega arith in
     record { at_least = low; at_most = high; in_words = λ named. absurd (not_one named) }
 
-named-tellable : (words : List Word) (named : Option Command) (usage : Usage)
+named-tellable : (words : List Word) (named : Option Tool) (usage : Usage)
     → command_of words ≡ named → options words ≡ Err usage → IsTellable usage (length words)
 named-tellable words None usage n e =
     let same : no_command ≡ usage = (let s = options-no_command words n in cc) in

@@ -10,8 +10,9 @@ use Rattle.std.proofs.lemmas.Slice.Eq.{bytes_eq-Decides}
 use Rattle.std.specs.Prelude.{bytes_eq}
 use Rattle.bt_tool.specs.OptionLaws.{AnswerIsUnique, FaultIsOfWhatIsLeft, LastItemCounts, LongestDivisionIsUnique}
 use Rattle.bt_tool.specs.Options.{Answers, AnswersAll, PlanSeen, asked, command_of, fault_at, last_item, options, word_fault}
-use Rattle.bt_tool.specs.Table.{Word, Table, Takes, fits, table_of, takes}
-use Rattle.bt_tool.specs.declared.plan_type.Command.{Command}
+use Rattle.bt_tool.specs.Table.{Word, Table, fits, table_of, takes}
+use Rattle.bt_tool.specs.declared.takes.Takes.{Takes}
+use Rattle.bt_tool.specs.declared.tool.Tool.{Tool}
 use Rattle.bt_tool.specs.declared.usage.Usage.{Usage}
 use Rattle.std.specs.Prelude.{Result, ◌↔◌}
 use Rattle.bt_tool.proofs.Reading.{items_of-item}
@@ -72,7 +73,7 @@ module _ (table : Table) (P : List Word → List Item → Type 0)
       let one = divided (value ∷ rest) in
       divided-more option value rest (takes table option) refl one (divided rest)
 
-allowed : (table : Table) (words : List Word) → All (IsItem table) (items_of table words)
+pub allowed : (table : Table) (words : List Word) → All (IsItem table) (items_of table words)
 allowed table words =
     let P : List Word → List Item → Type 0 = λ _ items. All (IsItem table) items in
     divided table P (λ _. All-nil (IsItem table))
@@ -203,7 +204,7 @@ last_item-counts [] later item h =
 last_item-counts (first ∷ items) later item h = rw (last_item-counts items later item h) refl
 
 -- the answer by any longest division is the one by the items that are read
-answer-by : (command : Command) (words : List Word) (answer : Result PlanSeen Usage)
+answer-by : (command : Tool) (words : List Word) (answer : Result PlanSeen Usage)
     (fault : Option Usage) → word_fault (table_of command) 1 words ≡ fault
     → Answers command words answer → answer ≡ asked command words
 unfolding word_fault
@@ -214,7 +215,7 @@ answer-by command words answer None f a =
     let read = longest-items_of (table_of command) words a.items a.division in
     a.all_divided (rw (read) f) ∙ rw (f, asked, read) refl
 
-asked-answers : (command : Command) (words : List Word)
+asked-answers : (command : Tool) (words : List Word)
     → Answers command words (asked command words)
 unfolding word_fault
 asked-answers command words = record {
@@ -224,7 +225,7 @@ asked-answers command words = record {
   all_divided = λ f. rw (f, asked) refl;
 }
 
-answer-named : (words : List Word) (answer : Result PlanSeen Usage) (named : Option Command)
+answer-named : (words : List Word) (answer : Result PlanSeen Usage) (named : Option Tool)
     → command_of words ≡ named → AnswersAll words answer ↔ (answer ≡ options words)
 unfolding options
 answer-named words answer None n = rw (n, options) (λ e. e, λ e. e)

@@ -2,19 +2,16 @@
 use Rattle.std.proofs.Common.{ap, ◌≡◌, ℕ, ◌+◌, ◌<◌, ◌≤◌, true, false, List, [], ◌∷◌, ◌++◌, length, Option, Some, None, drop, refl, sym, ◌∙◌, arith, length-append, add_assoc, add-zero, add-one}
 use Rattle.std.proofs.Math.ListN.{drop_of_length-le}
 use Rattle.std.proofs.Math.Seq.{drop-append-add, drop-cons}
-use Rattle.std.specs.Prelude.{String, option_to_list, string_bytes, get_or, bytes_eq, codes, if◌then◌else◌}
+use Rattle.std.specs.Prelude.{String, option_to_list, string_bytes, get_or, bytes_eq, if◌then◌else◌}
 use Rattle.bt_tool.specs.Items.{Item, IsItem, items_of, words_of, spelled}
 use Rattle.std.specs.Option.{option_or}
-use Rattle.std.specs.Borrow.{Bor}
-use Rattle.bt_tool.specs.declared.options.Given.{Given}
-use Rattle.bt_tool.specs.Given.{IsGivenBy, last_seen, valued, word_of}
-use Rattle.bt_tool.specs.declared.options.Choice.{Choice}
-use Rattle.bt_tool.specs.declared.options.Choice.TheVariants.{First, Genome}
+use Rattle.bt_tool.specs.declared.takes.Takes.{Takes}
+use Rattle.bt_tool.specs.declared.takes.Takes.TheVariants.{Nothing, FileName, Number, Strand}
 use Rattle.bt_tool.specs.Options.{last_item, word_fault}
 use Rattle.bt_tool.specs.Plan.{words_seen}
 use Rattle.std.specs.declared.alloc.Global.{Global}
 use Rattle.std.proofs.lemmas.List.{drop-map}
-use Rattle.bt_tool.specs.Table.{Word, Table, Takes, nothing, file_name, fits, takes}
+use Rattle.bt_tool.specs.Table.{Word, Table, fits, takes}
 use Rattle.bt_tool.specs.Usage.{unknown_option, value_missing, bad_value}
 
 -- the words from an index on
@@ -47,8 +44,10 @@ words-pair words at word value h e f =
 -- an option that may have a value may not stand alone
 fits-one : (kind : Takes) (value : Word)
     → fits kind (Some value) ≡ true → fits kind None ≡ false
-fits-one nothing value h = cc
-fits-one file_name value h = refl
+fits-one Nothing value h = cc
+fits-one FileName value h = refl
+fits-one Number value h = refl
+fits-one Strand value h = refl
 
 items_of-alone : (table : Table) (kind : Takes) (option : Word) (rest : List Word)
     → takes table option ≡ Some kind → fits kind None ≡ true
@@ -139,30 +138,23 @@ module _ (table : Table) (words : List (String Global)) (at : ℕ) (word : Strin
         (word_fault-bad table kind at (string_bytes word) (string_bytes value) past
         has not_alone bad)
 
--- the item that the reader keeps for an option
-abbrev pub kept : Given → Choice → Option Item
-kept given First = last_seen (codes "-i") given.first
-kept given Genome = last_seen (codes "-g") given.genome
-
--- what is kept as the words from an index on are still to come: all words give what these give,
--- and where these do not name an option, what is kept of it
-pub record Reads (table : Table) (words : List Word) (at : ℕ) (given : Given) : Type 0 where
+-- the words from an index on are still to come: all words give what these give
+pub record ReadsOn (table : Table) (words : List Word) (at : ℕ) : Type 0 where
   pub fault : word_fault table 1 (drop 1 words) ≡ word_fault table at (drop at words)
-  pub last : (choice : Choice)
-      → last_item (word_of choice) (items_of table (drop 1 words))
-      ≡ option_or (last_item (word_of choice) (items_of table (drop at words)))
-      (kept given choice)
 
--- what is kept once an option has a new item
-abbrev pub kept_after : Given → Item → Choice → Option Item
-kept_after given item choice =
-    option_or (if bytes_eq item.option (word_of choice) then Some item else None)
-    (kept given choice)
+-- and where these do not name an option, what is kept of it
+pub record Reads (table : Table) (words : List Word) (option : Word) (at : ℕ) (kept : Option Item) : Type 0 where
+  pub fault : word_fault table 1 (drop 1 words) ≡ word_fault table at (drop at words)
+  pub last : last_item option (items_of table (drop 1 words)) ≡ option_or (last_item option (items_of table (drop at words))) kept
 
 option_or_assoc : {A : Type 0} (a b c : Option A)
     → option_or (option_or a b) c ≡ option_or a (option_or b c)
 option_or_assoc None b c = refl
 option_or_assoc (Some x) b c = refl
+
+option_or_none : {A : Type 0} (a : Option A) → option_or a None ≡ a
+option_or_none None = refl
+option_or_none (Some x) = refl
 
 -- one item moves from the words to come into what is kept
 last_item-moves : (table : Table) (words : List Word) (at past : ℕ) (item : Item) (option : Word)
@@ -176,31 +168,31 @@ last_item-moves table words at past item option kept h here =
     (option_or_assoc (last_item option (items_of table (drop past words)))
     (if bytes_eq item.option option then Some item else None) kept)
 
-pub Reads-item : (table : Table) (words : List Word) (at past : ℕ) (given next : Given)
-    (item : Item) → ((choice : Choice) → kept next choice ≡ kept_after given item choice)
-    → IsItem table item → drop at words ≡ words_of item ++ drop past words
-    → at + length (words_of item) ≡ past
-    → Reads table words at given → Reads table words past next
-Reads-item table words at past given next item sets h here count reads = record {
-  fault = reads.fault ∙ rw here (word_fault-item table at item (drop past words) h)
-      ∙ ap (λ next. word_fault table next (drop past words)) count;
-  last = λ choice. reads.last choice
-      ∙ last_item-moves table words at past item (word_of choice) (kept given choice) h here
-      ∙ ap (option_or (last_item (word_of choice) (items_of table (drop past words))))
-      (sym (sets choice));
+fault-moves : (table : Table) (words : List Word) (at : ℕ) (item : Item)
+    → IsItem table item → drop at words ≡ words_of item ++ drop (at + length (words_of item)) words
+    → word_fault table at (drop at words) ≡ word_fault table (at + length (words_of item)) (drop (at + length (words_of item)) words)
+fault-moves table words at item h here = rw here (word_fault-item table at item (drop (at + length (words_of item)) words) h)
+
+pub reads-start : (table : Table) (words : List Word) (option : Word) → Reads table words option 1 None
+reads-start table words option = record { fault = refl; last = sym (option_or_none (last_item option (items_of table (drop 1 words)))) }
+
+pub reads-on-start : (table : Table) (words : List Word) → ReadsOn table words 1
+reads-on-start table words = record { fault = refl }
+
+pub reads-on-item : (table : Table) (words : List Word) (at : ℕ) (item : Item)
+    → IsItem table item → drop at words ≡ words_of item ++ drop (at + length (words_of item)) words
+    → ReadsOn table words at → ReadsOn table words (at + length (words_of item))
+reads-on-item table words at item h here reads = record { fault = reads.fault ∙ fault-moves table words at item h here }
+
+pub reads-item : (table : Table) (words : List Word) (option : Word) (at : ℕ) (kept next : Option Item) (item : Item)
+    → next ≡ option_or (if bytes_eq item.option option then Some item else None) kept
+    → IsItem table item → drop at words ≡ words_of item ++ drop (at + length (words_of item)) words
+    → Reads table words option at kept → Reads table words option (at + length (words_of item)) next
+reads-item table words option at kept next item sets h here reads = record {
+  fault = reads.fault ∙ fault-moves table words at item h here;
+  last = reads.last ∙ last_item-moves table words at (at + length (words_of item)) item option kept h here
+      ∙ ap (option_or (last_item option (items_of table (drop (at + length (words_of item)) words)))) (sym sets);
 }
-
-pub kept-first : (given : Given) (value : Bor Word) (choice : Choice)
-    → kept (record given { first = Some value }) choice
-    ≡ kept_after given (valued (codes "-i") value.now) choice
-kept-first given value First = refl
-kept-first given value Genome = refl
-
-pub kept-genome : (given : Given) (value : Bor Word) (choice : Choice)
-    → kept (record given { genome = Some value }) choice
-    ≡ kept_after given (valued (codes "-g") value.now) choice
-kept-genome given value First = refl
-kept-genome given value Genome = refl
 
 word_fault-end : (table : Table) (at : ℕ) → word_fault table at [] ≡ None
 unfolding word_fault items_of
@@ -210,16 +202,9 @@ items_of-end : (table : Table) → items_of table [] ≡ []
 unfolding items_of
 items_of-end table = refl
 
-Reads-last : (table : Table) (words : List Word) (at : ℕ) (given : Given) (choice : Choice)
-    → drop at words ≡ [] → Reads table words at given
-    → last_item (word_of choice) (items_of table (drop 1 words)) ≡ kept given choice
-Reads-last table words at given choice over reads =
-    reads.last choice ∙ rw (over, items_of-end table) refl
+pub reads-end : (table : Table) (words : List Word) (option : Word) (at : ℕ) (kept : Option Item)
+    → drop at words ≡ [] → Reads table words option at kept → kept ≡ last_item option (items_of table (drop 1 words))
+reads-end table words option at kept over reads = sym (reads.last ∙ rw (over, items_of-end table) refl)
 
-pub Reads-end : (table : Table) (words : List Word) (at : ℕ) (given : Given)
-    → drop at words ≡ [] → Reads table words at given → IsGivenBy table (drop 1 words) given
-Reads-end table words at given over reads = record {
-  no_fault = reads.fault ∙ rw over (word_fault-end table at);
-  first = Reads-last table words at given First over reads;
-  genome = Reads-last table words at given Genome over reads;
-}
+pub reads-on-end : (table : Table) (words : List Word) (at : ℕ) → drop at words ≡ [] → ReadsOn table words at → word_fault table 1 (drop 1 words) ≡ None
+reads-on-end table words at over reads = reads.fault ∙ rw over (word_fault-end table at)

@@ -18,13 +18,15 @@ use Rattle.bt_bed.specs.Reading.{Hands, ReadingFails, MemoryRanOut}
 use Rattle.bt_bed.specs.GenomeTable.{ReadsAll, LineAtFault, entries, names_of}
 use Rattle.bt_bed.specs.declared.genome.Genome.{Genome}
 use Rattle.bt_tool.specs.Flushing.{Flushes, FlushesAll, FlushFails, StaysFailed}
-use Rattle.bt_tool.specs.Report.{Report, merge_on, report_of}
+use Rattle.bt_tool.specs.Report.{Report, records_report, report_of, report_on}
 use Rattle.bt_tool.specs.Options.{PlanSeen}
 use Rattle.bt_tool.specs.declared.plan_type.Command.{Command}
-use Rattle.bt_tool.specs.declared.plan_type.Command.TheVariants.{Merge}
-use Rattle.bt_tool.specs.RunMerge.{Gives, IsOfInput, MergesRecords, PassesBound, Runs, RunsPlan, records_report}
+use Rattle.bt_bed.specs.Rank.{rank_order}
+use Rattle.bt_tool.specs.Driving.{IsOfInput, PassesBound, WritesRecords}
+use Rattle.bt_tool.specs.Gives.{Gives, Runs, RunsPlan}
+use Rattle.bt_tool.specs.Writes.{writes_of}
 use Rattle.bt_tool.proofs.FeedLemmas.{grows_both}
-use Rattle.bt_tool.proofs.MergingLemmas.{consumes_short, line_no_read, memory_no_read, memory_no_write, placed_no_write, same_read, some_is, write_no_read}
+use Rattle.bt_tool.proofs.DrivingLemmas.{consumes_short, line_no_read, memory_no_read, memory_no_write, placed_no_write, same_read, some_is, write_no_read}
 
 genome_no_first : FromGenome ≡ First → ⊥
 genome_no_first e = cc
@@ -97,42 +99,42 @@ module _ {G A K : Type 0} (g_left : G → Option (List ℕ)) (g_failed : G → B
     (genome : G) (first : A) (out : K) (reader : LineReader G) (source : source_of reader ≡ genome) (input : input_of reader ≡ FromGenome) (fresh : bytes_taken reader ≡ 0)
     (lines : lines_left g_left reader ≡ option_map text_lines (g_left genome)) (read : LineReader G) (genome_after : G) (ended : source_of read ≡ genome_after)
     (begun : Output) (put : begun.put ≡ k_took out) (took : begun.took ≡ k_took out) (new : Output) (out_after : K) (took_after : k_took out_after ≡ new.took) (failed_after : k_failed out_after ≡ new.sink_has_failed)
-    (answer : Option Told) where
+    (answer : Option Told) (command : Command) where
   abbrev GivesReport : A → Type 0
-  GivesReport first_after = Runs g_left g_failed a_left a_failed k_took k_failed genome first out answer genome_after first_after out_after
+  GivesReport first_after = Runs g_left g_failed a_left a_failed k_took k_failed command genome first out answer genome_after first_after out_after
 
-  abbrev report_on : List ℕ → List ℕ → Report
-  report_on genome_text first_text = merge_on (genome_of FromGenome (text_lines genome_text)) first_text
+  abbrev report_at : List ℕ → List ℕ → Report
+  report_at genome_text first_text = report_on command (genome_of FromGenome (text_lines genome_text)) first_text
 
   -- what was read of the genome file, on its known text
   at_genome : (text : List ℕ) (P : List TextLine → Type 0) → g_left genome ≡ Some text → IfSome (lines_left g_left reader) P → P (text_lines text)
   at_genome text P e h = subst (λ o. IfSome o P) (lines ∙ ap (option_map text_lines) e) h
 
   module _ (table : Genome) (reads : ReadsAll g_left g_failed reader read table) (mid : Output) (fault : Option Told) (first_after : A)
-      (merges : MergesRecords a_left a_failed (names_of table) first begun fault first_after mid) (flushes : Flushes mid fault answer new) where
-    same_report : (genome_text first_text : List ℕ) → g_left genome ≡ Some genome_text → report_on genome_text first_text ≡ records_report (names_of table) first_text
+      (writes : WritesRecords a_left a_failed (writes_of command (entries table)) (rank_order (names_of table)) first begun fault first_after mid) (flushes : Flushes mid fault answer new) where
+    same_report : (genome_text first_text : List ℕ) → g_left genome ≡ Some genome_text → report_at genome_text first_text ≡ records_report (writes_of command (entries table)) (rank_order (names_of table)) first_text
     same_report genome_text first_text e =
         let is = at_genome genome_text (λ lines. genome_of (input_of reader) lines ≡ Ok (entries table)) e reads.is in
-        ap (λ r. merge_on r first_text) (ap (λ i. genome_of i (text_lines genome_text)) (sym input) ∙ is)
+        ap (λ r. report_on command r first_text) (ap (λ i. genome_of i (text_lines genome_text)) (sym input) ∙ is)
 
-    pub gives_merged : GivesReport first_after
-    gives_merged = record {
+    pub gives_written : GivesReport first_after
+    gives_written = record {
       whole = λ genome_text first_text before eg ea ek short_genome short_first served_genome served_first served_out memory.
-          let w = whole_by begun mid new fault answer (records_report (names_of table) first_text).fault (before ++ (records_report (names_of table) first_text).output)
-          (λ sink no_growth. merges.whole first_text before ea (put ∙ ek) short_first served_first sink no_growth)
-          merges.writing (sym failed_after ∙ served_out) memory flushes.ends in
+          let w = whole_by begun mid new fault answer (records_report (writes_of command (entries table)) (rank_order (names_of table)) first_text).fault (before ++ (records_report (writes_of command (entries table)) (rank_order (names_of table)) first_text).output)
+          (λ sink no_growth. writes.whole first_text before ea (put ∙ ek) short_first served_first sink no_growth)
+          writes.writing (sym failed_after ∙ served_out) memory flushes.ends in
           subst (λ (r : Report). (answer ≡ r.fault) × (k_took out_after ≡ Some (before ++ r.output))) (sym (same_report genome_text first_text eg)) (w.0, took_after ∙ w.1);
       told = λ genome_text first_text before eg ea ek is.
-          let w = told_by begun mid new fault answer (records_report (names_of table) first_text).fault (before ++ (records_report (names_of table) first_text).output)
-          (λ of_input. merges.told first_text before ea (put ∙ ek) of_input) is flushes.ends in
+          let w = told_by begun mid new fault answer (records_report (writes_of command (entries table)) (rank_order (names_of table)) first_text).fault (before ++ (records_report (writes_of command (entries table)) (rank_order (names_of table)) first_text).output)
+          (λ of_input. writes.told first_text before ea (put ∙ ek) of_input) is flushes.ends in
           subst (λ (r : Report). (answer ≡ r.fault) × (k_took out_after ≡ Some (before ++ r.output))) (sym (same_report genome_text first_text eg)) (w.0, took_after ∙ w.1);
       front = λ genome_text first_text before eg ea ek.
-          let f = front_by begun mid new fault answer before (records_report (names_of table) first_text).output (took ∙ ek) merges.grows flushes.grows
-          (λ other. merges.kept other first_text before ea (put ∙ ek)) (λ is. merges.cut is first_text before ea (put ∙ ek)) flushes.ends in
+          let f = front_by begun mid new fault answer before (records_report (writes_of command (entries table)) (rank_order (names_of table)) first_text).output (took ∙ ek) writes.grows flushes.grows
+          (λ other. writes.kept other first_text before ea (put ∙ ek)) (λ is. writes.cut is first_text before ea (put ∙ ek)) flushes.ends in
           (f.0, f.1, took_after ∙ f.2, ap (λ (r : Report). r.output) (same_report genome_text first_text eg) ∙ f.3);
-      writing = λ e. failed_after ∙ writing_by begun mid new fault answer merges.writing e flushes.ends;
-      reading_genome = λ line e. absurd (genome_no_first (merges.reading FromGenome line (reading_by begun mid new fault answer FromGenome line e flushes.ends)).0);
-      reading_first = λ line e. (merges.reading First line (reading_by begun mid new fault answer First line e flushes.ends)).1;
+      writing = λ e. failed_after ∙ writing_by begun mid new fault answer writes.writing e flushes.ends;
+      reading_genome = λ line e. absurd (genome_no_first (writes.reading FromGenome line (reading_by begun mid new fault answer FromGenome line e flushes.ends)).0);
+      reading_first = λ line e. (writes.reading First line (reading_by begun mid new fault answer First line e flushes.ends)).1;
     }
 
   module _ (fault : Told) (flushes : Flushes begun (Some fault) answer new) where
@@ -156,21 +158,21 @@ module _ {G A K : Type 0} (g_left : G → Option (List ℕ)) (g_failed : G → B
     read_cause (inr (inr ran)) i line e = absurd (memory_no_read i line (sym ran.is ∙ e))
 
     wrong_at_line : (genome_text first_text before : List ℕ) → g_left genome ≡ Some genome_text → k_took out ≡ Some before → LineAtFault g_left g_failed reader read fault
-        → (Some fault ≡ (report_on genome_text first_text).fault) × (begun.put ≡ Some (before ++ (report_on genome_text first_text).output))
+        → (Some fault ≡ (report_at genome_text first_text).fault) × (begun.put ≡ Some (before ++ (report_at genome_text first_text).output))
     wrong_at_line genome_text first_text before eg ek at =
         let is = at_genome genome_text (λ lines. genome_of (input_of reader) lines ≡ Err fault) eg at.is in
-        let same : report_on genome_text first_text ≡ record { output = []; fault = Some fault } = ap (λ r. merge_on r first_text) (ap (λ i. genome_of i (text_lines genome_text)) (sym input) ∙ is) in
+        let same : report_at genome_text first_text ≡ record { output = []; fault = Some fault } = ap (λ r. report_on command r first_text) (ap (λ i. genome_of i (text_lines genome_text)) (sym input) ∙ is) in
         subst (λ (r : Report). (Some fault ≡ r.fault) × (begun.put ≡ Some (before ++ r.output))) (sym same) (refl, put ∙ ek ∙ ap Some (sym (append-nil before)))
 
     wrong_told : (genome_text first_text before : List ℕ) → g_left genome ≡ Some genome_text → k_took out ≡ Some before → Wrong → IsOfInput (Some fault)
-        → (Some fault ≡ (report_on genome_text first_text).fault) × (begun.put ≡ Some (before ++ (report_on genome_text first_text).output))
+        → (Some fault ≡ (report_at genome_text first_text).fault) × (begun.put ≡ Some (before ++ (report_at genome_text first_text).output))
     wrong_told genome_text first_text before eg ek (inl at) of_input = wrong_at_line genome_text first_text before eg ek at
     wrong_told genome_text first_text before eg ek (inr (inl fails)) of_input = absurd (of_input.no_read (input_of reader) (suc (lines_given read)) (ap Some fails.is))
     wrong_told genome_text first_text before eg ek (inr (inr ran)) of_input = absurd (of_input.no_growth (ap Some ran.is))
 
     -- the genome file's fault is the report's
     wrong_whole : (genome_text first_text before : List ℕ) → g_left genome ≡ Some genome_text → k_took out ≡ Some before → length genome_text < 2 ^ 63 → g_failed genome_after ≡ false → Some fault ≢ Some no_memory → Wrong
-        → (Some fault ≡ (report_on genome_text first_text).fault) × (begun.put ≡ Some (before ++ (report_on genome_text first_text).output))
+        → (Some fault ≡ (report_at genome_text first_text).fault) × (begun.put ≡ Some (before ++ (report_at genome_text first_text).output))
     wrong_whole genome_text first_text before eg ek short served memory (inl at) = wrong_at_line genome_text first_text before eg ek at
     wrong_whole genome_text first_text before eg ek short served memory (inr (inl fails)) =
         absurd (⊎_elim (λ failed. false≢true (sym served ∙ ap g_failed (sym ended) ∙ failed))
@@ -180,16 +182,16 @@ module _ {G A K : Type 0} (g_left : G → Option (List ℕ)) (g_failed : G → B
     pub gives_wrong : Wrong → GivesReport first
     gives_wrong wrong = record {
       whole = λ genome_text first_text before eg ea ek short_genome short_first served_genome served_first served_out memory.
-          let w = whole_by begun begun new (Some fault) answer (report_on genome_text first_text).fault (before ++ (report_on genome_text first_text).output)
+          let w = whole_by begun begun new (Some fault) answer (report_at genome_text first_text).fault (before ++ (report_at genome_text first_text).output)
           (λ sink no_growth. wrong_whole genome_text first_text before eg ek short_genome served_genome no_growth wrong)
           (λ e. absurd (no_write wrong (some_is fault write_failed e))) (sym failed_after ∙ served_out) memory flushes.ends in
           (w.0, took_after ∙ w.1);
       told = λ genome_text first_text before eg ea ek is.
-          let w = told_by begun begun new (Some fault) answer (report_on genome_text first_text).fault (before ++ (report_on genome_text first_text).output) (λ of_input. wrong_told genome_text first_text before eg ek wrong of_input) is flushes.ends in
+          let w = told_by begun begun new (Some fault) answer (report_at genome_text first_text).fault (before ++ (report_at genome_text first_text).output) (λ of_input. wrong_told genome_text first_text before eg ek wrong of_input) is flushes.ends in
           (w.0, took_after ∙ w.1);
       front = λ genome_text first_text before eg ea ek.
-          let f = front_by begun begun new (Some fault) answer before (report_on genome_text first_text).output (took ∙ ek) ([], Appends-nil begun.took) flushes.grows
-          (λ other. ([], (report_on genome_text first_text).output, refl, put ∙ ek ∙ ap Some (sym (append-nil before)))) (λ is. absurd (no_write wrong (some_is fault write_failed is))) flushes.ends in
+          let f = front_by begun begun new (Some fault) answer before (report_at genome_text first_text).output (took ∙ ek) ([], Appends-nil begun.took) flushes.grows
+          (λ other. ([], (report_at genome_text first_text).output, refl, put ∙ ek ∙ ap Some (sym (append-nil before)))) (λ is. absurd (no_write wrong (some_is fault write_failed is))) flushes.ends in
           (f.0, f.1, took_after ∙ f.2, f.3);
       writing = λ e. failed_after ∙ writing_by begun begun new (Some fault) answer (λ is. absurd (no_write wrong (some_is fault write_failed is))) e flushes.ends;
       reading_genome = λ line e. (read_cause wrong FromGenome line (some_is fault (read_failed FromGenome line) (reading_by begun begun new (Some fault) answer FromGenome line e flushes.ends))).1;
@@ -201,14 +203,14 @@ module _ {G A K : Type 0} (g_left : G → Option (List ℕ)) (g_failed : G → B
   same_some a b e = cc
 
   gives_by : (command : Command) (genome : G) (first : A) (out : K) (fault : Option Told) (back : G) (first_after : A) (out_after : K)
-      → Runs g_left g_failed a_left a_failed k_took k_failed genome first out fault back first_after out_after
+      → Runs g_left g_failed a_left a_failed k_took k_failed command genome first out fault back first_after out_after
       → Gives g_left g_failed a_left a_failed k_took k_failed (λ genome first. report_of command genome first []) genome first out fault back first_after out_after
   unfolding report_of
-  gives_by Merge genome first out fault back first_after out_after runs = runs
+  gives_by command genome first out fault back first_after out_after runs = runs
 
   -- a run of a plan is a run of its command
   pub runs_plan : (plan : PlanSeen) (genome : Option G) (given : G) (first : A) (out : K) (fault : Option Told) (back : G) (first_after : A) (out_after : K) → genome ≡ Some given
-      → Runs g_left g_failed a_left a_failed k_took k_failed given first out fault back first_after out_after
+      → Runs g_left g_failed a_left a_failed k_took k_failed plan.command given first out fault back first_after out_after
       → RunsPlan g_left g_failed a_left a_failed k_took k_failed plan genome first out fault (Some back) first_after out_after
   runs_plan plan genome given first out fault back first_after out_after e runs was after f h =
       let gives = gives_by plan.command given first out fault back first_after out_after runs in

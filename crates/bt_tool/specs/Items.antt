@@ -1,6 +1,7 @@
 -- How the words after the command are divided into items.
 use Rattle.std.specs.Prelude.{◌≡◌, ◌≤◌, false, true, List, [], ◌∷◌, ◌++◌, Option, Some, None, All, IsTrue, flat_map, length, option_to_list}
-use Rattle.bt_tool.specs.Table.{Word, Table, Takes, fits, takes}
+use Rattle.bt_tool.specs.Table.{Word, Table, fits, takes}
+use Rattle.bt_tool.specs.declared.takes.Takes.{Takes}
 
 -- an option as it was given once, with its value if it has one
 pub record Item : Type 0 where

@@ -4,17 +4,14 @@ use Rattle.bt_lines.specs.Fault.{Told, InputNames, line_of}
 use Rattle.bt_lines.specs.Lines.{text_lines}
 use Rattle.bt_lines.specs.declared.fault.Input.TheVariants.{Genome, First}
 use Rattle.bt_bed.specs.Genome.{Entry, genome_of, genome_names}
-use Rattle.bt_bed.specs.Feature.{intervals_of}
 use Rattle.bt_bed.specs.Good.{Good, good}
+use Rattle.bt_bed.specs.Order.{Order}
 use Rattle.bt_bed.specs.Rank.{rank_order}
 use Rattle.bt_tool.specs.declared.plan_type.Command.{Command}
-use Rattle.bt_tool.specs.declared.plan_type.Command.TheVariants.{Merge}
-use Rattle.bt_tool.specs.Engine.{run_lines}
-use Rattle.bt_tool.specs.Merged.{merged}
 use Rattle.bt_tool.specs.Options.{PlanSeen, options}
-use Rattle.bt_tool.specs.Settled.{settled}
-use Rattle.bt_tool.specs.Table.{Word, name_of}
+use Rattle.bt_tool.specs.Table.{Word, name_of, tool_of}
 use Rattle.bt_tool.specs.Usage.{usage_text}
+use Rattle.bt_tool.specs.Writes.{Writes, writes_of}
 use Rattle.bt_tool.specs.declared.usage.Usage.{Usage}
 use Rattle.bt_tool.specs.declared.usage.Refusal.{Refusal}
 use Rattle.bt_tool.specs.declared.usage.Refusal.TheVariants.{Usage as InWords, NoMemory}
@@ -24,22 +21,25 @@ pub record Report : Type 0 where
   pub output : List ℕ
   pub fault : Option Told
 
--- the lines of all runs, or where a line is at fault, those that the records before it settle
-abbrev pub merge_good : List (List ℕ) → Good → Option Told → Report
-merge_good names good None = record { output = run_lines (merged names 0 (intervals_of good.records)); fault = None }
-merge_good names good (Some fault) = record { output = run_lines (settled names 0 (intervals_of good.records)); fault = Some fault }
+-- the lines of all records, or where a line is at fault, those that the records before it settle
+abbrev pub good_report : Writes → Good → Option Told → Report
+good_report writes good None = record { output = writes.whole good.records; fault = None }
+good_report writes good (Some fault) = record { output = writes.settled good.records; fault = Some fault }
 
--- the good records of the input merged in the order of the genome file, whose own fault comes first
-abbrev pub merge_on : Result (List Entry) Told → List ℕ → Report
-merge_on (Err fault) first = record { output = []; fault = Some fault }
-merge_on (Ok entries) first =
-    let names = genome_names entries in
-    let records = good First (rank_order names) (text_lines first) in
-    merge_good names records records.fault
+-- the report on the records of an input, in an order of their chromosomes
+abbrev pub records_report : Writes → Order → List ℕ → Report
+records_report writes order first =
+    let records = good First order (text_lines first) in
+    good_report writes records records.fault
+
+-- the report on the records in the order of the genome file, whose own fault comes first
+abbrev pub report_on : Command → Result (List Entry) Told → List ℕ → Report
+report_on command (Err fault) first = record { output = []; fault = Some fault }
+report_on command (Ok entries) first = records_report (writes_of command entries) (rank_order (genome_names entries)) first
 
 -- the report of a plan, on the texts of the genome file, the first and the second input
 unfoldable pub report_of : Command → List ℕ → List ℕ → List ℕ → Report
-report_of Merge genome first second = merge_on (genome_of Genome (text_lines genome)) first
+report_of command genome first second = report_on command (genome_of Genome (text_lines genome)) first
 
 -- the names of a plan's inputs; an input that it doesn't have has none
 abbrev pub names_in : PlanSeen → InputNames
@@ -47,7 +47,7 @@ names_in plan = record { genome = unwrap_or plan.genome []; first = plan.first; 
 
 -- the line that tells a fault of a run of the plan
 abbrev pub fault_text : PlanSeen → Told → List ℕ
-fault_text plan fault = line_of (name_of plan.command) (names_in plan) fault
+fault_text plan fault = line_of (name_of (tool_of plan.command)) (names_in plan) fault
 
 -- the exit status of a run
 abbrev pub status_of : Option Told → ℕ

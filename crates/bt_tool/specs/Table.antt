@@ -1,27 +1,29 @@
 -- The commands, and for each its options, those that it requires, and what their values name.
 -- The options are those of the tool's page in the bedtools manual; that merge has `-g` is this
 -- program's own rule. A later command is a row of `commands` and a table.
-use Rattle.std.specs.Prelude.{ℕ, Bool, false, true, List, [], ◌∷◌, Option, Some, None, bytes_eq, codes, find, length, nat_lt, option_map, IsTrue, IsSome, IsNone}
+use Rattle.std.specs.Prelude.{ℕ, Bool, false, true, ◌||◌, List, [], ◌∷◌, Option, Some, None, bytes_eq, codes, find, is_some, length, nat_lt, option_map, IsTrue, IsSome, IsNone}
 use Rattle.std.specs.List.{list_any}
 use Rattle.std.specs.Option.{option_map_or}
+use Rattle.bt_lines.specs.Number.{value_of as number_of}
 use Rattle.bt_tool.specs.declared.plan_type.Command.{Command}
-use Rattle.bt_tool.specs.declared.plan_type.Command.TheVariants.{Merge}
+use Rattle.bt_tool.specs.declared.plan_type.Command.TheVariants.{Merge as MergeWith, Complement as ComplementWith}
+use Rattle.bt_tool.specs.declared.takes.Takes.{Takes}
+use Rattle.bt_tool.specs.declared.takes.Takes.TheVariants.{Nothing, FileName, Number, Strand}
+use Rattle.bt_tool.specs.declared.tool.Tool.{Tool}
+use Rattle.bt_tool.specs.declared.tool.Tool.TheVariants.{Merge, Complement}
 
 -- a word of the command line, as its bytes
 abbrev pub Word : Type 0
 Word = List ℕ
 
--- what an option takes after its own word: nothing, or the name of a file
-pub data Takes : Type 0 where
-  nothing : Takes
-  file_name : Takes
-
--- whether an option may stand with this value, or without one
+-- whether an option may stand with this value, or without one: a file name isn't empty, a number is one of bt_lines, and a strand is `+` or `-`
 abbrev pub fits : Takes → Option Word → Bool
-fits nothing None = true
-fits nothing (Some value) = false
-fits file_name None = false
-fits file_name (Some value) = nat_lt 0 (length value)
+fits Nothing None = true
+fits Nothing (Some value) = false
+fits takes None = false
+fits FileName (Some value) = nat_lt 0 (length value)
+fits Number (Some value) = is_some (number_of value)
+fits Strand (Some value) = bytes_eq value (codes "+") || bytes_eq value (codes "-")
 
 -- an option of a command
 pub record Row : Type 0 where
@@ -58,8 +60,10 @@ IsNamedBy table option name =
 
 abbrev pub merge_table : Table
 merge_table = record {
-  options = record { option = codes "-i"; takes = file_name }
-      ∷ record { option = codes "-g"; takes = file_name }
+  options = record { option = codes "-i"; takes = FileName }
+      ∷ record { option = codes "-g"; takes = FileName }
+      ∷ record { option = codes "-d"; takes = Number }
+      ∷ record { option = codes "-S"; takes = Strand }
       ∷ [];
   required = codes "-g" ∷ [];
   exclusive = [];
@@ -69,16 +73,37 @@ merge_table = record {
   output = None;
 }
 
-abbrev pub table_of : Command → Table
+abbrev pub complement_table : Table
+complement_table = record {
+  options = record { option = codes "-i"; takes = FileName }
+      ∷ record { option = codes "-g"; takes = FileName }
+      ∷ record { option = codes "-L"; takes = Nothing }
+      ∷ [];
+  required = codes "-g" ∷ [];
+  exclusive = [];
+  genome = Some (codes "-g");
+  first = codes "-i";
+  second = None;
+  output = None;
+}
+
+abbrev pub table_of : Tool → Table
 table_of Merge = merge_table
+table_of Complement = complement_table
 
--- the commands by their names
-abbrev pub commands : List (Word × Command)
-commands = (codes "merge", Merge) ∷ []
+-- the tools by their names
+abbrev pub commands : List (Word × Tool)
+commands = (codes "merge", Merge) ∷ (codes "complement", Complement) ∷ []
 
-abbrev pub command_named : Word → Option Command
+abbrev pub command_named : Word → Option Tool
 command_named word = option_map (λ row. row.1) (find (λ row. bytes_eq word row.0) commands)
 
--- the word that names a command
-abbrev pub name_of : Command → Word
+-- the word that names a tool
+abbrev pub name_of : Tool → Word
 name_of Merge = codes "merge"
+name_of Complement = codes "complement"
+
+-- the tool of a command
+abbrev pub tool_of : Command → Tool
+tool_of (MergeWith d strand) = Merge
+tool_of (ComplementWith limit) = Complement

@@ -1,24 +1,27 @@
 //! The seven tools, from a list of words and the bytes of the inputs to the bytes written.
 #![tactic(auto)]
 
-mod bed_line;
+mod driving;
 mod flushing;
-pub mod laws;
-mod merge;
-mod merging;
+mod given;
+mod item;
 pub mod option_laws;
 mod options;
 mod outcome;
-mod plain;
 mod plan_type;
 mod running;
+mod takes;
+mod tool;
 mod usage;
 
 pub use options::plan;
 pub use outcome::Outcome;
 pub use plan_type::{Command, Plan};
 pub use running::{Ended, run};
+pub use tool::Tool;
 pub use usage::{Refusal, Usage, usage_line};
 
+#[cfg(test)]
+mod command_tests;
 #[cfg(test)]
 mod tests;

@@ -1,123 +1,100 @@
-//! The reader of the command line: it divides the words after the command into items, an option
-//! and its value each, keeps the last value of every option, and makes the plan of them.
+//! The plan of a command line: the last value of every option counts.
 
-ghost use Rattle.std.specs.Prelude.{◌≡◌, ◌+◌, ◌<◌, ◌≤◌, ◌∷◌, OnOk, Ok, Err, List, Some, None, MatchOption, MatchResult, IfOk, IfErr, drop, length};
-ghost use Rattle.bt_tool.specs.Given.{word_of, valued, IsGivenBy, first_name_of};
-ghost use Rattle.bt_tool.specs.Items.{IsItem, items_of};
-ghost use Rattle.bt_tool.specs.Options.{command_of, is_standard_input, options, word_fault, plan_of, settled, IsSettled};
+ghost use Rattle.std.specs.Prelude.{◌≡◌, ◌≤◌, OnOk, Ok, Err, Some, None, IsSome, IsTrue, MatchResult, IfOk, IfErr, length, option_map};
+ghost use Rattle.bt_tool.specs.Limits.{is_within_limits};
+ghost use Rattle.bt_tool.specs.Given.{items_in};
+ghost use Rattle.bt_tool.specs.Options.{command_by, command_of, is_given, is_standard_input, number_by, options, plan_of, settled, strand_by, value_of};
 ghost use Rattle.bt_tool.specs.Plan.{seen, words_seen};
 ghost use Rattle.bt_tool.specs.Refusal.{CanBeTold, IsRefusalOf};
 ghost use Rattle.bt_tool.specs.Report.{ReportsPlan, ReportsRefusal};
-ghost use Rattle.bt_tool.specs.Table.{Word, file_name, table_of, takes, IsNamedBy};
 ghost use Rattle.bt_tool.specs.Usage.{no_command};
 
+use crate::given::Given;
 use crate::plan_type::{Command, Plan};
+use crate::tool::Tool;
 use crate::usage::{Kind, Refusal, Usage};
+use bt_bed::Strand;
+use bt_lines::number;
+use bt_runs::MergeStrand;
 use std::alloc::{AllocError, Global};
 
-/// An option of some command, by what its value names.
-#[derive(Clone, Copy)]
-enum Choice {
-    First,
-    Genome,
-}
-
-/// The values of the options, each that of its last item so far.
-#[derive(Clone, Copy)]
-struct Given<'a> {
-    first: Option<&'a str>,
-    genome: Option<&'a str>,
-}
-
-impl<'a> Given<'a> {
-    /// The name of the first input.
-    fn first_name(self) -> &'a str
-        ensures { result.now ≡ first_name_of self.entry }
-    {
-        self.first.unwrap_or("stdin")
-    }
-}
-
-/// The command that the first word names.
-fn named_command(words: &[String]) -> Result<Command, Usage>
+// The tool that the first word names.
+fn named_tool(words: &[String]) -> Result<Tool, Usage>
     ensures { MatchResult result
-        (λ command. command_of (words_seen words.now) ≡ Some command)
+        (λ tool. command_of (words_seen words.now) ≡ Some tool)
         (λ usage. (command_of (words_seen words.now) ≡ None) × (usage ≡ no_command)) }
 {
     let unknown = Usage::new(Kind::NoCommand);
     let name = words.first().ok_or(unknown)?;
-    Command::named(name.as_str()).ok_or(unknown)
+    Tool::named(name.as_str()).ok_or(unknown)
 }
 
-/// The command's option of this word.
-fn choice_of(command: Command, word: &str) -> Option<Choice>
-    ensures { MatchOption result
-        (takes (table_of command) word.now ≡ None)
-        (λ choice. (takes (table_of command) word.now ≡ Some file_name)
-        × (word.now ≡ word_of choice)) }
+// The value of an option, if it was given with one.
+fn value_of<'a>(given: Given<'a>, option: &str) -> Option<&'a str>
+    ensures { option_map (λ value. value.now) result ≡ value_of (items_in given.entry) option.now }
 {
-    match command {
-        Command::Merge => match word {
-            "-i" => Some(Choice::First),
-            "-g" => Some(Choice::Genome),
-            _ => None,
+    given.last(option)?.value
+}
+
+// Whether an option was given.
+fn is_given(given: Given<'_>, option: &str) -> bool
+    ensures { result ≡ is_given (items_in given.entry) option.now }
+{
+    given.last(option).is_some()
+}
+
+// The name of the first input.
+fn first_name<'a>(given: Given<'a>) -> &'a str
+    ensures { result.now ≡ (plan_of given.entry.tool (items_in given.entry)).first }
+{
+    value_of(given, "-i").unwrap_or("stdin")
+}
+
+// The name of the genome file.
+fn genome_name<'a>(given: Given<'a>) -> Option<&'a str>
+    ensures { option_map (λ name. name.now) result
+        ≡ (plan_of given.entry.tool (items_in given.entry)).genome }
+{
+    value_of(given, "-g")
+}
+
+// What the options ask the tool for.
+fn command(given: Given<'_>) -> Command
+    ensures asked { result ≡ command_by given.entry.tool (items_in given.entry) }
+    ensures limits { IsTrue (is_within_limits result) }
+{
+    match given.tool {
+        Tool::Merge => Command::Merge {
+            d: number_of(value_of(given, "-d")),
+            strand: strand_of(value_of(given, "-S")),
+        },
+        Tool::Complement => Command::Complement {
+            limit: is_given(given, "-L"),
         },
     }
 }
 
-/// An option as it is given once.
-#[derive(Clone, Copy)]
-struct Item<'a> {
-    choice: Choice,
-    value: &'a str,
+// The number of a value, 0 without one.
+fn number_of(value: Option<&str>) -> u64
+    ensures value { result ≡ number_by (option_map (λ value. value.now) value.entry) }
+    ensures limit { result ≤ 999999999999 }
+{
+    match value {
+        Some(value) => number(value.as_bytes()).unwrap_or(0),
+        None => 0,
+    }
 }
 
-/// The item that begins at this index.
-fn item_at(command: Command, words: &[String], at: usize) -> Result<Item<'_>, Usage>
-    requires { at < length words.now }
-    ensures item { IfOk result
-        (λ item. IsItem (table_of command) (valued (word_of item.choice) item.value.now)) }
-    ensures here { IfOk result (λ item. drop at (words_seen words.now)
-        ≡ word_of item.choice ∷ item.value.now ∷ drop (at + 2) (words_seen words.now)) }
-    ensures within { OnOk result (at + 2 ≤ length words.now) }
-    ensures fault { IfErr result (λ usage.
-        word_fault (table_of command) at (drop at (words_seen words.now)) ≡ Some usage) }
+// The strand whose records are merged: without a value all are.
+fn strand_of(value: Option<&str>) -> MergeStrand
+    ensures { result ≡ strand_by (option_map (λ value. value.now) value.entry) }
 {
-    let Some(choice) = choice_of(command, words[at].as_str()) else {
-        return Err(Usage::of_option(Kind::UnknownOption, at));
-    };
-    let Some(value) = words.get(at + 1) else {
-        return Err(Usage::of_option(Kind::ValueMissing, at));
-    };
-    if value.is_empty() {
-        return Err(Usage::of_option(Kind::BadValue, at));
+    match value {
+        None => MergeStrand::All,
+        Some("+") => MergeStrand::One(Strand::Plus),
+        Some("-") => MergeStrand::One(Strand::Minus),
+        Some(_) => MergeStrand::One(Strand::Dot),
     }
-    Ok(Item {
-        choice,
-        value: value.as_str(),
-    })
-}
-
-/// The values of the command's options, once every word after the command is read.
-fn read(command: Command, words: &[String]) -> Result<Given<'_>, Usage>
-    ensures { MatchResult result
-        (IsGivenBy (table_of command) (drop 1 (words_seen words.now)))
-        (λ usage. word_fault (table_of command) 1 (drop 1 (words_seen words.now)) ≡ Some usage) }
-{
-    let mut given = Given {
-        first: None,
-        genome: None,
-    };
-    let mut at = 1;
-    while at < words.len() {
-        let item = item_at(command, words, at)?;
-        match item.choice {
-            Choice::First => given.first = Some(item.value),
-            Choice::Genome => given.genome = Some(item.value),
-        }
-        at += 2;
-    }
-    Ok(given)
 }
 
 fn is_standard_input(name: &str) -> bool
@@ -126,39 +103,36 @@ fn is_standard_input(name: &str) -> bool
     name == "-" || name == "stdin"
 }
 
-/// What the options have or lack together, once all are read.
-fn check(command: Command, given: Given<'_>) -> Result<(), Usage>
-    ensures settles { (words : List Word) → IsGivenBy (table_of command) words given.entry
-        → MatchResult result
-        (λ _. IsSettled command (items_of (table_of command) words))
-        (λ usage. settled command (items_of (table_of command) words) ≡ Err usage) }
+// What the options have or lack together.
+fn check(given: Given<'_>) -> Result<(), Usage>
+    ensures settles { MatchResult result
+        (λ _. settled given.entry.tool (items_in given.entry)
+        ≡ Ok (plan_of given.entry.tool (items_in given.entry)))
+        (λ usage. settled given.entry.tool (items_in given.entry) ≡ Err usage) }
     ensures genome { OnOk result
-        (IsNamedBy (table_of command) (table_of command).genome given.entry.genome) }
+        (IsSome (plan_of given.entry.tool (items_in given.entry)).genome) }
 {
-    if command.requires_genome() && given.genome.is_none() {
+    let Some(genome) = genome_name(given) else {
         return Err(Usage::new(Kind::RequiredMissing));
-    }
-    let genome_is_standard = given.genome.is_some_and(is_standard_input);
-    if genome_is_standard && is_standard_input(given.first_name()) {
+    };
+    if is_standard_input(genome) && is_standard_input(first_name(given)) {
         return Err(Usage::new(Kind::InputNamedTwice));
     }
     Ok(())
 }
 
-/// The plan of these values, with copies of the names.
-fn made(alloc: Global, command: Command, given: Given<'_>) -> Result<Plan, AllocError>
-    requires { IsNamedBy (table_of command) (table_of command).genome given.genome }
-    ensures { IfOk result (λ plan. (words : List Word)
-        → IsGivenBy (table_of command) words given.entry
-        → seen plan ≡ plan_of command (items_of (table_of command) words)) }
+// The plan of these items, with copies of the names.
+fn made(alloc: Global, given: Given<'_>) -> Result<Plan, AllocError>
+    requires { IsSome (plan_of given.tool (items_in given)).genome }
+    ensures { IfOk result (λ plan. seen plan ≡ plan_of given.entry.tool (items_in given.entry)) }
 {
-    let genome = match given.genome {
+    let genome = match genome_name(given) {
         Some(name) => Some(String::from_str(alloc, name)?),
         None => None,
     };
-    let first = String::from_str(alloc, given.first_name())?;
+    let first = String::from_str(alloc, first_name(given))?;
     Ok(Plan {
-        command,
+        command: command(given),
         genome,
         first,
         second: None,
@@ -187,10 +161,10 @@ fn planned(alloc: Global, words: &[String]) -> Result<Plan, Refusal>
     ensures refused { IfErr result (IsRefusalOf (words_seen words.now)) }
     ensures tellable { IfErr result (CanBeTold (length words.now)) }
 {
-    let command = named_command(words)?;
-    let given = read(command, words)?;
-    check(command, given)?;
-    Ok(made(alloc, command, given)?)
+    let tool = named_tool(words)?;
+    let given = Given::read(tool, words)?;
+    check(given)?;
+    Ok(made(alloc, given)?)
 }
 
 #[cfg(test)]

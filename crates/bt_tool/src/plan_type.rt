@@ -1,41 +1,41 @@
 //! What the words of a command line ask for.
 
-ghost use Rattle.bt_tool.specs.Table.{table_of, IsNamedBy};
+ghost use Rattle.bt_tool.specs.Limits.{is_within_limits};
+ghost use Rattle.bt_tool.specs.Table.{table_of, tool_of, IsNamedBy};
+ghost use Rattle.std.specs.Prelude.{IsTrue};
 
-/// A tool.
+use crate::tool::Tool;
+use bt_runs::MergeStrand;
+
+/// A tool, with what its options ask for.
 #[derive(Clone, Copy, Debug, PartialEq, Eq)]
 pub enum Command {
-    Merge,
+    /// Features that overlap or touch are merged, and those up to `d` bases apart.
+    Merge { d: u64, strand: MergeStrand },
+    /// The parts of each chromosome that no feature covers; with `limit` only of those chromosomes that
+    /// have records.
+    Complement { limit: bool },
 }
 
 impl Command {
     ghost use Rattle.std.specs.Prelude.{◌≡◌};
-    ghost use Rattle.bt_tool.specs.Table.{command_named, is_required, name_of, table_of};
+    ghost use Rattle.bt_tool.specs.Table.{name_of};
 
-    pub(crate) fn named(name: &str) -> Option<Command>
-        ensures { result ≡ command_named name.now }
+    /// The tool.
+    pub(crate) fn tool(self) -> Tool
+        ensures { result ≡ tool_of self }
     {
-        match name {
-            "merge" => Some(Command::Merge),
-            _ => None,
+        match self {
+            Command::Merge { .. } => Tool::Merge,
+            Command::Complement { .. } => Tool::Complement,
         }
     }
 
     /// The word that names the tool.
     pub fn name(self) -> &'static str
-        ensures { result.now ≡ name_of self }
+        ensures { result.now ≡ name_of (tool_of self) }
     {
-        match self {
-            Command::Merge => "merge",
-        }
-    }
-
-    pub(crate) fn requires_genome(self) -> bool
-        ensures { result ≡ is_required (table_of self) (table_of self).genome }
-    {
-        match self {
-            Command::Merge => true,
-        }
+        self.tool().name()
     }
 }
 
@@ -50,7 +50,8 @@ pub struct Plan {
     pub second: Option<String>,
     /// `None` is standard output.
     pub output: Option<String>,
-    pub ghost genome_named: { IsNamedBy (table_of command) (table_of command).genome genome },
-    pub ghost second_named: { IsNamedBy (table_of command) (table_of command).second second },
-    pub ghost output_named: { IsNamedBy (table_of command) (table_of command).output output },
+    pub ghost limits: { IsTrue (is_within_limits command) },
+    pub ghost genome_named: { IsNamedBy (table_of (tool_of command)) (table_of (tool_of command)).genome genome },
+    pub ghost second_named: { IsNamedBy (table_of (tool_of command)) (table_of (tool_of command)).second second },
+    pub ghost output_named: { IsNamedBy (table_of (tool_of command)) (table_of (tool_of command)).output output },
 }

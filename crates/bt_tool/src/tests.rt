@@ -6,7 +6,7 @@ use std::alloc::{AllocError, Global};
 use std::test::Fail;
 
 // The genome file of the cases that name no other.
-const GENOME: &[u8] = b"chr1\t1000\nchr2\t50\n";
+pub(crate) const GENOME: &[u8] = b"chr1\t1000\nchr2\t50\n";
 
 // A run of `merge` over scripts, and what it gives.
 #[derive(Clone, Copy)]
@@ -235,21 +235,21 @@ fn strings(alloc: Global, words: &[&str]) -> Result<Vec<String>, AllocError> {
 
 // How many bytes a scripted device moves a call, and how many bytes are good.
 #[derive(Clone, Copy)]
-struct Script {
+pub(crate) struct Script {
     step: usize,
     good: Option<usize>,
     ghost moves: { 0 < step },
 }
 
 // A device that serves to the end.
-fn whole(step: usize) -> Script
+pub(crate) fn whole(step: usize) -> Script
     requires { 0 < step }
 {
     Script { step, good: None }
 }
 
 // A device that fails once so many bytes were moved.
-fn failing(good: usize) -> Script {
+pub(crate) fn failing(good: usize) -> Script {
     Script {
         step: 7,
         good: Some(good),
@@ -268,10 +268,10 @@ fn source_if<'a>(name: &Option<String>, bytes: &'a [u8], script: Script) -> Opti
 
 // What a run gives, or what its plan is refused with.
 #[derive(Drop)]
-struct Answer {
-    output: Vec<u8>,
-    line: Option<Vec<u8>>,
-    status: u8,
+pub(crate) struct Answer {
+    pub(crate) output: Vec<u8>,
+    pub(crate) line: Option<Vec<u8>>,
+    pub(crate) status: u8,
 }
 
 // Plans and runs `merge -i a.bed -g g.txt` over scripts.
@@ -281,7 +281,19 @@ fn merge(
     first: (&[u8], Script),
     out: Script,
 ) -> Result<Answer, Fail> {
-    let words = strings(alloc, &["merge", "-i", "a.bed", "-g", "g.txt"])?;
+    let words = ["merge", "-i", "a.bed", "-g", "g.txt"];
+    run_words(alloc, &words, genome, first, out)
+}
+
+// Plans and runs these words over scripts.
+pub(crate) fn run_words(
+    alloc: Global,
+    words: &[&str],
+    genome: (&[u8], Script),
+    first: (&[u8], Script),
+    out: Script,
+) -> Result<Answer, Fail> {
+    let words = strings(alloc, words)?;
     let plan = plan(alloc, words.as_slice()).ok().ok_or("a plan")?;
     let ended = run(
         alloc,
@@ -299,7 +311,7 @@ fn merge(
 }
 
 // The line that an answer tells, or an empty one.
-fn line_of(answer: &Answer) -> &[u8] {
+pub(crate) fn line_of(answer: &Answer) -> &[u8] {
     match &answer.line {
         Some(line) => line.as_slice(),
         None => b"",

@@ -4,18 +4,59 @@ use crate::usage::usage_line;
 use std::test::Fail;
 
 /// The words, and the plan or the line on standard error that they give.
-const CASES: [(&[&str], &str); 22] = [
+const CASES: [(&[&str], &str); 39] = [
     (&[], "bedtools: no or unknown command\n"),
-    (
-        &["complement", "-g", "g"],
-        "bedtools: no or unknown command\n",
-    ),
     (&["", "-g", "g"], "bedtools: no or unknown command\n"),
     (&["-g", "g", "merge"], "bedtools: no or unknown command\n"),
     (&["merge", "-q"], "bedtools: unknown option: -q\n"),
     (
-        &["merge", "-d", "5", "-g", "g"],
+        &["merge", "-s", "-g", "g"],
+        "bedtools: unknown option: -s\n",
+    ),
+    (
+        &["complement", "-g", "g", "-d", "5"],
         "bedtools: unknown option: -d\n",
+    ),
+    (
+        &["merge", "-L", "-g", "g"],
+        "bedtools: unknown option: -L\n",
+    ),
+    (&["merge", "-d"], "bedtools: value missing: -d\n"),
+    (&["merge", "-g", "g", "-S"], "bedtools: value missing: -S\n"),
+    (&["merge", "-d", "x"], "bedtools: bad value: -d\n"),
+    (&["merge", "-d", "-1"], "bedtools: bad value: -d\n"),
+    (&["merge", "-d", ""], "bedtools: bad value: -d\n"),
+    (
+        &["merge", "-d", "1000000000000"],
+        "bedtools: bad value: -d\n",
+    ),
+    (&["merge", "-S", "."], "bedtools: bad value: -S\n"),
+    (&["merge", "-S", "++"], "bedtools: bad value: -S\n"),
+    (&["complement"], "bedtools: required option missing\n"),
+    (&["complement", "-L"], "bedtools: required option missing\n"),
+    (
+        &["complement", "-g", "-", "-L"],
+        "bedtools: standard input named twice\n",
+    ),
+    (
+        &["complement", "-L", "-g", "g", "-L"],
+        "Complement { limit: true } Some(\"g\") stdin None None",
+    ),
+    (
+        &["complement", "-g", "g", "-i", "a"],
+        "Complement { limit: false } Some(\"g\") a None None",
+    ),
+    (
+        &["merge", "-g", "g", "-d", "1", "-d", "5"],
+        "Merge { d: 5, strand: All } Some(\"g\") stdin None None",
+    ),
+    (
+        &["merge", "-g", "g", "-d", "007", "-S", "-", "-S", "+"],
+        "Merge { d: 7, strand: One(Plus) } Some(\"g\") stdin None None",
+    ),
+    (
+        &["merge", "-S", "-", "-g", "g", "-d", "999999999999"],
+        "Merge { d: 999999999999, strand: One(Minus) } Some(\"g\") stdin None None",
     ),
     (
         &["merge", "-g", "g", "a.bed"],
@@ -39,26 +80,29 @@ const CASES: [(&[&str], &str); 22] = [
         &["merge", "-i", "stdin", "-g", "-"],
         "bedtools: standard input named twice\n",
     ),
-    (&["merge", "-g", "g"], "merge Some(\"g\") stdin None None"),
+    (
+        &["merge", "-g", "g"],
+        "Merge { d: 0, strand: All } Some(\"g\") stdin None None",
+    ),
     (
         &["merge", "-g", "-", "-i", "a.bed"],
-        "merge Some(\"-\") a.bed None None",
+        "Merge { d: 0, strand: All } Some(\"-\") a.bed None None",
     ),
     (
         &["merge", "-i", "-", "-g", "g"],
-        "merge Some(\"g\") - None None",
+        "Merge { d: 0, strand: All } Some(\"g\") - None None",
     ),
     (
         &["merge", "-g", "a", "-g", "b"],
-        "merge Some(\"b\") stdin None None",
+        "Merge { d: 0, strand: All } Some(\"b\") stdin None None",
     ),
     (
         &["merge", "-i", "-g", "-g", "-i"],
-        "merge Some(\"-i\") -g None None",
+        "Merge { d: 0, strand: All } Some(\"-i\") -g None None",
     ),
     (
         &["merge", "-g", "-", "-i", "stdin", "-i", "a"],
-        "merge Some(\"-\") a None None",
+        "Merge { d: 0, strand: All } Some(\"-\") a None None",
     ),
 ];
 
@@ -70,10 +114,7 @@ fn shown(alloc: Global, plan: &Plan) -> Result<String, AllocError> {
         second,
         output,
     } = plan;
-    let name = match command {
-        Command::Merge => "merge",
-    };
-    format!(in alloc; "{name} {genome:?} {first} {second:?} {output:?}")
+    format!(in alloc; "{command:?} {genome:?} {first} {second:?} {output:?}")
 }
 
 fn owned(alloc: Global, texts: &[&str]) -> Result<Vec<String>, AllocError> {

@@ -1,16 +1,17 @@
-use Rattle.std.proofs.Common.{Ok, Err, drop, ◌∙◌, ap, sym}
+use Rattle.std.proofs.Common.{Ok, Err, ◌∙◌, ap, sym}
 use Rattle.std.proofs.lemmas.List.{length-map}
 use Rattle.std.specs.Prelude.{is_ok, string_bytes}
 use Rattle.std.proofs.lemmas.Result.{err_from_is_err_and}
 use Rattle.bt_tool.specs.Plan.{words_seen}
-use Rattle.bt_tool.proofs.Asked.{options-no_command, options-fault, options-settled, options-tellable}
+use Rattle.bt_tool.proofs.Asked.{options-no_command, options-fault, options-tellable}
+use Rattle.bt_tool.proofs.GivenLemmas.{options-given}
 use Rattle.bt_tool.proofs.options.planned.Goals as goal
 
-pub returns-in_err-command-clause-refused : goal.returns-in_err-command-clause-refused
-returns-in_err-command-clause-refused c =
+pub returns-in_err-tool-clause-refused : goal.returns-in_err-tool-clause-refused
+returns-in_err-tool-clause-refused c =
     let exit = c.from_residual in
     let told = err_from_is_err_and exit.result exit.ensures.1 in
-    let unnamed = c.in_err-command.ensures in
+    let unnamed = c.in_err-tool.ensures in
     let words = words_seen c.args.words.now in
     rw (told.1, told.2) (options-no_command words unnamed.0 ∙ ap Err (sym unnamed.1))
 
@@ -19,9 +20,9 @@ returns-in_err-given-clause-refused c =
     let exit = c.from_residual-in_err-given in
     let told = err_from_is_err_and exit.result exit.ensures.1 in
     let words = words_seen c.args.words.now in
-    let named = c.in_ok-command in
+    let named = c.in_ok-tool in
     rw (told.1, told.2)
-    (options-fault words named.command c.in_err-given.field-0.0 named.ensures
+    (options-fault words named.tool c.in_err-given.field-0.0 named.ensures
     c.in_err-given.ensures)
 
 pub returns-in_err-given-clause-tellable : goal.returns-in_err-given-clause-tellable
@@ -29,9 +30,9 @@ returns-in_err-given-clause-tellable c =
     let exit = c.from_residual-in_err-given in
     let told = err_from_is_err_and exit.result exit.ensures.1 in
     let words = words_seen c.args.words.now in
-    let named = c.in_ok-command in
+    let named = c.in_ok-tool in
     let usage = c.in_err-given.field-0.0 in
-    let fault = options-fault words named.command usage named.ensures c.in_err-given.ensures in
+    let fault = options-fault words named.tool usage named.ensures c.in_err-given.ensures in
     let tellable = options-tellable words usage fault in
     rw (told.1, told.2) (rw (length-map c.args.words.now string_bytes) at tellable)
 
@@ -39,29 +40,18 @@ pub returns-in_err-check-clause-refused : goal.returns-in_err-check-clause-refus
 returns-in_err-check-clause-refused c =
     let exit = c.from_residual-in_err-check in
     let told = err_from_is_err_and exit.result exit.ensures.1 in
-    let words = words_seen c.args.words.now in
-    let named = c.in_ok-command in
-    let given = c.in_ok-given.ensures in
-    rw (told.1, told.2)
-    (options-settled words named.command named.ensures given.no_fault
-    ∙ c.in_err-check.ensures.settles (drop 1 words) given)
+    let given = options-given c.args.words.now c.in_ok-given.given c.in_ok-tool.tool c.in_ok-given.ensures c.in_ok-tool.ensures in
+    rw (told.1, told.2) (given ∙ c.in_err-check.ensures.settles)
 
 pub returns-in_err-made-clause-refused : goal.returns-in_err-made-clause-refused
 returns-in_err-made-clause-refused c =
     let exit = c.from_residual-in_err-made in
     let told = err_from_is_err_and exit.result exit.ensures.1 in
-    let words = words_seen c.args.words.now in
-    let named = c.in_ok-command in
-    let given = c.in_ok-given.ensures in
-    let planned = options-settled words named.command named.ensures given.no_fault
-    ∙ c.in_ok-check.ensures.settles (drop 1 words) given in
-    rw (told.1, told.2) (ap is_ok planned)
+    let given = options-given c.args.words.now c.in_ok-given.given c.in_ok-tool.tool c.in_ok-given.ensures c.in_ok-tool.ensures in
+    rw (told.1, told.2) (ap is_ok (given ∙ c.in_ok-check.ensures.settles))
 
 pub returns-clause-asked : goal.returns-clause-asked
 returns-clause-asked c =
-    let words = words_seen c.args.words.now in
-    let named = c.in_ok-command in
-    let given = c.in_ok-given.ensures in
-    options-settled words named.command named.ensures given.no_fault
-    ∙ c.in_ok-check.ensures.settles (drop 1 words) given
-    ∙ ap Ok (sym (c.in_ok-made.ensures (drop 1 words) given))
+    options-given c.args.words.now c.in_ok-given.given c.in_ok-tool.tool c.in_ok-given.ensures c.in_ok-tool.ensures
+    ∙ c.in_ok-check.ensures.settles
+    ∙ ap Ok (sym c.in_ok-made.ensures)

@@ -1,0 +1,59 @@
+-- Which runs a record has passed.
+use Rattle.std.proofs.Common.{◌≡◌, ℕ, ◌+◌, ◌<◌, ◌≤◌, inl, inr, List, [], ◌∷◌, ◌++◌, refl, ap, ◌∙◌, arith, map, filter, true, false, not, bytes_eq, nat_lt, lt-ltb, le-ltb}
+use Rattle.std.proofs.lemmas.Bool.{cond-true, or_cases, or_from, or_left, or_right, or_parts, not_from_true, not_from_false, ltb-true}
+use Rattle.std.proofs.lemmas.List.Elements.{filter-append}
+use Rattle.bt_bed.specs.Interval.{Interval, Span, placed_on, spans_on}
+use Rattle.bt_bed.specs.Rank.{is_among}
+use Rattle.bt_bed.proofs.NameLemmas.{name_eq}
+use Rattle.bt_runs.specs.Merged.{runs_of, runs_on, merged}
+use Rattle.bt_runs.specs.MergedRuns.{is_passed}
+use Rattle.bt_runs.proofs.Bridging.{AreApartBy}
+
+pub passed_elsewhere : (gap : ℕ) (last run : Interval) → bytes_eq run.chrom last.chrom ≡ false → is_passed gap last run ≡ true
+passed_elsewhere gap last run other = or_left (not (bytes_eq run.chrom last.chrom)) (nat_lt (run.stop + gap) last.start) (not_from_false (bytes_eq run.chrom last.chrom) other)
+
+pub passed_far : (gap : ℕ) (last run : Interval) → run.stop + gap < last.start → is_passed gap last run ≡ true
+passed_far gap last run far = or_right (not (bytes_eq run.chrom last.chrom)) (nat_lt (run.stop + gap) last.start) (lt-ltb (run.stop + gap) last.start far)
+
+pub not_passed : (gap : ℕ) (last run : Interval) → run.chrom ≡ last.chrom → last.start ≤ run.stop + gap → is_passed gap last run ≡ false
+not_passed gap last run same near = or_from (not (bytes_eq run.chrom last.chrom)) (nat_lt (run.stop + gap) last.start) (not_from_true (bytes_eq run.chrom last.chrom) (name_eq run.chrom last.chrom same)) (le-ltb (run.stop + gap) last.start near)
+
+-- a later record on the chromosome of an earlier one has passed what that one has
+pub passed_later : (gap : ℕ) (earlier later run : Interval) → later.chrom ≡ earlier.chrom → earlier.start ≤ later.start → is_passed gap earlier run ≡ true → is_passed gap later run ≡ true
+passed_later gap earlier later run same up passed =
+    elim (or_cases (not (bytes_eq run.chrom earlier.chrom)) (nat_lt (run.stop + gap) earlier.start) passed) [
+      | inl other ↦ or_left (not (bytes_eq run.chrom later.chrom)) (nat_lt (run.stop + gap) later.start) (rw same other)
+      | inr far ↦ passed_far gap later run (let h = ltb-true (run.stop + gap) earlier.start far in omega arith)
+    ]
+
+-- a record has passed all runs on other chromosomes than its own
+pub placed_elsewhere : (gap : ℕ) (last : Interval) (name : List ℕ) (spans : List Span) → bytes_eq name last.chrom ≡ false → filter (is_passed gap last) (map (placed_on name) spans) ≡ map (placed_on name) spans
+placed_elsewhere gap last name [] other = refl
+placed_elsewhere gap last name (s ∷ ss) other =
+    let others : List Interval = filter (is_passed gap last) (map (placed_on name) ss) in
+    cond-true (is_passed gap last (placed_on name s)) (placed_on name s ∷ others) others (passed_elsewhere gap last (placed_on name s) other)
+    ∙ ap (λ runs. placed_on name s ∷ runs) (placed_elsewhere gap last name ss other)
+
+pub passed_others : (gap : ℕ) (last : Interval) (names : List (List ℕ)) (records : List Interval) → is_among names last.chrom ≡ false → filter (is_passed gap last) (merged names gap records) ≡ merged names gap records
+unfolding merged
+passed_others gap last [] records absent = refl
+passed_others gap last (n ∷ ns) records absent =
+    let parts = or_parts (bytes_eq n last.chrom) (is_among ns last.chrom) absent in
+    let here = placed_elsewhere gap last n (runs_of gap (spans_on n records)) parts.0 in
+    let rest = passed_others gap last ns records parts.1 in
+    filter-append (is_passed gap last) (runs_on n gap records) (merged ns gap records)
+    ∙ ap (λ runs. runs ++ filter (is_passed gap last) (merged ns gap records)) here
+    ∙ ap (λ runs. runs_on n gap records ++ runs) rest
+
+first_up_to : (gap first : ℕ) (done : List Span) (run : Span) → AreApartBy gap first (done ++ run ∷ []) → first ≤ run.start
+first_up_to gap first [] run a = a.0
+first_up_to gap first (x ∷ done) run a = let h = first_up_to gap (x.stop + gap + 1) done run a.2 in omega arith
+
+-- a record at or past the start of the last run has passed those before that
+pub passed_before : (gap first : ℕ) (last : Interval) (name : List ℕ) (done : List Span) (run : Span) → AreApartBy gap first (done ++ run ∷ []) → run.start ≤ last.start → filter (is_passed gap last) (map (placed_on name) done) ≡ map (placed_on name) done
+passed_before gap first last name [] run apart up = refl
+passed_before gap first last name (x ∷ done) run apart up =
+    let low = first_up_to gap (x.stop + gap + 1) done run apart.2 in
+    let others : List Interval = filter (is_passed gap last) (map (placed_on name) done) in
+    cond-true (is_passed gap last (placed_on name x)) (placed_on name x ∷ others) others (passed_far gap last (placed_on name x) (omega arith))
+    ∙ ap (λ runs. placed_on name x ∷ runs) (passed_before gap (x.stop + gap + 1) last name done run apart.2 up)

@@ -1,0 +1,8 @@
+use Rattle.std.proofs.Common.{ℕ, ◌+◌, ◌-◌, ◌<◌, ◌≤◌}
+use Rattle.bt_bed.specs.Stretches.{IsCovered}
+use Rattle.bt_runs.specs.Plain.{spans_in}
+use Rattle.bt_runs.proofs.plain.has_right.Given as goal
+
+-- no covered position so far is near
+abbrev pub invariant-loop-right : goal.invariant-loop-right
+invariant-loop-right l = (k : ℕ) → l.position ≤ k → k < l.right → IsCovered (spans_in l.spans) k → k - l.left ≤ l.gap + 1 → ⊥

@@ -1,0 +1,15 @@
+pub mod Lines
+pub mod Putting
+pub mod Writing
+pub mod Merged
+pub mod Counted
+pub mod MergedRuns
+pub mod Plain
+pub mod Merging
+pub mod MergeStep
+pub mod Taking
+pub mod Gaps
+pub mod GapStep
+pub mod Complementing
+pub mod Settling
+pub mod Ended

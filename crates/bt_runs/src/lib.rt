@@ -1,0 +1,21 @@
+//! The engines that take the records of one sorted input: merge and complement.
+//!
+//! Each is an [`Engine`]: it is fed one record after another, and writes each line of its output as
+//! soon as no later record can change it.
+#![tactic(auto)]
+
+mod bed_line;
+mod complement;
+pub mod complement_laws;
+mod ended;
+mod engine;
+pub mod laws;
+mod merge;
+mod merge_strand;
+pub mod plain;
+pub mod plain_gaps;
+
+pub use complement::Complement;
+pub use engine::Engine;
+pub use merge::Merge;
+pub use merge_strand::MergeStrand;

@@ -1,0 +1,214 @@
+//! The engine of `bedtools merge`: one open run, which each record extends or leaves behind.
+
+ghost use Rattle.std.specs.Prelude.{◌≡◌, ◌≤◌, ◌&&◌, ◌||◌, ℕ, List, [], length, None, not, nat_lt, bytes_eq, ◌∷◌, OnOk, OnErr};
+ghost use Rattle.bt_bed.specs.Bed.{feature_lent};
+ghost use Rattle.bt_bed.specs.Feature.{Feature, interval_of};
+ghost use Rattle.bt_runs.specs.Counted.{is_counted};
+ghost use Rattle.bt_runs.specs.Lines.{interval_lines};
+ghost use Rattle.bt_runs.specs.MergedRuns.{AreTaken, is_passed, kept_runs, merged_runs, settled_runs};
+ghost use Rattle.bt_runs.specs.MergeStep.{with_record};
+ghost use Rattle.bt_runs.specs.Merging.{Merging, StandsAfter};
+ghost use Rattle.bt_runs.specs.Taking.{SettlesRuns, TakesNext, run_at};
+
+use crate::bed_line::put_bed_line;
+use crate::ended::Ended;
+use crate::engine::Engine;
+use crate::merge_strand::MergeStrand;
+use bt_bed::{BedRef, Strand};
+use bt_lines::{Fault, Out, Sink};
+use std::alloc::{AllocError, Global};
+use std::marker::Model;
+
+// A run without its chromosome.
+#[derive(Clone, Copy, Debug)]
+struct Run {
+    start: u64,
+    stop: u64,
+}
+
+/// Merges records that come in order. It keeps the open run alone, and writes each run once a record
+/// has passed it, which may be one that isn't merged. Starts are zero-based, and ends aren't
+/// included.
+#[derive(Drop, Debug)]
+pub struct Merge {
+    gap: u64,
+    strand: MergeStrand,
+    // The open run's chromosome, whose buffer is used again.
+    chrom: Vec<u8>,
+    run: Option<Run>,
+    ended: Option<Ended>,
+}
+
+impl Model for Merge {
+    ghost use Rattle.std.specs.Prelude.{◌≤◌, option_map, option_to_list};
+    ghost use Rattle.std.specs.Option.{ForSome};
+    ghost use Rattle.bt_runs.specs.Ended.{fault_of};
+    ghost use Rattle.bt_runs.specs.Merging.{Merging};
+    ghost use Rattle.bt_runs.specs.Taking.{run_at};
+
+    ghost Value = { Merging };
+
+    ghost view = { λ m. record {
+      gap = m.gap;
+      strand = m.strand;
+      kept = option_to_list (option_map (run_at m.chrom.items) m.run);
+      fault = option_map fault_of m.ended;
+    } };
+
+    ghost invariant = { λ m. (m.gap ≤ 999999999999) × ForSome m.run (λ run. run.stop ≤ 999999999999) };
+}
+
+impl Merge {
+    /// A merge that has taken no record. It bridges up to `d` positions between features: with 0
+    /// those that overlap or touch become one.
+    pub fn new(alloc: Global, d: u64, strand: MergeStrand) -> Merge
+        requires { d ≤ 999999999999 }
+        ensures stands { StandsAfter d strand [] result }
+        ensures rules { (result.gap ≡ d) × (result.strand ≡ strand) }
+    {
+        Merge {
+            gap: d,
+            strand,
+            chrom: Vec::new(alloc),
+            run: None,
+            ended: None,
+        }
+    }
+
+    // Takes one more record.
+    fn take<K: Sink>(&mut self, bed: &BedRef<'_>, out: &mut Out<K>) -> Result<(), Ended>
+        ensures { TakesNext self.old (feature_lent bed.now) out.old result self.new out.new }
+    {
+        if self.settle(bed, out).is_err() {
+            return Err(Ended::Write);
+        }
+        if !counts(self.strand, bed.strand) {
+            return Ok(());
+        }
+        match self.add(bed) {
+            Ok(()) => Ok(()),
+            Err(AllocError) => Err(Ended::Memory),
+        }
+    }
+
+    // Writes the open run and closes it, if the record has passed it.
+    fn settle<K: Sink>(&mut self, bed: &BedRef<'_>, out: &mut Out<K>) -> Result<(), Fault>
+        ensures { SettlesRuns self.old (feature_lent bed.now) out.old result self.new out.new }
+    {
+        let Some(run) = self.run else {
+            return Ok(());
+        };
+        if has_passed(bed, self.chrom.as_slice(), run, self.gap) {
+            put_bed_line(self.chrom.as_slice(), run.start, run.stop, out)?;
+            self.run = None;
+        }
+        Ok(())
+    }
+
+    // Joins the record to the open run, or opens one with it.
+    fn add(&mut self, bed: &BedRef<'_>) -> Result<(), AllocError>
+        ensures added { OnOk result (self.new ≡ record self.old {
+          kept = with_record self.old.kept (interval_of (feature_lent bed.now));
+        }) }
+        ensures none_kept { OnErr result (self.old.kept ≡ []) }
+    {
+        let Some(run) = self.run else {
+            return self.open(bed);
+        };
+        self.run = Some(Run {
+            start: run.start,
+            stop: run.stop.max(bed.stop),
+        });
+        Ok(())
+    }
+
+    // Opens a run with the record, where none is open.
+    fn open(&mut self, bed: &BedRef<'_>) -> Result<(), AllocError>
+        ensures { OnOk result (self.new ≡ record self.old {
+          kept = interval_of (feature_lent bed.now) ∷ [];
+        }) }
+    {
+        if self.chrom.as_slice() != bed.chrom {
+            self.chrom.clear();
+            self.chrom.extend_from_slice(bed.chrom)?;
+        }
+        self.run = Some(Run {
+            start: bed.start,
+            stop: bed.stop,
+        });
+        Ok(())
+    }
+}
+
+impl Engine for Merge {
+    ghost takes = { λ first past. AreTaken past };
+
+    ghost settled = { λ first past. interval_lines (settled_runs first.gap first.strand past) };
+
+    ghost whole = { λ first past. interval_lines (merged_runs first.gap first.strand past) };
+
+    ghost held = { λ first past. length (kept_runs first.gap first.strand past) };
+
+    ghost stands = { λ first past now. StandsAfter first.gap first.strand past now };
+
+    ghost fault = { λ merge. merge.fault };
+
+    /// A record that joins the open run, or that isn't merged and leaves that run open, writes nothing
+    /// and takes no memory. What no longer can be joined is written first. `NoMemory` is answered only
+    /// where a run is opened on another chromosome than the last one, whose name has to be kept.
+    fn feed<K: Sink>(&mut self, bed: &BedRef<'_>, out: &mut Out<K>) -> Result<(), Fault> {
+        if let Some(ended) = self.ended {
+            return Err(ended.fault());
+        }
+        match self.take(bed, out) {
+            Ok(()) => Ok(()),
+            Err(ended) => {
+                self.ended = Some(ended);
+                Err(ended.fault())
+            }
+        }
+    }
+
+    fn finish<K: Sink>(self, out: &mut Out<K>) -> Result<(), Fault> {
+        if let Some(before) = self.ended {
+            return Err(before.fault());
+        }
+        match self.run {
+            None => Ok(()),
+            Some(run) => put_bed_line(self.chrom.as_slice(), run.start, run.stop, out),
+        }
+    }
+
+    /// How many runs it keeps: 0 or 1.
+    fn kept_len(&self) -> usize
+        ensures list { result ≡ length self.now.kept }
+        ensures held { (first : Merging) (past : List Feature)
+            → StandsAfter first.gap first.strand past self.now → AreTaken past
+            → result ≡ length (kept_runs first.gap first.strand past) }
+    {
+        usize::from(self.run.is_some())
+    }
+}
+
+// Whether a record of this strand is merged.
+fn counts(wanted: MergeStrand, strand: Strand) -> bool
+    ensures { result ≡ is_counted wanted strand }
+{
+    match wanted {
+        MergeStrand::All => true,
+        MergeStrand::One(wanted) => wanted == strand,
+    }
+}
+
+// Whether the record lies on another chromosome than the run, or starts more than the gap past its
+// end.
+fn has_passed(bed: &BedRef<'_>, chrom: &[u8], run: Run, gap: u64) -> bool
+    requires stop_in_range { run.stop ≤ 999999999999 }
+    requires gap_in_range { gap ≤ 999999999999 }
+    ensures { result ≡ is_passed gap (interval_of (feature_lent bed.now)) (run_at chrom.now run) }
+{
+    chrom != bed.chrom || run.stop + gap < bed.start
+}
+
+#[cfg(test)]
+mod tests;

@@ -1,0 +1,170 @@
+//! The merged runs of one chromosome, by a scan of its positions: slow, and plainly what the
+//! definition says. Tests compare the merge with it.
+
+ghost use Rattle.bt_runs.specs.Merged.{runs_of, Bridged};
+ghost use Rattle.bt_runs.specs.Plain.{spans_in, with_next, HasRight};
+ghost use Rattle.std.specs.List.{list_any};
+ghost use Rattle.std.specs.Prelude.{◌≡◌, ◌↔◌, ◌+◌, ◌<◌, ◌≤◌, ◌&&◌, nat_le, nat_lt, All, IfOk, ◌^◌, IsTrue, OnOk};
+
+use std::alloc::{AllocError, Global};
+
+/// A stretch of one chromosome. Positions count from zero, and the stop isn't included.
+#[derive(Clone, Copy, Debug, PartialEq, Eq)]
+pub struct Span {
+    pub start: u64,
+    pub stop: u64,
+}
+
+/// The merged runs of the spans of one chromosome, which may come in any order.
+pub fn plain_runs(alloc: Global, spans: &[Span], gap: u64) -> Result<Vec<Span>, AllocError>
+    ensures { IfOk result (λ v. spans_in v.items ≡ runs_of gap (spans_in spans.now)) }
+{
+    let end = greatest_stop(spans);
+    let mut runs = Vec::new(alloc);
+    for position in 0..end {
+        if is_bridged(spans, gap, end, position) {
+            add_position(&mut runs, position)?;
+        }
+    }
+    Ok(runs)
+}
+
+fn greatest_stop(spans: &[Span]) -> u64
+    ensures { All (λ s. s.stop ≤ result) spans.now }
+{
+    let mut end = 0;
+    for span in spans {
+        end = end.max(span.stop);
+    }
+    end
+}
+
+pub(crate) fn is_covered(spans: &[Span], position: u64) -> bool
+    ensures { result ≡ list_any (λ s. nat_le s.start position && nat_lt position s.stop) spans.now }
+{
+    spans
+        .iter()
+        .any(|span| span.start <= position && position < span.stop)
+}
+
+/// Whether a covered position at or past this one is near `left`.
+fn has_right(spans: &[Span], gap: u64, end: u64, left: u64, position: u64) -> bool
+    requires past { left < position }
+    requires ended { All (λ s. s.stop ≤ end) spans.now }
+    ensures { IsTrue result ↔ HasRight gap (spans_in spans.now) left position }
+{
+    for right in position..end {
+        if is_covered(spans, right) && right - left - 1 <= gap {
+            return true;
+        }
+    }
+    false
+}
+
+fn is_bridged(spans: &[Span], gap: u64, end: u64, position: u64) -> bool
+    requires { All (λ s. s.stop ≤ end) spans.now }
+    ensures { IsTrue result ↔ Bridged gap (spans_in spans.now) position }
+{
+    if is_covered(spans, position) {
+        return true;
+    }
+    for left in 0..position {
+        if is_covered(spans, left) && has_right(spans, gap, end, left, position) {
+            return true;
+        }
+    }
+    false
+}
+
+/// Adds the position to the last run where that ends there, and else as a run of its own.
+pub(crate) fn add_position(runs: &mut Vec<Span>, position: u64) -> Result<(), AllocError>
+    requires { position + 1 < 2 ^ 64 }
+    ensures { OnOk result (spans_in runs.new.items ≡ with_next (spans_in runs.old.items) position) }
+{
+    let mut next = Span {
+        start: position,
+        stop: position + 1,
+    };
+    if let Some(run) = runs.pop() {
+        if run.stop == position {
+            next.start = run.start;
+        } else {
+            runs.push(run)?;
+        }
+    }
+    runs.push(next)?;
+    Ok(())
+}
+
+#[cfg(test)]
+mod tests {
+    use super::*;
+    use std::test::Fail;
+
+    fn span(start: u64, stop: u64) -> Span {
+        Span { start, stop }
+    }
+
+    #[test]
+    fn small_cases(rt: HostRuntime) -> Result<(), Fail> {
+        let four = [
+            span(100, 200),
+            span(180, 250),
+            span(250, 500),
+            span(501, 1000),
+        ];
+        let cases: [(&str, &[Span], u64, &[Span]); 13] = [
+            ("no record", &[], 0, &[]),
+            ("one record", &[span(3, 8)], 0, &[span(3, 8)]),
+            ("a record without a position", &[span(3, 3)], 5, &[]),
+            ("touching", &[span(0, 5), span(5, 9)], 0, &[span(0, 9)]),
+            ("overlapping", &[span(0, 5), span(3, 9)], 0, &[span(0, 9)]),
+            (
+                "one within another",
+                &[span(0, 9), span(3, 5)],
+                0,
+                &[span(0, 9)],
+            ),
+            (
+                "a gap of one",
+                &[span(0, 5), span(6, 9)],
+                0,
+                &[span(0, 5), span(6, 9)],
+            ),
+            (
+                "a gap of one, bridged",
+                &[span(0, 5), span(6, 9)],
+                1,
+                &[span(0, 9)],
+            ),
+            (
+                "a gap of two, by one",
+                &[span(0, 5), span(7, 9)],
+                1,
+                &[span(0, 5), span(7, 9)],
+            ),
+            (
+                "a gap of two, bridged",
+                &[span(0, 5), span(7, 9)],
+                2,
+                &[span(0, 9)],
+            ),
+            (
+                "out of order",
+                &[span(7, 9), span(0, 5)],
+                0,
+                &[span(0, 5), span(7, 9)],
+            ),
+            ("four records", &four, 0, &[span(100, 500), span(501, 1000)]),
+            ("four records, by one", &four, 1, &[span(100, 1000)]),
+        ];
+        for (name, spans, gap, runs) in cases {
+            assert_eq!(rt;
+                plain_runs(rt.alloc(), spans, gap)?.as_slice(),
+                runs,
+                "{name}"
+            );
+        }
+        Ok(())
+    }
+}

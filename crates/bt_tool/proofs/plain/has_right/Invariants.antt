@@ -1,8 +1,0 @@
-use Rattle.std.proofs.Common.{ℕ, ◌+◌, ◌-◌, ◌<◌, ◌≤◌}
-use Rattle.bt_bed.specs.Stretches.{IsCovered}
-use Rattle.bt_tool.specs.Plain.{spans_in}
-use Rattle.bt_tool.proofs.plain.has_right.Given as goal
-
--- no covered position so far is near
-abbrev pub invariant-loop-right : goal.invariant-loop-right
-invariant-loop-right l = (k : ℕ) → l.position ≤ k → k < l.right → IsCovered (spans_in l.spans) k → k - l.left ≤ l.gap + 1 → ⊥

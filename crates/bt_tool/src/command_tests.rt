@@ -1,0 +1,247 @@
+use crate::tests::{GENOME, failing, line_of, run_words, whole};
+use std::alloc::Global;
+use std::process::Abort;
+use std::test::Fail;
+
+// The words, the input, the output and the fault line of a run on the genome of all tests.
+type Row = (
+    &'static [&'static str],
+    &'static [u8],
+    &'static [u8],
+    &'static [u8],
+);
+
+const TOUCHING: &[u8] = b"chr1\t100\t200\nchr1\t180\t250\nchr1\t250\t500\nchr1\t501\t1000\n";
+
+const STRANDS: &[u8] =
+    b"chr1\t0\t100\ta\t0\t+\nchr1\t10\t20\tb\t0\t-\nchr1\t50\t120\tc\t0\t+\nchr1\t60\t70\td\t0\t-\n";
+
+const BACK: &[u8] = b"chr1\t0\t10\ta\t0\t+\nchr1\t20\t30\tb\t0\t-\nchr1\t5\t8\tc\t0\t+\n";
+
+const ENDS: &[u8] = b"chr1\t0\t10\nchr1\t900\t1200\n";
+
+const MERGE: [Row; 11] = [
+    (
+        &["merge", "-g", "g.txt"],
+        TOUCHING,
+        b"chr1\t100\t500\nchr1\t501\t1000\n",
+        b"",
+    ),
+    (
+        &["merge", "-g", "g.txt", "-d", "1"],
+        TOUCHING,
+        b"chr1\t100\t1000\n",
+        b"",
+    ),
+    (
+        &["merge", "-d", "1", "-g", "g.txt", "-d", "0"],
+        TOUCHING,
+        b"chr1\t100\t500\nchr1\t501\t1000\n",
+        b"",
+    ),
+    (
+        &["merge", "-g", "g.txt", "-S", "-"],
+        STRANDS,
+        b"chr1\t10\t20\nchr1\t60\t70\n",
+        b"",
+    ),
+    (
+        &["merge", "-g", "g.txt", "-S", "+"],
+        STRANDS,
+        b"chr1\t0\t120\n",
+        b"",
+    ),
+    (&["merge", "-g", "g.txt"], STRANDS, b"chr1\t0\t120\n", b""),
+    (
+        &["merge", "-g", "g.txt", "-S", "-", "-d", "40"],
+        STRANDS,
+        b"chr1\t10\t70\n",
+        b"",
+    ),
+    (
+        &["merge", "-g", "g.txt", "-S", "+"],
+        BACK,
+        b"chr1\t0\t10\n",
+        b"bedtools merge: stdin:3: record is out of order\n",
+    ),
+    (
+        &["merge", "-g", "g.txt", "-S", "+", "-d", "10"],
+        BACK,
+        b"",
+        b"bedtools merge: stdin:3: record is out of order\n",
+    ),
+    (
+        &["merge", "-g", "g.txt", "-d", "999999999999"],
+        b"chr1\t0\t1\nchr1\t999999999998\t999999999999\n",
+        b"chr1\t0\t999999999999\n",
+        b"",
+    ),
+    (&["merge", "-g", "g.txt", "-S", "+"], b"", b"", b""),
+];
+
+const COMPLEMENT: [Row; 15] = [
+    (
+        &["complement", "-g", "g.txt"],
+        b"",
+        b"chr1\t0\t1000\nchr2\t0\t50\n",
+        b"",
+    ),
+    (&["complement", "-L", "-g", "g.txt"], b"", b"", b""),
+    (
+        &["complement", "-g", "g.txt"],
+        ENDS,
+        b"chr1\t10\t900\nchr2\t0\t50\n",
+        b"",
+    ),
+    (
+        &["complement", "-g", "g.txt", "-L"],
+        ENDS,
+        b"chr1\t10\t900\n",
+        b"",
+    ),
+    (
+        &["complement", "-g", "g.txt"],
+        b"chr1\t10\t20\nchr1\t30\t40\nchr1\t5\t6\n",
+        b"chr1\t0\t10\nchr1\t20\t30\n",
+        b"bedtools complement: stdin:3: record is out of order\n",
+    ),
+    (
+        &["complement", "-g", "g.txt"],
+        b"chr2\t10\t20\nchr2\t5\t6\n",
+        b"chr1\t0\t1000\nchr2\t0\t10\n",
+        b"bedtools complement: stdin:2: record is out of order\n",
+    ),
+    (
+        &["complement", "-L", "-g", "g.txt"],
+        b"chr2\t10\t20\nchr2\t5\t6\n",
+        b"chr2\t0\t10\n",
+        b"bedtools complement: stdin:2: record is out of order\n",
+    ),
+    (
+        &["complement", "-g", "g.txt"],
+        b"chr1\t1100\t1200\n",
+        b"chr1\t0\t1000\nchr2\t0\t50\n",
+        b"",
+    ),
+    (
+        &["complement", "-L", "-g", "g.txt"],
+        b"chr1\t1100\t1200\n",
+        b"chr1\t0\t1000\n",
+        b"",
+    ),
+    (
+        &["complement", "-g", "g.txt"],
+        b"chr1\t5\t10\nchr1\t6\t8\nchr1\t9\t12\n",
+        b"chr1\t0\t5\nchr1\t12\t1000\nchr2\t0\t50\n",
+        b"",
+    ),
+    (
+        &["complement", "-g", "g.txt"],
+        b"chr1\t0\t1000\nchr2\t0\t60\n",
+        b"",
+        b"",
+    ),
+    (
+        &["complement", "-g", "g.txt"],
+        b"chr2\tx\t20\n",
+        b"",
+        b"bedtools complement: stdin:1: start is not a number\n",
+    ),
+    (
+        &["complement", "-g", "g.txt", "-i", "a.bed"],
+        b"chr3\t1\t2\n",
+        b"",
+        b"bedtools complement: a.bed:1: chromosome is not in the genome file\n",
+    ),
+    (
+        &["complement", "-g", "g.txt"],
+        b"chr1\t0\t10\n#\nchr2\t0\t50\nchr1\t20\t30\n",
+        b"chr1\t10\t1000\n",
+        b"bedtools complement: stdin:4: record is out of order\n",
+    ),
+    (
+        &["complement", "-g", "g.txt"],
+        b"chr2\t0\t50\n",
+        b"chr1\t0\t1000\n",
+        b"",
+    ),
+];
+
+fn check(rt: &impl Abort, alloc: Global, row: Row, step: usize) -> Result<(), Fail> {
+    let (words, first, output, line) = row;
+    let script = whole(step.max(1));
+    let answer = run_words(alloc, words, (GENOME, script), (first, script), script)?;
+    assert_eq!(rt; answer.output.as_slice(), output, "{words:?}");
+    assert_eq!(rt; line_of(&answer), line, "{words:?}");
+    assert_eq!(rt; answer.status, u8::from(!line.is_empty()), "{words:?}");
+    Ok(())
+}
+
+#[test]
+fn merge_with_its_options(rt: HostRuntime) -> Result<(), Fail> {
+    for row in MERGE {
+        for step in [1, 7, 8192] {
+            check(&rt, rt.alloc(), row, step)?;
+        }
+    }
+    Ok(())
+}
+
+#[test]
+fn complement_with_its_options(rt: HostRuntime) -> Result<(), Fail> {
+    for row in COMPLEMENT {
+        for step in [1, 7, 8192] {
+            check(&rt, rt.alloc(), row, step)?;
+        }
+    }
+    Ok(())
+}
+
+#[test]
+fn complement_on_an_output_that_fails_at_each_byte(rt: HostRuntime) -> Result<(), Fail> {
+    let words = ["complement", "-g", "g.txt"];
+    let output = b"chr1\t10\t900\nchr2\t0\t50\n";
+    for good in 0..output.len() {
+        let answer = run_words(
+            rt.alloc(),
+            &words,
+            (GENOME, whole(7)),
+            (ENDS, whole(7)),
+            failing(good),
+        )?;
+        assert_eq!(rt; answer.output.as_slice(), &output[..good]);
+        assert_eq!(rt;
+            line_of(&answer),
+            b"bedtools complement: writing failed\n".as_slice()
+        );
+    }
+    Ok(())
+}
+
+#[test]
+fn complement_of_an_input_that_fails(rt: HostRuntime) -> Result<(), Fail> {
+    // The good bytes, the output and the fault line: the second line ends at the 24th byte.
+    let cases: [(usize, &[u8], &[u8]); 4] = [
+        (0, b"", b"bedtools complement: stdin:1: reading failed\n"),
+        (10, b"", b"bedtools complement: stdin:2: reading failed\n"),
+        (23, b"", b"bedtools complement: stdin:2: reading failed\n"),
+        (
+            24,
+            b"chr1\t10\t900\n",
+            b"bedtools complement: stdin:3: reading failed\n",
+        ),
+    ];
+    let words = ["complement", "-g", "g.txt"];
+    for (good, output, line) in cases {
+        let answer = run_words(
+            rt.alloc(),
+            &words,
+            (GENOME, whole(7)),
+            (ENDS, failing(good)),
+            whole(7),
+        )?;
+        assert_eq!(rt; answer.output.as_slice(), output);
+        assert_eq!(rt; line_of(&answer), line);
+    }
+    Ok(())
+}
