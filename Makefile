@@ -1,10 +1,10 @@
-# make builds bin/bedtools, make example runs it, make test is the gate, make install PREFIX=.. copies it.
+# make builds bin/bedtools, make example runs it, make test is the gate, make mutants tries further wrong bodies, make install PREFIX=.. copies it.
 PREFIX ?= /usr/local
 
 PROGRAM := bin/bedtools
 SOURCES := crates.txt $(shell find crates -name out -prune -o -type f \( -name '*.rt' -o -name '*.antt' \) -print)
 
-.PHONY: all example test install clean
+.PHONY: all example test mutants install clean
 
 all: $(PROGRAM)
 
@@ -17,9 +17,18 @@ $(PROGRAM): $(SOURCES)
 example: $(PROGRAM)
 	$(PROGRAM) merge -i examples/exons.bed -g examples/genome.txt -d 1000
 	$(PROGRAM) complement -i examples/exons.bed -g examples/genome.txt -L
+	$(PROGRAM) intersect -a examples/exons.bed -b examples/exons.bed -g examples/genome.txt -u
 
 test:
 	rt ci
+
+# The further wrong bodies, which the gate doesn't try: each must be refused too. They are tried in a
+# copy, in the place of those of must-fail.
+mutants:
+	copy=$$(mktemp -d) && git ls-files -z | xargs -0 cp --parents -t $$copy && cd $$copy && \
+	rm -rf crates/*/must-fail && \
+	for mutants in crates/*/mutants; do mv $$mutants $$(dirname $$mutants)/must-fail; done && \
+	rt must-fail; status=$$?; rm -rf $$copy; exit $$status
 
 install: $(PROGRAM)
 	install -D $(PROGRAM) $(DESTDIR)$(PREFIX)/bin/bedtools

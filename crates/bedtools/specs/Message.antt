@@ -1,27 +1,38 @@
 -- The lines that the program itself tells, and the exit statuses that go with them.
-use Rattle.std.specs.Prelude.{ℕ, List, ◌++◌, codes, length}
+use Rattle.std.specs.Prelude.{ℕ, List, [], ◌++◌, ◌≡◌, ◌⊎◌, codes, length}
 use Rattle.bt_tool.specs.Plan.{words_seen}
 use Rattle.bt_tool.specs.Usage.{IsTellable, usage_text}
 use Rattle.bedtools.specs.declared.message.Trouble.{Trouble}
-use Rattle.bedtools.specs.declared.message.Trouble.TheVariants.{NotUnicode, Usage, CannotOpen, NoMemory}
+use Rattle.bedtools.specs.declared.message.Trouble.TheVariants.{NotUnicode, Usage, CannotOpen}
+use Rattle.bedtools.specs.declared.message.Message.{Message}
+use Rattle.bedtools.specs.declared.message.MessageLine.{MessageLine}
+use Rattle.bedtools.specs.declared.message.MessageLine.TheVariants.{Nothing, Text, NoMemory}
 
 -- a fault of usage is told of the words that it is about
 abbrev pub CanBeTold : Trouble → Type 0
 CanBeTold NotUnicode = Unit {0}
 CanBeTold (Usage words usage) = IsTellable usage (length words.now)
 CanBeTold (CannotOpen command name) = Unit {0}
-CanBeTold NoMemory = Unit {0}
 
 -- the line, with its line feed
 abbrev pub line_of : Trouble → List ℕ
 line_of NotUnicode = codes "bedtools: argument is not UTF-8\n"
 line_of (Usage words usage) = usage_text (words_seen words.now) usage
 line_of (CannotOpen command name) = codes "bedtools " ++ command.now ++ codes ": " ++ name.now ++ codes ": cannot be opened\n"
-line_of NoMemory = codes "bedtools: no memory\n"
 
 -- the exit status
 abbrev pub status_of : Trouble → ℕ
 status_of NotUnicode = 2
 status_of (Usage words usage) = 2
 status_of (CannotOpen command name) = 1
-status_of NoMemory = 1
+
+-- what standard error gets
+abbrev pub line_seen : MessageLine → List ℕ
+line_seen Nothing = []
+line_seen (Text line) = line.items
+line_seen NoMemory = codes "bedtools: no memory\n"
+
+-- a message says this line with this exit status; or there was no memory for the line, which has status 1
+abbrev pub Says : List ℕ → ℕ → Message → Type 0
+Says line status message = (line_seen message.line ≡ line × message.status ≡ status)
+    ⊎ (line_seen message.line ≡ codes "bedtools: no memory\n" × message.status ≡ 1)

@@ -1,6 +1,9 @@
--- Whether an opened device has failed, and whether it was flushed.
-use Rattle.std.specs.Prelude.{Bool}
+-- What the program opens: the input that a name means, and whether a device has failed or was flushed.
+use Rattle.std.specs.Prelude.{Bool, List, ℕ, Option, Some, None, if◌then◌else◌}
 use Rattle.bt_lines.specs.Adapter.{read_has_failed, read_end_told, write_has_failed, write_is_flushed}
+use Rattle.bt_tool.specs.Options.{is_standard_input}
+use Rattle.bedtools.specs.declared.opened.Input.{Input}
+use Rattle.bedtools.specs.declared.opened.Input.TheVariants.{Standard as StandardInput, File as FileInput}
 use Rattle.bedtools.specs.declared.opened.Opened.{Opened}
 use Rattle.bedtools.specs.declared.opened.Opened.TheVariants.{File, Standard}
 use Rattle.bedtools.specs.declared.standard_output.Output.{Output}
@@ -20,3 +23,11 @@ output_has_failed (StandardOutput sink) = write_has_failed sink
 -- whether it was flushed since the last write
 abbrev pub output_is_flushed : Output → Bool
 output_is_flushed (StandardOutput sink) = write_is_flushed sink
+
+-- the file that is opened by its name, or none for standard input
+abbrev pub file_named : List ℕ → Option (List ℕ)
+file_named name = if is_standard_input name then None else Some name
+
+abbrev pub input_meant : Input → Option (List ℕ)
+input_meant StandardInput = None
+input_meant (FileInput name) = Some name.now

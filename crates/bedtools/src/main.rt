@@ -1,30 +1,35 @@
 //! `bedtools`: makes the plan of a command line, opens its files, runs it, and tells what went wrong.
 #![tactic(auto)]
 
-ghost use Rattle.std.specs.Prelude.{◌≡◌, ◌⊎◌, is_some, option_map, IfOk, IfErr};
+ghost use Rattle.std.specs.Prelude.{◌≡◌, ◌≤◌, Err, [], is_some, None, option_map, unwrap_or, IfOk, IfErr, IsOk};
 ghost use Rattle.bt_lines.specs.Names.{told};
-ghost use Rattle.bt_tool.specs.Report.{status_of as run_status};
-ghost use Rattle.bedtools.specs.Message.{CanBeTold, status_of};
+ghost use Rattle.bt_tool.specs.Options.{options};
+ghost use Rattle.bt_tool.specs.Plan.{plan_seen, words_seen};
+ghost use Rattle.bt_tool.specs.Report.{fault_text, status_of as run_status};
+ghost use Rattle.bt_tool.specs.Usage.{usage_text};
+ghost use Rattle.bt_tool.specs.declared.usage.Usage.{Usage};
+ghost use Rattle.bedtools.specs.Message.{Says, line_seen};
 
 mod message;
 mod opened;
 mod standard_output;
 
-use bt_tool::{Ended, Outcome, Plan, Refusal, plan, run};
-use message::{NO_MEMORY, Trouble, message_of};
+use bt_tool::{Outcome, Plan, Refusal, plan, run};
+use message::{Message, MessageLine, Trouble};
 use opened::Opened;
 use standard_output::Output;
-use std::io::Write;
+use std::alloc::Global;
 use std::process::ExitCode;
 use std::{env, io};
 
 fn main(rt: HostRuntime) -> ExitCode {
-    let status = match words(&rt) {
+    let message = match words(&rt) {
         Ok(words) => start(&rt, words.as_slice()),
-        Err(error) if error.kind() == io::ErrorKind::OutOfMemory => tell(&rt, &Trouble::NoMemory),
-        Err(_) => tell(&rt, &Trouble::NotUnicode),
+        Err(error) if error.kind() == io::ErrorKind::OutOfMemory => Message::no_memory(),
+        Err(_) => Message::of(rt.alloc(), &Trouble::NotUnicode),
     };
-    ExitCode::from(status)
+    message.print(&rt);
+    ExitCode::from(message.status)
 }
 
 // The words after the program's name.
@@ -36,40 +41,50 @@ fn words(rt: &HostRuntime) -> io::Result<Vec<String>> {
     Ok(all)
 }
 
-// Makes the plan and carries it out. The answer is the exit status, here and below.
-fn start(rt: &HostRuntime, words: &[String]) -> u8 {
+// Makes the plan and carries it out. The answer is what standard error is to say, and the exit
+// status, here and below.
+fn start(rt: &HostRuntime, words: &[String]) -> Message
+    ensures usage { (usage : Usage) → options (words_seen words.now) ≡ Err usage
+        → Says (usage_text (words_seen words.now) usage) 2 result }
+    ensures run { IsOk (options (words_seen words.now)) → result.status ≤ 1 }
+{
     match plan(rt.alloc(), words) {
         Ok(plan) => carry_out(rt, &plan),
-        Err(Refusal::Usage(usage)) => tell(rt, &Trouble::Usage(words, usage)),
-        Err(Refusal::NoMemory) => tell(rt, &Trouble::NoMemory),
+        Err(Refusal::Usage(usage)) => Message::of(rt.alloc(), &Trouble::Usage(words, usage)),
+        Err(Refusal::NoMemory) => Message::no_memory(),
     }
 }
 
 // Opens the files of a plan, the genome file first, and runs it.
-fn carry_out(rt: &HostRuntime, plan: &Plan) -> u8 {
-    let genome = match open_if_named(rt, plan, &plan.genome) {
-        Ok(genome) => genome,
-        Err(status) => return status,
-    };
-    let first = match open(rt, plan, plan.first.as_str()) {
-        Ok(first) => first,
-        Err(status) => return status,
-    };
-    let second = match open_if_named(rt, plan, &plan.second) {
-        Ok(second) => second,
-        Err(status) => return status,
-    };
-    let Ok(output) = Output::standard(rt) else {
-        return tell(rt, &Trouble::NoMemory);
-    };
-    let ended = run(rt.alloc(), plan, genome, first, second, output);
-    tell_outcome(rt, plan, &ended.outcome)
+fn carry_out(rt: &HostRuntime, plan: &Plan) -> Message
+    ensures { result.status ≤ 1 }
+{
+    match run_opened(rt, plan) {
+        Ok(outcome) => end_of(rt.alloc(), plan, &outcome),
+        Err(message) => message,
+    }
 }
 
-// Opens an input that the plan may not have. `Err` is the exit status where it can't be opened.
-fn open_if_named(rt: &HostRuntime, plan: &Plan, name: &Option<String>) -> Result<Option<Opened>, u8>
+// Runs a plan over its files. `Err` where one can't be opened.
+fn run_opened(rt: &HostRuntime, plan: &Plan) -> Result<Outcome, Message>
+    ensures { IfErr result (λ message. message.status ≡ 1) }
+{
+    let genome = open_if_named(rt, plan, &plan.genome)?;
+    let first = open(rt, plan, plan.first.as_str())?;
+    let second = open_if_named(rt, plan, &plan.second)?;
+    let output = Output::standard(rt);
+    let ended = run(rt.alloc(), plan, genome, first, second, output);
+    Ok(ended.outcome)
+}
+
+// Opens an input that the plan may not have. `Err` where it can't be opened.
+fn open_if_named(
+    rt: &HostRuntime,
+    plan: &Plan,
+    name: &Option<String>,
+) -> Result<Option<Opened>, Message>
     ensures input { IfOk result (λ input. is_some input ≡ is_some name.now) }
-    ensures status { IfErr result (λ status. status ≡ 1) }
+    ensures status { IfErr result (λ message. message.status ≡ 1) }
 {
     match name {
         Some(name) => Ok(Some(open(rt, plan, name.as_str())?)),
@@ -77,50 +92,71 @@ fn open_if_named(rt: &HostRuntime, plan: &Plan, name: &Option<String>) -> Result
     }
 }
 
-// Opens an input. `Err` is the exit status where it can't be opened.
-fn open(rt: &HostRuntime, plan: &Plan, name: &str) -> Result<Opened, u8>
-    ensures { IfErr result (λ status. status ≡ 1) }
+// Opens an input. `Err` where it can't be opened.
+fn open(rt: &HostRuntime, plan: &Plan, name: &str) -> Result<Opened, Message>
+    ensures { IfErr result (λ message. message.status ≡ 1) }
 {
     match Opened::open(rt, name) {
         Ok(input) => Ok(input),
-        Err(error) if error.kind() == io::ErrorKind::OutOfMemory => {
-            Err(tell(rt, &Trouble::NoMemory))
-        }
-        Err(_) => Err(tell(rt, &Trouble::CannotOpen(plan.command.name(), name))),
-    }
-}
-
-// Tells how a run ended.
-fn tell_outcome(rt: &HostRuntime, plan: &Plan, outcome: &Outcome) -> u8
-    ensures { (result ≡ run_status (option_map told outcome.now.fault)) ⊎ (result ≡ 1) }
-{
-    match outcome.fault_line(rt.alloc(), plan) {
-        Ok(Some(line)) => print_error(rt, line.as_slice()),
-        Ok(None) => {}
-        Err(_) => return tell(rt, &Trouble::NoMemory),
-    }
-    outcome.status()
-}
-
-// Tells what kept a run from beginning, or its fault from being told. Want of memory for that has
-// status 1.
-fn tell(rt: &HostRuntime, trouble: &Trouble<'_>) -> u8
-    requires { CanBeTold trouble.now }
-    ensures { (result ≡ status_of trouble.now) ⊎ (result ≡ 1) }
-{
-    match message_of(rt.alloc(), trouble) {
-        Ok(message) => {
-            print_error(rt, message.line.as_slice());
-            message.status
-        }
+        Err(error) if error.kind() == io::ErrorKind::OutOfMemory => Err(Message::no_memory()),
         Err(_) => {
-            print_error(rt, NO_MEMORY);
-            1
+            let trouble = Trouble::CannotOpen(plan.command.name(), name);
+            Err(Message::of(rt.alloc(), &trouble))
         }
     }
 }
 
-// Prints a line on standard error. Where that fails there is nowhere left to say so.
-fn print_error(rt: &HostRuntime, line: &[u8]) {
-    let _ = rt.stderr().write_all(line);
+// How a run ended: its fault, if there is one, is told.
+fn end_of(alloc: Global, plan: &Plan, outcome: &Outcome) -> Message
+    ensures fault { Says
+        (unwrap_or (option_map (λ fault. fault_text (plan_seen plan.now) (told fault)) outcome.now.fault) [])
+        (run_status (option_map told outcome.now.fault)) result }
+    ensures none { outcome.now.fault ≡ None → line_seen result.line ≡ [] × result.status ≡ 0 }
+{
+    let line = match outcome.fault_line(alloc, plan) {
+        Ok(Some(line)) => MessageLine::Text(line),
+        Ok(None) => MessageLine::Nothing,
+        Err(_) => return Message::no_memory(),
+    };
+    Message {
+        line,
+        status: outcome.status(),
+    }
+}
+
+#[cfg(test)]
+mod tests {
+    use super::*;
+    use std::test::Fail;
+
+    // With memory for its line, each end has its own line and status.
+    #[test]
+    fn ends(rt: HostRuntime) -> Result<(), Fail> {
+        let cases: [(&str, &[u8], u8); 6] = [
+            ("", b"bedtools: no or unknown command\n", 2),
+            ("sort", b"bedtools: no or unknown command\n", 2),
+            ("merge -q", b"bedtools: unknown option: -q\n", 2),
+            (
+                "complement -i a.bed",
+                b"bedtools: required option missing\n",
+                2,
+            ),
+            (
+                "merge -g no/such/file",
+                b"bedtools merge: no/such/file: cannot be opened\n",
+                1,
+            ),
+            ("merge -i /dev/null -g /dev/null", b"", 0),
+        ];
+        for (command, line, status) in &cases {
+            let mut words = Vec::new(rt.alloc());
+            for word in command.split_whitespace() {
+                words.push(String::from_str(rt.alloc(), word)?)?;
+            }
+            let message = start(&rt, words.as_slice());
+            assert_eq!(rt; message.line.as_bytes(), *line);
+            assert_eq!(rt; message.status, *status);
+        }
+        Ok(())
+    }
 }

@@ -1,10 +1,11 @@
 //! What the program itself tells: the lines that no run tells.
 
 ghost use Rattle.std.specs.Prelude.{◌≡◌, ◌++◌, codes, IfOk};
-ghost use Rattle.bedtools.specs.Message.{CanBeTold, line_of, status_of};
+ghost use Rattle.bedtools.specs.Message.{CanBeTold, Says, line_of, line_seen, status_of};
 
 use bt_tool::{Usage, usage_line};
 use std::alloc::{AllocError, Global};
+use std::io::Write;
 
 /// What kept a run from beginning, or its fault from being told.
 #[derive(Clone, Copy)]
@@ -15,31 +16,69 @@ pub enum Trouble<'a> {
     Usage(&'a [String], Usage),
     /// A file of this name, which a run of this command asks for, can't be opened.
     CannotOpen(&'a str, &'a str),
-    /// A buffer couldn't grow.
-    NoMemory,
 }
 
-/// A line for standard error with its line feed, and the exit status that goes with it.
+/// What standard error is to say, and the exit status that goes with it.
 #[derive(Debug, Drop)]
 pub struct Message {
-    pub line: Vec<u8>,
+    pub line: MessageLine,
     pub status: u8,
 }
 
-/// The line that is printed where no other finds memory. The status is then 1.
-pub const NO_MEMORY: &[u8] = b"bedtools: no memory\n";
+/// The line of a message, with its line feed.
+#[derive(Debug, Drop)]
+pub enum MessageLine {
+    /// Nothing is printed.
+    Nothing,
+    Text(Vec<u8>),
+    /// The line that needs no memory: that there was none.
+    NoMemory,
+}
 
-/// The line that tells a trouble, and the exit status: 2 for a command line that can't be used, else
-/// 1. `Err` where memory runs out.
-pub fn message_of(alloc: Global, trouble: &Trouble<'_>) -> Result<Message, AllocError>
-    requires { CanBeTold trouble.now }
-    ensures line { IfOk result (λ message. message.line.items ≡ line_of trouble.now) }
-    ensures status { IfOk result (λ message. message.status ≡ status_of trouble.now) }
-{
-    Ok(Message {
-        line: line_of(alloc, trouble)?,
-        status: status_of(trouble),
-    })
+impl Message {
+    /// Tells a trouble. The exit status is 2 for a command line that can't be used, else 1. Where the
+    /// line finds no memory, that is told, with status 1.
+    pub fn of(alloc: Global, trouble: &Trouble<'_>) -> Message
+        requires { CanBeTold trouble.now }
+        ensures { Says (line_of trouble.now) (status_of trouble.now) result }
+    {
+        match line_of(alloc, trouble) {
+            Ok(line) => Message {
+                line: MessageLine::Text(line),
+                status: status_of(trouble),
+            },
+            Err(_) => Message::no_memory(),
+        }
+    }
+
+    /// Tells that there was no memory.
+    pub fn no_memory() -> Message
+        ensures line { line_seen result.line ≡ codes "bedtools: no memory\n" }
+        ensures status { result.status ≡ 1 }
+    {
+        Message {
+            line: MessageLine::NoMemory,
+            status: 1,
+        }
+    }
+
+    /// Prints the line on standard error. Where that fails there is nowhere left to say so.
+    pub fn print(&self, rt: &HostRuntime) {
+        let _ = rt.stderr().write_all(self.line.as_bytes());
+    }
+}
+
+impl MessageLine {
+    /// The bytes to print.
+    pub fn as_bytes(&self) -> &[u8]
+        ensures { result.now ≡ line_seen self.now }
+    {
+        match self {
+            MessageLine::Nothing => b"",
+            MessageLine::Text(line) => line.as_slice(),
+            MessageLine::NoMemory => b"bedtools: no memory\n",
+        }
+    }
 }
 
 // The line that tells a trouble.
@@ -51,7 +90,6 @@ fn line_of(alloc: Global, trouble: &Trouble<'_>) -> Result<Vec<u8>, AllocError>
         Trouble::NotUnicode => Vec::from_slice(alloc, b"bedtools: argument is not UTF-8\n"),
         Trouble::Usage(words, usage) => usage_line(alloc, words, usage),
         Trouble::CannotOpen(command, name) => cannot_open(alloc, command, name),
-        Trouble::NoMemory => Vec::from_slice(alloc, NO_MEMORY),
     }
 }
 
@@ -61,7 +99,7 @@ fn status_of(trouble: &Trouble<'_>) -> u8
 {
     match trouble {
         Trouble::NotUnicode | Trouble::Usage(_, _) => 2,
-        Trouble::CannotOpen(_, _) | Trouble::NoMemory => 1,
+        Trouble::CannotOpen(_, _) => 1,
     }
 }
 
@@ -91,7 +129,7 @@ mod tests {
             String::from_str(alloc, "-q")?,
         ];
         let usage = Usage { number: 2, word: 1 };
-        let cases: [(Trouble<'_>, &[u8], u8); 4] = [
+        let cases: [(Trouble<'_>, &[u8], u8); 3] = [
             (
                 Trouble::CannotOpen("merge", "g.txt"),
                 b"bedtools merge: g.txt: cannot be opened\n",
@@ -103,13 +141,18 @@ mod tests {
                 b"bedtools: unknown option: -q\n",
                 2,
             ),
-            (Trouble::NoMemory, b"bedtools: no memory\n", 1),
         ];
         for (trouble, line, status) in &cases {
-            let told = message_of(alloc, trouble)?;
-            assert_eq!(rt; told.line.as_slice(), *line);
-            assert_eq!(rt; told.status, *status);
+            let message = Message::of(alloc, trouble);
+            assert_eq!(rt; message.line.as_bytes(), *line);
+            assert_eq!(rt; message.status, *status);
         }
+        let message = Message::no_memory();
+        assert_eq!(rt;
+            message.line.as_bytes(),
+            b"bedtools: no memory\n".as_slice()
+        );
+        assert_eq!(rt; message.status, 1);
         Ok(())
     }
 }

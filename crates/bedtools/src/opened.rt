@@ -1,36 +1,46 @@
 //! An input that the program has opened: a file or standard input.
 
-ghost use Rattle.std.specs.Prelude.{None};
-ghost use Rattle.bedtools.specs.Opened.{opened_has_failed, opened_end_told};
+ghost use Rattle.std.specs.Prelude.{◌≡◌, None};
+ghost use Rattle.bedtools.specs.Opened.{input_meant, file_named, opened_has_failed, opened_end_told};
 
 use bt_lines::{DeviceFailed, FromRead, Source};
-use std::alloc::Global;
 use std::fs::File;
 use std::io;
-use std::io::{BufReader, Stdin};
+use std::io::Stdin;
 
-/// An opened input, read in blocks.
+/// An opened input. `run` reads it in blocks.
 #[derive(Drop)]
 pub enum Opened {
-    File(FromRead<BufReader<File>>),
-    Standard(FromRead<BufReader<Stdin>>),
+    File(FromRead<File>),
+    Standard(FromRead<Stdin>),
 }
 
 impl Opened {
-    /// Opens the input of this name: standard input for `-` and `stdin`, else a file.
+    /// Opens the input of this name.
     pub fn open(rt: &HostRuntime, name: &str) -> io::Result<Opened> {
-        if name == "-" || name == "stdin" {
-            return Opened::standard(rt);
+        match input_named(name) {
+            Input::Standard => Ok(Opened::Standard(FromRead::new(rt.stdin()))),
+            Input::File(name) => Ok(Opened::File(FromRead::new(File::open(rt, name)?))),
         }
-        let file = File::open(rt, name)?;
-        Ok(Opened::File(FromRead::new(BufReader::new(rt.alloc(), file)?)))
     }
+}
 
-    /// Standard input.
-    fn standard(rt: &HostRuntime) -> io::Result<Opened> {
-        let reader = BufReader::new(rt.alloc(), rt.stdin())?;
-        Ok(Opened::Standard(FromRead::new(reader)))
+/// What the name of an input means.
+#[derive(Clone, Copy, Debug, PartialEq, Eq)]
+pub enum Input<'a> {
+    Standard,
+    /// The file of this name.
+    File(&'a str),
+}
+
+/// The input that a name means: standard input for `-` and `stdin`, else a file.
+pub fn input_named(name: &str) -> Input<'_>
+    ensures { input_meant result ≡ file_named name.now }
+{
+    if name == "-" || name == "stdin" {
+        return Input::Standard;
     }
+    Input::File(name)
 }
 
 impl Source for Opened {
@@ -52,5 +62,27 @@ impl Source for Opened {
             Opened::File(source) => source.failed(),
             Opened::Standard(source) => source.failed(),
         }
+    }
+}
+
+#[cfg(test)]
+mod tests {
+    use super::*;
+    use std::test::Fail;
+
+    #[test]
+    fn names_of_inputs(rt: HostRuntime) -> Result<(), Fail> {
+        let cases = [
+            ("-", Input::Standard),
+            ("stdin", Input::Standard),
+            ("a.bed", Input::File("a.bed")),
+            ("./-", Input::File("./-")),
+            ("stdin.bed", Input::File("stdin.bed")),
+            ("--", Input::File("--")),
+        ];
+        for (name, input) in &cases {
+            assert_eq!(rt; input_named(name), *input);
+        }
+        Ok(())
     }
 }

@@ -4,20 +4,18 @@ ghost use Rattle.std.specs.Prelude.{None};
 ghost use Rattle.bedtools.specs.Opened.{output_has_failed, output_is_flushed};
 
 use bt_lines::{DeviceFailed, Sink, ToWrite};
-use std::io;
-use std::io::{BufWriter, Stdout};
+use std::io::Stdout;
 
-/// An output, written in blocks.
+/// An output. `run` writes to it in blocks.
 #[derive(Drop)]
 pub enum Output {
-    Standard(ToWrite<BufWriter<Stdout>>),
+    Standard(ToWrite<Stdout>),
 }
 
 impl Output {
     /// Standard output.
-    pub fn standard(rt: &HostRuntime) -> io::Result<Output> {
-        let writer = BufWriter::new(rt.alloc(), rt.stdout())?;
-        Ok(Output::Standard(ToWrite::new(writer)))
+    pub fn standard(rt: &HostRuntime) -> Output {
+        Output::Standard(ToWrite::new(rt.stdout()))
     }
 }
 

@@ -1,14 +1,16 @@
 -- Lemmas on the entries of a genome file.
-use Rattle.std.proofs.Common.{◌≡◌, ℕ, Bool, true, false, ◌||◌, cond, List, [], ◌∷◌, ◌++◌, Option, Some, None, Result, Ok, Err, refl, sym, ap, ◌∙◌, subst, append_assoc, append-nil}
-use Rattle.std.specs.Prelude.{bytes_eq}
+use Rattle.std.proofs.Common.{◌≡◌, ℕ, zero, suc, ◌+◌, ◌<◌, ◌≤◌, arith, take, Bool, true, false, ◌||◌, cond, List, [], ◌∷◌, ◌++◌, Option, Some, None, Result, Ok, Err, refl, sym, ap, ◌∙◌, subst, append_assoc, append-nil}
+use Rattle.std.specs.Prelude.{IfErr, bytes_eq}
 use Rattle.std.proofs.lemmas.Bool.{false≢true}
 use Rattle.bt_lines.specs.Fault.{Told}
-use Rattle.bt_lines.specs.Lines.{TextLine}
+use Rattle.bt_lines.proofs.TextLemmas.{lines_are_numbered}
+use Rattle.bt_lines.specs.Lines.{TextLine, AreNumbered, text_lines}
 use Rattle.bt_lines.specs.declared.fault.Input.{Input}
 use Rattle.bt_lines.specs.declared.fault.Kind.{Kind}
 use Rattle.bt_lines.specs.declared.fault.Kind.TheVariants.{RepeatedChrom}
+use Rattle.bt_bed.specs.GoodLines.{IsFaultBeyond}
 use Rattle.bt_bed.specs.Rank.{is_among, AreDistinct}
-use Rattle.bt_bed.specs.Genome.{Entry, genome_names, genome_from, genome_with, genome_names_are_distinct, new_entry, entry_of, with_entry}
+use Rattle.bt_bed.specs.Genome.{Entry, genome_names, genome_from, genome_with, genome_names_are_distinct, first_lines_make_entries, new_entry, entry_of, with_entry}
 use Rattle.bt_bed.proofs.NameLemmas.{name_ne-sym}
 
 pub neither : (a b : Bool) → (a || b) ≡ false → (a ≡ false) × (b ≡ false)
@@ -120,3 +122,31 @@ says_then input names [] others entries e =
     rw (none, append-nil) (sym (before_none (genome_from input names others)))
 says_then input names (line ∷ given) others entries e =
     said_with input line.number names given others (new_entry names (entry_of line.text)) entries (λ now. says_then input now given others) e
+
+first_with : (input : Input) (count number : ℕ) (names : List (List ℕ)) (said : Result (Option Entry) Kind) (whole taken : List (List ℕ) → Result (List Entry) Told) → number ≤ count
+    → ((now : List (List ℕ)) → IfErr (whole now) (IsFaultBeyond count) → (entries : List Entry) × (taken now ≡ Ok entries))
+    → IfErr (genome_with input number names said whole) (IsFaultBeyond count) → (entries : List Entry) × (genome_with input number names said taken ≡ Ok entries)
+first_with input count number names (Err kind) whole taken low h beyond = absurd (let high : count < number = beyond in omega arith)
+first_with input count number names (Ok None) whole taken low h beyond = h names beyond
+first_with input count number names (Ok (Some entry)) whole taken low h beyond =
+    let now = names ++ entry.name ∷ [] in
+    let more = h now (err_behind count entry (whole now) beyond) in
+    (entry ∷ more.0, ap (with_entry entry) more.1)
+  where
+    err_behind : (count : ℕ) (entry : Entry) (result : Result (List Entry) Told) → IfErr (with_entry entry result) (IsFaultBeyond count) → IfErr result (IsFaultBeyond count)
+    err_behind count entry (Ok entries) beyond = tt
+    err_behind count entry (Err fault) beyond = beyond
+
+-- where the fault, if there is one, lies behind the first lines, these have none
+pub first_entries_from : (input : Input) (more count number : ℕ) (names : List (List ℕ)) (lines : List TextLine) → suc count ≡ number + more → AreNumbered number lines
+    → IfErr (genome_from input names lines) (IsFaultBeyond count) → (entries : List Entry) × (genome_from input names (take more lines) ≡ Ok entries)
+unfolding genome_from
+first_entries_from input zero count number names lines size n beyond = ([], refl)
+first_entries_from input (suc more) count number names [] size n beyond = ([], refl)
+first_entries_from input (suc more) count number names (line ∷ lines) size n beyond =
+    let same = n.0 in
+    first_with input count line.number names (new_entry names (entry_of line.text)) (λ now. genome_from input now lines) (λ now. genome_from input now (take more lines)) (omega arith)
+    (λ now later. first_entries_from input more count (suc number) now lines (omega arith) n.1 later) beyond
+
+pub first_make_entries : first_lines_make_entries
+first_make_entries input count text beyond = first_entries_from input count count 1 [] (text_lines text) (omega arith) (lines_are_numbered 1 text) beyond

@@ -1,122 +1,119 @@
--- Lemmas on what is good of the lines.
-use Rattle.std.proofs.Common.{◌≡◌, ℕ, ◌<◌, Bool, true, false, cond, List, [], ◌∷◌, Option, Some, None, Result, Ok, Err, refl, sym, subst, inl, inr, arith}
-use Rattle.std.specs.Prelude.{IsTrue, IfSome, nat_lt}
-use Rattle.std.specs.Ordering.{ordering_reverse}
-use Rattle.std.specs.declared.cmp.Ordering.{Ordering}
-use Rattle.std.specs.declared.cmp.Ordering.TheVariants.{Less, Equal, Greater}
-use Rattle.std.proofs.lemmas.Bool.Decides.{nat_tests}
-use Rattle.std.proofs.lemmas.List.Elements.{All-nil, All-cons}
-use Rattle.bt_lines.specs.Lines.{TextLine}
+-- Lemmas on what is good of lines, whatever they say.
+use Rattle.std.proofs.Common.{◌≡◌, ℕ, zero, suc, ◌+◌, ◌<◌, ◌≤◌, List, [], ◌∷◌, ◌++◌, take, length, Option, Some, None, Result, Ok, Err, refl, sym, ap, subst, arith}
+use Rattle.std.specs.Prelude.{All, IfSome}
+use Rattle.std.proofs.lemmas.List.Elements.{All-nil, All-cons, All-head, All-tail}
+use Rattle.bt_lines.specs.Fault.{Told}
+use Rattle.bt_lines.specs.Lines.{TextLine, AreNumbered}
 use Rattle.bt_lines.specs.declared.fault.Input.{Input}
 use Rattle.bt_lines.specs.declared.fault.Kind.{Kind}
-use Rattle.bt_lines.specs.declared.fault.Kind.TheVariants.{UnknownChrom, OutOfOrder}
-use Rattle.bt_bed.specs.Feature.{Feature, interval_of, intervals_of}
-use Rattle.bt_bed.specs.Interval.{AreNonEmpty}
-use Rattle.bt_bed.specs.Order.{Order, IsTotal}
-use Rattle.bt_bed.specs.Place.{Place, is_below_at, falls_below, IsUpTo, ArePlaced, IsPlacedBefore}
-use Rattle.bt_bed.specs.Record.{record_of}
-use Rattle.bt_bed.specs.Good.{Good, good_are_placed, good_are_non_empty, good_from, good_with, line_says, said_after, place_at}
-use Rattle.bt_bed.proofs.SaidLemmas.{said_features}
+use Rattle.bt_bed.specs.Good.{Format, Good, Member, good_from, good_with}
+use Rattle.bt_bed.specs.GoodLines.{AreAscending, IsBeyond, IsFaultBeyond}
 
--- a record that a line says behind the last place: its chromosome is known, and its place doesn't fall
-pub record Said (order : Order) (last : Option Place) (text : List ℕ) (r : Feature) : Type 0 where
-  pub known : IsTrue (order.knows r.chrom)
-  pub stays : falls_below order last (place_at r) ≡ false
-  pub says : record_of text ≡ Ok (Some r)
+module _ {A State : Type 0} (format : Format A State) (input : Input) where
+  -- the members of numbered lines ascend from the first number
+  ascend_with : (number : ℕ) (state : State) (said : Result (Option A) Kind) (rest : State → Good A)
+      → ((now : State) → AreAscending (suc number) (rest now).members) → AreAscending number (good_with format input number state said rest).members
+  ascend_with number state (Err kind) rest h = tt
+  ascend_with number state (Ok None) rest h = ascend_less number (rest state).members (h state)
+    where
+      ascend_less : (number : ℕ) (members : List (Member A)) → AreAscending (suc number) members → AreAscending number members
+      ascend_less number [] h = tt
+      ascend_less number (m ∷ ms) h = (let above = h.0 in omega arith, h.1)
+  ascend_with number state (Ok (Some item)) rest h = (omega arith, h (format.after state item))
 
-chosen : (knows falls : Bool) (r s : Feature) → cond knows (cond falls (Err OutOfOrder) (Ok (Some r))) (Err UnknownChrom) ≡ Ok (Some s) → (knows ≡ true) × (falls ≡ false) × (r ≡ s)
-chosen false falls r s e = cc
-chosen true true r s e = cc
-chosen true false r s e = (refl, refl, cc)
+  pub ascend_from : (number : ℕ) (state : State) (lines : List TextLine) → AreNumbered number lines → AreAscending number (good_from format input state lines).members
+  unfolding good_from
+  ascend_from number state [] n = tt
+  ascend_from number state (line ∷ lines) n =
+      subst (λ k. AreAscending k (good_with format input line.number state (format.says state line) (λ now. good_from format input now lines)).members) n.0
+      (ascend_with line.number state (format.says state line) (λ now. good_from format input now lines)
+      (λ now. subst (λ k. AreAscending (suc k) (good_from format input now lines).members) (sym n.0) (ascend_from (suc number) now lines n.1)))
 
-said_by_record : (order : Order) (last : Option Place) (text : List ℕ) (said : Result (Option Feature) Kind) (r : Feature) → record_of text ≡ said → said_after order last said ≡ Ok (Some r) → Said order last text r
-said_by_record order last text (Err kind) r was e = cc
-said_by_record order last text (Ok None) r was e = cc
-said_by_record order last text (Ok (Some s)) r was e =
-    let tests = chosen (order.knows s.chrom) (falls_below order last (place_at s)) s r e in
-    subst (λ q. Said order last text q) tests.2 (record { known = tests.0; stays = tests.1; says = was })
+  within_with : (last number : ℕ) (state : State) (said : Result (Option A) Kind) (rest : State → Good A) → number ≤ last
+      → ((now : State) → All (λ m. m.line ≤ last) (rest now).members) → All (λ m. m.line ≤ last) (good_with format input number state said rest).members
+  within_with last number state (Err kind) rest n h = All-nil (λ m. m.line ≤ last)
+  within_with last number state (Ok None) rest n h = h state
+  within_with last number state (Ok (Some item)) rest n h =
+      All-cons (λ m. m.line ≤ last) (record { line = number; item = item }) (rest (format.after state item)).members n (h (format.after state item))
 
-pub line_said : (order : Order) (last : Option Place) (text : List ℕ) (r : Feature) → line_says order last text ≡ Ok (Some r) → Said order last text r
-unfolding line_says
-line_said order last text r e = said_by_record order last text (record_of text) r refl e
+  -- and none stands behind the last of them
+  pub within_from : (last number : ℕ) (state : State) (lines : List TextLine) → AreNumbered number lines → number + length lines ≤ suc last → All (λ m. m.line ≤ last) (good_from format input state lines).members
+  unfolding good_from
+  within_from last number state [] n e = All-nil (λ m. m.line ≤ last)
+  within_from last number state (line ∷ lines) n e =
+      within_with last line.number state (format.says state line) (λ now. good_from format input now lines) (let same = n.0 in omega arith) (λ now. within_from last (suc number) now lines n.1 (omega arith))
 
-reversed : (o p : Ordering) → p ≡ ordering_reverse o → o ≡ Greater → p ≡ Less
-reversed o p e g = cc
+ascending_beyond : {A : Type 0} (count line : ℕ) (members : List (Member A)) → count < line → AreAscending line members → All (λ m. count < m.line) members
+ascending_beyond {A} count line [] low asc = All-nil (λ (m : Member A). count < m.line)
+ascending_beyond {A} count line (m ∷ ms) low asc =
+    let first = asc.0 in
+    All-cons (λ (m : Member A). count < m.line) m ms (omega arith) (ascending_beyond count (suc m.line) ms (omega arith) asc.1)
 
-up_to_by : (order : Order) (last place : Place) → IsTotal order → IsTrue (order.knows last.chrom) → IsTrue (order.knows place.chrom)
-    → (o : Ordering) → order.compare place.chrom last.chrom ≡ o → is_below_at o place.start last.start ≡ false → IsUpTo order last place
-up_to_by order last place total was is Less e stays = absurd (let apart : true ≡ false = stays in cc)
-up_to_by order last place total was is Equal e stays =
-    inr (sym (total.equal place.chrom last.chrom is was e), let not_below : nat_lt place.start last.start ≡ false = stays in grind (arith, nat_tests))
-up_to_by order last place total was is Greater e stays =
-    inl (reversed (order.compare place.chrom last.chrom) (order.compare last.chrom place.chrom) (total.swapped place.chrom last.chrom is was) e)
+module _ {A State : Type 0} (format : Format A State) (input : Input) where
+  fault_with : (count number : ℕ) (state : State) (said : Result (Option A) Kind) (rest : State → Good A) → count < number
+      → ((now : State) → IfSome (rest now).fault (IsFaultBeyond count)) → IfSome (good_with format input number state said rest).fault (IsFaultBeyond count)
+  fault_with count number state (Err kind) rest low h = low
+  fault_with count number state (Ok None) rest low h = h state
+  fault_with count number state (Ok (Some item)) rest low h = h (format.after state item)
 
--- a place that doesn't fall below the last one isn't before it
-pub stays_up_to : (order : Order) (last place : Place) → IsTotal order → IsTrue (order.knows last.chrom) → IsTrue (order.knows place.chrom) → falls_below order (Some last) place ≡ false → IsUpTo order last place
-stays_up_to order last place total was is stays = up_to_by order last place total was is (order.compare place.chrom last.chrom) refl stays
+  fault_from : (count number : ℕ) (state : State) (lines : List TextLine) → count < number → AreNumbered number lines → IfSome (good_from format input state lines).fault (IsFaultBeyond count)
+  unfolding good_from
+  fault_from count number state [] low n = tt
+  fault_from count number state (line ∷ lines) low n =
+      let same = n.0 in
+      fault_with count line.number state (format.says state line) (λ now. good_from format input now lines) (omega arith) (λ now. fault_from count (suc number) now lines (omega arith) n.1)
 
--- the records come behind the last place
-abbrev Follow : Order → Option Place → List Feature → Type 0
-Follow order None rs = Unit {0}
-Follow order (Some last) [] = Unit {0}
-Follow order (Some last) (r ∷ rs) = IsUpTo order last (place_at r)
+  -- what is good of lines behind the first so many lies behind them
+  pub beyond_from : (count : ℕ) (state : State) (lines : List TextLine) → AreNumbered (suc count) lines → IsBeyond count (good_from format input state lines)
+  beyond_from count state lines n = record {
+    members = ascending_beyond count (suc count) (good_from format input state lines).members (omega arith) (ascend_from format input (suc count) state lines n);
+    fault = fault_from count (suc count) state lines (omega arith) n;
+  }
 
--- the records are in order, and behind the last place
-record Placed (order : Order) (last : Option Place) (rs : List Feature) : Type 0 where
-  placed : ArePlaced order (intervals_of rs)
-  behind : Follow order last rs
+-- members from behind a line on have none up to it
+none_up_to : {A : Type 0} (count : ℕ) (past rest : List (Member A)) → AreAscending (suc count) (past ++ rest) → All (λ m. m.line ≤ count) past → past ≡ []
+none_up_to count [] rest asc up = refl
+none_up_to {A} count (m ∷ ms) rest asc up =
+    let low : m.line ≤ count = All-head (λ (m : Member A). m.line ≤ count) m ms up in
+    let high = asc.0 in
+    absurd (omega arith)
 
-abbrev IsKnownPlace : Order → Option Place → Type 0
-IsKnownPlace order last = IfSome last (λ place. IsTrue (order.knows place.chrom))
+no_front : {A : Type 0} (past rest : List (Member A)) → [] ≡ past ++ rest → past ≡ []
+no_front [] rest e = refl
+no_front (m ∷ ms) rest e = cc
 
-follow_nil : (order : Order) (last : Option Place) → Follow order last []
-follow_nil order None = tt
-follow_nil order (Some last) = tt
+module _ {A State : Type 0} (format : Format A State) (input : Input) where
+  first_with : (count number : ℕ) (state : State) (said : Result (Option A) Kind) (whole taken : State → Good A) (past rest : List (Member A)) (fault : Option Told) → number ≤ count
+      → ((now : State) (past : List (Member A)) → (whole now).members ≡ past ++ rest → (whole now).fault ≡ fault → All (λ m. m.line ≤ count) past → taken now ≡ record { members = past; fault = None })
+      → (good_with format input number state said whole).members ≡ past ++ rest → (good_with format input number state said whole).fault ≡ fault
+      → All (λ m. m.line ≤ count) past → IsBeyond count (record { members = rest; fault = fault })
+      → good_with format input number state said taken ≡ record { members = past; fault = None }
+  first_with count number state (Err kind) whole taken past rest fault low h e f up beyond =
+      let high = subst (λ fault. IfSome fault (IsFaultBeyond count)) (sym f) beyond.fault in
+      absurd (omega arith)
+  first_with count number state (Ok None) whole taken past rest fault low h e f up beyond = h state past e f up
+  first_with count number state (Ok (Some item)) whole taken [] rest fault low h e f up beyond =
+      let high : All (λ (m : Member A). count < m.line) (record { line = number; item = item } ∷ (whole (format.after state item)).members) = subst (λ ms. All (λ (m : Member A). count < m.line) ms) (sym e) beyond.members in
+      let first = All-head (λ (m : Member A). count < m.line) _ _ high in
+      absurd (omega arith)
+  first_with count number state (Ok (Some item)) whole taken (m ∷ ms) rest fault low h e f up beyond =
+      let now = format.after state item in
+      let same : record { line = number; item = item } ≡ m = cc in
+      let more : (whole now).members ≡ ms ++ rest = cc in
+      rw (h now ms more f (All-tail (λ (m : Member A). m.line ≤ count) m ms up)) (ap (λ (m : Member A). record { members = m ∷ ms; fault = None }) same)
 
-follow_said : (order : Order) (last : Option Place) (r : Feature) (rs : List Feature) → IsTotal order → IsKnownPlace order last → IsTrue (order.knows r.chrom) → falls_below order last (place_at r) ≡ false → Follow order last (r ∷ rs)
-follow_said order None r rs total was is stays = tt
-follow_said order (Some last) r rs total was is stays = stays_up_to order last (place_at r) total was is stays
-
-before_rest : (order : Order) (r : Feature) (rs : List Feature) → Follow order (Some (place_at r)) rs → IsPlacedBefore order (interval_of r) (intervals_of rs)
-before_rest order r [] f = tt
-before_rest order r (s ∷ ss) f = f
-
-placed_with : (input : Input) (order : Order) (last : Option Place) (line : TextLine) (rest : Option Place → Good) → IsTotal order → IsKnownPlace order last
-    → ((now : Option Place) → IsKnownPlace order now → Placed order now (rest now).records)
-    → (said : Result (Option Feature) Kind) → line_says order last line.text ≡ said → Placed order last (good_with input line.number last said rest).records
-placed_with input order last line rest total was h (Err kind) e = record { placed = tt; behind = follow_nil order last }
-placed_with input order last line rest total was h (Ok None) e = h last was
-placed_with input order last line rest total was h (Ok (Some r)) e =
-    let said = line_said order last line.text r e in
-    let more = h (Some (place_at r)) said.known in
-    record {
-      placed = (said.known, before_rest order r (rest (Some (place_at r))).records more.behind, more.placed);
-      behind = follow_said order last r (rest (Some (place_at r))).records total was said.known said.stays;
-    }
-
-placed_from : (input : Input) (order : Order) (last : Option Place) (lines : List TextLine) → IsTotal order → IsKnownPlace order last → Placed order last (good_from input order last lines).records
-unfolding good_from
-placed_from input order last [] total was = record { placed = tt; behind = follow_nil order last }
-placed_from input order last (line ∷ lines) total was =
-    placed_with input order last line (λ now. good_from input order now lines) total was (λ now is. placed_from input order now lines total is) (line_says order last line.text) refl
-
--- the good records are in order
-pub placed_good : good_are_placed
-placed_good input order lines total = (placed_from input order None lines total tt).placed
-
-non_empty_with : (input : Input) (order : Order) (last : Option Place) (line : TextLine) (rest : Option Place → Good) → ((now : Option Place) → AreNonEmpty (intervals_of (rest now).records))
-    → (said : Result (Option Feature) Kind) → line_says order last line.text ≡ said → AreNonEmpty (intervals_of (good_with input line.number last said rest).records)
-non_empty_with input order last line rest h (Err kind) e = All-nil (λ r. r.start < r.stop)
-non_empty_with input order last line rest h (Ok None) e = h last
-non_empty_with input order last line rest h (Ok (Some r)) e =
-    All-cons (λ r. r.start < r.stop) (interval_of r) (intervals_of (rest (Some (place_at r))).records) (said_features line.text r (line_said order last line.text r e).says).non_empty (h (Some (place_at r)))
-
-non_empty_from : (input : Input) (order : Order) (last : Option Place) (lines : List TextLine) → AreNonEmpty (intervals_of (good_from input order last lines).records)
-unfolding good_from
-non_empty_from input order last [] = All-nil (λ r. r.start < r.stop)
-non_empty_from input order last (line ∷ lines) =
-    non_empty_with input order last line (λ now. good_from input order now lines) (λ now. non_empty_from input order now lines) (line_says order last line.text) refl
-
--- the good records have positions
-pub non_empty_good : good_are_non_empty
-non_empty_good input order lines = non_empty_from input order None lines
+  -- what is good of the first lines are the members up to the last of these, where the others stand behind it
+  pub first_from : (more count number : ℕ) (state : State) (lines : List TextLine) (past rest : List (Member A)) (fault : Option Told) → suc count ≡ number + more → AreNumbered number lines
+      → (good_from format input state lines).members ≡ past ++ rest → (good_from format input state lines).fault ≡ fault
+      → All (λ m. m.line ≤ count) past → IsBeyond count (record { members = rest; fault = fault })
+      → good_from format input state (take more lines) ≡ record { members = past; fault = None }
+  unfolding good_from
+  first_from zero count number state lines past rest fault size n e f up beyond =
+      let start : number ≡ suc count = omega arith in
+      let none = none_up_to count past rest (subst (λ k. AreAscending k (past ++ rest)) start (subst (λ ms. AreAscending number ms) e (ascend_from format input number state lines n))) up in
+      rw none refl
+  first_from (suc more) count number state [] past rest fault size n e f up beyond = rw (no_front past rest e) refl
+  first_from (suc more) count number state (line ∷ lines) past rest fault size n e f up beyond =
+      let same = n.0 in
+      first_with count line.number state (format.says state line) (λ now. good_from format input now lines) (λ now. good_from format input now (take more lines)) past rest fault (omega arith)
+      (λ now past e f up. first_from more count (suc number) now lines past rest fault (omega arith) n.1 e f up beyond) e f up beyond

@@ -11,8 +11,16 @@ pub mod TableLemmas
 pub mod Kept
 pub mod HeaderLemmas
 pub mod FeatureLemmas
+pub mod PlainLemmas
 pub mod RoundTrip
 pub mod SaidLemmas
+pub mod SortingLemmas
 pub mod GoodLemmas
-pub mod TrackLemmas
+pub mod GoodBedLemmas
+pub mod ReadingLemmas
+pub mod NeighbourLemmas
+pub mod CursorLemmas
 pub mod RecordsLemmas
+pub mod IntervalLineLemmas
+pub mod MeetingLemmas
+pub mod RecordLineLemmas

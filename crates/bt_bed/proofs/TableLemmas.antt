@@ -1,8 +1,8 @@
 -- Lemmas on a table of chromosomes and on reading one.
-use Rattle.std.proofs.Common.{◌≡◌, ℕ, suc, ◌+◌, ◌-◌, Bool, true, false, cond, List, [], ◌∷◌, ◌++◌, map, length, take, Option, Some, None, Result, Ok, Err, refl, sym, ap, ◌∙◌, subst, append_assoc, append-nil, add-zero, length-append, inl, inr, arith}
-use Rattle.std.specs.Prelude.{◌⊎◌, ◌==◌, IfSome, Vec, bytes_eq, option_map, position, slice_get}
+use Rattle.std.proofs.Common.{◌≡◌, ℕ, zero, suc, ◌+◌, ◌-◌, Bool, true, false, cond, List, [], ◌∷◌, ◌++◌, map, length, take, Option, Some, None, Result, Ok, Err, refl, sym, ap, ◌∙◌, subst, append_assoc, append-nil, add-zero, length-append, inl, inr, arith}
+use Rattle.std.proofs.lemmas.List.Elements.{All-push, All-head, All-tail}
+use Rattle.std.specs.Prelude.{◌⊎◌, ◌==◌, ◌<◌, All, IfSome, Vec, bytes_eq, option_map, position, slice_get}
 use Rattle.std.specs.Option.{option_to_list}
-use Rattle.std.proofs.KnownBytes.{Consumes-nil, Consumes-trans}
 use Rattle.std.proofs.lemmas.List.{map-append}
 use Rattle.std.proofs.lemmas.Option.{slice_get-map}
 use Rattle.std.proofs.Math.Seq.{take-append_seam}
@@ -10,7 +10,7 @@ use Rattle.bt_lines.specs.Fault.{Told, read_failed, no_memory}
 use Rattle.bt_lines.specs.Given.{GivesFirst}
 use Rattle.bt_lines.specs.Lines.{TextLine, pieces}
 use Rattle.bt_lines.specs.Number.{value_of}
-use Rattle.bt_lines.specs.Reader.{Hands as HandsBytes, GivesLine, GivesEnd, GivesFault, FailsToRead, source_of, input_of, lines_given, bytes_taken, fault_kept, lines_left}
+use Rattle.bt_lines.specs.Reader.{Hands, IsSound, end_told, GivesLine, GivesEnd, GivesFault, FailsToRead, source_of, input_of, lines_given, fault_kept, lines_left}
 use Rattle.bt_lines.specs.declared.fault.Input.{Input}
 use Rattle.bt_lines.specs.declared.fault.Kind.{Kind}
 use Rattle.bt_lines.specs.declared.fault.Kind.TheVariants.{TooFewColumns, EmptyName, BadLength, RepeatedChrom}
@@ -24,54 +24,54 @@ use Rattle.std.specs.declared.alloc.Global.{Global}
 use Rattle.std.proofs.lemmas.Iterator.Adapters.{position_from-zero}
 use Rattle.indexmap.specs.IndexMap.{insert_entry}
 use Rattle.bt_bed.specs.Genome.{Entry, is_skipped, genome_names, genome_from, genome_of, new_entry, entry_of, entry_from, columns_give}
-use Rattle.bt_bed.specs.LineKind.{fault_at_line, is_of_line}
+use Rattle.bt_bed.specs.LineKind.{fault_at_line, is_genome_kind}
 use Rattle.bt_bed.specs.Rank.{is_among, rank_of, AreDistinct}
-use Rattle.bt_bed.specs.Reading.{Hands, ReadingFails, MemoryRanOut}
+use Rattle.bt_bed.proofs.HandsLemmas.{Passed, cut_fault, hands_both, near_fault, near_line, not_ended, passed_line, passed_none}
 use Rattle.bt_bed.specs.Record.{not_skipped}
-use Rattle.bt_bed.specs.GenomeTable.{entries, names_of, entry_seen, IsToldFirst, LineAdded, LineRefused, LineUnkept, ReadsAll, LineAtFault, ReadingStops}
+use Rattle.bt_bed.specs.GenomeTable.{entries, names_of, entry_seen, IsToldFirst, LineAdded, LineRefused, LineUnkept, ReadsAll, EntryIsWrong, ReadingStops, StopCause}
 use Rattle.bt_bed.specs.declared.genome.Genome.{Genome}
 
 -- the kind of an answer is of a line where the kind that it was is
-pub same_place : {T : Type 0} (was : Result T Kind) (a kind : Kind) → was ≡ Err a → was ≡ Err kind → is_of_line a ≡ true → is_of_line kind ≡ true
-same_place was a kind p q placed = let is : a ≡ kind = cc in subst (λ k. is_of_line k ≡ true) is placed
+pub same_place : {T : Type 0} (was : Result T Kind) (a kind : Kind) → was ≡ Err a → was ≡ Err kind → is_genome_kind a ≡ true → is_genome_kind kind ≡ true
+same_place was a kind p q placed = let is : a ≡ kind = cc in subst (λ k. is_genome_kind k ≡ true) is placed
 
-place_of_length : (b : Bool) (entry : Entry) (kind : Kind) → cond b (Err BadLength) (Ok entry) ≡ Err kind → is_of_line kind ≡ true
+place_of_length : (b : Bool) (entry : Entry) (kind : Kind) → cond b (Err BadLength) (Ok entry) ≡ Err kind → is_genome_kind kind ≡ true
 place_of_length true entry kind e = same_place {T = Entry} (Err BadLength) BadLength kind refl e refl
 place_of_length false entry kind e = cc
 
-place_of_entry : (name : List ℕ) (size : Option ℕ) (kind : Kind) → entry_from name size ≡ Err kind → is_of_line kind ≡ true
+place_of_entry : (name : List ℕ) (size : Option ℕ) (kind : Kind) → entry_from name size ≡ Err kind → is_genome_kind kind ≡ true
 place_of_entry [] size kind e = same_place {T = Entry} (Err EmptyName) EmptyName kind refl e refl
 place_of_entry (byte ∷ bytes) None kind e = same_place {T = Entry} (Err BadLength) BadLength kind refl e refl
 place_of_entry (byte ∷ bytes) (Some n) kind e = place_of_length (n == 0) (record { name = byte ∷ bytes; length = n }) kind e
 
-place_of_columns : (columns : List (List ℕ)) (kind : Kind) → columns_give columns ≡ Err kind → is_of_line kind ≡ true
+place_of_columns : (columns : List (List ℕ)) (kind : Kind) → columns_give columns ≡ Err kind → is_genome_kind kind ≡ true
 place_of_columns [] kind e = same_place {T = Entry} (Err TooFewColumns) TooFewColumns kind refl e refl
 place_of_columns (name ∷ []) kind e = same_place {T = Entry} (Err TooFewColumns) TooFewColumns kind refl e refl
 place_of_columns (name ∷ size ∷ rest) kind e = place_of_entry name (value_of size) kind e
 
-place_of_said : (said : Result Entry Kind) (kind : Kind) → not_skipped said ≡ Err kind → ((k : Kind) → said ≡ Err k → is_of_line k ≡ true) → is_of_line kind ≡ true
+place_of_said : (said : Result Entry Kind) (kind : Kind) → not_skipped said ≡ Err kind → ((k : Kind) → said ≡ Err k → is_genome_kind k ≡ true) → is_genome_kind kind ≡ true
 place_of_said (Ok entry) kind e h = cc
 place_of_said (Err k) kind e h = same_place {T = Option Entry} (Err k) k kind refl e (h k refl)
 
-place_of_line : (b : Bool) (columns : List (List ℕ)) (kind : Kind) → cond b (Ok None) (not_skipped (columns_give columns)) ≡ Err kind → is_of_line kind ≡ true
+place_of_line : (b : Bool) (columns : List (List ℕ)) (kind : Kind) → cond b (Ok None) (not_skipped (columns_give columns)) ≡ Err kind → is_genome_kind kind ≡ true
 place_of_line true columns kind e = cc
 place_of_line false columns kind e = place_of_said (columns_give columns) kind e (place_of_columns columns)
 
-place_of_text : (text : List ℕ) (kind : Kind) → entry_of text ≡ Err kind → is_of_line kind ≡ true
+place_of_text : (text : List ℕ) (kind : Kind) → entry_of text ≡ Err kind → is_genome_kind kind ≡ true
 unfolding entry_of
 place_of_text text kind e = place_of_line (is_skipped text) (pieces 9 text) kind e
 
-place_of_repeated : (b : Bool) (entry : Entry) (kind : Kind) → cond b (Err RepeatedChrom) (Ok (Some entry)) ≡ Err kind → is_of_line kind ≡ true
+place_of_repeated : (b : Bool) (entry : Entry) (kind : Kind) → cond b (Err RepeatedChrom) (Ok (Some entry)) ≡ Err kind → is_genome_kind kind ≡ true
 place_of_repeated true entry kind e = same_place {T = Option Entry} (Err RepeatedChrom) RepeatedChrom kind refl e refl
 place_of_repeated false entry kind e = cc
 
-place_of_new : (names : List (List ℕ)) (said : Result (Option Entry) Kind) (kind : Kind) → new_entry names said ≡ Err kind → ((k : Kind) → said ≡ Err k → is_of_line k ≡ true) → is_of_line kind ≡ true
+place_of_new : (names : List (List ℕ)) (said : Result (Option Entry) Kind) (kind : Kind) → new_entry names said ≡ Err kind → ((k : Kind) → said ≡ Err k → is_genome_kind k ≡ true) → is_genome_kind kind ≡ true
 place_of_new names (Err k) kind e h = same_place {T = Option Entry} (Err k) k kind refl e (h k refl)
 place_of_new names (Ok None) kind e h = cc
 place_of_new names (Ok (Some entry)) kind e h = place_of_repeated (is_among names entry.name) entry kind e
 
 -- what is wrong with a line is of a line
-pub refused_at_place : (names : List (List ℕ)) (text : List ℕ) (kind : Kind) → new_entry names (entry_of text) ≡ Err kind → is_of_line kind ≡ true
+pub refused_at_place : (names : List (List ℕ)) (text : List ℕ) (kind : Kind) → new_entry names (entry_of text) ≡ Err kind → is_genome_kind kind ≡ true
 refused_at_place names text kind e = place_of_new names (entry_of text) kind e (place_of_text text)
 
 -- a rank is counted from n
@@ -232,30 +232,34 @@ distinct_more front said None d e = rw append-nil d
 distinct_more front said (Some entry) d e =
     rw (map-append (λ it. it.name) front (entry ∷ [])) (distinct_push (genome_names front) entry.name d (is_new (genome_names front) said entry e))
 
+-- the lines given made entries
+given_entries : (input : Input) (old now : Option (List TextLine)) (from to : ℕ) (front : List Entry) → Continues input old from front now to → IfSome old (λ lines. (entries : List Entry) × (genome_of input (take (to - from) lines) ≡ Ok entries))
+given_entries input None now from to front c = tt
+given_entries input (Some old) None from to front c = absurd c
+given_entries input (Some old) (Some now) from to front c = (front, ap (λ lines. genome_of input lines) (first_lines old c.0 now from to c.1 c.2) ∙ c.3)
+
 -- how far the reading of a genome file is: nothing was read by a reader that had a fault
-pub record Going {S : Type 0} (left : S → Option (List ℕ)) (failed : S → Bool) (old now : LineReader S) (genome : Genome) : Type 0 where
+pub record Going {S : Type 0} (left : S → Option (List ℕ)) (failed end : S → Bool) (old now : LineReader S) (genome : Genome) : Type 0 where
   pub continues : Continues (input_of old) (lines_left left old) (lines_given old) (entries genome) (lines_left left now) (lines_given now)
   pub distinct : AreDistinct (names_of genome)
   pub stays : (before : Told) → fault_kept old ≡ Some before → now ≡ old
   pub going : fault_kept old ≡ None → fault_kept now ≡ None
   pub served : failed (source_of now) ≡ failed (source_of old)
-  pub same_input : input_of now ≡ input_of old
-  pub bytes : Hands left old now
+  pub passed : Passed left end old now
 
-module _ {S : Type 0} (left : S → Option (List ℕ)) (failed : S → Bool) (old : LineReader S) where
-  pub going_start : (genome : Genome) → entries genome ≡ [] → Going left failed old old genome
+module _ {S : Type 0} (left : S → Option (List ℕ)) (failed end : S → Bool) (old : LineReader S) where
+  pub going_start : (genome : Genome) → entries genome ≡ [] → Going left failed end old old genome
   going_start genome none = record {
     continues = rw none (continues_start (input_of old) (lines_left left old) (lines_given old));
     distinct = rw none tt;
     stays = λ before e. refl;
     going = λ e. e;
     served = refl;
-    same_input = refl;
-    bytes = ([], Consumes-nil (left (source_of old)), sym (add-zero (bytes_taken old)));
+    passed = passed_none left end old;
   }
 
   -- a reader that answers anything but a fault had none from the start
-  had_none : (now : LineReader S) (genome : Genome) → Going left failed old now genome → fault_kept now ≡ None → fault_kept old ≡ None
+  had_none : (now : LineReader S) (genome : Genome) → Going left failed end old now genome → fault_kept now ≡ None → fault_kept old ≡ None
   had_none now genome g none = by (fault_kept old) refl
     where
       by : (kept : Option Told) → fault_kept old ≡ kept → kept ≡ None
@@ -267,39 +271,36 @@ module _ {S : Type 0} (left : S → Option (List ℕ)) (failed : S → Bool) (ol
   distinct_line : (text : List ℕ) (genome grown : Genome) → AreDistinct (names_of genome) → LineAdded text genome grown → AreDistinct (names_of grown)
   distinct_line text genome grown d added = rw added.added (distinct_more (entries genome) (entry_of text) added.entry d added.says)
 
-  both : (now next : LineReader S) → Hands left old now → (bytes : List ℕ) × HandsBytes left now bytes next → Hands left old next
-  both now next h more = (
-    h.0 ++ more.0,
-    Consumes-trans (left (source_of old)) (left (source_of now)) (left (source_of next)) h.0 more.0 h.1 more.1.left_over,
-    omega (arith, h.2, more.1.counted, length-append h.0 more.0),
-  )
+  both : (now next : LineReader S) → (bytes : List ℕ) × Hands left old bytes now → (bytes : List ℕ) × Hands left now bytes next → (bytes : List ℕ) × Hands left old bytes next
+  both now next h more = (h.0 ++ more.0, hands_both left old now next h.0 more.0 h.1 more.1)
 
-  handed : (now next : LineReader S) (line : TextLine) → Hands left old now → GivesLine left failed now line next → Hands left old next
-  handed now next line h gives = both now next h (gives.bytes.0, gives.bytes.1)
+  same_input : (now : LineReader S) (genome : Genome) → Going left failed end old now genome → input_of now ≡ input_of old
+  same_input now genome g = g.passed.bytes.1.same_input
 
-  pub going_line : (now next : LineReader S) (line : TextLine) (genome grown : Genome) → Going left failed old now genome → GivesLine left failed now line next → LineAdded line.text genome grown → Going left failed old next grown
-  going_line now next line genome grown g gives added = record {
+  pub going_line : (now next : LineReader S) (line : TextLine) (genome grown : Genome) → Going left failed end old now genome → GivesLine left failed now line next → (IsSound left end now → IsSound left end next) → LineAdded line.text genome grown → Going left failed end old next grown
+  going_line now next line genome grown g gives sound added = record {
     continues = rw added.added (continues_line (input_of old) (lines_left left old) (lines_left left now) (lines_left left next) (lines_given old) (lines_given now) (lines_given next) (entries genome) line added.entry g.continues gives.first gives.counted added.says);
     distinct = distinct_line line.text genome grown g.distinct added;
     stays = λ before e. let none = had_none now genome g gives.was_going.0 in cc;
     going = λ e. gives.goes;
     served = gives.served ∙ g.served;
-    same_input = gives.bytes.1.same_input ∙ g.same_input;
-    bytes = handed now next line g.bytes gives;
+    passed = passed_line left end failed old now next g.passed line gives sound;
   }
 
-  pub going_end : (now new : LineReader S) (genome : Genome) → Going left failed old now genome → GivesEnd left failed now new → ReadsAll left failed old new genome
+  pub going_end : (now new : LineReader S) (genome : Genome) → Going left failed end old now genome → GivesEnd left failed now new → ReadsAll left failed old new genome
   going_end now new genome g gives = record {
     was_going = had_none now genome g gives.was_going;
     is = continues_end (input_of old) (lines_left left old) (lines_left left now) (lines_given old) (lines_given now) (entries genome) g.continues gives.none_left;
     distinct = g.distinct;
     ended = gives.ends;
+    told = gives.told;
+    going = gives.goes;
     served = gives.served ∙ g.served;
-    bytes = both now new g.bytes (gives.bytes.0, gives.bytes.1);
+    bytes = both now new g.passed.bytes (gives.bytes.0, gives.bytes.1);
   }
 
-  pub going_refused : (now next : LineReader S) (line : TextLine) (genome : Genome) (place : Place) (fault : Told) → Going left failed old now genome → GivesLine left failed now line next
-      → place ≡ record { input = input_of old; line = line.number } → LineRefused place line.text genome fault → LineAtFault left failed old next fault
+  pub going_refused : (now next : LineReader S) (line : TextLine) (genome : Genome) (place : Place) (fault : Told) → Going left failed end old now genome → GivesLine left failed now line next
+      → place ≡ record { input = input_of old; line = line.number } → LineRefused place line.text genome fault → EntryIsWrong left failed old next fault
   going_refused now next line genome place fault g gives at refused =
       let is : fault ≡ fault_at_line (input_of old) line.number refused.kind = refused.is ∙ ap (λ (p : Place). fault_at_line p.input p.line refused.kind) at in
       let counted : line.number ≡ lines_given next = gives.number ∙ sym gives.counted in
@@ -311,56 +312,74 @@ module _ {S : Type 0} (left : S → Option (List ℕ)) (failed : S → Bool) (ol
         says = refused.says;
         of_line = refused_at_place (names_of genome) line.text refused.kind refused.says;
         place = is ∙ ap (λ n. fault_at_line (input_of old) n refused.kind) counted;
+        going = gives.goes;
         served = gives.served ∙ g.served;
-        bytes = handed now next line g.bytes gives;
       }
 
-  -- why the reading stopped
-  abbrev Stops : LineReader S → Told → Type 0
-  Stops new fault = ReadingFails left failed old new fault ⊎ MemoryRanOut failed old new fault
+  stops_by : (now new : LineReader S) (genome : Genome) (fault : Told) → Going left failed end old now genome → GivesFault left failed now fault new → fault_kept now ≡ None → FailsToRead left failed now fault new ⊎ (fault ≡ no_memory) → StopCause left failed end old new fault
+  stops_by now new genome fault g gives going (inl fails) = inr (inl (record {
+    fails = record {
+      is = fails.is ∙ ap (λ i. read_failed i (suc (lines_given now))) (same_input now genome g) ∙ ap (λ n. read_failed (input_of old) (suc n)) (sym gives.counted);
+      cause = fails.cause;
+      before_end = not_ended (end_told old) (end_told now) g.passed.bytes.1.told_stays (gives.before_end going);
+      cut = cut_fault left end failed old now new g.passed fault gives going fails.is;
+    };
+    passed = rw gives.counted (given_entries (input_of old) (lines_left left old) (lines_left left now) (lines_given old) (lines_given now) (entries genome) g.continues);
+  }))
+  stops_by now new genome fault g gives going (inr is) = inr (inr (record { is = is; served = gives.served is ∙ g.served }))
 
-  stops_by : (now new : LineReader S) (genome : Genome) (fault : Told) → Going left failed old now genome → GivesFault left failed now fault new → FailsToRead left failed now fault new ⊎ (fault ≡ no_memory) → Stops new fault
-  stops_by now new genome fault g gives (inl fails) = inl (record {
-    is = fails.is ∙ ap (λ i. read_failed i (suc (lines_given now))) g.same_input ∙ ap (λ n. read_failed (input_of old) (suc n)) (sym gives.counted);
-    bytes = both now new g.bytes gives.bytes;
-    cause = fails.cause;
-  })
-  stops_by now new genome fault g gives (inr is) = inr (record { is = is; served = gives.served is ∙ g.served })
-
-  pub going_fault : (now new : LineReader S) (genome : Genome) (fault : Told) → Going left failed old now genome → GivesFault left failed now fault new → ReadingStops left failed old new fault
+  pub going_fault : (now new : LineReader S) (genome : Genome) (fault : Told) → Going left failed end old now genome → GivesFault left failed now fault new → ReadingStops left failed end old new fault
   going_fault now new genome fault g gives = record {
     again = λ before e.
         let same = g.stays before e in
         let told = gives.again before (ap fault_kept same ∙ e) in
         (told.0, told.1 ∙ same);
-    first = λ none. inr (stops_by now new genome fault g gives (gives.first (g.going none)));
+    first = λ none. stops_by now new genome fault g gives (g.going none) (gives.first (g.going none));
     checked = rw gives.counted (none_wrong (input_of old) (lines_left left old) (lines_left left now) (lines_given old) (lines_given now) (entries genome) fault g.continues);
+    bytes = both now new g.passed.bytes gives.bytes;
+    near = λ none sound. near_fault left end failed old now new g.passed fault gives (g.going none);
   }
 
   -- a line was refused, or had no room
-  going_wrong : (now next : LineReader S) (line : TextLine) (genome : Genome) (place : Place) (fault : Told) → Going left failed old now genome → GivesLine left failed now line next
-      → place ≡ record { input = input_of old; line = line.number } → LineRefused place line.text genome fault → ReadingStops left failed old next fault
-  going_wrong now next line genome place fault g gives at refused =
+  going_wrong : (now next : LineReader S) (line : TextLine) (genome : Genome) (place : Place) (fault : Told) → Going left failed end old now genome → GivesLine left failed now line next → (IsSound left end now → IsSound left end next)
+      → place ≡ record { input = input_of old; line = line.number } → LineRefused place line.text genome fault → ReadingStops left failed end old next fault
+  going_wrong now next line genome place fault g gives sound at refused =
       let none = had_none now genome g gives.was_going.0 in
       let is : fault ≡ fault_at_line (input_of old) line.number refused.kind = refused.is ∙ ap (λ (p : Place). fault_at_line p.input p.line refused.kind) at in
       record {
         again = λ before e. cc;
         first = λ going. inl (going_refused now next line genome place fault g gives at refused);
         checked = rw is (last_wrong (input_of old) (lines_left left old) (lines_left left now) (lines_left left next) (lines_given old) (lines_given now) (lines_given next) (entries genome) line refused.kind g.continues gives.first gives.counted refused.says);
+        bytes = both now next g.passed.bytes (gives.bytes.0, gives.bytes.1);
+        near = λ none was. near_line left end old next (passed_line left end failed old now next g.passed line gives sound) gives.goes was;
       }
 
-  going_unkept : (now next : LineReader S) (line : TextLine) (genome : Genome) (fault : Told) → Going left failed old now genome → GivesLine left failed now line next → LineUnkept line.text genome fault → ReadingStops left failed old next fault
-  going_unkept now next line genome fault g gives unkept =
+  going_unkept : (now next : LineReader S) (line : TextLine) (genome : Genome) (fault : Told) → Going left failed end old now genome → GivesLine left failed now line next → (IsSound left end now → IsSound left end next) → LineUnkept line.text genome fault → ReadingStops left failed end old next fault
+  going_unkept now next line genome fault g gives sound unkept =
       let none = had_none now genome g gives.was_going.0 in
       let more = continues_line (input_of old) (lines_left left old) (lines_left left now) (lines_left left next) (lines_given old) (lines_given now) (lines_given next) (entries genome) line (Some unkept.entry) g.continues gives.first gives.counted unkept.says in
       record {
         again = λ before e. cc;
         first = λ going. inr (inr (record { is = unkept.is; served = gives.served ∙ g.served }));
         checked = none_wrong (input_of old) (lines_left left old) (lines_left left next) (lines_given old) (lines_given next) (entries genome ++ unkept.entry ∷ []) fault more;
+        bytes = both now next g.passed.bytes (gives.bytes.0, gives.bytes.1);
+        near = λ none was. near_line left end old next (passed_line left end failed old now next g.passed line gives sound) gives.goes was;
       }
 
   -- a line could not be added
-  pub going_err : (now next : LineReader S) (line : TextLine) (genome : Genome) (place : Place) (fault : Told) → Going left failed old now genome → GivesLine left failed now line next
-      → place ≡ record { input = input_of old; line = line.number } → LineRefused place line.text genome fault ⊎ LineUnkept line.text genome fault → ReadingStops left failed old next fault
-  going_err now next line genome place fault g gives at (inl refused) = going_wrong now next line genome place fault g gives at refused
-  going_err now next line genome place fault g gives at (inr unkept) = going_unkept now next line genome fault g gives unkept
+  pub going_err : (now next : LineReader S) (line : TextLine) (genome : Genome) (place : Place) (fault : Told) → Going left failed end old now genome → GivesLine left failed now line next → (IsSound left end now → IsSound left end next)
+      → place ≡ record { input = input_of old; line = line.number } → LineRefused place line.text genome fault ⊎ LineUnkept line.text genome fault → ReadingStops left failed end old next fault
+  going_err now next line genome place fault g gives sound at (inl refused) = going_wrong now next line genome place fault g gives sound at refused
+  going_err now next line genome place fault g gives sound at (inr unkept) = going_unkept now next line genome fault g gives sound unkept
+
+-- a length at a rank is that of a chromosome
+pub some_length : (chromosomes : List (Vec ℕ Global × ℕ)) (rank size : ℕ) → All (λ chromosome. 0 < chromosome.1) chromosomes → slice_get (map (λ chromosome. chromosome.1) chromosomes) rank ≡ Some size → 0 < size
+some_length [] rank size all e = cc
+some_length (first ∷ others) zero size all e = let is : first.1 ≡ size = cc in subst (λ n. 0 < n) is (All-head (λ (chromosome : Vec ℕ Global × ℕ). 0 < chromosome.1) first others all)
+some_length (first ∷ others) (suc rank) size all e = some_length others rank size (All-tail (λ (chromosome : Vec ℕ Global × ℕ). 0 < chromosome.1) first others all) e
+
+-- a chromosome behind others that have bases
+pub entries_non_empty : (chromosomes : List (Vec ℕ Global × ℕ)) (name : Vec ℕ Global) (size : ℕ) (text : List ℕ) → name.items ≡ text → is_among (genome_names (map entry_seen chromosomes)) text ≡ false → All (λ chromosome. 0 < chromosome.1) chromosomes → 0 < size
+    → All (λ chromosome. 0 < chromosome.1) (insert_entry (λ a b. bytes_eq a.items b.items) chromosomes name size)
+entries_non_empty chromosomes name size text is new all some =
+    rw (inserted_last chromosomes name size (rw is new)) (All-push (λ (chromosome : Vec ℕ Global × ℕ). 0 < chromosome.1) chromosomes (name, size) all some)

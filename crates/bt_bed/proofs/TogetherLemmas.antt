@@ -5,7 +5,7 @@ use Rattle.std.specs.declared.cmp.Ordering.TheVariants.{Less, Equal}
 use Rattle.std.proofs.lemmas.Bool.{or_parts, or_from, or_left, or_right, false≢true}
 use Rattle.bt_bed.specs.Interval.{last_from, last_of, Interval}
 use Rattle.bt_bed.specs.Order.{Order, IsTotal}
-use Rattle.bt_bed.specs.Place.{place_of, IsUpTo, ArePlaced, placed_grows, fronts_are_placed}
+use Rattle.bt_bed.specs.Locus.{locus_of, IsUpTo, ArePlaced, placed_grows, fronts_are_placed}
 use Rattle.bt_bed.specs.Together.{has_records, IsFollowed, AreTogether, placed_are_together, together_grows, fronts_stand_together}
 use Rattle.bt_bed.proofs.NameLemmas.{name_eq, name_ne, other_name, name_ne-sym}
 
@@ -125,7 +125,7 @@ placed_front order [] ys placed = tt
 placed_front order (x ∷ []) ys placed = (placed.0, tt, tt)
 placed_front order (x ∷ y ∷ zs) ys placed = (placed.0, placed.1, placed_front order (y ∷ zs) ys placed.2)
 
-placed_from : (order : Order) (q : Interval) (qs : List Interval) (r : Interval) → ArePlaced order (q ∷ qs) → IsTrue (order.knows r.chrom) → IsUpTo order (place_of (last_from q qs)) (place_of r) → ArePlaced order (q ∷ qs ++ r ∷ [])
+placed_from : (order : Order) (q : Interval) (qs : List Interval) (r : Interval) → ArePlaced order (q ∷ qs) → IsTrue (order.knows r.chrom) → IsUpTo order (locus_of (last_from q qs)) (locus_of r) → ArePlaced order (q ∷ qs ++ r ∷ [])
 placed_from order q [] r placed known next = (placed.0, next, (known, tt, tt))
 placed_from order q (s ∷ ss) r placed known next = (placed.0, placed.1, placed_from order s ss r placed.2 known next)
 

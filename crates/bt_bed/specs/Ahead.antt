@@ -1,36 +1,35 @@
--- Words on the record ahead, which is held apart from its chromosome's name and from the columns that are kept.
-use Rattle.std.specs.Prelude.{◌≡◌, ℕ, ◌≤◌, Bool, false, IsTrue, List, [], drop, length, Option, Some, None, option_map, if◌then◌else◌}
+-- Words on the record ahead, which is held apart from its chromosome's name and from the columns
+-- that are kept.
+use Rattle.std.specs.Prelude.{ℕ, ◌≤◌, Bool, List, [], drop, length, Option, Some, None, option_map, if◌then◌else◌}
 use Rattle.std.specs.Option.{ForSome}
 use Rattle.bt_lines.specs.Lines.{TextLine}
 use Rattle.bt_bed.specs.Feature.{Feature}
-use Rattle.bt_bed.specs.Order.{Order}
-use Rattle.bt_bed.specs.Place.{Place, falls_below}
+use Rattle.bt_bed.specs.Good.{Member}
+use Rattle.bt_bed.specs.Locus.{Locus}
 use Rattle.bt_bed.specs.Record.{IsFeature}
 use Rattle.bt_bed.specs.declared.spot.Spot.{Spot}
 
 -- the record on the chromosome of this name, in the line of this text
 abbrev pub feature_at : List ℕ → List ℕ → Spot → Feature
-feature_at name text spot = record { chrom = name; start = spot.start; stop = spot.stop; strand = spot.strand; rest = drop spot.rest_from text }
+feature_at name text spot = record {
+  chrom = name;
+  start = spot.start;
+  stop = spot.stop;
+  strand = spot.strand;
+  rest = drop spot.rest_from text;
+}
+
+-- the same, with its line
+abbrev pub member_at : List ℕ → List ℕ → Spot → Member Feature
+member_at name text spot = record { line = spot.line; item = feature_at name text spot }
 
 -- a start on the chromosome of this name
-abbrev pub start_at : List ℕ → Option ℕ → Option Place
+abbrev pub start_at : List ℕ → Option ℕ → Option Locus
 start_at name start = option_map (λ s. record { chrom = name; start = s }) start
 
 -- the name of the chromosome of the record ahead: its own, or that of the last record
 abbrev pub name_ahead : Bool → List ℕ → List ℕ → List ℕ
 name_ahead is_elsewhere own last = if is_elsewhere then own else last
-
--- the order knows the chromosome of the last record
-abbrev pub IsKnownLast : Order → List ℕ → Option ℕ → Type 0
-IsKnownLast order name start = ForSome start (λ s. IsTrue (order.knows name))
-
--- and that of the record ahead
-abbrev pub IsKnownAhead : Order → List ℕ → Option Spot → Type 0
-IsKnownAhead order name spot = ForSome spot (λ s. IsTrue (order.knows name))
-
--- its place isn't below that of the last record
-abbrev pub IsInOrder : Order → Option Place → List ℕ → Option Spot → Type 0
-IsInOrder order last name spot = ForSome spot (λ s. falls_below order last (record { chrom = name; start = s.start }) ≡ false)
 
 -- the text of a line, if there is one
 abbrev pub text_at : Option TextLine → List ℕ

@@ -1,11 +1,15 @@
--- The chromosomes of a genome file, in its order: a name, a tab and a length on each line, further columns ignored, so that an index of samtools faidx is one too. Blank lines and lines that begin with `#` are skipped (bedtools manual, genome file format).
-use Rattle.std.specs.Prelude.{◌≡◌, ℕ, Bool, true, ◌==◌, List, [], ◌∷◌, ◌++◌, map, Option, Some, None, Result, Ok, Err, if◌then◌else◌}
+-- The chromosomes of a genome file, in its order: a name, a tab and a length on each line, further
+-- columns ignored, so that an index of samtools faidx is one too. Blank lines and lines that begin
+-- with `#` are skipped (bedtools manual, genome file format).
+use Rattle.std.specs.Prelude.{◌≡◌, ℕ, Bool, true, ◌==◌, IfErr, List, [], ◌∷◌, ◌++◌, map, take, Option, Some, None, Result, Ok, Err, if◌then◌else◌}
 use Rattle.bt_lines.specs.Fault.{Told}
-use Rattle.bt_lines.specs.Lines.{TextLine, pieces}
+use Rattle.bt_lines.specs.Handed.{Handed, cut_fault, lines_handed}
+use Rattle.bt_lines.specs.Lines.{TextLine, pieces, text_lines}
 use Rattle.bt_lines.specs.Number.{value_of}
 use Rattle.bt_lines.specs.declared.fault.Input.{Input}
 use Rattle.bt_lines.specs.declared.fault.Kind.{Kind}
 use Rattle.bt_lines.specs.declared.fault.Kind.TheVariants.{TooFewColumns, EmptyName, BadLength, RepeatedChrom}
+use Rattle.bt_bed.specs.GoodLines.{IsFaultBeyond}
 use Rattle.bt_bed.specs.LineKind.{fault_at_line}
 use Rattle.bt_bed.specs.Rank.{is_among, AreDistinct}
 use Rattle.bt_bed.specs.Record.{not_skipped}
@@ -23,7 +27,8 @@ genome_names entries = map (λ entry. entry.name) entries
 abbrev pub entry_from : List ℕ → Option ℕ → Result Entry Kind
 entry_from [] length = Err EmptyName
 entry_from (byte ∷ bytes) None = Err BadLength
-entry_from (byte ∷ bytes) (Some length) = if length == 0 then Err BadLength else Ok (record { name = byte ∷ bytes; length = length })
+entry_from (byte ∷ bytes) (Some length) = if length == 0 then Err BadLength else Ok
+    (record { name = byte ∷ bytes; length = length })
 
 -- what the columns say
 abbrev pub columns_give : List (List ℕ) → Result Entry Kind
@@ -44,7 +49,8 @@ entry_of text = if is_skipped text then Ok None else not_skipped (columns_give (
 abbrev pub new_entry : List (List ℕ) → Result (Option Entry) Kind → Result (Option Entry) Kind
 new_entry names (Err kind) = Err kind
 new_entry names (Ok None) = Ok None
-new_entry names (Ok (Some entry)) = if is_among names entry.name then Err RepeatedChrom else Ok (Some entry)
+new_entry names (Ok (Some entry)) = if is_among names entry.name then Err RepeatedChrom else Ok
+    (Some entry)
 
 -- an entry before others, where these have no fault
 abbrev pub with_entry : Entry → Result (List Entry) Told → Result (List Entry) Told
@@ -52,20 +58,43 @@ with_entry entry (Ok entries) = Ok (entry ∷ entries)
 with_entry entry (Err fault) = Err fault
 
 -- what a line says behind these names, and then what the lines after it say
-abbrev pub genome_with : Input → ℕ → List (List ℕ) → Result (Option Entry) Kind → (List (List ℕ) → Result (List Entry) Told) → Result (List Entry) Told
+abbrev pub genome_with : Input → ℕ → List (List ℕ) → Result (Option Entry) Kind →
+    (List (List ℕ) → Result (List Entry) Told) → Result (List Entry) Told
 genome_with input line names (Err kind) rest = Err (fault_at_line input line kind)
 genome_with input line names (Ok None) rest = rest names
-genome_with input line names (Ok (Some entry)) rest = with_entry entry (rest (names ++ entry.name ∷ []))
+genome_with input line names (Ok (Some entry)) rest = with_entry entry
+    (rest (names ++ entry.name ∷ []))
 
 -- the entries of the lines behind these names, or the fault of the first line at fault
 unfoldable pub genome_from : Input → List (List ℕ) → List TextLine → Result (List Entry) Told
 genome_from input names [] = Ok []
-genome_from input names (line ∷ lines) = genome_with input line.number names (new_entry names (entry_of line.text)) (λ now. genome_from input now lines)
+genome_from input names (line ∷ lines) = genome_with input line.number names
+    (new_entry names (entry_of line.text)) (λ now. genome_from input now lines)
 
 -- the entries of a genome file, or the fault of its first line at fault
 abbrev pub genome_of : Input → List TextLine → Result (List Entry) Told
 genome_of input lines = genome_from input [] lines
 
+-- the entries, or the first fault, or else this one, where there is one
+abbrev pub genome_cut : Option Told → Result (List Entry) Told → Result (List Entry) Told
+genome_cut None result = result
+genome_cut (Some fault) (Ok entries) = Err fault
+genome_cut (Some fault) (Err first) = Err first
+
+-- The entries of a genome file that may have been cut off: those of the lines handed over, or the
+-- fault of
+-- the first line at fault, or else the failed read behind them.
+abbrev pub genome_handed : Input → Handed → Result (List Entry) Told
+genome_handed input handed = genome_cut (cut_fault input handed)
+    (genome_of input (lines_handed handed))
+
 -- no chromosome comes twice
 abbrev pub genome_names_are_distinct : Type 0
-genome_names_are_distinct = (input : Input) (lines : List TextLine) (entries : List Entry) → genome_of input lines ≡ Ok entries → AreDistinct (genome_names entries)
+genome_names_are_distinct = (input : Input) (lines : List TextLine) (entries : List Entry)
+    → genome_of input lines ≡ Ok entries → AreDistinct (genome_names entries)
+
+-- where a text's fault, if it has one, lies behind the first so many lines, these have no fault
+abbrev pub first_lines_make_entries : Type 0
+first_lines_make_entries = (input : Input) (count : ℕ) (text : List ℕ)
+    → IfErr (genome_of input (text_lines text)) (IsFaultBeyond count)
+    → (entries : List Entry) × (genome_of input (take count (text_lines text)) ≡ Ok entries)

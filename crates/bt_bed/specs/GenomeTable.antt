@@ -5,17 +5,17 @@ use Rattle.std.specs.declared.alloc.Global.{Global}
 use Rattle.bt_lines.specs.Fault.{Told, no_memory}
 use Rattle.bt_lines.specs.Lines.{TextLine}
 use Rattle.bt_lines.specs.Names.{told}
-use Rattle.bt_lines.specs.Reader.{source_of, input_of, lines_given, fault_kept, has_ended, lines_left}
+use Rattle.bt_lines.specs.Reader.{Hands, IsNear, IsSound, end_told, source_of, input_of, lines_given, fault_kept, has_ended, lines_left}
 use Rattle.bt_lines.specs.declared.fault.Fault.{Fault}
 use Rattle.bt_lines.specs.declared.fault.Input.{Input}
 use Rattle.bt_lines.specs.declared.fault.Kind.{Kind}
 use Rattle.bt_lines.specs.declared.fault.Place.{Place}
 use Rattle.bt_lines.specs.declared.line_reader.LineReader.{LineReader}
 use Rattle.bt_bed.specs.Genome.{Entry, entry_of, genome_names, genome_of, new_entry}
-use Rattle.bt_bed.specs.LineKind.{fault_at_line, is_of_line}
+use Rattle.bt_bed.specs.LineKind.{fault_at_line, is_genome_kind}
 use Rattle.bt_bed.specs.Rank.{AreDistinct}
-use Rattle.bt_bed.specs.Reading.{Hands, ReadingFails, MemoryRanOut}
-use Rattle.bt_bed.specs.declared.genome.EntryRef.{EntryRef}
+use Rattle.bt_bed.specs.Reading.{ReadingFails, MemoryRanOut}
+use Rattle.bt_bed.specs.declared.entry.EntryRef.{EntryRef}
 use Rattle.bt_bed.specs.declared.genome.Genome.{Genome}
 
 -- an entry that is borrowed, as the definitions have it
@@ -62,41 +62,75 @@ pub record LineUnkept (text : List ℕ) (old : Genome) (fault : Told) : Type 0 w
 
 -- where one of the first lines is at fault, its fault is the one told
 abbrev pub IsToldFirst : Input → Option (List TextLine) → ℕ → Told → Type 0
-IsToldFirst input lines count fault = IfSome lines (λ all. (other : Told) → genome_of input (take count all) ≡ Err other → fault ≡ other)
+IsToldFirst input lines count fault = IfSome lines
+    (λ all. (other : Told) → genome_of input (take count all) ≡ Err other → fault ≡ other)
 
 module _ {S : Type 0} where
   -- the whole genome file was read
-  pub record ReadsAll (left : S → Option (List ℕ)) (failed : S → Bool) (old new : LineReader S) (genome : Genome) : Type 0 where
+  pub record ReadsAll (left : S → Option (List ℕ)) (failed : S → Bool) (old new : LineReader S)
+      (genome : Genome) : Type 0 where
     pub was_going : fault_kept old ≡ None
-    pub is : IfSome (lines_left left old) (λ lines. genome_of (input_of old) lines ≡ Ok (entries genome))
+    pub is : IfSome (lines_left left old)
+        (λ lines. genome_of (input_of old) lines ≡ Ok (entries genome))
     pub distinct : AreDistinct (names_of genome)
     pub ended : has_ended new ≡ true
+    pub told : end_told new ≡ true
+    pub going : fault_kept new ≡ None
     pub served : failed (source_of new) ≡ failed (source_of old)
-    pub bytes : Hands left old new
+    pub bytes : (bytes : List ℕ) × Hands left old bytes new
 
   -- a line is at fault: the last one given
-  pub record LineAtFault (left : S → Option (List ℕ)) (failed : S → Bool) (old new : LineReader S) (fault : Told) : Type 0 where
+  pub record EntryIsWrong (left : S → Option (List ℕ)) (failed : S → Bool) (old new : LineReader S)
+      (fault : Told) : Type 0 where
     pub is : IfSome (lines_left left old) (λ lines. genome_of (input_of old) lines ≡ Err fault)
     -- known or not, it is what is wrong with some text behind some names
     pub kind : Kind
     pub names : List (List ℕ)
     pub text : List ℕ
     pub says : new_entry names (entry_of text) ≡ Err kind
-    pub of_line : is_of_line kind ≡ true
+    pub of_line : is_genome_kind kind ≡ true
     pub place : fault ≡ fault_at_line (input_of old) (lines_given new) kind
+    pub going : fault_kept new ≡ None
     pub served : failed (source_of new) ≡ failed (source_of old)
-    pub bytes : Hands left old new
+
+  -- a line couldn't be read, and no line before it was at fault
+  pub record EntryUnread (left : S → Option (List ℕ)) (failed end : S → Bool)
+      (old new : LineReader S) (fault : Told) : Type 0 where
+    pub fails : ReadingFails left failed end old new fault
+    pub passed : IfSome (lines_left left old) (λ lines. (entries : List Entry)
+        × (genome_of (input_of old) (take (lines_given new - lines_given old) lines) ≡ Ok entries))
+
+  -- why the reading stopped
+  abbrev pub StopCause : (S → Option (List ℕ)) → (S → Bool) → (S → Bool) → LineReader S
+      → LineReader S → Told → Type 0
+  StopCause left failed end old new fault =
+      EntryIsWrong left failed old new fault
+      ⊎ (EntryUnread left failed end old new fault ⊎ MemoryRanOut failed old new fault)
 
   -- the reading stopped at a fault
-  pub record ReadingStops (left : S → Option (List ℕ)) (failed : S → Bool) (old new : LineReader S) (fault : Told) : Type 0 where
+  pub record ReadingStops (left : S → Option (List ℕ)) (failed end : S → Bool)
+      (old new : LineReader S) (fault : Told) : Type 0 where
     -- a fault that the reader had is answered again, and nothing is read
     pub again : (before : Told) → fault_kept old ≡ Some before → (fault ≡ before) × (new ≡ old)
     -- a reader that had none meets the first
-    pub first : fault_kept old ≡ None → LineAtFault left failed old new fault ⊎ (ReadingFails left failed old new fault ⊎ MemoryRanOut failed old new fault)
+    pub first : fault_kept old ≡ None → StopCause left failed end old new fault
     -- the fault of a line given comes before any other
-    pub checked : IsToldFirst (input_of old) (lines_left left old) (lines_given new - lines_given old) fault
+    pub checked : IsToldFirst (input_of old) (lines_left left old)
+        (lines_given new - lines_given old) fault
+    pub bytes : (bytes : List ℕ) × Hands left old bytes new
+    -- of known bytes, those behind the lines given and one line more are left, but for a block at
+    -- most
+    pub near : fault_kept old ≡ None → IsSound left end old → IsNear left old new
+
+  -- what an answer says
+  abbrev pub GenomeAnswers : (S → Option (List ℕ)) → (S → Bool) → (S → Bool) → LineReader S
+      → Result Genome Fault → LineReader S → Type 0
+  GenomeAnswers left failed end old (Ok genome) new = ReadsAll left failed old new genome
+  GenomeAnswers left failed end old (Err fault) new = ReadingStops left failed end old new
+      (told fault)
 
   -- what reading a genome file does
-  abbrev pub ReadsGenome : (S → Option (List ℕ)) → (S → Bool) → LineReader S → Result Genome Fault → LineReader S → Type 0
-  ReadsGenome left failed old (Ok genome) new = ReadsAll left failed old new genome
-  ReadsGenome left failed old (Err fault) new = ReadingStops left failed old new (told fault)
+  pub record ReadsGenome (left : S → Option (List ℕ)) (failed end : S → Bool) (old : LineReader S)
+      (answer : Result Genome Fault) (new : LineReader S) : Type 0 where
+    pub answers : GenomeAnswers left failed end old answer new
+    pub sound : IsSound left end old → IsSound left end new

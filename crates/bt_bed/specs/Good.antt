@@ -1,60 +1,77 @@
--- The good records of an input: those before its first line at fault. Sorted input has its chromosomes in an order, as that of the genome file, and on each of them the starts don't fall (bedtools manual, sorted input and genome files).
-use Rattle.std.specs.Prelude.{ℕ, List, [], ◌∷◌, Option, Some, None, Result, Ok, Err, if◌then◌else◌}
+-- What an input gives: its members (records, sequences' lines, alignments) up to its first line at
+-- fault.
+use Rattle.std.specs.Prelude.{ℕ, List, [], ◌∷◌, map, Option, Some, None, Result, Ok, Err}
 use Rattle.bt_lines.specs.Fault.{Told}
+use Rattle.bt_lines.specs.Handed.{Handed, cut_fault, lines_handed}
 use Rattle.bt_lines.specs.Lines.{TextLine}
 use Rattle.bt_lines.specs.declared.fault.Input.{Input}
 use Rattle.bt_lines.specs.declared.fault.Kind.{Kind}
-use Rattle.bt_lines.specs.declared.fault.Kind.TheVariants.{UnknownChrom, OutOfOrder}
-use Rattle.bt_bed.specs.Feature.{Feature, interval_of, intervals_of}
-use Rattle.bt_bed.specs.Interval.{AreNonEmpty}
 use Rattle.bt_bed.specs.LineKind.{fault_at_line}
-use Rattle.bt_bed.specs.Order.{Order, IsTotal}
-use Rattle.bt_bed.specs.Place.{Place, place_of, falls_below, ArePlaced}
-use Rattle.bt_bed.specs.Record.{record_of}
 
--- the records before the first line at fault, and the fault of that line, if there is one
-pub record Good : Type 0 where
-  pub records : List Feature
+-- a member of an input, and the line that it stands on
+pub record Member (A : Type 0) : Type 0 where
+  pub line : ℕ
+  pub item : A
+
+-- the members before the first line at fault, and the fault of that line, if there is one
+pub record Good (A : Type 0) : Type 0 where
+  pub members : List (Member A)
   pub fault : Option Told
 
--- where a feature starts
-abbrev pub place_at : Feature → Place
-place_at r = place_of (interval_of r)
+-- the members without their lines
+abbrev pub items_in : {A : Type 0} → Good A → List A
+items_in good = map (λ m. m.item) good.members
 
--- the record behind the last place, or what is wrong with it
-abbrev pub in_order : Order → Option Place → Feature → Result (Option Feature) Kind
-in_order order last r =
-    if order.knows r.chrom then (if falls_below order last (place_at r) then Err OutOfOrder else Ok (Some r)) else Err UnknownChrom
+-- What the lines of an input say, one behind another: nothing, a member, or what is wrong with the
+-- line.
+-- This depends on what is known of the members before it.
+pub record Format (A State : Type 0) : Type 0 where
+  -- what is known at the start
+  pub begin : State
+  pub says : State → TextLine → Result (Option A) Kind
+  -- what is known behind this member
+  pub after : State → A → State
 
--- what was said by itself, as it stands behind the last place
-abbrev pub said_after : Order → Option Place → Result (Option Feature) Kind → Result (Option Feature) Kind
-said_after order last (Err kind) = Err kind
-said_after order last (Ok None) = Ok None
-said_after order last (Ok (Some r)) = in_order order last r
+-- no member, and a fault if there is one
+abbrev pub ends_with : {A : Type 0} → Option Told → Good A
+ends_with fault = record { members = []; fault = fault }
 
--- what a line says behind the last place: nothing, a record, or what is wrong with it
-unfoldable pub line_says : Order → Option Place → List ℕ → Result (Option Feature) Kind
-line_says order last text = said_after order last (record_of text)
+-- a member before others
+abbrev pub with_member : {A : Type 0} → Member A → Good A → Good A
+with_member m good = record { members = m ∷ good.members; fault = good.fault }
 
--- what a line says, and then what is good after it, which depends on the last place
-abbrev pub good_with : Input → ℕ → Option Place → Result (Option Feature) Kind → (Option Place → Good) → Good
-good_with input line last (Err kind) rest = record { records = []; fault = Some (fault_at_line input line kind) }
-good_with input line last (Ok None) rest = rest last
-good_with input line last (Ok (Some r)) rest = record { records = r ∷ (rest (Some (place_at r))).records; fault = (rest (Some (place_at r))).fault }
+-- what a line says, and then what is good behind it
+abbrev pub good_with : {A State : Type 0} → Format A State → Input → ℕ → State
+    → Result (Option A) Kind → (State → Good A) → Good A
+good_with format input line state (Err kind) rest = ends_with (Some (fault_at_line input line kind))
+good_with format input line state (Ok None) rest = rest state
+good_with format input line state (Ok (Some item)) rest =
+    with_member (record { line = line; item = item }) (rest (format.after state item))
 
--- what is good of the lines behind the last place
-unfoldable pub good_from : Input → Order → Option Place → List TextLine → Good
-good_from input order last [] = record { records = []; fault = None }
-good_from input order last (line ∷ lines) = good_with input line.number last (line_says order last line.text) (λ now. good_from input order now lines)
+-- what is good of the lines, by what is known before them
+unfoldable pub good_from : {A State : Type 0} → Format A State → Input → State
+    → List TextLine → Good A
+good_from format input state [] = ends_with None
+good_from format input state (line ∷ lines) =
+    good_with format input line.number state (format.says state line)
+    (λ now. good_from format input now lines)
 
 -- what is good of all lines of an input
-abbrev pub good : Input → Order → List TextLine → Good
-good input order lines = good_from input order None lines
+abbrev pub good : {A State : Type 0} → Format A State → Input → List TextLine → Good A
+good format input lines = good_from format input format.begin lines
 
--- the good records are in the order of their chromosomes
-abbrev pub good_are_placed : Type 0
-good_are_placed = (input : Input) (order : Order) (lines : List TextLine) → IsTotal order → ArePlaced order (intervals_of (good input order lines).records)
+-- the first of two faults, where there is one
+abbrev pub or_else : Option Told → Option Told → Option Told
+or_else None other = other
+or_else (Some fault) other = Some fault
 
--- each has at least one base
-abbrev pub good_are_non_empty : Type 0
-good_are_non_empty = (input : Input) (order : Order) (lines : List TextLine) → AreNonEmpty (intervals_of (good input order lines).records)
+-- the same members, and behind them this fault, where none of theirs comes before
+abbrev pub cut_by : {A : Type 0} → Option Told → Good A → Good A
+cut_by fault good = record { members = good.members; fault = or_else good.fault fault }
+
+-- What is good of an input that may have been cut off: the good members of the lines handed over,
+-- and
+-- behind them the failed read, where none of these lines is at fault.
+abbrev pub good_handed : {A State : Type 0} → Format A State → Input → Handed → Good A
+good_handed format input handed =
+    cut_by (cut_fault input handed) (good format input (lines_handed handed))

@@ -3,7 +3,7 @@ use Rattle.std.specs.Prelude.{ℕ, Bool, true, false, Some}
 use Rattle.bt_lines.specs.Fault.{Told}
 use Rattle.bt_lines.specs.declared.fault.Input.{Input}
 use Rattle.bt_lines.specs.declared.fault.Kind.{Kind}
-use Rattle.bt_lines.specs.declared.fault.Kind.TheVariants.{ReadFailed, WriteFailed, NoMemory}
+use Rattle.bt_lines.specs.declared.fault.Kind.TheVariants.{TooFewColumns, EmptyName, BadStart, BadStop, EmptyFeature, UnknownChrom, OutOfOrder, BadLength, RepeatedChrom, ReadFailed, WriteFailed, NoMemory}
 
 -- a line can be at fault by what it says, and not by a device that failed or by want of memory
 abbrev pub is_of_line : Kind → Bool
@@ -11,6 +11,25 @@ is_of_line ReadFailed = false
 is_of_line WriteFailed = false
 is_of_line NoMemory = false
 is_of_line _ = true
+
+-- whether a line of a BED input can be at fault so
+abbrev pub is_bed_kind : Kind → Bool
+is_bed_kind TooFewColumns = true
+is_bed_kind EmptyName = true
+is_bed_kind BadStart = true
+is_bed_kind BadStop = true
+is_bed_kind EmptyFeature = true
+is_bed_kind UnknownChrom = true
+is_bed_kind OutOfOrder = true
+is_bed_kind _ = false
+
+-- whether a line of a genome file can be
+abbrev pub is_genome_kind : Kind → Bool
+is_genome_kind TooFewColumns = true
+is_genome_kind EmptyName = true
+is_genome_kind BadLength = true
+is_genome_kind RepeatedChrom = true
+is_genome_kind _ = false
 
 -- a fault of this kind at a line of the input
 abbrev pub fault_at_line : Input → ℕ → Kind → Told

@@ -1,22 +1,228 @@
--- What reading lines to some purpose does to the reader of lines.
-use Rattle.std.specs.Prelude.{◌≡◌, ℕ, suc, ◌+◌, ◌^◌, ◌≤◌, ◌⊎◌, Bool, true, length, List, Option}
-use Rattle.std.specs.Io.KnownBytes.{Consumes}
+-- What a reader of the members of an input holds, and what its calls do.
+use Rattle.std.specs.Prelude.{◌≡◌, ℕ, suc, ◌+◌, ◌-◌, ◌^◌, ◌<◌, ◌≤◌, ◌⊎◌, Bool, true, false, List, [], ◌∷◌, drop, length, Option, Some, None, option_map, Result, Ok, Err, IsSome, IfSome, ⊤}
+use Rattle.std.specs.Option.{option_to_list}
 use Rattle.bt_lines.specs.Fault.{Told, read_failed, no_memory}
-use Rattle.bt_lines.specs.Reader.{source_of, input_of, lines_given, bytes_taken}
+use Rattle.bt_lines.specs.Lines.{TextLine}
+use Rattle.bt_lines.specs.Names.{told}
+use Rattle.bt_lines.specs.Reader.{CutsOff, Hands, IsNear, IsSound, end_told, source_of, input_of, lines_given, bytes_taken, has_ended, lines_left, room as line_room, fault_kept as line_fault}
+use Rattle.bt_lines.specs.declared.fault.Fault.{Fault}
+use Rattle.bt_lines.specs.declared.fault.Input.{Input}
+use Rattle.bt_lines.specs.declared.fault.Kind.{Kind}
 use Rattle.bt_lines.specs.declared.line_reader.LineReader.{LineReader}
+use Rattle.bt_bed.specs.Good.{Format, Good, Member, ends_with, good_from, with_member}
+use Rattle.bt_bed.specs.GoodLines.{IsBeyond}
+use Rattle.bt_bed.specs.LineKind.{fault_at_line, is_of_line}
+
+-- what a reader of members holds
+pub record MemberReader (S A State : Type 0) : Type 0 where
+  pub format : Format A State
+  -- the reader of lines below
+  pub below : LineReader S
+  -- what is known behind the member that was passed last
+  pub state : State
+  -- the member ahead, once it was asked for
+  pub ahead : Option (Member A)
+  -- the fault that is kept
+  pub fault : Option Told
+
+-- what is good behind the last member: nothing but the fault, if one is kept
+abbrev pub good_behind : {A State : Type 0} → Format A State → Input → Option Told → State
+    → List TextLine → Good A
+good_behind format input (Some fault) state lines = ends_with (Some fault)
+good_behind format input None state lines = good_from format input state lines
+
+-- the same, with the member ahead
+abbrev pub good_at : {A State : Type 0} → Format A State → Input → Option Told → State → Option
+    (Member A) → List TextLine → Good A
+good_at format input fault state None lines = good_behind format input fault state lines
+good_at format input fault state (Some m) lines = with_member m
+    (good_behind format input fault (format.after state m.item) lines)
+
+-- what was known stays what is still to come
+abbrev pub Remains : {A : Type 0} → Option (Good A) → Option (Good A) → Type 0
+Remains None new = ⊤
+Remains (Some good) None = ⊥
+Remains (Some good) (Some new) = new ≡ good
+
+-- a line says the item, by what is known before it
+abbrev pub IsSaidBehind : {A State : Type 0} → Format A State → State → A → Type 0
+IsSaidBehind format state item = (line : TextLine) × (format.says state line ≡ Ok (Some item))
 
 module _ {S : Type 0} where
-  -- the source handed over some bytes, which the reader counted
-  abbrev pub Hands : (S → Option (List ℕ)) → LineReader S → LineReader S → Type 0
-  Hands left old new = (bytes : List ℕ) × Consumes (left (source_of old)) (left (source_of new)) bytes × (bytes_taken new ≡ bytes_taken old + length bytes)
+  -- of known lines, those that were given are no longer left
+  abbrev pub LinesPass : (S → Option (List ℕ)) → LineReader S → LineReader S → Type 0
+  LinesPass left old new = IfSome (lines_left left old) (λ lines.
+      lines_left left new ≡ Some (drop (lines_given new - lines_given old) lines))
 
   -- the source failed, or its text is too long
-  pub record ReadingFails (left : S → Option (List ℕ)) (failed : S → Bool) (old new : LineReader S) (fault : Told) : Type 0 where
+  pub record ReadingFails (left : S → Option (List ℕ)) (failed end : S → Bool)
+      (old new : LineReader S) (fault : Told) : Type 0 where
     pub is : fault ≡ read_failed (input_of old) (suc (lines_given new))
-    pub bytes : Hands left old new
     pub cause : (failed (source_of new) ≡ true) ⊎ (2 ^ 63 ≤ bytes_taken new)
+    -- it comes before the end
+    pub before_end : end_told old ≡ false
+    -- the whole lines among the bytes taken in the call are those that were given
+    pub cut : IsSound left end old → CutsOff left old new
 
   -- memory ran out
   pub record MemoryRanOut (failed : S → Bool) (old new : LineReader S) (fault : Told) : Type 0 where
     pub is : fault ≡ no_memory
     pub served : failed (source_of new) ≡ failed (source_of old)
+
+module _ {S A State : Type 0} where
+  -- the line of the member ahead
+  abbrev pub line_of_ahead : MemberReader S A State → Option ℕ
+  line_of_ahead reader = option_map (λ m. m.line) reader.ahead
+
+  -- what is still to come, the member ahead included, where the source's bytes are known
+  unfoldable pub good_coming : (S → Option (List ℕ)) → MemberReader S A State → Option (Good A)
+  good_coming left reader =
+      option_map
+      (good_at reader.format (input_of reader.below) reader.fault reader.state reader.ahead)
+      (lines_left left reader.below)
+
+  -- how many bytes and members may still come: it never rises, and falls with each member passed
+  abbrev pub room : MemberReader S A State → ℕ
+  room reader = line_room reader.below + length (option_to_list reader.ahead)
+
+  -- what no call changes
+  pub record Stays (left : S → Option (List ℕ)) (old new : MemberReader S A State) : Type 0 where
+    pub bytes : (bytes : List ℕ) × Hands left old.below bytes new.below
+    pub format : new.format ≡ old.format
+
+  -- a member is ahead
+  pub record GivesMember (left : S → Option (List ℕ)) (failed : S → Bool)
+      (old : MemberReader S A State) (m : Member A) (new : MemberReader S A State) : Type 0 where
+    pub ahead : new.ahead ≡ Some m
+    pub state : new.state ≡ old.state
+    -- it is the first of what is still to come, where that is known, and nothing of it is lost
+    pub good : Remains (good_coming left old) (good_coming left new)
+    pub first : IfSome (good_coming left old) (λ good. (rest : List (Member A))
+        × (good.members ≡ m ∷ rest))
+    -- known or not, it is what a line says behind the member before it
+    pub said : IsSaidBehind old.format old.state m.item
+    -- where it was ahead before, nothing is read
+    pub again : IsSome old.ahead → new ≡ old
+    -- its line is the last one given, which comes after those given before
+    pub at : old.ahead ≡ None → m.line ≡ lines_given new.below
+    pub rises : old.ahead ≡ None → (lines_given old.below < lines_given new.below) ×
+        (lines_given new.below < 2 ^ 63)
+    pub served : failed (source_of new.below) ≡ failed (source_of old.below)
+    pub goes : new.fault ≡ old.fault
+    pub stays : Stays left old new
+    pub lines : LinesPass left old.below new.below
+    pub shrinks : room new ≤ room old
+
+  -- no member is left
+  pub record EndsMembers (left : S → Option (List ℕ)) (failed : S → Bool)
+      (old new : MemberReader S A State) : Type 0 where
+    pub none_left : IfSome (good_coming left old) (λ good. good ≡ ends_with None)
+    pub none_comes : IfSome (good_coming left new) (λ good. good ≡ ends_with None)
+    pub none_ahead : new.ahead ≡ None
+    pub state : new.state ≡ old.state
+    pub ends : has_ended new.below ≡ true
+    pub told : end_told new.below ≡ true
+    pub rises : lines_given old.below ≤ lines_given new.below
+    -- all known lines were given
+    pub lines : IfSome (lines_left left old.below) (λ lines.
+        drop (lines_given new.below - lines_given old.below) lines ≡ [])
+    -- once the end is reached, nothing more is read
+    pub again : has_ended old.below ≡ true → new ≡ old
+    pub served : failed (source_of new.below) ≡ failed (source_of old.below)
+    pub goes : new.fault ≡ None
+    pub stays : Stays left old new
+    pub shrinks : room new ≤ room old
+
+  -- a line is at fault: the last one given
+  pub record LineIsWrong (left : S → Option (List ℕ)) (failed : S → Bool)
+      (old : MemberReader S A State) (fault : Told) (new : MemberReader S A State) : Type 0 where
+    pub none_left : IfSome (good_coming left old) (λ good. good ≡ ends_with (Some fault))
+    -- known or not, it is what is wrong with some line behind the last member
+    pub kind : Kind
+    pub line : TextLine
+    pub says : old.format.says old.state line ≡ Err kind
+    pub of_line : is_of_line kind ≡ true
+    pub place : fault ≡ fault_at_line (input_of old.below) (lines_given new.below) kind
+    pub rises : lines_given old.below < lines_given new.below
+    pub going : line_fault new.below ≡ None
+    pub served : failed (source_of new.below) ≡ failed (source_of old.below)
+
+  -- the lines that were given said nothing: what was still to come lies behind them
+  abbrev pub SaidNothing : (S → Option (List ℕ)) → MemberReader S A State → MemberReader S A State
+      → Type 0
+  SaidNothing left old new = IfSome (good_coming left old) (IsBeyond (lines_given new.below))
+
+  -- a line couldn't be read, and no line before it was at fault or had a member
+  pub record LineUnread (left : S → Option (List ℕ)) (failed end : S → Bool)
+      (old : MemberReader S A State) (fault : Told) (new : MemberReader S A State) : Type 0 where
+    pub fails : ReadingFails left failed end old.below new.below fault
+    pub passed : SaidNothing left old new
+
+  -- the last line given has the first member of what was still to come, which couldn't be kept
+  pub record LastUnkept (left : S → Option (List ℕ)) (old new : MemberReader S A State) : Type 0 where
+    pub first : IfSome (good_coming left old) (λ good. (item : A) × (rest : List (Member A))
+        × (good.members ≡ record { line = lines_given new.below; item = item } ∷ rest))
+    pub rises : lines_given old.below < lines_given new.below
+    pub going : line_fault new.below ≡ None
+
+  -- memory ran out: for a line that couldn't be read, once those before it were checked, or for the member
+  -- of the last line given, once it was
+  pub record RunsOut (left : S → Option (List ℕ)) (failed : S → Bool)
+      (old : MemberReader S A State) (fault : Told) (new : MemberReader S A State) : Type 0 where
+    pub is : fault ≡ no_memory
+    pub checked : ((line_fault new.below ≡ Some no_memory) × SaidNothing left old new) ⊎ LastUnkept left old new
+    pub served : failed (source_of new.below) ≡ failed (source_of old.below)
+
+  -- why a fault came
+  abbrev pub Cause : (S → Option (List ℕ)) → (S → Bool) → (S → Bool) → MemberReader S A State
+      → Told → MemberReader S A State → Type 0
+  Cause left failed end old fault new =
+      LineIsWrong left failed old fault new ⊎ (LineUnread left failed end old fault new
+      ⊎ RunsOut left failed old fault new)
+
+  -- a fault was answered
+  pub record AnswersFault (left : S → Option (List ℕ)) (failed end : S → Bool)
+      (old : MemberReader S A State) (fault : Told) (new : MemberReader S A State) : Type 0 where
+    pub kept : new.fault ≡ Some fault
+    pub none_ahead : new.ahead ≡ None
+    pub state : new.state ≡ old.state
+    -- a fault is answered again, and nothing is read
+    pub again : (before : Told) → old.fault ≡ Some before → (fault ≡ before) × (new ≡ old)
+    pub first : old.fault ≡ None → Cause left failed end old fault new
+    pub stays : Stays left old new
+    -- the lines that were given are no longer left, where the line read last could be read
+    pub rises : lines_given old.below ≤ lines_given new.below
+    pub lines : line_fault new.below ≡ None → LinesPass left old.below new.below
+    -- of known bytes, those behind the lines given and one line more are left, but for a block at most
+    pub near : old.fault ≡ None → IsSound left end old.below → IsNear left old.below new.below
+
+  -- what a step to the next member gives, or to the end where there is none
+  abbrev pub StepsTo : (S → Option (List ℕ)) → (S → Bool) → MemberReader S A State → Option
+      (Member A) → MemberReader S A State → Type 0
+  StepsTo left failed old (Some m) new = GivesMember left failed old m new
+  StepsTo left failed old None new = EndsMembers left failed old new
+
+  -- the same, or a fault
+  abbrev pub StepAnswers : {T : Type 0} → (S → Option (List ℕ)) → (S → Bool) → (S → Bool)
+      → MemberReader S A State → Result T Fault → MemberReader S A State → Type 0
+  StepAnswers left failed end old (Ok done) new = StepsTo left failed old new.ahead new
+  StepAnswers left failed end old (Err fault) new = AnswersFault left failed end old
+      (told fault) new
+
+  -- a step to the next member
+  pub record Stepped {T : Type 0} (left : S → Option (List ℕ)) (failed end : S → Bool)
+      (old : MemberReader S A State) (answer : Result T Fault)
+      (new : MemberReader S A State) : Type 0 where
+    pub answers : StepAnswers left failed end old answer new
+    pub sound : IsSound left end old.below → IsSound left end new.below
+
+  -- the member ahead was passed, and nothing is read
+  pub record Advances (left : S → Option (List ℕ)) (old new : MemberReader S A State) : Type 0 where
+    pub state : (m : Member A) → old.ahead ≡ Some m → new.state ≡ old.format.after old.state m.item
+    pub none_ahead : new.ahead ≡ None
+    pub good : (m : Member A) → old.ahead ≡ Some m → option_map (with_member m)
+        (good_coming left new) ≡ good_coming left old
+    pub reads_nothing : new.below ≡ old.below
+    pub goes : new.fault ≡ old.fault
+    pub format : new.format ≡ old.format
+    pub shrinks : room new < room old

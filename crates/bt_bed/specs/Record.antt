@@ -2,7 +2,7 @@
 use Rattle.std.specs.Prelude.{◌≡◌, ℕ, ◌<◌, ◌≤◌, ◌==◌, Bool, true, false, IsTrue, length, List, [], ◌∷◌, ◌++◌, codes, decimal, flat_map, bytes_eq, Option, Some, None, Result, Ok, Err, nat_lt, if◌then◌else◌}
 use Rattle.std.specs.List.{All}
 use Rattle.bt_lines.specs.Lines.{pieces}
-use Rattle.bt_lines.specs.Number.{value_of}
+use Rattle.bt_lines.specs.Number.{max_number, value_of}
 use Rattle.bt_lines.specs.declared.fault.Kind.{Kind}
 use Rattle.bt_lines.specs.declared.fault.Kind.TheVariants.{TooFewColumns, EmptyName, BadStart, BadStop, EmptyFeature}
 use Rattle.bt_bed.specs.Feature.{Feature}
@@ -53,6 +53,10 @@ record_of text = if is_header text then Ok None else not_skipped (columns_say (p
 abbrev pub bed_text : Feature → List ℕ
 bed_text feature = feature.chrom ++ codes "\t" ++ decimal feature.start ++ codes "\t" ++ decimal feature.stop ++ feature.rest
 
+-- a record with another start and end, and all else as it stood
+abbrev pub cut_to : ℕ → ℕ → Feature → Feature
+cut_to start stop feature = record { chrom = feature.chrom; start = start; stop = stop; strand = feature.strand; rest = feature.rest }
+
 -- the columns that a kept rest has
 abbrev pub columns_in : List ℕ → List (List ℕ)
 columns_in [] = []
@@ -72,7 +76,7 @@ pub record IsName (name : List ℕ) : Type 0 where
 pub record IsFeature (feature : Feature) : Type 0 where
   pub named : IsName feature.chrom
   pub non_empty : feature.start < feature.stop
-  pub in_range : feature.stop ≤ 999999999999
+  pub in_range : feature.stop ≤ max_number
   pub kept : IsTrue (is_kept feature.rest)
   pub stranded : feature.strand ≡ strand_of (columns_in feature.rest)
 

@@ -2,7 +2,7 @@
 use Rattle.std.specs.Prelude.{◌≡◌, ℕ, ◌≤◌, Bool, false, ◌⊎◌, ◌||◌, ⊤, IsFalse, IfSome, ◌++◌, List, [], ◌∷◌, bytes_eq}
 use Rattle.bt_bed.specs.Interval.{Interval, last_of}
 use Rattle.bt_bed.specs.Order.{Order, IsTotal}
-use Rattle.bt_bed.specs.Place.{ArePlaced}
+use Rattle.bt_bed.specs.Locus.{ArePlaced}
 
 -- whether a record lies on the chromosome of this name
 abbrev pub has_records : List ℕ → List Interval → Bool

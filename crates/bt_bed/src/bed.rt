@@ -1,6 +1,7 @@
 //! Features of a BED file.
 
 ghost use Rattle.std.specs.Prelude.{◌≡◌, ◌<◌, ◌≤◌, IsTrue};
+ghost use Rattle.bt_lines.specs.Number.{max_number};
 ghost use Rattle.bt_bed.specs.Record.{IsName, columns_in, is_kept, strand_of};
 
 use crate::strand::Strand;
@@ -18,7 +19,7 @@ pub struct BedRef<'a> {
     pub rest: &'a [u8],
     ghost named: { IsName chrom.now },
     ghost non_empty: { start < stop },
-    ghost in_range: { stop ≤ 999999999999 },
+    ghost in_range: { stop ≤ max_number },
     ghost kept: { IsTrue (is_kept rest.now) },
     ghost stranded: { strand ≡ strand_of (columns_in rest.now) },
 }

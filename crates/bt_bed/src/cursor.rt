@@ -1,76 +1,124 @@
-//! A reader of lines, with the last record of them and the one ahead.
+//! A reader of sorted records, whatever the rule by which they are sorted.
 
 ghost use Rattle.bt_lines.specs.Reader.{line_at};
 ghost use Rattle.bt_bed.specs.Ahead.{text_at};
-ghost use Rattle.bt_bed.specs.Track.{IsSaidBy};
+ghost use Rattle.bt_bed.specs.Neighbours.{IsSaidBy};
 
 use crate::bed::BedRef;
-use crate::order::ChromOrder;
-use crate::track::Track;
+use crate::neighbours::Neighbours;
+use crate::sorted::Sorted;
 use bt_lines::{Fault, LineReader, Place, Source};
 use std::alloc::Global;
 
 // The line that the reader is at says the record ahead, if there is one: it has the kept columns, so
-// that they aren't copied.
-#[derive(Drop, Debug)]
-pub(crate) struct Cursor<'o, S, O: ChromOrder> {
+// that they aren't copied. The fault is that of a line or of a name that had no room, and the reader
+// keeps its own.
+#[derive(Drop)]
+pub(crate) struct Cursor<S, Q> {
     reader: LineReader<S>,
-    track: Track<'o, O>,
-    ghost said: { IsSaidBy (text_at (line_at reader)) track },
+    pub(crate) neighbours: Neighbours<Q>,
+    fault: Option<Fault>,
+    ghost said: { IsSaidBy (text_at (line_at reader)) neighbours },
 }
 
-#[tactic(auto, unfolding(crate::specs::Records::below, crate::specs::Records::order_in, crate::specs::Records::last_place, crate::specs::Records::record_ahead, crate::specs::Records::line_ahead))]
-impl<'o, S: Source, O: ChromOrder> Cursor<'o, S, O> {
+#[tactic(auto, unfolding(crate::specs::Cursor::view_with))]
+impl<S: Source, Q: Sorted + Drop> Cursor<S, Q> {
     ghost use Rattle.std.specs.Prelude.{◌≡◌, ℕ, List, None, Some, false, IsSome, option_map};
+    ghost use Rattle.bt_lines.specs.Names.{told};
     ghost use Rattle.bt_bed.specs.Bed.{feature_lent};
-    ghost use Rattle.bt_bed.specs.Good.{place_at};
-    ghost use Rattle.bt_bed.specs.Records.{Stepped, at_rest, stopped};
-    ghost use Rattle.bt_bed.specs.Track.{has_ahead, track_ahead, track_last, track_line, track_order};
+    ghost use Rattle.bt_bed.specs.Cursor.{IsPlaced, fault_in, view_in, view_with};
+    ghost use Rattle.bt_bed.specs.Neighbours.{has_ahead, last_in};
+    ghost use Rattle.bt_bed.specs.Reading.{Advances, Stepped, line_of_ahead};
 
     // No record yet.
-    pub(crate) fn new(alloc: Global, reader: LineReader<S>, order: &'o O) -> Cursor<'o, S, O>
+    pub(crate) fn new(alloc: Global, reader: LineReader<S>, rule: Q) -> Cursor<S, Q>
+        ensures rule { result.neighbours.rule ≡ rule }
         ensures reader { result.reader ≡ reader }
-        ensures order { track_order result.track ≡ O.order order.now }
-        ensures last { track_last result.track ≡ None }
-        ensures ahead { has_ahead result.track ≡ false }
+        ensures fault { result.fault ≡ None }
+        ensures last { last_in result.neighbours ≡ None }
+        ensures ahead { has_ahead result.neighbours ≡ false }
     {
         Cursor {
             reader,
-            track: Track::new(alloc, order),
+            neighbours: Neighbours::new(alloc, rule),
+            fault: None,
         }
-    }
-
-    // Whether a record is ahead.
-    pub(crate) fn has_record(&self) -> bool
-        ensures { result ≡ has_ahead self.now.track }
-    {
-        self.track.has_record()
     }
 
     // The line of the record ahead.
     pub(crate) fn line(&self) -> u64
-        requires { IsSome (track_line self.now.track) }
-        ensures { track_line self.now.track ≡ Some result }
+        requires { IsSome (line_of_ahead (view_in (Q.sorting self.now.neighbours.rule) self.now)) }
+        ensures { line_of_ahead (view_in (Q.sorting self.now.neighbours.rule) self.now) ≡ Some result }
     {
-        self.track.line()
+        self.neighbours.line()
     }
 
     // Makes the record ahead the last one.
     pub(crate) fn advance(&mut self)
-        requires { IsSome (track_line self.old.track) }
-        ensures reader { self.new.reader ≡ self.old.reader }
-        ensures last { (text : List ℕ) → track_last self.new.track
-            ≡ option_map place_at (track_ahead text self.old.track) }
-        ensures none_ahead { has_ahead self.new.track ≡ false }
-        ensures order { track_order self.new.track ≡ track_order self.old.track }
+        requires { IsSome (line_of_ahead (view_in (Q.sorting self.old.neighbours.rule) self.old)) }
+        ensures rule { self.new.neighbours.rule ≡ self.old.neighbours.rule }
+        ensures passed { Advances S.left (view_in (Q.sorting self.old.neighbours.rule) self.old)
+            (view_in (Q.sorting self.old.neighbours.rule) self.new) }
     {
-        self.track.advance();
+        self.neighbours.advance();
     }
 
-    // Reads on to the next record, if there is one.
-    pub(crate) fn read_record(&mut self) -> Result<(), Fault>
-        requires { has_ahead self.old.track ≡ false }
-        ensures { Stepped S.left S.has_failed (at_rest self.old) result (stopped result self.new) }
+    // Reads on to the next record, if none is ahead and there is one.
+    pub(crate) fn step(&mut self) -> Result<(), Fault>
+        requires { IsPlaced (Q.sorting self.old.neighbours.rule)
+            (view_in (Q.sorting self.old.neighbours.rule) self.old) }
+        ensures rule { self.new.neighbours.rule ≡ self.old.neighbours.rule }
+        ensures step { Stepped S.left S.has_failed S.end_told
+            (view_in (Q.sorting self.old.neighbours.rule) self.old) result
+            (view_in (Q.sorting self.old.neighbours.rule) self.new) }
+        ensures placed { IsPlaced (Q.sorting self.old.neighbours.rule)
+            (view_in (Q.sorting self.old.neighbours.rule) self.new) }
+    {
+        if self.neighbours.has_record() {
+            return Ok(());
+        }
+        if let Some(fault) = self.fault {
+            return Err(fault);
+        }
+        let read = self.read_record();
+        if let Err(fault) = read {
+            self.fault = Some(fault);
+        }
+        read
+    }
+
+    // The record ahead, if there is one.
+    pub(crate) fn record(&self) -> Option<BedRef<'_>>
+        ensures { option_map feature_lent result
+            ≡ option_map (λ m. m.item) (view_in (Q.sorting self.now.neighbours.rule) self.now).ahead }
+    {
+        self.neighbours.record(self.text())
+    }
+
+    // Gives back the reader of lines.
+    pub(crate) fn into_reader(self) -> LineReader<S>
+        ensures { result ≡ self.reader }
+    {
+        let Cursor {
+            reader,
+            neighbours: _,
+            fault: _,
+        } = self;
+        reader
+    }
+
+    // Reads on to the next record, if there is one. No record is ahead.
+    fn read_record(&mut self) -> Result<(), Fault>
+        requires none_ahead { has_ahead self.old.neighbours ≡ false }
+        requires placed { IsPlaced (Q.sorting self.old.neighbours.rule)
+            (view_in (Q.sorting self.old.neighbours.rule) self.old) }
+        ensures rule { self.new.neighbours.rule ≡ self.old.neighbours.rule }
+        ensures fault { self.new.fault ≡ self.old.fault }
+        ensures step { Stepped S.left S.has_failed S.end_told
+            (view_with (Q.sorting self.old.neighbours.rule) None self.old.reader self.old.neighbours) result
+            (view_with (Q.sorting self.old.neighbours.rule) (fault_in result) self.new.reader self.new.neighbours) }
+        ensures placed { IsPlaced (Q.sorting self.old.neighbours.rule)
+            (view_with (Q.sorting self.old.neighbours.rule) (fault_in result) self.new.reader self.new.neighbours) }
     {
         let input = self.reader.input();
         while let Some(line) = self.reader.next()? {
@@ -78,27 +126,11 @@ impl<'o, S: Source, O: ChromOrder> Cursor<'o, S, O> {
                 input,
                 line: line.number,
             };
-            if self.track.take_line(place, line.text)? {
+            if self.neighbours.take_line(place, line.text)? {
                 return Ok(());
             }
         }
         Ok(())
-    }
-
-    // The record ahead, if there is one.
-    pub(crate) fn record(&self) -> Option<BedRef<'_>>
-        ensures { option_map feature_lent result
-            ≡ track_ahead (text_at (line_at self.now.reader)) self.now.track }
-    {
-        self.track.record(self.text())
-    }
-
-    // Gives back the reader of lines.
-    pub(crate) fn into_reader(self) -> LineReader<S>
-        ensures { result ≡ self.entry.reader }
-    {
-        let Cursor { reader, track: _ } = self;
-        reader
     }
 
     // The text of the line that the reader is at.

@@ -1,24 +1,13 @@
 //! The chromosomes of a genome file.
 
-ghost use Rattle.std.specs.Prelude.{◌≡◌, ◌<◌, ◌⊎◌, false, [], ◌∷◌, ◌++◌, length, slice_get, Some, IfErr, OnOk, option_map};
-ghost use Rattle.bt_lines.specs.Fault.{no_memory};
-ghost use Rattle.bt_lines.specs.Lines.{pieces};
-ghost use Rattle.bt_lines.specs.Names.{told};
-ghost use Rattle.bt_bed.specs.Genome.{columns_give, entry_of, is_skipped, new_entry};
-ghost use Rattle.bt_bed.specs.Rank.{is_among, rank_of};
-ghost use Rattle.bt_bed.specs.GenomeTable.{LineAdded, LineRefused, LineUnkept, ReadsGenome, columns_lent, entries, entry_lent, entry_said, names_of};
+ghost use Rattle.std.specs.Prelude.{◌<◌, All};
 
+use crate::entry::EntryRef;
 use crate::faults::{at_line, no_memory};
-use bt_lines::{Fault, Kind, LineReader, Place, Source, columns, number};
+use crate::genome_line::entry;
+use bt_lines::{Fault, Kind, LineReader, Place, Source};
 use indexmap::IndexMap;
 use std::alloc::Global;
-
-// A name and a length, borrowed from a line.
-#[derive(Clone, Copy, Debug)]
-pub(crate) struct EntryRef<'a> {
-    name: &'a [u8],
-    length: u64,
-}
 
 /// The chromosomes of a genome file, each with its length in bases. They stand in the file's order,
 /// and a chromosome's rank is its index there, from 0 (bedtools manual, genome file format). A look-up
@@ -26,10 +15,27 @@ pub(crate) struct EntryRef<'a> {
 #[derive(Drop, Debug)]
 pub struct Genome {
     lengths: IndexMap<Vec<u8>, u64>,
+    ghost non_empty: { All (λ chromosome. 0 < chromosome.1) lengths.entries },
 }
 
 #[tactic(auto, unfolding(crate::specs::GenomeTable::entries))]
 impl Genome {
+    ghost use Rattle.std.specs.Prelude.{◌≡◌, ◌⊎◌, false, [], ◌∷◌, ◌++◌, length, slice_get, Some, IfErr, OnOk, option_map};
+    ghost use Rattle.bt_lines.specs.Fault.{no_memory};
+    ghost use Rattle.bt_lines.specs.Names.{told};
+    ghost use Rattle.bt_bed.specs.Genome.{entry_of, new_entry};
+    ghost use Rattle.bt_bed.specs.Rank.{is_among, rank_of};
+    ghost use Rattle.bt_bed.specs.GenomeTable.{LineAdded, LineRefused, LineUnkept, ReadsGenome, entries, entry_lent, entry_said, names_of};
+
+    /// A genome without chromosomes, as that of a run that has no genome file.
+    pub fn new(alloc: Global) -> Genome
+        ensures { entries result ≡ [] }
+    {
+        Genome {
+            lengths: IndexMap::new(alloc),
+        }
+    }
+
     /// Reads a genome file to its end. Each line has a name, a tab and a length, and further columns
     /// are ignored, so that an index of `samtools faidx` serves too. Blank lines and lines that begin
     /// with `#` are skipped (bedtools manual, genome file format).
@@ -40,12 +46,10 @@ impl Genome {
     /// these, and the reader's own faults, `ReadFailed` and `NoMemory`, before. A fault that the reader
     /// had already is answered again.
     pub fn read<S: Source>(alloc: Global, reader: &mut LineReader<S>) -> Result<Genome, Fault>
-        ensures { ReadsGenome S.left S.has_failed reader.old result reader.new }
+        ensures { ReadsGenome S.left S.has_failed S.end_told reader.old result reader.new }
     {
         let input = reader.input();
-        let mut genome = Genome {
-            lengths: IndexMap::new(alloc),
-        };
+        let mut genome = Genome::new(alloc);
         while let Some(line) = reader.next()? {
             let place = Place {
                 input,
@@ -82,7 +86,8 @@ impl Genome {
     /// The length in bases of the chromosome of this rank.
     pub fn length(&self, rank: usize) -> u64
         requires { rank < length (entries self.now) }
-        ensures { option_map (λ entry. entry.length) (slice_get (entries self.now) rank) ≡ Some result }
+        ensures is { option_map (λ entry. entry.length) (slice_get (entries self.now) rank) ≡ Some result }
+        ensures some { 0 < result }
     {
         self.lengths[rank]
     }
@@ -129,53 +134,12 @@ impl Genome {
     }
 }
 
-// Whether a line is a comment or blank.
-fn is_skipped(text: &[u8]) -> bool
-    ensures { result ≡ is_skipped text.now }
-{
-    match text {
-        [] => true,
-        [first, ..] => *first == b'#',
-    }
-}
-
-// What a line says by itself.
-#[tactic(auto, unfolding(crate::specs::Genome::entry_of))]
-fn entry(text: &[u8]) -> Result<Option<EntryRef<'_>>, Kind>
-    ensures { entry_said result ≡ entry_of text.now }
-{
-    if is_skipped(text) {
-        return Ok(None);
-    }
-    let entry = first_columns(text)?;
-    Ok(Some(entry))
-}
-
-// The entry of the first two columns.
-fn first_columns(text: &[u8]) -> Result<EntryRef<'_>, Kind>
-    ensures { columns_lent result ≡ columns_give (pieces 9 text.now) }
-{
-    let mut columns = columns(text);
-    let Some(name) = columns.next() else {
-        return Err(Kind::TooFewColumns);
-    };
-    let Some(length) = columns.next() else {
-        return Err(Kind::TooFewColumns);
-    };
-    if name.is_empty() {
-        return Err(Kind::EmptyName);
-    }
-    match number(length) {
-        None | Some(0) => Err(Kind::BadLength),
-        Some(length) => Ok(EntryRef { name, length }),
-    }
-}
-
 #[cfg(test)]
 mod tests {
     use super::*;
     use crate::order::ChromOrder;
     use bt_lines::{Input, ScriptSource};
+    use itoa::Buffer;
     use std::alloc::AllocError;
     use std::cmp::Ordering;
 
@@ -213,25 +177,45 @@ mod tests {
         Err((kind, Some(place)))
     }
 
+    const COUNTS: [(&[u8], Result<usize, (Kind, u64)>); 11] = [
+        (b"", Ok(0)),
+        (b"chr1\t10\nchr2\t5\n", Ok(2)),
+        (b"chr1\t10\t52\t60\t61\n", Ok(1)),
+        (b"# all\n\nchr1\t10\n\r\n#\t\t\nchr2\t20", Ok(2)),
+        (b"chr1\n", Err((Kind::TooFewColumns, 1))),
+        (b"\n\t10\n", Err((Kind::EmptyName, 2))),
+        (b"chr1\t0\n", Err((Kind::BadLength, 1))),
+        (b"chr1\tx\n", Err((Kind::BadLength, 1))),
+        (b"chr1\t10\nchr1\t20\n", Err((Kind::RepeatedChrom, 2))),
+        (b"chr1\t10\nchr1\t0\n", Err((Kind::BadLength, 2))),
+        (b"chr1\t10\nchr2\nchr1\t10\n", Err((Kind::TooFewColumns, 2))),
+    ];
+
+    // The first text of a table that gives another count or fault than it has, in pieces of this many
+    // bytes.
+    fn first_miscounted(
+        alloc: Global,
+        rows: &[(&'static [u8], Result<usize, (Kind, u64)>)],
+        step: usize,
+    ) -> Option<&'static [u8]>
+        requires { 0 < step }
+    {
+        for row in rows {
+            let want = match row.1 {
+                Ok(count) => Ok(count),
+                Err((kind, line)) => at(kind, line),
+            };
+            if count(alloc, row.0, step, None) != want {
+                return Some(row.0);
+            }
+        }
+        None
+    }
+
     #[test]
     fn counts_chromosomes(rt: HostRuntime) {
-        let cases: [(&[u8], Result<usize, (Kind, Option<Place>)>); 11] = [
-            (b"", Ok(0)),
-            (b"chr1\t10\nchr2\t5\n", Ok(2)),
-            (b"chr1\t10\t52\t60\t61\n", Ok(1)),
-            (b"# all\n\nchr1\t10\n\r\n#\t\t\nchr2\t20", Ok(2)),
-            (b"chr1\n", at(Kind::TooFewColumns, 1)),
-            (b"\n\t10\n", at(Kind::EmptyName, 2)),
-            (b"chr1\t0\n", at(Kind::BadLength, 1)),
-            (b"chr1\tx\n", at(Kind::BadLength, 1)),
-            (b"chr1\t10\nchr1\t20\n", at(Kind::RepeatedChrom, 2)),
-            (b"chr1\t10\nchr1\t0\n", at(Kind::BadLength, 2)),
-            (b"chr1\t10\nchr2\nchr1\t10\n", at(Kind::TooFewColumns, 2)),
-        ];
-        for (text, want) in cases {
-            assert_eq!(rt; count(rt.alloc(), text, 1, None), want);
-            assert_eq!(rt; count(rt.alloc(), text, 7, None), want);
-        }
+        assert_eq!(rt; first_miscounted(rt.alloc(), &COUNTS, 1), None);
+        assert_eq!(rt; first_miscounted(rt.alloc(), &COUNTS, 7), None);
     }
 
     #[test]
@@ -275,30 +259,43 @@ mod tests {
         }
     }
 
+    // Two names, and how they compare.
+    type Pair = (&'static [u8], &'static [u8], Option<Ordering>);
+
+    const PAIRS: [Pair; 5] = [
+        (b"chr10", b"chr2", Some(Ordering::Less)),
+        (b"chr2", b"chr10", Some(Ordering::Greater)),
+        (b"chr2", b"chr2", Some(Ordering::Equal)),
+        (b"chr2", b"chr3", None),
+        (b"chr3", b"chr2", None),
+    ];
+
+    fn agrees<O: ChromOrder>(order: &O, pairs: &[Pair]) -> bool {
+        for pair in pairs {
+            if compared(order, pair.0, pair.1) != pair.2 {
+                return false;
+            }
+        }
+        true
+    }
+
     #[test]
     fn orders_chromosomes_by_their_lines(rt: HostRuntime) {
-        let cases: [(&[u8], &[u8], Option<Ordering>); 5] = [
-            (b"chr10", b"chr2", Some(Ordering::Less)),
-            (b"chr2", b"chr10", Some(Ordering::Greater)),
-            (b"chr2", b"chr2", Some(Ordering::Equal)),
-            (b"chr2", b"chr3", None),
-            (b"chr3", b"chr2", None),
-        ];
-        for (left, right, want) in cases {
-            let found = match read(rt.alloc(), b"chr10\t5\nchr2\t7\n", 1, None) {
-                Ok(genome) => compared(&genome, left, right),
-                Err(_fault) => None,
-            };
-            assert_eq!(rt; found, want);
-        }
+        let found = match read(rt.alloc(), b"chr10\t5\nchr2\t7\n", 1, None) {
+            Ok(genome) => agrees(&genome, &PAIRS),
+            Err(_fault) => false,
+        };
+        assert!(rt; found);
     }
 
     // A genome file of the names c0, c1 and so on.
     fn numbered(alloc: Global, count: u64) -> Result<Vec<u8>, AllocError> {
         let mut text = Vec::new(alloc);
+        let mut digits = Buffer::new();
         for n in 0..count {
-            let line = format!(in alloc; "c{n}\t5\n")?;
-            text.extend_from_slice(line.as_bytes())?;
+            text.extend_from_slice(b"c")?;
+            text.extend_from_slice(digits.format(n).as_bytes())?;
+            text.extend_from_slice(b"\t5\n")?;
         }
         Ok(text)
     }

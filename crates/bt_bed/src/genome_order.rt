@@ -19,6 +19,9 @@ impl ChromOrder for Genome {
     }
 
     fn compare(&self, left: &[u8], right: &[u8]) -> Ordering {
+        if left == right {
+            return Ordering::Equal;
+        }
         match (self.rank(left), self.rank(right)) {
             (Some(left), Some(right)) => left.cmp(&right),
             // Both are known, so this isn't reached.

@@ -2,11 +2,13 @@
 
 ghost use Rattle.std.specs.Prelude.{◌≡◌, [], ◌∷◌, ◌++◌, Some, None, Ok, Err, codes};
 ghost use Rattle.bt_bed.specs.Bases.{shared_are_common};
-ghost use Rattle.bt_bed.specs.Genome.{genome_names_are_distinct};
-ghost use Rattle.bt_bed.specs.Good.{good_are_non_empty, good_are_placed};
-ghost use Rattle.bt_bed.specs.Place.{fronts_are_placed, placed_grows};
+ghost use Rattle.bt_bed.specs.Genome.{first_lines_make_entries, genome_names_are_distinct};
+ghost use Rattle.bt_bed.specs.GoodBed.{first_lines_have_the_first, good_are_non_empty, good_are_placed, good_stand_on_lines};
+ghost use Rattle.bt_bed.specs.Locus.{fronts_are_placed, placed_grows};
+ghost use Rattle.bt_bed.specs.Meeting.{EarlyLinesBegin};
 ghost use Rattle.bt_bed.specs.Rank.{ranks_are_total};
 ghost use Rattle.bt_bed.specs.Record.{read_are_rewritten, record_of, said_are_features, written_are_read};
+ghost use Rattle.bt_bed.specs.Sorting.{sorted_by_places};
 ghost use Rattle.bt_bed.specs.Stretches.{scan_finds_stretches, stretches_are_one};
 ghost use Rattle.bt_bed.specs.Together.{fronts_stand_together, placed_are_together, together_grows};
 
@@ -43,9 +45,25 @@ pub fn good_records_are_in_order()
     ensures non_empty { good_are_non_empty }
 {}
 
+/// The good records of a text stand on its lines, and those of its first lines are the first of them.
+pub fn first_lines_have_the_first_records()
+    ensures lines { good_stand_on_lines }
+    ensures first { first_lines_have_the_first }
+{}
+
 /// A genome file without a fault has each chromosome once.
 pub fn chromosomes_come_once()
     ensures { genome_names_are_distinct }
+{}
+
+/// The lines before the first fault of a genome file have none.
+pub fn first_lines_have_the_first_chromosomes()
+    ensures { first_lines_make_entries }
+{}
+
+/// In a total order records are sorted by their places.
+pub fn sorted_records_follow_the_order()
+    ensures { sorted_by_places }
 {}
 
 /// The ranks of names give a total order of them, in which only equal names compare as equal.
@@ -64,6 +82,12 @@ pub fn lines_say_features()
 pub fn written_records_are_read_back()
     ensures read_back { written_are_read }
     ensures rewritten { read_are_rewritten }
+{}
+
+/// Where two inputs meet, what is written early begins what is written in the end, whichever fault is
+/// told.
+pub fn early_lines_begin_the_whole<A, L, F>()
+    ensures { EarlyLinesBegin A L F }
 {}
 
 /// What small texts say.

@@ -1,29 +1,41 @@
 //! BED records, and the genome file that orders them.
 //!
-//! A feature is what a line of a BED file says ([`parse_bed`], [`write_bed`]). [`Records`] reads the
-//! features of sorted input in an order of the chromosomes ([`ChromOrder`]), as that of a
-//! [`Genome`].
+//! A feature is what a line of a BED file says ([`parse_bed`]). A [`BedRef`] borrows it, and a [`Rec`]
+//! keeps it; both are written whole or in parts ([`write_bed`], [`write_cut`], [`put_bed`],
+//! [`put_cut`]). [`Records`] reads the features of sorted input in an order of the chromosomes
+//! ([`ChromOrder`]), as that of a [`Genome`].
 #![tactic(auto)]
 
 mod bed;
 mod cursor;
+mod entry;
 mod faults;
 mod genome;
+mod genome_line;
 mod genome_order;
 mod header;
+mod interval_line;
 pub mod laws;
+mod leading;
+mod neighbours;
 mod order;
 mod parsing;
+mod plain;
+mod putting;
+mod rec;
 mod records;
+mod sorted;
 mod spot;
 mod strand;
-mod track;
 mod writing;
 
 pub use bed::BedRef;
 pub use genome::Genome;
+pub use interval_line::put_interval;
 pub use order::ChromOrder;
 pub use parsing::parse_bed;
+pub use putting::{put_bed, put_cut};
+pub use rec::Rec;
 pub use records::Records;
 pub use strand::Strand;
-pub use writing::write_bed;
+pub use writing::{write_bed, write_cut};

@@ -9,6 +9,7 @@ ghost use Rattle.bt_lines.specs.Number.{value_of};
 
 use crate::bed::BedRef;
 use crate::header::is_header;
+use crate::plain::plain_feature;
 use crate::strand::Strand;
 use bt_lines::{Columns, Kind, columns, number};
 
@@ -23,6 +24,9 @@ pub fn parse_bed(text: &[u8]) -> Result<Option<BedRef<'_>>, Kind>
 {
     if is_header(text) {
         return Ok(None);
+    }
+    if let Some(feature) = plain_feature(text) {
+        return Ok(Some(feature));
     }
     let feature = first_columns(text)?;
     Ok(Some(feature))
@@ -57,7 +61,7 @@ fn first_columns(text: &[u8]) -> Result<BedRef<'_>, Kind>
 }
 
 // What stands in a text from an index on.
-fn behind(text: &[u8], from: usize) -> &[u8]
+pub(crate) fn behind(text: &[u8], from: usize) -> &[u8]
     requires { from ≤ length text.now }
     ensures { result.now ≡ drop from text.now }
 {
@@ -85,7 +89,7 @@ fn bounds(chrom: &[u8], start: &[u8], stop: &[u8]) -> Result<(u64, u64), Kind>
 }
 
 // The strand of the columns from the fourth on: the third of them names it.
-fn third_strand(mut columns: Columns<'_>) -> Strand
+pub(crate) fn third_strand(mut columns: Columns<'_>) -> Strand
     ensures { result ≡ strand_of (columns_left columns.entry) }
 {
     let _name = columns.next();
@@ -111,8 +115,10 @@ fn strand_named(column: &[u8]) -> Strand
 mod tests {
     use super::*;
 
-    // A text, and the start, the end, the strand and what is kept of its record.
-    const RECORDS: [(&[u8], (u64, u64, Strand, &[u8])); 15] = [
+    // The start, the end, the strand and what is kept of a record.
+    type Said = (u64, u64, Strand, &'static [u8]);
+
+    const RECORDS: [(&[u8], Said); 15] = [
         (b"chr1\t5\t9", (5, 9, Strand::Dot, b"")),
         (b"chr1\t5\t9\t", (5, 9, Strand::Dot, b"\t")),
         (b"chr1\t007\t9\tn\t0\t+", (7, 9, Strand::Plus, b"\tn\t0\t+")),
@@ -145,76 +151,117 @@ mod tests {
         ),
     ];
 
+    const NAMES: [(&[u8], &[u8]); 3] = [
+        (b"chr1\t3\t4", b"chr1"),
+        (b"chr 1\t3\t4\tx", b"chr 1"),
+        (b" \t3\t4", b" "),
+    ];
+
+    const HEADERS: [&[u8]; 7] = [
+        b"",
+        b"#",
+        b"#chr1\t1\t2",
+        b"track",
+        b"track\tx",
+        b"track name=x",
+        b"browser position",
+    ];
+
+    const FAULTS: [(&[u8], Kind); 17] = [
+        (b"chr1", Kind::TooFewColumns),
+        (b"chr1\t5", Kind::TooFewColumns),
+        (b"\tx", Kind::TooFewColumns),
+        (b"chr1 5 9", Kind::TooFewColumns),
+        (b"\t1\t2", Kind::EmptyName),
+        (b"\tx\ty", Kind::EmptyName),
+        (b"\t\t\t\t\t\t\t\t\t\t\t\t\t\t\t\t\t\t\t\t", Kind::EmptyName),
+        (b"chr1\t\t5", Kind::BadStart),
+        (b"chr1\t-1\tx", Kind::BadStart),
+        (b"chr1\t1000000000000\t5", Kind::BadStart),
+        (b"chr1\t18446744073709551616\t5", Kind::BadStart),
+        (b"chr1\t1\tx", Kind::BadStop),
+        (b"chr1\t1\t2\r", Kind::BadStop),
+        (b"chr1\t5\t1000000000000", Kind::BadStop),
+        (b"chr1\t5\t", Kind::BadStop),
+        (b"chr1\t5\t5", Kind::EmptyFeature),
+        (b"chr1\t6\t5", Kind::EmptyFeature),
+    ];
+
+    fn said(text: &'static [u8]) -> Option<Said> {
+        match parse_bed(text) {
+            Ok(Some(bed)) => Some((bed.start, bed.stop, bed.strand, bed.rest)),
+            _ => None,
+        }
+    }
+
+    fn name(text: &[u8]) -> Option<&[u8]> {
+        match parse_bed(text) {
+            Ok(Some(bed)) => Some(bed.chrom),
+            _ => None,
+        }
+    }
+
+    fn fault(text: &[u8]) -> Option<Kind> {
+        match parse_bed(text) {
+            Err(kind) => Some(kind),
+            Ok(_) => None,
+        }
+    }
+
+    // The first line of a table that says something else than it has.
+    fn first_misread(rows: &[(&'static [u8], Said)]) -> Option<&'static [u8]> {
+        for row in rows {
+            if said(row.0) != Some(row.1) {
+                return Some(row.0);
+            }
+        }
+        None
+    }
+
+    fn first_misnamed(rows: &[(&'static [u8], &'static [u8])]) -> Option<&'static [u8]> {
+        for row in rows {
+            if name(row.0) != Some(row.1) {
+                return Some(row.0);
+            }
+        }
+        None
+    }
+
+    fn first_unskipped(lines: &[&'static [u8]]) -> Option<&'static [u8]> {
+        for line in lines {
+            if !matches!(parse_bed(line), Ok(None)) {
+                return Some(*line);
+            }
+        }
+        None
+    }
+
+    fn first_misjudged(rows: &[(&'static [u8], Kind)]) -> Option<&'static [u8]> {
+        for row in rows {
+            if fault(row.0) != Some(row.1) {
+                return Some(row.0);
+            }
+        }
+        None
+    }
+
     #[test]
     fn lines_say_records(rt: HostRuntime) {
-        for (text, want) in RECORDS {
-            let found = match parse_bed(text) {
-                Ok(Some(bed)) => Some((bed.start, bed.stop, bed.strand, bed.rest)),
-                _ => None,
-            };
-            assert_eq!(rt; found, Some(want), "at {text:?}");
-        }
+        assert_eq!(rt; first_misread(&RECORDS), None);
     }
 
     #[test]
     fn records_keep_the_name(rt: HostRuntime) {
-        let cases: [(&[u8], &[u8]); 3] = [
-            (b"chr1\t3\t4", b"chr1"),
-            (b"chr 1\t3\t4\tx", b"chr 1"),
-            (b" \t3\t4", b" "),
-        ];
-        for (text, want) in cases {
-            let found = match parse_bed(text) {
-                Ok(Some(bed)) => Some(bed.chrom),
-                _ => None,
-            };
-            assert_eq!(rt; found, Some(want), "at {text:?}");
-        }
+        assert_eq!(rt; first_misnamed(&NAMES), None);
     }
 
     #[test]
     fn headers_say_nothing(rt: HostRuntime) {
-        let cases: [&[u8]; 7] = [
-            b"",
-            b"#",
-            b"#chr1\t1\t2",
-            b"track",
-            b"track\tx",
-            b"track name=x",
-            b"browser position",
-        ];
-        for text in cases {
-            assert!(rt; matches!(parse_bed(text), Ok(None)), "at {text:?}");
-        }
+        assert_eq!(rt; first_unskipped(&HEADERS), None);
     }
 
     #[test]
     fn lines_are_at_fault(rt: HostRuntime) {
-        let cases: [(&[u8], Kind); 17] = [
-            (b"chr1", Kind::TooFewColumns),
-            (b"chr1\t5", Kind::TooFewColumns),
-            (b"\tx", Kind::TooFewColumns),
-            (b"chr1 5 9", Kind::TooFewColumns),
-            (b"\t1\t2", Kind::EmptyName),
-            (b"\tx\ty", Kind::EmptyName),
-            (b"\t\t\t\t\t\t\t\t\t\t\t\t\t\t\t\t\t\t\t\t", Kind::EmptyName),
-            (b"chr1\t\t5", Kind::BadStart),
-            (b"chr1\t-1\tx", Kind::BadStart),
-            (b"chr1\t1000000000000\t5", Kind::BadStart),
-            (b"chr1\t18446744073709551616\t5", Kind::BadStart),
-            (b"chr1\t1\tx", Kind::BadStop),
-            (b"chr1\t1\t2\r", Kind::BadStop),
-            (b"chr1\t5\t1000000000000", Kind::BadStop),
-            (b"chr1\t5\t", Kind::BadStop),
-            (b"chr1\t5\t5", Kind::EmptyFeature),
-            (b"chr1\t6\t5", Kind::EmptyFeature),
-        ];
-        for (text, want) in cases {
-            let found = match parse_bed(text) {
-                Err(kind) => Some(kind),
-                Ok(_) => None,
-            };
-            assert_eq!(rt; found, Some(want), "at {text:?}");
-        }
+        assert_eq!(rt; first_misjudged(&FAULTS), None);
     }
 }

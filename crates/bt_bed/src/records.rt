@@ -1,8 +1,12 @@
 //! The records of a BED input, one after another.
 
+ghost use Rattle.bt_bed.specs.Cursor.{IsPlaced, view_in};
+ghost use Rattle.bt_bed.specs.Sorting.{sorting_of};
+
 use crate::bed::BedRef;
 use crate::cursor::Cursor;
 use crate::order::ChromOrder;
+use crate::sorted::ByOrder;
 use bt_lines::{Fault, LineReader, Source};
 use std::alloc::Global;
 
@@ -10,13 +14,14 @@ use std::alloc::Global;
 /// a chromosome that the order doesn't know, or lies below the record before it, by chromosome and
 /// then by start. Header lines and blank lines are skipped. The record ahead is lent until the next
 /// call.
-#[derive(Debug, Drop)]
+#[derive(Drop)]
 pub struct Records<'o, S, O: ChromOrder> {
-    cursor: Cursor<'o, S, O>,
-    fault: Option<Fault>,
+    cursor: Cursor<S, ByOrder<'o, O>>,
+    ghost placed: { IsPlaced (sorting_of (O.order cursor.neighbours.rule.order.now))
+        (view_in (sorting_of (O.order cursor.neighbours.rule.order.now)) cursor) },
 }
 
-#[tactic(auto, unfolding(crate::specs::Records::below, crate::specs::Records::order_in, crate::specs::Records::last_place, crate::specs::Records::record_ahead, crate::specs::Records::line_ahead, crate::specs::Records::fault_kept, crate::specs::Records::good_left))]
+#[tactic(auto, unfolding(crate::specs::Cursor::view_with, crate::specs::Records::view_of, crate::specs::Records::order_in))]
 impl<'o, S: Source, O: ChromOrder> Records<'o, S, O> {
     ghost use Rattle.std.specs.Prelude.{◌≡◌, [], Some, None, IsSome, option_map};
     ghost use Rattle.std.specs.Borrow.{sem};
@@ -25,8 +30,9 @@ impl<'o, S: Source, O: ChromOrder> Records<'o, S, O> {
     ghost use Rattle.bt_lines.specs.Reader.{fault_kept as line_fault, input_of, lines_left};
     ghost use Rattle.bt_bed.specs.contracts.records.Records.{the_row};
     ghost use Rattle.bt_bed.specs.Good.{good};
+    ghost use Rattle.bt_bed.specs.GoodBed.{bed_format};
     ghost use Rattle.bt_bed.specs.Order.{IsTotal};
-    ghost use Rattle.bt_bed.specs.Records.{Advances, PeeksRecord, Stepped, below, fault_kept, good_left, last_place, line_ahead, order_in};
+    ghost use Rattle.bt_bed.specs.Records.{PassesRecord, PeeksRecord, StepsRecord, below, fault_kept, good_left, last_locus, line_ahead, order_in, record_ahead};
 
     /// A reader of the records that the reader of lines has left.
     pub fn new(alloc: Global, reader: LineReader<S>, order: &'o O) -> Records<'o, S, O>
@@ -35,13 +41,13 @@ impl<'o, S: Source, O: ChromOrder> Records<'o, S, O> {
         ensures total { IsTotal (order_in result) }
         ensures fault { fault_kept result ≡ line_fault reader }
         ensures good { line_fault reader ≡ None → good_left S.left result
-            ≡ option_map (good (input_of reader) (O.order order.now)) (lines_left S.left reader) }
-        ensures none_last { last_place result ≡ None }
+            ≡ option_map (good (bed_format (sorting_of (O.order order.now))) (input_of reader))
+            (lines_left S.left reader) }
+        ensures none_last { last_locus result ≡ None }
         ensures none_ahead { line_ahead result ≡ None }
     {
         Records {
-            cursor: Cursor::new(alloc, reader, order),
-            fault: None,
+            cursor: Cursor::new(alloc, reader, ByOrder { order }),
         }
     }
 
@@ -52,7 +58,7 @@ impl<'o, S: Source, O: ChromOrder> Records<'o, S, O> {
     pub fn peek(&mut self) -> Result<Option<BedRef<'_>>, Fault>
         ensures* after { sem 𝓛 (Rests (the_row (record { mir = named 0; lft = [] }) S.row O.row O.ChromOrder)
             self.entry
-            (λ new. PeeksRecord S.left S.has_failed self.old result new)) }
+            (λ new. PeeksRecord S.left S.has_failed S.end_told self.old result new)) }
     {
         self.step()?;
         Ok(self.cursor.record())
@@ -61,7 +67,7 @@ impl<'o, S: Source, O: ChromOrder> Records<'o, S, O> {
     /// Passes the record ahead, which the last `peek` gave. It reads nothing and takes no memory.
     pub fn advance(&mut self)
         requires { IsSome (line_ahead self.old) }
-        ensures { Advances S.left self.old self.new }
+        ensures { PassesRecord S.left self.old self.new }
     {
         self.cursor.advance();
     }
@@ -78,25 +84,15 @@ impl<'o, S: Source, O: ChromOrder> Records<'o, S, O> {
     pub fn into_reader(self) -> LineReader<S>
         ensures { result ≡ below self.entry }
     {
-        let Records { cursor, fault: _ } = self;
+        let Records { cursor } = self;
         cursor.into_reader()
     }
 
     // Reads on to the next record, if none is ahead and there is one.
     fn step(&mut self) -> Result<(), Fault>
-        ensures { Stepped S.left S.has_failed self.old result self.new }
+        ensures { StepsRecord S.left S.has_failed S.end_told self.old result self.new }
     {
-        if self.cursor.has_record() {
-            return Ok(());
-        }
-        if let Some(fault) = self.fault {
-            return Err(fault);
-        }
-        let read = self.cursor.read_record();
-        if let Err(fault) = read {
-            self.fault = Some(fault);
-        }
-        read
+        self.cursor.step()
     }
 }
 
@@ -185,115 +181,137 @@ mod tests {
         }
     }
 
+    const ONE: Found = (1, Some(0), 0, 5);
+
+    const TWO: Found = (2, Some(1), 0, 5);
+
+    const TWO_LINES: &[u8] = b"chr1\t0\t5\nchr2\t0\t5\n";
+
+    const IN_ORDER: [Row; 9] = [
+        (b"", &[], None),
+        (b"\n\r\n", &[], None),
+        (b"track name=x\n#chr1\t5\nbrowser\n", &[], None),
+        (
+            b"track name=x\r\nchr1\t000\t5\r\nchr1\t20\t30",
+            &[(2, Some(0), 0, 5), (3, Some(0), 20, 30)],
+            None,
+        ),
+        (
+            b"chr1\t0\t5\n#\nbrowser position\ntrack\tx\nchr1\t0\t3\tn\t0\t-\n",
+            &[ONE, (5, Some(0), 0, 3)],
+            None,
+        ),
+        (b"chr1\t0\t5", &[ONE], None),
+        (
+            b"chr1\t0\t5\n\nchr1\t0\t3\r\n",
+            &[ONE, (3, Some(0), 0, 3)],
+            None,
+        ),
+        (
+            b"chr1\t0\t5\nchr2\t0\t9\n",
+            &[ONE, (2, Some(1), 0, 9)],
+            None,
+        ),
+        (
+            b"chr2\t4\t5\nchr2\t4\t9\n",
+            &[(1, Some(1), 4, 5), (2, Some(1), 4, 9)],
+            None,
+        ),
+    ];
+
+    const AT_FAULT: [Row; 11] = [
+        (
+            b"chr1\t5\t9\nchr1\t4\t9\nchr1\t6\t9\n",
+            &[(1, Some(0), 5, 9)],
+            Some((Kind::OutOfOrder, 2)),
+        ),
+        (
+            b"chr1\t5\t9\n#\nchr1\t4\t9\n",
+            &[(1, Some(0), 5, 9)],
+            Some((Kind::OutOfOrder, 3)),
+        ),
+        (
+            b"chr1\t0\t5\nchr2\t0\t5\nchr1\t6\t8\n",
+            &[ONE, TWO],
+            Some((Kind::OutOfOrder, 3)),
+        ),
+        (
+            b"chr1\t0\t5\nchr1\t6\t8\nchr1\t5\t8\n",
+            &[ONE, (2, Some(0), 6, 8)],
+            Some((Kind::OutOfOrder, 3)),
+        ),
+        (b"trackX\t1\t2\n", &[], Some((Kind::UnknownChrom, 1))),
+        (
+            b"chr1\t0\t5\nchr10\t0\t5\nchr2\t0\t5\n",
+            &[ONE],
+            Some((Kind::UnknownChrom, 2)),
+        ),
+        (
+            b"chr1\t0\t5\nchr2\t0\t5\nchr1\tx\t5\n",
+            &[ONE, TWO],
+            Some((Kind::BadStart, 3)),
+        ),
+        (
+            b"\nchr1\t1000000000000\t5\n",
+            &[],
+            Some((Kind::BadStart, 2)),
+        ),
+        (b"chr1\t5\t5\n", &[], Some((Kind::EmptyFeature, 1))),
+        (b"\t1\t2\n", &[], Some((Kind::EmptyName, 1))),
+        (b"#chr1\t5\nchr1\t1\n", &[], Some((Kind::TooFewColumns, 2))),
+    ];
+
+    // How many bytes of two lines are good, and what is given then.
+    const CUT_OFF: [(usize, Row); 4] = [
+        (0, (TWO_LINES, &[], Some((Kind::ReadFailed, 1)))),
+        (12, (TWO_LINES, &[ONE], Some((Kind::ReadFailed, 2)))),
+        (18, (TWO_LINES, &[ONE, TWO], Some((Kind::ReadFailed, 3)))),
+        (19, (TWO_LINES, &[ONE, TWO], None)),
+    ];
+
+    // The first text of a table that gives other records or another fault, in pieces of one byte or of
+    // seven.
+    fn first_misread(alloc: Global, rows: &[Row<'static>]) -> Result<Option<&'static [u8]>, Fail> {
+        let genome = read_genome(alloc)?;
+        for row in rows {
+            let by_one = agrees(alloc, &genome, *row, 1, None)?;
+            let by_seven = agrees(alloc, &genome, *row, 7, None)?;
+            if !by_one || !by_seven {
+                return Ok(Some(row.0));
+            }
+        }
+        Ok(None)
+    }
+
+    // How many good bytes a row has that is read otherwise, if one is.
+    fn first_cut_otherwise(
+        alloc: Global,
+        rows: &[(usize, Row<'static>)],
+    ) -> Result<Option<usize>, Fail> {
+        let genome = read_genome(alloc)?;
+        for row in rows {
+            if !agrees(alloc, &genome, row.1, 7, Some(row.0))? {
+                return Ok(Some(row.0));
+            }
+        }
+        Ok(None)
+    }
+
     #[test]
     fn reads_records_in_order(rt: HostRuntime) -> Result<(), Fail> {
-        let one = (1, Some(0), 0, 5);
-        let rows: [Row; 9] = [
-            (b"", &[], None),
-            (b"\n\r\n", &[], None),
-            (b"track name=x\n#chr1\t5\nbrowser\n", &[], None),
-            (
-                b"track name=x\r\nchr1\t000\t5\r\nchr1\t20\t30",
-                &[(2, Some(0), 0, 5), (3, Some(0), 20, 30)],
-                None,
-            ),
-            (
-                b"chr1\t0\t5\n#\nbrowser position\ntrack\tx\nchr1\t0\t3\tn\t0\t-\n",
-                &[one, (5, Some(0), 0, 3)],
-                None,
-            ),
-            (b"chr1\t0\t5", &[one], None),
-            (
-                b"chr1\t0\t5\n\nchr1\t0\t3\r\n",
-                &[one, (3, Some(0), 0, 3)],
-                None,
-            ),
-            (
-                b"chr1\t0\t5\nchr2\t0\t9\n",
-                &[one, (2, Some(1), 0, 9)],
-                None,
-            ),
-            (
-                b"chr2\t4\t5\nchr2\t4\t9\n",
-                &[(1, Some(1), 4, 5), (2, Some(1), 4, 9)],
-                None,
-            ),
-        ];
-        let genome = read_genome(rt.alloc())?;
-        for row in rows {
-            assert!(rt; agrees(rt.alloc(), &genome, row, 1, None)?);
-            assert!(rt; agrees(rt.alloc(), &genome, row, 7, None)?);
-        }
+        assert_eq!(rt; first_misread(rt.alloc(), &IN_ORDER)?, None);
         Ok(())
     }
 
     #[test]
     fn tells_what_is_wrong(rt: HostRuntime) -> Result<(), Fail> {
-        let one = (1, Some(0), 0, 5);
-        let two = (2, Some(1), 0, 5);
-        let rows: [Row; 11] = [
-            (
-                b"chr1\t5\t9\nchr1\t4\t9\nchr1\t6\t9\n",
-                &[(1, Some(0), 5, 9)],
-                Some((Kind::OutOfOrder, 2)),
-            ),
-            (
-                b"chr1\t5\t9\n#\nchr1\t4\t9\n",
-                &[(1, Some(0), 5, 9)],
-                Some((Kind::OutOfOrder, 3)),
-            ),
-            (
-                b"chr1\t0\t5\nchr2\t0\t5\nchr1\t6\t8\n",
-                &[one, two],
-                Some((Kind::OutOfOrder, 3)),
-            ),
-            (
-                b"chr1\t0\t5\nchr1\t6\t8\nchr1\t5\t8\n",
-                &[one, (2, Some(0), 6, 8)],
-                Some((Kind::OutOfOrder, 3)),
-            ),
-            (b"trackX\t1\t2\n", &[], Some((Kind::UnknownChrom, 1))),
-            (
-                b"chr1\t0\t5\nchr10\t0\t5\nchr2\t0\t5\n",
-                &[one],
-                Some((Kind::UnknownChrom, 2)),
-            ),
-            (
-                b"chr1\t0\t5\nchr2\t0\t5\nchr1\tx\t5\n",
-                &[one, two],
-                Some((Kind::BadStart, 3)),
-            ),
-            (
-                b"\nchr1\t1000000000000\t5\n",
-                &[],
-                Some((Kind::BadStart, 2)),
-            ),
-            (b"chr1\t5\t5\n", &[], Some((Kind::EmptyFeature, 1))),
-            (b"\t1\t2\n", &[], Some((Kind::EmptyName, 1))),
-            (b"#chr1\t5\nchr1\t1\n", &[], Some((Kind::TooFewColumns, 2))),
-        ];
-        let genome = read_genome(rt.alloc())?;
-        for row in rows {
-            assert!(rt; agrees(rt.alloc(), &genome, row, 1, None)?);
-            assert!(rt; agrees(rt.alloc(), &genome, row, 7, None)?);
-        }
+        assert_eq!(rt; first_misread(rt.alloc(), &AT_FAULT)?, None);
         Ok(())
     }
 
     #[test]
     fn tells_a_failed_read(rt: HostRuntime) -> Result<(), Fail> {
-        let text = b"chr1\t0\t5\nchr2\t0\t5\n".as_slice();
-        let (one, two) = ((1, Some(0), 0, 5), (2, Some(1), 0, 5));
-        let genome = read_genome(rt.alloc())?;
-        let rows: [(usize, Row); 4] = [
-            (0, (text, &[], Some((Kind::ReadFailed, 1)))),
-            (12, (text, &[one], Some((Kind::ReadFailed, 2)))),
-            (18, (text, &[one, two], Some((Kind::ReadFailed, 3)))),
-            (19, (text, &[one, two], None)),
-        ];
-        for (good, row) in rows {
-            assert!(rt; agrees(rt.alloc(), &genome, row, 7, Some(good))?);
-        }
+        assert_eq!(rt; first_cut_otherwise(rt.alloc(), &CUT_OFF)?, None);
         Ok(())
     }
 
@@ -313,27 +331,33 @@ mod tests {
         Ok(())
     }
 
+    // The strand and what is kept of a record on a chromosome.
+    type Lent = (&'static [u8], Strand, &'static [u8]);
+
+    const LENT: [Lent; 3] = [
+        (b"chr1", Strand::Plus, b"\tn\t0\t+"),
+        (b"chr1", Strand::Dot, b""),
+        (b"chr2", Strand::Dot, b"\t"),
+    ];
+
+    // Whether the record ahead is lent so, which is passed then.
+    fn lends<S: Source>(records: &mut Records<'_, S, Genome>, want: Lent) -> bool {
+        let agrees = match records.peek() {
+            Ok(Some(bed)) => bed.chrom == want.0 && bed.strand == want.1 && bed.rest == want.2,
+            _ => return false,
+        };
+        records.advance();
+        agrees
+    }
+
     #[test]
     fn lends_what_the_line_says(rt: HostRuntime) -> Result<(), Fail> {
         let genome = read_genome(rt.alloc())?;
         let text = b"chr1\t007\t9\tn\t0\t+\nchr1\t8\t9\nchr2\t1\t2\t\n";
-        let want: [(&[u8], Strand, &[u8]); 3] = [
-            (b"chr1", Strand::Plus, b"\tn\t0\t+"),
-            (b"chr1", Strand::Dot, b""),
-            (b"chr2", Strand::Dot, b"\t"),
-        ];
         let lines = LineReader::new(rt.alloc(), ScriptSource::new(text, 1, None), Input::First);
         let mut records = Records::new(rt.alloc(), lines, &genome);
-        for (chrom, strand, rest) in want {
-            let agrees = match records.peek() {
-                Ok(Some(bed)) => { bed.chrom == chrom && bed.strand == strand && bed.rest == rest }
-                _ => {
-                    assert!(rt; false);
-                    return Ok(());
-                }
-            };
-            assert!(rt; agrees);
-            records.advance();
+        for want in LENT {
+            assert!(rt; lends(&mut records, want));
         }
         let _ = records.into_reader().into_source();
         Ok(())

@@ -1,46 +1,131 @@
--- Lemmas on the bytes of a line that are read one at a time.
-use Rattle.std.proofs.Common.{◌≡◌, ℕ, ◌+◌, ◌^◌, ◌<◌, ◌≤◌, Bool, false, List, [], ◌∷◌, ◌++◌, Option, sym, ap, ◌∙◌, append_assoc, length, length-append, eqb, arith, inr}
-use Rattle.std.proofs.KnownBytes.{Consumes-trans}
-use Rattle.std.proofs.lemmas.List.Elements.{All-push}
-use Rattle.std.proofs.lemmas.Bool.{ne_eqb}
+-- Lemmas on a line that reaches past its block.
+use Rattle.std.proofs.Common.{◌≡◌, ℕ, ◌+◌, ◌^◌, ◌<◌, Bool, true, false, List, [], ◌∷◌, ◌++◌, length, Option, Result, Ok, Err, refl, sym, ap, ◌∙◌, append_assoc, append-nil, length-append, add-zero, arith, eqb}
+use Rattle.std.proofs.KnownBytes.{Consumes-nil, Consumes-trans}
+use Rattle.std.proofs.lemmas.List.Elements.{All-append, All-nil}
 use Rattle.std.specs.Io.KnownBytes.{Consumes}
-use Rattle.bt_lines.specs.Filling.{Fills}
+use Rattle.bt_lines.specs.Filling.{AsksMore, Fills, MovesPiece}
 use Rattle.bt_lines.specs.Given.{NoLineFeed}
-use Rattle.bt_lines.specs.declared.filling.Stop.TheVariants.{LineFeed, Failed}
+use Rattle.bt_lines.specs.declared.filling.More.TheVariants.{Bytes, NoBytes, BadRead, PastBound}
+use Rattle.bt_lines.specs.declared.filling.Stop.TheVariants.{LineFeed, End, Failed, TooLong, NoMemory}
 
--- the bytes so far are in the line, and none is a line feed
-abbrev pub ReadSoFar : {S : Type 0} → (S → Option (List ℕ)) → (S → Bool) → S → List ℕ → ℕ → S → List ℕ → ℕ → Type 0
-ReadSoFar left failed old old_text old_taken new text taken =
-    (bytes : List ℕ) × Consumes (left old) (left new) bytes × (taken ≡ old_taken + length bytes) × (text ≡ old_text ++ bytes)
-    × NoLineFeed text × (failed new ≡ failed old) × (taken ≤ 2 ^ 63)
+module _ {S : Type 0} (left : S → Option (List ℕ)) (failed told : S → Bool) where
+  -- the bytes so far are in the line and in the block, and none in the line is a line feed
+  pub record SoFar (old : S) (old_block : List ℕ) (old_taken : ℕ) (new : S) (block text : List ℕ) (taken : ℕ) : Type 0 where
+    pub bytes : List ℕ
+    pub consumed : Consumes (left old) (left new) bytes
+    pub counted : taken ≡ old_taken + length bytes
+    pub within : taken < 2 ^ 63
+    pub joined : old_block ++ bytes ≡ text ++ block
+    pub clear : NoLineFeed text
+    pub served : failed new ≡ failed old
 
-module _ {S : Type 0} (left : S → Option (List ℕ)) (failed : S → Bool) (old : S) (old_text : List ℕ) (old_taken : ℕ) (mid : S) (text : List ℕ) (taken : ℕ) (new : S) (byte : ℕ)
-    (so_far : ReadSoFar left failed old old_text old_taken mid text taken) (one : Consumes (left mid) (left new) (byte ∷ [])) (served : failed new ≡ failed mid) (below : taken < 2 ^ 63) where
-  more : Consumes (left old) (left new) (so_far.0 ++ byte ∷ [])
-  more = Consumes-trans (left old) (left mid) (left new) so_far.0 (byte ∷ []) so_far.1 one
-
-  count : taken + 1 ≡ old_taken + length (so_far.0 ++ byte ∷ [])
-  count = omega (arith, length-append so_far.0 (byte ∷ []), so_far.2)
-
-  pub too_long : taken + 1 ≡ 9223372036854775808 → Fills left failed old old_text old_taken Failed new text (taken + 1)
-  too_long e = record { bytes = so_far.0 ++ byte ∷ []; consumed = more; counted = count; within = omega arith; stopped = inr (omega arith) }
-
-  pub line_fed : byte ≡ 10 → (taken + 1 ≡ 9223372036854775808 → ⊥) → Fills left failed old old_text old_taken LineFeed new text (taken + 1)
-  line_fed e short = record {
-    bytes = so_far.0 ++ byte ∷ [];
-    consumed = more;
-    counted = count;
-    within = omega arith;
-    stopped = (sym (append_assoc old_text so_far.0 (byte ∷ [])) ∙ ap (λ l. l ++ byte ∷ []) (sym so_far.3) ∙ ap (λ b. text ++ b ∷ []) e, so_far.4, omega arith, served ∙ so_far.5);
+  -- before the first read
+  pub at_first : (old : S) (block text : List ℕ) (taken : ℕ) → text ≡ [] → taken < 2 ^ 63 → SoFar old block taken old block text taken
+  at_first old block text taken empty within = record {
+    bytes = [];
+    consumed = Consumes-nil (left old);
+    counted = sym (add-zero taken);
+    within = within;
+    joined = rw empty (append-nil block);
+    clear = rw empty (All-nil (λ b. eqb b 10 ≡ false));
+    served = refl;
   }
 
-  pub line_grown : (grown : List ℕ) → grown ≡ text ++ byte ∷ [] → (byte ≡ 10 → ⊥) → ReadSoFar left failed old old_text old_taken new grown (taken + 1)
-  line_grown grown e other = (
-    so_far.0 ++ byte ∷ [],
-    more,
-    count,
-    e ∙ ap (λ l. l ++ byte ∷ []) so_far.3 ∙ append_assoc old_text so_far.0 (byte ∷ []),
-    rw e (All-push (λ b. eqb b 10 ≡ false) text byte so_far.4 (ne_eqb byte 10 other)),
-    served ∙ so_far.5,
-    omega arith,
-  )
+  module _ (old : S) (old_block : List ℕ) (old_taken : ℕ) (mid : S) (block text : List ℕ) (taken : ℕ) (so_far : SoFar old old_block old_taken mid block text taken)
+      {E : Type 0} (moved : Result Bool E) (new_block new_text : List ℕ) (moves : MovesPiece block text moved new_block new_text) where
+    -- the line feed was found
+    pub at_feed : moved ≡ Ok true → Fills left failed told old old_block old_taken LineFeed mid new_block new_text taken
+    at_feed is =
+        let moves = rw is at moves in
+        record {
+          bytes = so_far.bytes;
+          consumed = so_far.consumed;
+          counted = add-zero taken ∙ so_far.counted;
+          within = so_far.within;
+          behind = 10 ∷ new_block;
+          joined = so_far.joined ∙ ap (λ l. text ++ l) moves.2 ∙ sym (append_assoc text moves.0 (10 ∷ new_block)) ∙ ap (λ l. l ++ 10 ∷ new_block) (sym moves.3);
+          clear = rw moves.3 (All-append (λ b. eqb b 10 ≡ false) text moves.0 so_far.clear moves.1);
+          stopped = (refl, so_far.served);
+        }
+
+    -- the line couldn't grow
+    pub at_refusal : (e : E) → moved ≡ Err e → Fills left failed told old old_block old_taken NoMemory mid new_block new_text taken
+    at_refusal e is =
+        let moves = rw is at moves in
+        record {
+          bytes = so_far.bytes;
+          consumed = so_far.consumed;
+          counted = add-zero taken ∙ so_far.counted;
+          within = so_far.within;
+          behind = new_block;
+          joined = rw (moves.0, moves.1) so_far.joined;
+          clear = rw moves.1 so_far.clear;
+          stopped = (refl, so_far.served);
+        }
+
+    module _ (new : S) (next_block : List ℕ) (next_taken : ℕ) (is : moved ≡ Ok false) where
+      whole : old_block ++ so_far.bytes ≡ new_text
+      whole = let moves = rw is at moves in so_far.joined ∙ sym moves.2
+
+      more : (next : List ℕ) → old_block ++ (so_far.bytes ++ next) ≡ new_text ++ next
+      more next = sym (append_assoc old_block so_far.bytes next) ∙ ap (λ l. l ++ next) whole
+
+      no_feed : NoLineFeed new_text
+      no_feed = let moves = rw is at moves in rw moves.2 (All-append (λ b. eqb b 10 ≡ false) text block so_far.clear moves.0)
+
+      module _ (next : List ℕ) (consumed : Consumes (left mid) (left new) next) where
+        both : Consumes (left old) (left new) (so_far.bytes ++ next)
+        both = Consumes-trans (left old) (left mid) (left new) so_far.bytes next so_far.consumed consumed
+
+        count : length (so_far.bytes ++ next) ≡ length so_far.bytes + length next
+        count = length-append so_far.bytes next
+
+      pub more_came : AsksMore left failed told mid taken Bytes new next_block next_taken → SoFar old old_block old_taken new next_block new_text next_taken
+      more_came asks = record {
+        bytes = so_far.bytes ++ asks.bytes;
+        consumed = both asks.bytes asks.consumed;
+        counted = omega (arith, so_far.counted, asks.counted, count asks.bytes asks.consumed);
+        within = asks.within;
+        joined = more asks.bytes ∙ ap (λ l. new_text ++ l) (sym asks.came.1);
+        clear = no_feed;
+        served = asks.came.2 ∙ so_far.served;
+      }
+
+      pub more_counts : AsksMore left failed told mid taken Bytes new next_block next_taken → taken < next_taken
+      more_counts asks = omega (arith, asks.counted, asks.came.0)
+
+      pub none_came : AsksMore left failed told mid taken NoBytes new next_block next_taken → Fills left failed told old old_block old_taken End new next_block new_text next_taken
+      none_came asks = record {
+        bytes = so_far.bytes ++ asks.bytes;
+        consumed = both asks.bytes asks.consumed;
+        counted = omega (arith, so_far.counted, asks.counted, count asks.bytes asks.consumed);
+        within = asks.within;
+        behind = asks.bytes;
+        joined = more asks.bytes;
+        clear = no_feed;
+        stopped = (asks.came.0, asks.came.1, asks.came.2 ∙ so_far.served, asks.came.3, asks.came.4);
+      }
+
+      pub read_failed : AsksMore left failed told mid taken BadRead new next_block next_taken → Fills left failed told old old_block old_taken Failed new next_block new_text next_taken
+      read_failed asks = record {
+        bytes = so_far.bytes ++ asks.bytes;
+        consumed = both asks.bytes asks.consumed;
+        counted = omega (arith, so_far.counted, asks.counted, count asks.bytes asks.consumed);
+        within = asks.within;
+        behind = asks.bytes;
+        joined = more asks.bytes;
+        clear = no_feed;
+        stopped = asks.came;
+      }
+
+      pub past_bound : AsksMore left failed told mid taken PastBound new next_block next_taken → Fills left failed told old old_block old_taken TooLong new next_block new_text next_taken
+      past_bound asks = record {
+        bytes = so_far.bytes ++ asks.bytes;
+        consumed = both asks.bytes asks.consumed;
+        counted = omega (arith, so_far.counted, asks.counted, count asks.bytes asks.consumed);
+        within = asks.within;
+        behind = asks.bytes;
+        joined = more asks.bytes;
+        clear = no_feed;
+        stopped = asks.came;
+      }

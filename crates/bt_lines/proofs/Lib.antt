@@ -1,7 +1,12 @@
 pub mod PiecesLemmas
+pub mod BlockLemmas
+pub mod FillingLemmas
 pub mod NumberLemmas
 pub mod OutputLemmas
+pub mod PuttingLemmas
 pub mod ResultLemmas
-pub mod FillingLemmas
 pub mod LinesLemmas
+pub mod TextLemmas
+pub mod ScriptLemmas
 pub mod ReaderLemmas
+pub mod StepLemmas

@@ -1,5 +1,6 @@
 -- Lemmas on the number that a text denotes.
-use Rattle.std.proofs.Common.{◌≡◌, ℕ, ◌+◌, ◌-◌, ◌*◌, ◌<◌, ◌≤◌, Bool, true, false, ◌&&◌, List, ◌++◌, length, take, drop, get_or, Some, None, refl, sym, ap, ◌∙◌, arith, ltb, leb, cond, map}
+use Rattle.std.proofs.Common.{◌≡◌, ℕ, ◌+◌, ◌-◌, ◌*◌, ◌<◌, ◌≤◌, Bool, true, false, ◌&&◌, List, ◌++◌, length, take, drop, get_or, Some, None, refl, sym, ap, ◌∙◌, arith, ltb, leb, cond, map, ◌^◌, pow-suc, add-one}
+use Rattle.std.proofs.Math.Nat.{pow-le-pow_right}
 use Rattle.std.proofs.lemmas.List.{take-append-drop, map-append, take_all}
 use Rattle.std.proofs.lemmas.List.Folds.{list_all_more, list_all_at}
 use Rattle.std.proofs.lemmas.Int.Digits.{digits_value_is, digits_value_more, number_after_append, number_after_ge}
@@ -88,3 +89,17 @@ value_of_whole text i value some end e all small =
     let digits : list_all is_ascii_digit text ≡ true = sym (ap (list_all is_ascii_digit) whole) ∙ all in
     let within : digits_value 10 text ≤ 999999999999 = rw is at small in
     ap Some is ∙ value_of_digits text some digits within
+
+-- a digit stands for at most 9
+pub digit_small : (b : ℕ) → is_ascii_digit b ≡ true → b - 48 ≤ 9
+digit_small b digit = grind (arith, nat_tests)
+
+-- so many digits and one more
+pub value_below : (i value digit : ℕ) → value < 10 ^ i → digit ≤ 9 → value * 10 + digit < 10 ^ (i + 1)
+value_below i value digit below small = rw (add-one i, pow-suc 10 i) (omega (arith, below, small))
+
+-- at most twelve digits are within the greatest number
+pub value_short : (i value : ℕ) → value < 10 ^ i → i ≤ 12 → value ≤ 999999999999
+value_short i value below short =
+    let most : 10 ^ i ≤ 1000000000000 = pow-le-pow_right {n = 10} (omega arith) {i = i} {j = 12} short in
+    omega (arith, below, most)

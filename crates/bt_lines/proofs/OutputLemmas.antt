@@ -1,8 +1,8 @@
 -- Lemmas on what was put and what was taken.
-use Rattle.std.proofs.Common.{◌≡◌, ℕ, List, ◌++◌, Option, None, Some, refl, sym, ap, ◌∙◌, append_assoc, take, drop, take-append-drop}
+use Rattle.std.proofs.Common.{◌≡◌, ◌≤◌, ℕ, length, List, ◌++◌, Option, None, Some, refl, sym, ap, ◌∙◌, append_assoc, take, drop, take-append-drop}
 use Rattle.std.proofs.KnownBytes.{Appends-trans}
-use Rattle.std.specs.Io.KnownBytes.{Appends, Keeps}
-use Rattle.bt_lines.specs.Output.{IsFrontOf}
+use Rattle.std.specs.Io.KnownBytes.{Appends, Keeps, append_known}
+use Rattle.bt_lines.specs.Output.{IsFrontOf, Grows, HoldsBlock, block_size}
 
 -- what was taken before is a front of itself, whatever was to follow
 pub front_nothing : (old : Option (List ℕ)) (more : List ℕ) → IsFrontOf old old more
@@ -22,3 +22,24 @@ pub more_taken : (old mid new : Option (List ℕ)) (taken rest piece : List ℕ)
     → (piece ≡ (taken ++ take n rest) ++ drop n rest) × Appends old new (taken ++ take n rest)
 more_taken old mid new taken rest piece n e p q =
     (e ∙ ap (λ l. taken ++ l) (sym (take-append-drop n rest)) ∙ sym (append_assoc taken (take n rest) (drop n rest)), Appends-trans old mid new taken (take n rest) p q)
+
+-- what was taken is a front of that and of what is held back
+pub front_held : (took : Option (List ℕ)) (held more : List ℕ) → IsFrontOf took (append_known took held) more
+front_held None held more = tt
+front_held (Some took) held more = (held ++ more, sym (append_assoc took held more))
+
+-- a front of what is held back, before a piece that was to follow
+pub front_before : (old new : Option (List ℕ)) (held piece : List ℕ) → IsFrontOf new old held → IsFrontOf new (append_known old held) piece
+front_before None None held piece h = tt
+front_before (Some old) None held piece h = tt
+front_before None (Some new) held piece h = tt
+front_before (Some old) (Some new) held piece h = (h.0 ++ piece, sym (append_assoc new h.0 piece) ∙ ap (λ l. l ++ piece) h.1)
+
+-- what was taken grows, and grows again
+pub grows_both : (old mid new : Option (List ℕ)) → Grows old mid → Grows mid new → Grows old new
+grows_both old mid new p q = (p.0 ++ q.0, Appends-trans old mid new p.0 q.0 p.1 q.1)
+
+-- what is held back is what was put and not taken
+pub holds_held : (took : Option (List ℕ)) (held : List ℕ) → length held ≤ block_size → HoldsBlock took (append_known took held)
+holds_held None held short = (held, tt, short)
+holds_held (Some took) held short = (held, refl, short)

@@ -1,44 +1,79 @@
--- What reading up to a line feed does to a source, the bytes of the line so far and the count of bytes.
-use Rattle.std.specs.Prelude.{◌≡◌, ℕ, ◌+◌, ◌^◌, ◌<◌, ◌≤◌, ◌⊎◌, Bool, true, List, [], ◌∷◌, ◌++◌, length, Option, Some, None, Result, Ok, Err}
+-- What reading up to a line feed does to a source, a block, a line and the count of bytes.
+use Rattle.std.specs.Prelude.{◌≡◌, ℕ, ◌+◌, ◌-◌, ◌^◌, ◌<◌, Bool, true, false, List, [], ◌∷◌, ◌++◌, length, Option, Result, Ok, Err}
 use Rattle.std.specs.Io.KnownBytes.{Consumes, IsAtEnd}
 use Rattle.bt_lines.specs.Given.{NoLineFeed}
+use Rattle.bt_lines.specs.declared.filling.More.{More}
+use Rattle.bt_lines.specs.declared.filling.More.TheVariants.{Bytes, NoBytes, BadRead, PastBound}
 use Rattle.bt_lines.specs.declared.filling.Stop.{Stop}
-use Rattle.bt_lines.specs.declared.filling.Stop.TheVariants.{LineFeed, End, Failed, NoMemory}
+use Rattle.bt_lines.specs.declared.filling.Stop.TheVariants.{LineFeed, End, Failed, TooLong, NoMemory}
 
--- one byte was asked for
-abbrev pub ByteRead : {E : Type 0} → Option (List ℕ) → Result (Option ℕ) E → Option (List ℕ) → Type 0
-ByteRead old (Ok (Some byte)) new = Consumes old new (byte ∷ [])
-ByteRead old (Ok None) new = Consumes old new [] × IsAtEnd new
-ByteRead old (Err e) new = Consumes old new []
+-- the bytes up to the first line feed, or else all, were added to a line
+abbrev pub MovesPiece : {E : Type 0} → List ℕ → List ℕ → Result Bool E → List ℕ → List ℕ → Type 0
+MovesPiece block text (Ok true) new_block new_text =
+    (piece : List ℕ) × NoLineFeed piece × (block ≡ piece ++ 10 ∷ new_block)
+    × (new_text ≡ text ++ piece)
+MovesPiece block text (Ok false) new_block new_text =
+    NoLineFeed block × (new_block ≡ []) × (new_text ≡ text ++ block)
+MovesPiece block text (Err e) new_block new_text = (new_block ≡ block) × (new_text ≡ text)
 
--- where no byte came, the source told its end
-abbrev pub EndTold : {E : Type 0} → Result (Option ℕ) E → Bool → Type 0
-EndTold (Ok (Some byte)) told = Unit {0}
-EndTold (Ok None) told = told ≡ true
-EndTold (Err e) told = Unit {0}
+-- what came of asking for more bytes, with so many taken before
+abbrev pub MoreComes : More → Option (List ℕ) → Bool → Bool → Bool → List ℕ → List ℕ → ℕ → Type 0
+MoreComes Bytes left was_failed is_failed told bytes block taken =
+    (0 < length bytes) × (block ≡ bytes) × (is_failed ≡ was_failed)
+MoreComes NoBytes left was_failed is_failed told bytes block taken =
+    (bytes ≡ []) × (block ≡ []) × (is_failed ≡ was_failed) × (told ≡ true) × IsAtEnd left
+MoreComes BadRead left was_failed is_failed told bytes block taken =
+    (bytes ≡ []) × (block ≡ []) × (is_failed ≡ true)
+MoreComes PastBound left was_failed is_failed told bytes block taken =
+    (length bytes ≡ 1) × (block ≡ []) × (taken ≡ 2 ^ 63 - 1)
 
--- how the bytes that were read go with where the reading stopped
-abbrev pub StopsAt : Stop → Option (List ℕ) → Bool → Bool → List ℕ → List ℕ → List ℕ → ℕ → Type 0
-StopsAt LineFeed left was_failed is_failed old bytes new taken =
-    (old ++ bytes ≡ new ++ 10 ∷ []) × NoLineFeed new × (taken < 2 ^ 63) × (is_failed ≡ was_failed)
-StopsAt End left was_failed is_failed old bytes new taken =
-    (old ++ bytes ≡ new) × NoLineFeed new × (taken < 2 ^ 63) × (is_failed ≡ was_failed) × IsAtEnd left
-StopsAt Failed left was_failed is_failed old bytes new taken =
-    ((is_failed ≡ true) × (old ++ bytes ≡ new) × NoLineFeed new) ⊎ (2 ^ 63 ≤ taken)
-StopsAt NoMemory left was_failed is_failed old bytes new taken = is_failed ≡ was_failed
+-- a byte past the bound isn't counted
+abbrev pub uncounted : Stop → ℕ
+uncounted LineFeed = 0
+uncounted End = 0
+uncounted Failed = 0
+uncounted TooLong = 1
+uncounted NoMemory = 0
 
--- where the reading stopped at the end, the source told it
-abbrev pub StopIsTold : Stop → Bool → Type 0
-StopIsTold LineFeed told = Unit {0}
-StopIsTold End told = told ≡ true
-StopIsTold Failed told = Unit {0}
-StopIsTold NoMemory told = Unit {0}
+abbrev pub uncounted_more : More → ℕ
+uncounted_more Bytes = 0
+uncounted_more NoBytes = 0
+uncounted_more BadRead = 0
+uncounted_more PastBound = 1
 
-module _ {S : Type 0} (left : S → Option (List ℕ)) (failed : S → Bool) where
-  -- the bytes read were taken from the source, counted and added to the line
-  pub record Fills (old : S) (old_text : List ℕ) (old_taken : ℕ) (stop : Stop) (new : S) (new_text : List ℕ) (new_taken : ℕ) : Type 0 where
+module _ {S : Type 0} (left : S → Option (List ℕ)) (failed : S → Bool) (told : S → Bool) where
+  -- more bytes were asked for
+  pub record AsksMore (old : S) (old_taken : ℕ) (more : More)
+      (new : S) (block : List ℕ) (taken : ℕ) : Type 0 where
     pub bytes : List ℕ
     pub consumed : Consumes (left old) (left new) bytes
-    pub counted : new_taken ≡ old_taken + length bytes
-    pub within : new_taken ≤ 2 ^ 63
-    pub stopped : StopsAt stop (left new) (failed old) (failed new) old_text bytes new_text new_taken
+    pub counted : taken + uncounted_more more ≡ old_taken + length bytes
+    pub within : taken < 2 ^ 63
+    pub came : MoreComes more (left new) (failed old) (failed new) (told new) bytes block taken
+
+-- what stands behind the line so far, and where the reading stopped
+abbrev pub StopsAt : Stop → Option (List ℕ) → Bool → Bool → Bool → List ℕ → List ℕ → ℕ → Type 0
+StopsAt LineFeed left was_failed is_failed told behind block taken =
+    (behind ≡ 10 ∷ block) × (is_failed ≡ was_failed)
+StopsAt End left was_failed is_failed told behind block taken =
+    (behind ≡ []) × (block ≡ []) × (is_failed ≡ was_failed) × (told ≡ true) × IsAtEnd left
+StopsAt Failed left was_failed is_failed told behind block taken =
+    (behind ≡ []) × (block ≡ []) × (is_failed ≡ true)
+StopsAt TooLong left was_failed is_failed told behind block taken =
+    (length behind ≡ 1) × (block ≡ []) × (taken ≡ 2 ^ 63 - 1)
+StopsAt NoMemory left was_failed is_failed told behind block taken =
+    (behind ≡ block) × (is_failed ≡ was_failed)
+
+module _ {S : Type 0} (left : S → Option (List ℕ)) (failed : S → Bool) (told : S → Bool) where
+  -- the bytes of the block, and those read behind them, were added to the line but for some
+  pub record Fills (old : S) (old_block : List ℕ) (old_taken : ℕ) (stop : Stop)
+      (new : S) (block text : List ℕ) (taken : ℕ) : Type 0 where
+    pub bytes : List ℕ
+    pub consumed : Consumes (left old) (left new) bytes
+    pub counted : taken + uncounted stop ≡ old_taken + length bytes
+    pub within : taken < 2 ^ 63
+    -- those that stand behind the line
+    pub behind : List ℕ
+    pub joined : old_block ++ bytes ≡ text ++ behind
+    pub clear : NoLineFeed text
+    pub stopped : StopsAt stop (left new) (failed old) (failed new) (told new) behind block taken

@@ -3,11 +3,13 @@ pub mod Device
 pub mod Fault
 pub mod Script
 pub mod Lines
+pub mod Handed
 pub mod Number
 pub mod Columns
 pub mod Output
+pub mod Putting
 pub mod Names
 pub mod Given
+pub mod Block
 pub mod Reader
 pub mod Filling
-pub mod Counting

@@ -1,6 +1,6 @@
 -- The lines of a text, as the UCSC BED description and the SAM specification have them: one a line
 -- feed. A carriage return before the line feed, or at the very end, belongs to the line end.
-use Rattle.std.specs.Prelude.{ℕ, suc, List, [], ◌∷◌, ◌++◌, ◌==◌, if◌then◌else◌}
+use Rattle.std.specs.Prelude.{◌≡◌, ℕ, suc, ⊤, List, [], ◌∷◌, ◌++◌, ◌==◌, count_by, flat_map, length, if◌then◌else◌}
 use Rattle.std.specs.List.{slice_split}
 use Rattle.std.specs.Io.BufRead.{ends_with_byte, strip_last}
 use Rattle.bt_lines.specs.declared.line.LineEnd.{LineEnd}
@@ -41,6 +41,24 @@ lines_from number bytes = numbered number (pieces 10 bytes)
 abbrev pub text_lines : List ℕ → List TextLine
 text_lines bytes = lines_from 1 bytes
 
+-- the lines of pieces of which the last was cut off: each of the others has its line feed behind it
+abbrev pub numbered_whole : ℕ → List (List ℕ) → List TextLine
+numbered_whole number [] = []
+numbered_whole number (piece ∷ []) = []
+numbered_whole number (piece ∷ next ∷ rest) = fed_line number piece ∷ numbered_whole (suc number) (next ∷ rest)
+
+-- the whole lines of a text that was cut off, all pieces but the last; the first has the number given
+unfoldable pub whole_lines_from : ℕ → List ℕ → List TextLine
+whole_lines_from number bytes = numbered_whole number (pieces 10 bytes)
+
+-- the whole lines of a text that was cut off
+abbrev pub whole_lines : List ℕ → List TextLine
+whole_lines bytes = whole_lines_from 1 bytes
+
+-- how many line feeds some bytes have: so many whole lines they have
+abbrev pub line_feeds : List ℕ → ℕ
+line_feeds bytes = count_by (λ byte. byte == 10) bytes
+
 -- the bytes of a line end
 abbrev pub end_bytes : LineEnd → List ℕ
 end_bytes Absent = []
@@ -51,3 +69,12 @@ end_bytes Cr = 13 ∷ []
 -- a line as it stood in the text
 abbrev pub spelled : TextLine → List ℕ
 spelled line = line.text ++ end_bytes line.ending
+
+-- how many bytes lines have, their line ends included
+abbrev pub bytes_in : List TextLine → ℕ
+bytes_in lines = length (flat_map spelled lines)
+
+-- lines whose numbers count up from the number given
+abbrev pub AreNumbered : ℕ → List TextLine → Type 0
+AreNumbered number [] = ⊤
+AreNumbered number (line ∷ rest) = (line.number ≡ number) × AreNumbered (suc number) rest

@@ -4,9 +4,13 @@ use Rattle.std.specs.Char.{is_ascii_digit}
 use Rattle.std.specs.List.{list_all}
 use Rattle.std.specs.Str.Parse.{digits_value}
 
--- one or more decimal digits, leading zeros allowed, of a value with at most twelve digits
+-- the greatest number that a text may denote: it has twelve digits
+abbrev pub max_number : ℕ
+max_number = 999999999999
+
+-- one or more decimal digits, leading zeros allowed, of a value of at most the greatest number
 abbrev pub is_number : List ℕ → Bool
-is_number text = nat_lt 0 (length text) && list_all is_ascii_digit text && nat_le (digits_value 10 text) 999999999999
+is_number text = nat_lt 0 (length text) && list_all is_ascii_digit text && nat_le (digits_value 10 text) max_number
 
 -- the number that a text denotes, if it denotes one
 unfoldable pub value_of : List ℕ → Option ℕ

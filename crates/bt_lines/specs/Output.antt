@@ -4,7 +4,7 @@ use Rattle.std.specs.Io.KnownBytes.{Appends}
 
 -- how many bytes a reader may have taken ahead, and an output may hold back
 abbrev pub block_size : ℕ
-block_size = 1
+block_size = 8192
 
 -- an output over a sink: the bytes put and the bytes that the sink took, where they are known
 pub record Output : Type 0 where

@@ -1,65 +1,94 @@
 -- What a reader of lines holds, and what one call of `next` does.
-use Rattle.std.specs.Prelude.{◌≡◌, ℕ, suc, ◌+◌, ◌-◌, ◌^◌, ◌<◌, ◌≤◌, ◌⊎◌, Bool, true, false, List, [], ◌++◌, length, Option, Some, None, option_map, Result, Ok, Err, IfSome, nat_lt, if◌then◌else◌}
+use Rattle.std.specs.Prelude.{◌≡◌, ℕ, suc, ◌+◌, ◌-◌, ◌^◌, ◌<◌, ◌≤◌, ◌⊎◌, Bool, true, false, List, [], ◌++◌, length, Option, Some, None, option_map, Result, Ok, Err, IfSome, nat_lt, if◌then◌else◌, take, drop}
 use Rattle.std.specs.Io.KnownBytes.{Consumes, IsAtEnd, prepend_known}
-use Rattle.bt_lines.specs.Lines.{TextLine, lines_from, spelled}
+use Rattle.bt_lines.specs.Block.{unread, text_in}
+use Rattle.bt_lines.specs.Lines.{TextLine, lines_from, line_feeds, bytes_in, spelled}
 use Rattle.bt_lines.specs.Output.{block_size}
 use Rattle.bt_lines.specs.Fault.{Told, read_failed, no_memory}
 use Rattle.bt_lines.specs.Names.{told}
-use Rattle.bt_lines.specs.Given.{line_seen, NoLineFeed, GivesFirst}
+use Rattle.bt_lines.specs.Given.{line_seen, GivesFirst}
 use Rattle.bt_lines.specs.declared.fault.Input.{Input}
 use Rattle.bt_lines.specs.declared.fault.Fault.{Fault}
 use Rattle.bt_lines.specs.declared.line.Line.{Line}
 use Rattle.bt_lines.specs.declared.line_reader.LineReader.{LineReader}
 use Rattle.bt_lines.specs.declared.line_reader.State.{State}
-use Rattle.bt_lines.specs.declared.line_reader.State.TheVariants.{Reading, LastLine, Ended, ReadFailed, NoMemory}
+use Rattle.bt_lines.specs.declared.line_reader.State.TheVariants.{Reading, Carried, LastLine, Ended, ReadFailed, TooLong, NoMemory}
 
--- the bytes that were taken from the source and not given as lines: only a piece that was cut off
-abbrev held_at : State → List ℕ → List ℕ
-held_at Reading text = []
-held_at LastLine text = []
-held_at Ended text = []
-held_at ReadFailed text = text
-held_at NoMemory text = text
+-- the bytes that were taken from the source and not given as lines: those of the block, and where
+-- there is a fault the piece before them that was cut off
+abbrev pub held_at : State → List ℕ → List ℕ → List ℕ
+held_at Reading carried block = block
+held_at Carried carried block = block
+held_at LastLine carried block = []
+held_at Ended carried block = []
+held_at ReadFailed carried block = carried ++ block
+held_at TooLong carried block = carried ++ block
+held_at NoMemory carried block = carried ++ block
 
 -- the fault that ended the reading, if one did
-abbrev fault_at : State → Input → ℕ → Option Told
+abbrev pub fault_at : State → Input → ℕ → Option Told
 fault_at Reading input number = None
+fault_at Carried input number = None
 fault_at LastLine input number = None
 fault_at Ended input number = None
 fault_at ReadFailed input number = Some (read_failed input (suc number))
+fault_at TooLong input number = Some (read_failed input (suc number))
 fault_at NoMemory input number = Some no_memory
 
--- the bytes that come after the lines given: none once the end was told
-abbrev left_at : State → List ℕ → Option (List ℕ) → Option (List ℕ)
-left_at Reading text left = left
-left_at LastLine text left = option_map (λ bytes. []) left
-left_at Ended text left = option_map (λ bytes. []) left
-left_at ReadFailed text left = prepend_known text left
-left_at NoMemory text left = prepend_known text left
-
 -- whether the end was told
-abbrev told_at : State → Bool
+abbrev pub told_at : State → Bool
 told_at Reading = false
+told_at Carried = false
 told_at LastLine = true
 told_at Ended = true
 told_at ReadFailed = false
+told_at TooLong = false
 told_at NoMemory = false
 
+-- the bytes that come after the lines given: none once the end was told
+abbrev pub left_at : Bool → List ℕ → Option (List ℕ) → Option (List ℕ)
+left_at true held left = option_map (λ bytes. []) left
+left_at false held left = prepend_known held left
+
 -- whether the reader is behind the last line
-abbrev ended_at : State → Bool
+abbrev pub ended_at : State → Bool
 ended_at Reading = false
+ended_at Carried = false
 ended_at LastLine = false
 ended_at Ended = true
 ended_at ReadFailed = false
+ended_at TooLong = false
 ended_at NoMemory = false
 
--- whether the reader is at a line, once it has given so many
-abbrev pub is_at_line : State → ℕ → Bool
-is_at_line Reading lines = nat_lt 0 lines
-is_at_line LastLine lines = nat_lt 0 lines
-is_at_line Ended lines = false
-is_at_line ReadFailed lines = false
-is_at_line NoMemory lines = false
+-- how many bytes were taken: one past the bound isn't counted apart
+abbrev pub taken_at : State → ℕ → ℕ
+taken_at Reading taken = taken
+taken_at Carried taken = taken
+taken_at LastLine taken = taken
+taken_at Ended taken = taken
+taken_at ReadFailed taken = taken
+taken_at TooLong taken = suc taken
+taken_at NoMemory taken = taken
+
+-- whether the reader goes on
+abbrev pub going_at : State → Bool
+going_at Reading = true
+going_at Carried = true
+going_at LastLine = false
+going_at Ended = false
+going_at ReadFailed = false
+going_at TooLong = false
+going_at NoMemory = false
+
+-- the text of the line that the reader is at, once it has given so many
+abbrev pub text_at : State → ℕ → List ℕ → List ℕ → Option (List ℕ)
+text_at Reading lines block carried = if nat_lt 0 lines then Some block else None
+text_at Carried lines block carried = Some carried
+text_at LastLine lines block carried = Some carried
+text_at Ended lines block carried = None
+text_at ReadFailed lines block carried = None
+text_at TooLong lines block carried = None
+text_at NoMemory lines block carried = None
 
 module _ {S : Type 0} where
   -- the source
@@ -72,21 +101,25 @@ module _ {S : Type 0} where
 
   -- how many lines were given
   unfoldable pub lines_given : LineReader S → ℕ
-  lines_given reader = reader.progress.lines
+  lines_given reader = reader.lines
 
   -- how many bytes were taken from the source
   unfoldable pub bytes_taken : LineReader S → ℕ
-  bytes_taken reader = reader.progress.bytes
+  bytes_taken reader = taken_at reader.state reader.taken
 
   unfoldable pub held : LineReader S → List ℕ
-  held reader = held_at reader.state reader.text.items
+  held reader = held_at reader.state reader.carried.items (unread reader.block)
 
   unfoldable pub fault_kept : LineReader S → Option Told
-  fault_kept reader = fault_at reader.state reader.input reader.progress.lines
+  fault_kept reader = fault_at reader.state reader.input reader.lines
 
-  -- how far it is
-  abbrev pub state_of : LineReader S → State
-  state_of reader = reader.state
+  -- the bytes of its block
+  abbrev pub taken_ahead : LineReader S → List ℕ
+  taken_ahead reader = unread reader.block
+
+  -- whether it goes on
+  abbrev pub is_going : LineReader S → Bool
+  is_going reader = going_at reader.state
 
   -- whether it was told the end
   unfoldable pub end_told : LineReader S → Bool
@@ -102,25 +135,44 @@ module _ {S : Type 0} where
 
   -- the bytes that come after the lines given, where they are known
   unfoldable pub bytes_left : (S → Option (List ℕ)) → LineReader S → Option (List ℕ)
-  bytes_left left reader = left_at reader.state reader.text.items (left reader.source)
+  bytes_left left reader = left_at (end_told reader) (held reader) (left (source_of reader))
 
   -- the lines that come after those given, where they are known
   abbrev pub lines_left : (S → Option (List ℕ)) → LineReader S → Option (List TextLine)
   lines_left left reader = option_map (lines_from (suc (lines_given reader))) (bytes_left left reader)
 
-  -- a reader that was told the end has a source that told it, and has none of the known bytes left
-  abbrev pub EndIsTold : (S → Option (List ℕ)) → (S → Bool) → LineReader S → Type 0
-  EndIsTold left told reader = end_told reader ≡ true → (told (source_of reader) ≡ true) × IsAtEnd (left (source_of reader))
+  -- how many line feeds were taken: each ended a line that was given, or is held
+  unfoldable pub feeds_taken : LineReader S → ℕ
+  feeds_taken reader = lines_given reader + line_feeds (held reader)
+
+  -- what holds of a reader at all times: `new` establishes it, and each call keeps it
+  pub record IsSound (left : S → Option (List ℕ)) (told : S → Bool)
+      (reader : LineReader S) : Type 0 where
+    -- a reader that was told the end has a source that told it, and none of the known bytes is left
+    pub end : end_told reader ≡ true
+        → (told (source_of reader) ≡ true) × IsAtEnd (left (source_of reader))
+    -- without a fault, fewer than 2^63 bytes were taken
+    pub within : fault_kept reader ≡ None → bytes_taken reader < 2 ^ 63
+    -- without a fault, at most a block is held behind the lines given
+    pub near : fault_kept reader ≡ None → length (held reader) ≤ block_size
 
   -- the line that a reader is at
   unfoldable pub line_at : LineReader S → Option TextLine
-  line_at reader = if is_at_line reader.state reader.progress.lines then Some (record { number = reader.progress.lines; text = reader.text.items; ending = reader.ending }) else None
+  line_at reader =
+      option_map (λ text. record { number = reader.lines; text = text; ending = reader.ending })
+      (text_at reader.state reader.lines (text_in reader.block) reader.carried.items)
 
   -- the source handed over these bytes in the call
-  pub record Hands (left : S → Option (List ℕ)) (old : LineReader S) (bytes : List ℕ) (new : LineReader S) : Type 0 where
+  pub record Hands (left : S → Option (List ℕ)) (old : LineReader S) (bytes : List ℕ)
+      (new : LineReader S) : Type 0 where
     pub left_over : Consumes (left (source_of old)) (left (source_of new)) bytes
     pub counted : bytes_taken new ≡ bytes_taken old + length bytes
     pub same_input : input_of new ≡ input_of old
+    -- line feeds are counted as bytes are, unless the end was told or the text passed the bound
+    pub fed : end_told new ≡ false → bytes_taken new < 2 ^ 63
+        → feeds_taken new ≡ feeds_taken old + line_feeds bytes
+    -- an end that was told stays told
+    pub told_stays : end_told old ≡ true → end_told new ≡ true
 
   -- a line was given
   pub record GivesLine (left : S → Option (List ℕ)) (failed : S → Bool) (old : LineReader S) (line : TextLine) (new : LineReader S) : Type 0 where
@@ -129,6 +181,8 @@ module _ {S : Type 0} where
     -- the bytes taken are the line's and at most a block more, known or not
     pub bytes : (bytes : List ℕ) × Hands left old bytes new × (held old ++ bytes ≡ spelled line ++ held new)
     pub ahead : length (held new) ≤ block_size
+    -- nothing is read while a whole line is held
+    pub ready : 0 < line_feeds (held old) → source_of new ≡ source_of old
     pub number : line.number ≡ suc (lines_given old)
     -- the reader is at it
     pub at : line_at new ≡ Some line
@@ -151,6 +205,7 @@ module _ {S : Type 0} where
     pub was_going : fault_kept old ≡ None
     pub goes : fault_kept new ≡ None
     pub ends : has_ended new ≡ true
+    pub told : end_told new ≡ true
     -- once it is reached, nothing more is read
     pub again : has_ended old ≡ true → new ≡ old
 
@@ -159,10 +214,19 @@ module _ {S : Type 0} where
     pub is : fault ≡ read_failed (input_of old) (suc (lines_given old))
     pub cause : (failed (source_of new) ≡ true) ⊎ (2 ^ 63 ≤ bytes_taken new)
 
-  -- where the source failed, the piece that was cut off is no line: it is held, and has no line feed
+  -- the piece that was cut off is no line: the line feeds among the bytes taken, the last one past
+  -- the bound aside, all end lines that were given
   pub record CutsOff (left : S → Option (List ℕ)) (old new : LineReader S) : Type 0 where
-    pub bytes : (bytes : List ℕ) × Hands left old bytes new × (held old ++ bytes ≡ held new)
-    pub no_line : NoLineFeed (held new)
+    pub bytes : List ℕ
+    pub hands : Hands left old bytes new
+    pub given : lines_given new
+        ≡ feeds_taken old + line_feeds (take (2 ^ 63 - 1 - bytes_taken old) bytes)
+
+  -- of known bytes, those behind the lines given and one line more are left, but for at most a block
+  abbrev pub IsNear : (S → Option (List ℕ)) → LineReader S → LineReader S → Type 0
+  IsNear left old new =
+      IfSome (lines_left left old) (λ lines. IfSome (left (source_of new)) (λ rest.
+      bytes_in (drop (suc (lines_given new) - lines_given old) lines) ≤ length rest + block_size))
 
   -- a fault was answered
   pub record GivesFault (left : S → Option (List ℕ)) (failed : S → Bool) (old : LineReader S) (fault : Told) (new : LineReader S) : Type 0 where
@@ -173,8 +237,14 @@ module _ {S : Type 0} where
     pub again : (before : Told) → fault_kept old ≡ Some before → (fault ≡ before) × (new ≡ old)
     -- after the end no fault comes
     pub was_going : has_ended old ≡ false
+    pub before_end : fault_kept old ≡ None → end_told old ≡ false
+    -- nor while a whole line is held
+    pub no_line : fault_kept old ≡ None → line_feeds (held old) ≡ 0
     pub first : fault_kept old ≡ None → FailsToRead left failed old fault new ⊎ (fault ≡ no_memory)
-    pub cut_off : fault_kept old ≡ None → fault ≡ read_failed (input_of old) (suc (lines_given old)) → (2 ^ 63 ≤ bytes_taken new) ⊎ CutsOff left old new
+    pub cut_off : fault_kept old ≡ None → fault ≡ read_failed (input_of old) (suc (lines_given old))
+        → CutsOff left old new
+    -- of known bytes, those behind the line that couldn't be given are left, but for at most a block
+    pub near : fault_kept old ≡ None → IsNear left old new
     pub served : fault ≡ no_memory → failed (source_of new) ≡ failed (source_of old)
 
   -- what an answer says
@@ -186,7 +256,7 @@ module _ {S : Type 0} where
   -- one call of `next`
   pub record NextLine (left : S → Option (List ℕ)) (failed : S → Bool) (end : S → Bool) (old : LineReader S) (answer : Result (Option Line) Fault) (new : LineReader S) : Type 0 where
     pub answers : Answers left failed old answer new
-    pub end_kept : EndIsTold left end old → EndIsTold left end new
+    pub sound : IsSound left end old → IsSound left end new
 
   -- what a step to the next line gives, or to the end where there is none
   abbrev pub StepsTo : (S → Option (List ℕ)) → (S → Bool) → LineReader S → Option TextLine → LineReader S → Type 0
@@ -200,4 +270,4 @@ module _ {S : Type 0} where
   -- the same call of `next`, with the line held in place of lent
   pub record Stepped {A : Type 0} (left : S → Option (List ℕ)) (failed : S → Bool) (end : S → Bool) (old : LineReader S) (answer : Result A Fault) (new : LineReader S) : Type 0 where
     pub answers : StepAnswers left failed old answer new
-    pub end_kept : EndIsTold left end old → EndIsTold left end new
+    pub sound : IsSound left end old → IsSound left end new

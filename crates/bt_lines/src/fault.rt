@@ -24,6 +24,16 @@ pub enum Kind {
     BadLength,
     /// An earlier line of the genome file has the name.
     RepeatedChrom,
+    /// An alignment's flag isn't a number of at most 65,535.
+    BadFlag,
+    /// An alignment's position isn't a number of at most 2,147,483,647.
+    BadPosition,
+    /// An alignment's mapping quality isn't a number of at most 255.
+    BadQuality,
+    /// An alignment's CIGAR isn't `*` or one or more operations.
+    BadCigar,
+    /// An alignment's end is above the greatest number.
+    StopTooLarge,
     /// The input couldn't be read further, or is longer than 2^63 - 1 bytes.
     ReadFailed,
     /// The output couldn't be written.
@@ -55,6 +65,11 @@ impl Kind {
             Kind::OutOfOrder => b"record is out of order",
             Kind::BadLength => b"length is not a number",
             Kind::RepeatedChrom => b"chromosome is repeated",
+            Kind::BadFlag => b"flag is not a number",
+            Kind::BadPosition => b"position is not a number",
+            Kind::BadQuality => b"mapping quality is not a number",
+            Kind::BadCigar => b"CIGAR is malformed",
+            Kind::StopTooLarge => b"end is too large",
             Kind::ReadFailed => b"reading failed",
             Kind::WriteFailed => b"writing failed",
             Kind::NoMemory => b"no memory",

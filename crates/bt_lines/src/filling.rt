@@ -1,13 +1,15 @@
-//! The bytes of one line, asked for one at a time.
+//! A line that reaches past its block.
 
-ghost use Rattle.std.specs.Prelude.{◌≡◌, ℕ, ◌≤◌, ◌^◌, true, OnOk, OnErr};
-ghost use Rattle.bt_lines.specs.Filling.{ByteRead, EndTold, Fills, StopIsTold};
-ghost use Rattle.bt_lines.specs.Given.{NoLineFeed};
+ghost use Rattle.std.specs.Prelude.{◌≡◌, ◌<◌, ◌^◌, []};
+ghost use Rattle.bt_lines.specs.Block.{unread};
+ghost use Rattle.bt_lines.specs.Filling.{AsksMore, Fills, MovesPiece};
 
-use crate::device::{DeviceFailed, Source};
+use crate::block::{BLOCK, Block};
+use crate::device::Source;
+use std::alloc::AllocError;
 
-// A text of this many bytes is too long to be read whole.
-const TOO_LONG: u64 = 1 << 63;
+// As many bytes of a text are read at most.
+const BOUND: u64 = (1 << 63) - 1;
 
 // Why the reading of a line stopped.
 #[derive(Clone, Copy, Debug)]
@@ -16,52 +18,93 @@ pub(crate) enum Stop {
     LineFeed,
     // The end of the text.
     End,
-    // The source failed, or the text is too long.
+    // The source failed.
     Failed,
+    // A byte came behind the last one that may be read.
+    TooLong,
     // The line couldn't grow.
     NoMemory,
 }
 
-// The next byte of a source, or none at its end.
-fn next_byte<S: Source>(source: &mut S) -> Result<Option<u8>, DeviceFailed>
-    ensures byte { ByteRead (S.left source.old) result (S.left source.new) }
-    ensures end { EndTold result (S.end_told source.new) }
-    ensures served { OnOk result (S.has_failed source.new ≡ S.has_failed source.old) }
-    ensures failed { OnErr result (S.has_failed source.new ≡ true) }
-{
-    let mut block = [0u8; 1];
-    let count = source.read(&mut block)?;
-    if count == 0 {
-        return Ok(None);
-    }
-    Ok(Some(block[0]))
+// What came of asking for more bytes.
+#[derive(Clone, Copy, Debug)]
+pub(crate) enum More {
+    // Bytes, in the block.
+    Bytes,
+    // None, since the text has ended.
+    NoBytes,
+    // None, since the source failed.
+    BadRead,
+    // A byte past the bound.
+    PastBound,
 }
 
-// Adds the bytes up to the next line feed to a line, and counts all bytes that it takes.
-pub(crate) fn fill<S: Source>(source: &mut S, text: &mut Vec<u8>, taken: &mut u64) -> Stop
-    requires counted { taken.old ≤ 2 ^ 63 }
-    requires no_line { NoLineFeed text.old.items }
-    ensures filled { Fills S.left S.has_failed source.old text.old.items taken.old result
-        source.new text.new.items taken.new }
-    ensures end { StopIsTold result (S.end_told source.new) }
+// Adds the bytes up to the next line feed to an empty line, and counts all bytes that it takes. The
+// block holds what was taken behind the line feed.
+pub(crate) fn fill<S: Source>(
+    source: &mut S,
+    block: &mut Block,
+    text: &mut Vec<u8>,
+    taken: &mut u64,
+) -> Stop
+    requires counted { taken.old < 2 ^ 63 }
+    requires empty { text.old.items ≡ [] }
+    ensures { Fills S.left S.has_failed S.end_told source.old (unread block.old) taken.old result
+        source.new (unread block.new) text.new.items taken.new }
 {
-    while *taken < TOO_LONG {
-        match next_byte(source) {
-            Err(_failed) => return Stop::Failed,
-            Ok(None) => return Stop::End,
-            Ok(Some(byte)) => {
-                *taken += 1;
-                if *taken == TOO_LONG {
-                    return Stop::Failed;
-                }
-                if byte == b'\n' {
-                    return Stop::LineFeed;
-                }
-                if text.push(byte).is_err() {
-                    return Stop::NoMemory;
-                }
-            }
+    'reads: loop {
+        match move_piece(block, text) {
+            Err(_refused) => return Stop::NoMemory,
+            Ok(true) => return Stop::LineFeed,
+            Ok(false) => {}
+        }
+        match ask_more(source, block, taken) {
+            More::Bytes => {}
+            More::NoBytes => return Stop::End,
+            More::BadRead => return Stop::Failed,
+            More::PastBound => return Stop::TooLong,
         }
     }
-    Stop::Failed
+}
+
+// Moves the bytes of the block up to its first line feed, or else all, behind a line. Tells whether
+// there was a line feed, which isn't kept.
+fn move_piece(block: &mut Block, text: &mut Vec<u8>) -> Result<bool, AllocError>
+    ensures { MovesPiece (unread block.old) text.old.items result
+        (unread block.new) text.new.items }
+{
+    match block.find_feed() {
+        Some(length) => {
+            text.extend_from_slice(&block.unread()[..length])?;
+            block.consume(length + 1);
+            Ok(true)
+        }
+        None => {
+            text.extend_from_slice(block.unread())?;
+            block.clear();
+            Ok(false)
+        }
+    }
+}
+
+// Asks for more bytes, and for one past the bound only once so many were taken.
+fn ask_more<S: Source>(source: &mut S, block: &mut Block, taken: &mut u64) -> More
+    requires counted { taken.old < 2 ^ 63 }
+    ensures { AsksMore S.left S.has_failed S.end_told source.old taken.old result
+        source.new (unread block.new) taken.new }
+{
+    let room = BOUND - *taken;
+    let most = room.min(BLOCK as u64).max(1) as usize;
+    match block.refill(source, most) {
+        Err(_failed) => More::BadRead,
+        Ok(0) => More::NoBytes,
+        Ok(_byte) if room == 0 => {
+            block.clear();
+            More::PastBound
+        }
+        Ok(count) => {
+            *taken += count as u64;
+            More::Bytes
+        }
+    }
 }

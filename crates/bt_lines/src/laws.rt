@@ -1,14 +1,35 @@
 //! What holds of the definitions, each law as the contract of a function that does nothing.
 
-ghost use Rattle.std.specs.Prelude.{◌≡◌, ℕ, [], ◌∷◌, ◌++◌, List, Some, None, codes, flat_map};
-ghost use Rattle.bt_lines.specs.Lines.{text_lines, spelled, pieces};
+ghost use Rattle.std.specs.Prelude.{◌≡◌, ℕ, [], ◌∷◌, ◌++◌, List, Some, None, codes, flat_map, length, take};
+ghost use Rattle.bt_lines.specs.Lines.{AreNumbered, line_feeds, pieces, spelled, text_lines, whole_lines};
+ghost use Rattle.bt_lines.specs.Output.{block_size};
 ghost use Rattle.bt_lines.specs.Number.{value_of};
 
+use crate::block::BLOCK;
 use crate::line::LineEnd;
 
 /// The lines of a text lose nothing: with their line ends, one after another, they are its bytes.
 pub fn lines_lose_nothing()
     ensures { (bytes : List ℕ) → flat_map spelled (text_lines bytes) ≡ bytes }
+{}
+
+/// A block has [`BLOCK`] bytes: so many a reader takes ahead at most, and an output holds back.
+pub fn a_block_has_so_many_bytes()
+    ensures { BLOCK ≡ block_size }
+{}
+
+/// The whole lines of a text that was cut off are as many as its line feeds, and they are the first
+/// lines of each text that begins with it.
+pub fn whole_lines_come_first()
+    ensures count { (bytes : List ℕ) → length (whole_lines bytes) ≡ line_feeds bytes }
+    ensures front { (bytes more : List ℕ)
+        → take (line_feeds bytes) (text_lines (bytes ++ more)) ≡ whole_lines bytes }
+{}
+
+/// The lines of a text are numbered from 1 on, and so are its whole lines.
+pub fn lines_count_up()
+    ensures lines { (bytes : List ℕ) → AreNumbered 1 (text_lines bytes) }
+    ensures whole { (bytes : List ℕ) → AreNumbered 1 (whole_lines bytes) }
 {}
 
 /// The lines of small texts.

@@ -4,25 +4,27 @@
 //! what went wrong where. It knows nothing of BED.
 #![tactic(auto)]
 
-pub mod column_iter;
-pub mod counting;
-pub mod device;
-pub mod fault;
+mod block;
+mod column_iter;
+mod device;
+mod fault;
 mod filling;
-pub mod from_read;
+mod from_read;
+mod held_back;
 pub mod laws;
-pub mod line;
-pub mod line_reader;
-pub mod numbers;
-pub mod output;
-pub mod report;
-pub mod script_sink;
-pub mod script_source;
-pub mod split;
-pub mod to_write;
+mod line;
+mod line_reader;
+mod numbers;
+mod output;
+mod putting;
+mod report;
+mod script_sink;
+mod script_source;
+mod split;
+mod to_write;
 
+pub use block::BLOCK;
 pub use column_iter::Columns;
-pub use counting::count_lines;
 pub use device::{DeviceFailed, Sink, Source};
 pub use fault::{Fault, Input, Kind, Place};
 pub use from_read::FromRead;
@@ -30,11 +32,16 @@ pub use line::{Line, LineEnd};
 pub use line_reader::LineReader;
 pub use numbers::{MAX_NUMBER, number};
 pub use output::Out;
+pub use putting::{put_column, put_number};
 pub use report::{Names, fault_line};
 pub use script_sink::ScriptSink;
 pub use script_source::ScriptSource;
 pub use split::columns;
 pub use to_write::ToWrite;
 
+#[cfg(test)]
+mod block_tests;
+#[cfg(test)]
+mod device_tests;
 #[cfg(test)]
 mod tests;

@@ -1,10 +1,12 @@
 //! The lines of a source, one after another.
 
-ghost use Rattle.std.specs.Prelude.{◌≡◌, ◌≤◌, ◌^◌, if◌then◌else◌};
+ghost use Rattle.std.specs.Prelude.{◌≡◌, ◌<◌, ◌≤◌, ◌^◌, ◌+◌, length, if◌then◌else◌};
 ghost use Rattle.std.specs.Io.BufRead.{ends_with_byte, strip_last};
+ghost use Rattle.bt_lines.specs.Block.{unread};
 ghost use Rattle.bt_lines.specs.Fault.{no_memory};
 ghost use Rattle.bt_lines.specs.Names.{told};
 
+use crate::block::Block;
 use crate::device::Source;
 use crate::fault::{Fault, Input, Kind, Place};
 use crate::filling::{Stop, fill};
@@ -14,47 +16,47 @@ use std::alloc::Global;
 // How far a reader is.
 #[derive(Clone, Copy, Debug)]
 pub(crate) enum State {
-    // Before the first line, or at a line with a line feed.
+    // Before the first line, or at a line that stands whole in the block.
     Reading,
-    // At a last line without a line feed.
+    // At a line that reaches past a block: its text was carried together.
+    Carried,
+    // At a last line without a line feed. Its text was carried together.
     LastLine,
     // Behind the last line.
     Ended,
-    // The source failed, or its text is too long.
+    // The source failed.
     ReadFailed,
+    // The text is too long: a byte past the bound was taken, and isn't counted.
+    TooLong,
     // The line couldn't grow.
     NoMemory,
 }
 
-// How many lines were given, and how many bytes taken: each line has a byte at least.
-#[derive(Clone, Copy, Debug)]
-pub(crate) struct Progress {
-    lines: u64,
-    bytes: u64,
-    ghost a_byte_each: { lines ≤ bytes },
-    ghost counted: { bytes ≤ 2 ^ 63 },
-}
-
-/// Reads the lines of a source. A line is lent until the next call, and its buffer is used again for
-/// the next line.
-#[derive(Debug, Drop)]
+/// Reads the lines of a source, a block of bytes at a time. A line is lent until the next call: from
+/// the block where it stands whole in it, and else from a buffer that is used again.
+#[derive(Drop)]
 pub struct LineReader<S> {
     source: S,
     input: Input,
-    text: Vec<u8>,
+    block: Block,
+    carried: Vec<u8>,
     ending: LineEnd,
-    progress: Progress,
+    lines: u64,
+    taken: u64,
     state: State,
+    ghost counted: { taken < 2 ^ 63 },
+    // Each line given has a byte at least, and those in the block are no line's yet.
+    ghost a_byte_each: { lines + length (unread block) ≤ taken },
 }
 
-#[tactic(auto, unfolding(crate::specs::Reader::source_of, crate::specs::Reader::input_of, crate::specs::Reader::lines_given, crate::specs::Reader::bytes_taken, crate::specs::Reader::held, crate::specs::Reader::fault_kept, crate::specs::Reader::has_ended, crate::specs::Reader::line_at, crate::specs::Reader::end_told, crate::specs::Reader::bytes_left))]
+#[tactic(auto, unfolding(crate::specs::Reader::source_of, crate::specs::Reader::input_of, crate::specs::Reader::lines_given, crate::specs::Reader::bytes_taken, crate::specs::Reader::held, crate::specs::Reader::fault_kept, crate::specs::Reader::has_ended, crate::specs::Reader::line_at, crate::specs::Reader::end_told, crate::specs::Reader::bytes_left, crate::specs::Reader::feeds_taken))]
 impl<S: Source> LineReader<S> {
-    ghost use Rattle.std.specs.Prelude.{◌≡◌, ℕ, suc, ◌<◌, ◌-◌, ◌≤◌, ◌^◌, None, [], false, option_map};
+    ghost use Rattle.std.specs.Prelude.{◌≡◌, ℕ, suc, ◌<◌, ◌-◌, ◌≤◌, ◌^◌, None, [], false, true, option_map};
     ghost use Rattle.std.specs.Borrow.{sem};
     ghost use Rattle.std.specs.Io.BufRead.{Rests};
     ghost use Rattle.bt_lines.specs.contracts.line_reader.LineReader.{the_row};
-    ghost use Rattle.bt_lines.specs.Reader.{NextLine, Stepped, line_at, state_of, source_of, input_of, lines_given, bytes_taken, held, fault_kept, has_ended, lines_left};
-    ghost use Rattle.bt_lines.specs.Given.{line_seen};
+    ghost use Rattle.bt_lines.specs.Reader.{IsSound, NextLine, Stepped, line_at, feeds_taken, is_going, taken_ahead, source_of, input_of, lines_given, bytes_taken, held, fault_kept, has_ended, lines_left};
+    ghost use Rattle.bt_lines.specs.Given.{NoLineFeed, line_seen};
     ghost use Rattle.bt_lines.specs.Lines.{text_lines};
     ghost use Rattle.bt_lines.specs.Fault.{read_failed};
 
@@ -65,14 +67,18 @@ impl<S: Source> LineReader<S> {
         ensures lines { lines_left S.left result ≡ option_map text_lines (S.left source) }
         ensures none_given { lines_given result ≡ 0 }
         ensures none_taken { (bytes_taken result ≡ 0) × (held result ≡ []) }
+        ensures none_fed { feeds_taken result ≡ 0 }
+        ensures sound { IsSound S.left S.end_told result }
         ensures going { (fault_kept result ≡ None) × (has_ended result ≡ false) }
     {
         LineReader {
             source,
             input,
-            text: Vec::new(alloc),
+            block: Block::new(),
+            carried: Vec::new(alloc),
             ending: LineEnd::Absent,
-            progress: Progress { lines: 0, bytes: 0 },
+            lines: 0,
+            taken: 0,
             state: State::Reading,
         }
     }
@@ -94,14 +100,16 @@ impl<S: Source> LineReader<S> {
     pub fn line(&self) -> Option<Line<'_>>
         ensures { option_map line_seen result ≡ line_at self.now }
     {
-        match self.state {
-            State::Reading | State::LastLine if self.progress.lines > 0 => Some(Line {
-                number: self.progress.lines,
-                text: self.text.as_slice(),
-                ending: self.ending,
-            }),
-            _ => None,
-        }
+        let text = match self.state {
+            State::Reading if self.lines > 0 => self.block.text(),
+            State::Carried | State::LastLine => self.carried.as_slice(),
+            _ => return None,
+        };
+        Some(Line {
+            number: self.lines,
+            text,
+            ending: self.ending,
+        })
     }
 
     /// The input that the reader stands for.
@@ -118,9 +126,11 @@ impl<S: Source> LineReader<S> {
         let LineReader {
             source,
             input: _,
-            text: _,
+            block: _,
+            carried: _,
             ending: _,
-            progress: _,
+            lines: _,
+            taken: _,
             state: _,
         } = self;
         source
@@ -131,51 +141,71 @@ impl<S: Source> LineReader<S> {
         ensures { Stepped S.left S.has_failed S.end_told self.old result self.new }
     {
         match self.state {
-            State::Reading => self.read_line(),
+            State::Reading | State::Carried => self.read_line(),
             State::LastLine => {
                 self.state = State::Ended;
                 Ok(())
             }
             State::Ended => Ok(()),
-            State::ReadFailed => Err(self.read_failed()),
+            State::ReadFailed | State::TooLong => Err(self.read_failed()),
             State::NoMemory => Err(no_memory()),
         }
     }
 
-    // Reads the next line, if there is one.
+    // Moves on to the next line: nothing is read where it stands whole in the block.
     fn read_line(&mut self) -> Result<(), Fault>
-        requires { state_of self.old ≡ State.Reading }
+        requires { is_going self.old ≡ true }
         ensures { Stepped S.left S.has_failed S.end_told self.old result self.new }
     {
-        self.text.clear();
-        let lines = self.progress.lines;
-        let mut bytes = self.progress.bytes;
-        let stop = fill(&mut self.source, &mut self.text, &mut bytes);
-        self.progress = Progress { lines, bytes };
-        match stop {
-            Stop::LineFeed => {
-                self.ending = split_ending(&mut self.text, LineEnd::CrLf, LineEnd::Lf);
-                self.progress = Progress {
-                    lines: lines + 1,
-                    bytes,
-                };
+        match self.block.find_feed() {
+            Some(length) => {
+                self.ending = self.block.cut_line(length);
+                self.lines += 1;
+                self.state = State::Reading;
                 Ok(())
             }
-            Stop::End if self.text.is_empty() => {
+            None => self.read_on(),
+        }
+    }
+
+    // Reads the line that reaches past the block.
+    #[cold]
+    #[inline(never)]
+    fn read_on(&mut self) -> Result<(), Fault>
+        requires going { is_going self.old ≡ true }
+        requires no_line { NoLineFeed (taken_ahead self.old) }
+        ensures { Stepped S.left S.has_failed S.end_told self.old result self.new }
+    {
+        self.carried.clear();
+        let stop = fill(
+            &mut self.source,
+            &mut self.block,
+            &mut self.carried,
+            &mut self.taken,
+        );
+        match stop {
+            Stop::LineFeed => {
+                self.ending = split_ending(&mut self.carried, LineEnd::CrLf, LineEnd::Lf);
+                self.lines += 1;
+                self.state = State::Carried;
+                Ok(())
+            }
+            Stop::End if self.carried.is_empty() => {
                 self.state = State::Ended;
                 Ok(())
             }
             Stop::End => {
-                self.ending = split_ending(&mut self.text, LineEnd::Cr, LineEnd::Absent);
-                self.progress = Progress {
-                    lines: lines + 1,
-                    bytes,
-                };
+                self.ending = split_ending(&mut self.carried, LineEnd::Cr, LineEnd::Absent);
+                self.lines += 1;
                 self.state = State::LastLine;
                 Ok(())
             }
             Stop::Failed => {
                 self.state = State::ReadFailed;
+                Err(self.read_failed())
+            }
+            Stop::TooLong => {
+                self.state = State::TooLong;
                 Err(self.read_failed())
             }
             Stop::NoMemory => {
@@ -191,7 +221,7 @@ impl<S: Source> LineReader<S> {
     {
         let place = Place {
             input: self.input,
-            line: self.progress.lines + 1,
+            line: self.lines + 1,
         };
         Fault {
             kind: Kind::ReadFailed,

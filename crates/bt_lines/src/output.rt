@@ -1,31 +1,36 @@
 //! Bytes out, in order, to a sink.
 
-ghost use Rattle.std.specs.Prelude.{◌≡◌, ℕ, false, true, [], length, OnOk, OnErr, IfErr, IsErr, Some, None};
-ghost use Rattle.std.specs.Io.KnownBytes.{Appends, Keeps};
-ghost use Rattle.bt_lines.specs.Output.{HoldsBlock, IsFrontOf, Grows};
+ghost use Rattle.std.specs.Prelude.{◌≡◌, ℕ, ◌≤◌, false, true, [], length, OnOk, OnErr, IfErr, IsErr, Some, None};
+ghost use Rattle.std.specs.Io.KnownBytes.{Appends, Keeps, append_known};
+ghost use Rattle.bt_lines.specs.Output.{HoldsBlock, IsFrontOf, Grows, block_size};
 ghost use Rattle.bt_lines.specs.Fault.{write_failed};
 ghost use Rattle.bt_lines.specs.Names.{told};
 
+use crate::block::BLOCK;
 use crate::device::{DeviceFailed, Sink};
 use crate::fault::{Fault, Kind};
+use crate::held_back::HeldBack;
 use std::marker::Model;
 
-/// Puts bytes to a sink in order. Once the sink has failed, nothing more is written, and each call
+/// Puts bytes to a sink in order, a block at a time: at most [`BLOCK`] bytes are held back until a
+/// `flush`. Once the sink has failed, nothing more is written, and each call
 /// answers that writing failed.
 #[derive(Drop)]
 pub struct Out<K: Sink> {
     sink: K,
+    held: HeldBack,
     has_failed: bool,
 }
 
 impl<K: Sink> Model for Out<K> {
     ghost use Rattle.std.specs.Prelude.{◌≡◌, true};
+    ghost use Rattle.std.specs.Io.KnownBytes.{append_known};
     ghost use Rattle.bt_lines.specs.Output.{Output};
 
     ghost Value = { Output };
 
     ghost view = { λ o. record {
-      put = K.took o.sink;
+      put = append_known (K.took o.sink) o.held;
       took = K.took o.sink;
       has_failed = o.has_failed;
       sink_has_failed = K.has_failed o.sink;
@@ -48,6 +53,7 @@ impl<K: Sink> Out<K> {
     {
         Out {
             sink,
+            held: HeldBack::new(),
             has_failed: false,
         }
     }
@@ -70,7 +76,11 @@ impl<K: Sink> Out<K> {
         if self.has_failed {
             return Err(write_failed());
         }
-        if write_whole(&mut self.sink, piece).is_err() {
+        if piece.len() <= self.held.room() {
+            self.held.append(piece);
+            return Ok(());
+        }
+        if put_across(&mut self.sink, &mut self.held, piece).is_err() {
             self.has_failed = true;
             return Err(write_failed());
         }
@@ -96,7 +106,7 @@ impl<K: Sink> Out<K> {
         if self.has_failed {
             return Err(write_failed());
         }
-        if self.sink.flush().is_err() {
+        if send_all(&mut self.sink, &mut self.held).is_err() {
             self.has_failed = true;
             return Err(write_failed());
         }
@@ -111,6 +121,7 @@ impl<K: Sink> Out<K> {
     {
         let Out {
             sink,
+            held: _,
             has_failed: _,
         } = self;
         sink
@@ -125,6 +136,58 @@ fn write_failed() -> Fault
         kind: Kind::WriteFailed,
         place: None,
     }
+}
+
+// Puts a piece for which there is no room behind the bytes that are held back: they go to the sink,
+// and the piece after them, unless it is shorter than a block.
+#[cold]
+#[inline(never)]
+fn put_across<K: Sink>(sink: &mut K, held: &mut HeldBack, piece: &[u8]) -> Result<(), DeviceFailed>
+    ensures put { OnOk result (Appends (append_known (K.took sink.old) held.old)
+        (append_known (K.took sink.new) held.new) piece.now) }
+    ensures block { length held.new ≤ block_size }
+    ensures front { OnErr result
+        (IsFrontOf (K.took sink.new) (append_known (K.took sink.old) held.old) piece.now) }
+    ensures grows { Grows (K.took sink.old) (K.took sink.new) }
+    ensures served { OnOk result (K.has_failed sink.new ≡ K.has_failed sink.old) }
+    ensures failed { OnErr result (K.has_failed sink.new ≡ true) }
+{
+    send(sink, held)?;
+    if piece.len() < BLOCK {
+        held.append(piece);
+        return Ok(());
+    }
+    write_whole(sink, piece)
+}
+
+// Hands on the bytes that are held back, and flushes the sink.
+fn send_all<K: Sink>(sink: &mut K, held: &mut HeldBack) -> Result<(), DeviceFailed>
+    ensures taken { OnOk result
+        (Keeps (append_known (K.took sink.old) held.old) (K.took sink.new)) }
+    ensures empty { held.new ≡ [] }
+    ensures flushed { OnOk result (K.is_flushed sink.new ≡ true) }
+    ensures front { OnErr result
+        (IsFrontOf (K.took sink.new) (append_known (K.took sink.old) held.old) []) }
+    ensures grows { Grows (K.took sink.old) (K.took sink.new) }
+    ensures served { OnOk result (K.has_failed sink.new ≡ K.has_failed sink.old) }
+    ensures failed { OnErr result (K.has_failed sink.new ≡ true) }
+{
+    send(sink, held)?;
+    sink.flush()
+}
+
+// Hands on the bytes that are held back. Where the sink fails they are lost, and never sent again.
+fn send<K: Sink>(sink: &mut K, held: &mut HeldBack) -> Result<(), DeviceFailed>
+    ensures whole { OnOk result (Appends (K.took sink.old) (K.took sink.new) held.old) }
+    ensures empty { held.new ≡ [] }
+    ensures front { OnErr result (IsFrontOf (K.took sink.new) (K.took sink.old) held.old) }
+    ensures grows { Grows (K.took sink.old) (K.took sink.new) }
+    ensures served { OnOk result (K.has_failed sink.new ≡ K.has_failed sink.old) }
+    ensures failed { OnErr result (K.has_failed sink.new ≡ true) }
+{
+    let sent = write_whole(sink, held.as_slice());
+    held.clear();
+    sent
 }
 
 // Hands a whole piece to the sink, by as many writes as it takes.

@@ -1,6 +1,6 @@
 //! A sink that plays a script, for tests.
 
-ghost use Rattle.std.specs.Prelude.{◌≡◌, ℕ, ◌+◌, ◌<◌, ◌≤◌, ◌++◌, [], IsTrue, IsErr, length, IfOk, OnOk, OnErr, Some, true, false, take};
+ghost use Rattle.std.specs.Prelude.{◌≡◌, ℕ, ◌+◌, ◌<◌, ◌≤◌, ◌++◌, [], IsTrue, IsErr, IsOk, length, IfOk, OnOk, OnErr, Some, true, false, take};
 ghost use Rattle.std.specs.Io.KnownBytes.{Keeps, WriteAppends};
 ghost use Rattle.bt_lines.specs.Script.{is_spent, takes_of};
 
@@ -99,6 +99,7 @@ impl Sink for ScriptSink {
         ensures spent { IsTrue (is_spent self.old.good (length self.old.taken))
             → 0 < length bytes.now → IsErr result }
         ensures for_good { IsTrue self.old.has_failed → IsErr result }
+        ensures nothing { self.old.has_failed ≡ false → length bytes.now ≡ 0 → IsOk result }
         ensures same_script { (self.new.step ≡ self.old.step) × (self.new.good ≡ self.old.good) }
     {
         if self.has_failed {

@@ -103,6 +103,7 @@ fn copy_front(from: &[u8], to: &mut [u8])
     to[..count].copy_from_slice(from);
 }
 
+#[tactic(auto, using(crate::proofs::ScriptLemmas::handed_on))]
 impl Source for ScriptSource<'_> {
     ghost left = { λ s. Some (drop s.given s.bytes) };
 

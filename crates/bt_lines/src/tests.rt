@@ -1,11 +1,8 @@
-ghost use Rattle.std.specs.Prelude.{None, true};
-
 use crate::{
-    DeviceFailed, Fault, Input, Kind, LineEnd, LineReader, Names, Out, Place, ScriptSink,
-    ScriptSource, Sink, Source, columns, count_lines, fault_line, number,
+    Fault, Input, Kind, LineEnd, LineReader, Names, Out, Place, ScriptSink, ScriptSource, Sink,
+    Source, columns, fault_line, number,
 };
 use std::alloc::AllocError;
-use std::io::BufWriter;
 use std::test::Fail;
 
 #[test]
@@ -66,7 +63,7 @@ const TEXTS: [(&[u8], &[(&[u8], LineEnd)]); 9] = [
 
 #[test]
 fn lines_of_texts(rt: HostRuntime) -> Result<(), Fail> {
-    for step in [1, 7] {
+    for step in [1, 7, 8192] {
         for (text, want) in TEXTS {
             let source = ScriptSource::new(text, step, None);
             let mut reader = LineReader::new(rt.alloc(), source, Input::First);
@@ -133,14 +130,6 @@ fn a_source_that_fails_at_each_byte(rt: HostRuntime) -> Result<(), Fail> {
     Ok(())
 }
 
-#[test]
-fn lines_are_counted(rt: HostRuntime) -> Result<(), Fail> {
-    let source = ScriptSource::new(b"a\n\nb", 1, None);
-    let mut reader = LineReader::new(rt.alloc(), source, Input::Genome);
-    assert_eq!(rt; count_lines(&mut reader)?, 3);
-    Ok(())
-}
-
 // Puts the pieces, and gives back the sink with the first fault.
 fn put_all(sink: ScriptSink, pieces: &[&[u8]]) -> (ScriptSink, Option<Fault>) {
     let mut output = Out::new(sink);
@@ -162,7 +151,7 @@ fn a_sink_that_fails_at_each_byte(rt: HostRuntime) {
         kind: Kind::WriteFailed,
         place: None,
     };
-    for step in [1, 7] {
+    for step in [1, 7, 8192] {
         for good in 0..whole.len() {
             let sink = ScriptSink::new(rt.alloc(), step, Some(good));
             let (sink, told) = put_all(sink, &pieces);
@@ -177,84 +166,6 @@ fn a_sink_that_fails_at_each_byte(rt: HostRuntime) {
     }
 }
 
-// A sink that takes everything, and whose first flush fails.
-#[derive(Drop)]
-struct FlushFails {
-    flushes: u8,
-    has_failed: bool,
-}
-
-impl Sink for FlushFails {
-    ghost took = { λ _. None };
-
-    ghost has_failed = { λ s. s.has_failed };
-
-    ghost is_flushed = { λ _. true };
-
-    fn write(&mut self, bytes: &[u8]) -> Result<usize, DeviceFailed> {
-        Ok(bytes.len())
-    }
-
-    fn flush(&mut self) -> Result<(), DeviceFailed> {
-        self.flushes = self.flushes.saturating_add(1);
-        self.has_failed = true;
-        Err(DeviceFailed)
-    }
-
-    fn failed(&self) -> bool {
-        self.has_failed
-    }
-}
-
-#[test]
-fn a_flush_that_fails(rt: HostRuntime) {
-    let mut output = Out::new(FlushFails {
-        flushes: 0,
-        has_failed: false,
-    });
-    let fault = Fault {
-        kind: Kind::WriteFailed,
-        place: None,
-    };
-    assert_eq!(rt; output.put(b"chr1"), Ok(()));
-    assert_eq!(rt; output.flush(), Err(fault));
-    assert_eq!(rt; output.put(b"more"), Err(fault));
-    assert_eq!(rt; output.flush(), Err(fault));
-    assert_eq!(rt; output.into_sink().flushes, 1, "the sink was asked once");
-}
-
-#[test]
-fn devices_of_std(rt: HostRuntime) -> Result<(), Fail> {
-    let bytes = b"ab\ncd\n";
-    let mut reader = LineReader::new(
-        rt.alloc(),
-        crate::FromRead::new(bytes.as_slice()),
-        Input::First,
-    );
-    assert_eq!(rt; count_lines(&mut reader)?, 2);
-    assert_eq!(rt; reader.into_source().into_inner().len(), 0);
-    let mut output = Out::new(crate::ToWrite::new(Vec::new(rt.alloc())));
-    output.put(b"ab")?;
-    output.put(b"c")?;
-    output.flush()?;
-    assert_eq!(rt;
-        output.into_sink().into_inner().as_slice(),
-        b"abc".as_slice()
-    );
-    Ok(())
-}
-
-#[test]
-fn a_flush_reaches_the_writer(rt: HostRuntime) -> Result<(), Fail> {
-    let writer = BufWriter::new(rt.alloc(), Vec::new(rt.alloc()))?;
-    let mut output = Out::new(crate::ToWrite::new(writer));
-    output.put(b"abc")?;
-    output.flush()?;
-    let writer = output.into_sink().into_inner();
-    assert_eq!(rt; writer.get_ref().as_slice(), b"abc".as_slice());
-    Ok(())
-}
-
 #[test]
 fn fault_lines(rt: HostRuntime) -> Result<(), AllocError> {
     let names = Names {
@@ -262,7 +173,7 @@ fn fault_lines(rt: HostRuntime) -> Result<(), AllocError> {
         first: b"a.bed",
         second: b"b.bed",
     };
-    let cases: [(Kind, Option<(Input, u64)>, &[u8]); 5] = [
+    let cases: [(Kind, Option<(Input, u64)>, &[u8]); 10] = [
         (
             Kind::OutOfOrder,
             Some((Input::First, 3)),
@@ -277,6 +188,31 @@ fn fault_lines(rt: HostRuntime) -> Result<(), AllocError> {
             Kind::BadStart,
             Some((Input::Second, 12)),
             b"bedtools merge: b.bed:12: start is not a number\n",
+        ),
+        (
+            Kind::BadFlag,
+            Some((Input::First, 1)),
+            b"bedtools merge: a.bed:1: flag is not a number\n",
+        ),
+        (
+            Kind::BadPosition,
+            Some((Input::First, 2)),
+            b"bedtools merge: a.bed:2: position is not a number\n",
+        ),
+        (
+            Kind::BadQuality,
+            Some((Input::First, 3)),
+            b"bedtools merge: a.bed:3: mapping quality is not a number\n",
+        ),
+        (
+            Kind::BadCigar,
+            Some((Input::First, 4)),
+            b"bedtools merge: a.bed:4: CIGAR is malformed\n",
+        ),
+        (
+            Kind::StopTooLarge,
+            Some((Input::First, 5)),
+            b"bedtools merge: a.bed:5: end is too large\n",
         ),
         (Kind::WriteFailed, None, b"bedtools merge: writing failed\n"),
         (Kind::NoMemory, None, b"bedtools merge: no memory\n"),

@@ -21,6 +21,7 @@ impl<W> ToWrite<W> {
     pub fn new(writer: W) -> ToWrite<W>
         ensures writer { writer_of result ≡ writer }
         ensures served { write_has_failed result ≡ false }
+        ensures unflushed { write_is_flushed result ≡ false }
     {
         ToWrite {
             writer,
@@ -57,6 +58,8 @@ impl<W: Write> Sink for ToWrite<W> {
         ensures served { OnOk result (write_has_failed self.new ≡ write_has_failed self.old) }
         ensures failed { OnErr result (write_has_failed self.new ≡ true) }
         ensures for_good { IsTrue (write_has_failed self.old) → IsErr result }
+        ensures unflushed { write_has_failed self.old ≡ false
+            → write_is_flushed self.new ≡ false }
     {
         if self.has_failed {
             return Err(DeviceFailed);

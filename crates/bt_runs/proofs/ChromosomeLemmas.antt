@@ -1,13 +1,11 @@
 -- The records of one chromosome, and the names of the chromosomes that have some, in a past that grows at its end.
-use Rattle.std.proofs.Common.{◌≡◌, ℕ, inl, inr, List, [], ◌∷◌, ◌++◌, append-nil, refl, sym, ap, ◌∙◌, map, true, false, not, ◌||◌, bytes_eq}
-use Rattle.std.proofs.lemmas.Bool.{cases_Bool, cond-true, cond-false, or_parts, or_cases, or_from, or_left, false≢true, not_from_true, not_from_false}
-use Rattle.std.proofs.lemmas.List.Elements.{filter-append}
-use Rattle.std.proofs.lemmas.List.Concat.{flat_map-append}
+use Rattle.std.proofs.Common.{◌≡◌, ℕ, inl, inr, List, [], ◌∷◌, ◌++◌, append-nil, refl, sym, ap, ◌∙◌, map, false, not, ◌||◌, bytes_eq}
+use Rattle.std.proofs.lemmas.Bool.{cond-true, cond-false, or_parts, or_left, not_from_true, not_from_false}
 use Rattle.bt_bed.specs.Interval.{Interval, span_of, placed_on, spans_on}
 use Rattle.bt_bed.specs.Rank.{is_among}
 use Rattle.bt_bed.specs.Together.{has_records}
-use Rattle.bt_bed.proofs.NameLemmas.{same_name, name_eq, name_ne, other_name, name_ne-sym, cases_name}
-use Rattle.bt_runs.specs.Merged.{runs_of, runs_on, merged, without, chromosomes}
+use Rattle.bt_bed.proofs.NameLemmas.{name_eq, name_ne, other_name, cases_name}
+use Rattle.bt_runs.specs.Merged.{runs_of, runs_on, without, chromosomes}
 
 -- the records of one chromosome
 pub spans_on-here : (name : List ℕ) (r : Interval) (rs : List Interval) → r.chrom ≡ name → spans_on name (r ∷ rs) ≡ span_of r ∷ spans_on name rs
@@ -38,37 +36,11 @@ spans_on-none name (r ∷ rs) f =
     spans_on-elsewhere name r rs parts.0 ∙ spans_on-none name rs parts.1
 
 -- the names of the chromosomes that have records
-pub without-append : (name : List ℕ) (xs ys : List (List ℕ)) → without name (xs ++ ys) ≡ without name xs ++ without name ys
-without-append name xs ys = filter-append (λ other. not (bytes_eq other name)) xs ys
-
 pub without-here : (name : List ℕ) (n : List ℕ) (ns : List (List ℕ)) → n ≡ name → without name (n ∷ ns) ≡ without name ns
 without-here name n ns e = cond-false (not (bytes_eq n name)) (n ∷ without name ns) (without name ns) (not_from_true (bytes_eq n name) (name_eq n name e))
 
 pub without-other : (name : List ℕ) (n : List ℕ) (ns : List (List ℕ)) → bytes_eq n name ≡ false → without name (n ∷ ns) ≡ n ∷ without name ns
 without-other name n ns f = cond-true (not (bytes_eq n name)) (n ∷ without name ns) (without name ns) (not_from_false (bytes_eq n name) f)
-
-pub chromosomes-push_new : (past : List Interval) (r : Interval) → has_records r.chrom past ≡ false → chromosomes (past ++ r ∷ []) ≡ chromosomes past ++ r.chrom ∷ []
-chromosomes-push_new [] r f = refl
-chromosomes-push_new (q ∷ qs) r f =
-    let parts = or_parts (bytes_eq q.chrom r.chrom) (has_records r.chrom qs) f in
-    let rest = chromosomes-push_new qs r parts.1 in
-    let one = without-other q.chrom r.chrom [] (name_ne-sym q.chrom r.chrom parts.0) in
-    ap (λ ns. q.chrom ∷ ns) (ap (λ ns. without q.chrom ns) rest ∙ without-append q.chrom (chromosomes qs) (r.chrom ∷ []) ∙ ap (λ ns. without q.chrom (chromosomes qs) ++ ns) one)
-
-pub chromosomes-push_known : (past : List Interval) (r : Interval) → has_records r.chrom past ≡ true → chromosomes (past ++ r ∷ []) ≡ chromosomes past
-chromosomes-push_known [] r t = absurd (false≢true t)
-chromosomes-push_known (q ∷ qs) r t =
-    elim (cases_Bool (has_records r.chrom qs)) [
-      | inl known ↦ ap (λ ns. q.chrom ∷ without q.chrom ns) (chromosomes-push_known qs r known)
-      | inr new ↦
-          let same : r.chrom ≡ q.chrom = elim (or_cases (bytes_eq q.chrom r.chrom) (has_records r.chrom qs) t) [
-            | inl e ↦ sym (same_name q.chrom r.chrom e)
-            | inr h ↦ absurd (false≢true (sym new ∙ h))
-          ] in
-          let rest = chromosomes-push_new qs r new in
-          let none = without-here q.chrom r.chrom [] same in
-          ap (λ ns. q.chrom ∷ ns) (ap (λ ns. without q.chrom ns) rest ∙ without-append q.chrom (chromosomes qs) (r.chrom ∷ []) ∙ ap (λ ns. without q.chrom (chromosomes qs) ++ ns) none ∙ append-nil (without q.chrom (chromosomes qs)))
-    ]
 
 pub among_without : (name other : List ℕ) (names : List (List ℕ)) → bytes_eq other name ≡ false → is_among (without other names) name ≡ is_among names name
 among_without name other [] f = refl
@@ -93,27 +65,3 @@ among_chromosomes name (q ∷ qs) =
 -- records elsewhere change no run
 pub runs_on-push_elsewhere : (name : List ℕ) (gap : ℕ) (past : List Interval) (r : Interval) → bytes_eq r.chrom name ≡ false → runs_on name gap (past ++ r ∷ []) ≡ runs_on name gap past
 runs_on-push_elsewhere name gap past r f = ap (λ spans. map (placed_on name) (runs_of gap spans)) (spans_on-push_elsewhere name past r f)
-
-pub merged-push_elsewhere : (names : List (List ℕ)) (gap : ℕ) (past : List Interval) (r : Interval) → is_among names r.chrom ≡ false → merged names gap (past ++ r ∷ []) ≡ merged names gap past
-unfolding merged
-merged-push_elsewhere [] gap past r f = refl
-merged-push_elsewhere (n ∷ ns) gap past r f =
-    let parts = or_parts (bytes_eq n r.chrom) (is_among ns r.chrom) f in
-    let here = runs_on-push_elsewhere n gap past r (name_ne-sym n r.chrom parts.0) in
-    let rest = merged-push_elsewhere ns gap past r parts.1 in
-    cc
-
-pub merged-append : (xs ys : List (List ℕ)) (gap : ℕ) (records : List Interval) → merged (xs ++ ys) gap records ≡ merged xs gap records ++ merged ys gap records
-unfolding merged
-merged-append xs ys gap records = flat_map-append (λ name. runs_on name gap records) xs ys
-
-pub merged-one : (name : List ℕ) (gap : ℕ) (records : List Interval) → merged (name ∷ []) gap records ≡ runs_on name gap records
-unfolding merged
-merged-one name gap records = append-nil (runs_on name gap records)
-
-pub among_parts : (name : List ℕ) (xs ys : List (List ℕ)) → is_among (xs ++ ys) name ≡ false → (is_among xs name ≡ false) × (is_among ys name ≡ false)
-among_parts name [] ys f = (refl, f)
-among_parts name (x ∷ xs) ys f =
-    let parts = or_parts (bytes_eq x name) (is_among (xs ++ ys) name) f in
-    let rest = among_parts name xs ys parts.1 in
-    (or_from (bytes_eq x name) (is_among xs name) parts.0 rest.0, rest.1)

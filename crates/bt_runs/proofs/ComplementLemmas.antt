@@ -1,29 +1,29 @@
 -- From the exact step of a complement to what it writes after the records of the past.
-use Rattle.std.proofs.Common.{◌≡◌, ℕ, List, [], ◌∷◌, ◌++◌, append-nil, sym, ap, ◌∙◌, subst, length, Bool, Option, Result, Ok, Err}
-use Rattle.std.proofs.lemmas.List.{append_cancel_left}
-use Rattle.std.specs.Prelude.{OnOk, OnErr}
-use Rattle.std.specs.Io.KnownBytes.{Appends}
-use Rattle.bt_lines.specs.Fault.{Told}
-use Rattle.bt_lines.specs.Output.{Output, IsFrontOf}
+use Rattle.std.proofs.Common.{◌≡◌, ℕ, List, [], ◌∷◌, ◌++◌, sym, ap, ◌∙◌, subst, length, Bool, Option, Some, None, Result, Ok, Err}
+use Rattle.bt_lines.specs.Fault.{Told, write_failed}
+use Rattle.bt_lines.specs.Names.{told}
+use Rattle.bt_lines.specs.Output.{Output}
 use Rattle.bt_lines.specs.declared.fault.Fault.{Fault}
 use Rattle.bt_bed.specs.Feature.{Feature, interval_of}
 use Rattle.bt_bed.specs.Genome.{Entry}
-use Rattle.bt_runs.specs.Complementing.{Complementing, StandsAfter}
+use Rattle.bt_runs.specs.Complementing.{Complementing, StandsAfter, kept_fault, held_count, is_quiet, may_take, settled_lines, stands_after, whole_output}
+use Rattle.bt_runs.specs.Engine.{AfterEach, Feeds, Finishes}
 use Rattle.bt_runs.specs.Gaps.{AreTaken, complement, kept_place, settled_gaps}
 use Rattle.bt_runs.specs.GapStep.{AreAt, gap_step, gaps_before, places}
-use Rattle.bt_runs.specs.Lines.{interval_lines}
-use Rattle.bt_runs.specs.Writing.{Writes}
+use Rattle.bt_bed.specs.IntervalLine.{interval_lines}
+use Rattle.bt_lines.specs.Putting.{Adds, FailsToAdd, FailsToPut, Grown}
 use Rattle.bt_runs.specs.declared.complement.Reached.{Reached}
+use Rattle.bt_runs.proofs.EngineLemmas.{feeds_cut, feeds_taken, finishes_by}
 use Rattle.bt_runs.proofs.GapSteps.{all_settled, held_is, next_kept, next_settled, taken_front}
-use Rattle.bt_runs.proofs.WritingLemmas.{lines-append}
+use Rattle.bt_bed.proofs.IntervalLineLemmas.{lines-append}
 
 -- a complement as its fields show it
 abbrev pub shown : List Entry → Bool → Option Reached → Option Told → Complementing
 shown table limit current fault = record { entries = table; limit = limit; kept = places table current; fault = fault }
 
 -- the lines that are settled after the records
-abbrev pub settled_lines : Bool → List Entry → List Feature → List ℕ
-settled_lines limit entries past = interval_lines (settled_gaps limit entries past)
+abbrev lines_so_far : Bool → List Entry → List Feature → List ℕ
+lines_so_far limit entries past = interval_lines (settled_gaps limit entries past)
 
 module _ (past : List Feature) (table : List Entry) (limit : Bool) (current : Option Reached) (at : AreAt table current) where
   -- what is said of the complement's own table and limit, for all that are the same
@@ -37,9 +37,9 @@ module _ (past : List Feature) (table : List Entry) (limit : Bool) (current : Op
 
   -- the lines of the step are those that the record settles
   pub lines_next : (r : Feature) (entries : List Entry) (wanted : Bool) (fault : Option Told) (now : Complementing) → shown table limit current fault ≡ now → StandsAfter entries wanted past now → AreTaken entries (past ++ r ∷ [])
-      → settled_lines wanted entries (past ++ r ∷ []) ≡ settled_lines wanted entries past ++ interval_lines (gap_step limit table current (interval_of r)).1
+      → lines_so_far wanted entries (past ++ r ∷ []) ≡ lines_so_far wanted entries past ++ interval_lines (gap_step limit table current (interval_of r)).1
   lines_next r entries wanted fault now is stands =
-      same_words (λ e l. AreTaken e (past ++ r ∷ []) → settled_lines l e (past ++ r ∷ []) ≡ settled_lines l e past ++ interval_lines (gap_step limit table current (interval_of r)).1) entries wanted fault now is stands (λ kept next.
+      same_words (λ e l. AreTaken e (past ++ r ∷ []) → lines_so_far l e (past ++ r ∷ []) ≡ lines_so_far l e past ++ interval_lines (gap_step limit table current (interval_of r)).1) entries wanted fault now is stands (λ kept next.
       let t = taken_front table past (r ∷ []) next in
       ap interval_lines (next_settled table past t limit r current next (held_is table past t current at kept))
       ∙ lines-append (settled_gaps limit table past) (gap_step limit table current (interval_of r)).1)
@@ -58,21 +58,35 @@ module _ (past : List Feature) (table : List Entry) (limit : Bool) (current : Op
 
   -- the lines that are left
   pub lines_left : (stop : ℕ) → stop ≡ length table → (entries : List Entry) (wanted : Bool) (fault : Option Told) (now : Complementing) → shown table limit current fault ≡ now → StandsAfter entries wanted past now → AreTaken entries past
-      → interval_lines (complement wanted entries past) ≡ settled_lines wanted entries past ++ interval_lines (gaps_before limit table current stop)
+      → interval_lines (complement wanted entries past) ≡ lines_so_far wanted entries past ++ interval_lines (gaps_before limit table current stop)
   lines_left stop all entries wanted fault now is stands =
-      same_words (λ e l. AreTaken e past → interval_lines (complement l e past) ≡ settled_lines l e past ++ interval_lines (gaps_before limit table current stop)) entries wanted fault now is stands (λ kept t.
+      same_words (λ e l. AreTaken e past → interval_lines (complement l e past) ≡ lines_so_far l e past ++ interval_lines (gaps_before limit table current stop)) entries wanted fault now is stands (λ kept t.
       ap interval_lines (all_settled table past t limit current (held_is table past t current at kept) ∙ ap (λ n. settled_gaps limit table past ++ gaps_before limit table current n) (sym all))
       ∙ lines-append (settled_gaps limit table past) (gaps_before limit table current stop))
 
--- a step that settles no line writes none
-pub quiet_lines : (before lines after : List ℕ) → after ≡ before ++ lines → after ≡ before → lines ≡ []
-quiet_lines before lines after more same = append_cancel_left before lines [] (sym more ∙ same ∙ sym (append-nil before))
+module _ (table : List Entry) (limit : Bool) (current : Option Reached) (at : AreAt table current) (fault : Option Told) (old : Complementing) (is : shown table limit current fault ≡ old) (was_going : kept_fault old ≡ None) (out : Output) where
+  module _ (r : Feature) where
+    -- the lines of the step
+    abbrev step_lines : List ℕ
+    step_lines = interval_lines (gap_step limit table current (interval_of r)).1
 
--- what a call that puts the lines that are left leaves
-pub left_writes : {A : Type 0} (whole settled lines : List ℕ) (out new : Output) (r : Result A Fault) → whole ≡ settled ++ lines → Writes out lines r new → OnOk r ((rest : List ℕ) × (whole ≡ settled ++ rest) × Appends out.put new.put rest)
-left_writes whole settled lines out new (Ok done) left p = (lines, left, p.appends)
-left_writes whole settled lines out new (Err fault) left p = tt
+    next_lines : AfterEach may_take stands_after old r (λ first past. settled_lines first (past ++ r ∷ []) ≡ settled_lines first past ++ step_lines)
+    next_lines first past stands taken = lines_next past table limit current at r first.entries first.limit fault old is stands taken
 
-pub left_front : {A : Type 0} (whole settled lines : List ℕ) (out new : Output) (r : Result A Fault) → whole ≡ settled ++ lines → Writes out lines r new → OnErr r ((rest : List ℕ) × (whole ≡ settled ++ rest) × IsFrontOf new.took out.put rest)
-left_front whole settled lines out new (Ok done) left p = tt
-left_front whole settled lines out new (Err fault) left p = (lines, left, p.puts.front)
+    pub feeds_ok : {A : Type 0} (done : A) (next : Option Reached) (grown : Output) → next ≡ (gap_step limit table current (interval_of r)).0 → Grown out step_lines grown
+        → Feeds may_take stands_after kept_fault settled_lines old r out is_quiet (Ok done) (shown table limit next fault) grown
+    feeds_ok done next grown step p =
+        feeds_taken may_take stands_after kept_fault settled_lines old (λ first past stands. stands.going) was_going out step_lines held_count r next_lines done (shown table limit next fault) grown (ap (λ c. c.fault) is)
+        (λ first past stands taken. stands_next past table limit current at r next first.entries first.limit fault old is stands taken step) p
+
+    pub feeds_err : {A : Type 0} (e : Fault) (new : Complementing) (grown : Output) → kept_fault new ≡ Some write_failed → FailsToAdd out step_lines (told e) grown
+        → Feeds may_take stands_after kept_fault settled_lines old r out {A = A} is_quiet (Err e) new grown
+    feeds_err e new grown kept p =
+        feeds_cut may_take stands_after kept_fault settled_lines old (λ first past stands. stands.going) was_going out step_lines held_count r next_lines e new grown p.puts.is kept p.some
+        (let P : Told → Type 0 = λ f. FailsToPut out step_lines f grown in subst P p.puts.is p.puts)
+
+  pub finishes_left : {A : Type 0} (stop : ℕ) (result : Result A Fault) (grown : Output) → stop ≡ length table → Adds out (interval_lines (gaps_before limit table current stop)) result grown
+      → Finishes may_take stands_after kept_fault settled_lines whole_output old out result grown
+  finishes_left stop result grown all p =
+      finishes_by may_take stands_after kept_fault settled_lines old (λ first past stands. stands.going) was_going out (interval_lines (gaps_before limit table current stop)) whole_output
+      (λ first past stands taken. lines_left past table limit current at stop all first.entries first.limit fault old is stands taken) result grown p

@@ -1,6 +1,5 @@
 -- The records that are merged, among others: they stand together where all do.
-use Rattle.std.proofs.Common.{◌≡◌, ℕ, ◌<◌, ◌≤◌, inl, inr, List, [], ◌∷◌, ◌++◌, append-nil, refl, sym, ap, subst, ◌∙◌, arith, filter, cond, Bool, true, false, bytes_eq, ◌⊎◌, Option}
-use Rattle.std.specs.Prelude.{IfSome, IsFalse}
+use Rattle.std.proofs.Common.{◌≡◌, ℕ, ◌<◌, inl, inr, List, [], ◌∷◌, ◌++◌, append-nil, refl, sym, ap, subst, ◌∙◌, arith, filter, cond, Bool, true, false, bytes_eq}
 use Rattle.std.proofs.lemmas.Bool.{cond-true, cond-false, or_parts, or_from}
 use Rattle.std.proofs.lemmas.List.{map-append}
 use Rattle.std.proofs.lemmas.List.Elements.{filter-append}
@@ -8,7 +7,7 @@ use Rattle.std.specs.List.{AllByRecursion}
 use Rattle.bt_bed.specs.Feature.{Feature, interval_of, intervals_of}
 use Rattle.bt_bed.specs.Interval.{Interval, last_from}
 use Rattle.bt_bed.specs.Together.{has_records, IsFollowed, AreTogether}
-use Rattle.bt_bed.proofs.TogetherLemmas.{grows_together, last_of-push}
+use Rattle.bt_bed.proofs.TogetherLemmas.{grows_together}
 use Rattle.bt_runs.specs.Counted.{is_counted, counted}
 use Rattle.bt_runs.specs.declared.merge_strand.MergeStrand.{MergeStrand}
 
@@ -102,8 +101,3 @@ intervals_next past r = map-append interval_of past (r ∷ [])
 -- the last record once more
 pub again_together : (q : Interval) (qs : List Interval) → AreTogether (q ∷ qs) → AreTogether (q ∷ qs ++ last_from q qs ∷ [])
 again_together q qs t = grows_together (q ∷ qs) (last_from q qs) t (inl (refl, omega arith))
-
-pub push_again : (xs : List Interval) (r : Interval) → AreTogether (xs ++ r ∷ []) → AreTogether ((xs ++ r ∷ []) ++ r ∷ [])
-push_again xs r t =
-    let Goes : Option Interval → Type 0 = λ o. IfSome o (λ last. ((r.chrom ≡ last.chrom) × (last.start ≤ r.start)) ⊎ IsFalse (has_records r.chrom (xs ++ r ∷ []))) in
-    grows_together (xs ++ r ∷ []) r t (subst Goes (sym (last_of-push xs r)) (inl (refl, omega arith)))

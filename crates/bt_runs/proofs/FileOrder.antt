@@ -7,7 +7,7 @@ use Rattle.std.proofs.lemmas.Bool.{cases_Bool, cond-true, cond-false, or_parts, 
 use Rattle.bt_bed.specs.Feature.{Feature, interval_of, intervals_of}
 use Rattle.bt_bed.specs.Interval.{Interval, placed_on}
 use Rattle.bt_bed.specs.Order.{Order, IsTotal}
-use Rattle.bt_bed.specs.Place.{place_of, IsUpTo, IsPlacedBefore, ArePlaced}
+use Rattle.bt_bed.specs.Locus.{locus_of, IsUpTo, IsPlacedBefore, ArePlaced}
 use Rattle.bt_bed.specs.Rank.{is_among, AreDistinct, rank_of, compare_ranks, rank_order}
 use Rattle.bt_bed.specs.RankTotal.{ranks_total}
 use Rattle.bt_bed.specs.Stretches.{stretches_from}
@@ -19,7 +19,7 @@ use Rattle.bt_runs.specs.MergedRuns.{runs_come_in_order}
 use Rattle.bt_runs.proofs.ChromosomeLemmas.{spans_on-none, among_chromosomes, without-here, without-other}
 
 -- a record up to the next one but one
-up_to_later : (order : Order) (p q x : Interval) → IsTotal order → IsTrue (order.knows p.chrom) → IsTrue (order.knows q.chrom) → IsTrue (order.knows x.chrom) → IsUpTo order (place_of p) (place_of q) → IsUpTo order (place_of q) (place_of x) → IsUpTo order (place_of p) (place_of x)
+up_to_later : (order : Order) (p q x : Interval) → IsTotal order → IsTrue (order.knows p.chrom) → IsTrue (order.knows q.chrom) → IsTrue (order.knows x.chrom) → IsUpTo order (locus_of p) (locus_of q) → IsUpTo order (locus_of q) (locus_of x) → IsUpTo order (locus_of p) (locus_of x)
 up_to_later order p q x total one two three (inl a) (inl b) = inl (total.ascends p.chrom q.chrom x.chrom one two three a b)
 up_to_later order p q x total one two three (inl a) (inr b) = inl (subst (λ (c : List ℕ). order.compare p.chrom c ≡ Less) b.0 a)
 up_to_later order p q x total one two three (inr a) (inl b) = inl (subst (λ (c : List ℕ). order.compare c x.chrom ≡ Less) (sym a.0) b)
@@ -49,10 +49,10 @@ module _ (order : Order) (total : IsTotal order) (keep : Feature → Bool) where
       ]
 
 -- ranks
-rank_of-here : (n name : List ℕ) (ns : List (List ℕ)) → n ≡ name → rank_of (n ∷ ns) name ≡ Some 0
+pub rank_of-here : (n name : List ℕ) (ns : List (List ℕ)) → n ≡ name → rank_of (n ∷ ns) name ≡ Some 0
 rank_of-here n name ns e = cond-true (bytes_eq n name) (Some 0) (option_map (λ rank. suc rank) (rank_of ns name)) (name_eq n name e)
 
-rank_of-later : (n name : List ℕ) (ns : List (List ℕ)) → bytes_eq n name ≡ false → rank_of (n ∷ ns) name ≡ option_map (λ rank. suc rank) (rank_of ns name)
+pub rank_of-later : (n name : List ℕ) (ns : List (List ℕ)) → bytes_eq n name ≡ false → rank_of (n ∷ ns) name ≡ option_map (λ rank. suc rank) (rank_of ns name)
 rank_of-later n name ns f = cond-false (bytes_eq n name) (Some 0) (option_map (λ rank. suc rank) (rank_of ns name)) f
 
 one_less : (o : Option ℕ) (i : ℕ) → option_map (λ rank. suc rank) o ≡ Some i → (k : ℕ) × (o ≡ Some k) × (i ≡ suc k)
@@ -152,7 +152,7 @@ pick_first (n ∷ ns) c i q distinct r low =
           cond-false (p n) (n ∷ filter p ns) (filter p ns) here ∙ rest ∙ ap (λ ms. c ∷ ms) (sym dropped)
     ]
 
-without_absent : (name : List ℕ) (names : List (List ℕ)) → is_among names name ≡ false → without name names ≡ names
+pub without_absent : (name : List ℕ) (names : List (List ℕ)) → is_among names name ≡ false → without name names ≡ names
 without_absent name [] f = refl
 without_absent name (n ∷ ns) f =
     let parts = or_parts (bytes_eq n name) (is_among ns name) f in
@@ -167,7 +167,7 @@ without_twice name (n ∷ ns) =
     ]
 
 -- a record on the chromosome of the next adds no name
-same_chromosome : (r s : Interval) (ss : List Interval) → r.chrom ≡ s.chrom → chromosomes (r ∷ s ∷ ss) ≡ chromosomes (s ∷ ss)
+pub same_chromosome : (r s : Interval) (ss : List Interval) → r.chrom ≡ s.chrom → chromosomes (r ∷ s ∷ ss) ≡ chromosomes (s ∷ ss)
 same_chromosome r s ss e =
     let first = without-here r.chrom s.chrom (without s.chrom (chromosomes ss)) (sym e) in
     ap (λ ns. r.chrom ∷ ns) first ∙ ap (λ c. c ∷ without c (without s.chrom (chromosomes ss))) e ∙ ap (λ ns. s.chrom ∷ ns) (without_twice s.chrom (chromosomes ss))
@@ -196,11 +196,11 @@ names_in_order names (r ∷ s ∷ ss) distinct placed =
     ]
 
 -- names without records give no runs
-runs_of-nil : (gap : ℕ) → runs_of gap [] ≡ []
+pub runs_of-nil : (gap : ℕ) → runs_of gap [] ≡ []
 unfolding runs_of stretches_from
 runs_of-nil gap = refl
 
-runs_on-none : (name : List ℕ) (gap : ℕ) (records : List Interval) → has_records name records ≡ false → runs_on name gap records ≡ []
+pub runs_on-none : (name : List ℕ) (gap : ℕ) (records : List Interval) → has_records name records ≡ false → runs_on name gap records ≡ []
 runs_on-none name gap records f = ap (λ spans. map (placed_on name) (runs_of gap spans)) (spans_on-none name records f) ∙ ap (λ runs. map (placed_on name) runs) (runs_of-nil gap)
 
 merged-filter : (names : List (List ℕ)) (gap : ℕ) (records : List Interval) → merged (filter (λ n. has_records n records) names) gap records ≡ merged names gap records
@@ -215,7 +215,7 @@ merged-filter (n ∷ ns) gap records =
     ]
 
 -- the merged runs by the names of the file, and by the names in the order in which they come
-by_chromosomes : (names : List (List ℕ)) (gap : ℕ) (records : List Interval) → AreDistinct names → ArePlaced (rank_order names) records → merged names gap records ≡ merged (chromosomes records) gap records
+pub by_chromosomes : (names : List (List ℕ)) (gap : ℕ) (records : List Interval) → AreDistinct names → ArePlaced (rank_order names) records → merged names gap records ≡ merged (chromosomes records) gap records
 by_chromosomes names gap records distinct placed = sym (merged-filter names gap records) ∙ ap (λ ns. merged ns gap records) (names_in_order names records distinct placed)
 
 pub in_file_order : runs_come_in_order

@@ -3,7 +3,7 @@ use Rattle.std.proofs.Common.{◌≡◌, ℕ, List, [], ◌∷◌, true, false, 
 use Rattle.bt_bed.specs.Feature.{Feature}
 use Rattle.bt_bed.specs.Genome.{Entry}
 use Rattle.bt_bed.specs.Interval.{Interval}
-use Rattle.bt_bed.specs.Place.{Place}
+use Rattle.bt_bed.specs.Locus.{Locus}
 use Rattle.bt_bed.specs.Stretches.{with_position, stretches_from}
 use Rattle.bt_bed.specs.declared.strand.Strand.TheVariants.{Dot}
 use Rattle.bt_runs.specs.Gaps.{gaps_of, complement, settled_gaps, kept_place}
@@ -15,7 +15,7 @@ on name start stop = record { chrom = name ∷ []; start = start; stop = stop; s
 abbrev gap : ℕ → ℕ → ℕ → Interval
 gap name start stop = record { chrom = name ∷ []; start = start; stop = stop }
 
-abbrev place : ℕ → ℕ → Place
+abbrev place : ℕ → ℕ → Locus
 place name start = record { chrom = name ∷ []; start = start }
 
 -- a chromosome of ten bases, one of five, and one of three

@@ -1,28 +1,27 @@
 -- From the exact step of a merge to what it writes after the records of the past.
-use Rattle.std.proofs.Common.{arith, ◌≡◌, ℕ, ◌≤◌, List, [], ◌∷◌, ◌++◌, length, inl, inr, not, cond, Result, Ok, Err, refl, sym, ap, ◌∙◌, append-nil, codes, decimal}
+use Rattle.std.proofs.Common.{arith, ◌≡◌, ℕ, ◌≤◌, List, [], ◌∷◌, ◌++◌, length, inl, inr, not, cond, Some, None, Result, Ok, Err, refl, sym, ap, ◌∙◌, codes, decimal}
 use Rattle.std.proofs.lemmas.Bool.{cases_Bool, cond-true}
 use Rattle.std.proofs.lemmas.Grind.{flat_map-append}
-use Rattle.std.proofs.lemmas.List.{append_cancel_left}
-use Rattle.std.specs.Io.KnownBytes.{Appends}
-use Rattle.std.specs.Prelude.{OnOk, OnErr}
 use Rattle.bt_lines.specs.Fault.{no_memory}
 use Rattle.bt_lines.specs.declared.fault.Kind.TheVariants.{WriteFailed, NoMemory}
+use Rattle.bt_lines.specs.Names.{told}
+use Rattle.bt_lines.specs.Output.{Output}
 use Rattle.bt_lines.specs.declared.fault.Fault.{Fault}
-use Rattle.bt_lines.specs.Output.{Output, HoldsBlock, IsFrontOf}
 use Rattle.bt_bed.specs.Feature.{Feature, interval_of}
 use Rattle.bt_bed.specs.Interval.{Interval}
 use Rattle.bt_runs.specs.Counted.{is_counted}
-use Rattle.bt_runs.specs.Ended.{fault_of}
-use Rattle.bt_runs.specs.Lines.{interval_line, interval_lines}
+use Rattle.bt_runs.specs.Failure.{fault_of}
+use Rattle.bt_runs.specs.Engine.{AfterEach, Feeds, Finishes}
+use Rattle.bt_bed.specs.IntervalLine.{interval_line, interval_lines}
 use Rattle.bt_runs.specs.MergedRuns.{is_passed, merged_runs, settled_runs, kept_runs, AreTaken}
 use Rattle.bt_runs.specs.MergeStep.{with_record, settled_by, left_by, kept_by}
-use Rattle.bt_runs.specs.Merging.{Merging, StandsAfter}
-use Rattle.bt_runs.specs.Putting.{Puts}
-use Rattle.bt_runs.specs.Taking.{lines_by, Takes, TakesNext}
-use Rattle.bt_runs.specs.declared.ended.Ended.{Ended}
-use Rattle.bt_runs.specs.declared.ended.Ended.TheVariants.{Write, Memory}
+use Rattle.bt_runs.specs.Merging.{Merging, StandsAfter, kept_fault, held_count, is_quiet, may_take, settled_lines, stands_after, whole_output}
+use Rattle.bt_lines.specs.Putting.{Adds}
+use Rattle.bt_runs.specs.Taking.{lines_by, FailsToKeep, OpensRun, Takes, TakesNext}
+use Rattle.bt_runs.specs.declared.failure.Failure.{Failure}
+use Rattle.bt_runs.specs.declared.failure.Failure.TheVariants.{Write, Memory}
 use Rattle.bt_runs.specs.declared.merge_strand.MergeStrand.{MergeStrand}
-use Rattle.bt_runs.proofs.OutputSteps.{front_held}
+use Rattle.bt_runs.proofs.EngineLemmas.{feeds_cut, feeds_short, feeds_taken, finishes_by, quiet_none}
 use Rattle.bt_runs.proofs.SettledRuns.{next_taken, whole_taken}
 
 -- no line is empty
@@ -73,35 +72,14 @@ module _ (gap : ℕ) (strand : MergeStrand) (past : List Feature) (old : Merging
     going = takes.fault ∙ stands.going;
   }
 
-  -- where a fault came, what the sink took is a front of the lines
-  pub front_next : (r : Feature) (out : Output) (new : Merging) (grown : Output) (ended : Ended) → AreTaken (past ++ r ∷ []) → TakesNext {A = Unit {0}} old r out (Err ended) new grown → HoldsBlock out.took out.put
-      → (lines : List ℕ) × (interval_lines (settled_runs gap strand (past ++ r ∷ [])) ≡ interval_lines (settled_runs gap strand past) ++ lines) × IsFrontOf grown.took out.put lines
-  front_next r out new grown Write taken p h = (lines_by old r, settles_next r taken, p.puts.front)
-  front_next r out new grown Memory taken p h = (lines_by old r, settles_next r taken, front_held grown.took grown.put out.put (lines_by old r) (p.puts.block h) p.puts.appends)
-
-  -- where memory ran out, they were put
-  pub part_next : (r : Feature) (out : Output) (new : Merging) (grown : Output) (ended : Ended) → AreTaken (past ++ r ∷ []) → TakesNext {A = Unit {0}} old r out (Err ended) new grown → fault_of ended ≡ no_memory
-      → (lines : List ℕ) × (rest : List ℕ) × (interval_lines (settled_runs gap strand (past ++ r ∷ [])) ≡ interval_lines (settled_runs gap strand past) ++ (lines ++ rest)) × Appends out.put grown.put lines
-  part_next r out new grown Write taken p e = let kind : WriteFailed ≡ NoMemory = ap (λ t. t.kind) e in absurd (cc)
-  part_next r out new grown Memory taken p e =
-      (lines_by old r, [], settles_next r taken ∙ ap (λ lines. interval_lines (settled_runs gap strand past) ++ lines) (sym (append-nil (lines_by old r))), p.puts.appends)
-
-  -- a record that settles no line writes none
-  pub quiet_lines : (r : Feature) → AreTaken (past ++ r ∷ []) → interval_lines (settled_runs gap strand (past ++ r ∷ [])) ≡ interval_lines (settled_runs gap strand past) → lines_by old r ≡ []
-  quiet_lines r taken same =
-      let before = interval_lines (settled_runs gap strand past) in
-      append_cancel_left before (lines_by old r) [] (sym (settles_next r taken) ∙ same ∙ sym (append-nil before))
-
-  -- and where no more is kept, no fault comes
-  pub never_quiet : (r : Feature) (out : Output) (new : Merging) (grown : Output) (ended : Ended) → AreTaken (past ++ r ∷ []) → TakesNext {A = Unit {0}} old r out (Err ended) new grown
-      → interval_lines (settled_runs gap strand (past ++ r ∷ [])) ≡ interval_lines (settled_runs gap strand past) → length (kept_runs gap strand (past ++ r ∷ [])) ≤ length (kept_runs gap strand past) → ⊥
-  never_quiet r out new grown Write taken p same more = p.settles (no_lines (settled_by old.gap old.kept (interval_of r)) (quiet_lines r taken same))
-  never_quiet r out new grown Memory taken p same more =
+  -- where a run has to be opened and none was kept, the record isn't quiet
+  pub loud_next : (r : Feature) (out : Output) (new : Merging) (grown : Output) → AreTaken (past ++ r ∷ []) → FailsToKeep old r out new grown → lines_by old r ≡ [] → length (kept_runs gap strand (past ++ r ∷ [])) ≤ length (kept_runs gap strand past) → ⊥
+  loud_next r out new grown taken p none more =
       let x = interval_of r in
       let left = left_by old.gap old.kept x in
-      let nothing = none_at_all old.gap old.kept x (no_lines (settled_by old.gap old.kept x) (quiet_lines r taken same)) p.none in
+      let nothing = none_at_all old.gap old.kept x (no_lines (settled_by old.gap old.kept x) none) p.opens.none in
       let was : kept_runs gap strand past ≡ [] = sym stands.kept ∙ nothing in
-      let is : kept_runs gap strand (past ++ r ∷ []) ≡ x ∷ [] = keeps_next r taken ∙ cond-true (is_counted old.strand r.strand) (with_record left x) left p.counted ∙ ap (λ runs. with_record runs x) p.none in
+      let is : kept_runs gap strand (past ++ r ∷ []) ≡ x ∷ [] = keeps_next r taken ∙ cond-true (is_counted old.strand r.strand) (with_record left x) left p.opens.counted ∙ ap (λ runs. with_record runs x) p.opens.none in
       let a = ap length was in
       let b = ap length is in
       absurd (omega arith)
@@ -114,15 +92,34 @@ module _ (gap : ℕ) (strand : MergeStrand) (past : List Feature) (old : Merging
       ∙ flat_map-append interval_line before (kept_runs gap strand past)
       ∙ ap (λ runs. interval_lines before ++ interval_lines runs) (sym stands.kept)
 
--- what a call that puts the line of the last run leaves
-module _ (whole settled : List ℕ) (run : Interval) (out new : Output) (left : whole ≡ settled ++ interval_lines (run ∷ [])) where
-  one_line : whole ≡ settled ++ interval_line run
-  one_line = left ∙ ap (λ lines. settled ++ lines) (append-nil (interval_line run))
+module _ (old : Merging) (was_going : kept_fault old ≡ None) (out : Output) where
+  module _ (r : Feature) where
+    next : AfterEach may_take stands_after old r (λ first past. settled_lines first (past ++ r ∷ []) ≡ settled_lines first past ++ lines_by old r)
+    next first past stands taken = settles_next first.gap first.strand past old stands r taken
 
-  pub last_writes : {A : Type 0} (r : Result A Fault) → Puts out (interval_line run) r new → OnOk r ((lines : List ℕ) × (whole ≡ settled ++ lines) × Appends out.put new.put lines)
-  last_writes (Ok done) p = (interval_line run, one_line, p.appends)
-  last_writes (Err fault) p = tt
+    pub feeds_ok : {A : Type 0} (done : A) (new : Merging) (grown : Output) → Takes old r out new grown
+        → Feeds may_take stands_after kept_fault settled_lines old r out is_quiet (Ok done) new grown
+    feeds_ok done new grown p =
+        feeds_taken may_take stands_after kept_fault settled_lines old (λ first past stands. stands.going) was_going out (lines_by old r) held_count r next done new grown p.fault
+        (λ first past stands taken. stands_next first.gap first.strand past old stands r out new grown taken p) p.puts
 
-  pub last_front : {A : Type 0} (r : Result A Fault) → Puts out (interval_line run) r new → OnErr r ((lines : List ℕ) × (whole ≡ settled ++ lines) × IsFrontOf new.took out.put lines)
-  last_front (Ok done) p = tt
-  last_front (Err fault) p = (interval_line run, one_line, p.front)
+    pub feeds_err : {A : Type 0} (failure : Failure) (e : Fault) (mid new : Merging) (grown : Output) → told e ≡ fault_of failure → kept_fault new ≡ Some (fault_of failure) → TakesNext {A = A} old r out (Err failure) mid grown
+        → Feeds may_take stands_after kept_fault settled_lines old r out {A = A} is_quiet (Err e) new grown
+    feeds_err Write e mid new grown is kept p =
+        feeds_cut may_take stands_after kept_fault settled_lines old (λ first past stands. stands.going) was_going out (lines_by old r) held_count r next e new grown is kept
+        (λ none. p.settles (no_lines (settled_by old.gap old.kept (interval_of r)) none)) p.puts
+    feeds_err Memory e mid new grown is kept p =
+        feeds_short may_take stands_after kept_fault settled_lines old (λ first past stands. stands.going) was_going out (lines_by old r) held_count r next e new grown is kept
+        (λ first past stands taken q. loud_next first.gap first.strand past old stands r out mid grown taken p (quiet_none may_take stands_after kept_fault settled_lines old (λ first past stands. stands.going) was_going out (lines_by old r) held_count r next first past stands taken q) q.keeps) p.puts
+
+  -- the kept run's line is put, if a run is kept
+  pub finishes_kept : {A : Type 0} (kept : List Interval) (result : Result A Fault) (grown : Output) → old.kept ≡ kept → Adds out (interval_lines kept) result grown
+      → Finishes may_take stands_after kept_fault settled_lines whole_output old out result grown
+  finishes_kept kept result grown is p =
+      finishes_by may_take stands_after kept_fault settled_lines old (λ first past stands. stands.going) was_going out (interval_lines kept) whole_output
+      (λ first past stands taken. unsettled first.gap first.strand past old stands taken ∙ ap (λ runs. settled_lines first past ++ interval_lines runs) is) result grown p
+
+-- where memory ran out, a run had to be opened
+pub ends_for_run : (old : Merging) (r : Feature) (out : Output) (mid : Merging) (grown : Output) (failure : Failure) → TakesNext {A = Unit {0}} old r out (Err failure) mid grown → fault_of failure ≡ no_memory → OpensRun old r
+ends_for_run old r out mid grown Write p e = let kind : WriteFailed ≡ NoMemory = ap (λ t. t.kind) e in absurd (cc)
+ends_for_run old r out mid grown Memory p e = p.opens

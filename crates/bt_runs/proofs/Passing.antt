@@ -1,11 +1,8 @@
 -- Which runs a record has passed.
 use Rattle.std.proofs.Common.{◌≡◌, ℕ, ◌+◌, ◌<◌, ◌≤◌, inl, inr, List, [], ◌∷◌, ◌++◌, refl, ap, ◌∙◌, arith, map, filter, true, false, not, bytes_eq, nat_lt, lt-ltb, le-ltb}
-use Rattle.std.proofs.lemmas.Bool.{cond-true, or_cases, or_from, or_left, or_right, or_parts, not_from_true, not_from_false, ltb-true}
-use Rattle.std.proofs.lemmas.List.Elements.{filter-append}
-use Rattle.bt_bed.specs.Interval.{Interval, Span, placed_on, spans_on}
-use Rattle.bt_bed.specs.Rank.{is_among}
+use Rattle.std.proofs.lemmas.Bool.{cond-true, or_cases, or_from, or_left, or_right, not_from_true, not_from_false, ltb-true}
+use Rattle.bt_bed.specs.Interval.{Interval, Span, placed_on}
 use Rattle.bt_bed.proofs.NameLemmas.{name_eq}
-use Rattle.bt_runs.specs.Merged.{runs_of, runs_on, merged}
 use Rattle.bt_runs.specs.MergedRuns.{is_passed}
 use Rattle.bt_runs.proofs.Bridging.{AreApartBy}
 
@@ -33,17 +30,6 @@ placed_elsewhere gap last name (s ∷ ss) other =
     let others : List Interval = filter (is_passed gap last) (map (placed_on name) ss) in
     cond-true (is_passed gap last (placed_on name s)) (placed_on name s ∷ others) others (passed_elsewhere gap last (placed_on name s) other)
     ∙ ap (λ runs. placed_on name s ∷ runs) (placed_elsewhere gap last name ss other)
-
-pub passed_others : (gap : ℕ) (last : Interval) (names : List (List ℕ)) (records : List Interval) → is_among names last.chrom ≡ false → filter (is_passed gap last) (merged names gap records) ≡ merged names gap records
-unfolding merged
-passed_others gap last [] records absent = refl
-passed_others gap last (n ∷ ns) records absent =
-    let parts = or_parts (bytes_eq n last.chrom) (is_among ns last.chrom) absent in
-    let here = placed_elsewhere gap last n (runs_of gap (spans_on n records)) parts.0 in
-    let rest = passed_others gap last ns records parts.1 in
-    filter-append (is_passed gap last) (runs_on n gap records) (merged ns gap records)
-    ∙ ap (λ runs. runs ++ filter (is_passed gap last) (merged ns gap records)) here
-    ∙ ap (λ runs. runs_on n gap records ++ runs) rest
 
 first_up_to : (gap first : ℕ) (done : List Span) (run : Span) → AreApartBy gap first (done ++ run ∷ []) → first ≤ run.start
 first_up_to gap first [] run a = a.0

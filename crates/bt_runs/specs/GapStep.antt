@@ -2,7 +2,7 @@
 use Rattle.std.specs.Prelude.{◌≡◌, ℕ, ◌+◌, ◌<◌, ⊤, Bool, false, cond, List, [], ◌∷◌, ◌++◌, length, get_or, flat_map, max, min, nat_lt, bytes_eq, slice_range, Option, Some, None}
 use Rattle.bt_bed.specs.Genome.{Entry, genome_names}
 use Rattle.bt_bed.specs.Interval.{Interval}
-use Rattle.bt_bed.specs.Place.{Place}
+use Rattle.bt_bed.specs.Locus.{Locus}
 use Rattle.bt_bed.specs.Rank.{rank_of}
 use Rattle.bt_runs.specs.declared.complement.Reached.{Reached}
 
@@ -21,7 +21,7 @@ AreAt entries None = ⊤
 AreAt entries (Some reached) = IsAt entries reached
 
 -- the place that was reached, if one was
-abbrev pub places : List Entry → Option Reached → List Place
+abbrev pub places : List Entry → Option Reached → List Locus
 places entries None = []
 places entries (Some reached) = record { chrom = (entry_at entries reached.rank).name; start = reached.end } ∷ []
 

@@ -5,7 +5,7 @@ use Rattle.std.specs.declared.cmp.Ordering.TheVariants.{Less, Equal, Greater}
 use Rattle.bt_bed.specs.Feature.{Feature, intervals_of}
 use Rattle.bt_bed.specs.Genome.{Entry, genome_names}
 use Rattle.bt_bed.specs.Interval.{Interval, Span, AreNonEmpty, last_of, placed_on, spans_on}
-use Rattle.bt_bed.specs.Place.{Place, ArePlaced}
+use Rattle.bt_bed.specs.Locus.{Locus, ArePlaced}
 use Rattle.bt_bed.specs.Rank.{AreDistinct, rank_order}
 use Rattle.bt_bed.specs.Stretches.{IsCovered, AreStretchesOf, stretches_from}
 use Rattle.bt_bed.specs.Together.{has_records}
@@ -63,11 +63,11 @@ length_in [] name = 0
 length_in (entry ∷ entries) name = cond (bytes_eq entry.name name) entry.length (length_in entries name)
 
 -- the place that is kept: the greatest end on the last record's chromosome, cut at its length
-abbrev pub kept_at : List Entry → List Interval → Option Interval → List Place
+abbrev pub kept_at : List Entry → List Interval → Option Interval → List Locus
 kept_at entries records None = []
 kept_at entries records (Some last) = record { chrom = last.chrom; start = min (end_of (spans_on last.chrom records)) (length_in entries last.chrom) } ∷ []
 
-unfoldable pub kept_place : List Entry → List Feature → List Place
+unfoldable pub kept_place : List Entry → List Feature → List Locus
 kept_place entries records = kept_at entries (intervals_of records) (last_of (intervals_of records))
 
 -- records that a complement may take: they are in the order of the genome file, which has each chromosome once, and each has a base

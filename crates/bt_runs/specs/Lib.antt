@@ -1,6 +1,6 @@
-pub mod Lines
-pub mod Putting
-pub mod Writing
+pub mod Failure
+pub mod Settling
+pub mod Engine
 pub mod Merged
 pub mod Counted
 pub mod MergedRuns
@@ -11,5 +11,3 @@ pub mod Taking
 pub mod Gaps
 pub mod GapStep
 pub mod Complementing
-pub mod Settling
-pub mod Ended

@@ -2,7 +2,7 @@
 use Rattle.std.specs.Prelude.{◌≡◌, ℕ, ◌+◌, ◌≤◌, Bool, not, ◌||◌, List, [], ◌++◌, drop, length, filter, Option, Some, None, nat_lt, bytes_eq}
 use Rattle.bt_bed.specs.Feature.{Feature, intervals_of}
 use Rattle.bt_bed.specs.Interval.{Interval, AreNonEmpty, last_of}
-use Rattle.bt_bed.specs.Place.{ArePlaced}
+use Rattle.bt_bed.specs.Locus.{ArePlaced}
 use Rattle.bt_bed.specs.Rank.{AreDistinct, rank_order}
 use Rattle.bt_bed.specs.Together.{AreTogether}
 use Rattle.bt_runs.specs.Counted.{counted}

@@ -1,6 +1,6 @@
 -- What the plain program is said to do, in the words of the definitions.
 use Rattle.std.specs.Prelude.{ℕ, ◌+◌, ◌-◌, ◌≤◌, cond, ◌==◌, List, [], ◌∷◌, map}
-use Rattle.bt_runs.specs.declared.plain.Span.{Span as PlainSpan}
+use Rattle.bt_runs.specs.declared.plain.PlainSpan.{PlainSpan}
 use Rattle.bt_bed.specs.Interval.{Span}
 use Rattle.bt_bed.specs.Stretches.{IsCovered}
 

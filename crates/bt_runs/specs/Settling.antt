@@ -9,9 +9,9 @@ pub record Settles {T : Type 0} (settled whole : List Feature → List T) (Taken
   pub begins : (past : List Feature) → Taken past → (lines : List T) × (whole past ≡ settled past ++ lines)
 
 -- so what is settled begins what is settled later
-abbrev pub Stays : {T : Type 0} → (List Feature → List T) → (List Feature → Type 0) → Type 0
-Stays {T} settled Taken = (past more : List Feature) → Taken (past ++ more) → (rest : List T) × (settled (past ++ more) ≡ settled past ++ rest)
+abbrev pub SettledStays : {T : Type 0} → (List Feature → List T) → (List Feature → Type 0) → Type 0
+SettledStays {T} settled Taken = (past more : List Feature) → Taken (past ++ more) → (rest : List T) × (settled (past ++ more) ≡ settled past ++ rest)
 
 -- and the whole of every longer list
-abbrev pub Begins : {T : Type 0} → (List Feature → List T) → (List Feature → List T) → (List Feature → Type 0) → Type 0
-Begins {T} settled whole Taken = (past more : List Feature) → Taken (past ++ more) → (rest : List T) × (whole (past ++ more) ≡ settled past ++ rest)
+abbrev pub SettledBegins : {T : Type 0} → (List Feature → List T) → (List Feature → List T) → (List Feature → Type 0) → Type 0
+SettledBegins {T} settled whole Taken = (past more : List Feature) → Taken (past ++ more) → (rest : List T) × (whole (past ++ more) ≡ settled past ++ rest)

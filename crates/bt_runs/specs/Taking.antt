@@ -1,17 +1,19 @@
 -- What a merge does with one more record, exactly.
-use Rattle.std.specs.Prelude.{◌≡◌, ℕ, true, List, [], Result, Ok, Err}
-use Rattle.bt_lines.specs.Fault.{write_failed}
+use Rattle.std.specs.Prelude.{◌≡◌, ℕ, true, List, [], None, Result, Ok, Err, ⊤}
+use Rattle.bt_lines.specs.Fault.{no_memory, write_failed}
+use Rattle.bt_lines.specs.Names.{told}
 use Rattle.bt_lines.specs.Output.{Output}
 use Rattle.bt_bed.specs.Feature.{Feature, interval_of}
 use Rattle.bt_bed.specs.Interval.{Interval}
 use Rattle.bt_runs.specs.Counted.{is_counted}
-use Rattle.bt_runs.specs.Lines.{interval_lines}
+use Rattle.bt_bed.specs.IntervalLine.{interval_lines}
 use Rattle.bt_runs.specs.MergeStep.{settled_by, left_by, kept_by}
 use Rattle.bt_runs.specs.Merging.{Merging}
-use Rattle.bt_runs.specs.Putting.{FailsToPut, Grown}
+use Rattle.bt_lines.specs.Putting.{FailsToPut, Grown}
+use Rattle.bt_lines.specs.declared.fault.Fault.{Fault}
 use Rattle.bt_runs.specs.declared.merge.Run.{Run}
-use Rattle.bt_runs.specs.declared.ended.Ended.{Ended}
-use Rattle.bt_runs.specs.declared.ended.Ended.TheVariants.{Write, Memory}
+use Rattle.bt_runs.specs.declared.failure.Failure.{Failure}
+use Rattle.bt_runs.specs.declared.failure.Failure.TheVariants.{Write, Memory}
 
 -- a run from the chromosome's name and the rest of it
 abbrev pub run_at : List ℕ → Run → Interval
@@ -20,6 +22,16 @@ run_at name run = record { chrom = name; start = run.start; stop = run.stop }
 -- the line of each run that the record settles
 abbrev pub lines_by : Merging → Feature → List ℕ
 lines_by merge feature = interval_lines (settled_by merge.gap merge.kept (interval_of feature))
+
+-- a run has to be opened: the record counts, and leaves none to join
+pub record OpensRun (old : Merging) (feature : Feature) : Type 0 where
+  pub none : left_by old.gap old.kept (interval_of feature) ≡ []
+  pub counted : is_counted old.strand feature.strand ≡ true
+
+-- where memory ran out for the first time, a run had to be opened
+abbrev pub IsForRun : {A : Type 0} → Merging → Feature → Result A Fault → Type 0
+IsForRun old feature (Ok done) = ⊤
+IsForRun old feature (Err fault) = told fault ≡ no_memory → old.fault ≡ None → OpensRun old feature
 
 module _ (old : Merging) (feature : Feature) (out : Output) (new : Merging) (grown : Output) where
   -- one more record was taken, as the step says
@@ -31,28 +43,27 @@ module _ (old : Merging) (feature : Feature) (out : Output) (new : Merging) (gro
     pub puts : Grown out (lines_by old feature) grown
 
   -- the run that the record settles couldn't be written
-  pub record FailsToWrite : Type 0 where
+  pub record FailsToSettle : Type 0 where
     pub settles : settled_by old.gap old.kept (interval_of feature) ≡ [] → ⊥
     pub puts : FailsToPut out (lines_by old feature) write_failed grown
 
-  -- no run was left, the record counts, and the name of its chromosome couldn't be kept
+  -- the name of the chromosome of a run that has to be opened couldn't be kept
   pub record FailsToKeep : Type 0 where
-    pub none : left_by old.gap old.kept (interval_of feature) ≡ []
-    pub counted : is_counted old.strand feature.strand ≡ true
+    pub opens : OpensRun old feature
     pub puts : Grown out (lines_by old feature) grown
 
 -- what one more record does
-abbrev pub TakesNext : {A : Type 0} → Merging → Feature → Output → Result A Ended → Merging → Output → Type 0
+abbrev pub TakesNext : {A : Type 0} → Merging → Feature → Output → Result A Failure → Merging → Output → Type 0
 TakesNext old feature out (Ok done) new grown = Takes old feature out new grown
-TakesNext old feature out (Err Write) new grown = FailsToWrite old feature out new grown
+TakesNext old feature out (Err Write) new grown = FailsToSettle old feature out new grown
 TakesNext old feature out (Err Memory) new grown = FailsToKeep old feature out new grown
 
 -- the runs that the record has passed were written, and are kept no longer
-pub record Settled (old : Merging) (feature : Feature) (out : Output) (new : Merging) (grown : Output) : Type 0 where
+pub record ClosesRuns (old : Merging) (feature : Feature) (out : Output) (new : Merging) (grown : Output) : Type 0 where
   pub left : new ≡ record old { kept = left_by old.gap old.kept (interval_of feature) }
   pub puts : Grown out (lines_by old feature) grown
 
 -- what the writing of the settled runs does
 abbrev pub SettlesRuns : {A : Type 0} {E : Type 0} → Merging → Feature → Output → Result A E → Merging → Output → Type 0
-SettlesRuns old feature out (Ok done) new grown = Settled old feature out new grown
-SettlesRuns old feature out (Err fault) new grown = FailsToWrite old feature out new grown
+SettlesRuns old feature out (Ok done) new grown = ClosesRuns old feature out new grown
+SettlesRuns old feature out (Err fault) new grown = FailsToSettle old feature out new grown

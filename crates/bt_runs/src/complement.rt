@@ -1,19 +1,21 @@
 //! The engine of `bedtools complement`: the place up to which gaps are settled.
 
-ghost use Rattle.std.specs.Prelude.{◌≡◌, ◌⊎◌, ◌<◌, ◌≤◌, ℕ, List, [], length, flat_map, min, slice_range, Option, Some, Ok, Err, None, IfOk};
-ghost use Rattle.bt_bed.specs.Feature.{interval_of};
+ghost use Rattle.std.specs.Prelude.{◌≡◌, ◌⊎◌, ◌<◌, ◌≤◌, ℕ, List, [], length, flat_map, min, slice_range, Option, Some, Ok, Err, None, IfOk, IfErr};
+ghost use Rattle.bt_bed.specs.Feature.{Feature, interval_of};
 ghost use Rattle.bt_bed.specs.Bed.{feature_lent};
 ghost use Rattle.bt_bed.specs.GenomeTable.{entries};
-ghost use Rattle.bt_runs.specs.Complementing.{StandsAfter};
+ghost use Rattle.bt_runs.specs.Complementing.{StandsAfter, kept_fault, held_count, is_quiet, may_take, settled_lines, stands_after, whole_output};
 ghost use Rattle.bt_runs.specs.Gaps.{AreTaken, complement, kept_place, settled_gaps};
 ghost use Rattle.bt_runs.specs.GapStep.{AreAt, IsAt, begun, covering, gap_step, gap_to, gaps_before, going, is_on, left_of, whole_of};
-ghost use Rattle.bt_runs.specs.Lines.{interval_lines};
-ghost use Rattle.bt_runs.specs.Writing.{Writes};
+ghost use Rattle.bt_lines.specs.Fault.{write_failed};
+ghost use Rattle.bt_lines.specs.Names.{told};
+ghost use Rattle.bt_runs.specs.Engine.{Feeds, KeepsHeld};
+ghost use Rattle.bt_bed.specs.IntervalLine.{interval_lines};
+ghost use Rattle.bt_lines.specs.Putting.{Adds};
 
-use crate::bed_line::put_bed_line;
-use crate::ended::Ended;
 use crate::engine::Engine;
-use bt_bed::{BedRef, Genome};
+use crate::failure::Failure;
+use bt_bed::{BedRef, Genome, put_interval};
 use bt_lines::{Fault, Out, Sink};
 use std::marker::Model;
 
@@ -26,21 +28,21 @@ struct Reached {
 }
 
 /// The parts of the chromosomes that no record covers, in the order of a genome file. It keeps one
-/// place and takes no memory. A gap is written once a record starts at or past its end, or on a later
-/// chromosome. A record on a chromosome that the genome file doesn't have is passed over.
+/// place. A gap is written once a record starts at or past its end, or on a later chromosome. A record
+/// on a chromosome that the genome file doesn't have is passed over.
 #[derive(Drop, Debug)]
 pub struct Complement<'g> {
     genome: &'g Genome,
     limit: bool,
     current: Option<Reached>,
-    ended: Option<Ended>,
+    failure: Option<Failure>,
 }
 
 impl<'g> Model for Complement<'g> {
     ghost use Rattle.std.specs.Prelude.{option_map};
     ghost use Rattle.bt_bed.specs.GenomeTable.{entries};
     ghost use Rattle.bt_runs.specs.Complementing.{Complementing};
-    ghost use Rattle.bt_runs.specs.Ended.{fault_of};
+    ghost use Rattle.bt_runs.specs.Failure.{fault_of};
     ghost use Rattle.bt_runs.specs.GapStep.{AreAt, places};
 
     ghost Value = { Complementing };
@@ -49,7 +51,7 @@ impl<'g> Model for Complement<'g> {
       entries = entries m.genome.now;
       limit = m.limit;
       kept = places (entries m.genome.now) m.current;
-      fault = option_map fault_of m.ended;
+      fault = option_map fault_of m.failure;
     } };
 
     ghost invariant = { λ m. AreAt (entries m.genome.now) m.current };
@@ -67,27 +69,34 @@ impl<'g> Complement<'g> {
             genome,
             limit,
             current: None,
-            ended: None,
+            failure: None,
         }
     }
 }
 
 impl Engine for Complement<'_> {
-    ghost takes = { λ first past. AreTaken first.entries past };
+    ghost takes = { may_take };
 
-    ghost settled = { λ first past. interval_lines (settled_gaps first.limit first.entries past) };
+    ghost settled = { settled_lines };
 
-    ghost whole = { λ first past. interval_lines (complement first.limit first.entries past) };
+    ghost whole = { whole_output };
 
-    ghost held = { λ first past. length (kept_place first.entries past) };
+    ghost held = { held_count };
 
-    ghost stands = { λ first past now. StandsAfter first.entries first.limit past now };
+    ghost stands = { stands_after };
 
-    ghost fault = { λ complement. complement.fault };
+    ghost fault = { kept_fault };
 
-    fn feed<K: Sink>(&mut self, bed: &BedRef<'_>, out: &mut Out<K>) -> Result<(), Fault> {
-        if let Some(ended) = self.ended {
-            return Err(ended.fault());
+    ghost quiet = { is_quiet };
+
+    /// It fails only where a write fails: it takes no memory.
+    fn feed<K: Sink>(&mut self, bed: &BedRef<'_>, out: &mut Out<K>) -> Result<(), Fault>
+        ensures feeds { Feeds may_take stands_after kept_fault settled_lines self.old
+            (feature_lent bed.now) out.old is_quiet result self.new out.new }
+        ensures memory { self.old.fault ≡ None → IfErr result (λ fault. told fault ≡ write_failed) }
+    {
+        if let Some(failure) = self.failure {
+            return Err(failure.fault());
         }
         match advance(self.genome, self.limit, self.current, bed, out) {
             Ok(current) => {
@@ -95,7 +104,7 @@ impl Engine for Complement<'_> {
                 Ok(())
             }
             Err(fault) => {
-                self.ended = Some(Ended::Write);
+                self.failure = Some(Failure::Write);
                 Err(fault)
             }
         }
@@ -103,13 +112,17 @@ impl Engine for Complement<'_> {
 
     fn finish<K: Sink>(self, out: &mut Out<K>) -> Result<(), Fault> {
         let count = self.genome.count();
-        match self.ended {
+        match self.failure {
             None => put_before(self.genome, self.limit, self.current, count, out),
-            Some(ended) => Err(ended.fault()),
+            Some(failure) => Err(failure.fault()),
         }
     }
 
-    fn kept_len(&self) -> usize {
+    /// How many places it keeps: 0 or 1.
+    fn kept_len(&self) -> usize
+        ensures list { result ≡ length self.now.kept }
+        ensures held { KeepsHeld may_take stands_after self.now held_count result }
+    {
         usize::from(self.current.is_some())
     }
 }
@@ -123,7 +136,7 @@ fn advance<K: Sink>(
     out: &mut Out<K>,
 ) -> Result<Option<Reached>, Fault>
     requires { AreAt (entries genome.now) current }
-    ensures writes { Writes out.old (interval_lines (gap_step limit (entries genome.now) current
+    ensures adds { Adds out.old (interval_lines (gap_step limit (entries genome.now) current
         (interval_of (feature_lent bed.now))).1) result out.new }
     ensures reached { IfOk result (λ reached. reached ≡ (gap_step limit (entries genome.now) current
         (interval_of (feature_lent bed.now))).0) }
@@ -145,7 +158,7 @@ fn go_to<K: Sink>(
     out: &mut Out<K>,
 ) -> Result<Option<Reached>, Fault>
     requires { AreAt (entries genome.now) current }
-    ensures writes { Writes out.old
+    ensures adds { Adds out.old
         (interval_lines (going limit (entries genome.now) current chrom.now).1) result out.new }
     ensures reached { IfOk result (λ reached.
         reached ≡ (going limit (entries genome.now) current chrom.now).0) }
@@ -181,7 +194,7 @@ fn cover<K: Sink>(
     out: &mut Out<K>,
 ) -> Result<Reached, Fault>
     requires { reached.rank < length (entries genome.now) }
-    ensures writes { Writes out.old
+    ensures adds { Adds out.old
         (interval_lines (covering (entries genome.now) reached start stop).1) result out.new }
     ensures reached { IfOk result (λ next.
         next ≡ (covering (entries genome.now) reached start stop).0) }
@@ -205,7 +218,7 @@ fn put_before<K: Sink>(
 ) -> Result<(), Fault>
     requires at { AreAt (entries genome.now) current }
     requires within { stop ≤ length (entries genome.now) }
-    ensures { Writes out.old
+    ensures { Adds out.old
         (interval_lines (gaps_before limit (entries genome.now) current stop)) result out.new }
 {
     put_left(genome, current, out)?;
@@ -233,7 +246,7 @@ fn put_left<K: Sink>(
     out: &mut Out<K>,
 ) -> Result<(), Fault>
     requires { AreAt (entries genome.now) current }
-    ensures { Writes out.old (interval_lines (left_of (entries genome.now) current)) result out.new }
+    ensures { Adds out.old (interval_lines (left_of (entries genome.now) current)) result out.new }
 {
     match current {
         None => Ok(()),
@@ -250,7 +263,7 @@ fn put_whole<K: Sink>(
 ) -> Result<(), Fault>
     requires order { first ≤ stop }
     requires within { stop ≤ length (entries genome.now) }
-    ensures { Writes out.old (interval_lines
+    ensures { Adds out.old (interval_lines
         (flat_map whole_of (slice_range (entries genome.now) first stop))) result out.new }
 {
     for rank in first..stop {
@@ -268,10 +281,10 @@ fn put_gap<K: Sink>(
     out: &mut Out<K>,
 ) -> Result<(), Fault>
     requires { reached.rank < length (entries genome.now) }
-    ensures { Writes out.old (interval_lines (gap_to (entries genome.now) reached stop)) result out.new }
+    ensures { Adds out.old (interval_lines (gap_to (entries genome.now) reached stop)) result out.new }
 {
     if reached.end < stop {
-        return put_bed_line(genome.name(reached.rank), reached.end, stop, out);
+        return put_interval(genome.name(reached.rank), reached.end, stop, out);
     }
     Ok(())
 }

@@ -4,11 +4,10 @@
 //! soon as no later record can change it.
 #![tactic(auto)]
 
-mod bed_line;
 mod complement;
 pub mod complement_laws;
-mod ended;
 mod engine;
+mod failure;
 pub mod laws;
 mod merge;
 mod merge_strand;

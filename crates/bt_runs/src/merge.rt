@@ -4,17 +4,18 @@ ghost use Rattle.std.specs.Prelude.{◌≡◌, ◌≤◌, ◌&&◌, ◌||◌, �
 ghost use Rattle.bt_bed.specs.Bed.{feature_lent};
 ghost use Rattle.bt_bed.specs.Feature.{Feature, interval_of};
 ghost use Rattle.bt_runs.specs.Counted.{is_counted};
-ghost use Rattle.bt_runs.specs.Lines.{interval_lines};
+ghost use Rattle.bt_lines.specs.Number.{max_number};
+ghost use Rattle.bt_runs.specs.Engine.{Feeds, KeepsHeld};
+ghost use Rattle.bt_bed.specs.IntervalLine.{interval_lines};
 ghost use Rattle.bt_runs.specs.MergedRuns.{AreTaken, is_passed, kept_runs, merged_runs, settled_runs};
 ghost use Rattle.bt_runs.specs.MergeStep.{with_record};
-ghost use Rattle.bt_runs.specs.Merging.{Merging, StandsAfter};
-ghost use Rattle.bt_runs.specs.Taking.{SettlesRuns, TakesNext, run_at};
+ghost use Rattle.bt_runs.specs.Merging.{StandsAfter, kept_fault, held_count, is_quiet, may_take, settled_lines, stands_after, whole_output};
+ghost use Rattle.bt_runs.specs.Taking.{IsForRun, SettlesRuns, TakesNext, run_at};
 
-use crate::bed_line::put_bed_line;
-use crate::ended::Ended;
 use crate::engine::Engine;
+use crate::failure::Failure;
 use crate::merge_strand::MergeStrand;
-use bt_bed::{BedRef, Strand};
+use bt_bed::{BedRef, Strand, put_interval};
 use bt_lines::{Fault, Out, Sink};
 use std::alloc::{AllocError, Global};
 use std::marker::Model;
@@ -36,13 +37,14 @@ pub struct Merge {
     // The open run's chromosome, whose buffer is used again.
     chrom: Vec<u8>,
     run: Option<Run>,
-    ended: Option<Ended>,
+    failure: Option<Failure>,
 }
 
 impl Model for Merge {
     ghost use Rattle.std.specs.Prelude.{◌≤◌, option_map, option_to_list};
     ghost use Rattle.std.specs.Option.{ForSome};
-    ghost use Rattle.bt_runs.specs.Ended.{fault_of};
+    ghost use Rattle.bt_lines.specs.Number.{max_number};
+    ghost use Rattle.bt_runs.specs.Failure.{fault_of};
     ghost use Rattle.bt_runs.specs.Merging.{Merging};
     ghost use Rattle.bt_runs.specs.Taking.{run_at};
 
@@ -52,17 +54,17 @@ impl Model for Merge {
       gap = m.gap;
       strand = m.strand;
       kept = option_to_list (option_map (run_at m.chrom.items) m.run);
-      fault = option_map fault_of m.ended;
+      fault = option_map fault_of m.failure;
     } };
 
-    ghost invariant = { λ m. (m.gap ≤ 999999999999) × ForSome m.run (λ run. run.stop ≤ 999999999999) };
+    ghost invariant = { λ m. (m.gap ≤ max_number) × ForSome m.run (λ run. run.stop ≤ max_number) };
 }
 
 impl Merge {
     /// A merge that has taken no record. It bridges up to `d` positions between features: with 0
     /// those that overlap or touch become one.
     pub fn new(alloc: Global, d: u64, strand: MergeStrand) -> Merge
-        requires { d ≤ 999999999999 }
+        requires { d ≤ max_number }
         ensures stands { StandsAfter d strand [] result }
         ensures rules { (result.gap ≡ d) × (result.strand ≡ strand) }
     {
@@ -71,23 +73,23 @@ impl Merge {
             strand,
             chrom: Vec::new(alloc),
             run: None,
-            ended: None,
+            failure: None,
         }
     }
 
     // Takes one more record.
-    fn take<K: Sink>(&mut self, bed: &BedRef<'_>, out: &mut Out<K>) -> Result<(), Ended>
+    fn take<K: Sink>(&mut self, bed: &BedRef<'_>, out: &mut Out<K>) -> Result<(), Failure>
         ensures { TakesNext self.old (feature_lent bed.now) out.old result self.new out.new }
     {
         if self.settle(bed, out).is_err() {
-            return Err(Ended::Write);
+            return Err(Failure::Write);
         }
         if !counts(self.strand, bed.strand) {
             return Ok(());
         }
         match self.add(bed) {
             Ok(()) => Ok(()),
-            Err(AllocError) => Err(Ended::Memory),
+            Err(AllocError) => Err(Failure::Memory),
         }
     }
 
@@ -99,7 +101,7 @@ impl Merge {
             return Ok(());
         };
         if has_passed(bed, self.chrom.as_slice(), run, self.gap) {
-            put_bed_line(self.chrom.as_slice(), run.start, run.stop, out)?;
+            put_interval(self.chrom.as_slice(), run.start, run.stop, out)?;
             self.run = None;
         }
         Ok(())
@@ -141,50 +143,54 @@ impl Merge {
 }
 
 impl Engine for Merge {
-    ghost takes = { λ first past. AreTaken past };
+    ghost takes = { may_take };
 
-    ghost settled = { λ first past. interval_lines (settled_runs first.gap first.strand past) };
+    ghost settled = { settled_lines };
 
-    ghost whole = { λ first past. interval_lines (merged_runs first.gap first.strand past) };
+    ghost whole = { whole_output };
 
-    ghost held = { λ first past. length (kept_runs first.gap first.strand past) };
+    ghost held = { held_count };
 
-    ghost stands = { λ first past now. StandsAfter first.gap first.strand past now };
+    ghost stands = { stands_after };
 
-    ghost fault = { λ merge. merge.fault };
+    ghost fault = { kept_fault };
 
-    /// A record that joins the open run, or that isn't merged and leaves that run open, writes nothing
-    /// and takes no memory. What no longer can be joined is written first. `NoMemory` is answered only
-    /// where a run is opened on another chromosome than the last one, whose name has to be kept.
-    fn feed<K: Sink>(&mut self, bed: &BedRef<'_>, out: &mut Out<K>) -> Result<(), Fault> {
-        if let Some(ended) = self.ended {
-            return Err(ended.fault());
+    ghost quiet = { is_quiet };
+
+    /// A record that joins the open run, or that isn't merged and leaves that run open, is taken without
+    /// a fault and writes nothing. What no longer can be joined is written first. `NoMemory` is answered
+    /// only where a run has to be opened.
+    fn feed<K: Sink>(&mut self, bed: &BedRef<'_>, out: &mut Out<K>) -> Result<(), Fault>
+        ensures feeds { Feeds may_take stands_after kept_fault settled_lines self.old
+            (feature_lent bed.now) out.old is_quiet result self.new out.new }
+        ensures memory { IsForRun self.old (feature_lent bed.now) result }
+    {
+        if let Some(failure) = self.failure {
+            return Err(failure.fault());
         }
         match self.take(bed, out) {
             Ok(()) => Ok(()),
-            Err(ended) => {
-                self.ended = Some(ended);
-                Err(ended.fault())
+            Err(failure) => {
+                self.failure = Some(failure);
+                Err(failure.fault())
             }
         }
     }
 
     fn finish<K: Sink>(self, out: &mut Out<K>) -> Result<(), Fault> {
-        if let Some(before) = self.ended {
+        if let Some(before) = self.failure {
             return Err(before.fault());
         }
         match self.run {
             None => Ok(()),
-            Some(run) => put_bed_line(self.chrom.as_slice(), run.start, run.stop, out),
+            Some(run) => put_interval(self.chrom.as_slice(), run.start, run.stop, out),
         }
     }
 
     /// How many runs it keeps: 0 or 1.
     fn kept_len(&self) -> usize
         ensures list { result ≡ length self.now.kept }
-        ensures held { (first : Merging) (past : List Feature)
-            → StandsAfter first.gap first.strand past self.now → AreTaken past
-            → result ≡ length (kept_runs first.gap first.strand past) }
+        ensures held { KeepsHeld may_take stands_after self.now held_count result }
     {
         usize::from(self.run.is_some())
     }
@@ -203,8 +209,8 @@ fn counts(wanted: MergeStrand, strand: Strand) -> bool
 // Whether the record lies on another chromosome than the run, or starts more than the gap past its
 // end.
 fn has_passed(bed: &BedRef<'_>, chrom: &[u8], run: Run, gap: u64) -> bool
-    requires stop_in_range { run.stop ≤ 999999999999 }
-    requires gap_in_range { gap ≤ 999999999999 }
+    requires stop_in_range { run.stop ≤ max_number }
+    requires gap_in_range { gap ≤ max_number }
     ensures { result ≡ is_passed gap (interval_of (feature_lent bed.now)) (run_at chrom.now run) }
 {
     chrom != bed.chrom || run.stop + gap < bed.start

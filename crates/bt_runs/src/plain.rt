@@ -10,13 +10,17 @@ use std::alloc::{AllocError, Global};
 
 /// A stretch of one chromosome. Positions count from zero, and the stop isn't included.
 #[derive(Clone, Copy, Debug, PartialEq, Eq)]
-pub struct Span {
+pub struct PlainSpan {
     pub start: u64,
     pub stop: u64,
 }
 
 /// The merged runs of the spans of one chromosome, which may come in any order.
-pub fn plain_runs(alloc: Global, spans: &[Span], gap: u64) -> Result<Vec<Span>, AllocError>
+pub fn plain_runs(
+    alloc: Global,
+    spans: &[PlainSpan],
+    gap: u64,
+) -> Result<Vec<PlainSpan>, AllocError>
     ensures { IfOk result (λ v. spans_in v.items ≡ runs_of gap (spans_in spans.now)) }
 {
     let end = greatest_stop(spans);
@@ -29,7 +33,7 @@ pub fn plain_runs(alloc: Global, spans: &[Span], gap: u64) -> Result<Vec<Span>, 
     Ok(runs)
 }
 
-fn greatest_stop(spans: &[Span]) -> u64
+fn greatest_stop(spans: &[PlainSpan]) -> u64
     ensures { All (λ s. s.stop ≤ result) spans.now }
 {
     let mut end = 0;
@@ -39,7 +43,7 @@ fn greatest_stop(spans: &[Span]) -> u64
     end
 }
 
-pub(crate) fn is_covered(spans: &[Span], position: u64) -> bool
+pub(crate) fn is_covered(spans: &[PlainSpan], position: u64) -> bool
     ensures { result ≡ list_any (λ s. nat_le s.start position && nat_lt position s.stop) spans.now }
 {
     spans
@@ -48,7 +52,7 @@ pub(crate) fn is_covered(spans: &[Span], position: u64) -> bool
 }
 
 /// Whether a covered position at or past this one is near `left`.
-fn has_right(spans: &[Span], gap: u64, end: u64, left: u64, position: u64) -> bool
+fn has_right(spans: &[PlainSpan], gap: u64, end: u64, left: u64, position: u64) -> bool
     requires past { left < position }
     requires ended { All (λ s. s.stop ≤ end) spans.now }
     ensures { IsTrue result ↔ HasRight gap (spans_in spans.now) left position }
@@ -61,7 +65,7 @@ fn has_right(spans: &[Span], gap: u64, end: u64, left: u64, position: u64) -> bo
     false
 }
 
-fn is_bridged(spans: &[Span], gap: u64, end: u64, position: u64) -> bool
+fn is_bridged(spans: &[PlainSpan], gap: u64, end: u64, position: u64) -> bool
     requires { All (λ s. s.stop ≤ end) spans.now }
     ensures { IsTrue result ↔ Bridged gap (spans_in spans.now) position }
 {
@@ -77,11 +81,11 @@ fn is_bridged(spans: &[Span], gap: u64, end: u64, position: u64) -> bool
 }
 
 /// Adds the position to the last run where that ends there, and else as a run of its own.
-pub(crate) fn add_position(runs: &mut Vec<Span>, position: u64) -> Result<(), AllocError>
+pub(crate) fn add_position(runs: &mut Vec<PlainSpan>, position: u64) -> Result<(), AllocError>
     requires { position + 1 < 2 ^ 64 }
     ensures { OnOk result (spans_in runs.new.items ≡ with_next (spans_in runs.old.items) position) }
 {
-    let mut next = Span {
+    let mut next = PlainSpan {
         start: position,
         stop: position + 1,
     };
@@ -101,8 +105,8 @@ mod tests {
     use super::*;
     use std::test::Fail;
 
-    fn span(start: u64, stop: u64) -> Span {
-        Span { start, stop }
+    fn span(start: u64, stop: u64) -> PlainSpan {
+        PlainSpan { start, stop }
     }
 
     #[test]
@@ -113,7 +117,7 @@ mod tests {
             span(250, 500),
             span(501, 1000),
         ];
-        let cases: [(&str, &[Span], u64, &[Span]); 13] = [
+        let cases: [(&str, &[PlainSpan], u64, &[PlainSpan]); 13] = [
             ("no record", &[], 0, &[]),
             ("one record", &[span(3, 8)], 0, &[span(3, 8)]),
             ("a record without a position", &[span(3, 3)], 5, &[]),

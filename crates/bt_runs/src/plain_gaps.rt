@@ -5,11 +5,15 @@ ghost use Rattle.bt_runs.specs.Gaps.{gaps_of};
 ghost use Rattle.bt_runs.specs.Plain.{spans_in};
 ghost use Rattle.std.specs.Prelude.{◌≡◌, IfOk};
 
-use crate::plain::{Span, add_position, is_covered};
+use crate::plain::{PlainSpan, add_position, is_covered};
 use std::alloc::{AllocError, Global};
 
 /// The gaps between the spans on a chromosome of this length. The spans may come in any order.
-pub fn plain_gaps(alloc: Global, spans: &[Span], length: u64) -> Result<Vec<Span>, AllocError>
+pub fn plain_gaps(
+    alloc: Global,
+    spans: &[PlainSpan],
+    length: u64,
+) -> Result<Vec<PlainSpan>, AllocError>
     ensures { IfOk result (λ v. spans_in v.items ≡ gaps_of length (spans_in spans.now)) }
 {
     let mut gaps = Vec::new(alloc);
@@ -26,13 +30,13 @@ mod tests {
     use super::*;
     use std::test::Fail;
 
-    fn span(start: u64, stop: u64) -> Span {
-        Span { start, stop }
+    fn span(start: u64, stop: u64) -> PlainSpan {
+        PlainSpan { start, stop }
     }
 
     #[test]
     fn small_cases(rt: HostRuntime) -> Result<(), Fail> {
-        let cases: [(&str, &[Span], u64, &[Span]); 9] = [
+        let cases: [(&str, &[PlainSpan], u64, &[PlainSpan]); 9] = [
             ("no record", &[], 9, &[span(0, 9)]),
             ("no base", &[], 0, &[]),
             ("a record", &[span(3, 5)], 9, &[span(0, 3), span(5, 9)]),

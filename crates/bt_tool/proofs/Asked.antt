@@ -1,11 +1,11 @@
 -- What a list of words asks for, from the parts of it that the code finds one after another.
-use Rattle.std.proofs.Common.{◌≡◌, ℕ, ◌+◌, ◌<◌, ◌≤◌, Bool, true, false, List, [], ◌∷◌, length, Option, Some, None, Ok, Err, drop, refl, sym, ap, ◌∙◌, arith, length-drop}
+use Rattle.std.proofs.Common.{◌≡◌, ℕ, ◌+◌, ◌<◌, ◌≤◌, Bool, true, false, List, [], ◌∷◌, length, Option, Some, None, Err, drop, refl, sym, ap, ◌∙◌, arith, length-drop}
 use Rattle.std.specs.Prelude.{IsTrue, is_some, if◌then◌else◌}
 use Rattle.std.proofs.lemmas.Bool.Decides.{nat_tests}
 use Rattle.bt_tool.specs.declared.tool.Tool.{Tool}
 use Rattle.bt_tool.specs.declared.usage.Usage.{Usage}
 use Rattle.bt_tool.specs.Items.{Item, items_of, spelled}
-use Rattle.bt_tool.specs.Options.{PlanSeen, asked, command_of, fault_at, options, plan_of, settled, word_fault}
+use Rattle.bt_tool.specs.Options.{asked, checked, command_of, fault_at, fault_together, options, word_fault}
 use Rattle.bt_tool.specs.Table.{Word, Table, table_of, takes}
 use Rattle.bt_tool.specs.Usage.{IsTellable, names_word, no_command, unknown_option, value_missing, bad_value, required_missing, options_exclusive, input_named_twice}
 
@@ -23,10 +23,10 @@ module _ (words : List Word) where
       → word_fault (table_of command) 1 (drop 1 words) ≡ Some usage → options words ≡ Err usage
   options-fault command usage h g = options-command command h ∙ rw (g, asked) refl
 
-  pub options-settled : (command : Tool) → command_of words ≡ Some command
+  pub options-checked : (command : Tool) → command_of words ≡ Some command
       → word_fault (table_of command) 1 (drop 1 words) ≡ None
-      → options words ≡ settled command (items_of (table_of command) (drop 1 words))
-  options-settled command h g = options-command command h ∙ rw (g, asked) refl
+      → options words ≡ checked command (items_of (table_of command) (drop 1 words))
+  options-checked command h g = options-command command h ∙ rw (g, asked) refl
 
 -- a fault of one word, of which there are so many
 record IsOfWord (usage : Usage) (at count : ℕ) : Type 0 where
@@ -97,29 +97,35 @@ whole-tellable told usage count low high e =
       in_words = λ named. absurd (not_named usage.number above named);
     }
 
-chosen-tellable : (missing exclusive twice : Bool) (plan : PlanSeen) (usage : Usage) (count : ℕ)
-    → (if missing then Err required_missing else (if exclusive then Err options_exclusive else
-    (if twice then Err input_named_twice else Ok plan))) ≡ Err usage
+together-tellable : (missing exclusive twice : Bool) (usage : Usage) (count : ℕ)
+    → (if missing then Some required_missing else (if exclusive then Some options_exclusive else
+    (if twice then Some input_named_twice else None))) ≡ Some usage
     → IsTellable usage count
-chosen-tellable true exclusive twice plan usage count e =
+together-tellable true exclusive twice usage count e =
     whole-tellable required_missing usage count (omega arith) (omega arith) (cc)
-chosen-tellable false true twice plan usage count e =
+together-tellable false true twice usage count e =
     whole-tellable options_exclusive usage count (omega arith) (omega arith) (cc)
-chosen-tellable false false true plan usage count e =
+together-tellable false false true usage count e =
     whole-tellable input_named_twice usage count (omega arith) (omega arith) (cc)
-chosen-tellable false false false plan usage count e = cc
+together-tellable false false false usage count e = cc
 
-settled-tellable : (command : Tool) (items : List Item) (usage : Usage) (count : ℕ)
-    → settled command items ≡ Err usage → IsTellable usage count
-settled-tellable command items usage count e =
-    chosen-tellable _ _ _ (plan_of command items) usage count e
+checked-by : (command : Tool) (items : List Item) (fault : Option Usage) (usage : Usage)
+    → fault_together (table_of command) items ≡ fault → checked command items ≡ Err usage
+    → fault ≡ Some usage
+checked-by command items None usage f e = (let s = rw (f, checked) at e in cc)
+checked-by command items (Some told) usage f e = (let s = rw (f, checked) at e in cc)
+
+checked-tellable : (command : Tool) (items : List Item) (usage : Usage) (count : ℕ)
+    → checked command items ≡ Err usage → IsTellable usage count
+checked-tellable command items usage count e =
+    together-tellable _ _ _ usage count (checked-by command items _ usage refl e)
 
 asked-tellable : (command : Tool) (words : List Word) (fault : Option Usage) (usage : Usage)
     → word_fault (table_of command) 1 words ≡ fault → asked command words ≡ Err usage
     → IsTellable usage (1 + length words)
 asked-tellable command words None usage f e =
     let items = items_of (table_of command) words in
-    settled-tellable command items usage (1 + length words) (rw (f, asked) at e)
+    checked-tellable command items usage (1 + length words) (rw (f, asked) at e)
 asked-tellable command words (Some told) usage f e =
     let same : told ≡ usage = (let s = rw (f, asked) at e in cc) in
     rw (← same) (word_fault-tellable (table_of command) 1 words told f)

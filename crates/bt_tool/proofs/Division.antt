@@ -9,7 +9,7 @@ use Rattle.std.proofs.Math.Seq.{drop-length}
 use Rattle.std.proofs.lemmas.Slice.Eq.{bytes_eq-Decides}
 use Rattle.std.specs.Prelude.{bytes_eq}
 use Rattle.bt_tool.specs.OptionLaws.{AnswerIsUnique, FaultIsOfWhatIsLeft, LastItemCounts, LongestDivisionIsUnique}
-use Rattle.bt_tool.specs.Options.{Answers, AnswersAll, PlanSeen, asked, command_of, fault_at, last_item, options, word_fault}
+use Rattle.bt_tool.specs.Options.{AnswersPlan, AnswersAll, PlanSeen, asked, command_of, fault_at, last_item, options, word_fault}
 use Rattle.bt_tool.specs.Table.{Word, Table, fits, table_of, takes}
 use Rattle.bt_tool.specs.declared.takes.Takes.{Takes}
 use Rattle.bt_tool.specs.declared.tool.Tool.{Tool}
@@ -206,7 +206,7 @@ last_item-counts (first ∷ items) later item h = rw (last_item-counts items lat
 -- the answer by any longest division is the one by the items that are read
 answer-by : (command : Tool) (words : List Word) (answer : Result PlanSeen Usage)
     (fault : Option Usage) → word_fault (table_of command) 1 words ≡ fault
-    → Answers command words answer → answer ≡ asked command words
+    → AnswersPlan command words answer → answer ≡ asked command words
 unfolding word_fault
 answer-by command words answer (Some usage) f a =
     let read = longest-items_of (table_of command) words a.items a.division in
@@ -216,7 +216,7 @@ answer-by command words answer None f a =
     a.all_divided (rw (read) f) ∙ rw (f, asked, read) refl
 
 asked-answers : (command : Tool) (words : List Word)
-    → Answers command words (asked command words)
+    → AnswersPlan command words (asked command words)
 unfolding word_fault
 asked-answers command words = record {
   items = items_of (table_of command) words;
@@ -232,7 +232,7 @@ answer-named words answer None n = rw (n, options) (λ e. e, λ e. e)
 answer-named words answer (Some command) n =
     let rest = drop 1 words in
     let fault = word_fault (table_of command) 1 rest in
-    let By : Result PlanSeen Usage → Type 0 = λ given. Answers command rest given in
+    let By : Result PlanSeen Usage → Type 0 = λ given. AnswersPlan command rest given in
     rw (n, options) (
       answer-by command rest answer fault refl,
       λ e. subst By (sym e) (asked-answers command rest),

@@ -1,66 +1,96 @@
 -- Lemmas on feeding an engine with the records of a reader.
-use Rattle.std.proofs.Common.{◌≡◌, ℕ, ◌<◌, Bool, true, List, [], ◌∷◌, ◌++◌, suc, Option, None, Some, refl, sym, ap, ◌∙◌, subst, append-nil, append_assoc, arith, inl, inr}
-use Rattle.std.specs.Prelude.{◌⊎◌, IfSome, IsTrue, option_map}
-use Rattle.std.proofs.lemmas.List.{map-append}
+use Rattle.std.proofs.Common.{◌≡◌, ℕ, suc, ◌+◌, ◌-◌, ◌^◌, ◌<◌, ◌≤◌, Bool, true, false, List, [], ◌∷◌, ◌++◌, length, take, drop, Option, None, Some, Ok, Err, refl, sym, ap, ◌∙◌, subst, append-nil, append_assoc, length-append, arith, inl, inr}
+use Rattle.std.specs.Prelude.{All, IfSome, IsTrue, option_map}
+use Rattle.std.proofs.lemmas.List.{drop-drop, map-append}
 use Rattle.std.proofs.lemmas.List.Elements.{All-push}
+use Rattle.std.proofs.Math.Seq.{take-append-add}
 use Rattle.std.proofs.KnownBytes.{Appends-nil, Appends-trans}
 use Rattle.std.specs.Io.KnownBytes.{Appends}
 use Rattle.bt_lines.specs.Fault.{Told, write_failed, no_memory, read_failed}
-use Rattle.bt_lines.specs.Output.{Output, HoldsBlock, IsFrontOf, Grows}
-use Rattle.bt_lines.specs.Reader.{source_of, input_of, lines_given}
-use Rattle.bt_bed.specs.Reading.{Hands}
+use Rattle.bt_lines.specs.Lines.{AreNumbered, TextLine, bytes_in, line_feeds, lines_from}
+use Rattle.bt_lines.specs.Output.{Output, HoldsBlock, IsFrontOf, Grows, block_size}
+use Rattle.bt_lines.specs.Putting.{WorksAsBefore, PutsRest, PutsPart, CutsRest}
+use Rattle.bt_lines.specs.Reader.{CutsOff, Hands, IsSound, source_of, input_of, bytes_taken, end_told, fault_kept as line_fault, lines_given, lines_left}
+use Rattle.bt_lines.specs.declared.fault.Input.{Input}
+use Rattle.bt_lines.specs.declared.line_reader.LineReader.{LineReader}
+use Rattle.bt_lines.proofs.ReaderLemmas.{hands_none, hands_both}
+use Rattle.bt_lines.proofs.TextLemmas.{line_feeds-append, lines_are_numbered}
 use Rattle.bt_bed.specs.Feature.{Feature, interval_of, intervals_of}
-use Rattle.bt_bed.specs.Good.{Good, place_at}
+use Rattle.bt_bed.specs.Cursor.{view_with}
+use Rattle.bt_lines.specs.Names.{told}
+use Rattle.bt_bed.specs.Good.{Format, Good, Member, ends_with, good_from, or_else, with_member}
+use Rattle.bt_bed.specs.GoodBed.{bed_format, locus_at}
+use Rattle.bt_bed.specs.Sorting.{sorting_of}
+use Rattle.bt_bed.proofs.NeighbourLemmas.{says_of_line}
+use Rattle.bt_bed.specs.GoodLines.{IsBeyond}
 use Rattle.bt_bed.specs.LineKind.{fault_at_line}
 use Rattle.bt_bed.specs.Interval.{Interval, AreNonEmpty, last_of}
 use Rattle.bt_bed.specs.Order.{Order}
-use Rattle.bt_bed.specs.Place.{Place, place_of, IsUpTo, ArePlaced}
-use Rattle.bt_bed.specs.Records.{GivesRecord, GivesEnd, GivesFault, Stays, Advances, Remains, Cause as PeekCause, ends_with, with_record, below, order_in, last_place, fault_kept, good_left}
+use Rattle.bt_bed.specs.Locus.{Locus, locus_of, IsUpTo, ArePlaced}
+use Rattle.bt_bed.specs.Reading.{AnswersFault, EndsMembers, Remains, Cause as PeekCause, good_coming}
+use Rattle.bt_bed.specs.Records.{GivesRecord, PassesRecord, below, order_in, last_locus, fault_kept, view_of}
 use Rattle.bt_bed.specs.declared.order.ChromOrder.{Ghosts}
 use Rattle.bt_bed.specs.declared.records.Records.{Records}
-use Rattle.bt_bed.proofs.HandsLemmas.{hands_none, hands_both}
+use Rattle.bt_bed.proofs.GoodLemmas.{first_from}
 use Rattle.bt_bed.proofs.TogetherLemmas.{last_of-push, grows_placed}
-use Rattle.bt_runs.specs.Putting.{WorksAsBefore}
-use Rattle.bt_tool.specs.Feeding.{Cause, ComeFirst, PutsLines, Took, FeedsAll, FeedsUpTo}
+use Rattle.bt_tool.proofs.StopLemmas.{StopsBehind, coming_is, stops_ended, stops_faulty, stops_given}
+use Rattle.bt_lines.specs.declared.fault.Fault.{Fault}
+use Rattle.bt_runs.specs.Engine.{Feeds as EngineFeeds, NotTaken}
+use Rattle.bt_tool.specs.Feeding.{StopCause, ComeFirst, IsFresh, KeepsNear, PutsLines, Took, TookButBlock, FeedsAll, FeedsUpTo, member_items}
 
--- the first record of what is to come was passed
-come_more : (old now peeked next : Option Good) (past : List Feature) (r : Feature) → ComeFirst old past now → Remains now peeked → IfSome now (λ good. (rest : List Feature) × (good.records ≡ r ∷ rest))
-    → option_map (with_record r) next ≡ peeked → ComeFirst old (past ++ r ∷ []) next
-come_more None now peeked next past r c m f a = tt
-come_more (Some o) None peeked next past r c m f a = absurd c
-come_more (Some o) (Some n) None next past r c m f a = absurd m
-come_more (Some o) (Some n) (Some p) None past r c m f a = cc
-come_more (Some o) (Some n) (Some p) (Some x) past r c m f a =
-    let same : with_record r x ≡ p = cc in
-    let is : with_record r x ≡ n = same ∙ m in
-    (c.0 ∙ ap (λ (g : Good). past ++ g.records) (sym is) ∙ sym (append_assoc past (r ∷ []) x.records), c.1 ∙ ap (λ (g : Good). g.fault) (sym is))
+-- the first member of what is to come was passed
+pub come_more : {A : Type 0} (old now peeked next : Option (Good A)) (past : List (Member A)) (m : Member A)
+    → ComeFirst old past now → Remains now peeked
+    → IfSome now (λ good. (rest : List (Member A)) × (good.members ≡ m ∷ rest))
+    → option_map (with_member m) next ≡ peeked → ComeFirst old (past ++ m ∷ []) next
+come_more None now peeked next past m c r f a = tt
+come_more (Some o) None peeked next past m c r f a = absurd c
+come_more (Some o) (Some n) None next past m c r f a = absurd r
+come_more (Some o) (Some n) (Some p) None past m c r f a = cc
+come_more (Some o) (Some n) (Some p) (Some x) past m c r f a =
+    let same : with_member m x ≡ p = cc in
+    let is : with_member m x ≡ n = same ∙ r in
+    (c.0 ∙ ap (λ g. past ++ g.members) (sym is) ∙ sym (append_assoc past (m ∷ []) x.members), c.1 ∙ ap (λ g. g.fault) (sym is))
 
-come_none : (good : Option Good) → ComeFirst good [] good
+pub come_none : {A : Type 0} (good : Option (Good A)) → ComeFirst good [] good
 come_none None = tt
 come_none (Some good) = (refl, refl)
 
 -- nothing is to come but a fault, if there is one
-whole_with : (old now : Option Good) (past : List Feature) (fault : Option Told) → ComeFirst old past now → IfSome now (λ good. good ≡ ends_with fault)
-    → IfSome old (λ good. (good.records ≡ past) × (good.fault ≡ fault))
+pub whole_with : {A : Type 0} (old now : Option (Good A)) (past : List (Member A)) (fault : Option Told) → ComeFirst old past now
+    → IfSome now (λ good. good ≡ ends_with fault)
+    → IfSome old (λ good. (good.members ≡ past) × (good.fault ≡ fault))
 whole_with None now past fault c e = tt
 whole_with (Some o) None past fault c e = absurd c
 whole_with (Some o) (Some n) past fault c e =
-    (c.0 ∙ ap (λ (g : Good). past ++ g.records) e ∙ append-nil past, c.1 ∙ ap (λ (g : Good). g.fault) e)
+    (c.0 ∙ ap (λ g. past ++ g.members) e ∙ append-nil past, c.1 ∙ ap (λ g. g.fault) e)
 
--- the records that were taken begin those that were to come
-begins_with : (old now : Option Good) (past : List Feature) → ComeFirst old past now → IfSome old (λ good. (rest : List Feature) × (good.records ≡ past ++ rest))
+-- the members that were taken begin those that were to come
+pub begins_with : {A : Type 0} (old now : Option (Good A)) (past : List (Member A)) → ComeFirst old past now
+    → IfSome old (λ good. (rest : List (Member A)) × (good.members ≡ past ++ rest))
 begins_with None now past c = tt
 begins_with (Some o) None past c = absurd c
-begins_with (Some o) (Some n) past c = (n.records, c.0)
+begins_with (Some o) (Some n) past c = (n.members, c.0)
 
-begins_more : (old now : Option Good) (past : List Feature) (r : Feature) → ComeFirst old past now → IfSome now (λ good. (rest : List Feature) × (good.records ≡ r ∷ rest))
-    → IfSome old (λ good. (rest : List Feature) × (good.records ≡ (past ++ r ∷ []) ++ rest))
-begins_more None now past r c f = tt
-begins_more (Some o) None past r c f = absurd c
-begins_more (Some o) (Some n) past r c f = (f.0, c.0 ∙ ap (λ l. past ++ l) f.1 ∙ sym (append_assoc past (r ∷ []) f.0))
+pub begins_more : {A : Type 0} (old now : Option (Good A)) (past : List (Member A)) (m : Member A) → ComeFirst old past now
+    → IfSome now (λ good. (rest : List (Member A)) × (good.members ≡ m ∷ rest))
+    → IfSome old (λ good. (rest : List (Member A)) × (good.members ≡ (past ++ m ∷ []) ++ rest))
+begins_more None now past m c f = tt
+begins_more (Some o) None past m c f = absurd c
+begins_more (Some o) (Some n) past m c f = (f.0, c.0 ∙ ap (λ l. past ++ l) f.1 ∙ sym (append_assoc past (m ∷ []) f.0))
+
+-- and those that are still to come lie behind so many lines
+pub begins_beyond : {A : Type 0} (old now : Option (Good A)) (past : List (Member A)) (count : ℕ) → ComeFirst old past now
+    → IfSome now (IsBeyond count)
+    → IfSome old (λ good. (rest : List (Member A)) × (good.members ≡ past ++ rest)
+    × IsBeyond count (record { members = rest; fault = good.fault }))
+begins_beyond None now past count c b = tt
+begins_beyond (Some o) None past count c b = absurd c
+begins_beyond (Some o) (Some n) past count c b =
+    (n.members, c.0, subst (λ fault. IsBeyond count (record { members = n.members; fault = fault })) (sym c.1) b)
 
 -- what is asked of the last place is asked of the last record's
-last_up_to : (last : Option Interval) (P : Place → Type 0) → IfSome (option_map place_of last) P → IfSome last (λ r. P (place_of r))
+pub last_up_to : (last : Option Interval) (P : Locus → Type 0) → IfSome (option_map locus_of last) P → IfSome last (λ r. P (locus_of r))
 last_up_to None P h = tt
 last_up_to (Some r) P h = h
 
@@ -74,7 +104,7 @@ front_all (Some took) put before done lines whole e p f =
 pub grows_both : (old mid new : Option (List ℕ)) → Grows old mid → Grows mid new → Grows old new
 grows_both old mid new h more = (h.0 ++ more.0, Appends-trans old mid new h.0 more.0 h.1 more.1)
 
-works_both : (old mid new : Output) → WorksAsBefore old mid → WorksAsBefore mid new → WorksAsBefore old new
+pub works_both : (old mid new : Output) → WorksAsBefore old mid → WorksAsBefore mid new → WorksAsBefore old new
 works_both old mid new w more = record {
   served = more.served ∙ w.served;
   sink_served = more.sink_served ∙ w.sink_served;
@@ -90,210 +120,421 @@ text_grows (Some old) (Some new) before done lines whole w p e =
     let was : old ≡ before ++ done = cc in
     ap (λ l. Some l) (p ∙ ap (λ l. l ++ lines) was ∙ append_assoc before done lines ∙ ap (λ l. before ++ l) (sym w))
 
-module _ {S O : Type 0} {ghosts : Ghosts O} (settled : List Feature → List ℕ) (Stands : List Feature → Type 0) (left : S → Option (List ℕ)) (failed : S → Bool) where
+-- of what was put, the sink took all but a block
+took_held : (took put : Option (List ℕ)) (bytes : List ℕ) → HoldsBlock took put → put ≡ Some bytes
+    → IfSome took (λ taken. length bytes ≤ length taken + block_size)
+took_held None put bytes h e = tt
+took_held (Some taken) None bytes h e = cc
+took_held (Some taken) (Some put) bytes h e =
+    let same : put ≡ bytes = cc in
+    let parts : put ≡ taken ++ h.0 = h.1 in
+    omega (arith, ap length same, ap length parts, length-append taken h.0, h.2)
+
+took_more_than : (first took more : Option (List ℕ)) (taken : List ℕ) (size : ℕ) → first ≡ Some taken → Grows first took → Grows took more
+    → IfSome took (λ now. size ≤ length now + block_size) → IfSome more (λ now. size ≤ length now + block_size)
+took_more_than None took more taken size e f g h = cc
+took_more_than (Some first) None more taken size e f g h = absurd f.1
+took_more_than (Some first) (Some took) None taken size e f g h = absurd g.1
+took_more_than (Some first) (Some took) (Some more) taken size e f g h =
+    let parts : more ≡ took ++ g.0 = g.1 in
+    omega (arith, ap length parts, length-append took g.0, h)
+
+-- what the sink took stays taken
+pub took_later : (out grown later : Output) (bytes : List ℕ) → Grows out.took grown.took → Grows grown.took later.took → TookButBlock out bytes grown
+    → TookButBlock out bytes later
+took_later out grown later bytes f g h before taken e t =
+    took_more_than out.took grown.took later.took taken (length (before ++ bytes)) t f g (h before taken e t)
+
+-- of lines that were put, the sink took all but a block
+pub took_lines : (out grown : Output) (lines : List ℕ) → PutsLines out lines grown → HoldsBlock grown.took grown.put
+    → TookButBlock out lines grown
+took_lines out grown lines puts block before taken e t = took_held grown.took grown.put (before ++ lines) block (puts before e)
+
+-- the lines that are left after some calls, and after one more
+pub lines_on : (start now next : Option (List TextLine)) (given more : ℕ) → given ≤ more
+    → IfSome start (λ lines. now ≡ Some (drop given lines)) → IfSome now (λ lines. next ≡ Some (drop (more - given) lines))
+    → IfSome start (λ lines. next ≡ Some (drop more lines))
+lines_on None now next given more h e f = tt
+lines_on (Some start) None next given more h e f = cc
+lines_on (Some start) (Some now) next given more h e f =
+    let is : now ≡ drop given start = cc in
+    let size : given + (more - given) ≡ more = omega arith in
+    f ∙ ap (λ l. Some (drop (more - given) l)) is ∙ ap Some (drop-drop (more - given) given start ∙ ap (λ n. drop n start) size)
+
+pub near_from_start : (start now : Option (List TextLine)) (rest : Option (List ℕ)) (given count : ℕ) → given ≤ count
+    → IfSome start (λ lines. now ≡ Some (drop given lines))
+    → IfSome now (λ lines. IfSome rest (λ rest. bytes_in (drop (suc count - given) lines) ≤ length rest + block_size))
+    → IfSome start (λ lines. IfSome rest (λ rest. bytes_in (drop (suc count) lines) ≤ length rest + block_size))
+near_from_start None now rest given count h e n = tt
+near_from_start (Some start) None rest given count h e n = cc
+near_from_start (Some start) (Some now) rest given count h e n =
+    let is : now ≡ drop given start = cc in
+    let size : given + (suc count - given) ≡ suc count = omega arith in
+    let both : drop (suc count - given) (drop given start) ≡ drop (suc count) start =
+    drop-drop (suc count - given) given start ∙ ap (λ n. drop n start) size in
+    subst (λ lines. IfSome rest (λ rest. bytes_in lines ≤ length rest + block_size))
+    (ap (λ lines. drop (suc count - given) lines) is ∙ both) n
+
+-- line feeds among the bytes below the bound, of two pieces of which the first is below it
+feeds_below : (bound : ℕ) (front back : List ℕ) → length front ≤ bound
+    → line_feeds (take bound (front ++ back)) ≡ line_feeds front + line_feeds (take (bound - length front) back)
+feeds_below bound front back h =
+    let size : bound ≡ length front + (bound - length front) = omega arith in
+    ap (λ n. line_feeds (take n (front ++ back))) size
+    ∙ ap line_feeds (take-append-add front back (bound - length front))
+    ∙ line_feeds-append front (take (bound - length front) back)
+
+-- the piece that was cut off, in two calls
+pub cuts_both : {S : Type 0} (left : S → Option (List ℕ)) (old now new : LineReader S) (first : List ℕ) → Hands left old first now
+    → end_told now ≡ false → bytes_taken now < 2 ^ 63 → CutsOff left now new → CutsOff left old new
+cuts_both left old now new first hands told within cut =
+    let counted = hands.counted in
+    let fed = hands.fed told within in
+    let below = feeds_below (2 ^ 63 - 1 - bytes_taken old) first cut.bytes (omega arith) in
+    let left_over : 2 ^ 63 - 1 - bytes_taken old - length first ≡ 2 ^ 63 - 1 - bytes_taken now = omega arith in
+    let rest = ap (λ n. line_feeds (take n cut.bytes)) left_over in
+    record {
+      bytes = first ++ cut.bytes;
+      hands = hands_both left old now new first cut.bytes hands cut.hands;
+      given = omega (arith, cut.given, fed, below, rest);
+    }
+
+or_none : (a b : Option Told) → or_else a b ≡ None → b ≡ None
+or_none None b e = e
+or_none (Some a) b e = cc
+
+-- a reader of records without a fault has a reader of lines without one
+pub line_going : {S O : Type 0} {ghosts : Ghosts O} (records : Records S O ghosts) → fault_kept records ≡ None → line_fault (below records) ≡ None
+unfolding view_of view_with
+line_going records e = or_none (option_map told records.cursor.fault) (line_fault records.cursor.reader) e
+
+module _ {S O : Type 0} {ghosts : Ghosts O} (settled : List Feature → List ℕ) (Stands : List Feature → Type 0) (left : S → Option (List ℕ)) (failed : S → Bool) (end : S → Bool) where
   -- the records so far were taken
   pub record Going (old : Records S O ghosts) (out : Output) (now : Records S O ghosts) (grown : Output) : Type 0 where
-    pub past : List Feature
-    pub took : Took settled left failed old out past now grown
-    pub come : ComeFirst (good_left left old) past (good_left left now)
-    pub stands : Stands past
-    pub last : last_place now ≡ option_map place_of (last_of (intervals_of past))
+    pub past : List (Member Feature)
+    pub order : order_in now ≡ order_in old
+    pub format : (view_of now).format ≡ (view_of old).format
+    pub bytes : (bytes : List ℕ) × Hands left (below old) bytes (below now)
+    pub placed : ArePlaced (order_in old) (intervals_of (member_items past))
+    pub full : AreNonEmpty (intervals_of (member_items past))
+    pub grows : Grows out.took grown.took
+    pub come : ComeFirst (good_coming left (view_of old)) past (good_coming left (view_of now))
+    pub behind : All (λ m. m.line ≤ lines_given (below now)) past
+    pub lines : IfSome (lines_left left (below old)) (λ lines. lines_left left (below now) ≡ Some (drop (lines_given (below now)) lines))
+    pub stands : Stands (member_items past)
+    pub last : last_locus now ≡ option_map locus_of (last_of (intervals_of (member_items past)))
     pub going : fault_kept now ≡ None
-    pub puts : PutsLines out (settled past) grown
+    pub none_ahead : (view_of now).ahead ≡ None
+    pub sound : IsSound left end (below now)
+    pub puts : PutsLines out (settled (member_items past)) grown
     pub works : WorksAsBefore out grown
     pub block : HoldsBlock grown.took grown.put
     pub served : failed (source_of (below now)) ≡ failed (source_of (below old))
-    pub same_input : input_of (below now) ≡ input_of (below old)
 
-module _ {S O : Type 0} {ghosts : Ghosts O} (settled : List Feature → List ℕ) (Stands : List Feature → Type 0) (left : S → Option (List ℕ)) (failed : S → Bool) (old : Records S O ghosts) (out : Output) (now : Records S O ghosts) (grown : Output) (g : Going settled Stands left failed old out now grown)
-    (peeked : Records S O ghosts) (r : Feature) (gives : GivesRecord left failed now r peeked) where
-  pushed : intervals_of (g.past ++ r ∷ []) ≡ intervals_of g.past ++ interval_of r ∷ []
-  pushed = map-append interval_of g.past (r ∷ [])
+pub numbered_lines : {S : Type 0} (left : S → Option (List ℕ)) (reader : LineReader S) (bytes : Option (List ℕ)) → lines_given reader ≡ 0
+    → IfSome (option_map (lines_from (suc (lines_given reader))) bytes) (AreNumbered 1)
+numbered_lines left reader None e = tt
+numbered_lines left reader (Some bytes) e =
+    subst (λ n. AreNumbered (suc n) (lines_from (suc (lines_given reader)) bytes)) e (lines_are_numbered (suc (lines_given reader)) bytes)
 
-  -- the records so far and the next one
-  pub placed_more : ArePlaced (order_in old) (intervals_of (g.past ++ r ∷ []))
-  placed_more =
-      rw pushed (grows_placed (order_in old) (intervals_of g.past) (interval_of r) g.took.placed (subst (λ (order : Order). IsTrue (order.knows r.chrom)) g.took.order gives.known)
-      (last_up_to (last_of (intervals_of g.past)) (λ last. IsUpTo (order_in old) last (place_at r)) (subst (λ last. IfSome last (λ last. IsUpTo (order_in old) last (place_at r))) g.last (subst (λ (order : Order). IfSome (last_place now) (λ last. IsUpTo order last (place_at r))) g.took.order gives.in_order))))
+-- the members of the first lines, where the others stand behind them
+pub first_members : {A State : Type 0} (format : Format A State) (input : Input) (state : State) (lines : Option (List TextLine)) (good now : Option (Good A)) (past : List (Member A)) (count : ℕ)
+    → good ≡ option_map (good_from format input state) lines → IfSome lines (AreNumbered 1) → ComeFirst good past now → IfSome now (IsBeyond count)
+    → All (λ m. m.line ≤ count) past
+    → IfSome lines (λ lines. (good_from format input state (take count lines)).members ≡ past)
+first_members format input state None good now past count is n c b up = tt
+first_members format input state (Some lines) None now past count is n c b up = cc
+first_members format input state (Some lines) (Some good) None past count is n c b up = absurd c
+first_members format input state (Some lines) (Some good) (Some now) past count is n c b up =
+    let same : good ≡ good_from format input state lines = cc in
+    ap (λ g. g.members) (first_from format input count count 1 state lines past now.members now.fault (omega arith) n
+    (sym (ap (λ g. g.members) same) ∙ c.0) (sym (ap (λ g. g.fault) same) ∙ c.1) up b)
 
-  pub full_more : AreNonEmpty (intervals_of (g.past ++ r ∷ []))
-  full_more = rw pushed (All-push (λ r. r.start < r.stop) (intervals_of g.past) (interval_of r) g.took.full gives.feature.non_empty)
+settles_by : {A State : Type 0} (format : Format A State) (input : Input) (state : State) (settled : List A → List ℕ) (lines : Option (List TextLine)) (past : List (Member A)) (count : ℕ) (out grown : Output)
+    → IfSome lines (λ lines. (good_from format input state (take count lines)).members ≡ past)
+    → TookButBlock out (settled (member_items past)) grown
+    → IfSome lines (λ lines. TookButBlock out (settled (member_items (good_from format input state (take count lines)).members)) grown)
+settles_by format input state settled None past count out grown e t = tt
+settles_by format input state settled (Some lines) past count out grown e t =
+    subst (λ ms. TookButBlock out (settled (member_items ms)) grown) (sym e) t
 
-  -- what feed does with it, where it fails too
-  took_more : (grown_more : Output) → Grows grown.took grown_more.took → Took settled left failed old out (g.past ++ r ∷ []) peeked grown_more
-  took_more grown_more grows = record {
-    order = gives.stays.order ∙ g.took.order;
-    bytes = hands_both left (below old) (below now) (below peeked) g.took.bytes gives.stays.bytes;
-    placed = placed_more;
-    full = full_more;
-    grows = grows_both out.took grown.took grown_more.took g.took.grows grows;
+pub none_passed : (lines : Option (List TextLine)) (given : ℕ) → given ≡ 0 → IfSome lines (λ l. lines ≡ Some (drop given l))
+none_passed None given e = tt
+none_passed (Some lines) given e = ap Some (ap (λ n. drop n lines) (sym e))
+
+pub up_to : {A : Type 0} (less more : ℕ) (past : List (Member A)) → less ≤ more → All (λ m. m.line ≤ less) past → All (λ m. m.line ≤ more) past
+up_to less more past h up k d i = omega (arith, up k d i)
+
+module _ {S O : Type 0} {ghosts : Ghosts O} (settled : List Feature → List ℕ) (Stands : List Feature → Type 0) (left : S → Option (List ℕ)) (failed : S → Bool) (end : S → Bool) (old : Records S O ghosts) (out : Output) (now : Records S O ghosts) (grown : Output)
+    (fresh : IsFresh left end (view_of old)) (is_bed : (view_of old).format ≡ bed_format (sorting_of (order_in old))) (g : Going settled Stands left failed end old out now grown) where
+  -- how far the input was read where the reading stops
+  pub near_at : (new : LineReader S) (later : Output) → (count : ℕ) × StopsBehind left (view_of now) count new → Grows grown.took later.took
+      → KeepsNear left settled (view_of old) out new later
+  near_at new later (count, stops) grows =
+      let v = view_of old in
+      let lines = lines_left left (below old) in
+      let members = first_members v.format (input_of v.below) v.state lines (good_coming left v) (good_coming left (view_of now)) g.past count
+      (coming_is left v fresh.none_ahead fresh.going) (numbered_lines left (below old) _ fresh.none_given.0) g.come stops.passed
+      (up_to (lines_given (below now)) count g.past stops.from g.behind) in
+      record {
+        count = count;
+        near = near_from_start lines (lines_left left (below now)) (left (source_of new)) (lines_given (below now)) count stops.from g.lines stops.near;
+        settles = settles_by v.format (input_of v.below) v.state settled lines g.past count out later members
+            (took_later out grown later (settled (member_items g.past)) g.grows grows (took_lines out grown (settled (member_items g.past)) g.puts g.block));
+      }
+
+  taken_more : (new : Records S O ghosts) → order_in new ≡ order_in now → (bytes : List ℕ) × Hands left (below now) bytes (below new)
+      → (past : List (Member Feature)) → ArePlaced (order_in old) (intervals_of (member_items past)) → AreNonEmpty (intervals_of (member_items past))
+      → (later : Output) → Grows grown.took later.took → KeepsNear left settled (view_of old) out (below new) later
+      → Took settled left failed old out past new later
+  taken_more new order hands past placed full later grows near = record {
+    order = order ∙ g.order;
+    bytes = (g.bytes.0 ++ hands.0, hands_both left (below old) (below now) (below new) g.bytes.0 hands.0 g.bytes.1 hands.1);
+    placed = placed;
+    full = full;
+    grows = grows_both out.took grown.took later.took g.grows grows;
+    near = near;
   }
 
-  -- the lines that were put, behind those of the records so far
-  puts_more : (grown_more : Output) (lines : List ℕ) → settled (g.past ++ r ∷ []) ≡ settled g.past ++ lines → Appends grown.put grown_more.put lines → PutsLines out (settled (g.past ++ r ∷ [])) grown_more
-  puts_more grown_more lines is appends before e = text_grows grown.put grown_more.put before (settled g.past) lines (settled (g.past ++ r ∷ [])) is appends (g.puts before e)
+  none_more : Grows grown.took grown.took
+  none_more = ([], Appends-nil grown.took)
 
-  last_more : (next : Records S O ghosts) → Advances left peeked next → last_place next ≡ option_map place_of (last_of (intervals_of (g.past ++ r ∷ [])))
-  last_more next advances =
-      advances.last ∙ ap (option_map place_at) gives.ahead ∙ ap (option_map place_of) (sym (last_of-push (intervals_of g.past) (interval_of r))) ∙ ap (λ l. option_map place_of (last_of l)) (sym pushed)
+  -- after the last record
+  pub feeds_all : (new : Records S O ghosts) → order_in new ≡ order_in now → IsSound left end (below new)
+      → EndsMembers left failed (view_of now) (view_of new) → FeedsAll settled left failed Stands old out new grown
+  feeds_all new order sound ends = record {
+    past = g.past;
+    took = taken_more new order ends.stays.bytes g.past g.placed g.full grown none_more
+        (near_at (below new) grown (stops_ended left failed end (view_of now) g.none_ahead g.going g.sound (view_of new) ends ends.rises) none_more);
+    whole = whole_with (good_coming left (view_of old)) (good_coming left (view_of now)) g.past None g.come ends.none_left;
+    stands = g.stands;
+    puts = g.puts;
+    works = g.works;
+    served = ends.served ∙ g.served;
+    within = sound.within (line_going new ends.goes);
+  }
 
-  pub come_next : (next : Records S O ghosts) → Advances left peeked next → ComeFirst (good_left left old) (g.past ++ r ∷ []) (good_left left next)
-  come_next next advances = come_more (good_left left old) (good_left left now) (good_left left peeked) (good_left left next) g.past r g.come gives.good gives.first (advances.good r gives.ahead)
+  same_input : input_of (below now) ≡ input_of (below old)
+  same_input = g.bytes.1.same_input
 
-module _ {S O : Type 0} {ghosts : Ghosts O} (settled : List Feature → List ℕ) (Stands Next : List Feature → Type 0) (left : S → Option (List ℕ)) (failed : S → Bool) (old : Records S O ghosts) (out : Output) (now : Records S O ghosts) (grown : Output) (g : Going settled Stands left failed old out now grown)
-    (peeked : Records S O ghosts) (r : Feature) (gives : GivesRecord left failed now r peeked) where
-  pub going_more : (next : Records S O ghosts) (grown_more : Output) → Advances left peeked next → Next (g.past ++ r ∷ [])
-      → (lines : List ℕ) × (settled (g.past ++ r ∷ []) ≡ settled g.past ++ lines) × Appends grown.put grown_more.put lines
-      → WorksAsBefore grown grown_more → Grows grown.took grown_more.took → Going settled Next left failed old out next grown_more
-  going_more next grown_more advances stands writes works grows =
-      let taken = took_more settled Stands left failed old out now grown g peeked r gives grown_more grows in
-      record {
-        past = g.past ++ r ∷ [];
-        took = record {
-          order = advances.order ∙ taken.order;
-          bytes = subst (λ reader. Hands left (below old) reader) (sym advances.reads_nothing) taken.bytes;
+  cause_of : (new : Records S O ghosts) (fault : Told) → IsSound left end (below new) → AnswersFault left failed end (view_of now) fault (view_of new)
+      → PeekCause left failed end (view_of now) fault (view_of new) → StopCause settled left failed old out g.past fault new grown
+  cause_of new fault sound answers (inl at) = inl (inl (record {
+    whole = whole_with (good_coming left (view_of old)) (good_coming left (view_of now)) g.past (Some fault) g.come at.none_left;
+    line = lines_given (below new);
+    kind = at.kind;
+    is = at.place ∙ ap (λ input. fault_at_line input (lines_given (below new)) at.kind) same_input;
+    of_bed = says_of_line (sorting_of (order_in old)) (view_of now).state at.line.text at.kind (ap (λ f. f.says (view_of now).state at.line) (sym (g.format ∙ is_bed)) ∙ at.says);
+    puts = g.puts;
+    works = g.works;
+    served = at.served ∙ g.served;
+    within = sound.within at.going;
+  }))
+  cause_of new fault sound answers (inr (inl unread)) = inl (inr (record {
+    is = unread.fails.is ∙ ap (λ input. read_failed input (suc (lines_given (below new)))) same_input;
+    cause = unread.fails.cause;
+    cut = cuts_both left (below old) (below now) (below new) g.bytes.0 g.bytes.1 unread.fails.before_end (g.sound.within (line_going now g.going)) (unread.fails.cut g.sound);
+    members = begins_beyond (good_coming left (view_of old)) (good_coming left (view_of now)) g.past (lines_given (below new)) g.come unread.passed;
+    behind = up_to (lines_given (below now)) (lines_given (below new)) g.past answers.rises g.behind;
+    puts = g.puts;
+    works = g.works;
+  }))
+  cause_of new fault sound answers (inr (inr ran)) = inr (inl (record {
+    is = ran.is;
+    puts = record { front = settled (member_items g.past); rest = []; parts = sym (append-nil (settled (member_items g.past))); puts = g.puts };
+    works = g.works;
+    served = ran.served ∙ g.served;
+  }))
+
+  -- the reader told a fault
+  pub stops_reading : (new : Records S O ghosts) (fault : Told) → order_in new ≡ order_in now → IsSound left end (below new)
+      → AnswersFault left failed end (view_of now) fault (view_of new) → FeedsUpTo settled left failed old out fault new grown
+  stops_reading new fault order sound answers = record {
+    past = g.past;
+    took = taken_more new order answers.stays.bytes g.past g.placed g.full grown none_more
+        (near_at (below new) grown (stops_faulty left failed end (view_of now) g.none_ahead g.going g.sound (view_of new) fault answers sound) none_more);
+    begins = begins_with (good_coming left (view_of old)) (good_coming left (view_of now)) g.past g.come;
+    cause = cause_of new fault sound answers (answers.first g.going);
+  }
+
+  -- a record is ahead
+  module _ (peeked : Records S O ghosts) (r : Feature) (order : order_in peeked ≡ order_in now) (sound : IsSound left end (below peeked)) (gives : GivesRecord left failed now r peeked) where
+    abbrev next_member : Member Feature
+    next_member = record { line = gives.line; item = r }
+
+    abbrev with_next : List (Member Feature)
+    with_next = g.past ++ next_member ∷ []
+
+    items_more : member_items with_next ≡ member_items g.past ++ r ∷ []
+    items_more = map-append (λ m. m.item) g.past (next_member ∷ [])
+
+    pushed : intervals_of (member_items with_next) ≡ intervals_of (member_items g.past) ++ interval_of r ∷ []
+    pushed = ap intervals_of items_more ∙ map-append interval_of (member_items g.past) (r ∷ [])
+
+    -- the records so far and the next one
+    pub placed_more : ArePlaced (order_in old) (intervals_of (member_items with_next))
+    placed_more =
+        rw pushed (grows_placed (order_in old) (intervals_of (member_items g.past)) (interval_of r) g.placed (subst (λ (order : Order). IsTrue (order.knows r.chrom)) g.order gives.known)
+        (last_up_to (last_of (intervals_of (member_items g.past))) (λ last. IsUpTo (order_in old) last (locus_at r)) (subst (λ last. IfSome last (λ last. IsUpTo (order_in old) last (locus_at r))) g.last (subst (λ (order : Order). IfSome (last_locus now) (λ last. IsUpTo order last (locus_at r))) g.order gives.in_order))))
+
+    pub full_more : AreNonEmpty (intervals_of (member_items with_next))
+    full_more = rw pushed (All-push (λ r. r.start < r.stop) (intervals_of (member_items g.past)) (interval_of r) g.full gives.feature.non_empty)
+
+    -- the same, of the records alone
+    pub placed_items : ArePlaced (order_in old) (intervals_of (member_items g.past ++ r ∷ []))
+    placed_items = subst (λ rs. ArePlaced (order_in old) (intervals_of rs)) items_more placed_more
+
+    pub full_items : AreNonEmpty (intervals_of (member_items g.past ++ r ∷ []))
+    full_items = subst (λ rs. AreNonEmpty (intervals_of rs)) items_more full_more
+
+    took_more : (later : Output) → Grows grown.took later.took → Took settled left failed old out with_next peeked later
+    took_more later grows =
+        taken_more peeked order gives.read.stays.bytes with_next placed_more full_more later grows
+        (near_at (below peeked) later (stops_given left failed end (view_of now) g.none_ahead g.going g.sound next_member (view_of peeked) gives.read sound
+        (line_going peeked (gives.read.goes ∙ g.going))) grows)
+
+    begins : IfSome (good_coming left (view_of old)) (λ good. (rest : List (Member Feature)) × (good.members ≡ with_next ++ rest))
+    begins = begins_more (good_coming left (view_of old)) (good_coming left (view_of now)) g.past next_member g.come gives.read.first
+
+    served_more : failed (source_of (below peeked)) ≡ failed (source_of (below old))
+    served_more = gives.read.served ∙ g.served
+
+    -- the lines that are settled with it, put behind those of the records so far
+    abbrev settled_next : List ℕ
+    settled_next = settled (member_items with_next)
+
+    goes_on : (bytes : List ℕ) → settled (member_items g.past ++ r ∷ []) ≡ settled (member_items g.past) ++ bytes → settled_next ≡ settled (member_items g.past) ++ bytes
+    goes_on bytes e = ap settled items_more ∙ e
+
+    -- the engine failed to write
+    pub stops_writing : (fault : Told) (later : Output) → fault ≡ write_failed
+        → CutsRest (settled (member_items g.past)) (settled (member_items g.past ++ r ∷ [])) grown later
+        → later.has_failed ≡ true → later.sink_has_failed ≡ true → Grows grown.took later.took
+        → FeedsUpTo settled left failed old out fault peeked later
+    stops_writing fault later is cuts fails sink grows = record {
+      past = with_next;
+      took = took_more later grows;
+      begins = begins;
+      cause = inr (inr (record {
+        is = is;
+        cuts = record {
+          front = λ before e. front_all later.took grown.put before (settled (member_items g.past)) cuts.bytes settled_next (goes_on cuts.bytes cuts.goes_on) (g.puts before e) cuts.front;
+          failed = fails;
+          sink_failed = sink;
+        };
+        served = served_more;
+      }));
+    }
+
+    -- the engine found no memory
+    pub stops_growing : (fault : Told) (later : Output) → fault ≡ no_memory
+        → PutsPart (settled (member_items g.past)) (settled (member_items g.past ++ r ∷ [])) grown later
+        → WorksAsBefore grown later → Grows grown.took later.took
+        → FeedsUpTo settled left failed old out fault peeked later
+    stops_growing fault later is part works grows = record {
+      past = with_next;
+      took = took_more later grows;
+      begins = begins;
+      cause = inr (inl (record {
+        is = is;
+        puts = record {
+          front = settled (member_items g.past) ++ part.bytes;
+          rest = part.unput;
+          parts = goes_on (part.bytes ++ part.unput) part.goes_on ∙ sym (append_assoc (settled (member_items g.past)) part.bytes part.unput);
+          puts = λ before e. text_grows grown.put later.put before (settled (member_items g.past)) part.bytes (settled (member_items g.past) ++ part.bytes) refl part.appends (g.puts before e);
+        };
+        works = works_both out grown later g.works works;
+        served = served_more;
+      }));
+    }
+
+    -- the record was taken and passed
+    pub going_more : (Next : List Feature → Type 0) (next : Records S O ghosts) (later : Output) → PassesRecord left peeked next
+        → Next (member_items g.past ++ r ∷ [])
+        → PutsRest (settled (member_items g.past)) (settled (member_items g.past ++ r ∷ [])) grown later
+        → WorksAsBefore grown later → Grows grown.took later.took → Going settled Next left failed end old out next later
+    going_more Next next later passes stands puts works grows =
+        let taken = took_more later grows in
+        let same = passes.passes.reads_nothing in
+        let at = gives.read.at g.none_ahead in
+        let rises = gives.read.rises g.none_ahead in
+        record {
+          past = with_next;
+          order = passes.order ∙ taken.order;
+          format = passes.passes.format ∙ gives.read.stays.format ∙ g.format;
+          bytes = subst (λ reader. (bytes : List ℕ) × Hands left (below old) bytes reader) (sym same) taken.bytes;
           placed = taken.placed;
           full = taken.full;
           grows = taken.grows;
-        };
-        come = come_next settled Stands left failed old out now grown g peeked r gives next advances;
-        stands = stands;
-        last = last_more settled Stands left failed old out now grown g peeked r gives next advances;
-        going = advances.goes ∙ gives.goes ∙ g.going;
-        puts = puts_more settled Stands left failed old out now grown g peeked r gives grown_more writes.0 writes.1 writes.2;
-        works = works_both out grown grown_more g.works works;
-        block = works.block g.block;
-        served = ap (λ reader. failed (source_of reader)) advances.reads_nothing ∙ gives.served ∙ g.served;
-        same_input = ap input_of advances.reads_nothing ∙ gives.stays.input ∙ g.same_input;
-      }
+          come = come_more (good_coming left (view_of old)) (good_coming left (view_of now)) (good_coming left (view_of peeked)) (good_coming left (view_of next)) g.past next_member g.come gives.read.good gives.read.first
+              (passes.passes.good next_member gives.read.ahead);
+          behind = subst (λ reader. All (λ m. m.line ≤ lines_given reader) with_next) (sym same)
+              (All-push (λ m. m.line ≤ lines_given (below peeked)) g.past next_member
+              (up_to (lines_given (below now)) (lines_given (below peeked)) g.past (omega (arith, rises.0)) g.behind) (omega (arith, at)));
+          lines = subst (λ reader. IfSome (lines_left left (below old)) (λ lines. lines_left left reader ≡ Some (drop (lines_given reader) lines))) (sym same)
+              (lines_on (lines_left left (below old)) (lines_left left (below now)) (lines_left left (below peeked)) (lines_given (below now)) (lines_given (below peeked)) (omega (arith, rises.0)) g.lines gives.read.lines);
+          stands = subst Next (sym items_more) stands;
+          last = passes.last ∙ ap (option_map locus_at) (ap (option_map (λ m. m.item)) gives.read.ahead)
+              ∙ ap (option_map locus_of) (sym (last_of-push (intervals_of (member_items g.past)) (interval_of r))) ∙ ap (λ l. option_map locus_of (last_of l)) (sym pushed);
+          going = passes.passes.goes ∙ gives.read.goes ∙ g.going;
+          none_ahead = passes.passes.none_ahead;
+          sound = subst (IsSound left end) (sym same) sound;
+          puts = λ before e. text_grows grown.put later.put before (settled (member_items g.past)) puts.bytes settled_next (goes_on puts.bytes puts.goes_on) puts.appends (g.puts before e);
+          works = works_both out grown later g.works works;
+          block = works.block g.block;
+          served = ap (λ reader. failed (source_of reader)) same ∙ served_more;
+        }
 
-module _ {S O : Type 0} {ghosts : Ghosts O} (settled : List Feature → List ℕ) (Stands : List Feature → Type 0) (left : S → Option (List ℕ)) (failed : S → Bool) (old : Records S O ghosts) (out : Output) (now : Records S O ghosts) (grown : Output) (g : Going settled Stands left failed old out now grown)
-    (peeked : Records S O ghosts) (r : Feature) (gives : GivesRecord left failed now r peeked) where
-  -- the lines that the next record settles, behind those of the records so far
-  abbrev pub AreNext : List ℕ → Type 0
-  AreNext lines = settled (g.past ++ r ∷ []) ≡ settled g.past ++ lines
-
-  -- the engine failed to write
-  stops_writing : (fault : Told) (grown_more : Output) → fault ≡ write_failed → (lines : List ℕ) × AreNext lines × IsFrontOf grown_more.took grown.put lines
-      → (grown_more.has_failed ≡ true) × (grown_more.sink_has_failed ≡ true) → Grows grown.took grown_more.took → FeedsUpTo settled left failed old out fault peeked grown_more
-  stops_writing fault grown_more is front fails grows = record {
-    past = g.past ++ r ∷ [];
-    took = took_more settled Stands left failed old out now grown g peeked r gives grown_more grows;
-    begins = begins_more (good_left left old) (good_left left now) g.past r g.come gives.first;
-    cause = inr (inr (record {
-      is = is;
-      cuts = record {
-        front = λ before e. front_all grown_more.took grown.put before (settled g.past) front.0 (settled (g.past ++ r ∷ [])) front.1 (g.puts before e) front.2;
-        failed = fails.0;
-        sink_failed = fails.1;
-      };
-      served = gives.served ∙ g.served;
-    }));
-  }
-
-  -- the engine found no memory
-  stops_growing : (fault : Told) (grown_more : Output) → fault ≡ no_memory → (lines : List ℕ) × (rest : List ℕ) × AreNext (lines ++ rest) × Appends grown.put grown_more.put lines
-      → WorksAsBefore grown grown_more → Grows grown.took grown_more.took → FeedsUpTo settled left failed old out fault peeked grown_more
-  stops_growing fault grown_more is part works grows = record {
-    past = g.past ++ r ∷ [];
-    took = took_more settled Stands left failed old out now grown g peeked r gives grown_more grows;
-    begins = begins_more (good_left left old) (good_left left now) g.past r g.come gives.first;
-    cause = inr (inl (record {
-      is = is;
-      puts = record {
-        front = settled g.past ++ part.0;
-        rest = part.1;
-        parts = part.2 ∙ sym (append_assoc (settled g.past) part.0 part.1);
-        puts = λ before e. text_grows grown.put grown_more.put before (settled g.past) part.0 (settled g.past ++ part.0) refl part.3 (g.puts before e);
-      };
-      works = works_both out grown grown_more g.works works;
-      served = gives.served ∙ g.served;
-    }));
-  }
-
-  -- the engine failed
-  pub stops_feeding : (fault : Told) (grown_more : Output) → (fault ≡ write_failed) ⊎ (fault ≡ no_memory) → (lines : List ℕ) × AreNext lines × IsFrontOf grown_more.took grown.put lines
-      → (fault ≡ write_failed → (grown_more.has_failed ≡ true) × (grown_more.sink_has_failed ≡ true))
-      → (fault ≡ no_memory → (lines : List ℕ) × (rest : List ℕ) × AreNext (lines ++ rest) × Appends grown.put grown_more.put lines) → (fault ≡ no_memory → WorksAsBefore grown grown_more)
-      → Grows grown.took grown_more.took → FeedsUpTo settled left failed old out fault peeked grown_more
-  stops_feeding fault grown_more (inl is) front fails part works grows = stops_writing fault grown_more is front (fails is) grows
-  stops_feeding fault grown_more (inr is) front fails part works grows = stops_growing fault grown_more is (part is) (works is) grows
-
-module _ {S O : Type 0} {ghosts : Ghosts O} (settled : List Feature → List ℕ) (Stands : List Feature → Type 0) (left : S → Option (List ℕ)) (failed : S → Bool) (old : Records S O ghosts) (out : Output) where
-  -- before the first record
-  pub going_start : last_place old ≡ None → fault_kept old ≡ None → Stands [] → settled [] ≡ [] → HoldsBlock out.took out.put → Going settled Stands left failed old out old out
-  going_start none_last going stands nothing block = record {
+-- before the first record
+module _ {S O : Type 0} {ghosts : Ghosts O} (settled : List Feature → List ℕ) (Stands : List Feature → Type 0) (left : S → Option (List ℕ)) (failed : S → Bool) (end : S → Bool) (old : Records S O ghosts) (out : Output) where
+  pub going_start : IsFresh left end (view_of old) → last_locus old ≡ None → Stands [] → settled [] ≡ [] → HoldsBlock out.took out.put
+      → Going settled Stands left failed end old out old out
+  going_start fresh none_last stands nothing block = record {
     past = [];
-    took = record {
-      order = refl;
-      bytes = hands_none left (below old);
-      placed = tt;
-      full = λ k d h. absurd (omega arith);
-      grows = ([], Appends-nil out.took);
-    };
-    come = come_none (good_left left old);
+    order = refl;
+    format = refl;
+    bytes = ([], hands_none left (below old));
+    placed = tt;
+    full = λ k d h. absurd (omega arith);
+    grows = ([], Appends-nil out.took);
+    come = come_none (good_coming left (view_of old));
+    behind = λ k d h. absurd (omega arith);
+    lines = none_passed (lines_left left (below old)) (lines_given (below old)) fresh.none_given.0;
     stands = stands;
     last = none_last;
-    going = going;
+    going = fresh.going;
+    none_ahead = fresh.none_ahead;
+    sound = fresh.sound;
     puts = λ before e. e ∙ ap Some (sym (ap (λ l. before ++ l) nothing ∙ append-nil before));
     works = record { served = refl; sink_served = refl; put = ([], Appends-nil out.put); block = λ h. h };
     block = block;
     served = refl;
-    same_input = refl;
   }
 
-  module _ (now : Records S O ghosts) (grown : Output) (g : Going settled Stands left failed old out now grown) (new : Records S O ghosts) where
-    took_last : Stays left now new → Took settled left failed old out g.past new grown
-    took_last stays = record {
-      order = stays.order ∙ g.took.order;
-      bytes = hands_both left (below old) (below now) (below new) g.took.bytes stays.bytes;
-      placed = g.took.placed;
-      full = g.took.full;
-      grows = g.took.grows;
-    }
+-- the engine wasn't given the record
+module _ {S O E : Type 0} {ghosts : Ghosts O} (MayTake : E → List Feature → Type 0) (Stands : E → List Feature → E → Type 0) (engine_fault : E → Option Told) (settled : E → List Feature → List ℕ) (first engine : E)
+    (left : S → Option (List ℕ)) (failed : S → Bool) (end : S → Bool) (old : Records S O ghosts) (out : Output) (now : Records S O ghosts) (grown : Output)
+    (fresh : IsFresh left end (view_of old)) (is_bed : (view_of old).format ≡ bed_format (sorting_of (order_in old)))
+    (g : Going (settled first) (λ past. Stands first past engine) left failed end old out now grown)
+    (peeked : Records S O ghosts) (r : Feature) (order : order_in peeked ≡ order_in now) (sound : IsSound left end (below peeked)) (gives : GivesRecord left failed now r peeked) where
+  stops_not_taken : (fault : Told) (new : E) (later : Output) → MayTake first (member_items g.past ++ r ∷ []) → engine_fault engine ≡ None → Grows grown.took later.took
+      → NotTaken MayTake Stands engine_fault settled engine r grown fault new later → FeedsUpTo (settled first) left failed old out fault peeked later
+  stops_not_taken fault new later takes going grows (inl again) = absurd (let apart : None ≡ Some fault = sym going ∙ again.is in cc)
+  stops_not_taken fault new later takes going grows (inr (inl fails)) =
+      stops_writing (settled first) (λ past. Stands first past engine) left failed end old out now grown fresh is_bed g peeked r order sound gives fault later fails.is
+      (fails.cuts first (member_items g.past) g.stands takes) fails.failed fails.sink_failed grows
+  stops_not_taken fault new later takes going grows (inr (inr runs_out)) =
+      stops_growing (settled first) (λ past. Stands first past engine) left failed end old out now grown fresh is_bed g peeked r order sound gives fault later runs_out.is
+      (runs_out.puts first (member_items g.past) g.stands takes) runs_out.works grows
 
-    -- after the last record
-    pub feeds_all : GivesEnd left failed now new → FeedsAll settled left failed Stands old out new grown
-    feeds_all gives = record {
-      past = g.past;
-      took = took_last gives.stays;
-      whole = whole_with (good_left left old) (good_left left now) g.past None g.come gives.none_left;
-      stands = g.stands;
-      puts = g.puts;
-      works = g.works;
-      served = gives.served ∙ g.served;
-    }
+  pub stops_feeding : {A : Type 0} (Quiet : E → List Feature → Feature → Type 0) (fault : Fault) (new : E) (later : Output) → MayTake first (member_items g.past ++ r ∷ [])
+      → EngineFeeds MayTake Stands engine_fault settled engine r grown {A = A} Quiet (Err fault) new later → FeedsUpTo (settled first) left failed old out (told fault) peeked later
+  stops_feeding Quiet fault new later takes fed =
+      stops_not_taken (told fault) new later takes (fed.going first (member_items g.past) g.stands) fed.grows fed.answers
 
-    cause_of : (fault : Told) → PeekCause left failed now fault new → Cause settled left failed old out g.past fault new grown
-    cause_of fault (inl at) = inl (inl (record {
-      whole = whole_with (good_left left old) (good_left left now) g.past (Some fault) g.come at.none_left;
-      line = lines_given (below new);
-      kind = at.kind;
-      is = at.place ∙ ap (λ input. fault_at_line input (lines_given (below new)) at.kind) g.same_input;
-      of_line = at.of_line;
-      puts = g.puts;
-      works = g.works;
-      served = at.served ∙ g.served;
-    }))
-    cause_of fault (inr (inl fails)) = inl (inr (record {
-      line = suc (lines_given (below new));
-      is = fails.is ∙ ap (λ input. read_failed input (suc (lines_given (below new)))) g.same_input;
-      cause = fails.cause;
-      puts = g.puts;
-      works = g.works;
-    }))
-    cause_of fault (inr (inr ran)) = inr (inl (record {
-      is = ran.is;
-      puts = record { front = settled g.past; rest = []; parts = sym (append-nil (settled g.past)); puts = g.puts };
-      works = g.works;
-      served = ran.served ∙ g.served;
-    }))
-
-    -- the reader told a fault
-    pub stops_reading : (fault : Told) → GivesFault left failed now fault new → FeedsUpTo settled left failed old out fault new grown
-    stops_reading fault gives = record {
-      past = g.past;
-      took = took_last gives.stays;
-      begins = begins_with (good_left left old) (good_left left now) g.past g.come;
-      cause = cause_of fault (gives.first g.going);
-    }
+  pub goes_feeding : {A : Type 0} (Quiet : E → List Feature → Feature → Type 0) (done : A) (new : E) (later : Output) (next : Records S O ghosts) → MayTake first (member_items g.past ++ r ∷ [])
+      → EngineFeeds MayTake Stands engine_fault settled engine r grown Quiet (Ok done) new later → PassesRecord left peeked next
+      → Going (settled first) (λ past. Stands first past new) left failed end old out next later
+  goes_feeding Quiet done new later next takes fed passes =
+      going_more (settled first) (λ past. Stands first past engine) left failed end old out now grown fresh is_bed g peeked r order sound gives (λ past. Stands first past new) next later passes
+      (fed.answers.stands first (member_items g.past) g.stands takes) (fed.answers.puts first (member_items g.past) g.stands takes) fed.answers.works fed.grows

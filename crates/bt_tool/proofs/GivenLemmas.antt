@@ -1,6 +1,6 @@
 -- Lemmas on the items of a command line.
-use Rattle.std.proofs.Common.{◌≡◌, ℕ, ◌≤◌, ◌&&◌, Bool, true, false, cond, List, [], ◌∷◌, length, Option, Some, None, Err, drop, refl, sym, ap, subst, ◌∙◌, arith, ltb, leb, leb-true}
-use Rattle.std.specs.Prelude.{All, String, bytes_eq, codes, option_and_then, unwrap_or}
+use Rattle.std.proofs.Common.{◌≡◌, ℕ, ◌≤◌, ◌&&◌, Bool, true, false, cond, List, [], ◌∷◌, length, Option, Some, None, Ok, Err, drop, refl, sym, ap, subst, ◌∙◌, arith, ltb, leb, leb-true}
+use Rattle.std.specs.Prelude.{All, String, bytes_eq, option_and_then, unwrap_or}
 use Rattle.std.specs.Char.{is_ascii_digit}
 use Rattle.std.specs.List.{list_all}
 use Rattle.std.specs.Str.Parse.{digits_value}
@@ -9,28 +9,61 @@ use Rattle.std.specs.Option.{option_or}
 use Rattle.std.specs.declared.alloc.Global.{Global}
 use Rattle.std.proofs.lemmas.List.Elements.{All-head, All-tail}
 use Rattle.std.proofs.lemmas.Slice.Eq.{bytes_eq-Decides}
-use Rattle.bt_lines.specs.Number.{is_number, value_of as number_of}
+use Rattle.bt_lines.specs.Number.{is_number, max_number, value_of as number_of}
 use Rattle.bt_tool.specs.Given.{items_in}
-use Rattle.bt_tool.specs.Items.{Item, IsItem}
-use Rattle.bt_tool.specs.Options.{command_of, last_item, options, plan_of, settled, value_of}
+use Rattle.bt_tool.specs.Items.{Item, IsItem, items_of}
+use Rattle.bt_tool.specs.Options.{checked, command_of, fault_together, last_item, options, plan_of, value_of, word_fault}
 use Rattle.bt_tool.specs.Plan.{words_seen}
 use Rattle.bt_tool.specs.Table.{Word, Table, fits, table_of, takes}
+use Rattle.bt_tool.specs.TableLent.{table_lent}
 use Rattle.bt_tool.specs.declared.given.Given.{Given}
+use Rattle.bt_tool.specs.declared.table.Table.{Table as Lent}
+use Rattle.bt_tool.specs.declared.usage.Usage.{Usage}
 use Rattle.bt_tool.specs.declared.takes.Takes.TheVariants.{FileName}
 use Rattle.bt_tool.specs.declared.tool.Tool.{Tool}
-use Rattle.bt_tool.specs.declared.tool.Tool.TheVariants.{Merge, Complement}
-use Rattle.bt_tool.specs.Usage.{required_missing}
-use Rattle.bt_tool.proofs.Asked.{options-settled}
+use Rattle.bt_tool.proofs.Asked.{options-checked}
 use Rattle.bt_tool.proofs.Division.{allowed}
 
 -- what the words ask for, once they divide into items
 pub options-given : (words : List (String Global)) (given : Given) (tool : Tool)
-    → (given.tool ≡ tool) × (given.words.now ≡ words) → command_of (words_seen words) ≡ Some tool
-    → options (words_seen words) ≡ settled given.tool (items_in given)
-options-given words given tool same named =
-    let known : command_of (words_seen given.words.now) ≡ Some given.tool =
-    ap (λ w. command_of (words_seen w)) same.1 ∙ named ∙ ap Some (sym same.0) in
-    ap (λ w. options (words_seen w)) (sym same.1) ∙ options-settled (words_seen given.words.now) given.tool known given.no_fault
+    → table_lent given.table.now ≡ table_of tool → given.words.now ≡ words
+    → command_of (words_seen words) ≡ Some tool
+    → options (words_seen words) ≡ checked tool (items_in given)
+options-given words given tool table same named =
+    let known : command_of (words_seen given.words.now) ≡ Some tool =
+    ap (λ w. command_of (words_seen w)) same ∙ named in
+    let whole : word_fault (table_of tool) 1 (drop 1 (words_seen given.words.now)) ≡ None =
+    ap (λ t. word_fault t 1 (drop 1 (words_seen given.words.now))) (sym table) ∙ given.no_fault in
+    let items : items_of (table_of tool) (drop 1 (words_seen given.words.now)) ≡ items_in given =
+    ap (λ t. items_of t (drop 1 (words_seen given.words.now))) (sym table) in
+    ap (λ w. options (words_seen w)) (sym same)
+    ∙ options-checked (words_seen given.words.now) tool known whole ∙ ap (checked tool) items
+
+-- the table that the words were read by is that of the tool
+pub same_table : (mine given : Lent) (table : Table) → mine ≡ given → table_lent given ≡ table
+    → table_lent mine ≡ table
+same_table mine given table same is = ap table_lent same ∙ is
+
+-- the fault of a word, by that table
+pub at_table : (words : List Word) (given : Lent) (table : Table) (fault : Option Usage)
+    → table_lent given ≡ table → word_fault (table_lent given) 1 (drop 1 words) ≡ fault
+    → word_fault table 1 (drop 1 words) ≡ fault
+at_table words given table fault same e =
+    ap (λ t. word_fault t 1 (drop 1 words)) (sym same) ∙ e
+
+-- and of the items together
+pub together_at : (items : List Item) (given : Lent) (table : Table) (fault : Option Usage)
+    → table_lent given ≡ table → fault_together (table_lent given) items ≡ fault
+    → fault_together table items ≡ fault
+together_at items given table fault same e = ap (λ t. fault_together t items) (sym same) ∙ e
+
+pub checked-fault : (tool : Tool) (items : List Item) (usage : Usage)
+    → fault_together (table_of tool) items ≡ Some usage → checked tool items ≡ Err usage
+checked-fault tool items usage e = rw (e, checked) refl
+
+pub checked-plan : (tool : Tool) (items : List Item)
+    → fault_together (table_of tool) items ≡ None → checked tool items ≡ Ok (plan_of tool items)
+checked-plan tool items e = rw (e, checked) refl
 
 -- the last item of an option is an item of that option
 record IsLast (table : Table) (option : Word) (item : Item) : Type 0 where
@@ -64,48 +97,33 @@ valued-last table option (Some item) has h e =
     let stands : fits FileName None ≡ true = rw (kind, e) at it.allowed.2 in
     cc
 
-genome-taken : (tool : Tool) → takes (table_of tool) (codes "-g") ≡ Some FileName
-genome-taken Merge = refl
-genome-taken Complement = refl
-
--- without the name of a genome file, none was given
-pub genome-missing : (given : Given) → value_of (items_in given) (codes "-g") ≡ None → last_item (codes "-g") (items_in given) ≡ None
-genome-missing given e =
-    let table = table_of given.tool in
+-- an option that takes a file name and is given has a value
+pub valued : (given : Given) (option : Word) → takes (table_lent given.table.now) option ≡ Some FileName
+    → value_of (items_in given) option ≡ None → last_item option (items_in given) ≡ None
+valued given option file e =
+    let table = table_lent given.table.now in
     let items = items_in given in
-    valued-last table (codes "-g") (last_item (codes "-g") items) (genome-taken given.tool)
-    (λ item f. last-is table (codes "-g") items item (allowed table (drop 1 (words_seen given.words.now))) f) e
+    valued-last table option (last_item option items) file
+    (λ item f. last-is table option items item (allowed table (drop 1 (words_seen given.words.now))) f) e
 
 last-of_both : (a b : Bool) → (a && b) ≡ true → b ≡ true
 last-of_both true b e = e
 last-of_both false b e = absurd (false≢true e)
 
-some-of : (b : Bool) (v n : ℕ) → (b ≡ true → v ≤ 999999999999) → cond b (Some v) None ≡ Some n → n ≤ 999999999999
-some-of true v n h e = let same : v ≡ n = cc in subst (λ k. k ≤ 999999999999) same (h refl)
+some-of : (b : Bool) (v n : ℕ) → (b ≡ true → v ≤ max_number) → cond b (Some v) None ≡ Some n → n ≤ max_number
+some-of true v n h e = let same : v ≡ n = cc in subst (λ k. k ≤ max_number) same (h refl)
 some-of false v n h e = cc
 
 -- a number that a text denotes has at most twelve digits
-pub number-limit : (text : List ℕ) (n : ℕ) → number_of text ≡ Some n → n ≤ 999999999999
+pub number-limit : (text : List ℕ) (n : ℕ) → number_of text ≡ Some n → n ≤ max_number
 unfolding number_of
 number-limit text n e =
     some-of (is_number text) (digits_value 10 text) n
-    (λ yes. leb-true (digits_value 10 text) 999999999999 (last-of_both (ltb 0 (length text) && list_all is_ascii_digit text) (leb (digits_value 10 text) 999999999999) yes)) e
+    (λ yes. leb-true (digits_value 10 text) max_number (last-of_both (ltb 0 (length text) && list_all is_ascii_digit text) (leb (digits_value 10 text) max_number) yes)) e
 
-either : (o : Option ℕ) → ((n : ℕ) → o ≡ Some n → n ≤ 999999999999) → unwrap_or o 0 ≤ 999999999999
+either : (o : Option ℕ) → ((n : ℕ) → o ≡ Some n → n ≤ max_number) → unwrap_or o 0 ≤ max_number
 either None h = omega arith
 either (Some n) h = h n refl
 
-pub number-limit-or : (text : List ℕ) → unwrap_or (number_of text) 0 ≤ 999999999999
+pub number-limit-or : (text : List ℕ) → unwrap_or (number_of text) 0 ≤ max_number
 number-limit-or text = either (number_of text) (number-limit text)
-
-genome-of : (tool : Tool) (items : List Item) → (plan_of tool items).genome ≡ value_of items (codes "-g")
-genome-of Merge items = refl
-genome-of Complement items = refl
-
-settled-missing : (tool : Tool) (items : List Item) → last_item (codes "-g") items ≡ None → settled tool items ≡ Err required_missing
-settled-missing Merge items e = rw e refl
-settled-missing Complement items e = rw e refl
-
--- a genome file is required
-pub genome-required : (given : Given) → (plan_of given.tool (items_in given)).genome ≡ None → settled given.tool (items_in given) ≡ Err required_missing
-genome-required given e = settled-missing given.tool (items_in given) (genome-missing given (sym (genome-of given.tool (items_in given)) ∙ e))

@@ -2,7 +2,7 @@
 use Rattle.std.proofs.Common.{◌≡◌, List, Result, Ok, Err, ap}
 use Rattle.std.specs.Prelude.{IfOk, IfErr}
 use Rattle.bt_tool.specs.Options.{options}
-use Rattle.bt_tool.specs.Plan.{seen}
+use Rattle.bt_tool.specs.Plan.{plan_seen}
 use Rattle.bt_tool.specs.Refusal.{IsRefusalOf}
 use Rattle.bt_tool.specs.Report.{ReportsPlan, ReportsRefusal, report, answer_of}
 use Rattle.bt_tool.specs.Table.{Word}
@@ -10,7 +10,7 @@ use Rattle.bt_tool.specs.declared.plan_type.Plan.{Plan}
 use Rattle.bt_tool.specs.declared.usage.Refusal.{Refusal}
 use Rattle.bt_tool.specs.declared.usage.Refusal.TheVariants.{Usage as InWords, NoMemory}
 
-pub reports_plan : {E : Type 0} (words : List Word) (result : Result Plan E) → IfOk result (λ plan. options words ≡ Ok (seen plan)) → IfOk result (λ plan. ReportsPlan words (seen plan))
+pub reports_plan : {E : Type 0} (words : List Word) (result : Result Plan E) → IfOk result (λ plan. options words ≡ Ok (plan_seen plan)) → IfOk result (λ plan. ReportsPlan words (plan_seen plan))
 unfolding report
 reports_plan words (Ok plan) h = λ genome first second. ap (λ answer. answer_of words answer genome first second) h
 reports_plan words (Err e) h = tt

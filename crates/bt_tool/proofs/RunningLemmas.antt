@@ -1,35 +1,37 @@
--- Lemmas on a run, from its devices to the report of the whole texts.
-use Rattle.std.proofs.Common.{◌≡◌, ℕ, suc, ◌^◌, ◌<◌, ◌≤◌, Bool, true, false, List, [], ◌++◌, length, Option, None, Some, Ok, Err, refl, sym, ap, ◌∙◌, subst, append-nil, append_assoc, arith, inl, inr, ⊎_elim}
-use Rattle.std.specs.Prelude.{◌⊎◌, ◌≢◌, IfSome, option_map}
+-- Lemmas on a run, from its devices to the report on what its inputs hand over.
+use Rattle.std.proofs.Common.{◌≡◌, ℕ, ◌+◌, ◌-◌, ◌≤◌, Bool, true, false, List, [], ◌++◌, length, take, Option, None, Some, Ok, Err, refl, sym, ap, ◌∙◌, subst, append-nil, append_assoc, length-append, arith, inl, inr, ⊎_elim}
+use Rattle.std.specs.Prelude.{◌⊎◌, ◌≢◌, IfSome, Result}
 use Rattle.std.proofs.lemmas.Bool.{false≢true}
 use Rattle.std.proofs.lemmas.List.{append_cancel_left}
 use Rattle.std.specs.Io.KnownBytes.{Consumes, Keeps}
-use Rattle.std.proofs.KnownBytes.{Appends-nil}
-use Rattle.bt_lines.specs.Fault.{Told, write_failed, no_memory, read_failed}
-use Rattle.bt_lines.specs.Output.{Output, IsFrontOf, Grows}
+use Rattle.std.proofs.KnownBytes.{Appends-nil, Consumes-nil}
+use Rattle.bt_lines.specs.Fault.{Told, write_failed, no_memory}
+use Rattle.bt_lines.specs.Handed.{Handed}
 use Rattle.bt_lines.specs.Lines.{TextLine, text_lines}
-use Rattle.bt_lines.specs.Reader.{source_of, input_of, bytes_taken, lines_given, lines_left}
+use Rattle.bt_lines.specs.Names.{told}
+use Rattle.bt_lines.specs.Output.{Output, IsFrontOf, Grows, block_size}
+use Rattle.bt_lines.specs.declared.fault.Fault.{Fault}
 use Rattle.bt_lines.specs.declared.fault.Input.{Input}
-use Rattle.bt_lines.specs.declared.fault.Input.TheVariants.{Genome as FromGenome, First}
-use Rattle.bt_lines.specs.declared.fault.Kind.TheVariants.{ReadFailed}
-use Rattle.bt_lines.specs.declared.line_reader.LineReader.{LineReader}
-use Rattle.bt_bed.specs.Genome.{genome_of}
-use Rattle.bt_bed.specs.Reading.{Hands, ReadingFails, MemoryRanOut}
-use Rattle.bt_bed.specs.GenomeTable.{ReadsAll, LineAtFault, entries, names_of}
+use Rattle.bt_lines.specs.declared.fault.Input.TheVariants.{First, Second, Genome as FromGenome}
+use Rattle.bt_lines.specs.declared.fault.Kind.{Kind}
+use Rattle.bt_bed.specs.Genome.{Entry}
+use Rattle.bt_bed.specs.GenomeTable.{entries}
+use Rattle.bt_bed.specs.Good.{good_from}
+use Rattle.bt_bed.specs.LineKind.{is_genome_kind}
 use Rattle.bt_bed.specs.declared.genome.Genome.{Genome}
+use Rattle.bt_runs.specs.Gaps.{settled_gaps}
+use Rattle.bt_tool.specs.Chromosomes.{KnowsChromosomes, LacksChromosomes, ReadsChromosomes, StopsAtGenome, WritesBy, WritesOutput}
+use Rattle.bt_tool.specs.Driving.{IsOfInput, ReadsNoFurther, TellsDevice, TellsInput, TellsInputIf, TellsLine, TellsRead}
 use Rattle.bt_tool.specs.Flushing.{Flushes, FlushesAll, FlushFails, StaysFailed}
-use Rattle.bt_tool.specs.Report.{Report, records_report, report_of, report_on}
-use Rattle.bt_tool.specs.Options.{PlanSeen}
+use Rattle.bt_tool.specs.Gives.{Runs, is_of_genome, lies_in_genome}
+use Rattle.bt_tool.specs.Inputs.{HandsUpToIf, Inputs}
+use Rattle.bt_tool.specs.RecordReport.{Report}
+use Rattle.bt_tool.specs.Report.{chromosomes_of, command_report, command_reaches, command_settles, first_kinds, reaches_on, report_of, report_on, second_kinds, settles_on}
 use Rattle.bt_tool.specs.declared.plan_type.Command.{Command}
-use Rattle.bt_bed.specs.Rank.{rank_order}
-use Rattle.bt_tool.specs.Driving.{IsOfInput, PassesBound, WritesRecords}
-use Rattle.bt_tool.specs.Gives.{Gives, Runs, RunsPlan}
-use Rattle.bt_tool.specs.Writes.{writes_of}
+use Rattle.bt_tool.specs.declared.plan_type.Command.TheVariants.{Merge, Complement, Intersect}
 use Rattle.bt_tool.proofs.FeedLemmas.{grows_both}
-use Rattle.bt_tool.proofs.DrivingLemmas.{consumes_short, line_no_read, memory_no_read, memory_no_write, placed_no_write, same_read, some_is, write_no_read}
-
-genome_no_first : FromGenome ≡ First → ⊥
-genome_no_first e = cc
+use Rattle.bt_tool.proofs.WritingLemmas.{hands_none}
+use Rattle.bt_tool.proofs.FaultLemmas.{memory_no_write, placed_no_write, some_is, write_no_read}
 
 -- known bytes that are kept
 kept_known : (a b : Option (List ℕ)) (x : List ℕ) → a ≡ Some x → Keeps a b → b ≡ Some x
@@ -66,11 +68,11 @@ module _ (out mid new : Output) (fault answer : Option Told) where
       let c = cut stays.was in
       cut_front out.took new.took before c.0 c.1 output took (grows_both out.took mid.took new.took grows more) c.2 (subst (λ (o : Output). IsFrontOf o.took (Some (before ++ c.0)) []) (sym stays.unchanged) c.3)
 
-  whole_by : (told : Option Told) (whole : List ℕ) → (mid.sink_has_failed ≡ false → fault ≢ Some no_memory → (fault ≡ told) × (mid.put ≡ Some whole)) → (fault ≡ Some write_failed → mid.sink_has_failed ≡ true)
+  whole_by : (told : Option Told) (whole : List ℕ) → (fault ≢ Some write_failed → fault ≢ Some no_memory → (fault ≡ told) × (mid.put ≡ Some whole)) → (fault ≡ Some write_failed → mid.sink_has_failed ≡ true)
       → new.sink_has_failed ≡ false → answer ≢ Some no_memory → (FlushesAll mid fault answer new ⊎ FlushFails mid fault answer new) ⊎ StaysFailed mid fault answer new
       → (answer ≡ told) × (new.took ≡ Some whole)
   whole_by told whole gives writing served memory (inl (inl all)) =
-      let w = gives (sym all.sink_served ∙ served) (λ e. memory (all.same_fault ∙ e)) in
+      let w = gives all.was (λ e. memory (all.same_fault ∙ e)) in
       (all.same_fault ∙ w.0, kept_known mid.put new.took whole w.1 all.taken)
   whole_by told whole gives writing served memory (inl (inr fails)) = absurd (false≢true (sym served ∙ fails.sink_failed))
   whole_by told whole gives writing served memory (inr stays) =
@@ -85,134 +87,254 @@ module _ (out mid new : Output) (fault answer : Option Told) where
   told_by told whole gives is (inl (inr fails)) = absurd (is.no_write fails.is)
   told_by told whole gives is (inr stays) = absurd (is.no_write stays.is)
 
-  writing_by : (fault ≡ Some write_failed → mid.sink_has_failed ≡ true) → answer ≡ Some write_failed → (FlushesAll mid fault answer new ⊎ FlushFails mid fault answer new) ⊎ StaysFailed mid fault answer new → new.sink_has_failed ≡ true
-  writing_by writing e (inl (inl all)) = absurd (all.was (sym all.same_fault ∙ e))
-  writing_by writing e (inl (inr fails)) = fails.sink_failed
-  writing_by writing e (inr stays) = ap (λ (o : Output). o.sink_has_failed) stays.unchanged ∙ writing stays.was
+  -- without a fault the sink has served in the flush too
+  pub served_by : (FlushesAll mid fault answer new ⊎ FlushFails mid fault answer new) ⊎ StaysFailed mid fault answer new → answer ≡ None → (fault ≡ None) × (new.sink_has_failed ≡ mid.sink_has_failed)
+  served_by (inl (inl all)) none = (sym all.same_fault ∙ none, all.sink_served)
+  served_by (inl (inr fails)) none = absurd (let apart : None ≡ Some write_failed = sym none ∙ fails.is in cc)
+  served_by (inr stays) none = absurd (let apart : None ≡ Some write_failed = sym none ∙ stays.is in cc)
 
-  reading_by : (input : Input) (line : ℕ) → answer ≡ Some (read_failed input line) → (FlushesAll mid fault answer new ⊎ FlushFails mid fault answer new) ⊎ StaysFailed mid fault answer new → fault ≡ Some (read_failed input line)
-  reading_by input line e (inl (inl all)) = sym all.same_fault ∙ e
-  reading_by input line e (inl (inr fails)) = absurd (write_no_read input line (some_is write_failed (read_failed input line) (sym fails.is ∙ e)))
-  reading_by input line e (inr stays) = absurd (write_no_read input line (some_is write_failed (read_failed input line) (sym stays.is ∙ e)))
+  -- the fault that is told is the one before the flush, or a failed write
+  pub named_by : {P : Told → Type 0} → ((t : Told) → fault ≡ Some t → P t ⊎ TellsDevice mid.sink_has_failed t)
+      → (FlushesAll mid fault answer new ⊎ FlushFails mid fault answer new) ⊎ StaysFailed mid fault answer new
+      → (t : Told) → answer ≡ Some t → P t ⊎ TellsDevice new.sink_has_failed t
+  named_by named (inl (inl all)) t e =
+      ⊎_elim (λ p. inl p) (λ d. inr (subst (λ b. TellsDevice b t) (sym all.sink_served) d)) (named t (sym all.same_fault ∙ e))
+  named_by named (inl (inr fails)) t e = inr (inl (some_is t write_failed (sym e ∙ fails.is), fails.sink_failed))
+  named_by named (inr stays) t e =
+      ⊎_elim (λ p. inl p) (λ d. inr (subst (λ (o : Output). TellsDevice o.sink_has_failed t) (sym stays.unchanged) d)) (named t (stays.was ∙ sym stays.is ∙ e))
 
-module _ {G A K : Type 0} (g_left : G → Option (List ℕ)) (g_failed : G → Bool) (a_left : A → Option (List ℕ)) (a_failed : A → Bool) (k_took : K → Option (List ℕ)) (k_failed : K → Bool)
-    (genome : G) (first : A) (out : K) (reader : LineReader G) (source : source_of reader ≡ genome) (input : input_of reader ≡ FromGenome) (fresh : bytes_taken reader ≡ 0)
-    (lines : lines_left g_left reader ≡ option_map text_lines (g_left genome)) (read : LineReader G) (genome_after : G) (ended : source_of read ≡ genome_after)
-    (begun : Output) (put : begun.put ≡ k_took out) (took : begun.took ≡ k_took out) (new : Output) (out_after : K) (took_after : k_took out_after ≡ new.took) (failed_after : k_failed out_after ≡ new.sink_has_failed)
-    (answer : Option Told) (command : Command) where
-  abbrev GivesReport : A → Type 0
-  GivesReport first_after = Runs g_left g_failed a_left a_failed k_took k_failed command genome first out answer genome_after first_after out_after
+  -- where it lies
+  pub placed_by : (t : Told) → answer ≡ Some t → lies_in_genome t.place ≡ true
+      → (FlushesAll mid fault answer new ⊎ FlushFails mid fault answer new) ⊎ StaysFailed mid fault answer new → fault ≡ Some t
+  placed_by t e lies (inl (inl all)) = sym all.same_fault ∙ e
+  placed_by t e lies (inl (inr fails)) = absurd (false≢true (sym (ap (λ (f : Told). lies_in_genome f.place) (some_is t write_failed (sym e ∙ fails.is))) ∙ lies))
+  placed_by t e lies (inr stays) = stays.was ∙ sym stays.is ∙ e
 
-  abbrev report_at : List ℕ → List ℕ → Report
-  report_at genome_text first_text = report_on command (genome_of FromGenome (text_lines genome_text)) first_text
+later_known : (first took more : Option (List ℕ)) (known : List ℕ) (size : ℕ) → first ≡ Some known → Grows first took → Grows took more
+    → IfSome took (λ taken. size ≤ length taken + block_size) → IfSome more (λ taken. size ≤ length taken + block_size)
+later_known None took more known size e f g h = cc
+later_known (Some first) None more known size e f g h = absurd f.1
+later_known (Some first) (Some took) None known size e f g h = absurd g.1
+later_known (Some first) (Some took) (Some more) known size e f g h =
+    let parts : more ≡ took ++ g.0 = g.1 in
+    omega (arith, ap length parts, length-append took g.0, h)
 
-  -- what was read of the genome file, on its known text
-  at_genome : (text : List ℕ) (P : List TextLine → Type 0) → g_left genome ≡ Some text → IfSome (lines_left g_left reader) P → P (text_lines text)
-  at_genome text P e h = subst (λ o. IfSome o P) (lines ∙ ap (option_map text_lines) e) h
+-- what the sink takes later only adds to it
+near_later : (Beside More : List TextLine → Type 0) → ((lines : List TextLine) → Beside lines → More lines) → (settles : List TextLine → List ℕ) (text : List ℕ) (left : Option (List ℕ)) (before : List ℕ) (first took more : Option (List ℕ)) (known : List ℕ) → first ≡ Some known
+    → Grows first took → Grows took more → ReadsNoFurther Beside settles text left before took → ReadsNoFurther More settles text left before more
+near_later Beside More adds settles text left before first took more known e f g near = record {
+  n = near.n;
+  some = near.some;
+  handed = near.handed;
+  consumed = near.consumed;
+  read = near.read;
+  settled = later_known first took more known (length (before ++ settles (take (near.n - 1) (text_lines text)))) e f g near.settled;
+  beside = adds (take near.n (text_lines text)) near.beside;
+}
 
-  module _ (table : Genome) (reads : ReadsAll g_left g_failed reader read table) (mid : Output) (fault : Option Told) (first_after : A)
-      (writes : WritesRecords a_left a_failed (writes_of command (entries table)) (rank_order (names_of table)) first begun fault first_after mid) (flushes : Flushes mid fault answer new) where
-    same_report : (genome_text first_text : List ℕ) → g_left genome ≡ Some genome_text → report_at genome_text first_text ≡ records_report (writes_of command (entries table)) (rank_order (names_of table)) first_text
-    same_report genome_text first_text e =
-        let is = at_genome genome_text (λ lines. genome_of (input_of reader) lines ≡ Ok (entries table)) e reads.is in
-        ap (λ r. report_on command r first_text) (ap (λ i. genome_of i (text_lines genome_text)) (sym input) ∙ is)
+-- no line settles nothing
+none_settle : (command : Command) (entries : List Entry) (second : Option Handed) → command_settles command entries second [] ≡ []
+unfolding good_from settled_gaps
+none_settle (Merge d strand) entries second = refl
+none_settle (Complement limit) entries second = refl
+none_settle (Intersect shape) entries second = refl
 
-    pub gives_written : GivesReport first_after
-    gives_written = record {
-      whole = λ genome_text first_text before eg ea ek short_genome short_first served_genome served_first served_out memory.
-          let w = whole_by begun mid new fault answer (records_report (writes_of command (entries table)) (rank_order (names_of table)) first_text).fault (before ++ (records_report (writes_of command (entries table)) (rank_order (names_of table)) first_text).output)
-          (λ sink no_growth. writes.whole first_text before ea (put ∙ ek) short_first served_first sink no_growth)
-          writes.writing (sym failed_after ∙ served_out) memory flushes.ends in
-          subst (λ (r : Report). (answer ≡ r.fault) × (k_took out_after ≡ Some (before ++ r.output))) (sym (same_report genome_text first_text eg)) (w.0, took_after ∙ w.1);
-      told = λ genome_text first_text before eg ea ek is.
-          let w = told_by begun mid new fault answer (records_report (writes_of command (entries table)) (rank_order (names_of table)) first_text).fault (before ++ (records_report (writes_of command (entries table)) (rank_order (names_of table)) first_text).output)
-          (λ of_input. writes.told first_text before ea (put ∙ ek) of_input) is flushes.ends in
-          subst (λ (r : Report). (answer ≡ r.fault) × (k_took out_after ≡ Some (before ++ r.output))) (sym (same_report genome_text first_text eg)) (w.0, took_after ∙ w.1);
-      front = λ genome_text first_text before eg ea ek.
-          let f = front_by begun mid new fault answer before (records_report (writes_of command (entries table)) (rank_order (names_of table)) first_text).output (took ∙ ek) writes.grows flushes.grows
-          (λ other. writes.kept other first_text before ea (put ∙ ek)) (λ is. writes.cut is first_text before ea (put ∙ ek)) flushes.ends in
-          (f.0, f.1, took_after ∙ f.2, ap (λ (r : Report). r.output) (same_report genome_text first_text eg) ∙ f.3);
-      writing = λ e. failed_after ∙ writing_by begun mid new fault answer writes.writing e flushes.ends;
-      reading_genome = λ line e. absurd (genome_no_first (writes.reading FromGenome line (reading_by begun mid new fault answer FromGenome line e flushes.ends)).0);
-      reading_first = λ line e. (writes.reading First line (reading_by begun mid new fault answer First line e flushes.ends)).1;
+none_settle_on : (command : Command) (chromosomes : Result (List Entry) Told) (second : Option Handed) → settles_on command chromosomes second [] ≡ []
+none_settle_on command (Err fault) second = refl
+none_settle_on command (Ok entries) second = none_settle command entries second
+
+taken_all : (took : Option (List ℕ)) (before : List ℕ) → took ≡ Some before → IfSome took (λ taken. length (before ++ []) ≤ length taken + block_size)
+taken_all None before e = tt
+taken_all (Some taken) before e =
+    let same : taken ≡ before = cc in
+    omega (arith, ap length same, ap length (append-nil before))
+
+-- a fault of the first input lies there
+line_elsewhere : (kinds : Kind → Bool) (input : Input) (t : Told) → is_of_genome input ≡ false → TellsLine kinds input t → lies_in_genome t.place ≡ true → ⊥
+line_elsewhere kinds input t other tells lies = false≢true (sym other ∙ sym (ap (λ (f : Told). lies_in_genome f.place) tells.is) ∙ lies)
+
+read_elsewhere : {A : Type 0} (left : A → Option (List ℕ)) (failed : A → Bool) (input : Input) (before after : A) (t : Told) → is_of_genome input ≡ false → TellsRead left failed input before after t → lies_in_genome t.place ≡ true → ⊥
+read_elsewhere left failed input before after t other tells lies = false≢true (sym other ∙ sym (ap (λ (f : Told). lies_in_genome f.place) tells.is) ∙ lies)
+
+device_elsewhere : (b : Bool) (t : Told) → TellsDevice b t → lies_in_genome t.place ≡ true → ⊥
+device_elsewhere b t (inl write) lies = false≢true (sym (ap (λ (f : Told). lies_in_genome f.place) write.0) ∙ lies)
+device_elsewhere b t (inr memory) lies = false≢true (sym (ap (λ (f : Told). lies_in_genome f.place) memory) ∙ lies)
+
+input_elsewhere : {A : Type 0} (left : A → Option (List ℕ)) (failed : A → Bool) (kinds : Kind → Bool) (input : Input) (before after : A) (t : Told) → is_of_genome input ≡ false
+    → TellsInput left failed kinds input before after t → lies_in_genome t.place ≡ true → ⊥
+input_elsewhere left failed kinds input before after t other (inl tells) lies = line_elsewhere kinds input t other tells lies
+input_elsewhere left failed kinds input before after t other (inr tells) lies = read_elsewhere left failed input before after t other tells lies
+
+if_elsewhere : {B : Type 0} (left : B → Option (List ℕ)) (failed : B → Bool) (kinds : Kind → Bool) (input : Input) (before after : Option B) (t : Told) → is_of_genome input ≡ false
+    → TellsInputIf left failed kinds input before after t → lies_in_genome t.place ≡ true → ⊥
+if_elsewhere left failed kinds input None after t other tells lies = absurd tells
+if_elsewhere left failed kinds input (Some before) None t other tells lies = absurd tells
+if_elsewhere left failed kinds input (Some before) (Some after) t other tells lies = input_elsewhere left failed kinds input before after t other tells lies
+
+-- chromosomes that were read aren't at fault
+other_chromosomes : (chromosomes : Result (List Entry) Told) (entries : List Entry) (wrong : Told) → chromosomes ≡ Ok entries → chromosomes ≡ Err wrong → ⊥
+other_chromosomes chromosomes entries wrong o e = cc
+
+-- a failed write is told where the sink failed
+write_by : {P : Type 0} (b : Bool) → (P → ⊥) → P ⊎ TellsDevice b write_failed → b ≡ true
+write_by b other (inl p) = absurd (other p)
+write_by b other (inr (inl write)) = write.1
+write_by b other (inr (inr memory)) = absurd (memory_no_write (sym memory))
+
+write_of_input : {A : Type 0} (left : A → Option (List ℕ)) (failed : A → Bool) (kinds : Kind → Bool) (input : Input) (before after : A) → TellsInput left failed kinds input before after write_failed → ⊥
+write_of_input left failed kinds input before after (inl tells) = placed_no_write input tells.line tells.kind (sym tells.is)
+write_of_input left failed kinds input before after (inr tells) = write_no_read input tells.line tells.is
+
+write_of_if : {B : Type 0} (left : B → Option (List ℕ)) (failed : B → Bool) (kinds : Kind → Bool) (input : Input) (before after : Option B) → TellsInputIf left failed kinds input before after write_failed → ⊥
+write_of_if left failed kinds input None after tells = absurd tells
+write_of_if left failed kinds input (Some before) None tells = absurd tells
+write_of_if left failed kinds input (Some before) (Some after) tells = write_of_input left failed kinds input before after tells
+
+-- an input that wasn't touched was read no further than its first line
+near_untouched : (Beside : List TextLine → Type 0) → ((lines : List TextLine) → Beside lines) → (command : Command) (chromosomes : Result (List Entry) Told) (second : Option Handed) (text before : List ℕ) (left took more : Option (List ℕ)) → left ≡ Some text → took ≡ Some before → Grows took more
+    → ReadsNoFurther Beside (settles_on command chromosomes second) text left before more
+near_untouched Beside has command chromosomes second text before left took more e t g = record {
+  n = 1;
+  some = omega arith;
+  handed = [];
+  consumed = subst (λ o. Consumes o left []) e (Consumes-nil left);
+  read = omega arith;
+  beside = has (take 1 (text_lines text));
+  settled = rw (none_settle_on command chromosomes second) (later_known took took more before (length (before ++ [])) t ([], Appends-nil took) g (taken_all took before t));
+}
+
+module _ {G A B K : Type 0} (g_left : G → Option (List ℕ)) (g_failed : G → Bool) (a_left : A → Option (List ℕ)) (a_failed a_end : A → Bool) (b_left : B → Option (List ℕ)) (b_failed : B → Bool) (k_took : K → Option (List ℕ)) (k_failed : K → Bool)
+    (command : Command) (genome genome_after : Option G) (first first_after : A) (second second_after : Option B) (out out_after : K) (begun mid new : Output) (put : begun.put ≡ k_took out) (took : begun.took ≡ k_took out) (served : begun.sink_has_failed ≡ k_failed out)
+    (took_after : k_took out_after ≡ new.took) (failed_after : k_failed out_after ≡ new.sink_has_failed) (fault answer : Option Told) (flushes : Flushes mid fault answer new) where
+  abbrev RunsSo : Type 0
+  RunsSo = Runs g_left g_failed a_left a_failed a_end b_left b_failed k_took k_failed command genome first second out answer genome_after first_after second_after out_after
+
+  abbrev GenomeTells : Told → Type 0
+  GenomeTells t = TellsInputIf g_left g_failed is_genome_kind FromGenome genome genome_after t
+
+  abbrev OthersTell : Told → Type 0
+  OthersTell t = TellsInput a_left a_failed (first_kinds command) First first first_after t ⊎ TellsInputIf b_left b_failed (second_kinds command) Second second second_after t
+
+  -- how far the second input was read beside lines of the first
+  abbrev Beside : Inputs → List TextLine → Type 0
+  Beside inputs lines = a_end first_after ≡ false
+      → HandsUpToIf b_left (reaches_on command (chromosomes_of inputs.genome) inputs.second lines + block_size) second second_after
+
+  -- the chromosomes were read, and the output written by them
+  module _ (table : Genome) (knows : KnowsChromosomes g_left g_failed genome genome_after table) (writes : WritesBy a_left a_failed a_end b_left b_failed command (entries table) first second begun fault first_after second_after mid) where
+    abbrev reported : Inputs → Report
+    reported inputs = command_report command (entries table) inputs.first inputs.second
+
+    write_of_others : OthersTell write_failed → ⊥
+    write_of_others (inl tells) = write_of_input a_left a_failed (first_kinds command) First first first_after tells
+    write_of_others (inr tells) = write_of_if b_left b_failed (second_kinds command) Second second second_after tells
+
+    others_elsewhere : (t : Told) → OthersTell t ⊎ TellsDevice mid.sink_has_failed t → lies_in_genome t.place ≡ true → ⊥
+    others_elsewhere t (inl (inl tells)) lies = input_elsewhere a_left a_failed (first_kinds command) First first first_after t refl tells lies
+    others_elsewhere t (inl (inr tells)) lies = if_elsewhere b_left b_failed (second_kinds command) Second second second_after t refl tells lies
+    others_elsewhere t (inr tells) lies = device_elsewhere mid.sink_has_failed t tells lies
+
+    sink_failed : fault ≡ Some write_failed → mid.sink_has_failed ≡ true
+    sink_failed e = write_by mid.sink_has_failed write_of_others (writes.named write_failed e)
+
+    of_others : (t : Told) → OthersTell t ⊎ TellsDevice mid.sink_has_failed t → (GenomeTells t ⊎ OthersTell t) ⊎ TellsDevice mid.sink_has_failed t
+    of_others t (inl tells) = inl (inr tells)
+    of_others t (inr tells) = inr tells
+
+    report_is : (inputs : Inputs) → chromosomes_of inputs.genome ≡ Ok (entries table) → report_of command inputs ≡ reported inputs
+    unfolding report_of
+    report_is inputs e = ap (λ c. report_on command c inputs.first inputs.second) e
+
+    pub runs_written : RunsSo
+    runs_written = record {
+      whole = λ inputs before reads known served memory.
+          let same = report_is inputs (knows.whole inputs.genome reads.genome_file) in
+          let w = whole_by begun mid new fault answer (reported inputs).fault (before ++ (reported inputs).output)
+          (λ write growth. writes.whole inputs.first inputs.second before reads.first_input reads.second_input (put ∙ known) write growth)
+          sink_failed (sym failed_after ∙ served) memory flushes.ends in
+          subst (λ (r : Report). (answer ≡ r.fault) × (k_took out_after ≡ Some (before ++ r.output))) (sym same) (w.0, took_after ∙ w.1);
+      told = λ inputs before holds known is.
+          let same = report_is inputs (knows.told inputs.genome holds.genome_file) in
+          let w = told_by begun mid new fault answer (reported inputs).fault (before ++ (reported inputs).output)
+          (λ of_input. writes.told inputs.first inputs.second before holds.first_input holds.second_input (put ∙ known) of_input) is flushes.ends in
+          subst (λ (r : Report). (answer ≡ r.fault) × (k_took out_after ≡ Some (before ++ r.output))) (sym same) (w.0, took_after ∙ w.1);
+      front = λ inputs before holds known.
+          let same = report_is inputs (knows.told inputs.genome holds.genome_file) in
+          let f = front_by begun mid new fault answer before (reported inputs).output (took ∙ known) writes.grows flushes.grows
+          (λ other. writes.kept other inputs.first inputs.second before holds.first_input holds.second_input (put ∙ known)) (λ is. writes.cut is inputs.first inputs.second before holds.first_input holds.second_input (put ∙ known)) flushes.ends in
+          (f.0, f.1, took_after ∙ f.2, ap (λ (r : Report). r.output) same ∙ f.3);
+      near = λ inputs before holds known.
+          let near = writes.near inputs.first inputs.second before before holds.first_input holds.second_input (put ∙ known) (took ∙ known) in
+          let read = knows.told inputs.genome holds.genome_file in
+          let later = near_later (λ lines. a_end first_after ≡ false → HandsUpToIf b_left (command_reaches command (entries table) inputs.second lines + block_size) second second_after) (Beside inputs)
+          (λ lines beside. subst (λ c. a_end first_after ≡ false → HandsUpToIf b_left (reaches_on command c inputs.second lines + block_size) second second_after) (sym read) beside)
+          (command_settles command (entries table) inputs.second) inputs.first.text (a_left first_after) before begun.took mid.took new.took before (took ∙ known) writes.grows flushes.grows near in
+          subst (λ c. ReadsNoFurther (Beside inputs) (settles_on command c inputs.second) inputs.first.text (a_left first_after) before (k_took out_after)) (sym read)
+          (subst (ReadsNoFurther (Beside inputs) (command_settles command (entries table) inputs.second) inputs.first.text (a_left first_after) before) (sym took_after) later);
+      served = λ none.
+          let was = served_by begun mid new fault answer flushes.ends none in
+          let devices = writes.served was.0 in
+          ((knows.served, devices.0.1), (devices.0.0, failed_after ∙ was.1 ∙ devices.1 ∙ served));
+      after_genome = λ file holds wrong e. absurd (other_chromosomes (chromosomes_of file) (entries table) wrong (knows.told file holds) e);
+      untouched = λ t e lies. absurd (others_elsewhere t (writes.named t (placed_by begun mid new fault answer t e lies flushes.ends)) lies);
+      named = λ t e.
+          subst (λ b. (GenomeTells t ⊎ OthersTell t) ⊎ TellsDevice b t) (sym failed_after)
+          (named_by begun mid new fault answer (λ t e. of_others t (writes.named t e)) flushes.ends t e);
     }
 
-  module _ (fault : Told) (flushes : Flushes begun (Some fault) answer new) where
-    abbrev Wrong : Type 0
-    Wrong = LineAtFault g_left g_failed reader read fault ⊎ (ReadingFails g_left g_failed reader read fault ⊎ MemoryRanOut g_failed reader read fault)
+  -- the genome file is at fault, and nothing else was touched
+  module _ (wrong : Told) (lacks : LacksChromosomes g_left g_failed genome genome_after wrong) (stops : StopsAtGenome first second begun wrong fault first_after second_after mid) where
+    report_wrong : (inputs : Inputs) → chromosomes_of inputs.genome ≡ Err wrong → report_of command inputs ≡ record { output = []; fault = Some wrong }
+    unfolding report_of
+    report_wrong inputs e = ap (λ c. report_on command c inputs.first inputs.second) e
 
-    no_write : Wrong → fault ≡ write_failed → ⊥
-    no_write (inl at) e = placed_no_write (input_of reader) (lines_given read) at.kind (sym at.place ∙ e)
-    no_write (inr (inl fails)) e = placed_no_write (input_of reader) (suc (lines_given read)) ReadFailed (sym fails.is ∙ e)
-    no_write (inr (inr ran)) e = memory_no_write (sym ran.is ∙ e)
+    begun_put : (before : List ℕ) → k_took out ≡ Some before → mid.put ≡ Some (before ++ [])
+    begun_put before known = ap (λ (o : Output). o.put) stops.unchanged ∙ put ∙ known ∙ ap Some (sym (append-nil before))
 
-    passed : Hands g_left reader read → 2 ^ 63 ≤ bytes_taken read → PassesBound (g_left genome) (g_left genome_after)
-    passed hands past =
-        let handed : Consumes (g_left genome) (g_left genome_after) hands.0 = subst (λ s. Consumes (g_left genome) (g_left s) hands.0) ended (subst (λ s. Consumes (g_left s) (g_left (source_of read)) hands.0) source hands.1) in
-        (hands.0, handed, omega (arith, past, hands.2, fresh))
+    mid_grows : Grows begun.took mid.took
+    mid_grows = subst (λ (o : Output). Grows begun.took o.took) (sym stops.unchanged) ([], Appends-nil begun.took)
 
-    read_cause : Wrong → (i : Input) (line : ℕ) → fault ≡ read_failed i line → (i ≡ FromGenome) × ((g_failed genome_after ≡ true) ⊎ PassesBound (g_left genome) (g_left genome_after))
-    read_cause (inl at) i line e = absurd (line_no_read (input_of reader) (lines_given read) at.kind i line at.of_line (sym at.place ∙ e))
-    read_cause (inr (inl fails)) i line e =
-        (sym (same_read (input_of reader) i (suc (lines_given read)) line (sym fails.is ∙ e)) ∙ input, ⊎_elim (λ failed. inl (ap g_failed (sym ended) ∙ failed)) (λ past. inr (passed fails.bytes past)) fails.cause)
-    read_cause (inr (inr ran)) i line e = absurd (memory_no_read i line (sym ran.is ∙ e))
+    no_write : fault ≡ Some write_failed → ⊥
+    no_write e = lacks.no_write (some_is wrong write_failed (sym stops.is ∙ e))
 
-    wrong_at_line : (genome_text first_text before : List ℕ) → g_left genome ≡ Some genome_text → k_took out ≡ Some before → LineAtFault g_left g_failed reader read fault
-        → (Some fault ≡ (report_at genome_text first_text).fault) × (begun.put ≡ Some (before ++ (report_at genome_text first_text).output))
-    wrong_at_line genome_text first_text before eg ek at =
-        let is = at_genome genome_text (λ lines. genome_of (input_of reader) lines ≡ Err fault) eg at.is in
-        let same : report_at genome_text first_text ≡ record { output = []; fault = Some fault } = ap (λ r. report_on command r first_text) (ap (λ i. genome_of i (text_lines genome_text)) (sym input) ∙ is) in
-        subst (λ (r : Report). (Some fault ≡ r.fault) × (begun.put ≡ Some (before ++ r.output))) (sym same) (refl, put ∙ ek ∙ ap Some (sym (append-nil before)))
+    genome_named : (t : Told) → TellsInputIf g_left g_failed is_genome_kind FromGenome genome genome_after wrong ⊎ (wrong ≡ no_memory) → wrong ≡ t
+        → (GenomeTells t ⊎ OthersTell t) ⊎ TellsDevice mid.sink_has_failed t
+    genome_named t (inl tells) e = inl (inl (subst (TellsInputIf g_left g_failed is_genome_kind FromGenome genome genome_after) e tells))
+    genome_named t (inr memory) e = inr (inr (sym e ∙ memory))
 
-    wrong_told : (genome_text first_text before : List ℕ) → g_left genome ≡ Some genome_text → k_took out ≡ Some before → Wrong → IsOfInput (Some fault)
-        → (Some fault ≡ (report_at genome_text first_text).fault) × (begun.put ≡ Some (before ++ (report_at genome_text first_text).output))
-    wrong_told genome_text first_text before eg ek (inl at) of_input = wrong_at_line genome_text first_text before eg ek at
-    wrong_told genome_text first_text before eg ek (inr (inl fails)) of_input = absurd (of_input.no_read (input_of reader) (suc (lines_given read)) (ap Some fails.is))
-    wrong_told genome_text first_text before eg ek (inr (inr ran)) of_input = absurd (of_input.no_growth (ap Some ran.is))
-
-    -- the genome file's fault is the report's
-    wrong_whole : (genome_text first_text before : List ℕ) → g_left genome ≡ Some genome_text → k_took out ≡ Some before → length genome_text < 2 ^ 63 → g_failed genome_after ≡ false → Some fault ≢ Some no_memory → Wrong
-        → (Some fault ≡ (report_at genome_text first_text).fault) × (begun.put ≡ Some (before ++ (report_at genome_text first_text).output))
-    wrong_whole genome_text first_text before eg ek short served memory (inl at) = wrong_at_line genome_text first_text before eg ek at
-    wrong_whole genome_text first_text before eg ek short served memory (inr (inl fails)) =
-        absurd (⊎_elim (λ failed. false≢true (sym served ∙ ap g_failed (sym ended) ∙ failed))
-        (λ past. let few = consumes_short (g_left (source_of reader)) (g_left (source_of read)) fails.bytes.0 genome_text (ap g_left source ∙ eg) fails.bytes.1 in omega (arith, few, short, past, fails.bytes.2, fresh)) fails.cause)
-    wrong_whole genome_text first_text before eg ek short served memory (inr (inr ran)) = absurd (memory (ap Some ran.is))
-
-    pub gives_wrong : Wrong → GivesReport first
-    gives_wrong wrong = record {
-      whole = λ genome_text first_text before eg ea ek short_genome short_first served_genome served_first served_out memory.
-          let w = whole_by begun begun new (Some fault) answer (report_at genome_text first_text).fault (before ++ (report_at genome_text first_text).output)
-          (λ sink no_growth. wrong_whole genome_text first_text before eg ek short_genome served_genome no_growth wrong)
-          (λ e. absurd (no_write wrong (some_is fault write_failed e))) (sym failed_after ∙ served_out) memory flushes.ends in
-          (w.0, took_after ∙ w.1);
-      told = λ genome_text first_text before eg ea ek is.
-          let w = told_by begun begun new (Some fault) answer (report_at genome_text first_text).fault (before ++ (report_at genome_text first_text).output) (λ of_input. wrong_told genome_text first_text before eg ek wrong of_input) is flushes.ends in
-          (w.0, took_after ∙ w.1);
-      front = λ genome_text first_text before eg ea ek.
-          let f = front_by begun begun new (Some fault) answer before (report_at genome_text first_text).output (took ∙ ek) ([], Appends-nil begun.took) flushes.grows
-          (λ other. ([], (report_at genome_text first_text).output, refl, put ∙ ek ∙ ap Some (sym (append-nil before)))) (λ is. absurd (no_write wrong (some_is fault write_failed is))) flushes.ends in
+    pub runs_wrong : RunsSo
+    runs_wrong = record {
+      whole = λ inputs before reads known served memory.
+          let w = whole_by begun mid new fault answer (Some wrong) (before ++ [])
+          (λ write growth. (stops.is, begun_put before known)) (λ e. absurd (no_write e)) (sym failed_after ∙ served) memory flushes.ends in
+          let same = report_wrong inputs (lacks.whole inputs.genome reads.genome_file (λ e. memory (w.0 ∙ ap Some e))) in
+          subst (λ (r : Report). (answer ≡ r.fault) × (k_took out_after ≡ Some (before ++ r.output))) (sym same) (w.0, took_after ∙ w.1);
+      told = λ inputs before holds known is.
+          let w = told_by begun mid new fault answer (Some wrong) (before ++ []) (λ of_input. (stops.is, begun_put before known)) is flushes.ends in
+          let same = report_wrong inputs (lacks.told inputs.genome holds.genome_file (subst IsOfInput w.0 is)) in
+          subst (λ (r : Report). (answer ≡ r.fault) × (k_took out_after ≡ Some (before ++ r.output))) (sym same) (w.0, took_after ∙ w.1);
+      front = λ inputs before holds known.
+          let f = front_by begun mid new fault answer before (report_of command inputs).output (took ∙ known) mid_grows flushes.grows
+          (λ other. ([], (report_of command inputs).output, refl, begun_put before known)) (λ is. absurd (no_write is)) flushes.ends in
           (f.0, f.1, took_after ∙ f.2, f.3);
-      writing = λ e. failed_after ∙ writing_by begun begun new (Some fault) answer (λ is. absurd (no_write wrong (some_is fault write_failed is))) e flushes.ends;
-      reading_genome = λ line e. (read_cause wrong FromGenome line (some_is fault (read_failed FromGenome line) (reading_by begun begun new (Some fault) answer FromGenome line e flushes.ends))).1;
-      reading_first = λ line e. absurd (genome_no_first (sym (read_cause wrong First line (some_is fault (read_failed First line) (reading_by begun begun new (Some fault) answer First line e flushes.ends))).0));
+      near = λ inputs before holds known.
+          let text = holds.first_input in
+          let settles = settles_on command (chromosomes_of inputs.genome) inputs.second in
+          subst (λ (h : Handed). ReadsNoFurther (Beside inputs) settles h.text (a_left first_after) before (k_took out_after)) (sym text.is)
+          (subst (λ f. ReadsNoFurther (Beside inputs) settles text.text (a_left f) before (k_took out_after)) (sym stops.untouched)
+          (subst (ReadsNoFurther (Beside inputs) settles text.text (a_left first) before) (sym took_after)
+          (near_untouched (Beside inputs) (λ lines end. subst (HandsUpToIf b_left (reaches_on command (chromosomes_of inputs.genome) inputs.second lines + block_size) second) (sym stops.other_untouched) (hands_none b_left second inputs.second (reaches_on command (chromosomes_of inputs.genome) inputs.second lines + block_size) holds.second_input))
+          command (chromosomes_of inputs.genome) inputs.second text.text before (a_left first) begun.took new.took text.known (took ∙ known) (grows_both begun.took mid.took new.took mid_grows flushes.grows))));
+      served = λ none.
+          let was = served_by begun mid new fault answer flushes.ends none in
+          absurd (let apart : None ≡ Some wrong = sym was.0 ∙ stops.is in cc);
+      after_genome = λ file holds wrong e. (stops.untouched, stops.other_untouched);
+      untouched = λ t e lies. (stops.untouched, stops.other_untouched);
+      named = λ t e.
+          subst (λ b. (GenomeTells t ⊎ OthersTell t) ⊎ TellsDevice b t) (sym failed_after)
+          (named_by begun mid new fault answer (λ t e. genome_named t lacks.named (some_is wrong t (sym stops.is ∙ e))) flushes.ends t e);
     }
 
-module _ {G A K : Type 0} (g_left : G → Option (List ℕ)) (g_failed : G → Bool) (a_left : A → Option (List ℕ)) (a_failed : A → Bool) (k_took : K → Option (List ℕ)) (k_failed : K → Bool) where
-  same_some : (a b : G) → Some a ≡ Some b → a ≡ b
-  same_some a b e = cc
-
-  gives_by : (command : Command) (genome : G) (first : A) (out : K) (fault : Option Told) (back : G) (first_after : A) (out_after : K)
-      → Runs g_left g_failed a_left a_failed k_took k_failed command genome first out fault back first_after out_after
-      → Gives g_left g_failed a_left a_failed k_took k_failed (λ genome first. report_of command genome first []) genome first out fault back first_after out_after
-  unfolding report_of
-  gives_by command genome first out fault back first_after out_after runs = runs
-
-  -- a run of a plan is a run of its command
-  pub runs_plan : (plan : PlanSeen) (genome : Option G) (given : G) (first : A) (out : K) (fault : Option Told) (back : G) (first_after : A) (out_after : K) → genome ≡ Some given
-      → Runs g_left g_failed a_left a_failed k_took k_failed plan.command given first out fault back first_after out_after
-      → RunsPlan g_left g_failed a_left a_failed k_took k_failed plan genome first out fault (Some back) first_after out_after
-  runs_plan plan genome given first out fault back first_after out_after e runs was after f h =
-      let gives = gives_by plan.command given first out fault back first_after out_after runs in
-      subst (λ it. Gives g_left g_failed a_left a_failed k_took k_failed (λ genome first. report_of plan.command genome first []) it first out fault after first_after out_after) (same_some given was (sym e ∙ f))
-      (subst (λ it. Gives g_left g_failed a_left a_failed k_took k_failed (λ genome first. report_of plan.command genome first []) given first out fault it first_after out_after) (same_some back after h) gives)
+  pub runs_by : (chromosomes : Result Genome Fault) → ReadsChromosomes g_left g_failed genome chromosomes genome_after → WritesOutput a_left a_failed a_end b_left b_failed command chromosomes first second begun fault first_after second_after mid → RunsSo
+  runs_by (Ok table) knows writes = runs_written table knows writes
+  runs_by (Err wrong) lacks stops = runs_wrong (told wrong) lacks stops

@@ -1,48 +1,152 @@
--- Lemmas on the lines that an engine writes, from its intervals.
-use Rattle.std.proofs.Common.{◌≡◌, ℕ, Bool, List, [], refl, sym, ap, ◌∙◌}
+-- Lemmas on the lines that an engine writes, from its intervals, and on the report that they make.
+use Rattle.std.proofs.Common.{◌≡◌, ℕ, ◌+◌, ◌-◌, ◌≤◌, Bool, List, [], ◌++◌, length, take, Option, None, Some, refl, sym, ap, ◌∙◌, subst}
+use Rattle.std.specs.Prelude.{IfSome}
 use Rattle.std.proofs.lemmas.Grind.{flat_map-append}
-use Rattle.bt_bed.specs.Feature.{Feature}
-use Rattle.bt_bed.specs.Interval.{Interval}
-use Rattle.bt_runs.specs.Lines.{interval_line, interval_lines}
-use Rattle.bt_bed.specs.Genome.{Entry}
+use Rattle.bt_lines.specs.Fault.{Told}
+use Rattle.bt_lines.specs.Handed.{Handed, whole_text}
+use Rattle.bt_lines.specs.Lines.{TextLine, text_lines}
+use Rattle.bt_lines.specs.Output.{Output, block_size}
+use Rattle.bt_lines.specs.declared.fault.Input.TheVariants.{First}
+use Rattle.bt_bed.specs.Feature.{Feature, intervals_of}
+use Rattle.bt_bed.specs.Genome.{Entry, genome_names}
+use Rattle.bt_bed.specs.Good.{good, items_in}
+use Rattle.bt_bed.specs.GoodBed.{bed_format, bed_good}
+use Rattle.bt_bed.specs.Interval.{Interval, last_of}
+use Rattle.bt_bed.specs.IntervalLine.{interval_line, interval_lines}
+use Rattle.bt_bed.specs.Order.{IsTotal}
+use Rattle.bt_bed.specs.Locus.{ArePlaced}
+use Rattle.bt_bed.specs.Rank.{AreDistinct}
+use Rattle.bt_bed.specs.RankTotal.{ranks_total}
+use Rattle.bt_bed.specs.Sorting.{sorting_of}
+use Rattle.bt_bed.proofs.GoodBedLemmas.{placed_good, placed_lines}
 use Rattle.bt_runs.specs.Gaps.{settled_gaps}
-use Rattle.bt_runs.specs.MergedRuns.{settled_runs}
+use Rattle.bt_runs.specs.MergedRuns.{merged_runs, passed_by, settled_runs}
+use Rattle.bt_runs.specs.Settling.{SettledBegins, SettledStays}
 use Rattle.bt_runs.specs.declared.merge_strand.MergeStrand.{MergeStrand}
-use Rattle.bt_tool.specs.Writes.{writes_of}
+use Rattle.bt_runs.proofs.FileOrder.{in_file_order}
+use Rattle.bt_tool.specs.Driving.{IsReported, WritesInput, WritesRecords}
+use Rattle.bt_tool.specs.RecordReport.{Report, records_report, records_settle, report_by}
+use Rattle.bt_tool.specs.Report.{command_report, command_settles, order_of}
+use Rattle.bt_tool.specs.Written.{Written, complement_written, merge_written}
 use Rattle.bt_tool.specs.declared.plan_type.Command.{Command}
 use Rattle.bt_tool.specs.declared.plan_type.Command.TheVariants.{Merge, Complement}
-use Rattle.bt_runs.specs.Settling.{Begins, Stays}
 
 -- intervals that stay give lines that stay
-pub lines_stay : (settled : List Feature → List Interval) (Taken : List Feature → Type 0) → Stays settled Taken → Stays (λ records. interval_lines (settled records)) Taken
+pub lines_stay : (settled : List Feature → List Interval) (Taken : List Feature → Type 0) → SettledStays settled Taken → SettledStays (λ records. interval_lines (settled records)) Taken
 lines_stay settled Taken stays past more taken =
     let s = stays past more taken in
     (interval_lines s.0, ap interval_lines s.1 ∙ flat_map-append interval_line (settled past) s.0)
 
 -- and intervals that begin a whole, lines that begin its lines
-pub lines_begin : (settled whole : List Feature → List Interval) (Taken : List Feature → Type 0) → Begins settled whole Taken → Begins (λ records. interval_lines (settled records)) (λ records. interval_lines (whole records)) Taken
+pub lines_begin : (settled whole : List Feature → List Interval) (Taken : List Feature → Type 0) → SettledBegins settled whole Taken → SettledBegins (λ records. interval_lines (settled records)) (λ records. interval_lines (whole records)) Taken
 lines_begin settled whole Taken begins past more taken =
     let s = begins past more taken in
     (interval_lines s.0, ap interval_lines s.1 ∙ flat_map-append interval_line (settled past) s.0)
+
+-- what a merge writes, chromosomes as they come
+abbrev pub merge_as_they_come : ℕ → MergeStrand → Written
+merge_as_they_come d strand = record {
+  whole = λ records. interval_lines (merged_runs d strand records);
+  settled = λ records. interval_lines (settled_runs d strand records);
+}
 
 -- a merge that has taken no record has settled nothing
 pub merge_begins : (gap : ℕ) (strand : MergeStrand) → interval_lines (settled_runs gap strand []) ≡ []
 unfolding settled_runs
 merge_begins gap strand = refl
 
--- what a merge writes, by its rules
-pub merge_writes : (command : Command) (entries : List Entry) (d gap : ℕ) (strand counted : MergeStrand) → command ≡ Merge d strand → gap ≡ d → counted ≡ strand
-    → writes_of (Merge gap counted) entries ≡ writes_of command entries
-merge_writes command entries d gap strand counted is same_gap same_strand =
-    ap (λ n. writes_of (Merge n counted) entries) same_gap ∙ ap (λ s. writes_of (Merge d s) entries) same_strand ∙ ap (λ command. writes_of command entries) (sym is)
-
 -- a complement that has taken no record has settled nothing
 pub complement_begins : (limit : Bool) (entries : List Entry) → interval_lines (settled_gaps limit entries []) ≡ []
 unfolding settled_gaps
 complement_begins limit entries = refl
 
--- what a complement writes, by its chromosomes and whether it leaves out those without records
-pub complement_writes : (command : Command) (entries counted : List Entry) (limit told : Bool) → command ≡ Complement limit → counted ≡ entries → told ≡ limit
-    → writes_of (Complement told) counted ≡ writes_of command entries
-complement_writes command entries counted limit told is same_entries same_limit =
-    ap (λ es. writes_of (Complement told) es) same_entries ∙ ap (λ l. writes_of (Complement l) entries) same_limit ∙ ap (λ command. writes_of command entries) (sym is)
+-- a report in the place of an equal one
+pub writes_same : {A : Type 0} (left : A → Option (List ℕ)) (failed : A → Bool) (mine report : Handed → Report) (mine_settle settles : List TextLine → List ℕ)
+    → ((handed : Handed) → mine handed ≡ report handed) → ((lines : List TextLine) → mine_settle lines ≡ settles lines)
+    → (first : A) (out : Output) (fault : Option Told) (new : A) (grown : Output) → WritesInput left failed mine mine_settle first out fault new grown
+    → WritesInput left failed report settles first out fault new grown
+writes_same left failed mine report mine_settle settles same same_settle first out fault new grown w = record {
+  whole = λ handed before reads put write memory. subst (λ r. IsReported r before fault grown) (same handed) (w.whole handed before reads put write memory);
+  told = λ text before e put is. subst (λ r. IsReported r before fault grown) (same (whole_text text)) (w.told text before e put is);
+  cut = λ is text before e put.
+      let c = w.cut is text before e put in
+      (c.0, c.1, ap (λ (r : Report). r.output) (sym (same (whole_text text))) ∙ c.2, c.3);
+  kept = λ other text before e put.
+      let k = w.kept other text before e put in
+      (k.0, k.1, ap (λ (r : Report). r.output) (sym (same (whole_text text))) ∙ k.2, k.3);
+  grows = w.grows;
+  served = w.served;
+  near = λ text before taken e put known.
+      let n = w.near text before taken e put known in
+      record {
+        n = n.n;
+        some = n.some;
+        handed = n.handed;
+        consumed = n.consumed;
+        read = n.read;
+        settled = subst (λ l. IfSome grown.took (λ taken. length (before ++ l) ≤ length taken + block_size)) (same_settle (take (n.n - 1) (text_lines text))) n.settled;
+        beside = n.beside;
+      };
+  named = w.named;
+}
+
+-- the records of a report are in order
+module _ (entries : List Entry) (distinct : AreDistinct (genome_names entries)) where
+  total : IsTotal (order_of entries)
+  total = ranks_total (genome_names entries)
+
+  -- merged runs come in the order of the genome file
+  merged_same : (d : ℕ) (strand : MergeStrand) (records : List Feature) → ArePlaced (order_of entries) (intervals_of records)
+      → interval_lines (merged_runs d strand records) ≡ (merge_written entries d strand).whole records
+  merged_same d strand records placed = ap interval_lines (sym (in_file_order (genome_names entries) d strand records distinct placed))
+
+  settled_same : (d : ℕ) (strand : MergeStrand) (records : List Feature) → ArePlaced (order_of entries) (intervals_of records)
+      → interval_lines (settled_runs d strand records) ≡ (merge_written entries d strand).settled records
+  unfolding settled_runs
+  settled_same d strand records placed =
+      ap (λ runs. interval_lines (passed_by d runs (last_of (intervals_of records)))) (sym (in_file_order (genome_names entries) d strand records distinct placed))
+
+  report_same : (d : ℕ) (strand : MergeStrand) (records : List Feature) (fault : Option Told) → ArePlaced (order_of entries) (intervals_of records)
+      → report_by (merge_as_they_come d strand) records fault ≡ report_by (merge_written entries d strand) records fault
+  report_same d strand records None placed = ap (λ l. record { output = l; fault = None }) (merged_same d strand records placed)
+  report_same d strand records (Some fault) placed = ap (λ l. record { output = l; fault = Some fault }) (settled_same d strand records placed)
+
+  -- so what a merge writes, chromosomes as they come, is the report
+  pub merge_reports : (d : ℕ) (strand : MergeStrand) (handed : Handed)
+      → records_report (merge_as_they_come d strand) (order_of entries) handed ≡ records_report (merge_written entries d strand) (order_of entries) handed
+  merge_reports d strand handed =
+      let good = bed_good First (order_of entries) handed in
+      report_same d strand (items_in good) good.fault (placed_good First (order_of entries) handed total)
+
+  pub merge_settles : (d : ℕ) (strand : MergeStrand) (lines : List TextLine)
+      → records_settle (merge_as_they_come d strand) (order_of entries) lines ≡ records_settle (merge_written entries d strand) (order_of entries) lines
+  merge_settles d strand lines =
+      settled_same d strand (items_in (good (bed_format (sorting_of (order_of entries))) First lines)) (placed_lines First (order_of entries) lines total)
+
+  -- a merge's records were written as the command asks for
+  pub merge_writes : {A : Type 0} (left : A → Option (List ℕ)) (failed : A → Bool) (command : Command) (d gap : ℕ) (strand counted : MergeStrand) → command ≡ Merge d strand → gap ≡ d → counted ≡ strand
+      → (first : A) (out : Output) (fault : Option Told) (new : A) (grown : Output)
+      → WritesRecords left failed (merge_as_they_come gap counted) (order_of entries) first out fault new grown
+      → WritesInput left failed (λ handed. command_report command entries handed None) (command_settles command entries None) first out fault new grown
+  merge_writes left failed command d gap strand counted is same_gap same_strand =
+      writes_same left failed (records_report (merge_as_they_come gap counted) (order_of entries)) (λ handed. command_report command entries handed None)
+      (records_settle (merge_as_they_come gap counted) (order_of entries)) (command_settles command entries None)
+      (λ handed. ap (λ n. records_report (merge_as_they_come n counted) (order_of entries) handed) same_gap
+      ∙ ap (λ s. records_report (merge_as_they_come d s) (order_of entries) handed) same_strand
+      ∙ merge_reports d strand handed ∙ ap (λ c. command_report c entries handed None) (sym is))
+      (λ lines. ap (λ n. records_settle (merge_as_they_come n counted) (order_of entries) lines) same_gap
+      ∙ ap (λ s. records_settle (merge_as_they_come d s) (order_of entries) lines) same_strand
+      ∙ merge_settles d strand lines ∙ ap (λ c. command_settles c entries None lines) (sym is))
+
+-- and a complement's
+pub complement_writes : {A : Type 0} (left : A → Option (List ℕ)) (failed : A → Bool) (command : Command) (entries mine : List Entry) (limit told : Bool) → command ≡ Complement limit → mine ≡ entries → told ≡ limit
+    → (first : A) (out : Output) (fault : Option Told) (new : A) (grown : Output)
+    → WritesRecords left failed (complement_written mine told) (order_of entries) first out fault new grown
+    → WritesInput left failed (λ handed. command_report command entries handed None) (command_settles command entries None) first out fault new grown
+complement_writes left failed command entries mine limit told is same_entries same_limit =
+    writes_same left failed (records_report (complement_written mine told) (order_of entries)) (λ handed. command_report command entries handed None)
+    (records_settle (complement_written mine told) (order_of entries)) (command_settles command entries None)
+    (λ handed. ap (λ es. records_report (complement_written es told) (order_of entries) handed) same_entries
+    ∙ ap (λ l. records_report (complement_written entries l) (order_of entries) handed) same_limit ∙ ap (λ c. command_report c entries handed None) (sym is))
+    (λ lines. ap (λ es. records_settle (complement_written es told) (order_of entries) lines) same_entries
+    ∙ ap (λ l. records_settle (complement_written entries l) (order_of entries) lines) same_limit ∙ ap (λ c. command_settles c entries None lines) (sym is))

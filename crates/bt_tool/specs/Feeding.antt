@@ -1,27 +1,34 @@
 -- What feeding an engine with the records of a reader does to the devices.
-use Rattle.std.specs.Prelude.{◌≡◌, ℕ, ◌^◌, ◌≤◌, ◌⊎◌, Bool, true, List, [], ◌++◌, Option, Some, None, Result, Ok, Err, IfSome, ⊤}
+use Rattle.std.specs.Prelude.{◌≡◌, ℕ, suc, ◌+◌, ◌^◌, ◌<◌, ◌≤◌, ◌⊎◌, All, Bool, true, List, [], ◌++◌, map, length, drop, take, Option, Some, None, Result, Ok, Err, IfSome, ⊤}
 use Rattle.bt_lines.specs.Fault.{Told, read_failed, no_memory, write_failed}
+use Rattle.bt_lines.specs.Lines.{bytes_in}
 use Rattle.bt_lines.specs.Names.{told}
-use Rattle.bt_lines.specs.Output.{Output, IsFrontOf, Grows}
-use Rattle.bt_lines.specs.Reader.{source_of, input_of, bytes_taken}
+use Rattle.bt_lines.specs.Output.{Output, IsFrontOf, Grows, block_size}
+use Rattle.bt_lines.specs.Putting.{WorksAsBefore}
+use Rattle.bt_lines.specs.Reader.{CutsOff, Hands, IsSound, source_of, input_of, bytes_taken, feeds_taken, lines_given, lines_left}
 use Rattle.bt_lines.specs.declared.fault.Fault.{Fault}
 use Rattle.bt_lines.specs.declared.fault.Kind.{Kind}
+use Rattle.bt_lines.specs.declared.line_reader.LineReader.{LineReader}
 use Rattle.bt_bed.specs.Feature.{Feature, intervals_of}
-use Rattle.bt_bed.specs.Good.{Good}
+use Rattle.bt_bed.specs.Good.{Good, Member, good_from}
+use Rattle.bt_bed.specs.GoodLines.{IsBeyond}
 use Rattle.bt_bed.specs.Interval.{AreNonEmpty}
-use Rattle.bt_bed.specs.LineKind.{fault_at_line, is_of_line}
-use Rattle.bt_bed.specs.Place.{ArePlaced}
-use Rattle.bt_bed.specs.Reading.{Hands}
-use Rattle.bt_bed.specs.Records.{below, good_left, order_in}
+use Rattle.bt_bed.specs.LineKind.{fault_at_line, is_bed_kind}
+use Rattle.bt_bed.specs.Locus.{ArePlaced}
+use Rattle.bt_bed.specs.Reading.{MemberReader, good_coming}
+use Rattle.bt_bed.specs.Records.{below, order_in, view_of}
 use Rattle.bt_bed.specs.declared.order.ChromOrder.{Ghosts}
 use Rattle.bt_bed.specs.declared.records.Records.{Records}
-use Rattle.bt_runs.specs.Putting.{WorksAsBefore}
 
--- these records came first of what was to come, and the others are still to come
-abbrev pub ComeFirst : Option Good → List Feature → Option Good → Type 0
+-- these members came first of what was to come, and the others are still to come
+abbrev pub ComeFirst : {A : Type 0} → Option (Good A) → List (Member A) → Option (Good A) → Type 0
 ComeFirst None past now = ⊤
 ComeFirst (Some old) past None = ⊥
-ComeFirst (Some old) past (Some now) = (old.records ≡ past ++ now.records) × (old.fault ≡ now.fault)
+ComeFirst (Some old) past (Some now) = (old.members ≡ past ++ now.members) × (old.fault ≡ now.fault)
+
+-- the records themselves, without their lines
+abbrev pub member_items : {A : Type 0} → List (Member A) → List A
+member_items members = map (λ m. m.item) members
 
 -- these lines were put behind what was put before
 abbrev pub PutsLines : Output → List ℕ → Output → Type 0
@@ -40,71 +47,102 @@ pub record CutsLines (old : Output) (lines : List ℕ) (new : Output) : Type 0 w
   pub failed : new.has_failed ≡ true
   pub sink_failed : new.sink_has_failed ≡ true
 
+-- of these bytes, put behind what was put before, the sink took all but a block
+abbrev pub TookButBlock : Output → List ℕ → Output → Type 0
+TookButBlock old bytes new = (before taken : List ℕ) → old.put ≡ Some before → old.took ≡ Some taken
+    → IfSome new.took (λ now. length (before ++ bytes) ≤ length now + block_size)
+
+module _ {S A State : Type 0} (left : S → Option (List ℕ)) (settled : List A → List ℕ) where
+  -- How far an input was read: it handed over so many lines, one more and a block at most, and what the
+  -- members of those lines settle was taken but for a block.
+  pub record KeepsNear (old : MemberReader S A State) (out : Output) (new : LineReader S) (grown : Output) : Type 0 where
+    pub count : ℕ
+    pub near : IfSome (lines_left left old.below) (λ lines. IfSome (left (source_of new))
+        (λ rest. bytes_in (drop (suc count) lines) ≤ length rest + block_size))
+    pub settles : IfSome (lines_left left old.below) (λ lines. TookButBlock out
+        (settled (member_items (good_from old.format (input_of old.below) old.state (take count lines)).members)) grown)
+
+module _ {S A State : Type 0} (left : S → Option (List ℕ)) (end : S → Bool) where
+  -- a reader of members that has given nothing yet
+  pub record IsFresh (reader : MemberReader S A State) : Type 0 where
+    pub none_given : (lines_given reader.below ≡ 0) × (bytes_taken reader.below ≡ 0) × (feeds_taken reader.below ≡ 0)
+    pub none_ahead : reader.ahead ≡ None
+    pub going : reader.fault ≡ None
+    pub sound : IsSound left end reader.below
+
 module _ {S O : Type 0} {g : Ghosts O} (settled : List Feature → List ℕ) (left : S → Option (List ℕ)) (failed : S → Bool) where
   -- these records were taken, in the order of the reader
-  pub record Took (old : Records S O g) (out : Output) (past : List Feature) (new : Records S O g) (grown : Output) : Type 0 where
+  pub record Took (old : Records S O g) (out : Output) (past : List (Member Feature)) (new : Records S O g) (grown : Output) : Type 0 where
     pub order : order_in new ≡ order_in old
-    pub bytes : Hands left (below old) (below new)
-    pub placed : ArePlaced (order_in old) (intervals_of past)
-    pub full : AreNonEmpty (intervals_of past)
+    pub bytes : (bytes : List ℕ) × Hands left (below old) bytes (below new)
+    pub placed : ArePlaced (order_in old) (intervals_of (member_items past))
+    pub full : AreNonEmpty (intervals_of (member_items past))
     pub grows : Grows out.took grown.took
+    pub near : KeepsNear left settled (view_of old) out (below new) grown
 
   -- all records were taken, and the engine stands after them
   pub record FeedsAll (Stands : List Feature → Type 0) (old : Records S O g) (out : Output) (new : Records S O g) (grown : Output) : Type 0 where
-    pub past : List Feature
+    pub past : List (Member Feature)
     pub took : Took old out past new grown
-    pub whole : IfSome (good_left left old) (λ good. (good.records ≡ past) × (good.fault ≡ None))
-    pub stands : Stands past
-    pub puts : PutsLines out (settled past) grown
+    pub whole : IfSome (good_coming left (view_of old)) (λ good. (good.members ≡ past) × (good.fault ≡ None))
+    pub stands : Stands (member_items past)
+    pub puts : PutsLines out (settled (member_items past)) grown
     pub works : WorksAsBefore out grown
     pub served : failed (source_of (below new)) ≡ failed (source_of (below old))
+    pub within : bytes_taken (below new) < 2 ^ 63
 
   -- a line is at fault
-  pub record StopsAtLine (old : Records S O g) (out : Output) (past : List Feature) (fault : Told) (new : Records S O g) (grown : Output) : Type 0 where
-    pub whole : IfSome (good_left left old) (λ good. (good.records ≡ past) × (good.fault ≡ Some fault))
+  pub record StopsAtLine (old : Records S O g) (out : Output) (past : List (Member Feature)) (fault : Told) (new : Records S O g) (grown : Output) : Type 0 where
+    pub whole : IfSome (good_coming left (view_of old)) (λ good. (good.members ≡ past) × (good.fault ≡ Some fault))
     pub line : ℕ
     pub kind : Kind
     pub is : fault ≡ fault_at_line (input_of (below old)) line kind
-    pub of_line : is_of_line kind ≡ true
-    pub puts : PutsLines out (settled past) grown
+    pub of_bed : is_bed_kind kind ≡ true
+    pub puts : PutsLines out (settled (member_items past)) grown
     pub works : WorksAsBefore out grown
     pub served : failed (source_of (below new)) ≡ failed (source_of (below old))
+    pub within : bytes_taken (below new) < 2 ^ 63
 
-  -- the source failed, or its text is too long
-  pub record StopsReading (old : Records S O g) (out : Output) (past : List Feature) (fault : Told) (new : Records S O g) (grown : Output) : Type 0 where
-    pub line : ℕ
-    pub is : fault ≡ read_failed (input_of (below old)) line
+  -- the source failed, or its text is too long: behind the lines that were given
+  pub record StopsReading (old : Records S O g) (out : Output) (past : List (Member Feature)) (fault : Told) (new : Records S O g) (grown : Output) : Type 0 where
+    pub is : fault ≡ read_failed (input_of (below old)) (suc (lines_given (below new)))
     pub cause : (failed (source_of (below new)) ≡ true) ⊎ (2 ^ 63 ≤ bytes_taken (below new))
-    pub puts : PutsLines out (settled past) grown
+    pub cut : CutsOff left (below old) (below new)
+    -- the lines given have these records, and none of them is at fault
+    pub members : IfSome (good_coming left (view_of old)) (λ good. (rest : List (Member Feature))
+        × (good.members ≡ past ++ rest)
+        × IsBeyond (lines_given (below new)) (record { members = rest; fault = good.fault }))
+    pub behind : All (λ m. m.line ≤ lines_given (below new)) past
+    pub puts : PutsLines out (settled (member_items past)) grown
     pub works : WorksAsBefore out grown
 
   -- memory ran out
-  pub record StopsGrowing (old : Records S O g) (out : Output) (past : List Feature) (fault : Told) (new : Records S O g) (grown : Output) : Type 0 where
+  pub record StopsGrowing (old : Records S O g) (out : Output) (past : List (Member Feature)) (fault : Told) (new : Records S O g) (grown : Output) : Type 0 where
     pub is : fault ≡ no_memory
-    pub puts : PutsFront out (settled past) grown
+    pub puts : PutsFront out (settled (member_items past)) grown
     pub works : WorksAsBefore out grown
     pub served : failed (source_of (below new)) ≡ failed (source_of (below old))
 
   -- the sink failed
-  pub record StopsWriting (old : Records S O g) (out : Output) (past : List Feature) (fault : Told) (new : Records S O g) (grown : Output) : Type 0 where
+  pub record StopsWriting (old : Records S O g) (out : Output) (past : List (Member Feature)) (fault : Told) (new : Records S O g) (grown : Output) : Type 0 where
     pub is : fault ≡ write_failed
-    pub cuts : CutsLines out (settled past) grown
+    pub cuts : CutsLines out (settled (member_items past)) grown
     pub served : failed (source_of (below new)) ≡ failed (source_of (below old))
 
   -- why the records weren't all taken
-  abbrev pub Cause : Records S O g → Output → List Feature → Told → Records S O g → Output → Type 0
-  Cause old out past fault new grown =
+  abbrev pub StopCause : Records S O g → Output → List (Member Feature) → Told → Records S O g → Output → Type 0
+  StopCause old out past fault new grown =
       (StopsAtLine old out past fault new grown ⊎ StopsReading old out past fault new grown)
       ⊎ (StopsGrowing old out past fault new grown ⊎ StopsWriting old out past fault new grown)
 
   -- the records were taken up to a fault
   pub record FeedsUpTo (old : Records S O g) (out : Output) (fault : Told) (new : Records S O g) (grown : Output) : Type 0 where
-    pub past : List Feature
+    pub past : List (Member Feature)
     pub took : Took old out past new grown
-    pub begins : IfSome (good_left left old) (λ good. (rest : List Feature) × (good.records ≡ past ++ rest))
-    pub cause : Cause old out past fault new grown
+    pub begins : IfSome (good_coming left (view_of old)) (λ good. (rest : List (Member Feature)) × (good.members ≡ past ++ rest))
+    pub cause : StopCause old out past fault new grown
 
   -- what feeding an engine with all records does
-  abbrev pub Feeds : {A : Type 0} → (List Feature → Type 0) → Records S O g → Output → Result A Fault → Records S O g → Output → Type 0
-  Feeds Stands old out (Ok done) new grown = FeedsAll Stands old out new grown
-  Feeds Stands old out (Err fault) new grown = FeedsUpTo old out (told fault) new grown
+  abbrev pub FeedsRecords : {A : Type 0} → (List Feature → Type 0) → Records S O g → Output → Result A Fault → Records S O g → Output → Type 0
+  FeedsRecords Stands old out (Ok done) new grown = FeedsAll Stands old out new grown
+  FeedsRecords Stands old out (Err fault) new grown = FeedsUpTo old out (told fault) new grown

@@ -3,8 +3,8 @@ use Rattle.std.specs.Prelude.{List, drop}
 use Rattle.bt_tool.specs.declared.given.Given.{Given}
 use Rattle.bt_tool.specs.Items.{Item, items_of}
 use Rattle.bt_tool.specs.Plan.{words_seen}
-use Rattle.bt_tool.specs.Table.{table_of}
+use Rattle.bt_tool.specs.TableLent.{table_lent}
 
 -- the items into which the words behind the first divide
 abbrev pub items_in : Given → List Item
-items_in given = items_of (table_of given.tool) (drop 1 (words_seen given.words.now))
+items_in given = items_of (table_lent given.table.now) (drop 1 (words_seen given.words.now))

@@ -1,15 +1,17 @@
 -- What a list of words asks for: the plan, or the fault of its usage.
-use Rattle.std.specs.Prelude.{◌≡◌, ℕ, ◌+◌, Bool, List, [], ◌∷◌, ◌++◌, ◌||◌, ◌&&◌, Option, Some, None, Result, Ok, Err, MatchOption, bytes_eq, codes, count_by, drop, if◌then◌else◌, is_none, is_some, length, nat_lt, option_and_then, option_to_list, unwrap_or}
+use Rattle.std.specs.Prelude.{◌≡◌, ℕ, ◌+◌, Bool, List, [], ◌∷◌, ◌++◌, ◌||◌, ◌&&◌, false, true, not, Option, Some, None, Result, Ok, Err, MatchOption, bytes_eq, codes, count_by, drop, if◌then◌else◌, is_some, length, nat_lt, option_and_then, option_to_list, unwrap_or}
 use Rattle.std.specs.List.{list_any}
-use Rattle.std.specs.Option.{option_or}
+use Rattle.std.specs.Option.{option_map_or, option_or}
 use Rattle.bt_bed.specs.Record.{strand_named}
 use Rattle.bt_lines.specs.Number.{value_of as number_of}
 use Rattle.bt_runs.specs.declared.merge_strand.MergeStrand.{MergeStrand}
 use Rattle.bt_runs.specs.declared.merge_strand.MergeStrand.TheVariants.{All, One}
+use Rattle.bt_sweep.specs.declared.shape.Shape.{Shape}
+use Rattle.bt_sweep.specs.declared.shape.Shape.TheVariants.{Cut, OrigA, CutAndB, OrigBoth, Overlap, Once, Missing, Count}
 use Rattle.bt_tool.specs.declared.plan_type.Command.{Command}
-use Rattle.bt_tool.specs.declared.plan_type.Command.TheVariants.{Merge as MergeWith, Complement as ComplementWith}
+use Rattle.bt_tool.specs.declared.plan_type.Command.TheVariants.{Merge as MergeWith, Complement as ComplementWith, Intersect as IntersectWith}
 use Rattle.bt_tool.specs.declared.tool.Tool.{Tool}
-use Rattle.bt_tool.specs.declared.tool.Tool.TheVariants.{Merge, Complement}
+use Rattle.bt_tool.specs.declared.tool.Tool.TheVariants.{Merge, Complement, Intersect}
 use Rattle.bt_tool.specs.declared.usage.Usage.{Usage}
 use Rattle.bt_tool.specs.Items.{Item, IsLongestDivision, items_of, spelled}
 use Rattle.bt_tool.specs.Table.{Word, Table, command_named, table_of, takes}
@@ -62,6 +64,15 @@ word_fault table at words = fault_past table at (items_of table words) words
 abbrev pub is_standard_input : Word → Bool
 is_standard_input name = bytes_eq name (codes "-") || bytes_eq name (codes "stdin")
 
+-- names of outputs that mean standard output
+abbrev pub is_standard_output : Word → Bool
+is_standard_output name = bytes_eq name (codes "-") || bytes_eq name (codes "stdout")
+
+-- the output of this name: none where it is standard output
+abbrev pub output_by : Option Word → Option Word
+output_by None = None
+output_by (Some name) = if is_standard_output name then None else Some name
+
 -- the strand whose records are merged, by the value of -S; without one all are
 abbrev pub strand_by : Option Word → MergeStrand
 strand_by None = All
@@ -71,48 +82,104 @@ strand_by (Some word) = One (strand_named word)
 abbrev pub number_by : Option Word → ℕ
 number_by value = unwrap_or (option_and_then number_of value) 0
 
+-- the shape of what intersect writes, by -wa and -wb alone: a hit's own part of the record or the record, and what hits it
+abbrev pub hit_shape : Bool → Bool → Shape
+hit_shape false false = Cut
+hit_shape true false = OrigA
+hit_shape false true = CutAndB
+hit_shape true true = OrigBoth
+
+-- the shape of what intersect writes: with -u, -v or -c -wa changes nothing
+abbrev pub shape_by : List Item → Shape
+shape_by items = if is_given items (codes "-u") then Once
+    else (if is_given items (codes "-v") then Missing
+    else (if is_given items (codes "-c") then Count
+    else (if is_given items (codes "-wo") then Overlap
+    else hit_shape (is_given items (codes "-wa")) (is_given items (codes "-wb")))))
+
 -- the command that the items ask for
 abbrev pub command_by : Tool → List Item → Command
 command_by Merge items = MergeWith (number_by (value_of items (codes "-d"))) (strand_by (value_of items (codes "-S")))
 command_by Complement items = ComplementWith (is_given items (codes "-L"))
+command_by Intersect items = IntersectWith (shape_by items)
 
--- the plan that the items of a command name, an input that is not named being `stdin`
+-- the names of the inputs and of the output, as the items give them
+pub record Named : Type 0 where
+  pub genome : Option Word
+  pub first : Word
+  pub second : Option Word
+  pub output : Option Word
+
+-- the names that the items of a table give, a first input that is not named being `stdin`
+abbrev pub named_by : Table → List Item → Named
+named_by table items = record {
+  genome = value_if_any items table.genome;
+  first = unwrap_or (value_of items table.first) (codes "stdin");
+  second = value_if_any items table.second;
+  output = output_by (value_if_any items table.output);
+}
+
+-- the names of the inputs
+abbrev pub inputs_of : Named → List Word
+inputs_of named = option_to_list named.genome ++ named.first ∷ option_to_list named.second
+
+-- whether none of the options is given, of which one has to be, where there are such
+abbrev pub lacks_one_of : List Word → List Item → Bool
+lacks_one_of [] items = false
+lacks_one_of (option ∷ others) items = not (list_any (is_given items) (option ∷ others))
+
+-- whether an option is missing that has to be given, or that is one of several
+abbrev pub lacks_option : Table → List Item → Bool
+lacks_option table items =
+    list_any (λ option. not (is_given items option)) table.required || lacks_one_of table.one_of items
+
+-- whether two options are given that exclude one another
+abbrev pub has_exclusive : Table → List Item → Bool
+has_exclusive table items =
+    list_any (λ pair. is_given items pair.0 && is_given items pair.1) table.exclusive
+
+-- whether the output has the name of an input, by its text
+abbrev pub overwrites : Named → Bool
+overwrites named = option_map_or (λ output. list_any (bytes_eq output) (inputs_of named)) named.output false
+
+-- whether more than one input is standard input
+abbrev pub reads_twice : Named → Bool
+reads_twice named = nat_lt 1 (count_by is_standard_input (inputs_of named))
+
+-- what the items have or lack together, if anything is wrong with them
+abbrev pub fault_together : Table → List Item → Option Usage
+fault_together table items =
+    if lacks_option table items then Some required_missing
+    else (if has_exclusive table items || overwrites (named_by table items) then Some options_exclusive
+    else (if reads_twice (named_by table items) then Some input_named_twice
+    else None))
+
+-- the plan of a command with these names
+abbrev pub plan_with : Command → Named → PlanSeen
+plan_with command named = record {
+  command = command;
+  genome = named.genome;
+  first = named.first;
+  second = named.second;
+  output = named.output;
+}
+
+-- the plan that the items of a command ask for
 abbrev pub plan_of : Tool → List Item → PlanSeen
-plan_of tool items =
-    let table = table_of tool in
-    record {
-      command = command_by tool items;
-      genome = value_if_any items table.genome;
-      first = unwrap_or (value_of items table.first) (codes "stdin");
-      second = value_if_any items table.second;
-      output = value_if_any items table.output;
-    }
-
--- the names of a plan's inputs
-abbrev pub inputs_of : PlanSeen → List Word
-inputs_of plan = option_to_list plan.genome ++ plan.first ∷ option_to_list plan.second
+plan_of tool items = plan_with (command_by tool items) (named_by (table_of tool) items)
 
 -- the plan of the items, or what they have or lack together
-abbrev pub settled : Tool → List Item → Result PlanSeen Usage
-settled tool items =
-    let table = table_of tool in
-    let plan = plan_of tool items in
-    if list_any (λ option. is_none (last_item option items)) table.required
-    then Err required_missing
-    else (if list_any (λ pair. is_given items pair.0 && is_given items pair.1) table.exclusive
-    then Err options_exclusive
-    else (if nat_lt 1 (count_by is_standard_input (inputs_of plan)) then Err input_named_twice
-    else Ok plan))
-
--- nothing is wrong with the items together
-abbrev pub IsSettled : Tool → List Item → Type 0
-IsSettled tool items = settled tool items ≡ Ok (plan_of tool items)
+abbrev pub checked : Tool → List Item → Result PlanSeen Usage
+checked tool items = elim (fault_together (table_of tool) items) [
+  | Some usage ↦ Err usage
+  | None ↦ Ok (plan_of tool items)
+]
 
 -- what the words after a command ask for
 abbrev pub asked : Tool → List Word → Result PlanSeen Usage
 asked tool words = elim (word_fault (table_of tool) 1 words) [
   | Some usage ↦ Err usage
-  | None ↦ settled tool (items_of (table_of tool) words)
+  | None ↦ checked tool (items_of (table_of tool) words)
 ]
 
 -- the command that the first of all words names
@@ -128,17 +195,17 @@ options words = elim (command_of words) [
 ]
 
 -- the answer to the words after a command, by the items of their longest division
-pub record Answers (tool : Tool) (words : List Word) (answer : Result PlanSeen Usage)
+pub record AnswersPlan (tool : Tool) (words : List Word) (answer : Result PlanSeen Usage)
     : Type 0 where
   pub items : List Item
   pub division : IsLongestDivision (table_of tool) words items
   pub at_fault : (usage : Usage) → fault_past (table_of tool) 1 items words ≡ Some usage
       → answer ≡ Err usage
   pub all_divided : fault_past (table_of tool) 1 items words ≡ None
-      → answer ≡ settled tool items
+      → answer ≡ checked tool items
 
 -- the answer to all the words
 abbrev pub AnswersAll : List Word → Result PlanSeen Usage → Type 0
 AnswersAll words answer =
     MatchOption (command_of words) (answer ≡ Err no_command)
-    (λ tool. Answers tool (drop 1 words) answer)
+    (λ tool. AnswersPlan tool (drop 1 words) answer)

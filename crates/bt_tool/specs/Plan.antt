@@ -9,8 +9,8 @@ use Rattle.bt_tool.specs.Table.{Word}
 abbrev pub words_seen : List (String Global) → List Word
 words_seen words = map string_bytes words
 
-abbrev pub seen : Plan → PlanSeen
-seen plan = record {
+abbrev pub plan_seen : Plan → PlanSeen
+plan_seen plan = record {
   command = plan.command;
   genome = option_map string_bytes plan.genome;
   first = string_bytes plan.first;

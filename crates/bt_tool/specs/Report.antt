@@ -1,45 +1,96 @@
--- What a run gives: the bytes written, the fault told and the exit status, from the words of the command line and the whole texts of the inputs.
-use Rattle.std.specs.Prelude.{◌≡◌, ℕ, List, [], Option, Some, None, Result, Ok, Err, option_map, unwrap_or}
+-- What a run gives: the bytes written, the fault told and the exit status, from the words of the command line and what its inputs hand over.
+use Rattle.std.specs.Prelude.{◌≡◌, ℕ, Bool, false, List, [], Option, Some, None, Result, Ok, Err, option_map, unwrap_or}
 use Rattle.bt_lines.specs.Fault.{Told, InputNames, line_of}
-use Rattle.bt_lines.specs.Lines.{text_lines}
-use Rattle.bt_lines.specs.declared.fault.Input.TheVariants.{Genome, First}
-use Rattle.bt_bed.specs.Genome.{Entry, genome_of, genome_names}
-use Rattle.bt_bed.specs.Good.{Good, good}
+use Rattle.bt_lines.specs.Handed.{Handed, whole_text}
+use Rattle.bt_lines.specs.Lines.{TextLine}
+use Rattle.bt_lines.specs.declared.fault.Input.TheVariants.{Genome}
+use Rattle.bt_bed.specs.Genome.{Entry, genome_handed, genome_names}
+use Rattle.bt_lines.specs.declared.fault.Kind.{Kind}
+use Rattle.bt_bed.specs.LineKind.{is_bed_kind}
 use Rattle.bt_bed.specs.Order.{Order}
 use Rattle.bt_bed.specs.Rank.{rank_order}
-use Rattle.bt_tool.specs.declared.plan_type.Command.{Command}
+use Rattle.bt_tool.specs.Inputs.{Inputs}
 use Rattle.bt_tool.specs.Options.{PlanSeen, options}
-use Rattle.bt_tool.specs.Table.{Word, name_of, tool_of}
+use Rattle.bt_tool.specs.Table.{Word, tool_name, tool_of}
 use Rattle.bt_tool.specs.Usage.{usage_text}
-use Rattle.bt_tool.specs.Writes.{Writes, writes_of}
+use Rattle.bt_tool.specs.Both.{intersect_reaches, intersect_report, intersect_settles}
+use Rattle.bt_tool.specs.RecordReport.{Report, records_report, records_settle}
+use Rattle.bt_tool.specs.Written.{complement_written, merge_written}
+use Rattle.bt_tool.specs.declared.plan_type.Command.{Command}
+use Rattle.bt_tool.specs.declared.plan_type.Command.TheVariants.{Merge, Complement, Intersect}
 use Rattle.bt_tool.specs.declared.usage.Usage.{Usage}
 use Rattle.bt_tool.specs.declared.usage.Refusal.{Refusal}
 use Rattle.bt_tool.specs.declared.usage.Refusal.TheVariants.{Usage as InWords, NoMemory}
 
--- what a run writes, and the fault that it tells, if there is one
-pub record Report : Type 0 where
-  pub output : List ℕ
-  pub fault : Option Told
+-- the order of the chromosomes of a genome file
+abbrev pub order_of : List Entry → Order
+order_of entries = rank_order (genome_names entries)
 
--- the lines of all records, or where a line is at fault, those that the records before it settle
-abbrev pub good_report : Writes → Good → Option Told → Report
-good_report writes good None = record { output = writes.whole good.records; fault = None }
-good_report writes good (Some fault) = record { output = writes.settled good.records; fault = Some fault }
+-- an input that isn't there is as an empty one
+abbrev pub or_empty : Option Handed → Handed
+or_empty handed = unwrap_or handed (whole_text [])
 
--- the report on the records of an input, in an order of their chromosomes
-abbrev pub records_report : Writes → Order → List ℕ → Report
-records_report writes order first =
-    let records = good First order (text_lines first) in
-    good_report writes records records.fault
+-- the report of a command on its inputs, by the chromosomes of the genome file
+abbrev pub command_report : Command → List Entry → Handed → Option Handed → Report
+command_report (Merge d strand) entries first second =
+    records_report (merge_written entries d strand) (order_of entries) first
+command_report (Complement limit) entries first second =
+    records_report (complement_written entries limit) (order_of entries) first
+command_report (Intersect shape) entries first second =
+    intersect_report (order_of entries) shape first (or_empty second)
 
--- the report on the records in the order of the genome file, whose own fault comes first
-abbrev pub report_on : Command → Result (List Entry) Told → List ℕ → Report
-report_on command (Err fault) first = record { output = []; fault = Some fault }
-report_on command (Ok entries) first = records_report (writes_of command entries) (rank_order (genome_names entries)) first
+-- what the first lines of the first input settle
+abbrev pub command_settles : Command → List Entry → Option Handed → List TextLine → List ℕ
+command_settles (Merge d strand) entries second lines =
+    records_settle (merge_written entries d strand) (order_of entries) lines
+command_settles (Complement limit) entries second lines =
+    records_settle (complement_written entries limit) (order_of entries) lines
+command_settles (Intersect shape) entries second lines =
+    intersect_settles (order_of entries) shape (or_empty second) lines
 
--- the report of a plan, on the texts of the genome file, the first and the second input
-unfoldable pub report_of : Command → List ℕ → List ℕ → List ℕ → Report
-report_of command genome first second = report_on command (genome_of Genome (text_lines genome)) first
+-- the kinds of fault that a line of a command's first input can have
+abbrev pub first_kinds : Command → Kind → Bool
+first_kinds (Merge d strand) kind = is_bed_kind kind
+first_kinds (Complement limit) kind = is_bed_kind kind
+first_kinds (Intersect shape) kind = is_bed_kind kind
+
+-- and one of its second input
+abbrev pub second_kinds : Command → Kind → Bool
+second_kinds (Merge d strand) kind = false
+second_kinds (Complement limit) kind = false
+second_kinds (Intersect shape) kind = is_bed_kind kind
+
+-- the chromosomes of the genome file, or its fault; without a genome file no chromosome is known
+abbrev pub chromosomes_of : Option Handed → Result (List Entry) Told
+chromosomes_of None = Ok []
+chromosomes_of (Some genome) = genome_handed Genome genome
+
+-- the genome file's fault comes before all else, and nothing is written
+abbrev pub report_on : Command → Result (List Entry) Told → Handed → Option Handed → Report
+report_on command (Err fault) first second = record { output = []; fault = Some fault }
+report_on command (Ok entries) first second = command_report command entries first second
+
+-- the report of a command on what its inputs hand over
+unfoldable pub report_of : Command → Inputs → Report
+report_of command inputs = report_on command (chromosomes_of inputs.genome) inputs.first inputs.second
+
+-- the lines that the first lines of the first input settle, by the genome file
+abbrev pub settles_on : Command → Result (List Entry) Told → Option Handed → List TextLine → List ℕ
+settles_on command (Err fault) second lines = []
+settles_on command (Ok entries) second lines = command_settles command entries second lines
+
+-- how much of the second input the first lines of the first ask for: its bytes up to the first record
+-- that decides all members among them
+abbrev pub command_reaches : Command → List Entry → Option Handed → List TextLine → ℕ
+command_reaches (Merge d strand) entries second lines = 0
+command_reaches (Complement limit) entries second lines = 0
+command_reaches (Intersect shape) entries second lines =
+    intersect_reaches (order_of entries) (or_empty second) lines
+
+-- the same by the genome file: after its fault nothing is asked for
+abbrev pub reaches_on : Command → Result (List Entry) Told → Option Handed → List TextLine → ℕ
+reaches_on command (Err fault) second lines = 0
+reaches_on command (Ok entries) second lines = command_reaches command entries second lines
 
 -- the names of a plan's inputs; an input that it doesn't have has none
 abbrev pub names_in : PlanSeen → InputNames
@@ -47,7 +98,7 @@ names_in plan = record { genome = unwrap_or plan.genome []; first = plan.first; 
 
 -- the line that tells a fault of a run of the plan
 abbrev pub fault_text : PlanSeen → Told → List ℕ
-fault_text plan fault = line_of (name_of (tool_of plan.command)) (names_in plan) fault
+fault_text plan fault = line_of (tool_name (tool_of plan.command)) (names_in plan) fault
 
 -- the exit status of a run
 abbrev pub status_of : Option Told → ℕ
@@ -64,10 +115,24 @@ pub record Seen : Type 0 where
 abbrev pub seen_of : PlanSeen → Report → Seen
 seen_of plan report = record { output = report.output; line = option_map (fault_text plan) report.fault; status = status_of report.fault }
 
+-- the texts of the inputs that a plan has
+abbrev pub texts_of : PlanSeen → List ℕ → List ℕ → List ℕ → Inputs
+texts_of plan genome first second = record {
+  genome = option_map (λ name. whole_text genome) plan.genome;
+  first = whole_text first;
+  second = option_map (λ name. whole_text second) plan.second;
+}
+
+-- what a user sees of a plan's run on these texts
+abbrev pub seen_on : PlanSeen → List ℕ → List ℕ → List ℕ → Seen
+seen_on plan genome first second =
+    seen_of plan (report_of plan.command (texts_of plan genome first second))
+
 -- what a user sees: a fault of the words, or what the plan's run gives
 abbrev pub answer_of : List Word → Result PlanSeen Usage → List ℕ → List ℕ → List ℕ → Seen
-answer_of words (Err usage) genome first second = record { output = []; line = Some (usage_text words usage); status = 2 }
-answer_of words (Ok plan) genome first second = seen_of plan (report_of plan.command genome first second)
+answer_of words (Err usage) genome first second =
+    record { output = []; line = Some (usage_text words usage); status = 2 }
+answer_of words (Ok plan) genome first second = seen_on plan genome first second
 
 -- what the words and the whole texts of the inputs give
 unfoldable pub report : List Word → List ℕ → List ℕ → List ℕ → Seen
@@ -75,7 +140,8 @@ report words genome first second = answer_of words (options words) genome first 
 
 -- what a user sees of these words is what the plan's run gives, whatever the texts of the inputs
 abbrev pub ReportsPlan : List Word → PlanSeen → Type 0
-ReportsPlan words plan = (genome first second : List ℕ) → report words genome first second ≡ seen_of plan (report_of plan.command genome first second)
+ReportsPlan words plan = (genome first second : List ℕ)
+    → report words genome first second ≡ seen_on plan genome first second
 
 -- what a user sees of these words is the fault's line and the exit status 2, whatever the texts of the inputs
 abbrev pub ReportsUsage : List Word → Usage → Type 0

@@ -6,11 +6,11 @@ use Rattle.std.specs.List.{list_any}
 use Rattle.std.specs.Option.{option_map_or}
 use Rattle.bt_lines.specs.Number.{value_of as number_of}
 use Rattle.bt_tool.specs.declared.plan_type.Command.{Command}
-use Rattle.bt_tool.specs.declared.plan_type.Command.TheVariants.{Merge as MergeWith, Complement as ComplementWith}
+use Rattle.bt_tool.specs.declared.plan_type.Command.TheVariants.{Merge as MergeWith, Complement as ComplementWith, Intersect as IntersectWith}
 use Rattle.bt_tool.specs.declared.takes.Takes.{Takes}
 use Rattle.bt_tool.specs.declared.takes.Takes.TheVariants.{Nothing, FileName, Number, Strand}
 use Rattle.bt_tool.specs.declared.tool.Tool.{Tool}
-use Rattle.bt_tool.specs.declared.tool.Tool.TheVariants.{Merge, Complement}
+use Rattle.bt_tool.specs.declared.tool.Tool.TheVariants.{Merge, Complement, Intersect}
 
 -- a word of the command line, as its bytes
 abbrev pub Word : Type 0
@@ -35,6 +35,8 @@ pub record Table : Type 0 where
   pub options : List Row
   -- the options that have to be given
   pub required : List Word
+  -- the options of which one at least has to be given, where the command has such
+  pub one_of : List Word
   -- the pairs of options that exclude one another
   pub exclusive : List (Word × Word)
   -- the options whose values name the inputs and the output
@@ -66,6 +68,7 @@ merge_table = record {
       ∷ record { option = codes "-S"; takes = Strand }
       ∷ [];
   required = codes "-g" ∷ [];
+  one_of = [];
   exclusive = [];
   genome = Some (codes "-g");
   first = codes "-i";
@@ -80,6 +83,7 @@ complement_table = record {
       ∷ record { option = codes "-L"; takes = Nothing }
       ∷ [];
   required = codes "-g" ∷ [];
+  one_of = [];
   exclusive = [];
   genome = Some (codes "-g");
   first = codes "-i";
@@ -87,23 +91,52 @@ complement_table = record {
   output = None;
 }
 
+-- Two shapes of output exclude one another, but for -wa beside -wb, and beside -u, -v and -c, where it changes nothing.
+abbrev pub intersect_table : Table
+intersect_table = record {
+  options = record { option = codes "-a"; takes = FileName }
+      ∷ record { option = codes "-b"; takes = FileName }
+      ∷ record { option = codes "-g"; takes = FileName }
+      ∷ record { option = codes "-wa"; takes = Nothing }
+      ∷ record { option = codes "-wb"; takes = Nothing }
+      ∷ record { option = codes "-wo"; takes = Nothing }
+      ∷ record { option = codes "-u"; takes = Nothing }
+      ∷ record { option = codes "-v"; takes = Nothing }
+      ∷ record { option = codes "-c"; takes = Nothing }
+      ∷ record { option = codes "-sorted"; takes = Nothing }
+      ∷ [];
+  required = codes "-a" ∷ codes "-b" ∷ codes "-g" ∷ [];
+  one_of = [];
+  exclusive = (codes "-wa", codes "-wo") ∷ (codes "-wb", codes "-wo") ∷ (codes "-wb", codes "-u")
+      ∷ (codes "-wb", codes "-v") ∷ (codes "-wb", codes "-c") ∷ (codes "-wo", codes "-u")
+      ∷ (codes "-wo", codes "-v") ∷ (codes "-wo", codes "-c") ∷ (codes "-u", codes "-v")
+      ∷ (codes "-u", codes "-c") ∷ (codes "-v", codes "-c") ∷ [];
+  genome = Some (codes "-g");
+  first = codes "-a";
+  second = Some (codes "-b");
+  output = None;
+}
+
 abbrev pub table_of : Tool → Table
 table_of Merge = merge_table
 table_of Complement = complement_table
+table_of Intersect = intersect_table
 
 -- the tools by their names
 abbrev pub commands : List (Word × Tool)
-commands = (codes "merge", Merge) ∷ (codes "complement", Complement) ∷ []
+commands = (codes "merge", Merge) ∷ (codes "complement", Complement) ∷ (codes "intersect", Intersect) ∷ []
 
 abbrev pub command_named : Word → Option Tool
 command_named word = option_map (λ row. row.1) (find (λ row. bytes_eq word row.0) commands)
 
 -- the word that names a tool
-abbrev pub name_of : Tool → Word
-name_of Merge = codes "merge"
-name_of Complement = codes "complement"
+abbrev pub tool_name : Tool → Word
+tool_name Merge = codes "merge"
+tool_name Complement = codes "complement"
+tool_name Intersect = codes "intersect"
 
 -- the tool of a command
 abbrev pub tool_of : Command → Tool
 tool_of (MergeWith d strand) = Merge
 tool_of (ComplementWith limit) = Complement
+tool_of (IntersectWith shape) = Intersect

@@ -1,11 +1,11 @@
 -- The faults of a command line, and what is told of each.
 use Rattle.std.specs.Prelude.{ℕ, ◌<◌, ◌≤◌, Bool, List, [], ◌∷◌, ◌++◌, ◌&&◌, IsTrue, codes, if◌then◌else◌, nat_eq, nat_le, slice_index_or}
 use Rattle.bt_tool.specs.declared.usage.Usage.{Usage}
-use Rattle.bt_tool.specs.declared.usage.Kind.{Kind}
-use Rattle.bt_tool.specs.declared.usage.Kind.TheVariants.{NoCommand, UnknownOption, ValueMissing, BadValue, RequiredMissing, OptionsExclusive, InputNamedTwice}
+use Rattle.bt_tool.specs.declared.usage.UsageKind.{UsageKind}
+use Rattle.bt_tool.specs.declared.usage.UsageKind.TheVariants.{NoCommand, UnknownOption, ValueMissing, BadValue, RequiredMissing, OptionsExclusive, InputNamedTwice}
 use Rattle.bt_tool.specs.Table.{Word}
 
-abbrev pub number_of : Kind → ℕ
+abbrev pub number_of : UsageKind → ℕ
 number_of NoCommand = 1
 number_of UnknownOption = 2
 number_of ValueMissing = 3

@@ -1,4 +1,4 @@
-use crate::tests::{GENOME, failing, line_of, run_words, whole};
+use crate::tests::{GENOME, failed_line, failing, failing_by, line_of, run_words, whole};
 use std::alloc::Global;
 use std::process::Abort;
 use std::test::Fail;
@@ -219,29 +219,27 @@ fn complement_on_an_output_that_fails_at_each_byte(rt: HostRuntime) -> Result<()
 }
 
 #[test]
-fn complement_of_an_input_that_fails(rt: HostRuntime) -> Result<(), Fail> {
-    // The good bytes, the output and the fault line: the second line ends at the 24th byte.
-    let cases: [(usize, &[u8], &[u8]); 4] = [
-        (0, b"", b"bedtools complement: stdin:1: reading failed\n"),
-        (10, b"", b"bedtools complement: stdin:2: reading failed\n"),
-        (23, b"", b"bedtools complement: stdin:2: reading failed\n"),
-        (
-            24,
-            b"chr1\t10\t900\n",
-            b"bedtools complement: stdin:3: reading failed\n",
-        ),
-    ];
+fn complement_of_an_input_that_fails_at_each_byte(rt: HostRuntime) -> Result<(), Fail> {
     let words = ["complement", "-g", "g.txt"];
-    for (good, output, line) in cases {
-        let answer = run_words(
-            rt.alloc(),
-            &words,
-            (GENOME, whole(7)),
-            (ENDS, failing(good)),
-            whole(7),
-        )?;
-        assert_eq!(rt; answer.output.as_slice(), output);
-        assert_eq!(rt; line_of(&answer), line);
+    for step in [1, 7] {
+        for good in 0..=ENDS.len() {
+            let line = failed_line(ENDS, good);
+            // The second record settles the gap before it.
+            let settled: &[u8] = if line == 3 { b"chr1\t10\t900\n" } else { b"" };
+            let answer = run_words(
+                rt.alloc(),
+                &words,
+                (GENOME, whole(step)),
+                (ENDS, failing_by(step, good)),
+                whole(step),
+            )?;
+            let told = format!(in rt.alloc();
+                "bedtools complement: stdin:{}: reading failed\n",
+                line
+            )?;
+            assert_eq!(rt; answer.output.as_slice(), settled);
+            assert_eq!(rt; line_of(&answer), told.as_bytes());
+        }
     }
     Ok(())
 }

@@ -6,32 +6,35 @@ ghost use Rattle.bt_lines.specs.Output.{HoldsBlock};
 ghost use Rattle.bt_bed.specs.Feature.{Feature, intervals_of};
 ghost use Rattle.bt_bed.specs.Interval.{AreNonEmpty};
 ghost use Rattle.bt_bed.specs.Order.{IsTotal};
-ghost use Rattle.bt_bed.specs.Place.{ArePlaced};
-ghost use Rattle.bt_bed.specs.Records.{fault_kept, last_place, order_in};
-ghost use Rattle.bt_runs.specs.Settling.{Begins, Stays};
+ghost use Rattle.bt_bed.specs.Locus.{ArePlaced};
+ghost use Rattle.bt_bed.specs.GoodBed.{bed_format};
+ghost use Rattle.bt_bed.specs.Records.{last_locus, order_in, view_of};
+ghost use Rattle.bt_bed.specs.Sorting.{sorting_of};
+ghost use Rattle.bt_runs.specs.Settling.{SettledBegins, SettledStays};
 ghost use Rattle.bt_tool.specs.Driving.{WritesRecords};
-ghost use Rattle.bt_tool.specs.Feeding.{Feeds};
+ghost use Rattle.bt_tool.specs.Feeding.{FeedsRecords, IsFresh};
 
 use bt_bed::{ChromOrder, Records};
 use bt_lines::{Fault, Input, LineReader, Out, Sink, Source};
 use bt_runs::Engine;
 use std::alloc::Global;
 
-// Feeds an engine that has taken no record with all records of a reader.
+// FeedsRecords an engine that has taken no record with all records of a reader.
 fn feed_all<S: Source, O: ChromOrder, E: Engine, K: Sink>(
     records: &mut Records<'_, S, O>,
     engine: &mut E,
     out: &mut Out<K>,
 ) -> Result<(), Fault>
-    requires none_last { last_place records.old ≡ None }
-    requires going { fault_kept records.old ≡ None }
+    requires fresh { IsFresh S.left S.end_told (view_of records.old) }
+    requires sorted { (view_of records.old).format ≡ bed_format (sorting_of (order_in records.old)) }
+    requires none_last { last_locus records.old ≡ None }
     requires total { IsTotal (order_in records.old) }
     requires stands { E.stands engine.old [] engine.old }
     requires nothing { E.settled engine.old [] ≡ [] }
     requires takes { (past : List Feature) → ArePlaced (order_in records.old) (intervals_of past)
         → AreNonEmpty (intervals_of past) → E.takes engine.old past }
     requires block { HoldsBlock out.old.took out.old.put }
-    ensures { Feeds (E.settled engine.old) S.left S.has_failed
+    ensures { FeedsRecords (E.settled engine.old) S.left S.has_failed
         (λ past. E.stands engine.old past engine.new) records.old out.old result records.new out.new }
 {
     while let Some(record) = records.peek()? {
@@ -41,7 +44,7 @@ fn feed_all<S: Source, O: ChromOrder, E: Engine, K: Sink>(
     Ok(())
 }
 
-/// Feeds an engine with all records of an input, in an order of their chromosomes, and lets it finish.
+/// FeedsRecords an engine with all records of an input, in an order of their chromosomes, and lets it finish.
 /// It gives the source back, and the fault that the run ends with, if there is one.
 pub(crate) fn drive<A: Source, O: ChromOrder, E: Engine + Drop, K: Sink>(
     alloc: Global,
@@ -54,8 +57,8 @@ pub(crate) fn drive<A: Source, O: ChromOrder, E: Engine + Drop, K: Sink>(
     requires nothing { E.settled engine [] ≡ [] }
     requires takes { (past : List Feature) → ArePlaced (O.order order.now) (intervals_of past)
         → AreNonEmpty (intervals_of past) → E.takes engine past }
-    requires stays { Stays (E.settled engine) (E.takes engine) }
-    requires begins { Begins (E.settled engine) (E.whole engine) (E.takes engine) }
+    requires stays { SettledStays (E.settled engine) (E.takes engine) }
+    requires begins { SettledBegins (E.settled engine) (E.whole engine) (E.takes engine) }
     requires block { HoldsBlock out.old.took out.old.put }
     ensures { WritesRecords A.left A.has_failed
         (record { whole = E.whole engine; settled = E.settled engine }) (O.order order.now)

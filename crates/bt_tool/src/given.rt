@@ -3,37 +3,37 @@
 ghost use Rattle.std.specs.Prelude.{◌≡◌, None, drop};
 ghost use Rattle.bt_tool.specs.Options.{word_fault};
 ghost use Rattle.bt_tool.specs.Plan.{words_seen};
-ghost use Rattle.bt_tool.specs.Table.{table_of};
+ghost use Rattle.bt_tool.specs.TableLent.{table_lent};
 
 use crate::item::{Item, item_at};
-use crate::tool::Tool;
+use crate::table::Table;
 use crate::usage::Usage;
 
-/// The words of a command line, all of which behind the first divide into items of the tool.
+/// The words of a command line, all of which behind the first divide into items of a table.
 #[derive(Clone, Copy)]
 pub(crate) struct Given<'a> {
-    pub(crate) tool: Tool,
+    pub(crate) table: &'a Table,
     words: &'a [String],
-    ghost no_fault: { word_fault (table_of tool) 1 (drop 1 (words_seen words.now)) ≡ None },
+    ghost no_fault: { word_fault (table_lent table.now) 1 (drop 1 (words_seen words.now)) ≡ None },
 }
 
 impl<'a> Given<'a> {
     ghost use Rattle.std.specs.Prelude.{MatchResult, Some, option_map};
     ghost use Rattle.bt_tool.specs.Given.{items_in};
     ghost use Rattle.bt_tool.specs.ItemLent.{item_lent};
-    ghost use Rattle.bt_tool.specs.Options.{last_item};
+    ghost use Rattle.bt_tool.specs.Options.{is_given, last_item, value_of};
 
     /// The words, or the fault of the first that begins no item.
-    pub(crate) fn read(tool: Tool, words: &'a [String]) -> Result<Given<'a>, Usage>
+    pub(crate) fn read(table: &'a Table, words: &'a [String]) -> Result<Given<'a>, Usage>
         ensures { MatchResult result
-            (λ given. (given.tool ≡ tool) × (given.words.now ≡ words.now))
-            (λ usage. word_fault (table_of tool) 1 (drop 1 (words_seen words.now)) ≡ Some usage) }
+            (λ given. (given.table.now ≡ table.now) × (given.words.now ≡ words.now))
+            (λ usage. word_fault (table_lent table.now) 1 (drop 1 (words_seen words.now)) ≡ Some usage) }
     {
         let mut at = 1;
         while at < words.len() {
-            at += item_at(tool, words, at)?.len();
+            at += item_at(table, words, at)?.len();
         }
-        Ok(Given { tool, words })
+        Ok(Given { table, words })
     }
 
     /// The last item of an option, if it was given.
@@ -43,7 +43,7 @@ impl<'a> Given<'a> {
         let mut last = None;
         let mut at = 1;
         while at < self.words.len() {
-            let Ok(item) = item_at(self.tool, self.words, at) else {
+            let Ok(item) = item_at(self.table, self.words, at) else {
                 break;
             };
             if item.option == option {
@@ -52,5 +52,19 @@ impl<'a> Given<'a> {
             at += item.len();
         }
         last
+    }
+
+    /// The value of an option, if it was given with one.
+    pub(crate) fn value_of(self, option: &str) -> Option<&'a str>
+        ensures { option_map (λ value. value.now) result ≡ value_of (items_in self.entry) option.now }
+    {
+        self.last(option)?.value
+    }
+
+    /// Whether an option was given.
+    pub(crate) fn has(self, option: &str) -> bool
+        ensures { result ≡ is_given (items_in self.entry) option.now }
+    {
+        self.last(option).is_some()
     }
 }

@@ -5,10 +5,10 @@ ghost use Rattle.bt_tool.specs.ItemLent.{item_lent};
 ghost use Rattle.bt_tool.specs.Items.{IsItem, words_of};
 ghost use Rattle.bt_tool.specs.Options.{word_fault};
 ghost use Rattle.bt_tool.specs.Plan.{words_seen};
-ghost use Rattle.bt_tool.specs.Table.{table_of};
+ghost use Rattle.bt_tool.specs.TableLent.{table_lent};
 
-use crate::tool::Tool;
-use crate::usage::{Kind, Usage};
+use crate::table::Table;
+use crate::usage::{Usage, UsageKind};
 
 /// An option as it is given once.
 #[derive(Clone, Copy)]
@@ -30,19 +30,19 @@ impl Item<'_> {
 }
 
 /// The item that begins at this index.
-pub(crate) fn item_at(tool: Tool, words: &[String], at: usize) -> Result<Item<'_>, Usage>
+pub(crate) fn item_at<'a>(table: &Table, words: &'a [String], at: usize) -> Result<Item<'a>, Usage>
     requires { at < length words.now }
-    ensures item { IfOk result (λ item. IsItem (table_of tool) (item_lent item)) }
+    ensures item { IfOk result (λ item. IsItem (table_lent table.now) (item_lent item)) }
     ensures here { IfOk result (λ item. drop at (words_seen words.now)
         ≡ words_of (item_lent item)
         ++ drop (at + length (words_of (item_lent item))) (words_seen words.now)) }
     ensures within { IfOk result (λ item. at + length (words_of (item_lent item)) ≤ length words.now) }
     ensures fault { IfErr result (λ usage.
-        word_fault (table_of tool) at (drop at (words_seen words.now)) ≡ Some usage) }
+        word_fault (table_lent table.now) at (drop at (words_seen words.now)) ≡ Some usage) }
 {
     let option = words[at].as_str();
-    let Some(takes) = tool.takes(option) else {
-        return Err(Usage::of_option(Kind::UnknownOption, at));
+    let Some(takes) = table.takes(option) else {
+        return Err(Usage::of_option(UsageKind::UnknownOption, at));
     };
     if takes.stands_alone() {
         return Ok(Item {
@@ -51,10 +51,10 @@ pub(crate) fn item_at(tool: Tool, words: &[String], at: usize) -> Result<Item<'_
         });
     }
     let Some(value) = words.get(at + 1) else {
-        return Err(Usage::of_option(Kind::ValueMissing, at));
+        return Err(Usage::of_option(UsageKind::ValueMissing, at));
     };
     if !takes.fits(value.as_str()) {
-        return Err(Usage::of_option(Kind::BadValue, at));
+        return Err(Usage::of_option(UsageKind::BadValue, at));
     }
     Ok(Item {
         option,

@@ -1,15 +1,20 @@
-//! The seven tools, from a list of words and the bytes of the inputs to the bytes written.
+//! The commands, from a list of words and the bytes of the inputs to the bytes written.
 #![tactic(auto)]
 
+mod checking;
 mod driving;
 mod flushing;
 mod given;
+pub mod headline;
 mod item;
+mod names;
 pub mod option_laws;
 mod options;
 mod outcome;
 mod plan_type;
 mod running;
+mod sweeping;
+mod table;
 mod takes;
 mod tool;
 mod usage;
@@ -23,5 +28,7 @@ pub use usage::{Refusal, Usage, usage_line};
 
 #[cfg(test)]
 mod command_tests;
+#[cfg(test)]
+mod intersect_tests;
 #[cfg(test)]
 mod tests;

@@ -1,21 +1,27 @@
 //! The plan of a command line: the last value of every option counts.
 
-ghost use Rattle.std.specs.Prelude.{◌≡◌, ◌≤◌, OnOk, Ok, Err, Some, None, IsSome, IsTrue, MatchResult, IfOk, IfErr, length, option_map};
+ghost use Rattle.std.specs.Prelude.{◌≡◌, ◌≤◌, Ok, Err, Some, None, string_bytes, IsTrue, MatchResult, IfOk, IfErr, length, option_map};
 ghost use Rattle.bt_tool.specs.Limits.{is_within_limits};
 ghost use Rattle.bt_tool.specs.Given.{items_in};
-ghost use Rattle.bt_tool.specs.Options.{command_by, command_of, is_given, is_standard_input, number_by, options, plan_of, settled, strand_by, value_of};
-ghost use Rattle.bt_tool.specs.Plan.{seen, words_seen};
+ghost use Rattle.bt_tool.specs.Options.{command_by, command_of, fault_together, hit_shape, number_by, options, plan_of, shape_by, strand_by};
+ghost use Rattle.bt_tool.specs.Plan.{plan_seen, words_seen};
 ghost use Rattle.bt_tool.specs.Refusal.{CanBeTold, IsRefusalOf};
 ghost use Rattle.bt_tool.specs.Report.{ReportsPlan, ReportsRefusal};
+ghost use Rattle.bt_tool.specs.Table.{table_of};
+ghost use Rattle.bt_tool.specs.TableLent.{table_lent};
 ghost use Rattle.bt_tool.specs.Usage.{no_command};
+ghost use Rattle.bt_lines.specs.Number.{max_number};
 
+use crate::checking::check;
 use crate::given::Given;
+use crate::names::names_of;
 use crate::plan_type::{Command, Plan};
 use crate::tool::Tool;
-use crate::usage::{Kind, Refusal, Usage};
+use crate::usage::{Refusal, Usage, UsageKind};
 use bt_bed::Strand;
 use bt_lines::number;
 use bt_runs::MergeStrand;
+use bt_sweep::Shape;
 use std::alloc::{AllocError, Global};
 
 // The tool that the first word names.
@@ -24,52 +30,26 @@ fn named_tool(words: &[String]) -> Result<Tool, Usage>
         (λ tool. command_of (words_seen words.now) ≡ Some tool)
         (λ usage. (command_of (words_seen words.now) ≡ None) × (usage ≡ no_command)) }
 {
-    let unknown = Usage::new(Kind::NoCommand);
+    let unknown = Usage::new(UsageKind::NoCommand);
     let name = words.first().ok_or(unknown)?;
     Tool::named(name.as_str()).ok_or(unknown)
 }
 
-// The value of an option, if it was given with one.
-fn value_of<'a>(given: Given<'a>, option: &str) -> Option<&'a str>
-    ensures { option_map (λ value. value.now) result ≡ value_of (items_in given.entry) option.now }
-{
-    given.last(option)?.value
-}
-
-// Whether an option was given.
-fn is_given(given: Given<'_>, option: &str) -> bool
-    ensures { result ≡ is_given (items_in given.entry) option.now }
-{
-    given.last(option).is_some()
-}
-
-// The name of the first input.
-fn first_name<'a>(given: Given<'a>) -> &'a str
-    ensures { result.now ≡ (plan_of given.entry.tool (items_in given.entry)).first }
-{
-    value_of(given, "-i").unwrap_or("stdin")
-}
-
-// The name of the genome file.
-fn genome_name<'a>(given: Given<'a>) -> Option<&'a str>
-    ensures { option_map (λ name. name.now) result
-        ≡ (plan_of given.entry.tool (items_in given.entry)).genome }
-{
-    value_of(given, "-g")
-}
-
 // What the options ask the tool for.
-fn command(given: Given<'_>) -> Command
-    ensures asked { result ≡ command_by given.entry.tool (items_in given.entry) }
+fn command(tool: Tool, given: Given<'_>) -> Command
+    ensures asked { result ≡ command_by tool (items_in given.entry) }
     ensures limits { IsTrue (is_within_limits result) }
 {
-    match given.tool {
+    match tool {
         Tool::Merge => Command::Merge {
-            d: number_of(value_of(given, "-d")),
-            strand: strand_of(value_of(given, "-S")),
+            d: number_of(given.value_of("-d")),
+            strand: strand_of(given.value_of("-S")),
         },
         Tool::Complement => Command::Complement {
-            limit: is_given(given, "-L"),
+            limit: given.has("-L"),
+        },
+        Tool::Intersect => Command::Intersect {
+            shape: shape_of(given),
         },
     }
 }
@@ -77,7 +57,7 @@ fn command(given: Given<'_>) -> Command
 // The number of a value, 0 without one.
 fn number_of(value: Option<&str>) -> u64
     ensures value { result ≡ number_by (option_map (λ value. value.now) value.entry) }
-    ensures limit { result ≤ 999999999999 }
+    ensures limit { result ≤ max_number }
 {
     match value {
         Some(value) => number(value.as_bytes()).unwrap_or(0),
@@ -97,46 +77,64 @@ fn strand_of(value: Option<&str>) -> MergeStrand
     }
 }
 
-fn is_standard_input(name: &str) -> bool
-    ensures { result ≡ is_standard_input name.now }
+// The shape of what intersect writes.
+fn shape_of(given: Given<'_>) -> Shape
+    ensures { result ≡ shape_by (items_in given.entry) }
 {
-    name == "-" || name == "stdin"
+    if given.has("-u") {
+        return Shape::Once;
+    }
+    if given.has("-v") {
+        return Shape::Missing;
+    }
+    if given.has("-c") {
+        return Shape::Count;
+    }
+    if given.has("-wo") {
+        return Shape::Overlap;
+    }
+    hit_shape(given.has("-wa"), given.has("-wb"))
 }
 
-// What the options have or lack together.
-fn check(given: Given<'_>) -> Result<(), Usage>
-    ensures settles { MatchResult result
-        (λ _. settled given.entry.tool (items_in given.entry)
-        ≡ Ok (plan_of given.entry.tool (items_in given.entry)))
-        (λ usage. settled given.entry.tool (items_in given.entry) ≡ Err usage) }
-    ensures genome { OnOk result
-        (IsSome (plan_of given.entry.tool (items_in given.entry)).genome) }
+// The shape that `-wa` and `-wb` ask for.
+fn hit_shape(wa: bool, wb: bool) -> Shape
+    ensures { result ≡ hit_shape wa wb }
 {
-    let Some(genome) = genome_name(given) else {
-        return Err(Usage::new(Kind::RequiredMissing));
-    };
-    if is_standard_input(genome) && is_standard_input(first_name(given)) {
-        return Err(Usage::new(Kind::InputNamedTwice));
+    match (wa, wb) {
+        (false, false) => Shape::Cut,
+        (true, false) => Shape::OrigA,
+        (false, true) => Shape::CutAndB,
+        (true, true) => Shape::OrigBoth,
     }
-    Ok(())
+}
+
+// A copy of a name that may be missing.
+fn copied(alloc: Global, name: Option<&str>) -> Result<Option<String>, AllocError>
+    ensures { IfOk result (λ copy. option_map string_bytes copy ≡ option_map (λ name. name.now) name.entry) }
+{
+    match name {
+        Some(name) => Ok(Some(String::from_str(alloc, name)?)),
+        None => Ok(None),
+    }
 }
 
 // The plan of these items, with copies of the names.
-fn made(alloc: Global, given: Given<'_>) -> Result<Plan, AllocError>
-    requires { IsSome (plan_of given.tool (items_in given)).genome }
-    ensures { IfOk result (λ plan. seen plan ≡ plan_of given.entry.tool (items_in given.entry)) }
+fn made(alloc: Global, tool: Tool, given: Given<'_>) -> Result<Plan, AllocError>
+    requires table { table_lent given.table.now ≡ table_of tool }
+    requires whole { fault_together (table_of tool) (items_in given) ≡ None }
+    ensures { IfOk result (λ plan. plan_seen plan ≡ plan_of tool (items_in given.entry)) }
 {
-    let genome = match genome_name(given) {
-        Some(name) => Some(String::from_str(alloc, name)?),
-        None => None,
-    };
-    let first = String::from_str(alloc, first_name(given))?;
+    let names = names_of(given);
+    let genome = copied(alloc, names.genome)?;
+    let first = String::from_str(alloc, names.first)?;
+    let second = copied(alloc, names.second)?;
+    let output = copied(alloc, names.output)?;
     Ok(Plan {
-        command: command(given),
+        command: command(tool, given),
         genome,
         first,
-        second: None,
-        output: None,
+        second,
+        output,
     })
 }
 
@@ -144,12 +142,12 @@ fn made(alloc: Global, given: Given<'_>) -> Result<Plan, AllocError>
 ///
 /// The plan has copies of its names, so memory can run out where the words have a plan.
 pub fn plan(alloc: Global, words: &[String]) -> Result<Plan, Refusal>
-    ensures asked { IfOk result (λ plan. options (words_seen words.now) ≡ Ok (seen plan)) }
+    ensures asked { IfOk result (λ plan. options (words_seen words.now) ≡ Ok (plan_seen plan)) }
     ensures refused { IfErr result (IsRefusalOf (words_seen words.now)) }
     ensures tellable { IfErr result (CanBeTold (length words.now)) }
 
     // What a user sees of the words, by the report over the whole texts of the inputs.
-    ensures reported { IfOk result (λ plan. ReportsPlan (words_seen words.now) (seen plan)) }
+    ensures reported { IfOk result (λ plan. ReportsPlan (words_seen words.now) (plan_seen plan)) }
     ensures told { IfErr result (ReportsRefusal (words_seen words.now)) }
 {
     planned(alloc, words)
@@ -157,14 +155,15 @@ pub fn plan(alloc: Global, words: &[String]) -> Result<Plan, Refusal>
 
 // The plan, read from the words.
 fn planned(alloc: Global, words: &[String]) -> Result<Plan, Refusal>
-    ensures asked { IfOk result (λ plan. options (words_seen words.now) ≡ Ok (seen plan)) }
+    ensures asked { IfOk result (λ plan. options (words_seen words.now) ≡ Ok (plan_seen plan)) }
     ensures refused { IfErr result (IsRefusalOf (words_seen words.now)) }
     ensures tellable { IfErr result (CanBeTold (length words.now)) }
 {
     let tool = named_tool(words)?;
-    let given = Given::read(tool, words)?;
+    let table = tool.table();
+    let given = Given::read(&table, words)?;
     check(given)?;
-    Ok(made(alloc, given)?)
+    Ok(made(alloc, tool, given)?)
 }
 
 #[cfg(test)]

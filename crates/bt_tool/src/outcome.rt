@@ -1,8 +1,8 @@
 //! How a run ended.
 
-ghost use Rattle.std.specs.Prelude.{◌≡◌, [], IfOk, option_map, string_bytes, unwrap_or};
+ghost use Rattle.std.specs.Prelude.{◌≡◌, [], IfOk, None, Ok, option_map, string_bytes, unwrap_or};
 ghost use Rattle.bt_lines.specs.Names.{told};
-ghost use Rattle.bt_tool.specs.Plan.{seen};
+ghost use Rattle.bt_tool.specs.Plan.{plan_seen};
 ghost use Rattle.bt_tool.specs.Report.{fault_text, status_of};
 
 use crate::plan_type::Plan;
@@ -27,10 +27,11 @@ impl Outcome {
     }
 
     /// The line that tells the fault, if there is one, with the names of the plan's inputs. A name that
-    /// the plan lacks is empty. `Err` where memory runs out.
+    /// the plan lacks is empty. `Err` where memory runs out; none is taken where there is no fault.
     pub fn fault_line(&self, alloc: Global, plan: &Plan) -> Result<Option<Vec<u8>>, AllocError>
-        ensures { IfOk result (λ line. option_map (λ line. line.items) line
-            ≡ option_map (λ fault. fault_text (seen plan.now) (told fault)) self.now.fault) }
+        ensures line { IfOk result (λ line. option_map (λ line. line.items) line
+            ≡ option_map (λ fault. fault_text (plan_seen plan.now) (told fault)) self.now.fault) }
+        ensures none { self.now.fault ≡ None → result ≡ Ok None }
     {
         let Some(fault) = self.fault else {
             return Ok(None);

@@ -6,6 +6,7 @@ ghost use Rattle.std.specs.Prelude.{IsTrue};
 
 use crate::tool::Tool;
 use bt_runs::MergeStrand;
+use bt_sweep::Shape;
 
 /// A tool, with what its options ask for.
 #[derive(Clone, Copy, Debug, PartialEq, Eq)]
@@ -15,11 +16,13 @@ pub enum Command {
     /// The parts of each chromosome that no feature covers; with `limit` only of those chromosomes that
     /// have records.
     Complement { limit: bool },
+    /// What the records of the second input share with those of the first, in this shape.
+    Intersect { shape: Shape },
 }
 
 impl Command {
     ghost use Rattle.std.specs.Prelude.{◌≡◌};
-    ghost use Rattle.bt_tool.specs.Table.{name_of};
+    ghost use Rattle.bt_tool.specs.Table.{tool_name};
 
     /// The tool.
     pub(crate) fn tool(self) -> Tool
@@ -28,12 +31,13 @@ impl Command {
         match self {
             Command::Merge { .. } => Tool::Merge,
             Command::Complement { .. } => Tool::Complement,
+            Command::Intersect { .. } => Tool::Intersect,
         }
     }
 
     /// The word that names the tool.
     pub fn name(self) -> &'static str
-        ensures { result.now ≡ name_of (tool_of self) }
+        ensures { result.now ≡ tool_name (tool_of self) }
     {
         self.tool().name()
     }

@@ -1,24 +1,25 @@
 //! Running a plan over its devices.
 
-ghost use Rattle.std.specs.Prelude.{IsTrue, ◌≡◌, ◌⊎◌, true, Some, is_some, option_map};
+ghost use Rattle.std.specs.Prelude.{IsSome, IsTrue, MatchResult, ◌≡◌, ◌⊎◌, ⊤, None, true, Some, is_some, option_map};
 ghost use Rattle.bt_lines.specs.Fault.{write_failed};
 ghost use Rattle.bt_lines.specs.Names.{told};
-ghost use Rattle.bt_tool.specs.Gives.{Runs, RunsPlan};
-ghost use Rattle.bt_bed.specs.GenomeTable.{entries, names_of};
-ghost use Rattle.bt_bed.specs.Rank.{AreDistinct, rank_order};
 ghost use Rattle.bt_lines.specs.Output.{HoldsBlock};
-ghost use Rattle.bt_tool.specs.Driving.{WritesRecords};
+ghost use Rattle.bt_bed.specs.GenomeTable.{entries, names_of};
+ghost use Rattle.bt_bed.specs.Rank.{AreDistinct};
+ghost use Rattle.bt_tool.specs.Chromosomes.{ReadsChromosomes, WritesBy, WritesOutput};
+ghost use Rattle.bt_tool.specs.Gives.{Runs};
 ghost use Rattle.bt_tool.specs.Limits.{is_within_limits};
-ghost use Rattle.bt_tool.specs.Plan.{seen};
-ghost use Rattle.bt_tool.specs.Writes.{writes_of};
+ghost use Rattle.bt_tool.specs.Table.{IsNamedBy, table_of, tool_of};
 
 use crate::driving::drive;
 use crate::flushing::flushed;
 use crate::outcome::Outcome;
 use crate::plan_type::{Command, Plan};
+use crate::sweeping::sweep;
 use bt_bed::Genome;
 use bt_lines::{Fault, Input, LineReader, Out, Sink, Source};
 use bt_runs::{Complement, Merge};
+use bt_sweep::Shape;
 use std::alloc::Global;
 
 /// How a run ended, and the devices that it was given: `genome` and `second` are there exactly where
@@ -32,8 +33,9 @@ pub struct Ended<G, A, B, K> {
     pub out: K,
 }
 
-/// Runs a plan: reads the genome file whole, and then the other inputs once, from begin to end, and
-/// writes to the sink. The output is flushed at every ending except after a failed write.
+/// Runs a plan: reads the genome file whole, if there is one, and then the other inputs once, from
+/// begin to end, and writes to the sink. A fault of the genome file ends the run before any other input
+/// is read. The output is flushed at every ending except after a failed write.
 pub fn run<G: Source, A: Source, B: Source, K: Sink>(
     alloc: Global,
     plan: &Plan,
@@ -45,77 +47,120 @@ pub fn run<G: Source, A: Source, B: Source, K: Sink>(
     requires genome { is_some genome ≡ is_some plan.now.genome }
     requires second { is_some second ≡ is_some plan.now.second }
     ensures genome { is_some result.genome ≡ is_some genome }
-    ensures second { result.second ≡ second }
+    ensures second { is_some result.second ≡ is_some second }
     ensures flushed { (option_map told result.outcome.fault ≡ Some write_failed)
         ⊎ (K.is_flushed result.out ≡ true) }
-    ensures report { RunsPlan G.left G.has_failed A.left A.has_failed K.took K.has_failed (seen plan.now)
-        genome first out (option_map told result.outcome.fault) result.genome result.first result.out }
-{
-    match genome {
-        Some(genome) => {
-            let (fault, genome, first, out) = run_command(alloc, plan.command, genome, first, out);
-            Ended {
-                outcome: Outcome { fault },
-                genome: Some(genome),
-                first,
-                second,
-                out,
-            }
-        }
-        None => unreachable!(),
-    }
-}
-
-// Runs a command, and gives back the devices behind the fault, if there was one.
-fn run_command<G: Source, A: Source, K: Sink>(
-    alloc: Global,
-    command: Command,
-    genome: G,
-    first: A,
-    out: K,
-) -> (Option<Fault>, G, A, K)
-    requires { IsTrue (is_within_limits command) }
-    ensures flushed { (option_map told result.0 ≡ Some write_failed)
-        ⊎ (K.is_flushed result.3 ≡ true) }
-    ensures report { Runs G.left G.has_failed A.left A.has_failed K.took K.has_failed command
-        genome first out (option_map told result.0) result.1 result.2 result.3 }
+    ensures report { Runs G.left G.has_failed A.left A.has_failed A.end_told B.left B.has_failed K.took K.has_failed
+        plan.now.command genome first second out (option_map told result.outcome.fault)
+        result.genome result.first result.second result.out }
 {
     let mut out = Out::new(out);
-    let mut lines = LineReader::new(alloc, genome, Input::Genome);
-    match Genome::read(alloc, &mut lines) {
-        Ok(table) => {
-            let (fault, first) = write_records(alloc, command, &table, first, &mut out);
-            let fault = flushed(fault, &mut out);
-            (fault, lines.into_source(), first, out.into_sink())
-        }
-        Err(fault) => {
-            let fault = flushed(Some(fault), &mut out);
-            (fault, lines.into_source(), first, out.into_sink())
-        }
+    let (chromosomes, genome) = read_genome(alloc, genome);
+    let (fault, first, second) = write_output(
+        alloc,
+        plan.command,
+        chromosomes,
+        first,
+        second,
+        &mut out,
+    );
+    let fault = flushed(fault, &mut out);
+    Ended {
+        outcome: Outcome { fault },
+        genome,
+        first,
+        second,
+        out: out.into_sink(),
     }
 }
 
-// Writes what the records of an input make a command write, in the order of a genome file. It gives
-// the source back, and the fault that the run ends with, if there is one.
-fn write_records<A: Source, K: Sink>(
+// Reads the genome file, and gives its source back. Without one no chromosome is known.
+fn read_genome<G: Source>(alloc: Global, genome: Option<G>) -> (Result<Genome, Fault>, Option<G>)
+    ensures genome { is_some result.1 ≡ is_some genome }
+    ensures read { ReadsChromosomes G.left G.has_failed genome result.0 result.1 }
+{
+    let Some(genome) = genome else {
+        return (Ok(Genome::new(alloc)), None);
+    };
+    let mut lines = LineReader::new(alloc, genome, Input::Genome);
+    let read = Genome::read(alloc, &mut lines);
+    (read, Some(lines.into_source()))
+}
+
+// Writes the output by the chromosomes of the genome file. Where they couldn't be read the run ends with
+// that fault, and the other inputs aren't touched.
+fn write_output<A: Source, B: Source, K: Sink>(
+    alloc: Global,
+    command: Command,
+    chromosomes: Result<Genome, Fault>,
+    first: A,
+    second: Option<B>,
+    out: &mut Out<K>,
+) -> (Option<Fault>, A, Option<B>)
+    requires limits { IsTrue (is_within_limits command) }
+    requires second { IsNamedBy (table_of (tool_of command)) (table_of (tool_of command)).second second }
+    requires distinct { MatchResult chromosomes (λ table. AreDistinct (names_of table)) (λ _. ⊤) }
+    requires block { HoldsBlock out.old.took out.old.put }
+    ensures written { WritesOutput A.left A.has_failed A.end_told B.left B.has_failed command chromosomes first second
+        out.old (option_map told result.0) result.1 result.2 out.new }
+    ensures second { is_some result.2 ≡ is_some second }
+{
+    match chromosomes {
+        Ok(table) => write_records(alloc, command, &table, first, second, out),
+        Err(fault) => (Some(fault), first, second),
+    }
+}
+
+// Writes what the records of the inputs make a command write, by the chromosomes of a genome file. It
+// gives the sources back, and the fault that the run ends with, if there is one.
+fn write_records<A: Source, B: Source, K: Sink>(
     alloc: Global,
     command: Command,
     genome: &Genome,
     first: A,
+    second: Option<B>,
     out: &mut Out<K>,
-) -> (Option<Fault>, A)
+) -> (Option<Fault>, A, Option<B>)
     requires limits { IsTrue (is_within_limits command) }
+    requires second { IsNamedBy (table_of (tool_of command)) (table_of (tool_of command)).second second }
     requires distinct { AreDistinct (names_of genome.now) }
     requires block { HoldsBlock out.old.took out.old.put }
-    ensures { WritesRecords A.left A.has_failed (writes_of command (entries genome.now))
-        (rank_order (names_of genome.now)) first out.old (option_map told result.0) result.1 out.new }
+    ensures written { WritesBy A.left A.has_failed A.end_told B.left B.has_failed command (entries genome.now)
+        first second out.old (option_map told result.0) result.1 result.2 out.new }
+    ensures second { is_some result.2 ≡ is_some second }
 {
     match command {
         Command::Merge { d, strand } => {
-            drive(alloc, genome, Merge::new(alloc, d, strand), first, out)
+            let engine = Merge::new(alloc, d, strand);
+            let (fault, first) = drive(alloc, genome, engine, first, out);
+            (fault, first, second)
         }
         Command::Complement { limit } => {
-            drive(alloc, genome, Complement::new(genome, limit), first, out)
+            let engine = Complement::new(genome, limit);
+            let (fault, first) = drive(alloc, genome, engine, first, out);
+            (fault, first, second)
         }
+        Command::Intersect { shape } => sweep_both(alloc, genome, shape, first, second, out),
     }
+}
+
+// Sweeps the two inputs of intersect.
+fn sweep_both<A: Source, B: Source, K: Sink>(
+    alloc: Global,
+    genome: &Genome,
+    shape: Shape,
+    first: A,
+    second: Option<B>,
+    out: &mut Out<K>,
+) -> (Option<Fault>, A, Option<B>)
+    requires second { IsSome second }
+    requires distinct { AreDistinct (names_of genome.now) }
+    requires block { HoldsBlock out.old.took out.old.put }
+    ensures written { WritesBy A.left A.has_failed A.end_told B.left B.has_failed (Command.Intersect shape) (entries genome.now)
+        first second out.old (option_map told result.0) result.1 result.2 out.new }
+    ensures second { is_some result.2 ≡ is_some second }
+{
+    let Some(second) = second else { unreachable!() };
+    let (fault, first, second) = sweep(alloc, genome, shape, first, second, out);
+    (fault, first, Some(second))
 }

@@ -1,4 +1,4 @@
-ghost use Rattle.std.specs.Prelude.{◌≡◌, ◌<◌, is_some};
+ghost use Rattle.std.specs.Prelude.{◌≡◌, ◌<◌, ◌≤◌, is_some, length};
 
 use crate::{plan, run};
 use bt_lines::{ScriptSink, ScriptSource};
@@ -250,8 +250,15 @@ pub(crate) fn whole(step: usize) -> Script
 
 // A device that fails once so many bytes were moved.
 pub(crate) fn failing(good: usize) -> Script {
+    failing_by(7, good)
+}
+
+// The same, moving so many bytes a call.
+pub(crate) fn failing_by(step: usize, good: usize) -> Script
+    requires { 0 < step }
+{
     Script {
-        step: 7,
+        step,
         good: Some(good),
     }
 }
@@ -285,12 +292,24 @@ fn merge(
     run_words(alloc, &words, genome, first, out)
 }
 
-// Plans and runs these words over scripts.
+// Plans and runs these words over scripts, for a command of one input.
 pub(crate) fn run_words(
     alloc: Global,
     words: &[&str],
     genome: (&[u8], Script),
     first: (&[u8], Script),
+    out: Script,
+) -> Result<Answer, Fail> {
+    run_both(alloc, words, genome, first, (b"", whole(1)), out)
+}
+
+// The same for one of two inputs.
+pub(crate) fn run_both(
+    alloc: Global,
+    words: &[&str],
+    genome: (&[u8], Script),
+    first: (&[u8], Script),
+    second: (&[u8], Script),
     out: Script,
 ) -> Result<Answer, Fail> {
     let words = strings(alloc, words)?;
@@ -300,7 +319,7 @@ pub(crate) fn run_words(
         &plan,
         source_if(&plan.genome, genome.0, genome.1),
         ScriptSource::new(first.0, first.1.step, first.1.good),
-        source_if(&plan.second, b"", whole(1)),
+        source_if(&plan.second, second.0, second.1),
         ScriptSink::new(alloc, out.step, out.good),
     );
     Ok(Answer {
@@ -345,52 +364,62 @@ const TOUCHING: &[u8] = b"chr1\t100\t200\nchr1\t180\t250\nchr1\t250\t500\nchr1\t
 
 const OUT_OF_ORDER: &[u8] = b"chr1\t0\t10\nchr1\t20\t30\nchr1\t5\t8\n";
 
+// The line at which reading fails behind so many good bytes of a text: the one behind its whole lines.
+pub(crate) fn failed_line(text: &[u8], good: usize) -> usize
+    requires { good ≤ length text.now }
+{
+    text[..good].split(|byte| *byte == b'\n').count()
+}
+
+// Whatever byte of an input fails to come: the lines settled by the whole lines before it, and the failed
+// read at the line after them.
 #[test]
-fn inputs_that_fail(rt: HostRuntime) -> Result<(), Fail> {
-    // The input, its good bytes, the output and the fault line.
-    let cases: [(&[u8], usize, &[u8], &[u8]); 6] = [
+fn an_input_that_fails_at_each_byte(rt: HostRuntime) -> Result<(), Fail> {
+    for step in [1, 7] {
+        for good in 0..=TOUCHING.len() {
+            let line = failed_line(TOUCHING, good);
+            // The last record begins behind the run of the others.
+            let settled: &[u8] = if line == 5 { b"chr1\t100\t500\n" } else { b"" };
+            let answer = merge(
+                rt.alloc(),
+                (GENOME, whole(step)),
+                (TOUCHING, failing_by(step, good)),
+                whole(step),
+            )?;
+            let told = format!(in rt.alloc(); "bedtools merge: a.bed:{}: reading failed\n", line)?;
+            assert_eq!(rt; answer.output.as_slice(), settled);
+            assert_eq!(rt; line_of(&answer), told.as_bytes());
+            assert_eq!(rt; answer.status, 1);
+        }
+    }
+    Ok(())
+}
+
+#[test]
+fn an_earlier_fault_comes_before_a_failed_read(rt: HostRuntime) -> Result<(), Fail> {
+    // The good bytes, the output and the fault line: the third record is out of order.
+    let cases: [(usize, &[u8], &[u8]); 3] = [
         (
-            TOUCHING,
-            0,
-            b"",
-            b"bedtools merge: a.bed:1: reading failed\n",
-        ),
-        (
-            TOUCHING,
-            39,
-            b"",
-            b"bedtools merge: a.bed:4: reading failed\n",
-        ),
-        (
-            TOUCHING,
-            52,
-            b"",
-            b"bedtools merge: a.bed:4: reading failed\n",
-        ),
-        (
-            TOUCHING,
-            53,
-            b"chr1\t100\t500\n",
-            b"bedtools merge: a.bed:5: reading failed\n",
-        ),
-        (
-            OUT_OF_ORDER,
             21,
             b"chr1\t0\t10\n",
             b"bedtools merge: a.bed:3: reading failed\n",
         ),
         (
-            OUT_OF_ORDER,
-            31,
+            29,
+            b"chr1\t0\t10\n",
+            b"bedtools merge: a.bed:3: reading failed\n",
+        ),
+        (
+            30,
             b"chr1\t0\t10\n",
             b"bedtools merge: a.bed:3: record is out of order\n",
         ),
     ];
-    for (first, good, output, line) in cases {
+    for (good, output, line) in cases {
         let answer = merge(
             rt.alloc(),
             (GENOME, whole(7)),
-            (first, failing(good)),
+            (OUT_OF_ORDER, failing(good)),
             whole(7),
         )?;
         assert_eq!(rt; answer.output.as_slice(), output);
@@ -401,18 +430,22 @@ fn inputs_that_fail(rt: HostRuntime) -> Result<(), Fail> {
 }
 
 #[test]
-fn a_genome_file_that_fails(rt: HostRuntime) -> Result<(), Fail> {
-    let answer = merge(
-        rt.alloc(),
-        (GENOME, failing(10)),
-        (TOUCHING, whole(1)),
-        whole(1),
-    )?;
-    assert_eq!(rt; answer.output.len(), 0);
-    assert_eq!(rt;
-        line_of(&answer),
-        b"bedtools merge: g.txt:2: reading failed\n".as_slice()
-    );
+fn a_genome_file_that_fails_at_each_byte(rt: HostRuntime) -> Result<(), Fail> {
+    for step in [1, 7] {
+        for good in 0..=GENOME.len() {
+            let line = failed_line(GENOME, good);
+            let answer = merge(
+                rt.alloc(),
+                (GENOME, failing_by(step, good)),
+                (TOUCHING, whole(step)),
+                whole(step),
+            )?;
+            let told = format!(in rt.alloc(); "bedtools merge: g.txt:{}: reading failed\n", line)?;
+            assert_eq!(rt; answer.output.len(), 0);
+            assert_eq!(rt; line_of(&answer), told.as_bytes());
+            assert_eq!(rt; answer.status, 1);
+        }
+    }
     Ok(())
 }
 
@@ -449,5 +482,34 @@ fn nothing_to_write(rt: HostRuntime) -> Result<(), Fail> {
     let answer = merge(rt.alloc(), (GENOME, whole(1)), (b"", whole(1)), failing(0))?;
     assert_eq!(rt; answer.status, 0);
     assert!(rt; answer.line.is_none());
+    Ok(())
+}
+
+// Ten thousand records on a sink that takes nothing: the run stops once a block of output is full, and
+// has read little more than was needed for it.
+#[test]
+fn a_failed_write_stops_the_reading(rt: HostRuntime) -> Result<(), Fail> {
+    let alloc = rt.alloc();
+    let mut text = Vec::new(alloc);
+    for i in 0..10_000u64 {
+        let line = format!(in alloc; "chr1\t{}\t{}\n", 20 * i, 20 * i + 10)?;
+        text.extend_from_slice(line.as_bytes())?;
+    }
+    let words = strings(alloc, &["merge", "-i", "a.bed", "-g", "g.txt"])?;
+    let plan = plan(alloc, words.as_slice()).ok().ok_or("a plan")?;
+    let ended = run(
+        alloc,
+        &plan,
+        source_if(&plan.genome, b"chr1\t1000000\n", whole(8192)),
+        ScriptSource::new(text.as_slice(), 8192, None),
+        source_if(&plan.second, b"", whole(1)),
+        ScriptSink::new(alloc, 8192, Some(0)),
+    );
+    let line = ended.outcome.fault_line(alloc, &plan)?.ok_or("a fault")?;
+    assert_eq!(rt;
+        line.as_slice(),
+        b"bedtools merge: writing failed\n".as_slice()
+    );
+    assert!(rt; ended.first.given() <= 24_576);
     Ok(())
 }

@@ -1,15 +1,17 @@
 //! The tools and their options.
 
-ghost use Rattle.bt_tool.specs.Table.{command_named, name_of, table_of, takes};
+ghost use Rattle.bt_tool.specs.Table.{command_named, tool_name, table_of};
+ghost use Rattle.bt_tool.specs.TableLent.{table_lent};
 ghost use Rattle.std.specs.Prelude.{◌≡◌};
 
-use crate::takes::Takes;
+use crate::table::{COMPLEMENT, INTERSECT, MERGE, Table};
 
 /// A tool, apart from what its options ask for.
 #[derive(Clone, Copy, Debug, PartialEq, Eq)]
 pub enum Tool {
     Merge,
     Complement,
+    Intersect,
 }
 
 impl Tool {
@@ -20,36 +22,30 @@ impl Tool {
         match name {
             "merge" => Some(Tool::Merge),
             "complement" => Some(Tool::Complement),
+            "intersect" => Some(Tool::Intersect),
             _ => None,
         }
     }
 
     /// The word that names the tool.
     pub fn name(self) -> &'static str
-        ensures { result.now ≡ name_of self }
+        ensures { result.now ≡ tool_name self }
     {
         match self {
             Tool::Merge => "merge",
             Tool::Complement => "complement",
+            Tool::Intersect => "intersect",
         }
     }
 
-    /// What the tool's option of this word takes, if there is one.
-    pub(crate) fn takes(self, word: &str) -> Option<Takes>
-        ensures { result ≡ takes (table_of self) word.now }
+    /// What the tool's command line may say.
+    pub(crate) fn table(self) -> Table
+        ensures { table_lent result ≡ table_of self }
     {
         match self {
-            Tool::Merge => match word {
-                "-i" | "-g" => Some(Takes::FileName),
-                "-d" => Some(Takes::Number),
-                "-S" => Some(Takes::Strand),
-                _ => None,
-            },
-            Tool::Complement => match word {
-                "-i" | "-g" => Some(Takes::FileName),
-                "-L" => Some(Takes::Nothing),
-                _ => None,
-            },
+            Tool::Merge => MERGE,
+            Tool::Complement => COMPLEMENT,
+            Tool::Intersect => INTERSECT,
         }
     }
 }

@@ -46,7 +46,7 @@ impl From<AllocError> for Refusal {
 
 /// What can be wrong with a command line.
 #[derive(Clone, Copy)]
-pub(crate) enum Kind {
+pub(crate) enum UsageKind {
     NoCommand = 1,
     UnknownOption = 2,
     ValueMissing = 3,
@@ -56,23 +56,23 @@ pub(crate) enum Kind {
     InputNamedTwice = 7,
 }
 
-impl Kind {
+impl UsageKind {
     ghost use Rattle.std.specs.Prelude.{◌≡◌, ◌≤◌};
     ghost use Rattle.bt_tool.specs.Usage.{names_word, number_of, text_of};
 
-    fn numbered(number: u8) -> Kind
+    fn numbered(number: u8) -> UsageKind
         requires at_least { 1 ≤ number }
         requires at_most { number ≤ 7 }
         ensures { number_of result ≡ number }
     {
         match number {
-            1 => Kind::NoCommand,
-            2 => Kind::UnknownOption,
-            3 => Kind::ValueMissing,
-            4 => Kind::BadValue,
-            5 => Kind::RequiredMissing,
-            6 => Kind::OptionsExclusive,
-            _ => Kind::InputNamedTwice,
+            1 => UsageKind::NoCommand,
+            2 => UsageKind::UnknownOption,
+            3 => UsageKind::ValueMissing,
+            4 => UsageKind::BadValue,
+            5 => UsageKind::RequiredMissing,
+            6 => UsageKind::OptionsExclusive,
+            _ => UsageKind::InputNamedTwice,
         }
     }
 
@@ -82,7 +82,7 @@ impl Kind {
     {
         matches!(
             self,
-            Kind::UnknownOption | Kind::ValueMissing | Kind::BadValue
+            UsageKind::UnknownOption | UsageKind::ValueMissing | UsageKind::BadValue
         )
     }
 
@@ -90,13 +90,13 @@ impl Kind {
         ensures { result.now ≡ text_of (number_of self) }
     {
         match self {
-            Kind::NoCommand => "no or unknown command",
-            Kind::UnknownOption => "unknown option",
-            Kind::ValueMissing => "value missing",
-            Kind::BadValue => "bad value",
-            Kind::RequiredMissing => "required option missing",
-            Kind::OptionsExclusive => "options exclude one another",
-            Kind::InputNamedTwice => "standard input named twice",
+            UsageKind::NoCommand => "no or unknown command",
+            UsageKind::UnknownOption => "unknown option",
+            UsageKind::ValueMissing => "value missing",
+            UsageKind::BadValue => "bad value",
+            UsageKind::RequiredMissing => "required option missing",
+            UsageKind::OptionsExclusive => "options exclude one another",
+            UsageKind::InputNamedTwice => "standard input named twice",
         }
     }
 }
@@ -106,7 +106,7 @@ impl Usage {
     ghost use Rattle.bt_tool.specs.Usage.{number_of};
 
     /// A fault of the words as a whole.
-    pub(crate) fn new(kind: Kind) -> Usage
+    pub(crate) fn new(kind: UsageKind) -> Usage
         ensures { result ≡ record { number = number_of kind; word = 0 } }
     {
         Usage {
@@ -116,7 +116,7 @@ impl Usage {
     }
 
     /// The fault of the option at this index among the words.
-    pub(crate) fn of_option(kind: Kind, word: usize) -> Usage
+    pub(crate) fn of_option(kind: UsageKind, word: usize) -> Usage
         ensures { result ≡ record { number = number_of kind; word = word } }
     {
         Usage {
@@ -131,7 +131,7 @@ pub fn usage_line(alloc: Global, words: &[String], usage: &Usage) -> Result<Vec<
     requires { IsTellable usage.now (length words.now) }
     ensures { IfOk result (λ line. line.items ≡ usage_text (words_seen words.now) usage.now) }
 {
-    let kind = Kind::numbered(usage.number);
+    let kind = UsageKind::numbered(usage.number);
     let mut line = Vec::new(alloc);
     line.extend_from_slice(b"bedtools: ")?;
     line.extend_from_slice(kind.text().as_bytes())?;

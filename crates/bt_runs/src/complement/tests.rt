@@ -1,7 +1,7 @@
 ghost use Rattle.std.specs.Prelude.{◌<◌};
 
 use super::*;
-use crate::plain::Span;
+use crate::plain::PlainSpan;
 use crate::plain_gaps::plain_gaps;
 use bt_bed::parse_bed;
 use bt_lines::{Input, Kind, LineReader, ScriptSink, ScriptSource};
@@ -211,7 +211,7 @@ fn a_sink_that_fails(rt: HostRuntime) {
             feed_until_refused(&mut complement, &lines, &mut out),
             "{good}"
         );
-        assert_eq!(rt; complement.finish(&mut out), Err(write_failed()), "{good}");
+        assert_eq!(rt; end(complement, &mut out), Err(write_failed()), "{good}");
         assert_eq!(rt; out.into_sink().taken(), &want[..good], "{good}");
     }
     let mut complement = Complement::new(&genome, false);
@@ -229,7 +229,7 @@ fn a_sink_that_fails_at_the_end(rt: HostRuntime) {
     for good in 0..want.len() {
         let complement = Complement::new(&genome, false);
         let mut out = Out::new(ScriptSink::new(rt.alloc(), 7, Some(good)));
-        assert_eq!(rt; complement.finish(&mut out), Err(write_failed()), "{good}");
+        assert_eq!(rt; end(complement, &mut out), Err(write_failed()), "{good}");
         assert_eq!(rt; out.into_sink().taken(), &want[..good], "{good}");
     }
 }
@@ -265,7 +265,7 @@ fn one_place_is_kept_of_many_records(rt: HostRuntime) -> Result<(), Fail> {
 }
 
 // The lines of gaps on the second chromosome.
-fn lines_of(alloc: Global, gaps: &[Span]) -> Result<Vec<u8>, AllocError> {
+fn lines_of(alloc: Global, gaps: &[PlainSpan]) -> Result<Vec<u8>, AllocError> {
     let mut text = Vec::new(alloc);
     for gap in gaps {
         let line = format!(in alloc; "chr2\t{}\t{}\n", gap.start, gap.stop)?;
@@ -278,7 +278,7 @@ fn lines_of(alloc: Global, gaps: &[Span]) -> Result<Vec<u8>, AllocError> {
 fn feed_spans<E: Engine, K: Sink>(
     alloc: Global,
     engine: &mut E,
-    spans: &[Span],
+    spans: &[PlainSpan],
     out: &mut Out<K>,
 ) -> Result<bool, AllocError> {
     for span in spans {
@@ -290,8 +290,8 @@ fn feed_spans<E: Engine, K: Sink>(
     Ok(true)
 }
 
-fn span(start: u64, stop: u64) -> Span {
-    Span { start, stop }
+fn span(start: u64, stop: u64) -> PlainSpan {
+    PlainSpan { start, stop }
 }
 
 #[test]
@@ -300,7 +300,7 @@ fn gives_what_the_plain_program_gives(rt: HostRuntime) -> Result<(), Fail> {
         assert!(rt; false, "the genome");
         return Ok(());
     };
-    let cases: [&[Span]; 6] = [
+    let cases: [&[PlainSpan]; 6] = [
         &[span(0, 1), span(0, 7), span(3, 5), span(9, 10)],
         &[span(1, 2), span(2, 3), span(4, 40), span(30, 35)],
         &[span(49, 60), span(49, 50), span(70, 90)],

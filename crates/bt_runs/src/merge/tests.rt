@@ -1,6 +1,7 @@
 ghost use Rattle.std.specs.Prelude.{◌≤◌};
 
 use super::*;
+use crate::plain::{PlainSpan, plain_runs};
 use bt_bed::parse_bed;
 use bt_lines::{Kind, ScriptSink};
 use std::process::Abort;
@@ -301,5 +302,66 @@ fn many_records_on_one_run(rt: HostRuntime) -> Result<(), Fail> {
     assert_eq!(rt; finish(merge, &mut out), Ok(()));
     assert_eq!(rt; out.flush(), Ok(()));
     assert_eq!(rt; out.into_sink().taken(), b"chr1\t0\t20000\n".as_slice());
+    Ok(())
+}
+
+fn span(start: u64, stop: u64) -> PlainSpan {
+    PlainSpan { start, stop }
+}
+
+// The lines of spans on one chromosome.
+fn lines_of(alloc: Global, spans: &[PlainSpan]) -> Result<Vec<u8>, AllocError> {
+    let mut text = Vec::new(alloc);
+    for span in spans {
+        let line = format!(in alloc; "c\t{}\t{}\n", span.start, span.stop)?;
+        text.extend_from_slice(line.as_bytes())?;
+    }
+    Ok(text)
+}
+
+// Feeds spans on that chromosome.
+fn feed_spans<E: Engine, K: Sink>(
+    alloc: Global,
+    engine: &mut E,
+    spans: &[PlainSpan],
+    out: &mut Out<K>,
+) -> Result<bool, AllocError> {
+    for span in spans {
+        let line = format!(in alloc; "c\t{}\t{}", span.start, span.stop)?;
+        if feed(engine, line.as_bytes(), out).is_err() {
+            return Ok(false);
+        }
+    }
+    Ok(true)
+}
+
+#[test]
+fn gives_what_the_plain_program_gives(rt: HostRuntime) -> Result<(), Fail> {
+    let cases: [&[PlainSpan]; 6] = [
+        &[],
+        &[span(0, 1), span(0, 7), span(3, 5), span(9, 10)],
+        &[span(1, 2), span(2, 3), span(4, 40), span(30, 35)],
+        &[span(3, 4), span(5, 6), span(8, 9), span(12, 13)],
+        &[span(0, 20), span(1, 2), span(21, 22), span(24, 25)],
+        &[
+            span(7, 8),
+            span(7, 9),
+            span(10, 11),
+            span(13, 14),
+            span(13, 15),
+        ],
+    ];
+    for spans in cases {
+        for gap in 0..5 {
+            let runs = plain_runs(rt.alloc(), spans, gap)?;
+            let want = lines_of(rt.alloc(), runs.as_slice())?;
+            let mut merge = Merge::new(rt.alloc(), gap, MergeStrand::All);
+            let mut out = Out::new(ScriptSink::new(rt.alloc(), 3, None));
+            assert!(rt; feed_spans(rt.alloc(), &mut merge, spans, &mut out)?);
+            assert_eq!(rt; finish(merge, &mut out), Ok(()));
+            assert_eq!(rt; out.flush(), Ok(()));
+            assert_eq!(rt; out.into_sink().taken(), want.as_slice());
+        }
+    }
     Ok(())
 }

@@ -106,6 +106,89 @@ const CASES: [(&[&str], &str); 39] = [
     ),
 ];
 
+/// The same for intersect, without the command.
+const INTERSECT: [(&[&str], &str); 22] = [
+    (&["-a", "x"], "bedtools: required option missing\n"),
+    (
+        &["-a", "x", "-b", "y"],
+        "bedtools: required option missing\n",
+    ),
+    (
+        &["-b", "y", "-g", "g"],
+        "bedtools: required option missing\n",
+    ),
+    (
+        &["-a", "x", "-b", "y", "-g", "g", "-u", "-c"],
+        "bedtools: options exclude one another\n",
+    ),
+    (
+        &["-a", "x", "-b", "y", "-g", "g", "-wa", "-wo"],
+        "bedtools: options exclude one another\n",
+    ),
+    (
+        &["-a", "x", "-b", "y", "-g", "g", "-u", "-v"],
+        "bedtools: options exclude one another\n",
+    ),
+    (
+        &["-a", "x", "-b", "y", "-g", "g", "-wa", "-wb", "-u"],
+        "bedtools: options exclude one another\n",
+    ),
+    (
+        &["-a", "x", "-b", "y", "-g", "g", "-wb", "-wo"],
+        "bedtools: options exclude one another\n",
+    ),
+    (
+        &["-a", "x", "-b", "y", "-g", "g", "-v", "-c"],
+        "bedtools: options exclude one another\n",
+    ),
+    (
+        &["-a", "-", "-b", "stdin", "-g", "g"],
+        "bedtools: standard input named twice\n",
+    ),
+    (
+        &["-a", "x", "-b", "-", "-g", "stdin"],
+        "bedtools: standard input named twice\n",
+    ),
+    (
+        &["-a", "x", "-b", "y", "-g", "g", "-f", "0.5"],
+        "bedtools: unknown option: -f\n",
+    ),
+    (&["-i", "x"], "bedtools: unknown option: -i\n"),
+    (&["-a", "x", "-b"], "bedtools: value missing: -b\n"),
+    (
+        &["-a", "x", "-b", "y", "-g", "g"],
+        "Intersect { shape: Cut } Some(\"g\") x Some(\"y\") None",
+    ),
+    (
+        &["-sorted", "-a", "x", "-b", "y", "-g", "g", "-wa", "-wa"],
+        "Intersect { shape: OrigA } Some(\"g\") x Some(\"y\") None",
+    ),
+    (
+        &["-a", "x", "-b", "y", "-g", "g", "-wb"],
+        "Intersect { shape: CutAndB } Some(\"g\") x Some(\"y\") None",
+    ),
+    (
+        &["-wb", "-a", "x", "-b", "y", "-wa", "-g", "g"],
+        "Intersect { shape: OrigBoth } Some(\"g\") x Some(\"y\") None",
+    ),
+    (
+        &["-a", "x", "-b", "y", "-g", "g", "-wo"],
+        "Intersect { shape: Overlap } Some(\"g\") x Some(\"y\") None",
+    ),
+    (
+        &["-a", "x", "-b", "y", "-g", "g", "-u", "-wa"],
+        "Intersect { shape: Once } Some(\"g\") x Some(\"y\") None",
+    ),
+    (
+        &["-a", "x", "-b", "y", "-g", "g", "-v", "-sorted"],
+        "Intersect { shape: Missing } Some(\"g\") x Some(\"y\") None",
+    ),
+    (
+        &["-a", "-", "-b", "y", "-g", "g", "-c"],
+        "Intersect { shape: Count } Some(\"g\") - Some(\"y\") None",
+    ),
+];
+
 fn shown(alloc: Global, plan: &Plan) -> Result<String, AllocError> {
     let Plan {
         command,
@@ -141,6 +224,18 @@ fn words_give_a_plan_or_a_usage_line(rt: HostRuntime) -> Result<(), Fail> {
         let words = owned(rt.alloc(), texts)?;
         let given = answer(rt.alloc(), words.as_slice())?;
         assert_eq!(rt; given.as_str(), wanted, "at {texts:?}");
+    }
+    Ok(())
+}
+
+#[test]
+fn words_of_intersect(rt: HostRuntime) -> Result<(), Fail> {
+    for (options, wanted) in INTERSECT {
+        let mut texts = vec![in rt.alloc(); "intersect"]?;
+        texts.extend_from_slice(options)?;
+        let words = owned(rt.alloc(), texts.as_slice())?;
+        let given = answer(rt.alloc(), words.as_slice())?;
+        assert_eq!(rt; given.as_str(), wanted, "at {options:?}");
     }
     Ok(())
 }

@@ -1,4 +1,4 @@
-use Rattle.bt_bed.proofs.GoodLemmas.{placed_good, non_empty_good}
+use Rattle.bt_bed.proofs.GoodBedLemmas.{placed_good, non_empty_good}
 use Rattle.bt_bed.proofs.laws.good_records_are_in_order.Goals as goal
 
 pub returns-clause-placed : goal.returns-clause-placed

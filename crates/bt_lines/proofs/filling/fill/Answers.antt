@@ -1,22 +1,31 @@
-use Rattle.std.proofs.Common.{◌≡◌, ◌++◌, ◌∷◌, ◌∙◌, [], refl}
-use Rattle.bt_lines.proofs.FillingLemmas.{too_long, line_fed, line_grown}
+use Rattle.std.proofs.Common.{◌∙◌, ap, Ok}
+use Rattle.bt_lines.proofs.FillingLemmas.{at_first, at_feed, at_refusal, more_came, none_came, read_failed, past_bound}
 use Rattle.bt_lines.proofs.filling.fill.Goals as goal
 
-pub returns-then-taken-eq-TOO_LONG-clause-filled : goal.returns-then-taken-eq-TOO_LONG-clause-filled
-returns-then-taken-eq-TOO_LONG-clause-filled g c =
-    let read = rw c.in-Ok-Some.field-0-is at c.in-Ok-Some.ensures.byte in
-    too_long _ _ _ _ _ _ _ _ _ _ c.loop-taken.invariant read c.in-Ok-Some.ensures.served c.loop-taken-test.true c.if-taken-eq-TOO_LONG.true
+pub reads-init : goal.reads-init
+reads-init g c = at_first _ _ _ _ _ _ _ c.requires.empty c.requires.counted
 
-pub returns-then-byte-eq10-clause-filled : goal.returns-then-byte-eq10-clause-filled
-returns-then-byte-eq10-clause-filled g c =
-    let read = rw c.in-Ok-Some.field-0-is at c.in-Ok-Some.ensures.byte in
-    line_fed _ _ _ _ _ _ _ _ _ _ c.loop-taken.invariant read c.in-Ok-Some.ensures.served c.loop-taken-test.true c.if-byte-eq10.true c.if-taken-eq-TOO_LONG.false
+pub returns-in-Err : goal.returns-in-Err
+returns-in-Err g c = at_refusal _ _ _ _ _ _ _ _ _ _ c.reads.invariant _ _ _ c.move_piece.ensures _ c.in-Err.is
 
-pub loop-taken-preserved : goal.loop-taken-preserved
-loop-taken-preserved g c =
-    let read = rw c.in-Ok-Some.field-0-is at c.in-Ok-Some.ensures.byte in
-    let grown : c.push.new.self.items ≡ c.loop-taken.text.items ++ c.in-Ok-Some.byte ∷ [] =
-    c.push.ensures.items ∙ rw (c.is_err.ensures.negation, c.if-is_err.false) refl in
-    line_grown g.S.Source.left g.S.Source.has_failed c.args.source.now c.args.text.now.items c.args.taken.now c.loop-taken.source
-    c.loop-taken.text.items c.loop-taken.taken c.next_byte.new.source c.in-Ok-Some.byte
-    c.loop-taken.invariant read c.in-Ok-Some.ensures.served c.loop-taken-test.true _ grown c.if-byte-eq10.false
+pub returns-in-Ok-true : goal.returns-in-Ok-true
+returns-in-Ok-true g c = at_feed _ _ _ _ _ _ _ _ _ _ c.reads.invariant _ _ _ c.move_piece.ensures (c.in-Ok-true.is ∙ ap Ok c.in-Ok-true.field-0-test)
+
+pub ask_more-requires : goal.ask_more-requires
+ask_more-requires g c = record { counted = c.reads.invariant.within }
+
+pub reads-preserved : goal.reads-preserved
+reads-preserved g c =
+    more_came _ _ _ _ _ _ _ _ _ _ c.reads.invariant _ _ _ c.move_piece.ensures _ _ _ (c.in-Ok-false.is ∙ ap Ok c.in-Ok-false.field-0-test) c.in-Bytes.ensures
+
+pub returns-in-NoBytes : goal.returns-in-NoBytes
+returns-in-NoBytes g c =
+    none_came _ _ _ _ _ _ _ _ _ _ c.reads.invariant _ _ _ c.move_piece.ensures _ _ _ (c.in-Ok-false.is ∙ ap Ok c.in-Ok-false.field-0-test) c.in-NoBytes.ensures
+
+pub returns-in-BadRead : goal.returns-in-BadRead
+returns-in-BadRead g c =
+    read_failed _ _ _ _ _ _ _ _ _ _ c.reads.invariant _ _ _ c.move_piece.ensures _ _ _ (c.in-Ok-false.is ∙ ap Ok c.in-Ok-false.field-0-test) c.in-BadRead.ensures
+
+pub returns-in-PastBound : goal.returns-in-PastBound
+returns-in-PastBound g c =
+    past_bound _ _ _ _ _ _ _ _ _ _ c.reads.invariant _ _ _ c.move_piece.ensures _ _ _ (c.in-Ok-false.is ∙ ap Ok c.in-Ok-false.field-0-test) c.in-PastBound.ensures

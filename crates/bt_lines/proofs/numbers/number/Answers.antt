@@ -1,5 +1,5 @@
-use Rattle.std.proofs.Common.{rules, ◌+◌, sym, ◌∙◌}
-use Rattle.bt_lines.proofs.NumberLemmas.{value_of_empty, value_of_other, value_of_large, value_of_whole, value_more, digits_more}
+use Rattle.std.proofs.Common.{rules, arith, ◌≤◌, ◌+◌, ◌-◌, ◌*◌, get_or, sym, ◌∙◌}
+use Rattle.bt_lines.proofs.NumberLemmas.{value_of_empty, value_of_other, value_of_whole, value_more, digits_more, value_below, value_short, digit_small}
 use Rattle.bt_lines.proofs.numbers.number.Goals as goal
 
 pub returns-then-is_empty : goal.returns-then-is_empty
@@ -10,17 +10,13 @@ returns-then-not-is_ascii_digit c =
     value_of_other c.args.text.now c.loop-byte.byte-index c.loop-byte-test.true
     (sym c.is_ascii_digit.ensures.value ∙ c.if-not-is_ascii_digit.true)
 
-pub returns-then-value-gt-MAX_NUMBER : goal.returns-then-value-gt-MAX_NUMBER
-returns-then-value-gt-MAX_NUMBER c =
-    let digit = sym c.is_ascii_digit.ensures.value ∙ c.if-not-is_ascii_digit.false in
-    let more = value_more c.args.text.now c.loop-byte.byte-index c.loop-byte.value c.loop-byte-test.true c.loop-byte.invariant.0 digit in
-    value_of_large c.args.text.now (c.loop-byte.byte-index + 1) (rw (← more, ← c.from.ensures) c.if-value-gt-MAX_NUMBER.true)
-
 pub loop-byte-preserved : goal.loop-byte-preserved
 loop-byte-preserved c =
     let digit = sym c.is_ascii_digit.ensures.value ∙ c.if-not-is_ascii_digit.false in
     let more = value_more c.args.text.now c.loop-byte.byte-index c.loop-byte.value c.loop-byte-test.true c.loop-byte.invariant.0 digit in
-    (rw c.from.ensures more, digits_more c.args.text.now c.loop-byte.byte-index c.loop-byte-test.true c.loop-byte.invariant.1 digit, c.if-value-gt-MAX_NUMBER.false)
+    let below = value_below c.loop-byte.byte-index c.loop-byte.value _ c.loop-byte.invariant.3 (digit_small _ digit) in
+    let short : c.loop-byte.value * 10 + (get_or c.args.text.now c.loop-byte.byte-index 0 - 48) ≤ 999999999999 = value_short (c.loop-byte.byte-index + 1) _ below (omega (arith, c.loop-byte-test.true, c.if-text-gt-SHORT.false)) in
+    (rw c.from.ensures more, digits_more c.args.text.now c.loop-byte.byte-index c.loop-byte-test.true c.loop-byte.invariant.1 digit, rw c.from.ensures short, rw c.from.ensures below)
 
 pub returns : goal.returns
 returns c =

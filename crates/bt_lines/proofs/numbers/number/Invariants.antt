@@ -1,4 +1,4 @@
-use Rattle.std.proofs.Common.{◌≡◌, ◌≤◌, true, take}
+use Rattle.std.proofs.Common.{◌≡◌, ◌<◌, ◌≤◌, ◌^◌, true, take}
 use Rattle.std.specs.Char.{is_ascii_digit}
 use Rattle.std.specs.List.{list_all}
 use Rattle.std.specs.Str.Parse.{digits_value}
@@ -9,4 +9,4 @@ abbrev pub invariant-loop-byte : goal.invariant-loop-byte
 invariant-loop-byte l =
     (l.value ≡ digits_value 10 (take l.byte-index l.text))
     × (list_all is_ascii_digit (take l.byte-index l.text) ≡ true)
-    × (l.value ≤ 999999999999)
+    × (l.value ≤ 999999999999) × (l.value < 10 ^ l.byte-index)

@@ -1,8 +1,8 @@
 use Rattle.std.proofs.Common.{flat_map, slice_range}
 use Rattle.bt_bed.specs.GenomeTable.{entries}
 use Rattle.bt_runs.specs.GapStep.{whole_of}
-use Rattle.bt_runs.specs.Lines.{interval_lines}
-use Rattle.bt_runs.specs.Putting.{Grown}
+use Rattle.bt_bed.specs.IntervalLine.{interval_lines}
+use Rattle.bt_lines.specs.Putting.{Grown}
 use Rattle.bt_runs.proofs.complement.put_whole.Given as goal
 
 -- the chromosomes so far were written

@@ -1,6 +1,6 @@
 use Rattle.std.proofs.Common.{◌≡◌, ◌++◌, ◌∷◌, [], List, Option, ap, ap₂, sym, ◌∙◌, option_to_list, Vec, Global, arith}
 use Rattle.std.proofs.lemmas.List.{nil_from_length}
-use Rattle.bt_runs.specs.declared.plain.Span.{Span}
+use Rattle.bt_runs.specs.declared.plain.PlainSpan.{PlainSpan}
 use Rattle.bt_runs.specs.Plain.{spans_in, with_next}
 use Rattle.bt_runs.proofs.PlainSpans.{next_joined, next_apart}
 use Rattle.bt_runs.proofs.plain.add_position.Goals as goal
@@ -12,9 +12,9 @@ returns c =
     let old = c.args.runs.now.items in
     let front = c.pop.new.self.items in
     let pushed = c.in_ok-push-2.ensures.items in
-    let popped : (o : Option Span) → c.pop.result ≡ o → old ≡ front ++ option_to_list o = λ o e. c.pop.ensures.items ∙ ap (λ x. front ++ option_to_list x) e in
-    let items : Vec Span Global → List Span = λ v. v.items in
-    let push : List Span → Span → List Span = λ xs x. xs ++ x ∷ [] in
+    let popped : (o : Option PlainSpan) → c.pop.result ≡ o → old ≡ front ++ option_to_list o = λ o e. c.pop.ensures.items ∙ ap (λ x. front ++ option_to_list x) e in
+    let items : Vec PlainSpan Global → List PlainSpan = λ v. v.items in
+    let push : List PlainSpan → PlainSpan → List PlainSpan = λ xs x. xs ++ x ∷ [] in
     elim c.match-pop.branch [
       | in-Some+then-run-position w ↦
           let run = w.in-Some.run' in

@@ -1,15 +1,16 @@
 use Rattle.std.proofs.Common.{◌≡◌, Some, None, false, sym, ◌∙◌}
 use Rattle.std.specs.Prelude.{string_bytes}
-use Rattle.bt_tool.specs.Table.{fits, table_of, takes}
+use Rattle.bt_tool.specs.Table.{fits, takes}
+use Rattle.bt_tool.specs.TableLent.{table_lent}
 use Rattle.bt_tool.proofs.Reading.{words-from, words-pair, unknown-at, missing-at, bad-at}
 use Rattle.bt_tool.proofs.item.item_at.Goals as goal
 
 pub returns-in_default-clause-fault : goal.returns-in_default-clause-fault
 returns-in_default-clause-fault c =
     let word = c.index-words-at.result in
-    let none : takes (table_of c.args.tool) (string_bytes word) ≡ None =
+    let none : takes (table_lent c.args.table.now) (string_bytes word) ≡ None =
     rw c.as_str-option.ensures.value at (sym c.takes.ensures ∙ c.in_default.is) in
-    let fault = unknown-at (table_of c.args.tool) c.args.words.now c.args.at word
+    let fault = unknown-at (table_lent c.args.table.now) c.args.words.now c.args.at word
     c.index-words-at.is c.requires none in
     cc
 
@@ -21,10 +22,10 @@ returns-then-stands_alone-clause-here c =
 pub returns-in_default-get-clause-fault : goal.returns-in_default-get-clause-fault
 returns-in_default-get-clause-fault c =
     let word = c.index-words-at.result in
-    let has : takes (table_of c.args.tool) (string_bytes word) ≡ Some c.in-Some.takes =
+    let has : takes (table_lent c.args.table.now) (string_bytes word) ≡ Some c.in-Some.takes =
     rw c.as_str-option.ensures.value at (sym c.takes.ensures ∙ c.in-Some.is) in
     let more : fits c.in-Some.takes None ≡ false = sym c.stands_alone.ensures ∙ c.if-stands_alone.false in
-    let fault = missing-at (table_of c.args.tool) c.args.words.now c.args.at word
+    let fault = missing-at (table_lent c.args.table.now) c.args.words.now c.args.at word
     c.index-words-at.is c.in-Some.takes has more c.requires c.in_default-get.ensures.lookup.3 in
     cc
 
@@ -33,11 +34,11 @@ returns-then-not-fits-clause-fault c =
     let word = c.index-words-at.result in
     let value = c.in-Some-get.value.now in
     let found = c.in-Some-get.ensures.lookup in
-    let has : takes (table_of c.args.tool) (string_bytes word) ≡ Some c.in-Some.takes =
+    let has : takes (table_lent c.args.table.now) (string_bytes word) ≡ Some c.in-Some.takes =
     rw c.as_str-option.ensures.value at (sym c.takes.ensures ∙ c.in-Some.is) in
     let more : fits c.in-Some.takes None ≡ false = sym c.stands_alone.ensures ∙ c.if-stands_alone.false in
     let bad : fits c.in-Some.takes (Some (string_bytes value)) ≡ false = rw c.as_str.ensures.value at (sym c.fits.ensures ∙ c.if-not-fits.true) in
-    let fault = bad-at (table_of c.args.tool) c.args.words.now c.args.at word
+    let fault = bad-at (table_lent c.args.table.now) c.args.words.now c.args.at word
     c.index-words-at.is c.in-Some.takes has more value found.3.0 found.1 bad in
     cc
 

@@ -1,8 +1,9 @@
 use Rattle.std.proofs.Common.{sym, ap, ◌∙◌, ◌≤◌, subst}
 use Rattle.std.specs.Prelude.{unwrap_or}
+use Rattle.bt_lines.specs.Number.{max_number}
 use Rattle.bt_tool.proofs.GivenLemmas.{number-limit-or}
 use Rattle.bt_tool.proofs.options.number_of.Goals as goal
 
 pub returns-in-Some-clause-limit : goal.returns-in-Some-clause-limit
 returns-in-Some-clause-limit c =
-    subst (λ n. n ≤ 999999999999) (sym (c.unwrap_or.ensures ∙ ap (λ o. unwrap_or o 0) c.number.ensures)) (number-limit-or c.as_bytes.result.now)
+    subst (λ n. n ≤ max_number) (sym (c.unwrap_or.ensures ∙ ap (λ o. unwrap_or o 0) c.number.ensures)) (number-limit-or c.as_bytes.result.now)

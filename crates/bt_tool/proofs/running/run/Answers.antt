@@ -1,10 +1,15 @@
+use Rattle.std.proofs.Common.{ap}
 use Rattle.std.specs.Prelude.{option_map}
 use Rattle.bt_lines.specs.Names.{told}
-use Rattle.bt_tool.specs.Plan.{seen}
-use Rattle.bt_tool.proofs.RunningLemmas.{runs_plan}
+use Rattle.bt_lines.specs.Output.{Output}
+use Rattle.bt_tool.proofs.RunningLemmas.{runs_by}
 use Rattle.bt_tool.proofs.running.run.Goals as goal
 
 pub returns-clause-report : goal.returns-clause-report
 returns-clause-report g c =
-    runs_plan g.G.Source.left g.G.Source.has_failed g.A.Source.left g.A.Source.has_failed g.K.Sink.took g.K.Sink.has_failed (seen c.args.plan.now)
-    c.args.genome c.in-Some.genome c.args.first c.args.out (option_map told c.run_command-fault.result.0) c.run_command-fault.result.1 c.run_command-fault.result.2 c.run_command-fault.result.3 c.in-Some.is c.run_command-fault.ensures.report
+    let begun = c.new-out in
+    runs_by g.G.Source.left g.G.Source.has_failed g.A.Source.left g.A.Source.has_failed g.A.Source.end_told g.B.Source.left g.B.Source.has_failed g.K.Sink.took g.K.Sink.has_failed
+    c.args.plan.now.command c.args.genome c.read_genome-chromosomes.result.1 c.args.first c.write_output-fault.result.1 c.args.second c.write_output-fault.result.2 c.args.out c.into_sink.result
+    begun.result c.write_output-fault.new.out c.flushed-fault.new.out (ap (λ (o : Output). o.put) begun.ensures) (ap (λ (o : Output). o.took) begun.ensures) (ap (λ (o : Output). o.sink_has_failed) begun.ensures)
+    c.into_sink.ensures.took c.into_sink.ensures.failed (option_map told c.write_output-fault.result.0) (option_map told c.flushed-fault.result) c.flushed-fault.ensures.ends
+    c.read_genome-chromosomes.result.0 c.read_genome-chromosomes.ensures.read c.write_output-fault.ensures.written

@@ -1,4 +1,4 @@
-use Rattle.bt_bed.proofs.TrackLemmas.{said_by_none}
+use Rattle.bt_bed.proofs.NeighbourLemmas.{said_by_none}
 use Rattle.bt_bed.proofs.cursor.Cursor.new.Goals as goal
 
 pub invariant_of-result : goal.invariant_of-result

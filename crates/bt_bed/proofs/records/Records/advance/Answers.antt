@@ -1,6 +1,10 @@
-use Rattle.std.proofs.Common.{refl}
-use Rattle.bt_bed.proofs.RecordsLemmas.{advanced}
+use Rattle.bt_bed.specs.Records.{view_of}
+use Rattle.bt_bed.proofs.RecordsLemmas.{advanced_placed, passes_record}
 use Rattle.bt_bed.proofs.records.Records.advance.Goals as goal
 
+pub invariant_of-self : goal.invariant_of-self
+unfolding view_of
+invariant_of-self g c = record { placed = advanced_placed g.O.ChromOrder c.args.self.now.cursor c.advance.new.self c.advance.ensures.rule g.S.Source.left c.args.self.now.placed c.requires c.advance.ensures.passed }
+
 pub returns : goal.returns
-returns g c = advanced g.S.Source.left g.S.Source.has_failed c.args.self.now _ c.advance.ensures.reader refl c.advance.ensures.order c.advance.ensures.none_ahead c.advance.ensures.last c.requires
+returns g c = passes_record g.S.Source.left g.S.Source.has_failed g.S.Source.end_told c.args.self.now _ c.advance.ensures.rule c.requires c.advance.ensures.passed

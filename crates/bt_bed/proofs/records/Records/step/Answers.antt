@@ -1,12 +1,10 @@
-use Rattle.std.proofs.Common.{◌∙◌, sym}
 use Rattle.bt_bed.specs.Records.{order_in}
-use Rattle.bt_bed.specs.Track.{track_order}
-use Rattle.bt_bed.proofs.RecordsLemmas.{steps_again, gives_fault_again}
+use Rattle.bt_bed.proofs.RecordsLemmas.{placed_by, steps_record}
 use Rattle.bt_bed.proofs.records.Records.step.Goals as goal
 
-pub returns-then-has_record : goal.returns-then-has_record
-unfolding order_in track_order
-returns-then-has_record g c = steps_again _ _ c.args.self.now (g.met.O.ChromOrder.total c.args.self.now.cursor.track.order.now) (sym c.has_record.ensures ∙ c.if-has_record.true)
+pub invariant_of-self : goal.invariant_of-self
+invariant_of-self g c = record { placed = placed_by g.O.ChromOrder c.args.self.now.cursor c.step.new.self c.step.ensures.rule c.step.ensures.placed }
 
-pub returns-in-Some : goal.returns-in-Some
-returns-in-Some g c = gives_fault_again _ _ c.args.self.now c.in-Some.fault c.in-Some.is (sym c.has_record.ensures ∙ c.if-has_record.false)
+pub returns : goal.returns
+unfolding order_in
+returns g c = steps_record g.S.Source.left g.S.Source.has_failed g.S.Source.end_told c.args.self.now _ c.step.ensures.rule _ (g.met.O.ChromOrder.total c.args.self.now.cursor.neighbours.rule.order.now) c.step.ensures.step

@@ -1,29 +1,16 @@
-use Rattle.std.proofs.Common.{refl}
+use Rattle.std.proofs.Common.{ap, sym, ◌∙◌, option_map, refl}
 use Rattle.bt_bed.specs.Bed.{feature_lent}
 use Rattle.bt_bed.specs.GenomeTable.{entries}
-use Rattle.bt_runs.proofs.ComplementLemmas.{lines_next, quiet_lines, stands_next}
+use Rattle.bt_runs.specs.Failure.{fault_of}
+use Rattle.bt_runs.proofs.ComplementLemmas.{feeds_ok, feeds_err}
 use Rattle.bt_runs.proofs.complement.ComplementEngine.feed.Goals as goal
 
-pub returns-in-Ok-clause-stands : goal.returns-in-Ok-clause-stands
-returns-in-Ok-clause-stands g c = λ first past stands taken.
-    stands_next past (entries c.self.inside.genome.now) c.self.inside.limit c.self.inside.current c.self.invariant (feature_lent c.args.bed.now) c.in-Ok.current first.entries first.limit _ c.args.self.now c.self.view_is stands taken c.in-Ok.ensures.reached
+pub returns-in-Ok-clause-feeds : goal.returns-in-Ok-clause-feeds
+returns-in-Ok-clause-feeds g c =
+    let going = ap (λ m. m.fault) (sym c.self.view_is) ∙ ap (option_map fault_of) c.in_default.is in
+    feeds_ok (entries c.self.inside.genome.now) c.self.inside.limit c.self.inside.current c.self.invariant _ c.args.self.now c.self.view_is going c.args.out.now (feature_lent c.args.bed.now) _ c.in-Ok.current c.advance.new.out c.in-Ok.ensures.reached c.in-Ok.ensures.adds
 
-pub returns-in-Ok-clause-writes : goal.returns-in-Ok-clause-writes
-returns-in-Ok-clause-writes g c = λ first past stands taken.
-    let next = lines_next past (entries c.self.inside.genome.now) c.self.inside.limit c.self.inside.current c.self.invariant (feature_lent c.args.bed.now) first.entries first.limit _ c.args.self.now c.self.view_is stands taken in
-    (_, next, c.in-Ok.ensures.writes.appends)
-
-pub returns-in-Ok-clause-quiet : goal.returns-in-Ok-clause-quiet
-returns-in-Ok-clause-quiet g c = λ first past stands taken same held.
-    let next = lines_next past (entries c.self.inside.genome.now) c.self.inside.limit c.self.inside.current c.self.invariant (feature_lent c.args.bed.now) first.entries first.limit _ c.args.self.now c.self.view_is stands taken in
-    (refl, c.in-Ok.ensures.writes.nothing (quiet_lines _ _ _ next same))
-
-pub returns-in-Err-clause-front : goal.returns-in-Err-clause-front
-returns-in-Err-clause-front g c = λ first past stands taken held.
-    let next = lines_next past (entries c.self.inside.genome.now) c.self.inside.limit c.self.inside.current c.self.invariant (feature_lent c.args.bed.now) first.entries first.limit _ c.args.self.now c.self.view_is stands taken in
-    (_, next, c.in-Err.ensures.writes.puts.front)
-
-pub returns-in-Err-clause-quiet : goal.returns-in-Err-clause-quiet
-returns-in-Err-clause-quiet g c = λ first past stands taken same held.
-    let next = lines_next past (entries c.self.inside.genome.now) c.self.inside.limit c.self.inside.current c.self.invariant (feature_lent c.args.bed.now) first.entries first.limit _ c.args.self.now c.self.view_is stands taken in
-    absurd (c.in-Err.ensures.writes.some (quiet_lines _ _ _ next same))
+pub returns-in-Err-clause-feeds : goal.returns-in-Err-clause-feeds
+returns-in-Err-clause-feeds g c =
+    let going = ap (λ m. m.fault) (sym c.self.view_is) ∙ ap (option_map fault_of) c.in_default.is in
+    feeds_err (entries c.self.inside.genome.now) c.self.inside.limit c.self.inside.current c.self.invariant _ c.args.self.now c.self.view_is going c.args.out.now (feature_lent c.args.bed.now) c.in-Err.fault _ c.advance.new.out refl c.in-Err.ensures.adds

@@ -1,15 +1,10 @@
+use Rattle.std.proofs.Common.{ap, sym, ◌∙◌, option_map}
 use Rattle.bt_bed.specs.GenomeTable.{entries}
-use Rattle.bt_runs.proofs.ComplementLemmas.{left_front, left_writes, lines_left}
+use Rattle.bt_runs.specs.Failure.{fault_of}
+use Rattle.bt_runs.proofs.ComplementLemmas.{finishes_left}
 use Rattle.bt_runs.proofs.complement.ComplementEngine.finish.Goals as goal
 
-pub returns-in-None-clause-writes : goal.returns-in-None-clause-writes
-returns-in-None-clause-writes g c = λ first past stands taken.
-    let table = entries c.self.inside.genome.now in
-    let left = lines_left past table c.self.inside.limit c.self.inside.current c.self.invariant c.count-count.result c.count-count.ensures first.entries first.limit _ c.args.self c.self.view_is stands taken in
-    left_writes _ _ _ _ _ c.put_before.result left c.put_before.ensures
-
-pub returns-in-None-clause-front : goal.returns-in-None-clause-front
-returns-in-None-clause-front g c = λ first past stands taken held.
-    let table = entries c.self.inside.genome.now in
-    let left = lines_left past table c.self.inside.limit c.self.inside.current c.self.invariant c.count-count.result c.count-count.ensures first.entries first.limit _ c.args.self c.self.view_is stands taken in
-    left_front _ _ _ _ _ c.put_before.result left c.put_before.ensures
+pub returns-in-None : goal.returns-in-None
+returns-in-None g c =
+    let going = ap (λ m. m.fault) (sym c.self.view_is) ∙ ap (option_map fault_of) c.in-None.is in
+    finishes_left (entries c.self.inside.genome.now) c.self.inside.limit c.self.inside.current c.self.invariant _ c.args.self c.self.view_is going c.args.out.now c.count-count.result c.put_before.result c.put_before.new.out c.count-count.ensures c.put_before.ensures

@@ -1,34 +1,21 @@
-use Rattle.std.proofs.Common.{◌≡◌, ℕ, List, [], ◌∷◌, ◌++◌, ap, sym, ◌∙◌, subst, option_map, option_to_list}
-use Rattle.std.proofs.KnownBytes.{Appends-nil}
-use Rattle.bt_bed.specs.Feature.{Feature}
-use Rattle.bt_bed.specs.Interval.{Interval}
-use Rattle.bt_runs.specs.Lines.{interval_lines}
-use Rattle.bt_runs.specs.MergedRuns.{merged_runs, settled_runs, AreTaken}
-use Rattle.bt_runs.specs.Merging.{Merging, StandsAfter}
+use Rattle.std.proofs.Common.{[], ◌∷◌, ap, sym, ◌∙◌, option_map, option_to_list, Ok}
+use Rattle.bt_runs.specs.Failure.{fault_of}
 use Rattle.bt_runs.specs.Taking.{run_at}
-use Rattle.bt_runs.specs.declared.merge_strand.MergeStrand.{MergeStrand}
-use Rattle.bt_runs.proofs.MergeLemmas.{unsettled, last_writes, last_front}
+use Rattle.bt_bed.proofs.IntervalLineLemmas.{adds_line}
+use Rattle.bt_runs.proofs.MergeLemmas.{finishes_kept}
+use Rattle.bt_lines.proofs.PuttingLemmas.{grown_none}
 use Rattle.bt_runs.proofs.merge.MergeEngine.finish.Goals as goal
 
--- the lines that are left, where the fields show what is kept
-left_for : (gap : ℕ) (strand : MergeStrand) (past : List Feature) (seen merge : Merging) (kept : List Interval) → seen ≡ merge → seen.kept ≡ kept → StandsAfter gap strand past merge → AreTaken past
-    → interval_lines (merged_runs gap strand past) ≡ interval_lines (settled_runs gap strand past) ++ interval_lines kept
-left_for gap strand past seen merge kept e is stands taken =
-    subst (λ runs. interval_lines (merged_runs gap strand past) ≡ interval_lines (settled_runs gap strand past) ++ interval_lines runs) (ap (λ m. m.kept) (sym e) ∙ is) (unsettled gap strand past merge stands taken)
+pub returns-in-None : goal.returns-in-None
+returns-in-None g c =
+    let going = ap (λ m. m.fault) (sym c.self.view_is) ∙ ap (option_map fault_of) c.in_default.is in
+    let none = ap (λ m. m.kept) (sym c.self.view_is) ∙ ap (λ run. option_to_list (option_map (run_at c.self.inside.chrom.items) run)) c.in-None.is in
+    finishes_kept c.args.self going c.args.out.now [] (Ok tt) _ none (grown_none c.args.out.now)
 
-pub returns-in-None-clause-writes : goal.returns-in-None-clause-writes
-returns-in-None-clause-writes g c = λ first past stands taken.
-    let none = ap (λ run. option_to_list (option_map (run_at c.self.inside.chrom.items) run)) c.in-None.is in
-    ([], left_for first.gap first.strand past _ c.args.self [] c.self.view_is none stands taken, Appends-nil _)
-
-pub returns-clause-writes : goal.returns-clause-writes
-returns-clause-writes g c = λ first past stands taken.
+pub returns : goal.returns
+returns g c =
+    let going = ap (λ m. m.fault) (sym c.self.view_is) ∙ ap (option_map fault_of) c.in_default.is in
     let run = run_at c.as_slice.result.now c.in-Some-run.run' in
-    let one = ap (λ run. option_to_list (option_map (run_at c.self.inside.chrom.items) run)) c.in-Some-run.is ∙ ap (λ name. run_at name c.in-Some-run.run' ∷ []) (sym c.as_slice.ensures.value) in
-    last_writes _ _ run _ _ (left_for first.gap first.strand past _ c.args.self (run ∷ []) c.self.view_is one stands taken) c.put_bed_line.result c.put_bed_line.ensures
-
-pub returns-clause-front : goal.returns-clause-front
-returns-clause-front g c = λ first past stands taken held.
-    let run = run_at c.as_slice.result.now c.in-Some-run.run' in
-    let one = ap (λ run. option_to_list (option_map (run_at c.self.inside.chrom.items) run)) c.in-Some-run.is ∙ ap (λ name. run_at name c.in-Some-run.run' ∷ []) (sym c.as_slice.ensures.value) in
-    last_front _ _ run _ _ (left_for first.gap first.strand past _ c.args.self (run ∷ []) c.self.view_is one stands taken) c.put_bed_line.result c.put_bed_line.ensures
+    let one = ap (λ m. m.kept) (sym c.self.view_is) ∙ ap (λ run. option_to_list (option_map (run_at c.self.inside.chrom.items) run)) c.in-Some-run.is ∙ ap (λ name. run_at name c.in-Some-run.run' ∷ []) (sym c.as_slice.ensures.value) in
+    finishes_kept c.args.self going c.args.out.now (run ∷ []) c.put_interval.result c.put_interval.new.out one
+    (adds_line run c.args.out.now c.put_interval.new.out c.put_interval.result c.put_interval.ensures)

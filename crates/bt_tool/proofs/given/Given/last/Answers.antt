@@ -3,14 +3,14 @@ use Rattle.std.specs.Prelude.{bytes_eq, option_map}
 use Rattle.std.specs.Option.{option_or}
 use Rattle.bt_tool.specs.ItemLent.{item_lent}
 use Rattle.bt_tool.specs.Plan.{words_seen}
-use Rattle.bt_tool.specs.Table.{table_of}
+use Rattle.bt_tool.specs.TableLent.{table_lent}
 use Rattle.bt_tool.proofs.Reading.{Reads, reads-item, reads-end, words-end}
 use Rattle.bt_tool.proofs.given.Given.last.Goals as goal
 use Rattle.bt_tool.proofs.given.Given.last.Goals.{then-eq, else-eq}
 
 pub loop-at-preserved : goal.loop-at-preserved
 loop-at-preserved c =
-    let table = table_of c.args.self.tool in
+    let table = table_lent c.args.self.table.now in
     let words = words_seen c.args.self.words.now in
     let option = c.args.option.now in
     let item = item_lent c.in-Ok.item in
@@ -26,4 +26,4 @@ loop-at-preserved c =
 
 pub returns-after-loop-at : goal.returns-after-loop-at
 returns-after-loop-at c =
-    reads-end (table_of c.args.self.tool) (words_seen c.args.self.words.now) c.args.option.now c.loop-at.at _ (words-end c.args.self.words.now c.loop-at.at c.loop-at-test.false) c.loop-at.invariant
+    reads-end (table_lent c.args.self.table.now) (words_seen c.args.self.words.now) c.args.option.now c.loop-at.at _ (words-end c.args.self.words.now c.loop-at.at c.loop-at-test.false) c.loop-at.invariant

@@ -3,11 +3,11 @@ use Rattle.std.specs.Prelude.{option_map}
 use Rattle.bt_tool.proofs.Reading.{Reads}
 use Rattle.bt_tool.specs.ItemLent.{item_lent}
 use Rattle.bt_tool.specs.Plan.{words_seen}
-use Rattle.bt_tool.specs.Table.{table_of}
+use Rattle.bt_tool.specs.TableLent.{table_lent}
 use Rattle.bt_tool.proofs.given.Given.last.Given as goal
 
 abbrev pub invariant-loop-at : goal.invariant-loop-at
-invariant-loop-at l = Reads (table_of l.self.tool) (words_seen l.self.words.now) l.option l.at (option_map item_lent l.last)
+invariant-loop-at l = Reads (table_lent l.self.table.now) (words_seen l.self.words.now) l.option l.at (option_map item_lent l.last)
 
 abbrev pub decreases-loop-at : goal.decreases-loop-at
 decreases-loop-at l = length l.self.words.now - l.at

@@ -1,13 +1,13 @@
 use Rattle.bt_tool.specs.ItemLent.{item_lent}
 use Rattle.bt_tool.specs.Plan.{words_seen}
-use Rattle.bt_tool.specs.Table.{table_of}
+use Rattle.bt_tool.specs.TableLent.{table_lent}
 use Rattle.std.proofs.Common.{◌+◌, subst, sym}
 use Rattle.bt_tool.proofs.Reading.{ReadsOn, reads-on-item, reads-on-end, words-end}
 use Rattle.bt_tool.proofs.given.Given.read.Goals as goal
 
 pub loop-at-preserved : goal.loop-at-preserved
 loop-at-preserved c =
-    let table = table_of c.args.tool in
+    let table = table_lent c.args.table.now in
     let words = words_seen c.args.words.now in
     let item = item_lent c.in_ok-item_at.field-0 in
     let next = reads-on-item table words c.loop-at.at item c.in_ok-item_at.ensures.item c.in_ok-item_at.ensures.here c.loop-at.invariant in
@@ -15,4 +15,4 @@ loop-at-preserved c =
 
 pub invariant_of-result : goal.invariant_of-result
 invariant_of-result c =
-    record { no_fault = reads-on-end (table_of c.args.tool) (words_seen c.args.words.now) c.loop-at.at (words-end c.args.words.now c.loop-at.at c.loop-at-test.false) c.loop-at.invariant }
+    record { no_fault = reads-on-end (table_lent c.args.table.now) (words_seen c.args.words.now) c.loop-at.at (words-end c.args.words.now c.loop-at.at c.loop-at-test.false) c.loop-at.invariant }

@@ -1,0 +1,122 @@
+-- Lemmas on what a line says behind the last place, and on the record ahead.
+use Rattle.std.proofs.Common.{◌≡◌, ℕ, ◌-◌, Bool, true, false, cond, List, length, Option, Some, None, Result, Ok, Err, refl, sym, ap, ◌∙◌, subst, arith}
+use Rattle.std.specs.Prelude.{IsTrue, is_some, option_map}
+use Rattle.bt_lines.specs.Lines.{TextLine}
+use Rattle.bt_lines.specs.declared.fault.Fault.{Fault}
+use Rattle.bt_lines.specs.declared.fault.Kind.{Kind}
+use Rattle.bt_lines.specs.declared.fault.Kind.TheVariants.{UnknownChrom, OutOfOrder}
+use Rattle.bt_lines.specs.declared.fault.Place.{Place}
+use Rattle.bt_bed.proofs.SaidLemmas.{said_features, wrong_is_of_line, same_kind}
+use Rattle.bt_bed.specs.Ahead.{StandsIn, feature_at, member_at, text_at}
+use Rattle.bt_bed.specs.Bed.{EndsWith}
+use Rattle.bt_bed.specs.Feature.{Feature}
+use Rattle.bt_bed.specs.Good.{Member}
+use Rattle.bt_bed.specs.GoodBed.{line_says, said_after, in_order, locus_at}
+use Rattle.bt_bed.specs.LineKind.{is_bed_kind}
+use Rattle.bt_bed.specs.Neighbours.{IsSaidBy, TakesLine, ahead_in, line_in, has_ahead, name_of}
+use Rattle.bt_bed.specs.Locus.{Locus}
+use Rattle.bt_bed.specs.Record.{record_of}
+use Rattle.bt_bed.specs.Sorting.{Sorting, falls_in}
+use Rattle.bt_bed.specs.declared.neighbours.Neighbours.{Neighbours}
+use Rattle.bt_bed.specs.declared.spot.Spot.{Spot}
+
+module _ (sorting : Sorting) (last : Option Locus) (text : List ℕ) where
+  pub says_nothing : Ok None ≡ record_of text → line_says sorting last text ≡ Ok None
+  unfolding line_says
+  says_nothing e = ap (said_after sorting last) (sym e)
+
+  pub says_wrong : (kind : Kind) → Err kind ≡ record_of text → line_says sorting last text ≡ Err kind
+  unfolding line_says
+  says_wrong kind e = ap (said_after sorting last) (sym e)
+
+  pub says_misplaced : (r : Feature) (kind : Kind) → Ok (Some r) ≡ record_of text → in_order sorting last r ≡ Err kind → line_says sorting last text ≡ Err kind
+  unfolding line_says
+  says_misplaced r kind e wrong = ap (said_after sorting last) (sym e) ∙ wrong
+
+  pub says_record : (r : Feature) → Ok (Some r) ≡ record_of text → IsTrue (sorting.knows r.chrom) → falls_in sorting last (locus_at r) ≡ false → line_says sorting last text ≡ Ok (Some r)
+  unfolding line_says
+  says_record r e known stays = ap (said_after sorting last) (sym e) ∙ (rw (known, stays) refl)
+
+kind_of_order : (knows falls : Bool) (r : Feature) (kind : Kind) → cond knows (cond falls (Err OutOfOrder) (Ok (Some r))) (Err UnknownChrom) ≡ Err kind → is_bed_kind kind ≡ true
+kind_of_order false falls r kind e = same_kind {T = Option Feature} (Err UnknownChrom) UnknownChrom kind refl e refl
+kind_of_order true true r kind e = same_kind {T = Option Feature} (Err OutOfOrder) OutOfOrder kind refl e refl
+kind_of_order true false r kind e = cc
+
+-- what is wrong with a record behind the last place is of a line
+pub misplaced_is_of_line : (sorting : Sorting) (last : Option Locus) (r : Feature) (kind : Kind) → in_order sorting last r ≡ Err kind → is_bed_kind kind ≡ true
+misplaced_is_of_line sorting last r kind e = kind_of_order (sorting.knows r.chrom) (falls_in sorting last (locus_at r)) r kind e
+
+said_is_of_line : (sorting : Sorting) (last : Option Locus) (said : Result (Option Feature) Kind) (kind : Kind) → said_after sorting last said ≡ Err kind → ((k : Kind) → said ≡ Err k → is_bed_kind k ≡ true) → is_bed_kind kind ≡ true
+said_is_of_line sorting last (Ok None) kind e h = cc
+said_is_of_line sorting last (Ok (Some r)) kind e h = misplaced_is_of_line sorting last r kind e
+said_is_of_line sorting last (Err k) kind e h = same_kind {T = Option Feature} (Err k) k kind refl e (h k refl)
+
+-- so is what a line says wrong
+pub says_of_line : (sorting : Sorting) (last : Option Locus) (text : List ℕ) (kind : Kind) → line_says sorting last text ≡ Err kind → is_bed_kind kind ≡ true
+unfolding line_says
+says_of_line sorting last text kind e = said_is_of_line sorting last (record_of text) kind e (λ k h. wrong_is_of_line text k (sym h))
+
+none_of : {T : Type 0} (o : Option Spot) (f : Spot → T) → is_some o ≡ false → option_map f o ≡ None
+none_of None f e = refl
+none_of (Some s) f e = cc
+
+some_of : {T : Type 0} (f : Spot → T) (o : Option Spot) → is_some o ≡ true → is_some (option_map f o) ≡ true
+some_of f None e = e
+some_of f (Some s) e = refl
+
+same_line : (name text : List ℕ) (o : Option Spot) → option_map (λ m. m.line) (option_map (member_at name text) o) ≡ option_map (λ spot. spot.line) o
+same_line name text None = refl
+same_line name text (Some s) = refl
+
+module _ {Q : Type 0} where
+  -- where no record is ahead, none is in any text
+  pub no_record : (text : List ℕ) (neighbours : Neighbours Q) → has_ahead neighbours ≡ false → ahead_in text neighbours ≡ None
+  unfolding has_ahead ahead_in
+  no_record text neighbours e = none_of neighbours.ahead _ e
+
+  -- where one is, it is in each
+  pub some_record : (text : List ℕ) (neighbours : Neighbours Q) → has_ahead neighbours ≡ true → is_some (ahead_in text neighbours) ≡ true
+  unfolding has_ahead ahead_in
+  some_record text neighbours some = some_of _ neighbours.ahead some
+
+  -- its line is one in any text
+  pub line_is : (text : List ℕ) (neighbours : Neighbours Q) → option_map (λ m. m.line) (ahead_in text neighbours) ≡ line_in neighbours
+  unfolding ahead_in line_in
+  line_is text neighbours = same_line (name_of neighbours) text neighbours.ahead
+
+  held_is : (text : List ℕ) (neighbours : Neighbours Q) (spot : Spot) (m : Member Feature) → neighbours.ahead ≡ Some spot → ahead_in text neighbours ≡ Some m → member_at (name_of neighbours) text spot ≡ m
+  unfolding ahead_in
+  held_is text neighbours spot m is held =
+      let mapped : Some (member_at (name_of neighbours) text spot) ≡ Some m = rw is at held in
+      cc
+
+  -- a record that is held in the text that says it
+  pub said_by_held : (text : List ℕ) (neighbours : Neighbours Q) (spot : Spot) (m : Member Feature) → neighbours.ahead ≡ Some spot → ahead_in text neighbours ≡ Some m → StandsIn text spot m.item → IsSaidBy text neighbours
+  said_by_held text neighbours spot m is held stands s e =
+      let same : spot ≡ s = let both : Some spot ≡ Some s = sym is ∙ e in cc in
+      let it : m.item ≡ feature_at (name_of neighbours) text spot = ap (λ (m : Member Feature). m.item) (sym (held_is text neighbours spot m is held)) in
+      subst (λ (t : Spot). StandsIn text t (feature_at (name_of neighbours) text t)) same (subst (λ h. StandsIn text spot h) it stands)
+
+  pub said_by_none : (text : List ℕ) (neighbours : Neighbours Q) → has_ahead neighbours ≡ false → IsSaidBy text neighbours
+  unfolding has_ahead
+  said_by_none text neighbours e s is = absurd (let none : is_some neighbours.ahead ≡ true = ap is_some is in let apart : true ≡ false = sym none ∙ e in cc)
+
+  pub has_spot : (neighbours : Neighbours Q) (spot : Spot) → neighbours.ahead ≡ Some spot → has_ahead neighbours ≡ true
+  unfolding has_ahead
+  has_spot neighbours spot e = ap is_some e
+
+-- the spot of a feature that was found at the end of a text
+abbrev pub spot_of : ℕ → List ℕ → Feature → Spot
+spot_of line text f = record { line = line; start = f.start; stop = f.stop; strand = f.strand; rest_from = length text - length f.rest }
+
+pub found_is : (line : ℕ) (text : List ℕ) (f : Feature) → EndsWith text f.rest → member_at f.chrom text (spot_of line text f) ≡ record { line = line; item = f }
+found_is line text f ends = ap (λ (rest : List ℕ). record { line = line; item = record { chrom = f.chrom; start = f.start; stop = f.stop; strand = f.strand; rest = rest } }) ends.same
+
+pub found_stands : (line : ℕ) (text : List ℕ) (f : Feature) → EndsWith text f.rest → Ok (Some f) ≡ record_of text → StandsIn text (spot_of line text f) f
+found_stands line text f ends e = record { within = omega (arith, ends.within); is = said_features text f (sym e) }
+
+module _ {Q : Type 0} where
+  -- whatever became of a line, no other record is ahead than one that it says
+  pub said_after_line : (sorting : Sorting) (place : Place) (line : TextLine) (now : Option TextLine) (old new : Neighbours Q) (result : Result Bool Fault) → now ≡ Some line → TakesLine sorting place line.text old result new → IsSaidBy (text_at now) new
+  said_after_line sorting place line now old new (Ok is_record) at taken = subst (λ (l : Option TextLine). IsSaidBy (text_at l) new) (sym at) taken.said_by
+  said_after_line sorting place line now old new (Err fault) at lost = said_by_none (text_at now) new lost.none_ahead

@@ -1,0 +1,118 @@
+-- Lemmas on the first columns of a line that are in order.
+use Rattle.std.proofs.Common.{◌≡◌, ℕ, ◌+◌, ◌<◌, ◌≤◌, Bool, true, false, List, [], ◌∷◌, ◌++◌, length, take, drop, get_or, Option, Some, Ok, refl, sym, ap, ◌∙◌, subst, arith, eqb, ltb, length-take}
+use Rattle.std.specs.Prelude.{nat_lt, ◌&&◌}
+use Rattle.std.specs.Char.{is_ascii_digit}
+use Rattle.std.specs.List.{list_all}
+use Rattle.std.specs.Str.Parse.{digits_value}
+use Rattle.std.proofs.lemmas.Bool.{eqb-true}
+use Rattle.std.proofs.lemmas.Bool.Decides.{nat_tests}
+use Rattle.std.proofs.lemmas.List.{take-append-drop, drop_more, drop_all, take_all, take_more}
+use Rattle.std.proofs.lemmas.List.Elements.{All-nil, All-cons, All-push}
+use Rattle.std.proofs.lemmas.List.Splits.{slice_split_at, slice_split_none, length-slice_split}
+use Rattle.bt_lines.proofs.NumberLemmas.{value_of_digits}
+use Rattle.bt_lines.specs.Lines.{pieces}
+use Rattle.bt_lines.specs.Number.{value_of}
+use Rattle.bt_bed.proofs.Kept.{IsColumn, IsInside, cut_and_kept}
+use Rattle.bt_bed.proofs.FeatureLemmas.{said_is_feature}
+use Rattle.bt_bed.specs.Feature.{Feature}
+use Rattle.bt_bed.specs.Plain.{EndsName, Leads}
+use Rattle.bt_bed.specs.Record.{IsFeature, columns_in, columns_say, feature_of, is_kept, kept_columns, strand_of}
+use Rattle.bt_bed.specs.declared.leading.Leading.{Leading}
+use Rattle.bt_bed.specs.declared.strand.Strand.{Strand}
+
+-- a column with a tab behind it is the first
+pub cut_at : (text : List ℕ) (n : ℕ) → n < length text → get_or text n 0 ≡ 9 → IsColumn (take n text) → pieces 9 text ≡ take n text ∷ pieces 9 (drop (n + 1) text)
+cut_at text n within tab column =
+    let there : drop n text ≡ 9 ∷ drop (n + 1) text = drop_more text n 0 within ∙ ap (λ b. b ∷ drop (n + 1) text) tab in
+    let whole : text ≡ take n text ++ 9 ∷ drop (n + 1) text = sym (take-append-drop n text) ∙ ap (λ l. take n text ++ l) there in
+    ap (pieces 9) whole ∙ slice_split_at (λ byte. eqb byte 9) (take n text) 9 (drop (n + 1) text) column refl
+
+cut_by : (text : List ℕ) (n : ℕ) → n ≤ length text → (n < length text → get_or text n 0 ≡ 9) → IsColumn (take n text) → (b : Bool) → ltb n (length text) ≡ b → pieces 9 text ≡ take n text ∷ columns_in (drop n text)
+cut_by text n within tab column true e =
+    let inside : n < length text = grind (arith, nat_tests) in
+    let there : drop n text ≡ 9 ∷ drop (n + 1) text = drop_more text n 0 inside ∙ ap (λ b. b ∷ drop (n + 1) text) (tab inside) in
+    cut_at text n inside (tab inside) column ∙ ap (λ l. take n text ∷ columns_in l) (sym there)
+cut_by text n within tab column false e =
+    let past : length text ≤ n = grind (arith, nat_tests) in
+    let all : take n text ≡ text = take_all n text past in
+    let none : drop n text ≡ [] = drop_all n text past in
+    rw (all, none) (slice_split_none (λ byte. eqb byte 9) text (subst IsColumn all column))
+
+kept_by : (bytes : List ℕ) (columns : List (List ℕ)) → pieces 9 bytes ≡ columns → 0 < length columns → kept_columns columns ≡ 9 ∷ bytes
+kept_by bytes [] e some = absurd (omega arith)
+kept_by bytes (x ∷ xs) e some = ap (λ l. 9 ∷ l) (sym (cut_and_kept bytes x xs e))
+
+-- what is kept is its columns, each with a tab before it
+kept_again : (kept : List ℕ) → is_kept kept ≡ true → kept_columns (columns_in kept) ≡ kept
+kept_again [] e = refl
+kept_again (byte ∷ bytes) e =
+    kept_by bytes (pieces 9 bytes) refl (omega (arith, length-slice_split (λ byte. eqb byte 9) bytes)) ∙ ap (λ b. b ∷ bytes) (sym (eqb-true byte 9 e))
+
+-- what follows a column begins with a tab
+kept_behind : (text : List ℕ) (n : ℕ) → n ≤ length text → (n < length text → get_or text n 0 ≡ 9) → is_kept (drop n text) ≡ true
+kept_behind text n within tab = by (ltb n (length text)) refl
+  where
+    by : (b : Bool) → ltb n (length text) ≡ b → is_kept (drop n text) ≡ true
+    by true e =
+        let inside : n < length text = grind (arith, nat_tests) in
+        ap is_kept (drop_more text n 0 inside ∙ ap (λ b. b ∷ drop (n + 1) text) (tab inside))
+    by false e = let past : length text ≤ n = grind (arith, nat_tests) in ap is_kept (drop_all n text past)
+
+numbers_say : (a : List ℕ) (b c : Option ℕ) (start stop : ℕ) (columns : List (List ℕ)) → 0 < length a → b ≡ Some start → c ≡ Some stop → start < stop
+    → feature_of a b c columns ≡ Ok (record { chrom = a; start = start; stop = stop; strand = strand_of columns; rest = kept_columns columns })
+numbers_say [] b c start stop columns some p q below = absurd (omega arith)
+numbers_say (byte ∷ bytes) b c start stop columns some p q below =
+    let test : nat_lt start stop ≡ true = grind (arith, nat_tests) in
+    rw (p, q, test) refl
+
+-- the three columns say a feature
+pub plain_say : (text first second kept : List ℕ) (name : ℕ) (start stop : Leading) (strand : Strand) → first ≡ drop (name + 1) text → second ≡ drop (start.end + 1) first → kept ≡ drop stop.end second → strand ≡ strand_of (columns_in kept)
+    → EndsName text name → Leads first start → start.end < length first → Leads second stop → start.value < stop.value
+    → Ok (record { chrom = take name text; start = start.value; stop = stop.value; strand = strand; rest = kept }) ≡ columns_say (pieces 9 text)
+plain_say text first second kept name start stop strand f s k t n p inside q below =
+    let last = cut_by second stop.end q.within q.tab q.column (ltb stop.end (length second)) refl ∙ ap (λ l. take stop.end second ∷ columns_in l) (sym k) in
+    let middle = cut_at first start.end inside (p.tab inside) p.column ∙ ap (λ l. take start.end first ∷ pieces 9 l) (sym s) ∙ ap (λ l. take start.end first ∷ l) last in
+    let cut : pieces 9 text ≡ take name text ∷ take start.end first ∷ take stop.end second ∷ columns_in kept =
+    cut_at text name n.within n.tab n.column ∙ ap (λ l. take name text ∷ pieces 9 l) (sym f) ∙ ap (λ l. take name text ∷ l) middle in
+    let size : 0 < length (take name text) = let some = n.some in let within = n.within in omega (arith, length-take name text) in
+    let said = numbers_say (take name text) (value_of (take start.end first)) (value_of (take stop.end second)) start.value stop.value (columns_in kept) size p.value q.value below in
+    let same = kept_again kept (subst (λ l. is_kept l ≡ true) (sym k) (kept_behind second stop.end q.within q.tab)) in
+    rw t (sym (ap columns_say cut ∙ said ∙ ap (λ (rest : List ℕ). Ok (record { chrom = take name text; start = start.value; stop = stop.value; strand = strand_of (columns_in kept); rest = rest })) same))
+
+-- a digit is no tab
+digit_inside : (byte : ℕ) → is_ascii_digit byte ≡ true → IsInside byte
+digit_inside byte digit = grind (arith, nat_tests)
+
+both_true : (a b : Bool) → (a && b) ≡ true → (a ≡ true) × (b ≡ true)
+both_true true b e = (refl, e)
+both_true false b e = cc
+
+-- digits have no tab among them
+pub digits_column : (bytes : List ℕ) → list_all is_ascii_digit bytes ≡ true → IsColumn bytes
+digits_column [] e = All-nil IsInside
+digits_column (byte ∷ bytes) e =
+    let parts = both_true (is_ascii_digit byte) (list_all is_ascii_digit bytes) e in
+    All-cons IsInside byte bytes (digit_inside byte parts.0) (digits_column bytes parts.1)
+
+-- one more byte that is no tab
+pub column_more : (text : List ℕ) (i : ℕ) → i < length text → IsColumn (take i text) → IsInside (get_or text i 0) → IsColumn (take (i + 1) text)
+column_more text i within column inside = rw (take_more text i 0 within) (All-push IsInside (take i text) (get_or text i 0) column inside)
+
+-- the digits up to a tab or the end denote a number
+pub leads_by : (text : List ℕ) (value end : ℕ) → 0 < end → end ≤ length text → (end < length text → get_or text end 0 ≡ 9) → value ≡ digits_value 10 (take end text) → list_all is_ascii_digit (take end text) ≡ true → value ≤ 999999999999
+    → Leads text (record { value = value; end = end })
+leads_by text value end some within tab is digits small =
+    let size : 0 < length (take end text) = omega (arith, length-take end text) in
+    let low : digits_value 10 (take end text) ≤ 999999999999 = rw (← is) small in
+    record {
+      within = within;
+      tab = tab;
+      column = digits_column (take end text) digits;
+      value = sym (value_of_digits (take end text) size digits low) ∙ ap Some (sym is);
+    }
+
+pub plain_feature_is : (text : List ℕ) (f : Feature) → Ok f ≡ columns_say (pieces 9 text) → IsFeature f
+plain_feature_is text f e = said_is_feature text f (sym e)
+
+pub digit_bound : (byte : ℕ) → is_ascii_digit byte ≡ true → byte ≤ 57
+digit_bound byte digit = grind (arith, nat_tests)

@@ -1,0 +1,72 @@
+//! The line of an interval in BED output.
+
+ghost use Rattle.std.specs.Prelude.{◌≡◌, ◌+◌, ◌≤◌, ◌++◌, codes, decimal, drop};
+ghost use Rattle.bt_lines.specs.Putting.{Puts};
+ghost use Rattle.bt_bed.specs.IntervalLine.{bounds_text, interval_line, span_text};
+
+use bt_lines::{Fault, Out, Sink};
+use itoa::write_digits;
+
+// The room for what stands behind the name: two tabs, two numbers of up to 20 digits and a line feed.
+const ROOM: usize = 43;
+
+/// Puts the line of an interval: its name, and what stands behind it in one piece. It takes no memory.
+/// The start is zero-based, and the end isn't included.
+#[inline]
+pub fn put_interval<K: Sink>(
+    chrom: &[u8],
+    start: u64,
+    stop: u64,
+    out: &mut Out<K>,
+) -> Result<(), Fault>
+    ensures { Puts out.old (interval_line (record { chrom = chrom.now; start = start; stop = stop }))
+        result out.new }
+{
+    out.put(chrom)?;
+    let mut text = [0; ROOM];
+    let first = write_span(start, stop, &mut text);
+    out.put(&text[first..])
+}
+
+// Puts the bounds of an interval behind its name, without a line feed.
+#[inline]
+pub(crate) fn put_bounds<K: Sink>(start: u64, stop: u64, out: &mut Out<K>) -> Result<(), Fault>
+    ensures { Puts out.old (bounds_text start stop) result out.new }
+{
+    let mut text = [0; ROOM];
+    let first = write_span(start, stop, &mut text);
+    out.put(&text[first..ROOM - 1])
+}
+
+// Writes what stands behind the name so that it ends where the text does, and gives where it begins.
+#[inline]
+fn write_span(start: u64, stop: u64, text: &mut [u8; ROOM]) -> usize
+    ensures within { result ≤ ROOM }
+    ensures written { drop result text.new ≡ span_text start stop }
+{
+    text[ROOM - 1] = b'\n';
+    let before_stop = write_digits(stop, text, ROOM - 1) - 1;
+    text[before_stop] = b'\t';
+    let before_start = write_digits(start, text, before_stop) - 1;
+    text[before_start] = b'\t';
+    before_start
+}
+
+#[cfg(test)]
+mod tests {
+    use super::*;
+    use bt_lines::ScriptSink;
+    use std::test::Fail;
+
+    #[test]
+    fn a_line_has_name_start_and_end(rt: HostRuntime) -> Result<(), Fail> {
+        let mut out = Out::new(ScriptSink::new(rt.alloc(), 3, None));
+        let put = put_interval(b"chr 1", 0, 999999999999, &mut out).is_ok()
+            && put_interval(b"c", 7, 8, &mut out).is_ok()
+            && out.flush().is_ok();
+        assert!(rt; put);
+        let want: &[u8] = b"chr 1\t0\t999999999999\nc\t7\t8\n";
+        assert_eq!(rt; out.into_sink().taken(), want);
+        Ok(())
+    }
+}

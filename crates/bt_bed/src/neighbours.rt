@@ -1,0 +1,196 @@
+//! The last record and the one ahead, sorted by some rule.
+
+use crate::bed::BedRef;
+use crate::faults::{at_line, no_memory};
+use crate::parsing::parse_bed;
+use crate::sorted::Sorted;
+use crate::spot::Spot;
+use bt_lines::{Fault, Kind, Place};
+use std::alloc::{AllocError, Global};
+
+// The names of chromosomes stand in buffers that are used again. A record on the chromosome of the last
+// one has the name of that: `is_elsewhere` says that the record ahead has its own in `ahead_name`, and
+// means nothing where none is ahead.
+#[derive(Drop)]
+pub(crate) struct Neighbours<Q> {
+    pub(crate) rule: Q,
+    last_name: Vec<u8>,
+    ahead_name: Vec<u8>,
+    last: Option<u64>,
+    ahead: Option<Spot>,
+    is_elsewhere: bool,
+}
+
+#[tactic(auto, unfolding(crate::specs::Neighbours::last_in, crate::specs::Neighbours::ahead_in, crate::specs::Neighbours::line_in, crate::specs::Neighbours::has_ahead))]
+impl<Q: Sorted> Neighbours<Q> {
+    ghost use Rattle.std.specs.Prelude.{◌≡◌, ℕ, List, false, Some, None, IsTrue, OnOk, OnErr, IsSome, is_some, option_map};
+    ghost use Rattle.bt_bed.specs.Ahead.{feature_at, member_at};
+    ghost use Rattle.bt_bed.specs.Bed.{feature_lent};
+    ghost use Rattle.bt_bed.specs.GoodBed.{locus_at};
+    ghost use Rattle.bt_bed.specs.Sorting.{falls_in};
+    ghost use Rattle.bt_bed.specs.Neighbours.{FitsOr, IsKnownLast, IsSaidBy, KeepsLast, TakesLine, ahead_in, goes_on, has_ahead, last_in, line_in, name_of};
+
+    // No record yet.
+    pub(crate) fn new(alloc: Global, rule: Q) -> Neighbours<Q>
+        ensures rule { result.rule ≡ rule }
+        ensures last { last_in result ≡ None }
+        ensures ahead { has_ahead result ≡ false }
+    {
+        Neighbours {
+            rule,
+            last_name: Vec::new(alloc),
+            ahead_name: Vec::new(alloc),
+            last: None,
+            ahead: None,
+            is_elsewhere: false,
+        }
+    }
+
+    // Whether a record is ahead.
+    pub(crate) fn has_record(&self) -> bool
+        ensures { result ≡ has_ahead self.now }
+    {
+        self.ahead.is_some()
+    }
+
+    // The record ahead, if there is one, in the line of this text, which says it.
+    pub(crate) fn record<'t>(&'t self, text: &'t [u8]) -> Option<BedRef<'t>>
+        requires { IsSaidBy text.now self.now }
+        ensures { option_map feature_lent result
+            ≡ option_map (λ m. m.item) (ahead_in text.now self.now) }
+    {
+        let spot = self.ahead?;
+        Some(BedRef {
+            chrom: self.name(),
+            start: spot.start,
+            stop: spot.stop,
+            strand: spot.strand,
+            rest: &text[spot.rest_from..],
+        })
+    }
+
+    // The line of the record ahead.
+    pub(crate) fn line(&self) -> u64
+        requires { IsSome (line_in self.now) }
+        ensures { line_in self.now ≡ Some result }
+    {
+        match self.ahead {
+            Some(spot) => spot.line,
+            None => unreachable!(),
+        }
+    }
+
+    // Makes the record ahead the last one.
+    pub(crate) fn advance(&mut self)
+        ensures last { (text : List ℕ)
+            → last_in self.new ≡ option_map (λ m. locus_at m.item) (ahead_in text self.old) }
+        ensures none_ahead { has_ahead self.new ≡ false }
+        ensures rule { self.new.rule ≡ self.old.rule }
+    {
+        if self.is_elsewhere {
+            std::mem::swap(&mut self.last_name, &mut self.ahead_name);
+        }
+        self.last = self.ahead.map(|spot| spot.start);
+        self.ahead = None;
+    }
+
+    // Takes a line behind the last record, and tells whether it has one. No record is ahead then, but
+    // for that.
+    pub(crate) fn take_line(&mut self, place: Place, text: &[u8]) -> Result<bool, Fault>
+        requires none_ahead { has_ahead self.old ≡ false }
+        requires known { IsKnownLast (Q.sorting self.old.rule) (last_in self.old) }
+        ensures { TakesLine (Q.sorting self.old.rule) place text.now self.old result self.new }
+    {
+        let bed = match parse_bed(text) {
+            Ok(Some(bed)) => bed,
+            Ok(None) => return Ok(false),
+            Err(kind) => return Err(at_line(kind, place)),
+        };
+        let is_same = self.goes_on(bed.chrom);
+        if let Err(kind) = self.check(is_same, bed) {
+            return Err(at_line(kind, place));
+        }
+        let spot = Spot {
+            line: place.line,
+            start: bed.start,
+            stop: bed.stop,
+            strand: bed.strand,
+            rest_from: text.len() - bed.rest.len(),
+        };
+        match self.hold(is_same, bed.chrom, spot) {
+            Ok(()) => Ok(true),
+            Err(_refused) => Err(no_memory()),
+        }
+    }
+
+    // The name of the chromosome of the record ahead.
+    fn name(&self) -> &[u8]
+        ensures { result.now ≡ name_of self.now }
+    {
+        if self.is_elsewhere {
+            self.ahead_name.as_slice()
+        } else {
+            self.last_name.as_slice()
+        }
+    }
+
+    // Whether a chromosome is that of the last record.
+    fn goes_on(&self, chrom: &[u8]) -> bool
+        ensures { result ≡ goes_on self.now chrom.now }
+    {
+        self.last.is_some() && self.last_name.as_slice() == chrom
+    }
+
+    // Whether a record fits behind the last one, or what is wrong with it. Its chromosome isn't looked
+    // up again where it is that of the last record.
+    fn check(&self, is_same: bool, bed: BedRef<'_>) -> Result<(), Kind>
+        requires same { is_same ≡ goes_on self.now bed.chrom.now }
+        requires known { IsKnownLast (Q.sorting self.now.rule) (last_in self.now) }
+        ensures { FitsOr (Q.sorting self.now.rule) (last_in self.now) (feature_lent bed.entry) result }
+    {
+        if !is_same && !self.rule.knows(bed.chrom) {
+            return Err(Kind::UnknownChrom);
+        }
+        if self.falls_below(is_same, bed) {
+            return Err(Kind::OutOfOrder);
+        }
+        Ok(())
+    }
+
+    // Whether a record on a known chromosome lies below the last one.
+    fn falls_below(&self, is_same: bool, bed: BedRef<'_>) -> bool
+        requires same { is_same ≡ goes_on self.now bed.chrom.now }
+        requires last { IsKnownLast (Q.sorting self.now.rule) (last_in self.now) }
+        requires known { IsTrue ((Q.sorting self.now.rule).knows bed.chrom.now) }
+        ensures { result ≡ falls_in (Q.sorting self.now.rule) (last_in self.now)
+            (locus_at (feature_lent bed.entry)) }
+    {
+        match self.last {
+            Some(last) if is_same => bed.start < last,
+            Some(_) => self.rule.comes_before(bed.chrom, self.last_name.as_slice()),
+            None => false,
+        }
+    }
+
+    // Holds a record, and copies its chromosome's name where it's another than the last.
+    fn hold(&mut self, is_same: bool, chrom: &[u8], spot: Spot) -> Result<(), AllocError>
+        requires none_ahead { has_ahead self.old ≡ false }
+        requires same { is_same ≡ goes_on self.old chrom.now }
+        ensures keeps { KeepsLast self.old self.new }
+        ensures held { OnOk result ((text : List ℕ) → ahead_in text self.new
+            ≡ Some (member_at chrom.now text spot)) }
+        ensures spot { OnOk result (self.new.ahead ≡ Some spot) }
+        ensures lost { OnErr result (has_ahead self.new ≡ false) }
+    {
+        if is_same {
+            self.is_elsewhere = false;
+            self.ahead = Some(spot);
+            return Ok(());
+        }
+        self.ahead_name.clear();
+        self.ahead_name.extend_from_slice(chrom)?;
+        self.is_elsewhere = true;
+        self.ahead = Some(spot);
+        Ok(())
+    }
+}

@@ -1,0 +1,76 @@
+//! Records put to an output.
+
+ghost use Rattle.std.specs.Prelude.{◌++◌};
+ghost use Rattle.bt_lines.specs.Putting.{Puts};
+ghost use Rattle.bt_bed.specs.Bed.{feature_lent};
+ghost use Rattle.bt_bed.specs.Record.{bed_text, cut_to};
+
+use crate::bed::BedRef;
+use crate::interval_line::put_bounds;
+use bt_lines::{Fault, Out, Sink, put_column};
+
+/// Puts a record and what ends it, as a tab or a line feed: chromosome, start, end and the kept
+/// columns, with tabs between them. Start and end are printed without leading zeros. It takes no
+/// memory.
+pub fn put_bed<K: Sink>(bed: &BedRef<'_>, end: &[u8], out: &mut Out<K>) -> Result<(), Fault>
+    ensures { Puts out.old (bed_text (feature_lent bed.now) ++ end.now) result out.new }
+{
+    put_cut(bed, bed.start, bed.stop, end, out)
+}
+
+/// Puts a record as [`put_bed`] does, with this start, which is zero-based, and this end, which isn't
+/// included, in the place of its own: a part of it, with its further columns. It takes no memory.
+pub fn put_cut<K: Sink>(
+    bed: &BedRef<'_>,
+    start: u64,
+    stop: u64,
+    end: &[u8],
+    out: &mut Out<K>,
+) -> Result<(), Fault>
+    ensures { Puts out.old (bed_text (cut_to start stop (feature_lent bed.now)) ++ end.now) result out.new }
+{
+    out.put(bed.chrom)?;
+    put_bounds(start, stop, out)?;
+    put_column(bed.rest, end, out)
+}
+
+#[cfg(test)]
+mod tests {
+    use super::*;
+    use crate::parsing::parse_bed;
+    use bt_lines::{ScriptSink, put_number};
+    use std::test::Fail;
+
+    // Puts the lines of two records that share bases: the shared part beside the second, both with the
+    // number of shared bases, and the first as it is.
+    fn put_lines<K: Sink>(a: &BedRef<'_>, b: &BedRef<'_>, out: &mut Out<K>) -> Result<(), Fault> {
+        put_cut(a, 10, 15, b"\t", out)?;
+        put_bed(b, b"\n", out)?;
+        put_bed(a, b"\t", out)?;
+        put_bed(b, b"\t", out)?;
+        put_number(5, b"\n", out)?;
+        put_bed(a, b"\n", out)?;
+        out.flush()
+    }
+
+    // Whether the lines are put, and what the sink took of them where it takes so many bytes.
+    fn taken_by(rt: &HostRuntime, good: Option<usize>, want: &[u8]) -> bool {
+        let (Ok(Some(a)), Ok(Some(b))) = (
+            parse_bed(b"chr1\t010\t30\ta"),
+            parse_bed(b"chr1\t0\t15\tx"),
+        ) else {
+            return false;
+        };
+        let mut out = Out::new(ScriptSink::new(rt.alloc(), 3, good));
+        let put = put_lines(&a, &b, &mut out);
+        put.is_ok() == good.is_none() && out.into_sink().taken() == want
+    }
+
+    #[test]
+    fn records_and_parts_stand_beside_one_another(rt: HostRuntime) {
+        let lines: &[u8] =
+            b"chr1\t10\t15\ta\tchr1\t0\t15\tx\nchr1\t10\t30\ta\tchr1\t0\t15\tx\t5\nchr1\t10\t30\ta\n";
+        assert!(rt; taken_by(&rt, None, lines));
+        assert!(rt; taken_by(&rt, Some(9), b"chr1\t10\t1"));
+    }
+}

@@ -1,0 +1,198 @@
+ghost use Rattle.std.specs.Prelude.{None, true};
+
+use crate::{
+    DeviceFailed, Fault, FromRead, Input, Kind, LineReader, Out, ScriptSink, Sink, Source, ToWrite,
+};
+use std::io;
+use std::io::{BufWriter, Read, Write};
+use std::test::Fail;
+
+// A device whose first call fails, and whose second would serve. It counts its calls.
+#[derive(Drop)]
+struct FailsFirst {
+    calls: u8,
+}
+
+impl FailsFirst {
+    fn call(&mut self) -> io::Result<()> {
+        self.calls = self.calls.saturating_add(1);
+        if self.calls == 1 {
+            return Err(io::ErrorKind::Interrupted.into());
+        }
+        Ok(())
+    }
+}
+
+impl Read for FailsFirst {
+    fn read(&mut self, buf: &mut [u8]) -> io::Result<usize> {
+        self.call()?;
+        if buf.is_empty() {
+            return Ok(0);
+        }
+        buf[0] = b'x';
+        Ok(1)
+    }
+}
+
+impl Write for FailsFirst {
+    fn write(&mut self, buf: &[u8]) -> io::Result<usize> {
+        self.call()?;
+        Ok(buf.len())
+    }
+
+    fn flush(&mut self) -> io::Result<()> {
+        self.call()
+    }
+}
+
+#[test]
+fn a_reader_that_failed_is_asked_no_more(rt: HostRuntime) {
+    let mut source = FromRead::new(FailsFirst { calls: 0 });
+    let mut block = [0u8; 4];
+    for _ in 0..3 {
+        assert_eq!(rt; source.read(&mut block), Err(DeviceFailed));
+    }
+    assert!(rt; source.failed());
+    assert_eq!(rt; source.into_inner().calls, 1);
+}
+
+#[test]
+fn a_writer_that_failed_is_asked_no_more(rt: HostRuntime) {
+    let mut sink = ToWrite::new(FailsFirst { calls: 0 });
+    for _ in 0..3 {
+        assert_eq!(rt; sink.write(b"chr1"), Err(DeviceFailed));
+    }
+    assert_eq!(rt; sink.flush(), Err(DeviceFailed));
+    assert!(rt; sink.failed());
+    assert_eq!(rt; sink.into_inner().calls, 1);
+}
+
+// A source that failed before, and serves now.
+#[derive(Drop)]
+struct ServesAgain {
+    bytes: &'static [u8],
+    end_told: bool,
+}
+
+impl Source for ServesAgain {
+    ghost left = { λ _. None };
+
+    ghost has_failed = { λ _. true };
+
+    ghost end_told = { λ s. s.end_told };
+
+    fn read(&mut self, block: &mut [u8]) -> Result<usize, DeviceFailed> {
+        if block.is_empty() {
+            return Ok(0);
+        }
+        if self.bytes.is_empty() {
+            self.end_told = true;
+            return Ok(0);
+        }
+        block[0] = self.bytes[0];
+        self.bytes = &self.bytes[1..];
+        Ok(1)
+    }
+
+    fn failed(&self) -> bool {
+        true
+    }
+}
+
+#[test]
+fn a_failure_of_before_is_no_failed_read(rt: HostRuntime) -> Result<(), Fail> {
+    let source = ServesAgain {
+        bytes: b"a\nb",
+        end_told: false,
+    };
+    let mut reader = LineReader::new(rt.alloc(), source, Input::First);
+    assert_eq!(rt; reader.next()?.ok_or("a line")?.text, b"a".as_slice());
+    assert_eq!(rt; reader.next()?.ok_or("a line")?.text, b"b".as_slice());
+    assert!(rt; reader.next()?.is_none());
+    assert!(rt; reader.into_source().failed());
+    Ok(())
+}
+
+#[test]
+fn an_empty_piece_is_served(rt: HostRuntime) {
+    let mut sink = ScriptSink::new(rt.alloc(), 1, Some(0));
+    assert_eq!(rt; sink.write(b""), Ok(0));
+    assert_eq!(rt; sink.write(b"a"), Err(DeviceFailed));
+    assert_eq!(rt; sink.write(b""), Err(DeviceFailed));
+}
+
+// A sink that takes everything, and whose first flush fails.
+#[derive(Drop)]
+struct FlushFails {
+    flushes: u8,
+    has_failed: bool,
+}
+
+impl Sink for FlushFails {
+    ghost took = { λ _. None };
+
+    ghost has_failed = { λ s. s.has_failed };
+
+    ghost is_flushed = { λ _. true };
+
+    fn write(&mut self, bytes: &[u8]) -> Result<usize, DeviceFailed> {
+        Ok(bytes.len())
+    }
+
+    fn flush(&mut self) -> Result<(), DeviceFailed> {
+        self.flushes = self.flushes.saturating_add(1);
+        self.has_failed = true;
+        Err(DeviceFailed)
+    }
+
+    fn failed(&self) -> bool {
+        self.has_failed
+    }
+}
+
+#[test]
+fn a_flush_that_fails(rt: HostRuntime) {
+    let mut output = Out::new(FlushFails {
+        flushes: 0,
+        has_failed: false,
+    });
+    let fault = Fault {
+        kind: Kind::WriteFailed,
+        place: None,
+    };
+    assert_eq!(rt; output.put(b"chr1"), Ok(()));
+    assert_eq!(rt; output.flush(), Err(fault));
+    assert_eq!(rt; output.put(b"more"), Err(fault));
+    assert_eq!(rt; output.flush(), Err(fault));
+    assert_eq!(rt; output.into_sink().flushes, 1, "the sink was asked once");
+}
+
+#[test]
+fn devices_of_std(rt: HostRuntime) -> Result<(), Fail> {
+    let bytes = b"ab\ncd\n";
+    let mut reader = LineReader::new(rt.alloc(), FromRead::new(bytes.as_slice()), Input::First);
+    assert!(rt; reader.next()?.is_some());
+    assert!(rt; reader.next()?.is_some());
+    assert!(rt; reader.next()?.is_none());
+    assert_eq!(rt; reader.into_source().into_inner().len(), 0);
+    let mut output = Out::new(ToWrite::new(Vec::new(rt.alloc())));
+    output.put(b"ab")?;
+    output.put(b"c")?;
+    output.flush()?;
+    assert_eq!(rt;
+        output.into_sink().into_inner().as_slice(),
+        b"abc".as_slice()
+    );
+    Ok(())
+}
+
+#[test]
+fn a_flush_reaches_the_writer(rt: HostRuntime) -> Result<(), Fail> {
+    let writer = BufWriter::new(rt.alloc(), Vec::new(rt.alloc()))?;
+    let mut output = Out::new(ToWrite::new(writer));
+    output.put(b"abc")?;
+    output.flush()?;
+    let writer = output.into_sink().into_inner();
+    assert_eq!(rt; writer.get_ref().as_slice(), b"abc".as_slice());
+    Ok(())
+}

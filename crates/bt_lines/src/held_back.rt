@@ -1,0 +1,68 @@
+//! The bytes that an output holds back.
+
+ghost use Rattle.std.specs.Prelude.{◌≡◌, ◌+◌, ◌-◌, ◌≤◌, ◌++◌, [], length};
+ghost use Rattle.bt_lines.specs.Output.{block_size};
+
+use crate::block::BLOCK;
+use std::marker::Model;
+
+// Its first `len` bytes are held back.
+#[derive(Drop)]
+pub(crate) struct HeldBack {
+    bytes: [u8; BLOCK],
+    len: usize,
+}
+
+impl Model for HeldBack {
+    ghost use Rattle.std.specs.Prelude.{ℕ, List, ◌≤◌, take};
+    ghost use Rattle.bt_lines.specs.Output.{block_size};
+
+    ghost Value = { List ℕ };
+
+    ghost view = { λ held. take held.len held.bytes };
+
+    ghost invariant = { λ held. held.len ≤ block_size };
+}
+
+impl HeldBack {
+    // Nothing is held back.
+    pub(crate) fn new() -> HeldBack
+        ensures { result ≡ [] }
+    {
+        HeldBack {
+            bytes: [0; BLOCK],
+            len: 0,
+        }
+    }
+
+    // How many bytes fit behind those that are held back.
+    pub(crate) fn room(&self) -> usize
+        ensures { result + length self.now ≡ block_size }
+    {
+        BLOCK - self.len
+    }
+
+    // The bytes that are held back.
+    pub(crate) fn as_slice(&self) -> &[u8]
+        ensures { result.now ≡ self.now }
+    {
+        &self.bytes[..self.len]
+    }
+
+    // Holds back a piece too.
+    pub(crate) fn append(&mut self, piece: &[u8])
+        requires { length self.old + length piece.now ≤ block_size }
+        ensures { self.new ≡ self.old ++ piece.now }
+    {
+        let len = self.len;
+        self.bytes[len..len + piece.len()].copy_from_slice(piece);
+        self.len = len + piece.len();
+    }
+
+    // Lets go of all.
+    pub(crate) fn clear(&mut self)
+        ensures { self.new ≡ [] }
+    {
+        self.len = 0;
+    }
+}

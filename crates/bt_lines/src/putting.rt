@@ -1,0 +1,45 @@
+//! Columns put to an output.
+
+ghost use Rattle.std.specs.Prelude.{◌++◌, decimal};
+ghost use Rattle.bt_lines.specs.Putting.{Puts};
+
+use crate::device::Sink;
+use crate::fault::Fault;
+use crate::output::Out;
+use itoa::Buffer;
+
+/// Puts a column and what ends it, as a tab or a line feed.
+pub fn put_column<K: Sink>(column: &[u8], end: &[u8], out: &mut Out<K>) -> Result<(), Fault>
+    ensures { Puts out.old (column.now ++ end.now) result out.new }
+{
+    out.put(column)?;
+    out.put(end)
+}
+
+/// Puts a number in decimal, without leading zeros, and what ends it. It takes no memory.
+pub fn put_number<K: Sink>(number: u64, end: &[u8], out: &mut Out<K>) -> Result<(), Fault>
+    ensures { Puts out.old (decimal number ++ end.now) result out.new }
+{
+    let mut digits = Buffer::new();
+    put_column(digits.format(number).as_bytes(), end, out)
+}
+
+#[cfg(test)]
+mod tests {
+    use super::*;
+    use crate::script_sink::ScriptSink;
+    use std::test::Fail;
+
+    #[test]
+    fn columns_and_numbers_are_put_with_what_ends_them(rt: HostRuntime) -> Result<(), Fail> {
+        let mut out = Out::new(ScriptSink::new(rt.alloc(), 2, None));
+        let put = put_column(b"chr1", b"\t", &mut out).is_ok()
+            && put_number(0, b"\t", &mut out).is_ok()
+            && put_number(999999999999, b"\n", &mut out).is_ok()
+            && out.flush().is_ok();
+        assert!(rt; put);
+        let want: &[u8] = b"chr1\t0\t999999999999\n";
+        assert_eq!(rt; out.into_sink().taken(), want);
+        Ok(())
+    }
+}

@@ -1,0 +1,27 @@
+//! What ends an engine.
+
+ghost use Rattle.std.specs.Prelude.{◌≡◌};
+ghost use Rattle.bt_lines.specs.Names.{told};
+ghost use Rattle.bt_runs.specs.Failure.{fault_of};
+
+use bt_lines::{Fault, Kind};
+
+// A failed write, or want of memory.
+#[derive(Clone, Copy, Debug)]
+pub(crate) enum Failure {
+    Write,
+    Memory,
+}
+
+impl Failure {
+    // The fault that tells it.
+    pub(crate) fn fault(self) -> Fault
+        ensures { told result ≡ fault_of self }
+    {
+        let kind = match self {
+            Failure::Write => Kind::WriteFailed,
+            Failure::Memory => Kind::NoMemory,
+        };
+        Fault { kind, place: None }
+    }
+}

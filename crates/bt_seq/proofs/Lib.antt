@@ -1,0 +1,6 @@
+pub mod CigarLemmas
+pub mod DivisionLemmas
+pub mod AlignmentLemmas
+pub mod BlockLemmas
+pub mod LineLemmas
+pub mod SamKindLemmas

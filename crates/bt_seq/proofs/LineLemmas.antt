@@ -1,0 +1,98 @@
+-- The BED line of an alignment, put piece by piece.
+use Rattle.std.proofs.Common.{◌≡◌, ℕ, Bool, true, false, List, [], ◌∷◌, ◌++◌, Result, sym, ap, subst, ◌∙◌, append_assoc, append-nil, codes, decimal, length, arith, map, length-append}
+use Rattle.std.specs.Prelude.{flat_map}
+use Rattle.std.proofs.lemmas.Grind.{flat_map-append}
+use Rattle.std.proofs.lemmas.List.{map-append}
+use Rattle.bt_bed.specs.Interval.{Span}
+use Rattle.bt_lines.specs.Fault.{Told}
+use Rattle.bt_lines.specs.Output.{Output}
+use Rattle.bt_lines.specs.Putting.{FailsToAdd, FailsToPut, Grown, Puts, PutsAll}
+use Rattle.bt_lines.specs.declared.fault.Fault.{Fault}
+use Rattle.bt_lines.proofs.PuttingLemmas.{cut_off, fails_before, fails_behind, fails_then, grown_all, grown_more, puts_more}
+use Rattle.bt_seq.specs.Alignment.{Alignment}
+use Rattle.bt_seq.specs.BedLines.{bed_line, text_if}
+use Rattle.bt_seq.specs.SamBlocks.{span_given}
+use Rattle.bt_seq.specs.LineEnds.{line_tail, name_end, quality_end}
+
+-- the pieces of a line
+line_parts : (with_cigar : Bool) (a : Alignment) (s : Span)
+    → (a.chrom ++ codes "\t") ++ ((decimal s.start ++ codes "\t") ++ ((decimal s.stop ++ codes "\t") ++ ((a.name ++ name_end a.first a.last) ++ line_tail with_cigar a))) ≡ bed_line with_cigar a s
+line_parts true a s = simp append_assoc
+line_parts false a s = simp append_assoc
+
+module _ (with_cigar : Bool) (a : Alignment) where
+  -- the tail was cut off before the CIGAR
+  pub tail_cut : (end : List ℕ) (old new : Output) (fault : Told) → end ≡ quality_end a.reverse with_cigar → FailsToPut old (decimal a.quality ++ end) fault new → FailsToPut old (line_tail with_cigar a) fault new
+  tail_cut end old new fault e p =
+      fails_before old new (decimal a.quality ++ quality_end a.reverse with_cigar) (text_if with_cigar (a.cigar ++ codes "\n")) fault
+      (subst (λ l. FailsToPut old (decimal a.quality ++ l) fault new) e p)
+
+  pub tail_puts : {A : Type 0} (end : List ℕ) (old mid new : Output) (result : Result A Fault) → end ≡ quality_end a.reverse with_cigar → with_cigar ≡ true
+      → PutsAll old (decimal a.quality ++ end) mid → Puts mid (a.cigar ++ codes "\n") result new → Puts old (line_tail with_cigar a) result new
+  tail_puts end old mid new result e asked p q =
+      puts_more old mid new (decimal a.quality ++ quality_end a.reverse with_cigar) (text_if with_cigar (a.cigar ++ codes "\n")) result
+      (subst (λ l. PutsAll old (decimal a.quality ++ l) mid) e p)
+      (subst (λ b. Puts mid (text_if b (a.cigar ++ codes "\n")) result new) (sym asked) q)
+
+  -- the line was cut off in one of its pieces
+  module _ (s : Span) (o : Output) (fault : Told) where
+    whole : (new : Output) → FailsToPut o ((a.chrom ++ codes "\t") ++ ((decimal s.start ++ codes "\t") ++ ((decimal s.stop ++ codes "\t") ++ ((a.name ++ name_end a.first a.last) ++ line_tail with_cigar a)))) fault new
+        → FailsToPut o (bed_line with_cigar a s) fault new
+    whole new p = subst (λ l. FailsToPut o l fault new) (line_parts with_cigar a s) p
+
+    pub cut_first : (p : Output) → FailsToPut o (a.chrom ++ codes "\t") fault p → FailsToPut o (bed_line with_cigar a s) fault p
+    cut_first p x = whole p (fails_before o p _ _ fault x)
+
+    pub cut_second : (p q : Output) → PutsAll o (a.chrom ++ codes "\t") p → FailsToPut p (decimal s.start ++ codes "\t") fault q → FailsToPut o (bed_line with_cigar a s) fault q
+    cut_second p q x y = whole q (fails_behind o p q _ _ fault x (fails_before p q _ _ fault y))
+
+    pub cut_third : (p q r : Output) → PutsAll o (a.chrom ++ codes "\t") p → PutsAll p (decimal s.start ++ codes "\t") q → FailsToPut q (decimal s.stop ++ codes "\t") fault r → FailsToPut o (bed_line with_cigar a s) fault r
+    cut_third p q r x y z = whole r (fails_behind o p r _ _ fault x (fails_behind p q r _ _ fault y (fails_before q r _ _ fault z)))
+
+    pub cut_fourth : (end : List ℕ) (p q r t : Output) → end ≡ name_end a.first a.last → PutsAll o (a.chrom ++ codes "\t") p → PutsAll p (decimal s.start ++ codes "\t") q → PutsAll q (decimal s.stop ++ codes "\t") r
+        → FailsToPut r (a.name ++ end) fault t → FailsToPut o (bed_line with_cigar a s) fault t
+    cut_fourth end p q r t e x y z w =
+        whole t (fails_behind o p t _ _ fault x (fails_behind p q t _ _ fault y (fails_behind q r t _ _ fault z (fails_before r t _ _ fault (subst (λ l. FailsToPut r (a.name ++ l) fault t) e w)))))
+
+  pub puts_line : {A : Type 0} (s : Span) (end : List ℕ) (o p q r t new : Output) (result : Result A Fault) → end ≡ name_end a.first a.last → PutsAll o (a.chrom ++ codes "\t") p → PutsAll p (decimal s.start ++ codes "\t") q
+      → PutsAll q (decimal s.stop ++ codes "\t") r → PutsAll r (a.name ++ end) t → Puts t (line_tail with_cigar a) result new → Puts o (bed_line with_cigar a s) result new
+  puts_line s end o p q r t new result e x y z w v =
+      subst (λ l. Puts o l result new) (line_parts with_cigar a s)
+      (puts_more o p new _ _ result x (puts_more p q new _ _ result y (puts_more q r new _ _ result z (puts_more r t new _ _ result (subst (λ l. PutsAll r (a.name ++ l) t) e w) v))))
+
+  pub line_has_bytes : (s : Span) → bed_line with_cigar a s ≡ [] → ⊥
+  line_has_bytes s e =
+      let size : length (bed_line with_cigar a s) ≡ 0 = ap length e in
+      absurd (omega (arith, ap length (sym (line_parts with_cigar a s)), length-append (a.chrom ++ codes "\t") ((decimal s.start ++ codes "\t") ++ ((decimal s.stop ++ codes "\t") ++ ((a.name ++ name_end a.first a.last) ++ line_tail with_cigar a))), length-append a.chrom (codes "\t")))
+
+  -- the lines of stretches
+  abbrev pub lines_of : List Span → List ℕ
+  lines_of stretches = flat_map (bed_line with_cigar a) stretches
+
+  one_more : (done : List Span) (s : Span) → lines_of (done ++ s ∷ []) ≡ lines_of done ++ bed_line with_cigar a s
+  one_more done s = flat_map-append (bed_line with_cigar a) done (s ∷ []) ∙ ap (λ l. lines_of done ++ l) (append-nil (bed_line with_cigar a s))
+
+  pub grown_line : (done : List Span) (s : Span) (old mid new : Output) → Grown old (lines_of done) mid → PutsAll mid (bed_line with_cigar a s) new → Grown old (lines_of (done ++ s ∷ [])) new
+  grown_line done s old mid new p q =
+      subst (λ l. Grown old l new) (sym (one_more done s))
+      (grown_more old mid new (lines_of done) (bed_line with_cigar a s) p (grown_all mid new (bed_line with_cigar a s) (line_has_bytes s) q))
+
+  -- one of them was cut off
+  pub cut_line : (done : List Span) (s : Span) (rest all : List Span) (old mid new : Output) (fault : Told) → done ++ s ∷ rest ≡ all → Grown old (lines_of done) mid → FailsToPut mid (bed_line with_cigar a s) fault new
+      → FailsToAdd old (lines_of all) fault new
+  cut_line done s rest all old mid new fault e p q =
+      let here = fails_then old mid new (lines_of done) (bed_line with_cigar a s) fault p (record { puts = q; some = line_has_bytes s }) in
+      let lines : (lines_of done ++ bed_line with_cigar a s) ++ lines_of rest ≡ lines_of all =
+      append_assoc (lines_of done) (bed_line with_cigar a s) (lines_of rest) ∙ sym (flat_map-append (bed_line with_cigar a) done (s ∷ rest)) ∙ ap lines_of e in
+      subst (λ l. FailsToAdd old l fault new) lines (cut_off old new (lines_of done ++ bed_line with_cigar a s) (lines_of rest) fault here)
+
+-- one more of the stretches
+pub left_more : (done : List (ℕ × ℕ)) (x : ℕ × ℕ) (rest more all : List Span) → map span_given done ++ more ≡ all → more ≡ span_given x ∷ rest → map span_given (done ++ x ∷ []) ++ rest ≡ all
+left_more done x rest more all h e =
+    ap (λ l. l ++ rest) (map-append span_given done (x ∷ [])) ∙ append_assoc (map span_given done) (span_given x ∷ []) rest
+    ∙ ap (λ l. map span_given done ++ l) (sym e) ∙ h
+
+pub grown_block : (with_cigar : Bool) (a : Alignment) (done : List (ℕ × ℕ)) (x : ℕ × ℕ) (old mid new : Output) → Grown old (lines_of with_cigar a (map span_given done)) mid → PutsAll mid (bed_line with_cigar a (span_given x)) new
+    → Grown old (lines_of with_cigar a (map span_given (done ++ x ∷ []))) new
+grown_block with_cigar a done x old mid new p q =
+    subst (λ l. Grown old (lines_of with_cigar a l) new) (sym (map-append span_given done (x ∷ []))) (grown_line with_cigar a (map span_given done) (span_given x) old mid new p q)

@@ -1,0 +1,13 @@
+pub mod Cigar
+pub mod CigarSteps
+pub mod Flag
+pub mod Alignment
+pub mod Span
+pub mod Sam
+pub mod Blocks
+pub mod Room
+pub mod SamBlocks
+pub mod BedLines
+pub mod LineEnds
+pub mod Converting
+pub mod SamKind

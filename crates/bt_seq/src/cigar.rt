@@ -1,0 +1,121 @@
+//! CIGAR strings: how an alignment goes along the reference.
+
+ghost use Rattle.std.specs.Prelude.{◌≡◌, min, option_map};
+ghost use Rattle.bt_seq.specs.Cigar.{consumes_reference, covered_by, is_letter, operations_in, operations_of};
+ghost use Rattle.bt_seq.specs.CigarSteps.{IsFirst, IsWithin, span_with};
+
+use crate::operation::Operation;
+use bt_lines::MAX_NUMBER;
+
+/// A reference length is told up to here.
+const SPAN_LIMIT: u64 = 1_000_000_000_000;
+
+/// How many reference bases a CIGAR covers: the sum of the numbers of its M, D, N, `=` and X operations
+/// (SAM specification, section 1.4, field 6), but no more than 1,000,000,000,000. It is 0 for `*`, and
+/// none where the CIGAR is malformed: it is empty, ends in a number, has another letter, or has a letter
+/// without a number of at most 999,999,999,999.
+pub fn cigar_span(cigar: &[u8]) -> Option<u64>
+    ensures { result ≡ span_with 0 (operations_of cigar.now) }
+{
+    match cigar {
+        [] => None,
+        b"*" => Some(0),
+        _ => operations_span(cigar),
+    }
+}
+
+// The same for a text of operations.
+fn operations_span(text: &[u8]) -> Option<u64>
+    ensures { result ≡ span_with 0 (operations_in text.now) }
+{
+    let mut rest = text;
+    let mut total: u64 = 0;
+    while !rest.is_empty() {
+        let (operation, behind) = first_operation(rest)?;
+        total = (total + covered_by(operation)).min(SPAN_LIMIT);
+        rest = behind;
+    }
+    Some(total)
+}
+
+// The first operation of a text, and what stands behind it. There is none where the text is empty, and
+// where it doesn't begin with an operation.
+pub(crate) fn first_operation(text: &[u8]) -> Option<(Operation, &[u8])>
+    ensures first { IsFirst text.now result }
+    ensures within { IsWithin text.now result }
+{
+    let mut length: u64 = 0;
+    let mut end = 0;
+    while end < text.len() {
+        let byte = text[end];
+        if !byte.is_ascii_digit() {
+            if end == 0 || !is_letter(byte) {
+                return None;
+            }
+            let letter = byte;
+            return Some((Operation { length, letter }, &text[end + 1..]));
+        }
+        length = length * 10 + u64::from(byte - b'0');
+        if length > MAX_NUMBER {
+            return None;
+        }
+        end += 1;
+    }
+    None
+}
+
+// How many reference bases an operation covers.
+pub(crate) fn covered_by(operation: Operation) -> u64
+    ensures { result ≡ covered_by operation }
+{
+    if consumes_reference(operation.letter) {
+        operation.length
+    } else {
+        0
+    }
+}
+
+// Whether the operations of this letter consume reference bases.
+fn consumes_reference(letter: u8) -> bool
+    ensures { result ≡ consumes_reference letter }
+{
+    matches!(letter, b'M' | b'D' | b'N' | b'=' | b'X')
+}
+
+// Whether a byte is the letter of an operation.
+fn is_letter(byte: u8) -> bool
+    ensures { result ≡ is_letter byte }
+{
+    matches!(
+        byte,
+        b'M' | b'I' | b'D' | b'N' | b'S' | b'H' | b'P' | b'=' | b'X'
+    )
+}
+
+#[cfg(test)]
+mod tests {
+    use super::*;
+
+    #[test]
+    fn spans(rt: HostRuntime) {
+        let cases: [(&[u8], Option<u64>); 14] = [
+            (b"*", Some(0)),
+            (b"", None),
+            (b"M", None),
+            (b"5", None),
+            (b"5*", None),
+            (b"3S5M2I1D4N6=1X2H1P", Some(17)),
+            (b"999999999999M999999999999M", Some(1_000_000_000_000)),
+            (b"8M2I4M1D3M", Some(16)),
+            (b"0M", Some(0)),
+            (b"007M", Some(7)),
+            (b"1000000000000M", None),
+            (b"5Q", None),
+            (b"5M3", None),
+            (b"**", None),
+        ];
+        for (cigar, want) in cases {
+            assert_eq!(rt; cigar_span(cigar), want, "at {cigar:?}");
+        }
+    }
+}

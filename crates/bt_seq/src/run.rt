@@ -1,0 +1,45 @@
+//! Runs of operations without an N.
+
+ghost use Rattle.std.specs.Prelude.{◌≡◌, ◌++◌, ◌<◌, length};
+ghost use Rattle.bt_seq.specs.Blocks.{blocks_in, with_bases};
+ghost use Rattle.bt_seq.specs.Cigar.{operations_in};
+ghost use Rattle.bt_seq.specs.Room.{FitBehind};
+
+use crate::cigar::{covered_by, first_operation};
+
+// The letter of a region of the reference that the read skips.
+const SKIP: u8 = b'N';
+
+// Where the operations before the first N end on the reference, what stands behind the N, and from where
+// on that lies.
+#[derive(Clone, Copy, Debug)]
+pub(crate) struct Run<'a> {
+    pub(crate) stop: u64,
+    pub(crate) rest: &'a [u8],
+    pub(crate) next: u64,
+}
+
+// The first run of a text of operations that lie from `start` on.
+pub(crate) fn first_run(text: &[u8], start: u64) -> Run<'_>
+    requires { FitBehind start (operations_in text.now) }
+    ensures blocks { blocks_in start (operations_in text.now)
+        ≡ with_bases start result.stop ++ blocks_in result.next (operations_in result.rest.now) }
+    ensures fit { FitBehind result.next (operations_in result.rest.now) }
+    ensures shorter { 0 < length text.now → length result.rest.now < length text.now }
+{
+    let mut rest = text;
+    let mut stop = start;
+    while let Some((operation, behind)) = first_operation(rest) {
+        rest = behind;
+        if operation.letter == SKIP {
+            let next = stop + operation.length;
+            return Run { stop, rest, next };
+        }
+        stop += covered_by(operation);
+    }
+    Run {
+        stop,
+        rest,
+        next: stop,
+    }
+}

@@ -1,0 +1,118 @@
+//! What a line of a SAM file says.
+
+ghost use Rattle.std.specs.Prelude.{◌≡◌, Some};
+ghost use Rattle.bt_seq.specs.Alignment.{alignment_of, fields_say, gives_nothing, is_skipped, value_up_to};
+ghost use Rattle.bt_seq.specs.Flag.{has_bit};
+ghost use Rattle.bt_seq.specs.Sam.{alignment_seen, fields_lent};
+
+use crate::cigar::cigar_span;
+use crate::fields::{Fields, first_fields};
+use crate::sam::SamRef;
+use bt_lines::{Kind, MAX_NUMBER, number};
+
+// The greatest FLAG, POS and MAPQ.
+const MAX_FLAG: u64 = 65_535;
+
+const MAX_POSITION: u64 = 2_147_483_647;
+
+const MAX_QUALITY: u64 = 255;
+
+// The bits of FLAG that are looked at.
+const UNMAPPED: u64 = 4;
+
+const REVERSE: u64 = 16;
+
+const FIRST: u64 = 64;
+
+const LAST: u64 = 128;
+
+/// The alignment of a line's text (SAM specification, sections 1.3 and 1.4). There is none where the
+/// line is blank or a header line, which begins with `@`, and where the read is unmapped, has the
+/// reference name `*` or the position 0, or covers no reference base. `Err` tells the first that
+/// applies: fewer than eleven columns; a flag above 65,535 or no number; an empty reference name; a
+/// position above 2,147,483,647 or no number; a mapping quality above 255 or no number; a malformed
+/// CIGAR; and of an alignment that isn't left out, an end above 999,999,999,999. Leading zeros are
+/// allowed. No memory is taken, and the alignment borrows from the text.
+pub fn sam_line(text: &[u8]) -> Result<Option<SamRef<'_>>, Kind>
+    ensures { alignment_seen result ≡ alignment_of text.now }
+{
+    if is_skipped(text) {
+        return Ok(None);
+    }
+    match first_fields(text) {
+        None => Err(Kind::TooFewColumns),
+        Some(fields) => alignment(fields),
+    }
+}
+
+// Whether a line is blank or a header line.
+fn is_skipped(text: &[u8]) -> bool
+    ensures { result ≡ is_skipped text.now }
+{
+    matches!(text, [] | [b'@', ..])
+}
+
+// What the columns say.
+fn alignment(fields: Fields<'_>) -> Result<Option<SamRef<'_>>, Kind>
+    ensures { alignment_seen result ≡ fields_say (Some (fields_lent fields.entry)) }
+{
+    let Some(flag) = number_up_to(fields.flag, MAX_FLAG) else {
+        return Err(Kind::BadFlag);
+    };
+    if fields.chrom.is_empty() {
+        return Err(Kind::EmptyName);
+    }
+    let Some(position) = number_up_to(fields.position, MAX_POSITION) else {
+        return Err(Kind::BadPosition);
+    };
+    let Some(quality) = number_up_to(fields.quality, MAX_QUALITY) else {
+        return Err(Kind::BadQuality);
+    };
+    let Some(span) = cigar_span(fields.cigar) else {
+        return Err(Kind::BadCigar);
+    };
+    if gives_nothing(flag, fields.chrom, position, span) {
+        return Ok(None);
+    }
+    let start = position - 1;
+    let stop = start + span;
+    if stop > MAX_NUMBER {
+        return Err(Kind::StopTooLarge);
+    }
+    Ok(Some(SamRef {
+        name: fields.name,
+        first: has_bit(flag, FIRST),
+        last: has_bit(flag, LAST),
+        reverse: has_bit(flag, REVERSE),
+        chrom: fields.chrom,
+        start,
+        stop,
+        quality,
+        cigar: fields.cigar,
+    }))
+}
+
+// The number that a text denotes, where it is at most the limit.
+fn number_up_to(text: &[u8], limit: u64) -> Option<u64>
+    ensures { result ≡ value_up_to limit text.now }
+{
+    let value = number(text)?;
+    if value <= limit { Some(value) } else { None }
+}
+
+// Whether the read is unmapped, has no reference name or no position, or covers no reference base.
+fn gives_nothing(flag: u64, chrom: &[u8], position: u64, span: u64) -> bool
+    ensures { result ≡ gives_nothing flag chrom.now position span }
+{
+    has_bit(flag, UNMAPPED) || matches!(chrom, b"*") || position == 0 || span == 0
+}
+
+// Whether a bit of the flag is set.
+fn has_bit(flag: u64, bit: u64) -> bool
+    ensures { result ≡ has_bit flag bit }
+{
+    flag & bit != 0
+}
+
+#[cfg(test)]
+mod tests;

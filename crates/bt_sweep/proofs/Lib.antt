@@ -1,0 +1,14 @@
+pub mod DecidingLemmas
+pub mod FilterLemmas
+pub mod HitLemmas
+pub mod PlacedLemmas
+pub mod FirstLemmas
+pub mod SweepsLemmas
+pub mod WritingLemmas
+pub mod HeldLemmas
+pub mod StateLemmas
+pub mod HeldLines
+pub mod HoldLemmas
+pub mod StepLemmas
+pub mod PlainLemmas
+pub mod QuietLemmas

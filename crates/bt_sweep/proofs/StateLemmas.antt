@@ -1,0 +1,82 @@
+-- Lemmas on what a sweep keeps.
+use Rattle.std.proofs.Common.{◌≡◌, ℕ, inl, Bool, true, false, cond, List, [], ◌∷◌, ◌++◌, Option, Some, None, Result, Ok, Err, refl, sym, ap, ◌∙◌, subst, ltb, arith, filter, bytes_eq}
+use Rattle.std.specs.Prelude.{OnOk, OnErr}
+use Rattle.std.specs.Result.{is_err}
+use Rattle.std.proofs.lemmas.Bool.{false≢true, and_parts}
+use Rattle.std.proofs.lemmas.List.Elements.{All-filter, All-push}
+use Rattle.bt_lines.specs.Names.{told}
+use Rattle.bt_lines.specs.Output.{Output}
+use Rattle.bt_lines.specs.Putting.{Adds, FailsToAdd, Grown}
+use Rattle.bt_lines.specs.declared.fault.Fault.{Fault}
+use Rattle.bt_bed.specs.Feature.{Feature}
+use Rattle.bt_bed.proofs.NameLemmas.{same_name}
+use Rattle.bt_sweep.specs.Held.{AreOn, AreWith}
+use Rattle.bt_sweep.specs.Lines.{lines_for}
+use Rattle.bt_sweep.specs.Steps.{TakesA, WritesLast, held_with, is_held_by, moved_to}
+use Rattle.bt_sweep.specs.Sweeping.{Sweeping}
+
+same_some : (a x : Feature) → Some a ≡ Some x → a ≡ x
+same_some a x e = cc
+
+held_on : (last : Option Feature) (b x : Feature) → is_held_by last b ≡ true → last ≡ Some x → b.chrom ≡ x.chrom
+held_on None b x h e = absurd (false≢true h)
+held_on (Some a) b x h e = sym (same_name a.chrom b.chrom (and_parts (bytes_eq a.chrom b.chrom) (ltb a.start b.stop) h).0) ∙ ap (λ (f : Feature). f.chrom) (same_some a x e)
+
+-- a record that has to be held lies on the chromosome of the others
+pub added_with : (last : Option Feature) (b : Feature) (held : List Feature) → is_held_by last b ≡ true → AreWith last held → AreWith last (held ++ b ∷ [])
+added_with last b held h on = λ x e. All-push (λ f. f.chrom ≡ x.chrom) held b (on x e) (held_on last b x h e)
+
+none_on : (name : List ℕ) → AreOn name []
+none_on name = λ k d h. absurd (omega arith)
+
+kept_on : (c : Bool) (a : Feature) (name : List ℕ) (held : List Feature) → (c ≡ true → AreOn name held) → AreOn name (cond c (filter (λ b. ltb a.start b.stop) held) [])
+kept_on true a name held on = All-filter (λ b. ltb a.start b.stop) (λ f. f.chrom ≡ name) held (on refl)
+kept_on false a name held on = none_on name
+
+with_old : (last : Option Feature) (a : Feature) (held : List Feature) → AreWith last held → AreWith last (held_with last held a)
+with_old None a held on = λ x e. none_on x.chrom
+with_old (Some l) a held on = λ x e. kept_on (bytes_eq l.chrom a.chrom) a x.chrom held (λ t. on x e)
+
+with_new : (last : Option Feature) (a : Feature) (held : List Feature) → AreWith last held → AreOn a.chrom (held_with last held a)
+with_new None a held on = none_on a.chrom
+with_new (Some l) a held on = kept_on (bytes_eq l.chrom a.chrom) a a.chrom held (λ t. subst (λ (n : List ℕ). AreOn n held) (same_name l.chrom a.chrom t) (on l refl))
+
+-- what is held once a is given lies on the chromosome of the last record, whether a became that or not
+pub moved_with : {T E : Type 0} (r : Result T E) (old new : Option Feature) (held left : List Feature) (a : Feature) → AreWith old held → left ≡ held_with old held a → OnOk r (new ≡ Some a) → OnErr r (new ≡ old) → AreWith new left
+moved_with (Ok done) old new held left a on is now before =
+    λ x e. subst (λ (l : List Feature). AreOn x.chrom l) (sym is)
+    (subst (λ (f : Feature). AreOn f.chrom (held_with old held a)) (same_some a x (sym now ∙ e)) (with_new old a held on))
+moved_with (Err f) old new held left a on is now before =
+    λ x e. subst (λ (l : List Feature). AreOn x.chrom l) (sym is) (with_old old a held on x (sym before ∙ e))
+
+pub on_ok_of : {T E : Type 0} {P : Type 0} (r : Result T E) → is_err r ≡ false → OnOk r P → P
+on_ok_of (Ok done) e h = h
+on_ok_of (Err f) e h = absurd (false≢true (sym e))
+
+-- the lines of the last record were written
+pub writes_last : {A : Type 0} (r : Result A Fault) (inside now : Sweeping) (a : Feature) (out grown : Output) → inside ≡ now → is_err r ≡ false → Adds out (lines_for inside.shape a inside.held) r grown → WritesLast now a out r (record inside { waits = false }) grown
+writes_last (Ok done) inside now a out grown e ok adds =
+    (ap (λ (s : Sweeping). record s { waits = false }) e, subst (λ (s : Sweeping). Grown out (lines_for s.shape a s.held) grown) e adds)
+writes_last (Err f) inside now a out grown e ok adds = absurd (false≢true (sym ok))
+
+-- they couldn't be
+pub stops_last : {A : Type 0} (r : Result A Fault) (inside now : Sweeping) (a : Feature) (out grown : Output) → inside ≡ now → is_err r ≡ true → Adds out (lines_for inside.shape a inside.held) r grown → WritesLast now a out r (record inside { waits = false; done = true }) grown
+stops_last (Ok done) inside now a out grown e bad adds = absurd (false≢true bad)
+stops_last (Err f) inside now a out grown e bad adds = (refl, subst (λ (s : Sweeping). FailsToAdd out (lines_for s.shape a s.held) (told f) grown) e adds)
+
+takes_by : {A : Type 0} (r : Result A Fault) (now new : Sweeping) (a : Feature) (out grown : Output) → now.b_ended ≡ true → WritesLast (moved_to now a) a out r new grown → TakesA now a out r new grown
+takes_by (Ok done) now new a out grown e writes = (
+  writes.0 ∙ ap (λ (b : Bool). record (moved_to now a) { waits = cond b false true }) (sym e),
+  subst (λ (b : Bool). Grown out (cond b (lines_for now.shape a (held_with now.last now.held a)) []) grown) (sym e) writes.1,
+)
+takes_by (Err f) now new a out grown e writes = (
+  writes.0,
+  inl (subst (λ (b : Bool). FailsToAdd out (cond b (lines_for now.shape a (held_with now.last now.held a)) []) (told f) grown) (sym e) writes.1),
+)
+
+-- a record of the first input was taken, where the second has ended
+pub takes_now : {A : Type 0} (r : Result A Fault) (now mid new : Sweeping) (a : Feature) (out grown : Output) → mid ≡ moved_to now a → mid.b_ended ≡ true
+    → ((x : Feature) → mid.last ≡ Some x → WritesLast mid x out r new grown) → TakesA now a out r new grown
+takes_now r now mid new a out grown e ended writes =
+    takes_by r now new a out grown (ap (λ (s : Sweeping). s.b_ended) (sym e) ∙ ended)
+    (subst (λ (s : Sweeping). WritesLast s a out r new grown) e (writes a (ap (λ (s : Sweeping). s.last) e)))

@@ -1,0 +1,176 @@
+-- Lemmas on the steps of a sweep.
+use Rattle.std.proofs.Common.{◌≡◌, ◌⊎◌, inl, inr, ℕ, Bool, true, false, cond, List, [], ◌∷◌, ◌++◌, Option, Some, None, Result, Ok, Err, refl, sym, ap, ◌∙◌, subst, filter, append-nil, option_to_list}
+use Rattle.std.specs.Prelude.{IsTrue, is_some}
+use Rattle.bt_lines.specs.Names.{told}
+use Rattle.bt_lines.specs.Output.{Output}
+use Rattle.bt_lines.specs.Putting.{FailsToAdd, Grown}
+use Rattle.bt_lines.specs.declared.fault.Fault.{Fault}
+use Rattle.bt_bed.specs.Feature.{Feature, intervals_of}
+use Rattle.bt_bed.specs.Locus.{ArePlaced}
+use Rattle.bt_bed.specs.Order.{Order, IsTotal}
+use Rattle.bt_sweep.specs.Deciding.{decides}
+use Rattle.bt_sweep.specs.Lines.{lines_for}
+use Rattle.bt_sweep.specs.Standing.{Stage, given, is_held, held_for, HoldsFor, StandsAt, IsInOrder, last_given, with_a, with_b, with_lines, with_b_ended}
+use Rattle.bt_sweep.specs.Steps.{EndsB, Fails, FailsToHold, FailsToWriteA, GivesA, Holds, TakesA, TakesB, WritesA, WritesLast, held_with, holding, is_held_by, lines_with, moved_to}
+use Rattle.bt_sweep.specs.Sweeping.{Sweeping, want_in, want_of}
+use Rattle.bt_sweep.specs.declared.shape.Shape.{Shape}
+use Rattle.bt_sweep.specs.declared.want.Want.TheVariants.{A, B, Nothing}
+use Rattle.bt_sweep.proofs.HeldLines.{held_lines}
+use Rattle.bt_sweep.proofs.HitLemmas.{before_lines}
+use Rattle.bt_sweep.proofs.HoldLemmas.{holds_a, holds_b, held_next}
+use Rattle.bt_sweep.proofs.PlacedLemmas.{last_given-push}
+
+-- a stage by its parts
+abbrev pub stage_of : List Feature → Option Feature → List Feature → Bool → Bool → Stage
+stage_of written waiting taken a_ended b_ended = record { written = written; waiting = waiting; taken = taken; a_ended = a_ended; b_ended = b_ended }
+
+-- where a record waits, the first input isn't asked for
+wants_a : {X : Type 0} (sweep : Sweeping) (x : Feature) → sweep.waits ≡ is_some (Some x) → want_in sweep ≡ A → X
+wants_a sweep x e wants =
+    let h : want_of true sweep.done ≡ A = ap (λ (w : Bool). want_of w sweep.done) (sym e) ∙ wants in
+    absurd (let apart : B ≡ A = h in cc)
+
+takes_at : {T : Type 0} (t : T) (sweep new : Sweeping) (a : Feature) (out grown : Output) (b : Bool) → sweep.b_ended ≡ b → TakesA {A = T} sweep a out (Ok t) new grown
+    → (new ≡ record (moved_to sweep a) { waits = cond b false true }) × Grown out (cond b (lines_for sweep.shape a (held_with sweep.last sweep.held a)) []) grown
+takes_at t sweep new a out grown b e takes = subst (λ (b : Bool). (new ≡ record (moved_to sweep a) { waits = cond b false true }) × Grown out (cond b (lines_for sweep.shape a (held_with sweep.last sweep.held a)) []) grown) e takes
+
+module _ (order : Order) (shape : Shape) (written taken : List Feature) (ended : Bool) (sweep : Sweeping) (a : Feature) (total : IsTotal order) where
+  lines_next : ArePlaced order (intervals_of (written ++ a ∷ [])) → sweep.shape ≡ shape → sweep.last ≡ last_given written → HoldsFor order written taken sweep.held
+      → lines_for sweep.shape a (held_with sweep.last sweep.held a) ≡ lines_for shape a taken
+  lines_next placed same last holds =
+      ap (λ (s : Shape). lines_for s a (held_with sweep.last sweep.held a)) same
+      ∙ ap (λ (l : Option Feature). lines_for shape a (held_with l sweep.held a)) last
+      ∙ ap (lines_for shape a) (held_next order written taken sweep.held a total placed holds) ∙ held_lines shape a taken
+
+  holds_next : ArePlaced order (intervals_of (written ++ a ∷ [])) → sweep.last ≡ last_given written → HoldsFor order written taken sweep.held
+      → HoldsFor order (written ++ a ∷ []) taken (held_with sweep.last sweep.held a)
+  holds_next placed last holds =
+      subst (λ (l : Option Feature). HoldsFor order (written ++ a ∷ []) taken (held_with l sweep.held a)) (sym last) (holds_a order written taken sweep.held a total placed holds)
+
+  -- with one more record of the first input
+  pub goes_a : {T : Type 0} (t : T) (b : Bool) (w : Option Feature) (new : Sweeping) (out grown : Output) → StandsAt order shape (stage_of written w taken ended b) sweep → want_in sweep ≡ A
+      → IsInOrder order (with_a (stage_of written w taken ended b) a) → TakesA {A = T} sweep a out (Ok t) new grown
+      → StandsAt order shape (with_a (stage_of written w taken ended b) a) new × Grown out (lines_with shape (stage_of written w taken ended b) a) grown
+  goes_a t b (Some x) new out grown stands wants ordered takes = wants_a sweep x stands.waits wants
+  goes_a t true None new out grown stands wants ordered takes =
+      let both = takes_at t sweep new a out grown true stands.b_ended takes in
+      let holds = subst (λ (gs : List Feature). HoldsFor order gs taken sweep.held) (append-nil written) stands.holds in
+      let last = stands.last_is ∙ ap last_given (append-nil written) in
+      let placed = subst (λ (gs : List Feature). ArePlaced order (intervals_of gs)) (append-nil (written ++ a ∷ [])) ordered.first in
+      let next : StandsAt order shape (stage_of (written ++ a ∷ []) None taken ended true) (moved_to sweep a) = record {
+        shape_is = stands.shape_is;
+        last_is = sym (ap last_given (append-nil (written ++ a ∷ [])) ∙ last_given-push written a);
+        waits = refl;
+        done = stands.done;
+        b_ended = stands.b_ended;
+        holds = subst (λ (gs : List Feature). HoldsFor order gs taken (held_with sweep.last sweep.held a)) (sym (append-nil (written ++ a ∷ []))) (holds_next placed last holds);
+      } in (
+        subst (StandsAt order shape (stage_of (written ++ a ∷ []) None taken ended true)) (sym both.0) next,
+        subst (λ (l : List ℕ). Grown out l grown) (lines_next placed stands.shape_is last holds) both.1,
+      )
+  goes_a t false None new out grown stands wants ordered takes =
+      let both = takes_at t sweep new a out grown false stands.b_ended takes in
+      let holds = subst (λ (gs : List Feature). HoldsFor order gs taken sweep.held) (append-nil written) stands.holds in
+      let last = stands.last_is ∙ ap last_given (append-nil written) in
+      let next : StandsAt order shape (stage_of written (Some a) taken ended false) (record (moved_to sweep a) { waits = true }) = record {
+        shape_is = stands.shape_is;
+        last_is = sym (last_given-push written a);
+        waits = refl;
+        done = stands.done;
+        b_ended = stands.b_ended;
+        holds = holds_next ordered.first last holds;
+      } in
+      (subst (StandsAt order shape (stage_of written (Some a) taken ended false)) (sym both.0) next, both.1)
+
+  -- the lines that are written at once
+  lines_are : (b : Bool) (w : Option Feature) → StandsAt order shape (stage_of written w taken ended b) sweep → want_in sweep ≡ A
+      → IsInOrder order (with_a (stage_of written w taken ended b) a)
+      → cond sweep.b_ended (lines_for sweep.shape a (held_with sweep.last sweep.held a)) [] ≡ lines_with shape (stage_of written w taken ended b) a
+  lines_are b (Some x) stands wants ordered = wants_a sweep x stands.waits wants
+  lines_are true None stands wants ordered =
+      let holds = subst (λ (gs : List Feature). HoldsFor order gs taken sweep.held) (append-nil written) stands.holds in
+      let last = stands.last_is ∙ ap last_given (append-nil written) in
+      let placed = subst (λ (gs : List Feature). ArePlaced order (intervals_of gs)) (append-nil (written ++ a ∷ [])) ordered.first in
+      ap (λ (c : Bool). cond c (lines_for sweep.shape a (held_with sweep.last sweep.held a)) []) stands.b_ended ∙ lines_next placed stands.shape_is last holds
+  lines_are false None stands wants ordered = ap (λ (c : Bool). cond c (lines_for sweep.shape a (held_with sweep.last sweep.held a)) []) stands.b_ended
+
+  pub gives_a : {T : Type 0} (r : Result T Fault) (b : Bool) (w : Option Feature) (new : Sweeping) (out grown : Output) → StandsAt order shape (stage_of written w taken ended b) sweep → want_in sweep ≡ A
+      → IsInOrder order (with_a (stage_of written w taken ended b) a) → TakesA sweep a out r new grown → GivesA order shape (stage_of written w taken ended b) a out r new grown
+  gives_a (Ok t) b w new out grown stands wants ordered takes = goes_a t b w new out grown stands wants ordered takes
+  gives_a (Err f) b w new out grown stands wants ordered takes =
+      (takes.0, subst (λ (l : List ℕ). Fails out l (told f) grown) (lines_are b w stands wants ordered) takes.1)
+
+module _ (order : Order) (shape : Shape) (stage : Stage) (a : Feature) (e : stage.waiting ≡ Some a) (sweep : Sweeping) (stands : StandsAt order shape stage sweep) where
+  given_is : given stage ≡ stage.written ++ a ∷ []
+  given_is = ap (λ (o : Option Feature). stage.written ++ option_to_list o) e
+
+  -- the record that waits was given last
+  pub last_waits : sweep.last ≡ Some a
+  last_waits = stands.last_is ∙ ap last_given given_is ∙ last_given-push stage.written a
+
+  pub waiting_lines : lines_for sweep.shape a sweep.held ≡ lines_for shape a stage.taken
+  waiting_lines =
+      ap (λ (s : Shape). lines_for s a sweep.held) stands.shape_is
+      ∙ ap (lines_for shape a) (stands.holds.held_is ∙ ap (λ (gs : List Feature). held_for (last_given gs) stage.taken) given_is ∙ ap (λ (o : Option Feature). held_for o stage.taken) (last_given-push stage.written a))
+      ∙ held_lines shape a stage.taken
+
+  stands_written : StandsAt order shape (with_lines stage) (record sweep { waits = false })
+  stands_written = record {
+    shape_is = stands.shape_is;
+    last_is = stands.last_is ∙ ap last_given (sym (append-nil (given stage)));
+    waits = refl;
+    done = stands.done;
+    b_ended = stands.b_ended;
+    holds = subst (λ (gs : List Feature). HoldsFor order gs stage.taken sweep.held) (sym (append-nil (given stage))) stands.holds;
+  }
+
+  stands_ended : StandsAt order shape (with_b_ended stage) (record sweep { waits = false; b_ended = true })
+  stands_ended = record {
+    shape_is = stands.shape_is;
+    last_is = stands.last_is ∙ ap last_given (sym (append-nil (given stage)));
+    waits = refl;
+    done = stands.done;
+    b_ended = refl;
+    holds = subst (λ (gs : List Feature). HoldsFor order gs stage.taken sweep.held) (sym (append-nil (given stage))) stands.holds;
+  }
+
+  -- the record of the second input decides the one that waits
+  pub writes_a : {T : Type 0} (t : T) (b : Feature) (new : Sweeping) (out grown : Output) → IsTotal order → IsTrue (order.knows a.chrom) → decides order a b ≡ true → WritesLast {A = T} sweep a out (Ok t) new grown → WritesA order shape stage a b out new grown
+  writes_a t b new out grown total known told_so writes = record {
+    decides = told_so;
+    stands = subst (StandsAt order shape (with_lines stage)) (sym writes.0) stands_written;
+    puts = subst (λ (l : List ℕ). Grown out l grown) waiting_lines writes.1;
+    settled = before_lines order shape a b stage.taken total known told_so;
+  }
+
+  pub cuts_a : (T : Type 0) (f : Fault) (b : Feature) (new : Sweeping) (out grown : Output) → decides order a b ≡ true → WritesLast {A = T} sweep a out (Err f) new grown
+      → (want_in new ≡ Nothing) × (FailsToWriteA order shape stage a b out (told f) grown ⊎ FailsToHold order shape stage a b out (told f) grown)
+  cuts_a T f b new out grown told_so writes =
+      (writes.0, inl (record { decides = told_so; fails = subst (λ (l : List ℕ). FailsToAdd out l (told f) grown) waiting_lines writes.1 }))
+
+  -- it leaves it undecided, and is taken
+  pub takes_b : {T : Type 0} (t : T) (b : Feature) (new : Sweeping) (out : Output) → decides order a b ≡ false → Holds {A = T} sweep b (Ok t) new → TakesB order shape stage a b out new out
+  takes_b t b new out undecided holds =
+      let kept : sweep.held ++ filter (is_held_by sweep.last) (b ∷ []) ≡ sweep.held ++ filter (is_held a) (b ∷ []) = ap (λ (l : Option Feature). sweep.held ++ filter (is_held_by l) (b ∷ [])) last_waits in
+      let next : StandsAt order shape (with_b stage b) (holding sweep b) = record {
+        shape_is = stands.shape_is;
+        last_is = stands.last_is;
+        waits = stands.waits;
+        done = stands.done;
+        b_ended = stands.b_ended;
+        holds = subst (λ (gs : List Feature). HoldsFor order gs (stage.taken ++ b ∷ []) (sweep.held ++ filter (is_held_by sweep.last) (b ∷ []))) (sym given_is)
+            (subst (λ (h : List Feature). HoldsFor order (stage.written ++ a ∷ []) (stage.taken ++ b ∷ []) h) (sym kept)
+            (holds_b order stage.written stage.taken sweep.held a b (subst (λ (gs : List Feature). HoldsFor order gs stage.taken sweep.held) given_is stands.holds) undecided));
+      } in
+      record { undecided = undecided; stands = subst (StandsAt order shape (with_b stage b)) (sym holds) next; same_output = refl }
+
+  pub stops_b : (T : Type 0) (f : Fault) (b : Feature) (new : Sweeping) (out : Output) → decides order a b ≡ false → Holds {A = T} sweep b (Err f) new
+      → (want_in new ≡ Nothing) × (FailsToWriteA order shape stage a b out (told f) out ⊎ FailsToHold order shape stage a b out (told f) out)
+  stops_b T f b new out undecided holds =
+      (holds.0, inr (record { undecided = undecided; to_hold = ap (λ (l : Option Feature). is_held_by l b) (sym last_waits) ∙ holds.2; is = holds.1; same_output = refl }))
+
+  -- the second input has ended
+  pub ends_b : {T : Type 0} (r : Result T Fault) (new : Sweeping) (out grown : Output) → WritesLast (record sweep { b_ended = true }) a out r new grown → EndsB order shape stage a out r new grown
+  ends_b (Ok t) new out grown writes =
+      (subst (StandsAt order shape (with_b_ended stage)) (sym writes.0) stands_ended, subst (λ (l : List ℕ). Grown out l grown) waiting_lines writes.1)
+  ends_b (Err f) new out grown writes = (writes.0, subst (λ (l : List ℕ). FailsToAdd out l (told f) grown) waiting_lines writes.1)

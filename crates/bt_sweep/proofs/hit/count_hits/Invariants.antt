@@ -1,0 +1,10 @@
+use Rattle.std.proofs.Common.{◌≡◌, ◌≤◌, length, take}
+use Rattle.bt_bed.specs.Bed.{feature_lent}
+use Rattle.bt_sweep.specs.Hits.{hits_among}
+use Rattle.bt_sweep.proofs.hit.count_hits.Given as goal
+
+abbrev pub invariant-loop-index : goal.invariant-loop-index
+invariant-loop-index g l = record {
+  counted : l.count ≡ length (hits_among (feature_lent l.a) (take l.index (g.H.Held.records l.held)));
+  few : l.count ≤ l.index;
+}

@@ -1,0 +1,5 @@
+use Rattle.bt_sweep.proofs.SweepsLemmas.{faultless_all}
+use Rattle.bt_sweep.proofs.laws.faultless_inputs_give_all_pairs.Goals as goal
+
+pub returns : goal.returns
+returns c = faultless_all

@@ -1,0 +1,16 @@
+use Rattle.std.proofs.Common.{◌≡◌, ℕ, [], ◌∷◌, subst, decimal}
+use Rattle.bt_lines.specs.Putting.{Puts}
+use Rattle.bt_bed.specs.Bed.{feature_lent}
+use Rattle.bt_bed.specs.Record.{bed_text}
+use Rattle.bt_sweep.specs.Hits.{shared_bases}
+use Rattle.bt_sweep.specs.Lines.{line_with}
+use Rattle.bt_sweep.proofs.WritingLemmas.{hit_shares, line_adds}
+use Rattle.bt_sweep.proofs.writing.put_hit.Goals as goal
+
+pub returns-in-Overlap : goal.returns-in-Overlap
+returns-in-Overlap g c =
+    let a = feature_lent c.args.a.now in
+    let b = feature_lent c.args.b.now in
+    let size : c.saturating_sub.result ≡ shared_bases a b = cc (c.saturating_sub.ensures, c.min-stop.ensures, c.max-start.ensures, hit_shares a b c.requires) in
+    rw c.in-Overlap.is (line_adds (bed_text a ∷ bed_text b ∷ decimal (shared_bases a b) ∷ []) _ _ c.put_overlap.result
+    (subst (λ (n : ℕ). Puts c.args.out.now (line_with (bed_text a ∷ bed_text b ∷ decimal n ∷ [])) c.put_overlap.result c.put_overlap.new.out) size c.put_overlap.ensures))

@@ -1,0 +1,10 @@
+use Rattle.std.proofs.Common.{flat_map, take}
+use Rattle.bt_lines.specs.Putting.{Grown}
+use Rattle.bt_bed.specs.Bed.{feature_lent}
+use Rattle.bt_sweep.specs.Hits.{hits_among}
+use Rattle.bt_sweep.specs.Lines.{hit_line}
+use Rattle.bt_sweep.proofs.writing.put_hits.Given as goal
+
+-- the lines of those so far were put
+abbrev pub invariant-loop-index : goal.invariant-loop-index
+invariant-loop-index g l = Grown l.fn.out (flat_map (hit_line l.shape (feature_lent l.a)) (hits_among (feature_lent l.a) (take l.index (g.H.Held.records l.held)))) l.out

@@ -1,0 +1,10 @@
+pub mod Deciding
+pub mod Hits
+pub mod Lines
+pub mod Sweeps
+pub mod Sweeping
+pub mod Standing
+pub mod Steps
+pub mod Held
+pub mod HeldList
+pub mod Sweep

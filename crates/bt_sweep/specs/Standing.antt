@@ -1,0 +1,105 @@
+-- Where a sweep stands: after which records of both inputs.
+use Rattle.std.specs.Prelude.{◌≡◌, Bool, true, false, not, ◌&&◌, IsTrue, cond, List, [], ◌∷◌, ◌++◌, filter, nat_lt, bytes_eq, Option, Some, None, is_some, option_to_list}
+use Rattle.std.specs.List.{list_any, list_all, take_while}
+use Rattle.bt_bed.specs.Feature.{Feature, intervals_of}
+use Rattle.bt_bed.specs.Locus.{ArePlaced}
+use Rattle.bt_bed.specs.Order.{Order, IsTotal}
+use Rattle.bt_sweep.specs.Deciding.{decides, decided}
+use Rattle.bt_sweep.specs.Sweeping.{Sweeping, want_of}
+use Rattle.bt_sweep.specs.declared.shape.Shape.{Shape}
+use Rattle.bt_sweep.specs.declared.want.Want.{Want}
+
+-- how far a sweep has come: the records of the first input whose lines are written, the one whose
+-- lines aren't, the records of the second input that were taken, and whether each input has ended
+pub record Stage : Type 0 where
+  pub written : List Feature
+  pub waiting : Option Feature
+  pub taken : List Feature
+  pub a_ended : Bool
+  pub b_ended : Bool
+
+-- at the start
+abbrev pub first_stage : Stage
+first_stage = record { written = []; waiting = None; taken = []; a_ended = false; b_ended = false }
+
+-- all records of the first input that were given
+abbrev pub given : Stage → List Feature
+given stage = stage.written ++ option_to_list stage.waiting
+
+-- what is asked for
+abbrev pub want_at : Stage → Want
+want_at stage = want_of (is_some stage.waiting) stage.a_ended
+
+-- the records of both inputs are in order
+pub record IsInOrder (order : Order) (stage : Stage) : Type 0 where
+  pub first : ArePlaced order (intervals_of (given stage))
+  pub second : ArePlaced order (intervals_of stage.taken)
+
+-- the last of the record and those after it
+abbrev pub last_after : Feature → List Feature → Feature
+last_after a [] = a
+last_after a (next ∷ more) = last_after next more
+
+-- the record that was given last, if one was
+abbrev pub last_given : List Feature → Option Feature
+last_given [] = None
+last_given (a ∷ more) = Some (last_after a more)
+
+-- whether a or a later record of the first input can be hit by b, as far as a tells: it lies on the
+-- chromosome of a, and ends above its start
+abbrev pub is_held : Feature → Feature → Bool
+is_held a b = bytes_eq a.chrom b.chrom && nat_lt a.start b.stop
+
+-- what is held, by the record of the first input that was given last
+abbrev pub held_for : Option Feature → List Feature → List Feature
+held_for None taken = []
+held_for (Some a) taken = filter (is_held a) taken
+
+-- whether b leaves one of the given records undecided
+abbrev pub leaves_some : Order → List Feature → Feature → Bool
+leaves_some order as_given b = list_any (λ a. not (decides order a b)) as_given
+
+-- What is held after these records of both inputs. Each of those that were taken left one of the given
+-- undecided.
+pub record HoldsFor (order : Order) (as_given taken held : List Feature) : Type 0 where
+  pub held_is : held ≡ held_for (last_given as_given) taken
+  pub reached : IsTrue (list_all (leaves_some order as_given) taken)
+
+-- the sweep stands there
+pub record StandsAt (order : Order) (shape : Shape) (stage : Stage) (sweep : Sweeping) : Type 0 where
+  pub shape_is : sweep.shape ≡ shape
+  pub last_is : sweep.last ≡ last_given (given stage)
+  pub waits : sweep.waits ≡ is_some stage.waiting
+  pub done : sweep.done ≡ stage.a_ended
+  pub b_ended : sweep.b_ended ≡ stage.b_ended
+  pub holds : HoldsFor order (given stage) stage.taken sweep.held
+
+-- the stage with one more record of the first input: its lines are written at once where the second
+-- input has ended
+abbrev pub with_a : Stage → Feature → Stage
+with_a stage a = cond stage.b_ended
+    (record stage { written = stage.written ++ a ∷ [] }) (record stage { waiting = Some a })
+
+-- the stage with one more record of the second input
+abbrev pub with_b : Stage → Feature → Stage
+with_b stage b = record stage { taken = stage.taken ++ b ∷ [] }
+
+-- the stage with the lines of the waiting record written
+abbrev pub with_lines : Stage → Stage
+with_lines stage = record stage { written = given stage; waiting = None }
+
+-- the stage after the end of the first input, and after that of the second
+abbrev pub with_a_ended : Stage → Stage
+with_a_ended stage = record stage { a_ended = true }
+
+abbrev pub with_b_ended : Stage → Stage
+with_b_ended stage = record (with_lines stage) { b_ended = true }
+
+-- Where each record taken leaves one of the given undecided, and the next one with those decides all,
+-- the records taken are those before the first that decides all.
+abbrev pub taken_are_first : Type 0
+taken_are_first = (order : Order) (as_given taken more : List Feature) (next : Feature) → IsTotal order
+    → ArePlaced order (intervals_of as_given) → ArePlaced order (intervals_of (taken ++ next ∷ more))
+    → IsTrue (list_all (leaves_some order as_given) taken)
+    → IsTrue (list_all (λ a. decided order a (taken ++ next ∷ [])) as_given)
+    → take_while (leaves_some order as_given) (taken ++ next ∷ more) ≡ taken

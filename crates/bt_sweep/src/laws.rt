@@ -1,0 +1,36 @@
+//! The laws of the definitions, each as the contract of a function that does nothing.
+
+ghost use Rattle.bt_sweep.specs.Deciding.{decided_stays};
+ghost use Rattle.bt_sweep.specs.Lines.{lines_are_before, lines_stay};
+ghost use Rattle.bt_sweep.specs.Standing.{taken_are_first};
+ghost use Rattle.bt_sweep.specs.Steps.{quiet_are_taken};
+ghost use Rattle.bt_sweep.specs.Sweeps.{faultless_are_all, written_are_a_front};
+
+/// What is decided stays decided, and its lines stay as they are, whatever comes after in order: the
+/// record that decides it included.
+pub fn decided_lines_stay()
+    ensures decided { decided_stays }
+    ensures lines { lines_stay }
+    ensures before { lines_are_before }
+{}
+
+/// Where the second input has no fault, what is written is what all pairs give.
+pub fn faultless_inputs_give_all_pairs()
+    ensures { faultless_are_all }
+{}
+
+/// What is written after a front of both inputs is a front of what is written for the whole.
+pub fn fronts_write_fronts()
+    ensures { written_are_a_front }
+{}
+
+/// The records that were taken are those before the first that decides all that was given.
+pub fn taken_records_come_first()
+    ensures { taken_are_first }
+{}
+
+/// A record of the second input that neither decides the current record of the first nor has to be
+/// held is taken, so it needs no memory, and nothing is written.
+pub fn quiet_records_are_taken()
+    ensures { quiet_are_taken }
+{}

@@ -1,0 +1,171 @@
+//! Intersect by comparing all pairs of records: slow, and plainly what the definition says. Tests
+//! compare the sweep with it.
+
+ghost use Rattle.std.specs.Prelude.{◌≡◌, ◌∷◌, ◌++◌, [], OnOk, IfOk, decimal, filter, flat_map, length};
+ghost use Rattle.bt_bed.specs.Bed.{feature_lent};
+ghost use Rattle.bt_bed.specs.Record.{bed_text, cut_to};
+ghost use Rattle.bt_sweep.specs.Hits.{hits_among, shared_bases};
+ghost use Rattle.bt_sweep.specs.Lines.{hit_line, intersect, line_with, lines_for};
+
+use crate::shape::Shape;
+use bt_bed::{BedRef, Rec, write_bed, write_cut};
+use itoa::Buffer;
+use std::alloc::{AllocError, Global};
+
+/// What intersect writes of two lists of records, which may come in any order.
+pub fn plain_intersect(
+    alloc: Global,
+    shape: Shape,
+    first: &[Rec],
+    second: &[Rec],
+) -> Result<Vec<u8>, AllocError>
+    ensures { IfOk result (λ v. v.items ≡ intersect shape first.now second.now) }
+{
+    let mut text = Vec::new(alloc);
+    for a in first {
+        write_lines(shape, a, second, &mut text)?;
+    }
+    Ok(text)
+}
+
+// Adds what is written of a record against these.
+fn write_lines(shape: Shape, a: &Rec, second: &[Rec], text: &mut Vec<u8>) -> Result<(), AllocError>
+    ensures { OnOk result (text.new.items ≡ text.old.items ++ lines_for shape a.now second.now) }
+{
+    let count = count_hits(a, second);
+    let a = a.as_bed();
+    match shape {
+        Shape::Once if count == 0 => Ok(()),
+        Shape::Once => write_line(&a, a.start, a.stop, text),
+        Shape::Missing if count == 0 => write_line(&a, a.start, a.stop, text),
+        Shape::Missing => Ok(()),
+        Shape::Count => write_counted(&a, count as u64, text),
+        Shape::Cut | Shape::OrigA | Shape::CutAndB | Shape::OrigBoth | Shape::Overlap => {
+            write_hits(shape, &a, second, text)
+        }
+    }
+}
+
+// How many of these records share a base with the record.
+fn count_hits(a: &Rec, second: &[Rec]) -> usize
+    ensures { result ≡ length (hits_among a.now second.now) }
+{
+    second
+        .iter()
+        .filter(|b| shared(&a.as_bed(), &b.as_bed()) > 0)
+        .count()
+}
+
+// How many bases two records have in common.
+fn shared(a: &BedRef<'_>, b: &BedRef<'_>) -> u64
+    ensures { result ≡ shared_bases (feature_lent a.now) (feature_lent b.now) }
+{
+    if a.chrom == b.chrom {
+        a.stop.min(b.stop).saturating_sub(a.start.max(b.start))
+    } else {
+        0
+    }
+}
+
+// Adds a line for each of these records that shares a base with the record.
+fn write_hits(
+    shape: Shape,
+    a: &BedRef<'_>,
+    second: &[Rec],
+    text: &mut Vec<u8>,
+) -> Result<(), AllocError>
+    ensures { OnOk result (text.new.items ≡ text.old.items
+        ++ flat_map (hit_line shape (feature_lent a.now)) (hits_among (feature_lent a.now) second.now)) }
+{
+    for b in second {
+        let b = b.as_bed();
+        if shared(a, &b) > 0 {
+            write_hit(shape, a, &b, text)?;
+        }
+    }
+    Ok(())
+}
+
+// Adds the line of two records that share a base, in a shape that has one for each.
+fn write_hit(
+    shape: Shape,
+    a: &BedRef<'_>,
+    b: &BedRef<'_>,
+    text: &mut Vec<u8>,
+) -> Result<(), AllocError>
+    ensures { OnOk result (text.new.items
+        ≡ text.old.items ++ hit_line shape (feature_lent a.now) (feature_lent b.now)) }
+{
+    let start = a.start.max(b.start);
+    let stop = a.stop.min(b.stop);
+    match shape {
+        Shape::Cut => write_line(a, start, stop, text),
+        Shape::OrigA => write_line(a, a.start, a.stop, text),
+        Shape::CutAndB => write_pair(a, start, stop, b, text),
+        Shape::OrigBoth => write_pair(a, a.start, a.stop, b, text),
+        Shape::Overlap => write_overlap(a, b, shared(a, b), text),
+        Shape::Once | Shape::Missing | Shape::Count => Ok(()),
+    }
+}
+
+// Adds the line of a part of a record.
+fn write_line(a: &BedRef<'_>, start: u64, stop: u64, text: &mut Vec<u8>) -> Result<(), AllocError>
+    ensures { OnOk result (text.new.items
+        ≡ text.old.items ++ line_with (bed_text (cut_to start stop (feature_lent a.now)) ∷ [])) }
+{
+    write_cut(a, start, stop, text)?;
+    text.extend_from_slice(b"\n")
+}
+
+// Adds the line of a part of a record and of another record.
+fn write_pair(
+    a: &BedRef<'_>,
+    start: u64,
+    stop: u64,
+    b: &BedRef<'_>,
+    text: &mut Vec<u8>,
+) -> Result<(), AllocError>
+    ensures { OnOk result (text.new.items ≡ text.old.items
+        ++ line_with (bed_text (cut_to start stop (feature_lent a.now)) ∷ bed_text (feature_lent b.now) ∷ [])) }
+{
+    write_cut(a, start, stop, text)?;
+    text.extend_from_slice(b"\t")?;
+    write_line(b, b.start, b.stop, text)
+}
+
+// Adds the line of two records and a number.
+fn write_overlap(
+    a: &BedRef<'_>,
+    b: &BedRef<'_>,
+    count: u64,
+    text: &mut Vec<u8>,
+) -> Result<(), AllocError>
+    ensures { OnOk result (text.new.items ≡ text.old.items ++ line_with (bed_text (feature_lent a.now)
+        ∷ bed_text (feature_lent b.now) ∷ decimal count ∷ [])) }
+{
+    write_bed(a, text)?;
+    text.extend_from_slice(b"\t")?;
+    write_counted(b, count, text)
+}
+
+// Adds the line of a record and a number.
+fn write_counted(a: &BedRef<'_>, count: u64, text: &mut Vec<u8>) -> Result<(), AllocError>
+    ensures { OnOk result (text.new.items ≡ text.old.items
+        ++ line_with (bed_text (feature_lent a.now) ∷ decimal count ∷ [])) }
+{
+    write_bed(a, text)?;
+    text.extend_from_slice(b"\t")?;
+    write_number(count, text)
+}
+
+// Adds a number and a line feed.
+fn write_number(number: u64, text: &mut Vec<u8>) -> Result<(), AllocError>
+    ensures { OnOk result (text.new.items ≡ text.old.items ++ line_with (decimal number ∷ [])) }
+{
+    let mut digits = Buffer::new();
+    text.extend_from_slice(digits.format(number).as_bytes())?;
+    text.extend_from_slice(b"\n")
+}
+
+#[cfg(test)]
+mod tests;

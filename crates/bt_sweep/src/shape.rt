@@ -1,0 +1,24 @@
+//! The shapes of what is written.
+
+/// What is written of a record of the first input and of those of the second that share a base with it
+/// (bedtools manual, intersect). A record is written as in BED output: start and end are zero-based
+/// and half-open and printed without leading zeros, and further columns are kept as they stood.
+#[derive(Clone, Copy, Debug, PartialEq, Eq)]
+pub enum Shape {
+    /// Per hit, the record cut to the shared bases.
+    Cut,
+    /// Per hit, the record (`-wa`).
+    OrigA,
+    /// Per hit, the record cut to the shared bases, and that which hits it (`-wb`).
+    CutAndB,
+    /// Per hit, the record and that which hits it (`-wa -wb`).
+    OrigBoth,
+    /// Per hit, the record, that which hits it, and how many bases they share (`-wo`).
+    Overlap,
+    /// The record once, if anything hits it (`-u`).
+    Once,
+    /// The record, if nothing hits it (`-v`).
+    Missing,
+    /// The record and the number of its hits, which may be 0 (`-c`).
+    Count,
+}

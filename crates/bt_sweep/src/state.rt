@@ -1,0 +1,281 @@
+//! What a sweep keeps, and its steps.
+
+ghost use Rattle.std.specs.Prelude.{◌≡◌, ◌∷◌, ◌++◌, [], IsTrue, None, Some, OnOk, OnErr, false, true};
+ghost use Rattle.bt_lines.specs.Fault.{no_memory};
+ghost use Rattle.bt_lines.specs.Names.{told};
+ghost use Rattle.bt_lines.specs.Putting.{Adds};
+ghost use Rattle.bt_bed.specs.Bed.{feature_lent};
+ghost use Rattle.bt_bed.specs.Feature.{Feature};
+ghost use Rattle.bt_sweep.specs.Deciding.{decides};
+ghost use Rattle.bt_sweep.specs.Held.{AreWith};
+ghost use Rattle.bt_sweep.specs.Lines.{lines_for};
+ghost use Rattle.bt_sweep.specs.Steps.{Holds, KeepsLast, TakesA, WritesLast, held_with, is_held_by, moved_to};
+ghost use Rattle.bt_sweep.specs.Sweeping.{want_in};
+
+use crate::held::Held;
+use crate::shape::Shape;
+use crate::want::Want;
+use crate::writing::put_lines;
+use bt_bed::{BedRef, ChromOrder, Rec};
+use bt_lines::{Fault, Kind, Out, Sink};
+use std::alloc::{AllocError, Global};
+use std::cmp::Ordering;
+use std::marker::Model;
+
+// What a sweep keeps beside the order of the chromosomes. The held records lie on the chromosome of
+// the last record.
+#[derive(Drop)]
+pub(crate) struct State<H: Held> {
+    alloc: Global,
+    shape: Shape,
+    // The record of the first input that was given last. Its buffer is used again.
+    last: Option<Rec>,
+    waits: bool,
+    held: H,
+    done: bool,
+    b_ended: bool,
+}
+
+impl<H: Held> Model for State<H> {
+    ghost use Rattle.bt_sweep.specs.Held.{AreWith};
+    ghost use Rattle.bt_sweep.specs.Sweeping.{Sweeping};
+
+    ghost Value = { Sweeping };
+
+    ghost view = { λ s. record {
+      shape = s.shape;
+      last = s.last;
+      waits = s.waits;
+      held = H.records s.held;
+      done = s.done;
+      b_ended = s.b_ended;
+    } };
+
+    ghost invariant = { λ s. AreWith s.last (H.records s.held) };
+}
+
+impl<H: Held> State<H> {
+    pub(crate) fn new(alloc: Global, held: H, shape: Shape) -> State<H>
+        requires { H.records held ≡ [] }
+        ensures { result ≡ record {
+          shape = shape;
+          last = None;
+          waits = false;
+          held = [];
+          done = false;
+          b_ended = false;
+        } }
+    {
+        State {
+            alloc,
+            shape,
+            last: None,
+            waits: false,
+            held,
+            done: false,
+            b_ended: false,
+        }
+    }
+
+    pub(crate) fn want(&self) -> Want
+        ensures { result ≡ want_in self.now }
+    {
+        if self.waits {
+            Want::B
+        } else if self.done {
+            Want::Nothing
+        } else {
+            Want::A
+        }
+    }
+
+    pub(crate) fn held(&self) -> &H
+        ensures { H.records result.now ≡ self.now.held }
+    {
+        &self.held
+    }
+
+    // Says that the first input has ended.
+    pub(crate) fn end_a(&mut self)
+        ensures { self.new ≡ record self.old { done = true } }
+    {
+        self.done = true;
+    }
+
+    // Takes the next record of the first input: it waits, or where the second input has ended its lines
+    // are written.
+    pub(crate) fn take_a<K: Sink>(&mut self, a: &BedRef<'_>, out: &mut Out<K>) -> Result<(), Fault>
+        ensures takes { TakesA self.old (feature_lent a.now) out.old result self.new out.new }
+        ensures last { KeepsLast self.old (feature_lent a.now) self.new }
+    {
+        if self.move_to(a).is_err() {
+            self.stop();
+            return Err(no_memory());
+        }
+        if self.b_ended {
+            return self.write(out);
+        }
+        self.waits = true;
+        Ok(())
+    }
+
+    // Whether the record decides the last one of the first input.
+    pub(crate) fn is_decided_by<O: ChromOrder>(&self, order: &O, b: &BedRef<'_>) -> bool
+        requires known_a { (a : Feature) → self.now.last ≡ Some a → IsTrue ((O.order order.now).knows a.chrom) }
+        requires known_b { IsTrue ((O.order order.now).knows b.now.chrom.now) }
+        ensures { (a : Feature) → self.now.last ≡ Some a
+            → result ≡ decides (O.order order.now) a (feature_lent b.now) }
+    {
+        match &self.last {
+            None => false,
+            Some(last) => is_past(order, &last.as_bed(), b),
+        }
+    }
+
+    // Holds the record, if it can hit the last one of the first input or a later one.
+    pub(crate) fn hold(&mut self, b: &BedRef<'_>) -> Result<(), Fault>
+        ensures holds { Holds self.old (feature_lent b.now) result self.new }
+        ensures last { self.new.last ≡ self.old.last }
+    {
+        if !is_to_be_held(&self.last, b) {
+            return Ok(());
+        }
+        if self.add(b).is_err() {
+            self.stop();
+            return Err(no_memory());
+        }
+        Ok(())
+    }
+
+    // Writes the lines of the last record of the first input, which waits no longer.
+    pub(crate) fn write<K: Sink>(&mut self, out: &mut Out<K>) -> Result<(), Fault>
+        ensures writes { (a : Feature) → self.old.last ≡ Some a
+            → WritesLast self.old a out.old result self.new out.new }
+        ensures last { self.new.last ≡ self.old.last }
+    {
+        self.waits = false;
+        let written = put_last(self.shape, &self.last, &self.held, out);
+        if written.is_err() {
+            self.done = true;
+        }
+        written
+    }
+
+    // Says that the second input has ended, and writes the lines of the record that waits.
+    pub(crate) fn end_b<K: Sink>(&mut self, out: &mut Out<K>) -> Result<(), Fault>
+        ensures writes { (a : Feature) → self.old.last ≡ Some a
+            → WritesLast (record self.old { b_ended = true }) a out.old result self.new out.new }
+        ensures last { self.new.last ≡ self.old.last }
+    {
+        self.b_ended = true;
+        self.write(out)
+    }
+
+    // Asks for nothing from now on.
+    fn stop(&mut self)
+        ensures { self.new ≡ record self.old { waits = false; done = true } }
+    {
+        self.waits = false;
+        self.done = true;
+    }
+
+    // Keeps of what is held what can hit the record, which becomes the last one.
+    fn move_to(&mut self, a: &BedRef<'_>) -> Result<(), AllocError>
+        ensures moved { OnOk result (self.new ≡ moved_to self.old (feature_lent a.now)) }
+        ensures last { OnErr result (self.new.last ≡ self.old.last) }
+    {
+        self.waits = false;
+        drop_passed(&self.last, &mut self.held, a);
+        replace(self.alloc, &mut self.last, a)
+    }
+
+    // Holds the record.
+    fn add(&mut self, b: &BedRef<'_>) -> Result<(), AllocError>
+        requires { IsTrue (is_held_by self.old.last (feature_lent b.now)) }
+        ensures added { OnOk result (self.new ≡ record self.old { held = self.old.held ++ feature_lent b.now ∷ [] }) }
+        ensures last { OnErr result (self.new ≡ self.old) }
+    {
+        let rec = b.to_rec(self.alloc)?;
+        match self.held.push(rec) {
+            Ok(()) => Ok(()),
+            Err(_) => Err(AllocError),
+        }
+    }
+}
+
+// The fault of a refused growth.
+fn no_memory() -> Fault
+    ensures { told result ≡ no_memory }
+{
+    Fault {
+        kind: Kind::NoMemory,
+        place: None,
+    }
+}
+
+// Drops the held records that neither the record, which comes next, nor a later one can hit.
+fn drop_passed<H: Held>(last: &Option<Rec>, held: &mut H, a: &BedRef<'_>)
+    ensures { H.records held.new ≡ held_with last.now (H.records held.old) (feature_lent a.now) }
+{
+    match last {
+        Some(last) if last.as_bed().chrom == a.chrom => held.drop_ended(a.start),
+        _ => held.clear(),
+    }
+}
+
+// Makes the record the last one, in the buffer of the one before.
+fn replace(alloc: Global, last: &mut Option<Rec>, a: &BedRef<'_>) -> Result<(), AllocError>
+    ensures replaced { OnOk result (last.new ≡ Some (feature_lent a.now)) }
+    ensures unchanged { OnErr result (last.new ≡ last.old) }
+{
+    match last {
+        Some(last) => last.copy_from(a),
+        None => {
+            *last = Some(a.to_rec(alloc)?);
+            Ok(())
+        }
+    }
+}
+
+// Whether the record lies on the chromosome of the last one and ends above its start.
+fn is_to_be_held(last: &Option<Rec>, b: &BedRef<'_>) -> bool
+    ensures { result ≡ is_held_by last.now (feature_lent b.now) }
+{
+    match last {
+        None => false,
+        Some(last) => {
+            let a = last.as_bed();
+            a.chrom == b.chrom && a.start < b.stop
+        }
+    }
+}
+
+// Whether the record b lies on a later chromosome than a, or on its own at or past its end.
+fn is_past<O: ChromOrder>(order: &O, a: &BedRef<'_>, b: &BedRef<'_>) -> bool
+    requires known_a { IsTrue ((O.order order.now).knows a.now.chrom.now) }
+    requires known_b { IsTrue ((O.order order.now).knows b.now.chrom.now) }
+    ensures { result ≡ decides (O.order order.now) (feature_lent a.now) (feature_lent b.now) }
+{
+    match order.compare(b.chrom, a.chrom) {
+        Ordering::Less => false,
+        Ordering::Equal => a.stop <= b.start,
+        Ordering::Greater => true,
+    }
+}
+
+// Puts the lines of the last record against what is held, if there is one.
+fn put_last<H: Held, K: Sink>(
+    shape: Shape,
+    last: &Option<Rec>,
+    held: &H,
+    out: &mut Out<K>,
+) -> Result<(), Fault>
+    requires { AreWith last.now (H.records held.now) }
+    ensures { (a : Feature) → last.now ≡ Some a
+        → Adds out.old (lines_for shape a (H.records held.now)) result out.new }
+{
+    match last {
+        None => Ok(()),
+        Some(last) => put_lines(shape, &last.as_bed(), held, out),
+    }
+}

@@ -1,0 +1,129 @@
+//! The sweep over two sorted inputs.
+
+ghost use Rattle.std.specs.Prelude.{◌≡◌, IsTrue, Some};
+ghost use Rattle.bt_bed.specs.Feature.{Feature};
+
+use crate::held::Held;
+use crate::shape::Shape;
+use crate::state::State;
+use crate::want::{Taken, Want};
+use bt_bed::{BedRef, ChromOrder};
+use bt_lines::{Fault, Out, Sink};
+use std::alloc::Global;
+
+/// Compares two inputs that are sorted in one order of the chromosomes, and writes the lines of each
+/// record of the first as soon as no later record of the second can hit it. It is given what it asks
+/// for ([`Sweep::want`]): the records of an input one after another, none below the one before it, by
+/// chromosome and then by start, and at last its end. It holds the records of the second input that lie
+/// on the chromosome of the record of the first given last and end above its start. A first fault ends
+/// it: then it asks for nothing.
+#[derive(Drop)]
+pub struct Sweep<'o, H: Held, O: ChromOrder> {
+    order: &'o O,
+    state: State<H>,
+    ghost known: { (a : Feature) → state.last ≡ Some a
+        → IsTrue ((O.order order.now).knows a.chrom) },
+}
+
+impl<'o, H: Held, O: ChromOrder> Sweep<'o, H, O> {
+    ghost use Rattle.std.specs.Prelude.{◌≡◌, [], IsTrue, Some};
+    ghost use Rattle.bt_bed.specs.Bed.{feature_lent};
+    ghost use Rattle.bt_bed.specs.Order.{Order};
+    ghost use Rattle.bt_sweep.specs.Standing.{IsInOrder, Stage, StandsAt, first_stage, given, held_for, last_given, want_at, with_a, with_a_ended};
+    ghost use Rattle.bt_sweep.specs.Steps.{EndsB, GivesA, GivesB};
+    ghost use Rattle.bt_sweep.specs.Sweep.{order_of, state_of};
+    ghost use Rattle.bt_sweep.specs.Sweeping.{want_in};
+
+    /// A sweep that was given nothing, over an empty list of held records. It takes no memory.
+    pub fn new(alloc: Global, held: H, shape: Shape, order: &'o O) -> Sweep<'o, H, O>
+        requires { H.records held ≡ [] }
+        ensures stands { StandsAt (O.order order.now) shape first_stage (state_of result) }
+        ensures order { order_of result ≡ O.order order.now }
+    {
+        Sweep {
+            order,
+            state: State::new(alloc, held, shape),
+        }
+    }
+
+    /// What it asks for next.
+    pub fn want(&self) -> Want
+        ensures is { result ≡ want_in (state_of self.now) }
+        ensures stage { (order : Order) (shape : Shape) (stage : Stage)
+            → StandsAt order shape stage (state_of self.now) → result ≡ want_at stage }
+    {
+        self.state.want()
+    }
+
+    /// The records of the second input that it holds.
+    pub fn held(&self) -> &H
+        ensures is { H.records result.now ≡ (state_of self.now).held }
+        ensures stage { (order : Order) (shape : Shape) (stage : Stage)
+            → StandsAt order shape stage (state_of self.now)
+            → H.records result.now ≡ held_for (last_given (given stage)) stage.taken }
+    {
+        self.state.held()
+    }
+
+    /// Takes the next record of the first input. Where the second has ended its lines are written at
+    /// once, and else nothing is. It fails with `NoMemory` where the record can't be kept, and with
+    /// `WriteFailed` where the lines can't be written.
+    pub fn give_a<K: Sink>(&mut self, a: &BedRef<'_>, out: &mut Out<K>) -> Result<(), Fault>
+        requires want { want_in (state_of self.old) ≡ Want.A }
+        requires known { IsTrue ((order_of self.old).knows a.now.chrom.now) }
+        ensures gives { (shape : Shape) (stage : Stage) → StandsAt (order_of self.old) shape stage (state_of self.old)
+            → IsInOrder (order_of self.old) (with_a stage (feature_lent a.now))
+            → GivesA (order_of self.old) shape stage (feature_lent a.now) out.old result
+            (state_of self.new) out.new }
+        ensures order { order_of self.new ≡ order_of self.old }
+    {
+        self.state.take_a(a, out)
+    }
+
+    /// Takes the end of the first input. Nothing is written, and nothing more is asked for.
+    pub fn end_a(&mut self)
+        requires { want_in (state_of self.old) ≡ Want.A }
+        ensures stands { (shape : Shape) (stage : Stage) → StandsAt (order_of self.old) shape stage (state_of self.old)
+            → StandsAt (order_of self.old) shape (with_a_ended stage) (state_of self.new) }
+        ensures nothing { want_in (state_of self.new) ≡ Want.Nothing }
+        ensures order { order_of self.new ≡ order_of self.old }
+    {
+        self.state.end_a();
+    }
+
+    /// Takes the next record of the second input, unless it decides the current record of the first:
+    /// then that one's lines are written, and the record is to be given again. It fails with
+    /// `WriteFailed` where they can't be written, and with `NoMemory` where the record has to be held
+    /// and can't be. A record that neither decides nor has to be held takes no memory.
+    pub fn give_b<K: Sink>(&mut self, b: &BedRef<'_>, out: &mut Out<K>) -> Result<Taken, Fault>
+        requires want { want_in (state_of self.old) ≡ Want.B }
+        requires known { IsTrue ((order_of self.old).knows b.now.chrom.now) }
+        ensures gives { (shape : Shape) (stage : Stage) (a : Feature)
+            → StandsAt (order_of self.old) shape stage (state_of self.old) → stage.waiting ≡ Some a
+            → GivesB (order_of self.old) shape stage a (feature_lent b.now) out.old result
+            (state_of self.new) out.new }
+        ensures order { order_of self.new ≡ order_of self.old }
+    {
+        if self.state.is_decided_by(self.order, b) {
+            self.state.write(out)?;
+            return Ok(Taken::No);
+        }
+        self.state.hold(b)?;
+        Ok(Taken::Yes)
+    }
+
+    /// Takes the end of the second input, and writes the lines of the current record of the first. It
+    /// fails with `WriteFailed` where they can't be written.
+    pub fn end_b<K: Sink>(&mut self, out: &mut Out<K>) -> Result<(), Fault>
+        requires { want_in (state_of self.old) ≡ Want.B }
+        ensures gives { (shape : Shape) (stage : Stage) (a : Feature)
+            → StandsAt (order_of self.old) shape stage (state_of self.old) → stage.waiting ≡ Some a
+            → EndsB (order_of self.old) shape stage a out.old result (state_of self.new) out.new }
+        ensures order { order_of self.new ≡ order_of self.old }
+    {
+        self.state.end_b(out)
+    }
+}
+
+#[cfg(test)]
+mod tests;

@@ -1,0 +1,483 @@
+use super::*;
+use crate::held_list::HeldList;
+use crate::plain::plain_intersect;
+use bt_bed::{Genome, Rec, parse_bed};
+use bt_lines::{Input, Kind, LineReader, ScriptSink, ScriptSource};
+use std::alloc::AllocError;
+use std::test::Fail;
+
+const GENOME: &[u8] = b"chr1\t1000\nchr2\t50\n";
+
+type Lines = &'static [&'static [u8]];
+
+// A case: its name, the shape, the records of both inputs, and what is written.
+type Case = (&'static str, Shape, Lines, Lines, &'static [u8]);
+
+const TOUCHING_A: Lines = &[b"chr1\t10\t20"];
+
+const TOUCHING_B: Lines = &[b"chr1\t20\t30"];
+
+const NESTED_A: Lines = &[b"chr1\t0\t100", b"chr1\t50\t60"];
+
+const NESTED_B: Lines = &[b"chr1\t10\t20", b"chr1\t55\t58", b"chr1\t90\t95"];
+
+const NAMED_A: Lines = &[b"chr1\t10\t30\ta"];
+
+const NAMED_B: Lines = &[b"chr1\t0\t15\tx", b"chr1\t25\t40\ty"];
+
+const CASES: [Case; 18] = [
+    ("touching", Shape::Cut, TOUCHING_A, TOUCHING_B, b""),
+    (
+        "touching, missing",
+        Shape::Missing,
+        TOUCHING_A,
+        TOUCHING_B,
+        b"chr1\t10\t20\n",
+    ),
+    (
+        "touching, counted",
+        Shape::Count,
+        TOUCHING_A,
+        TOUCHING_B,
+        b"chr1\t10\t20\t0\n",
+    ),
+    (
+        "one within another",
+        Shape::Cut,
+        NESTED_A,
+        NESTED_B,
+        b"chr1\t10\t20\nchr1\t55\t58\nchr1\t90\t95\nchr1\t55\t58\n",
+    ),
+    (
+        "one within another, counted",
+        Shape::Count,
+        NESTED_A,
+        NESTED_B,
+        b"chr1\t0\t100\t3\nchr1\t50\t60\t1\n",
+    ),
+    (
+        "two hits, cut",
+        Shape::Cut,
+        NAMED_A,
+        NAMED_B,
+        b"chr1\t10\t15\ta\nchr1\t25\t30\ta\n",
+    ),
+    (
+        "two hits, the record",
+        Shape::OrigA,
+        NAMED_A,
+        NAMED_B,
+        b"chr1\t10\t30\ta\nchr1\t10\t30\ta\n",
+    ),
+    (
+        "two hits, cut and the other",
+        Shape::CutAndB,
+        NAMED_A,
+        NAMED_B,
+        b"chr1\t10\t15\ta\tchr1\t0\t15\tx\nchr1\t25\t30\ta\tchr1\t25\t40\ty\n",
+    ),
+    (
+        "two hits, both",
+        Shape::OrigBoth,
+        NAMED_A,
+        NAMED_B,
+        b"chr1\t10\t30\ta\tchr1\t0\t15\tx\nchr1\t10\t30\ta\tchr1\t25\t40\ty\n",
+    ),
+    (
+        "two hits, both and the shared bases",
+        Shape::Overlap,
+        NAMED_A,
+        NAMED_B,
+        b"chr1\t10\t30\ta\tchr1\t0\t15\tx\t5\nchr1\t10\t30\ta\tchr1\t25\t40\ty\t5\n",
+    ),
+    (
+        "two hits, once",
+        Shape::Once,
+        NAMED_A,
+        NAMED_B,
+        b"chr1\t10\t30\ta\n",
+    ),
+    (
+        "two hits, counted",
+        Shape::Count,
+        NAMED_A,
+        NAMED_B,
+        b"chr1\t10\t30\ta\t2\n",
+    ),
+    ("two hits, missing", Shape::Missing, NAMED_A, NAMED_B, b""),
+    ("no first record", Shape::Cut, &[], NAMED_B, b""),
+    (
+        "no second record",
+        Shape::Missing,
+        NAMED_A,
+        &[],
+        b"chr1\t10\t30\ta\n",
+    ),
+    (
+        "the second on other chromosomes",
+        Shape::Cut,
+        &[b"chr2\t0\t5"],
+        &[b"chr1\t0\t9", b"chr2\t5\t9"],
+        b"",
+    ),
+    (
+        "three chromosomes' worth of records",
+        Shape::Cut,
+        &[b"chr1\t0\t10", b"chr1\t20\t30", b"chr2\t0\t10"],
+        &[b"chr1\t5\t25", b"chr1\t29\t40", b"chr2\t9\t12"],
+        b"chr1\t5\t10\nchr1\t20\t25\nchr1\t29\t30\nchr2\t9\t10\n",
+    ),
+    (
+        "numbers without leading zeros",
+        Shape::OrigA,
+        &[b"chr1\t007\t009\tn\t0\t+"],
+        &[b"chr1\t008\t9"],
+        b"chr1\t7\t9\tn\t0\t+\n",
+    ),
+];
+
+const SHAPES: [Shape; 8] = [
+    Shape::Cut,
+    Shape::OrigA,
+    Shape::CutAndB,
+    Shape::OrigBoth,
+    Shape::Overlap,
+    Shape::Once,
+    Shape::Missing,
+    Shape::Count,
+];
+
+fn read_genome(alloc: Global) -> Result<Genome, Fault> {
+    let mut lines = LineReader::new(alloc, ScriptSource::new(GENOME, 7, None), Input::Genome);
+    let genome = Genome::read(alloc, &mut lines);
+    let _ = lines.into_source();
+    genome
+}
+
+// Gives a record of the first input. None: it isn't asked for.
+fn give_first<H: Held, O: ChromOrder, K: Sink>(
+    sweep: &mut Sweep<'_, H, O>,
+    line: &[u8],
+    out: &mut Out<K>,
+) -> Option<Result<(), Fault>> {
+    let Ok(Some(a)) = parse_bed(line) else {
+        return None;
+    };
+    if !sweep.order.knows(a.chrom) {
+        return None;
+    }
+    match sweep.want() {
+        Want::A => Some(sweep.give_a(&a, out)),
+        _ => None,
+    }
+}
+
+// Gives a record of the second input. None: it isn't asked for.
+fn give_second<H: Held, O: ChromOrder, K: Sink>(
+    sweep: &mut Sweep<'_, H, O>,
+    line: &[u8],
+    out: &mut Out<K>,
+) -> Option<Result<Taken, Fault>> {
+    let Ok(Some(b)) = parse_bed(line) else {
+        return None;
+    };
+    if !sweep.order.knows(b.chrom) {
+        return None;
+    }
+    match sweep.want() {
+        Want::B => Some(sweep.give_b(&b, out)),
+        _ => None,
+    }
+}
+
+// Tells the end of the second input. None: it isn't asked for.
+fn end_second<H: Held, O: ChromOrder, K: Sink>(
+    sweep: &mut Sweep<'_, H, O>,
+    out: &mut Out<K>,
+) -> Option<Result<(), Fault>> {
+    match sweep.want() {
+        Want::B => Some(sweep.end_b(out)),
+        _ => None,
+    }
+}
+
+// Tells the end of the first input, where it is asked for.
+fn end_first<H: Held, O: ChromOrder>(sweep: &mut Sweep<'_, H, O>) {
+    match sweep.want() {
+        Want::A => sweep.end_a(),
+        _ => {}
+    }
+}
+
+// Gives the line that comes next of the first input, or tells its end, and answers how many lines it
+// took. An error is a fault, or none where the record isn't asked for.
+fn go_on_first<H: Held, O: ChromOrder, K: Sink>(
+    sweep: &mut Sweep<'_, H, O>,
+    line: Option<&&[u8]>,
+    out: &mut Out<K>,
+) -> Result<usize, Option<Fault>> {
+    let Some(line) = line else {
+        end_first(sweep);
+        return Ok(0);
+    };
+    match give_first(sweep, line, out) {
+        Some(Ok(())) => Ok(1),
+        Some(Err(fault)) => Err(Some(fault)),
+        None => Err(None),
+    }
+}
+
+// The same for the second input.
+fn go_on_second<H: Held, O: ChromOrder, K: Sink>(
+    sweep: &mut Sweep<'_, H, O>,
+    line: Option<&&[u8]>,
+    out: &mut Out<K>,
+) -> Result<usize, Option<Fault>> {
+    let Some(line) = line else {
+        return match end_second(sweep, out) {
+            Some(Ok(())) => Ok(0),
+            Some(Err(fault)) => Err(Some(fault)),
+            None => Err(None),
+        };
+    };
+    match give_second(sweep, line, out) {
+        Some(Ok(Taken::Yes)) => Ok(1),
+        Some(Ok(Taken::No)) => Ok(0),
+        Some(Err(fault)) => Err(Some(fault)),
+        None => Err(None),
+    }
+}
+
+// Gives the sweep what it asks for of two whole inputs.
+fn sweep_all<H: Held, O: ChromOrder, K: Sink>(
+    sweep: &mut Sweep<'_, H, O>,
+    first: &[&[u8]],
+    second: &[&[u8]],
+    out: &mut Out<K>,
+) -> Result<(), Option<Fault>> {
+    let mut i: usize = 0;
+    let mut j: usize = 0;
+    for _ in 0..100 {
+        match sweep.want() {
+            Want::A => i = i.saturating_add(go_on_first(sweep, first.get(i), out)?),
+            Want::B => j = j.saturating_add(go_on_second(sweep, second.get(j), out)?),
+            Want::Nothing => return Ok(()),
+        }
+    }
+    Err(None)
+}
+
+#[test]
+fn worked_rows(rt: HostRuntime) {
+    let Ok(genome) = read_genome(rt.alloc()) else {
+        assert!(rt; false);
+        return;
+    };
+    for (name, shape, first, second, want) in CASES {
+        let mut sweep = Sweep::new(rt.alloc(), HeldList::new(rt.alloc()), shape, &genome);
+        let mut out = Out::new(ScriptSink::new(rt.alloc(), 3, None));
+        let swept = sweep_all(&mut sweep, first, second, &mut out);
+        assert_eq!(rt; swept, Ok(()), "{name}");
+        assert_eq!(rt; out.flush(), Ok(()), "{name}");
+        assert_eq!(rt; out.into_sink().taken(), want, "{name}");
+    }
+}
+
+// After a fault nothing is asked for, and the sink has a front of what is written else.
+#[test]
+fn a_sink_that_fails_at_each_byte(rt: HostRuntime) {
+    let Ok(genome) = read_genome(rt.alloc()) else {
+        assert!(rt; false);
+        return;
+    };
+    for (name, shape, first, second, want) in CASES {
+        for good in 0..want.len() {
+            let mut sweep = Sweep::new(rt.alloc(), HeldList::new(rt.alloc()), shape, &genome);
+            let mut out = Out::new(ScriptSink::new(rt.alloc(), 4, Some(good)));
+            let swept = sweep_all(&mut sweep, first, second, &mut out);
+            assert_eq!(rt; sweep.want(), Want::Nothing, "{name} at {good}");
+            let answer = match swept {
+                Ok(()) => out.flush().err(),
+                Err(fault) => fault,
+            };
+            assert_eq!(rt;
+                answer.map(|fault| fault.kind),
+                Some(Kind::WriteFailed),
+                "{name} at {good}"
+            );
+            let sink = out.into_sink();
+            assert_eq!(rt; Some(sink.taken()), want.get(..good), "{name} at {good}");
+        }
+    }
+}
+
+// How many records are held.
+fn held_len<H: Held, O: ChromOrder>(sweep: &Sweep<'_, H, O>) -> usize {
+    sweep.held().len()
+}
+
+// The start of the held record with so many before it.
+fn held_start<H: Held, O: ChromOrder>(sweep: &Sweep<'_, H, O>, index: usize) -> Option<u64> {
+    match sweep.held().nth(index) {
+        Some(rec) => Some(rec.as_bed().start),
+        None => None,
+    }
+}
+
+#[test]
+fn records_are_held_until_one_starts_past_them(rt: HostRuntime) {
+    let Ok(genome) = read_genome(rt.alloc()) else {
+        assert!(rt; false);
+        return;
+    };
+    let mut sweep = Sweep::new(rt.alloc(), HeldList::new(rt.alloc()), Shape::Cut, &genome);
+    let mut out = Out::new(ScriptSink::new(rt.alloc(), 100, None));
+    assert_eq!(rt; sweep.want(), Want::A);
+    assert_eq!(rt;
+        give_first(&mut sweep, b"chr1\t0\t100", &mut out),
+        Some(Ok(()))
+    );
+    for line in NESTED_B {
+        assert_eq!(rt; sweep.want(), Want::B);
+        assert_eq!(rt;
+            give_second(&mut sweep, line, &mut out),
+            Some(Ok(Taken::Yes))
+        );
+    }
+    assert_eq!(rt; held_len(&sweep), 3);
+    assert_eq!(rt; end_second(&mut sweep, &mut out), Some(Ok(())));
+    assert_eq!(rt; sweep.want(), Want::A);
+    assert_eq!(rt; held_len(&sweep), 3);
+    assert_eq!(rt;
+        give_first(&mut sweep, b"chr1\t50\t60", &mut out),
+        Some(Ok(()))
+    );
+    assert_eq!(rt; held_len(&sweep), 2);
+    assert_eq!(rt; held_start(&sweep, 0), Some(55));
+    assert_eq!(rt; held_start(&sweep, 1), Some(90));
+    assert_eq!(rt; held_start(&sweep, 2), None);
+    assert_eq!(rt; sweep.want(), Want::A);
+}
+
+#[test]
+fn a_record_before_the_chromosome_is_not_held(rt: HostRuntime) {
+    let Ok(genome) = read_genome(rt.alloc()) else {
+        assert!(rt; false);
+        return;
+    };
+    let mut sweep = Sweep::new(rt.alloc(), HeldList::new(rt.alloc()), Shape::Cut, &genome);
+    let mut out = Out::new(ScriptSink::new(rt.alloc(), 100, None));
+    assert_eq!(rt;
+        give_first(&mut sweep, b"chr2\t0\t5", &mut out),
+        Some(Ok(()))
+    );
+    assert_eq!(rt;
+        give_second(&mut sweep, b"chr1\t0\t9", &mut out),
+        Some(Ok(Taken::Yes))
+    );
+    assert_eq!(rt; held_len(&sweep), 0);
+    assert_eq!(rt;
+        give_second(&mut sweep, b"chr2\t5\t9", &mut out),
+        Some(Ok(Taken::No))
+    );
+    assert_eq!(rt; held_len(&sweep), 0);
+    assert_eq!(rt; sweep.want(), Want::A);
+    assert_eq!(rt; out.flush(), Ok(()));
+    assert_eq!(rt; out.into_sink().taken(), b"".as_slice());
+}
+
+// What is written before the second input's third line, which is at fault: the lines of the first
+// record, which the second line decides.
+#[test]
+fn decided_lines_are_written_before_the_end(rt: HostRuntime) {
+    let Ok(genome) = read_genome(rt.alloc()) else {
+        assert!(rt; false);
+        return;
+    };
+    let mut sweep = Sweep::new(rt.alloc(), HeldList::new(rt.alloc()), Shape::Cut, &genome);
+    let mut out = Out::new(ScriptSink::new(rt.alloc(), 100, None));
+    assert_eq!(rt;
+        give_first(&mut sweep, b"chr1\t0\t10", &mut out),
+        Some(Ok(()))
+    );
+    assert_eq!(rt;
+        give_second(&mut sweep, b"chr1\t2\t4", &mut out),
+        Some(Ok(Taken::Yes))
+    );
+    assert_eq!(rt;
+        give_second(&mut sweep, b"chr1\t50\t60", &mut out),
+        Some(Ok(Taken::No))
+    );
+    assert_eq!(rt;
+        give_first(&mut sweep, b"chr1\t100\t110", &mut out),
+        Some(Ok(()))
+    );
+    assert_eq!(rt;
+        give_second(&mut sweep, b"chr1\t50\t60", &mut out),
+        Some(Ok(Taken::Yes))
+    );
+    assert_eq!(rt; held_len(&sweep), 0);
+    assert_eq!(rt; sweep.want(), Want::B);
+    assert_eq!(rt; out.flush(), Ok(()));
+    assert_eq!(rt; out.into_sink().taken(), b"chr1\t2\t4\n".as_slice());
+}
+
+#[test]
+fn many_records_that_are_not_held(rt: HostRuntime) -> Result<(), Fail> {
+    let Ok(genome) = read_genome(rt.alloc()) else {
+        assert!(rt; false);
+        return Ok(());
+    };
+    let mut sweep = Sweep::new(rt.alloc(), HeldList::new(rt.alloc()), Shape::Count, &genome);
+    let mut out = Out::new(ScriptSink::new(rt.alloc(), 100, None));
+    assert_eq!(rt;
+        give_first(&mut sweep, b"chr1\t50000\t50001", &mut out),
+        Some(Ok(()))
+    );
+    for start in 0u32..1000 {
+        let line = format!(in rt.alloc(); "chr1\t{start}\t20000")?;
+        assert_eq!(rt;
+            give_second(&mut sweep, line.as_bytes(), &mut out),
+            Some(Ok(Taken::Yes))
+        );
+        assert_eq!(rt; held_len(&sweep), 0);
+    }
+    Ok(())
+}
+
+// The records of these lines.
+fn records_of(alloc: Global, lines: &[&[u8]]) -> Result<Vec<Rec>, AllocError> {
+    let mut records = Vec::new(alloc);
+    for line in lines {
+        if let Ok(Some(bed)) = parse_bed(line) {
+            records.push(bed.to_rec(alloc)?)?;
+        }
+    }
+    Ok(records)
+}
+
+#[test]
+fn gives_what_the_plain_program_gives(rt: HostRuntime) -> Result<(), Fail> {
+    let Ok(genome) = read_genome(rt.alloc()) else {
+        assert!(rt; false);
+        return Ok(());
+    };
+    for (name, _, first, second, _) in CASES {
+        let records = records_of(rt.alloc(), first)?;
+        let others = records_of(rt.alloc(), second)?;
+        for shape in SHAPES {
+            let want = plain_intersect(rt.alloc(), shape, records.as_slice(), others.as_slice())?;
+            let mut sweep = Sweep::new(rt.alloc(), HeldList::new(rt.alloc()), shape, &genome);
+            let mut out = Out::new(ScriptSink::new(rt.alloc(), 3, None));
+            let swept = sweep_all(&mut sweep, first, second, &mut out);
+            assert_eq!(rt; swept, Ok(()), "{name}");
+            assert_eq!(rt; out.flush(), Ok(()), "{name}");
+            assert_eq!(rt;
+                out.into_sink().taken(),
+                want.as_slice(),
+                "{name} as {shape:?}"
+            );
+        }
+    }
+    Ok(())
+}

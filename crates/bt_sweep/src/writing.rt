@@ -1,0 +1,142 @@
+//! The lines of one record.
+
+ghost use Rattle.std.specs.Prelude.{◌≡◌, ◌∷◌, [], IsTrue, cond, decimal, flat_map, option_copied, option_to_list};
+ghost use Rattle.bt_lines.specs.Putting.{Adds, Puts};
+ghost use Rattle.bt_bed.specs.Bed.{feature_lent};
+ghost use Rattle.bt_bed.specs.Record.{bed_text, cut_to};
+ghost use Rattle.bt_sweep.specs.Held.{AreOn};
+ghost use Rattle.bt_sweep.specs.Hits.{hits, hits_among};
+ghost use Rattle.bt_sweep.specs.Lines.{hit_line, line_with, lines_for};
+
+use crate::held::Held;
+use crate::hit::{count_hits, is_any_hit, is_hit};
+use crate::shape::Shape;
+use bt_bed::{BedRef, Rec, put_bed, put_cut};
+use bt_lines::{Fault, Out, Sink, put_number};
+
+// Puts the lines of a record against these, which lie on its chromosome. It takes no memory.
+pub(crate) fn put_lines<H: Held, K: Sink>(
+    shape: Shape,
+    a: &BedRef<'_>,
+    held: &H,
+    out: &mut Out<K>,
+) -> Result<(), Fault>
+    requires { AreOn a.now.chrom.now (H.records held.now) }
+    ensures { Adds out.old (lines_for shape (feature_lent a.now) (H.records held.now)) result out.new }
+{
+    match shape {
+        Shape::Count => put_counted(a, count_hits(a, held) as u64, out),
+        Shape::Once => put_where(is_any_hit(a, held), a, out),
+        Shape::Missing => put_where(!is_any_hit(a, held), a, out),
+        Shape::Cut | Shape::OrigA | Shape::CutAndB | Shape::OrigBoth | Shape::Overlap => {
+            put_hits(shape, a, held, out)
+        }
+    }
+}
+
+// Puts a line for each held record that hits the record.
+fn put_hits<H: Held, K: Sink>(
+    shape: Shape,
+    a: &BedRef<'_>,
+    held: &H,
+    out: &mut Out<K>,
+) -> Result<(), Fault>
+    requires { AreOn a.now.chrom.now (H.records held.now) }
+    ensures { Adds out.old (flat_map (hit_line shape (feature_lent a.now))
+        (hits_among (feature_lent a.now) (H.records held.now))) result out.new }
+{
+    for index in 0..held.len() {
+        put_if_hit(shape, a, held.nth(index), out)?;
+    }
+    Ok(())
+}
+
+// Puts the line of a held record, if there is one and it hits the record.
+fn put_if_hit<K: Sink>(
+    shape: Shape,
+    a: &BedRef<'_>,
+    b: Option<&Rec>,
+    out: &mut Out<K>,
+) -> Result<(), Fault>
+    requires { AreOn a.now.chrom.now (option_to_list (option_copied b)) }
+    ensures { Adds out.old (flat_map (hit_line shape (feature_lent a.now))
+        (hits_among (feature_lent a.now) (option_to_list (option_copied b.entry)))) result out.new }
+{
+    let Some(b) = b else {
+        return Ok(());
+    };
+    let b = b.as_bed();
+    if !is_hit(a, &b) {
+        return Ok(());
+    }
+    put_hit(shape, a, &b, out)
+}
+
+// Puts the line of a record that hits the record, in a shape that has one for each.
+fn put_hit<K: Sink>(
+    shape: Shape,
+    a: &BedRef<'_>,
+    b: &BedRef<'_>,
+    out: &mut Out<K>,
+) -> Result<(), Fault>
+    requires { IsTrue (hits (feature_lent a.now) (feature_lent b.now)) }
+    ensures { Adds out.old (hit_line shape (feature_lent a.now) (feature_lent b.now)) result out.new }
+{
+    let start = a.start.max(b.start);
+    let stop = a.stop.min(b.stop);
+    match shape {
+        Shape::Cut => put_cut(a, start, stop, b"\n", out),
+        Shape::OrigA => put_bed(a, b"\n", out),
+        Shape::CutAndB => put_both(a, start, stop, b, out),
+        Shape::OrigBoth => put_both(a, a.start, a.stop, b, out),
+        Shape::Overlap => put_overlap(a, b, stop.saturating_sub(start), out),
+        Shape::Once | Shape::Missing | Shape::Count => Ok(()),
+    }
+}
+
+// Puts the record, if so.
+fn put_where<K: Sink>(is_put: bool, a: &BedRef<'_>, out: &mut Out<K>) -> Result<(), Fault>
+    ensures { Adds out.old (cond is_put (line_with (bed_text (feature_lent a.now) ∷ [])) []) result out.new }
+{
+    if is_put {
+        return put_bed(a, b"\n", out);
+    }
+    Ok(())
+}
+
+// Puts a part of a record, and another record behind it.
+fn put_both<K: Sink>(
+    a: &BedRef<'_>,
+    start: u64,
+    stop: u64,
+    b: &BedRef<'_>,
+    out: &mut Out<K>,
+) -> Result<(), Fault>
+    ensures { Puts out.old (line_with (bed_text (cut_to start stop (feature_lent a.now))
+        ∷ bed_text (feature_lent b.now) ∷ [])) result out.new }
+{
+    put_cut(a, start, stop, b"\t", out)?;
+    put_bed(b, b"\n", out)
+}
+
+// Puts a record and a number.
+fn put_counted<K: Sink>(a: &BedRef<'_>, count: u64, out: &mut Out<K>) -> Result<(), Fault>
+    ensures { Puts out.old (line_with (bed_text (feature_lent a.now) ∷ decimal count ∷ [])) result out.new }
+{
+    put_bed(a, b"\t", out)?;
+    put_number(count, b"\n", out)
+}
+
+// Puts two records and a number.
+fn put_overlap<K: Sink>(
+    a: &BedRef<'_>,
+    b: &BedRef<'_>,
+    count: u64,
+    out: &mut Out<K>,
+) -> Result<(), Fault>
+    ensures { Puts out.old (line_with (bed_text (feature_lent a.now)
+        ∷ bed_text (feature_lent b.now) ∷ decimal count ∷ [])) result out.new }
+{
+    put_bed(a, b"\t", out)?;
+    put_counted(b, count, out)
+}

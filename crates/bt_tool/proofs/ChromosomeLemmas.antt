@@ -1,0 +1,143 @@
+-- Lemmas on the genome file of a run, where it has one.
+use Rattle.std.proofs.Common.{◌≡◌, ℕ, suc, ◌-◌, ◌^◌, Bool, true, List, [], ◌++◌, take, Option, None, Some, Ok, Err, refl, sym, ap, ◌∙◌, subst, arith, inl, inr, ⊎_elim}
+use Rattle.std.specs.Prelude.{◌⊎◌, ◌≢◌, IfSome, Result, option_map}
+use Rattle.bt_lines.specs.Fault.{Told, no_memory, write_failed, read_failed}
+use Rattle.bt_lines.specs.Handed.{Handed, whole_text}
+use Rattle.bt_lines.specs.Lines.{TextLine, line_feeds, text_lines, whole_lines}
+use Rattle.bt_lines.specs.Names.{told}
+use Rattle.bt_lines.specs.Reader.{Hands, IsSound, source_of, input_of, bytes_taken, fault_kept, feeds_taken, lines_given, lines_left}
+use Rattle.bt_lines.specs.declared.fault.Fault.{Fault}
+use Rattle.bt_lines.specs.declared.fault.Input.TheVariants.{Genome as FromGenome}
+use Rattle.bt_lines.specs.declared.fault.Kind.TheVariants.{ReadFailed}
+use Rattle.bt_lines.specs.declared.line_reader.LineReader.{LineReader}
+use Rattle.bt_lines.proofs.TextLemmas.{whole_count, whole_front}
+use Rattle.bt_bed.specs.Genome.{Entry, genome_handed, genome_of}
+use Rattle.bt_bed.specs.GenomeTable.{EntryIsWrong, EntryUnread, ReadsAll, ReadsGenome, ReadingStops, StopCause, entries}
+use Rattle.bt_bed.specs.LineKind.{fault_at_line, is_genome_kind}
+use Rattle.bt_bed.specs.declared.genome.Genome.{Genome}
+use Rattle.bt_tool.specs.Chromosomes.{KnowsChromosomes, LacksChromosomes, ReadsChromosomes}
+use Rattle.bt_tool.specs.Driving.{IsOfInput, TellsInput}
+use Rattle.bt_tool.specs.Inputs.{HoldsIf, Reads, ReadsIf}
+use Rattle.bt_tool.specs.Report.{chromosomes_of}
+use Rattle.bt_tool.proofs.FaultLemmas.{memory_no_write, placed_no_write}
+use Rattle.bt_tool.proofs.HandedReader.{cut_text, handed_all, handed_part, passes_by}
+
+-- without a genome file no chromosome is known
+none_read : {G : Type 0} (left : G → Option (List ℕ)) (failed : G → Bool) (handed : Option Handed) → ReadsIf left failed None None handed → chromosomes_of handed ≡ Ok []
+none_read left failed None h = refl
+none_read left failed (Some handed) h = absurd h
+
+none_held : {G : Type 0} (left : G → Option (List ℕ)) (handed : Option Handed) → HoldsIf left None handed → chromosomes_of handed ≡ Ok []
+none_held left None h = refl
+none_held left (Some handed) h = absurd h
+
+pub knows_none : {G : Type 0} (left : G → Option (List ℕ)) (failed : G → Bool) (table : Genome) → entries table ≡ [] → KnowsChromosomes left failed None None table
+knows_none left failed table e = record {
+  whole = λ handed reads. none_read left failed handed reads ∙ ap Ok (sym e);
+  told = λ handed holds. none_held left handed holds ∙ ap Ok (sym e);
+  distinct = rw e tt;
+  served = tt;
+}
+
+of_some : {A : Type 0} (o : Option A) (x : A) (P : A → Type 0) → o ≡ Some x → IfSome o P → P x
+of_some None x P e h = cc
+of_some (Some y) x P e h = let same : y ≡ x = cc in subst P same h
+
+-- what is said of the whole text is said of what the device holds
+held_as : {G : Type 0} (left : G → Option (List ℕ)) (genome : G) (P : Option Handed → Type 0) → ((text : List ℕ) → left genome ≡ Some text → P (Some (whole_text text)))
+    → (handed : Option Handed) → HoldsIf left (Some genome) handed → P handed
+held_as left genome P h None holds = absurd holds
+held_as left genome P h (Some handed) holds = subst (λ x. P (Some x)) (sym holds.is) (h holds.text holds.known)
+
+read_as : {G : Type 0} (left : G → Option (List ℕ)) (failed : G → Bool) (genome after : G) (P : Option Handed → Type 0)
+    → ((handed : Handed) → Reads left failed genome after handed → P (Some handed))
+    → (handed : Option Handed) → ReadsIf left failed (Some genome) (Some after) handed → P handed
+read_as left failed genome after P h None reads = absurd reads
+read_as left failed genome after P h (Some handed) reads = h handed reads
+
+-- a genome file that was cut off behind lines that made entries
+cut_genome : (cut more : List ℕ) (made : List Entry) → genome_of FromGenome (take (line_feeds cut) (text_lines (cut ++ more))) ≡ Ok made
+    → genome_handed FromGenome (record { text = cut; is_cut = true }) ≡ Err (read_failed FromGenome (suc (line_feeds cut)))
+cut_genome cut more made e =
+    let lines : genome_of FromGenome (whole_lines cut) ≡ Ok made = ap (genome_of FromGenome) (sym (whole_front 1 cut more)) ∙ e in
+    rw (lines, whole_count 1 cut) refl
+
+module _ {G : Type 0} (left : G → Option (List ℕ)) (failed end : G → Bool) (genome after : G) (old new : LineReader G) (source : source_of old ≡ genome) (ended : source_of new ≡ after) (input : input_of old ≡ FromGenome)
+    (fresh : bytes_taken old ≡ 0) (unfed : feeds_taken old ≡ 0) (none_given : lines_given old ≡ 0) (clear : fault_kept old ≡ None) (lines : lines_left left old ≡ option_map text_lines (left genome)) (sound : IsSound left end old) where
+  at_genome : (text : List ℕ) (P : List TextLine → Type 0) → left genome ≡ Some text → IfSome (lines_left left old) P → P (text_lines text)
+  at_genome text P e h = of_some (lines_left left old) (text_lines text) P (lines ∙ ap (option_map text_lines) e) h
+
+  pub knows_read : (table : Genome) → ReadsAll left failed old new table → IsSound left end new → KnowsChromosomes left failed (Some genome) (Some after) table
+  knows_read table reads next =
+      let whole : (text : List ℕ) → left genome ≡ Some text → chromosomes_of (Some (whole_text text)) ≡ Ok (entries table) =
+      λ text e. subst (λ i. genome_of i (text_lines text) ≡ Ok (entries table)) input (at_genome text (λ lines. genome_of (input_of old) lines ≡ Ok (entries table)) e reads.is) in
+      record {
+        whole = read_as left failed genome after (λ h. chromosomes_of h ≡ Ok (entries table))
+            (λ handed r. subst (λ h. chromosomes_of (Some h) ≡ Ok (entries table)) (sym (handed_all left failed genome after old new source ended fresh handed r reads.bytes reads.served (next.within reads.going))) (whole r.text r.known));
+        told = held_as left genome (λ h. chromosomes_of h ≡ Ok (entries table)) whole;
+        distinct = reads.distinct;
+        served = ap failed (sym ended) ∙ reads.served ∙ ap failed source;
+      }
+
+  module _ (fault : Told) (bytes : (bytes : List ℕ) × Hands left old bytes new) (next : IsSound left end new) where
+    abbrev Tells : Type 0
+    Tells = TellsInput left failed is_genome_kind FromGenome genome after fault
+
+    wrong_text : EntryIsWrong left failed old new fault → (text : List ℕ) → left genome ≡ Some text → chromosomes_of (Some (whole_text text)) ≡ Err fault
+    wrong_text wrong text e =
+        subst (λ i. genome_of i (text_lines text) ≡ Err fault) input (at_genome text (λ lines. genome_of (input_of old) lines ≡ Err fault) e wrong.is)
+
+    unread_text : EntryUnread left failed end old new fault → (handed : Handed) → Reads left failed genome after handed → chromosomes_of (Some handed) ≡ Err fault
+    unread_text unread handed reads =
+        let cut = unread.fails.cut sound in
+        let texts = cut_text left failed genome after old new source ended fresh handed reads unfed cut in
+        let front = take (2 ^ 63 - 1) reads.bytes in
+        let size : lines_given new - lines_given old ≡ line_feeds front = omega (arith, texts.given, none_given) in
+        let made = at_genome reads.text (λ lines. (entries : List Entry) × (genome_of (input_of old) (take (lines_given new - lines_given old) lines) ≡ Ok entries)) reads.known unread.passed in
+        let first : genome_of FromGenome (take (line_feeds front) (text_lines (front ++ texts.more))) ≡ Ok made.0 =
+        ap (λ t. genome_of FromGenome (take (line_feeds front) (text_lines t))) texts.text
+        ∙ ap (λ n. genome_of FromGenome (take n (text_lines reads.text))) (sym size)
+        ∙ ap (λ i. genome_of i (take (lines_given new - lines_given old) (text_lines reads.text))) (sym input) ∙ made.1 in
+        ap (λ h. chromosomes_of (Some h)) (handed_part left failed genome after old new source ended fresh handed reads bytes unread.fails.cause)
+        ∙ cut_genome front texts.more made.0 first
+        ∙ ap Err (ap (λ n. read_failed FromGenome (suc n)) (sym texts.given) ∙ ap (λ i. read_failed i (suc (lines_given new))) (sym input) ∙ sym unread.fails.is)
+
+    whole_by : StopCause left failed end old new fault → fault ≢ no_memory → (handed : Handed) → Reads left failed genome after handed → chromosomes_of (Some handed) ≡ Err fault
+    whole_by (inl wrong) memory handed reads =
+        subst (λ h. chromosomes_of (Some h) ≡ Err fault) (sym (handed_all left failed genome after old new source ended fresh handed reads bytes wrong.served (next.within wrong.going))) (wrong_text wrong reads.text reads.known)
+    whole_by (inr (inl unread)) memory handed reads = unread_text unread handed reads
+    whole_by (inr (inr ran)) memory handed reads = absurd (memory ran.is)
+
+    told_by : StopCause left failed end old new fault → IsOfInput (Some fault) → (text : List ℕ) → left genome ≡ Some text → chromosomes_of (Some (whole_text text)) ≡ Err fault
+    told_by (inl wrong) is text e = wrong_text wrong text e
+    told_by (inr (inl unread)) is text e = absurd (is.no_read (input_of old) (suc (lines_given new)) (ap Some unread.fails.is))
+    told_by (inr (inr ran)) is text e = absurd (is.no_growth (ap Some ran.is))
+
+    named_by : StopCause left failed end old new fault → Tells ⊎ (fault ≡ no_memory)
+    named_by (inl wrong) = inl (inl (record { line = lines_given new; kind = wrong.kind; of_kind = wrong.of_line; is = wrong.place ∙ ap (λ i. fault_at_line i (lines_given new) wrong.kind) input }))
+    named_by (inr (inl unread)) = inl (inr (record {
+      line = suc (lines_given new);
+      is = unread.fails.is ∙ ap (λ i. read_failed i (suc (lines_given new))) input;
+      cause = ⊎_elim (λ fails. inl (ap failed (sym ended) ∙ fails)) (λ past. inr (passes_by left failed genome after old new source ended fresh bytes past)) unread.fails.cause;
+    }))
+    named_by (inr (inr ran)) = inr ran.is
+
+    no_write_by : StopCause left failed end old new fault → fault ≡ write_failed → ⊥
+    no_write_by (inl wrong) e = placed_no_write (input_of old) (lines_given new) wrong.kind (sym wrong.place ∙ e)
+    no_write_by (inr (inl unread)) e = placed_no_write (input_of old) (suc (lines_given new)) ReadFailed (sym unread.fails.is ∙ e)
+    no_write_by (inr (inr ran)) e = memory_no_write (sym ran.is ∙ e)
+
+    lacks_by : StopCause left failed end old new fault → LacksChromosomes left failed (Some genome) (Some after) fault
+    lacks_by cause = record {
+      whole = λ handed reads memory. read_as left failed genome after (λ h. chromosomes_of h ≡ Err fault) (whole_by cause memory) handed reads;
+      told = λ handed holds is. held_as left genome (λ h. chromosomes_of h ≡ Err fault) (told_by cause is) handed holds;
+      named = named_by cause;
+      no_write = no_write_by cause;
+    }
+
+  pub lacks_read : (fault : Told) → ReadingStops left failed end old new fault → IsSound left end new → LacksChromosomes left failed (Some genome) (Some after) fault
+  lacks_read fault stops next = lacks_by fault stops.bytes next (stops.first clear)
+
+  pub reads_file : (answer : Result Genome Fault) → ReadsGenome left failed end old answer new → ReadsChromosomes left failed (Some genome) answer (Some after)
+  reads_file (Ok table) reads = knows_read table reads.answers (reads.sound sound)
+  reads_file (Err fault) reads = lacks_read (told fault) reads.answers (reads.sound sound)

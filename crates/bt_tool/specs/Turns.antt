@@ -1,0 +1,114 @@
+-- What one turn of a sweep over two readers does: a record or the end of an input is given to it.
+use Rattle.std.specs.Prelude.{◌≡◌, ◌⊎◌, ℕ, Bool, List, Option, Some, Result, Ok, Err}
+use Rattle.bt_lines.specs.Fault.{Told}
+use Rattle.bt_lines.specs.Names.{told}
+use Rattle.bt_lines.specs.Output.{Output}
+use Rattle.bt_lines.specs.Putting.{FailsToAdd, Grown}
+use Rattle.bt_lines.specs.Reader.{IsSound}
+use Rattle.bt_lines.specs.declared.fault.Fault.{Fault}
+use Rattle.bt_bed.specs.Feature.{Feature}
+use Rattle.bt_bed.specs.Order.{Order}
+use Rattle.bt_bed.specs.Reading.{AnswersFault, EndsMembers}
+use Rattle.bt_bed.specs.Records.{GivesRecord, PassesRecord, below, order_in, view_of}
+use Rattle.bt_bed.specs.declared.order.ChromOrder.{Ghosts}
+use Rattle.bt_bed.specs.declared.records.Records.{Records}
+use Rattle.bt_sweep.specs.Lines.{lines_for}
+use Rattle.bt_sweep.specs.Standing.{IsInOrder, Stage, StandsAt, with_a, with_a_ended, with_b_ended}
+use Rattle.bt_sweep.specs.Steps.{Fails, FailsToHold, FailsToWriteA, TakesB, WritesA, lines_with}
+use Rattle.bt_sweep.specs.Sweeping.{Sweeping}
+use Rattle.bt_sweep.specs.declared.shape.Shape.{Shape}
+
+module _ {S O : Type 0} {g : Ghosts O} (left : S → Option (List ℕ)) (failed end : S → Bool) where
+  -- the reader has a record ahead
+  pub record HasAhead (old : Records S O g) (record_is : Feature) (peeked : Records S O g) : Type 0 where
+    pub gives : GivesRecord left failed old record_is peeked
+    pub sound : IsSound left end (below old) → IsSound left end (below peeked)
+    pub order : order_in peeked ≡ order_in old
+
+  -- it has given all records
+  pub record HasEnded (old new : Records S O g) : Type 0 where
+    pub ends : EndsMembers left failed (view_of old) (view_of new)
+    pub sound : IsSound left end (below old) → IsSound left end (below new)
+    pub order : order_in new ≡ order_in old
+
+  -- it tells a fault
+  pub record HasStopped (old : Records S O g) (fault : Told) (new : Records S O g) : Type 0 where
+    pub answers : AnswersFault left failed end (view_of old) fault (view_of new)
+    pub sound : IsSound left end (below old) → IsSound left end (below new)
+    pub order : order_in new ≡ order_in old
+
+  module _ (order : Order) (old : Records S O g) (sweep : Sweeping) (out : Output) where
+    -- a record of the first input was given and passed
+    pub record GivesFirst (new : Records S O g) (swept : Sweeping) (grown : Output) : Type 0 where
+      pub item : Feature
+      pub peeked : Records S O g
+      pub ahead : HasAhead old item peeked
+      pub passes : PassesRecord left peeked new
+      pub given : (shape : Shape) (stage : Stage) → StandsAt order shape stage sweep → IsInOrder order (with_a stage item)
+          → StandsAt order shape (with_a stage item) swept × Grown out (lines_with shape stage item) grown
+
+    -- its end was given
+    pub record EndsFirst (new : Records S O g) (swept : Sweeping) (grown : Output) : Type 0 where
+      pub ended : HasEnded old new
+      pub given : (shape : Shape) (stage : Stage) → StandsAt order shape stage sweep → StandsAt order shape (with_a_ended stage) swept
+      pub same_output : grown ≡ out
+
+    -- a record of the first input wasn't taken, or its lines weren't written
+    pub record FailsFirst (fault : Told) (new : Records S O g) (swept : Sweeping) (grown : Output) : Type 0 where
+      pub item : Feature
+      pub ahead : HasAhead old item new
+      pub fails : (shape : Shape) (stage : Stage) → StandsAt order shape stage sweep → IsInOrder order (with_a stage item)
+          → Fails out (lines_with shape stage item) fault grown
+
+    -- the input couldn't give one
+    pub record StopsTurn (fault : Told) (new : Records S O g) (swept : Sweeping) (grown : Output) : Type 0 where
+      pub stopped : HasStopped old fault new
+      pub same_sweep : swept ≡ sweep
+      pub same_output : grown ≡ out
+
+    -- a turn of the first input
+    abbrev pub TurnsFirst : {A : Type 0} → Result A Fault → Records S O g → Sweeping → Output → Type 0
+    TurnsFirst (Ok done) new swept grown = GivesFirst new swept grown ⊎ EndsFirst new swept grown
+    TurnsFirst (Err fault) new swept grown = StopsTurn (told fault) new swept grown ⊎ FailsFirst (told fault) new swept grown
+
+    -- a record of the second input was taken and passed
+    pub record TakesSecond (new : Records S O g) (swept : Sweeping) (grown : Output) : Type 0 where
+      pub item : Feature
+      pub peeked : Records S O g
+      pub ahead : HasAhead old item peeked
+      pub passes : PassesRecord left peeked new
+      pub given : (shape : Shape) (stage : Stage) (a : Feature) → StandsAt order shape stage sweep → stage.waiting ≡ Some a
+          → TakesB order shape stage a item out swept grown
+
+    -- it made the waiting record of the first be written, and stays ahead
+    pub record LeavesSecond (new : Records S O g) (swept : Sweeping) (grown : Output) : Type 0 where
+      pub item : Feature
+      pub ahead : HasAhead old item new
+      pub given : (shape : Shape) (stage : Stage) (a : Feature) → StandsAt order shape stage sweep → stage.waiting ≡ Some a
+          → WritesA order shape stage a item out swept grown
+
+    -- the end of the second input was given
+    pub record EndsSecond (new : Records S O g) (swept : Sweeping) (grown : Output) : Type 0 where
+      pub ended : HasEnded old new
+      pub given : (shape : Shape) (stage : Stage) (a : Feature) → StandsAt order shape stage sweep → stage.waiting ≡ Some a
+          → StandsAt order shape (with_b_ended stage) swept × Grown out (lines_for shape a stage.taken) grown
+
+    -- a record of the second input wasn't taken, or the lines of the waiting one weren't written
+    pub record FailsSecond (fault : Told) (new : Records S O g) (swept : Sweeping) (grown : Output) : Type 0 where
+      pub item : Feature
+      pub ahead : HasAhead old item new
+      pub fails : (shape : Shape) (stage : Stage) (a : Feature) → StandsAt order shape stage sweep → stage.waiting ≡ Some a
+          → FailsToWriteA order shape stage a item out fault grown ⊎ FailsToHold order shape stage a item out fault grown
+
+    -- at its end the lines of the waiting record weren't written
+    pub record FailsAtEnd (fault : Told) (new : Records S O g) (swept : Sweeping) (grown : Output) : Type 0 where
+      pub ended : HasEnded old new
+      pub fails : (shape : Shape) (stage : Stage) (a : Feature) → StandsAt order shape stage sweep → stage.waiting ≡ Some a
+          → FailsToAdd out (lines_for shape a stage.taken) fault grown
+
+    -- a turn of the second input
+    abbrev pub TurnsSecond : {A : Type 0} → Result A Fault → Records S O g → Sweeping → Output → Type 0
+    TurnsSecond (Ok done) new swept grown =
+        TakesSecond new swept grown ⊎ (LeavesSecond new swept grown ⊎ EndsSecond new swept grown)
+    TurnsSecond (Err fault) new swept grown =
+        StopsTurn (told fault) new swept grown ⊎ (FailsSecond (told fault) new swept grown ⊎ FailsAtEnd (told fault) new swept grown)

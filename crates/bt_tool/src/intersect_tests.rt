@@ -1,0 +1,385 @@
+use crate::tests::{
+    Answer, GENOME, Script, failed_line, failing, failing_by, line_of, run_both, whole,
+};
+use std::alloc::Global;
+use std::process::Abort;
+use std::test::Fail;
+
+// A run of intersect, and what it gives on the genome of all tests.
+struct Case {
+    name: &'static str,
+    options: &'static [&'static str],
+    first: &'static [u8],
+    second: &'static [u8],
+    output: &'static [u8],
+    line: &'static [u8],
+}
+
+const CASES: [Case; 29] = [
+    Case {
+        name: "nothing in the first input",
+        options: &[],
+        first: b"",
+        second: b"chr1\t2\t4\n",
+        output: b"",
+        line: b"",
+    },
+    Case {
+        name: "nothing in the second",
+        options: &["-v"],
+        first: b"chr1\t0\t10\ta\nchr1\t5\t8\n",
+        second: b"",
+        output: b"chr1\t0\t10\ta\nchr1\t5\t8\n",
+        line: b"",
+    },
+    Case {
+        name: "features that touch",
+        options: &[],
+        first: b"chr1\t10\t20\n",
+        second: b"chr1\t20\t30\n",
+        output: b"",
+        line: b"",
+    },
+    Case {
+        name: "features that touch, with none of the other",
+        options: &["-v"],
+        first: b"chr1\t10\t20\n",
+        second: b"chr1\t20\t30\n",
+        output: b"chr1\t10\t20\n",
+        line: b"",
+    },
+    Case {
+        name: "features that touch, counted",
+        options: &["-c"],
+        first: b"chr1\t10\t20\n",
+        second: b"chr1\t20\t30\n",
+        output: b"chr1\t10\t20\t0\n",
+        line: b"",
+    },
+    Case {
+        name: "a feature inside another",
+        options: &[],
+        first: b"chr1\t0\t100\nchr1\t50\t60\n",
+        second: b"chr1\t10\t20\nchr1\t55\t58\nchr1\t90\t95\n",
+        output: b"chr1\t10\t20\nchr1\t55\t58\nchr1\t90\t95\nchr1\t55\t58\n",
+        line: b"",
+    },
+    Case {
+        name: "a feature inside another, counted",
+        options: &["-c"],
+        first: b"chr1\t0\t100\nchr1\t50\t60\n",
+        second: b"chr1\t10\t20\nchr1\t55\t58\nchr1\t90\t95\n",
+        output: b"chr1\t0\t100\t3\nchr1\t50\t60\t1\n",
+        line: b"",
+    },
+    Case {
+        name: "the shared parts",
+        options: &[],
+        first: b"chr1\t10\t30\ta\n",
+        second: b"chr1\t0\t15\tx\nchr1\t25\t40\ty\n",
+        output: b"chr1\t10\t15\ta\nchr1\t25\t30\ta\n",
+        line: b"",
+    },
+    Case {
+        name: "all input is sorted",
+        options: &["-sorted"],
+        first: b"chr1\t10\t30\ta\n",
+        second: b"chr1\t0\t15\tx\nchr1\t25\t40\ty\n",
+        output: b"chr1\t10\t15\ta\nchr1\t25\t30\ta\n",
+        line: b"",
+    },
+    Case {
+        name: "the record for each hit",
+        options: &["-wa"],
+        first: b"chr1\t10\t30\ta\n",
+        second: b"chr1\t0\t15\tx\nchr1\t25\t40\ty\n",
+        output: b"chr1\t10\t30\ta\nchr1\t10\t30\ta\n",
+        line: b"",
+    },
+    Case {
+        name: "the same, asked for twice",
+        options: &["-wa", "-wa"],
+        first: b"chr1\t10\t30\ta\n",
+        second: b"chr1\t0\t15\tx\nchr1\t25\t40\ty\n",
+        output: b"chr1\t10\t30\ta\nchr1\t10\t30\ta\n",
+        line: b"",
+    },
+    Case {
+        name: "the shared parts, and what hits",
+        options: &["-wb"],
+        first: b"chr1\t10\t30\ta\n",
+        second: b"chr1\t0\t15\tx\nchr1\t25\t40\ty\n",
+        output: b"chr1\t10\t15\ta\tchr1\t0\t15\tx\nchr1\t25\t30\ta\tchr1\t25\t40\ty\n",
+        line: b"",
+    },
+    Case {
+        name: "the records of both",
+        options: &["-wa", "-wb"],
+        first: b"chr1\t10\t30\ta\n",
+        second: b"chr1\t0\t15\tx\nchr1\t25\t40\ty\n",
+        output: b"chr1\t10\t30\ta\tchr1\t0\t15\tx\nchr1\t10\t30\ta\tchr1\t25\t40\ty\n",
+        line: b"",
+    },
+    Case {
+        name: "the records of both, and how much they share",
+        options: &["-wo"],
+        first: b"chr1\t10\t30\ta\n",
+        second: b"chr1\t0\t15\tx\nchr1\t25\t40\ty\n",
+        output: b"chr1\t10\t30\ta\tchr1\t0\t15\tx\t5\nchr1\t10\t30\ta\tchr1\t25\t40\ty\t5\n",
+        line: b"",
+    },
+    Case {
+        name: "the record once",
+        options: &["-u"],
+        first: b"chr1\t10\t30\ta\n",
+        second: b"chr1\t0\t15\tx\nchr1\t25\t40\ty\n",
+        output: b"chr1\t10\t30\ta\n",
+        line: b"",
+    },
+    Case {
+        name: "the record once, whatever is written of it",
+        options: &["-wa", "-u"],
+        first: b"chr1\t10\t30\ta\n",
+        second: b"chr1\t0\t15\tx\nchr1\t25\t40\ty\n",
+        output: b"chr1\t10\t30\ta\n",
+        line: b"",
+    },
+    Case {
+        name: "the number of hits",
+        options: &["-c"],
+        first: b"chr1\t10\t30\ta\n",
+        second: b"chr1\t0\t15\tx\nchr1\t25\t40\ty\n",
+        output: b"chr1\t10\t30\ta\t2\n",
+        line: b"",
+    },
+    Case {
+        name: "the number of hits, whatever is written",
+        options: &["-c", "-wa"],
+        first: b"chr1\t10\t30\ta\n",
+        second: b"chr1\t0\t15\tx\nchr1\t25\t40\ty\n",
+        output: b"chr1\t10\t30\ta\t2\n",
+        line: b"",
+    },
+    Case {
+        name: "no record without a hit",
+        options: &["-v"],
+        first: b"chr1\t10\t30\ta\n",
+        second: b"chr1\t0\t15\tx\nchr1\t25\t40\ty\n",
+        output: b"",
+        line: b"",
+    },
+    Case {
+        name: "none without a hit, whatever is written",
+        options: &["-wa", "-v"],
+        first: b"chr1\t10\t30\ta\n",
+        second: b"chr1\t0\t15\tx\nchr1\t25\t40\ty\n",
+        output: b"",
+        line: b"",
+    },
+    Case {
+        name: "a chromosome behind that of the other",
+        options: &[],
+        first: b"chr2\t0\t5\n",
+        second: b"chr1\t0\t9\nchr2\t5\t9\n",
+        output: b"",
+        line: b"",
+    },
+    Case {
+        name: "a fault where the second record is asked for",
+        options: &[],
+        first: b"chr1\t0\t10\nchr1\t100\t110\n",
+        second: b"chr1\t2\t4\nchr1\t50\t60\nchr1\tx\t9\n",
+        output: b"chr1\t2\t4\n",
+        line: b"bedtools intersect: b.bed:3: start is not a number\n",
+    },
+    Case {
+        name: "a fault behind the last record",
+        options: &[],
+        first: b"chr1\t0\t10\n",
+        second: b"chr1\t2\t4\nchr1\t50\t60\nchr1\tx\t9\n",
+        output: b"chr1\t2\t4\n",
+        line: b"bedtools intersect: b.bed:3: start is not a number\n",
+    },
+    Case {
+        name: "a fault beside no record",
+        options: &[],
+        first: b"",
+        second: b"chr1\t2\t4\nchr1\t50\t60\nchr1\tx\t9\n",
+        output: b"",
+        line: b"bedtools intersect: b.bed:3: start is not a number\n",
+    },
+    Case {
+        name: "a second input out of order",
+        options: &[],
+        first: b"chr1\t0\t10\n",
+        second: b"chr1\t2\t4\nchr2\t0\t5\nchr1\t50\t60\n",
+        output: b"chr1\t2\t4\n",
+        line: b"bedtools intersect: b.bed:3: record is out of order\n",
+    },
+    Case {
+        name: "the first input at fault before the second",
+        options: &[],
+        first: b"chr1\t0\t10\nchr1\tx\t5\n",
+        second: b"chr1\t2\t4\nchr1\t50\t60\nchr1\ty\t9\n",
+        output: b"chr1\t2\t4\n",
+        line: b"bedtools intersect: a.bed:2: start is not a number\n",
+    },
+    Case {
+        name: "both at fault at once",
+        options: &[],
+        first: b"chr1\tx\t5\n",
+        second: b"chr1\ty\t9\n",
+        output: b"",
+        line: b"bedtools intersect: a.bed:1: start is not a number\n",
+    },
+    Case {
+        name: "the second at fault at once",
+        options: &[],
+        first: b"chr1\t0\t10\n",
+        second: b"chr1\ty\t9\n",
+        output: b"",
+        line: b"bedtools intersect: b.bed:1: start is not a number\n",
+    },
+    Case {
+        name: "a start with zeros before it",
+        options: &["-wa", "-wb"],
+        first: b"chr1\t007\t9\tn\t0\t+\n",
+        second: b"chr1\t08\t20\tm\n",
+        output: b"chr1\t7\t9\tn\t0\t+\tchr1\t8\t20\tm\n",
+        line: b"",
+    },
+];
+
+// Runs intersect with these options.
+fn intersect(
+    alloc: Global,
+    options: &[&str],
+    first: (&[u8], Script),
+    second: (&[u8], Script),
+    out: Script,
+) -> Result<Answer, Fail> {
+    let mut words = vec![in alloc; "intersect", "-a", "a.bed", "-b", "b.bed", "-g", "g.txt"]?;
+    words.extend_from_slice(options)?;
+    run_both(
+        alloc,
+        words.as_slice(),
+        (GENOME, whole(7)),
+        first,
+        second,
+        out,
+    )
+}
+
+fn check(rt: &impl Abort, alloc: Global, case: &Case, step: usize) -> Result<(), Fail> {
+    let script = whole(step.max(1));
+    let first = (case.first, script);
+    let second = (case.second, script);
+    let answer = intersect(alloc, case.options, first, second, script)?;
+    assert_eq!(rt; answer.output.as_slice(), case.output, "{}", case.name);
+    assert_eq!(rt; line_of(&answer), case.line, "{}", case.name);
+    assert_eq!(rt;
+        answer.status,
+        u8::from(!case.line.is_empty()),
+        "{}",
+        case.name
+    );
+    Ok(())
+}
+
+#[test]
+fn worked_cases(rt: HostRuntime) -> Result<(), Fail> {
+    for step in [1, 7, 8192] {
+        for case in &CASES {
+            check(&rt, rt.alloc(), case, step)?;
+        }
+    }
+    Ok(())
+}
+
+// Two inputs that fail, the second behind what decides the first record.
+const FIRST: &[u8] = b"chr1\t0\t10\nchr1\t100\t110\n";
+
+const SECOND: &[u8] = b"chr1\t2\t4\nchr1\t50\t60\nchr1\tx\t9\n";
+
+const SHARED: &[u8] = b"chr1\t2\t4\n";
+
+// Whatever byte of the first input fails to come: the lines of its whole lines that are decided. The
+// second record asks for the faulty line of the second input.
+#[test]
+fn a_first_input_that_fails_at_each_byte(rt: HostRuntime) -> Result<(), Fail> {
+    for step in [1, 7] {
+        for good in 0..=FIRST.len() {
+            let first = (FIRST, failing_by(step, good));
+            let answer = intersect(rt.alloc(), &[], first, (SECOND, whole(step)), whole(step))?;
+            let (output, line): (&[u8], &[u8]) = match failed_line(FIRST, good) {
+                1 => (b"", b"bedtools intersect: a.bed:1: reading failed\n"),
+                2 => (SHARED, b"bedtools intersect: a.bed:2: reading failed\n"),
+                _ => (
+                    SHARED,
+                    b"bedtools intersect: b.bed:3: start is not a number\n",
+                ),
+            };
+            assert_eq!(rt; answer.output.as_slice(), output);
+            assert_eq!(rt; line_of(&answer), line);
+        }
+    }
+    Ok(())
+}
+
+// Whatever byte of the second fails to come: a record is written once a whole line decides it.
+#[test]
+fn a_second_input_that_fails_at_each_byte(rt: HostRuntime) -> Result<(), Fail> {
+    for step in [1, 7] {
+        for good in 0..=SECOND.len() {
+            let second = (SECOND, failing_by(step, good));
+            let answer = intersect(rt.alloc(), &[], (FIRST, whole(step)), second, whole(step))?;
+            let (output, line): (&[u8], &[u8]) = match failed_line(SECOND, good) {
+                1 => (b"", b"bedtools intersect: b.bed:1: reading failed\n"),
+                2 => (b"", b"bedtools intersect: b.bed:2: reading failed\n"),
+                3 => (SHARED, b"bedtools intersect: b.bed:3: reading failed\n"),
+                _ => (
+                    SHARED,
+                    b"bedtools intersect: b.bed:3: start is not a number\n",
+                ),
+            };
+            assert_eq!(rt; answer.output.as_slice(), output);
+            assert_eq!(rt; line_of(&answer), line);
+        }
+    }
+    Ok(())
+}
+
+// A fault of the first input is told before one of the second that no record asks for.
+#[test]
+fn a_second_input_that_fails_beside_a_faulty_first(rt: HostRuntime) -> Result<(), Fail> {
+    let first = b"chr1\t0\t10\nchr1\tx\t5\n";
+    for good in 0..=SECOND.len() {
+        let second = (SECOND, failing(good));
+        let answer = intersect(rt.alloc(), &[], (first, whole(7)), second, whole(7))?;
+        let (output, line): (&[u8], &[u8]) = match failed_line(SECOND, good) {
+            1 => (b"", b"bedtools intersect: b.bed:1: reading failed\n"),
+            2 => (b"", b"bedtools intersect: b.bed:2: reading failed\n"),
+            _ => (
+                SHARED,
+                b"bedtools intersect: a.bed:2: start is not a number\n",
+            ),
+        };
+        assert_eq!(rt; answer.output.as_slice(), output);
+        assert_eq!(rt; line_of(&answer), line);
+    }
+    Ok(())
+}
+
+#[test]
+fn an_output_that_fails_at_each_byte(rt: HostRuntime) -> Result<(), Fail> {
+    for good in 0..SHARED.len() {
+        let inputs = ((FIRST, whole(7)), (SECOND, whole(7)));
+        let answer = intersect(rt.alloc(), &[], inputs.0, inputs.1, failing(good))?;
+        assert_eq!(rt; answer.output.as_slice(), &SHARED[..good]);
+        assert_eq!(rt;
+            line_of(&answer),
+            b"bedtools intersect: writing failed\n".as_slice()
+        );
+    }
+    Ok(())
+}

@@ -1,0 +1,148 @@
+//! The loop over two sorted inputs: a sweep is given the records of both.
+
+ghost use Rattle.std.specs.Prelude.{◌≡◌, option_map};
+ghost use Rattle.bt_lines.specs.Names.{told};
+ghost use Rattle.bt_lines.specs.Output.{HoldsBlock};
+ghost use Rattle.bt_bed.specs.GoodBed.{bed_format};
+ghost use Rattle.bt_bed.specs.Order.{IsTotal};
+ghost use Rattle.bt_bed.specs.Records.{order_in, view_of};
+ghost use Rattle.bt_bed.specs.Sorting.{sorting_of};
+ghost use Rattle.bt_sweep.specs.Sweep.{order_of, state_of};
+ghost use Rattle.bt_sweep.specs.Sweeping.{want_in};
+ghost use Rattle.bt_tool.specs.Both.{Intersects};
+ghost use Rattle.bt_tool.specs.Swept.{FinishesBoth, ReadsOn, Sweeps, SweepsOrStops};
+ghost use Rattle.bt_tool.specs.Turns.{TurnsFirst, TurnsSecond};
+
+use bt_bed::{ChromOrder, Records};
+use bt_lines::{Fault, Input, LineReader, Out, Sink, Source};
+use bt_sweep::{Held, HeldList, Shape, Sweep, Taken, Want};
+use std::alloc::Global;
+
+// Gives a sweep the next record of the first input, or its end.
+fn turn_first<A: Source, O: ChromOrder, H: Held, K: Sink>(
+    first: &mut Records<'_, A, O>,
+    sweep: &mut Sweep<'_, H, O>,
+    out: &mut Out<K>,
+) -> Result<(), Fault>
+    requires want { want_in (state_of sweep.old) ≡ Want.A }
+    requires order { order_of sweep.old ≡ order_in first.old }
+    ensures turns { TurnsFirst A.left A.has_failed A.end_told (order_of sweep.old) first.old (state_of sweep.old) out.old
+        result first.new (state_of sweep.new) out.new }
+    ensures order { order_of sweep.new ≡ order_of sweep.old }
+{
+    match first.peek()? {
+        Some(record) => {
+            sweep.give_a(&record, out)?;
+            first.advance();
+        }
+        None => sweep.end_a(),
+    }
+    Ok(())
+}
+
+// Gives a sweep the next record of the second input, or its end. A record that isn't taken stays ahead.
+fn turn_second<B: Source, O: ChromOrder, H: Held, K: Sink>(
+    second: &mut Records<'_, B, O>,
+    sweep: &mut Sweep<'_, H, O>,
+    out: &mut Out<K>,
+) -> Result<(), Fault>
+    requires want { want_in (state_of sweep.old) ≡ Want.B }
+    requires order { order_of sweep.old ≡ order_in second.old }
+    ensures turns { TurnsSecond B.left B.has_failed B.end_told (order_of sweep.old) second.old (state_of sweep.old) out.old
+        result second.new (state_of sweep.new) out.new }
+    ensures order { order_of sweep.new ≡ order_of sweep.old }
+{
+    match second.peek()? {
+        Some(record) => match sweep.give_b(&record, out)? {
+            Taken::Yes => second.advance(),
+            Taken::No => {}
+        },
+        None => sweep.end_b(out)?,
+    }
+    Ok(())
+}
+
+// Gives a sweep what it asks for, until it asks for nothing more.
+fn sweep_all<A: Source, B: Source, O: ChromOrder, H: Held, K: Sink>(
+    first: &mut Records<'_, A, O>,
+    second: &mut Records<'_, B, O>,
+    sweep: &mut Sweep<'_, H, O>,
+    out: &mut Out<K>,
+) -> Result<(), Fault>
+    requires total { IsTotal (order_in first.old) }
+    requires second { order_in second.old ≡ order_in first.old }
+    requires sweep { order_of sweep.old ≡ order_in first.old }
+    requires sorted { (view_of first.old).format ≡ bed_format (sorting_of (order_in first.old)) }
+    requires sorted_second { (view_of second.old).format ≡ bed_format (sorting_of (order_in second.old)) }
+    requires starts { Sweeps A.left A.has_failed A.end_told B.left B.has_failed B.end_told (order_in first.old)
+        (state_of sweep.old).shape first.old second.old out.old first.old second.old (state_of sweep.old) out.old }
+    ensures { SweepsOrStops A.left A.has_failed A.end_told B.left B.has_failed B.end_told (order_in first.old)
+        (state_of sweep.old).shape first.old second.old out.old result first.new second.new (state_of sweep.new) out.new }
+{
+    loop {
+        match sweep.want() {
+            Want::A => turn_first(first, sweep, out)?,
+            Want::B => turn_second(second, sweep, out)?,
+            Want::Nothing => return Ok(()),
+        }
+    }
+}
+
+// Reads an input to its end, so that a fault behind the last record that was asked for is told.
+fn check_rest<B: Source, O: ChromOrder>(second: &mut Records<'_, B, O>) -> Result<(), Fault>
+    ensures { ReadsOn B.left B.has_failed B.end_told second.old result second.new }
+{
+    while let Some(_record) = second.peek()? {
+        second.advance();
+    }
+    Ok(())
+}
+
+// Sweeps both inputs, and reads the second to its end.
+fn read_both<A: Source, B: Source, O: ChromOrder, H: Held, K: Sink>(
+    first: &mut Records<'_, A, O>,
+    second: &mut Records<'_, B, O>,
+    sweep: &mut Sweep<'_, H, O>,
+    out: &mut Out<K>,
+) -> Result<(), Fault>
+    requires total { IsTotal (order_in first.old) }
+    requires second { order_in second.old ≡ order_in first.old }
+    requires sweep { order_of sweep.old ≡ order_in first.old }
+    requires sorted { (view_of first.old).format ≡ bed_format (sorting_of (order_in first.old)) }
+    requires sorted_second { (view_of second.old).format ≡ bed_format (sorting_of (order_in second.old)) }
+    requires starts { Sweeps A.left A.has_failed A.end_told B.left B.has_failed B.end_told (order_in first.old)
+        (state_of sweep.old).shape first.old second.old out.old first.old second.old (state_of sweep.old) out.old }
+    ensures { FinishesBoth A.left A.has_failed A.end_told B.left B.has_failed B.end_told (order_in first.old)
+        (state_of sweep.old).shape first.old second.old out.old result first.new second.new out.new }
+{
+    sweep_all(first, second, sweep, out)?;
+    check_rest(second)
+}
+
+/// Sweeps two inputs, in an order of their chromosomes, and writes the lines of this shape. It gives the
+/// sources back, and the fault that the run ends with, if there is one. The second input is read no
+/// further than the records of the first ask for, and where those are all written, to its end.
+pub(crate) fn sweep<A: Source, B: Source, O: ChromOrder, K: Sink>(
+    alloc: Global,
+    order: &O,
+    shape: Shape,
+    first: A,
+    second: B,
+    out: &mut Out<K>,
+) -> (Option<Fault>, A, B)
+    requires total { IsTotal (O.order order.now) }
+    requires block { HoldsBlock out.old.took out.old.put }
+    ensures { Intersects A.left A.has_failed A.end_told B.left B.has_failed (O.order order.now) shape
+        first second out.old (option_map told result.0) result.1 result.2 out.new }
+{
+    let mut firsts = Records::new(alloc, LineReader::new(alloc, first, Input::First), order);
+    let mut seconds = Records::new(alloc, LineReader::new(alloc, second, Input::Second), order);
+    let mut sweep = Sweep::new(alloc, HeldList::new(alloc), shape, order);
+    let swept = read_both(&mut firsts, &mut seconds, &mut sweep, out);
+    let first = firsts.into_reader().into_source();
+    let second = seconds.into_reader().into_source();
+    match swept {
+        Ok(()) => (None, first, second),
+        Err(fault) => (Some(fault), first, second),
+    }
+}

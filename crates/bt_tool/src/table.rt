@@ -1,0 +1,169 @@
+//! What the command line of each tool may say, as data: a further command is a row of this table.
+
+use crate::takes::Takes;
+
+/// An option, and what it takes after its own word.
+#[derive(Clone, Copy, Debug)]
+pub(crate) struct Row {
+    pub(crate) option: &'static str,
+    pub(crate) takes: Takes,
+}
+
+/// What the command line of one tool may say.
+#[derive(Clone, Copy, Debug)]
+pub(crate) struct Table {
+    pub(crate) options: &'static [Row],
+    /// The options that have to be given.
+    pub(crate) required: &'static [&'static str],
+    /// The options of which one at least has to be given, where the tool has such.
+    pub(crate) one_of: &'static [&'static str],
+    /// The pairs of options that exclude one another.
+    pub(crate) exclusive: &'static [(&'static str, &'static str)],
+    /// The options whose values name the inputs and the output.
+    pub(crate) genome: Option<&'static str>,
+    pub(crate) first: &'static str,
+    pub(crate) second: Option<&'static str>,
+    pub(crate) output: Option<&'static str>,
+}
+
+/// `bedtools merge`.
+pub(crate) const MERGE: Table = Table {
+    options: &[
+        Row {
+            option: "-i",
+            takes: Takes::FileName,
+        },
+        Row {
+            option: "-g",
+            takes: Takes::FileName,
+        },
+        Row {
+            option: "-d",
+            takes: Takes::Number,
+        },
+        Row {
+            option: "-S",
+            takes: Takes::Strand,
+        },
+    ],
+    required: &["-g"],
+    one_of: &[],
+    exclusive: &[],
+    genome: Some("-g"),
+    first: "-i",
+    second: None,
+    output: None,
+};
+
+/// `bedtools complement`.
+pub(crate) const COMPLEMENT: Table = Table {
+    options: &[
+        Row {
+            option: "-i",
+            takes: Takes::FileName,
+        },
+        Row {
+            option: "-g",
+            takes: Takes::FileName,
+        },
+        Row {
+            option: "-L",
+            takes: Takes::Nothing,
+        },
+    ],
+    required: &["-g"],
+    one_of: &[],
+    exclusive: &[],
+    genome: Some("-g"),
+    first: "-i",
+    second: None,
+    output: None,
+};
+
+/// `bedtools intersect`. `-wa` changes nothing beside `-u`, `-v` and `-c`, nor does `-sorted` ever: all
+/// input is.
+pub(crate) const INTERSECT: Table = Table {
+    options: &[
+        Row {
+            option: "-a",
+            takes: Takes::FileName,
+        },
+        Row {
+            option: "-b",
+            takes: Takes::FileName,
+        },
+        Row {
+            option: "-g",
+            takes: Takes::FileName,
+        },
+        Row {
+            option: "-wa",
+            takes: Takes::Nothing,
+        },
+        Row {
+            option: "-wb",
+            takes: Takes::Nothing,
+        },
+        Row {
+            option: "-wo",
+            takes: Takes::Nothing,
+        },
+        Row {
+            option: "-u",
+            takes: Takes::Nothing,
+        },
+        Row {
+            option: "-v",
+            takes: Takes::Nothing,
+        },
+        Row {
+            option: "-c",
+            takes: Takes::Nothing,
+        },
+        Row {
+            option: "-sorted",
+            takes: Takes::Nothing,
+        },
+    ],
+    required: &["-a", "-b", "-g"],
+    one_of: &[],
+    exclusive: &[
+        ("-wa", "-wo"),
+        ("-wb", "-wo"),
+        ("-wb", "-u"),
+        ("-wb", "-v"),
+        ("-wb", "-c"),
+        ("-wo", "-u"),
+        ("-wo", "-v"),
+        ("-wo", "-c"),
+        ("-u", "-v"),
+        ("-u", "-c"),
+        ("-v", "-c"),
+    ],
+    genome: Some("-g"),
+    first: "-a",
+    second: Some("-b"),
+    output: None,
+};
+
+impl Table {
+    ghost use Rattle.std.specs.Prelude.{◌≡◌, bytes_eq, find, option_map};
+    ghost use Rattle.bt_tool.specs.Table.{takes};
+    ghost use Rattle.bt_tool.specs.TableLent.{table_lent};
+
+    /// What the option of this word takes, if there is one.
+    #[tactic(auto, using(crate::proofs::TableLemmas::takes_lent))]
+    pub(crate) fn takes(&self, word: &str) -> Option<Takes>
+        ensures { result ≡ takes (table_lent self.now) word.now }
+    {
+        Some(self.row(word)?.takes)
+    }
+
+    // The row of the option of this word.
+    fn row(&self, word: &str) -> Option<&'static Row>
+        ensures { option_map (λ row. row.now) result
+            ≡ find (λ row. bytes_eq word.now row.option.now) self.now.options.now }
+    {
+        self.options.iter().find(|row| word == row.option)
+    }
+}
