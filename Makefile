@@ -1,10 +1,10 @@
-# make builds bin/bedtools, make example runs it, make test is the gate, make mutants tries further wrong bodies, make install PREFIX=.. copies it.
+# make builds bin/bedtools, make example runs it, make test is the gate, make mutants tries further wrong bodies, make check-docs runs the examples of the docs, make install PREFIX=.. copies it.
 PREFIX ?= /usr/local
 
 PROGRAM := bin/bedtools
 SOURCES := crates.txt $(shell find crates -name out -prune -o -type f \( -name '*.rt' -o -name '*.antt' \) -print)
 
-.PHONY: all example test mutants install clean
+.PHONY: all example test mutants check-docs install clean
 
 all: $(PROGRAM)
 
@@ -29,6 +29,10 @@ mutants:
 	rm -rf crates/*/must-fail && \
 	for mutants in crates/*/mutants; do mv $$mutants $$(dirname $$mutants)/must-fail; done && \
 	rt must-fail; status=$$?; rm -rf $$copy; exit $$status
+
+# The shell examples of README.md and docs/ write what stands below them.
+check-docs: $(PROGRAM)
+	docs/examples.py
 
 install: $(PROGRAM)
 	install -D $(PROGRAM) $(DESTDIR)$(PREFIX)/bin/bedtools

@@ -1,16 +1,18 @@
 #!/usr/bin/env python3
 """Times the commands of this repository on sorted records that it makes itself.
 
-    bench/compare.py [RECORDS] [--chart FILE]
+    bench/compare.py [RECORDS] [--only WORDS] [--chart FILE]
 
-Prints, for each command and shape of record, for RECORDS records (5,000,000 where it is missing) and
+Prints, for each command and kind of record, for RECORDS records (5,000,000 where it is missing) and
 for a tenth of them, the processor time and the peak memory; beside them those of the bedtools and the
 bedops on PATH, where they are there and do the same job; and the instructions a record, where valgrind
-is there. With `--chart` it draws the larger runs as an SVG. It fails where a program fails, where two
-outputs differ, or where this program's memory grows with its input.
+is there. With `--only` it takes the workloads alone whose names have these words in them; with `--chart`
+it draws the larger runs as an SVG. It fails where a program fails, where two outputs differ, or where
+this program's memory grows with its input.
 """
 
 import argparse
+import filecmp
 import os
 import random
 import re
@@ -35,11 +37,81 @@ COUNTED = 100_000
 
 
 @dataclass
+class Touching:
+    """Records of which a third touch or overlap the one before, as one input."""
+
+    columns: int
+
+    def name(self):
+        return f"{self.columns} columns"
+
+    def inputs(self, folder):
+        return ["-i", str(folder / "records.bed")]
+
+    def write(self, folder, count):
+        write_records(folder / "records.bed", count, self.columns, 1)
+
+
+@dataclass
+class Features:
+    """Records at random places, of lengths from the shortest to below the longest, one for so many records asked for."""
+
+    word: str
+    each: int
+    shortest: int
+    longest: int
+    columns: int
+
+    def write(self, path, count, seed):
+        write_features(path, count // self.each, self, seed)
+
+
+@dataclass
+class Pair:
+    """Records of two kinds, as two inputs."""
+
+    first: Features
+    second: Features
+
+    def name(self):
+        return f"{self.first.word} and {self.second.word}"
+
+    def inputs(self, folder):
+        return ["-a", str(folder / "records.bed"), "-b", str(folder / "second.bed")]
+
+    def write(self, folder, count):
+        self.first.write(folder / "records.bed", count, 1)
+        self.second.write(folder / "second.bed", count, 2)
+
+
+@dataclass
+class Nested:
+    """2,000 exons inside 10,000 records that lie one in another, whatever the size asked for."""
+
+    def name(self):
+        return "2,000 in 10,000 nested"
+
+    def inputs(self, folder):
+        return ["-a", str(folder / "records.bed"), "-b", str(folder / "second.bed")]
+
+    def write(self, folder, count):
+        lines = (f"chr1\t{100_000_000 + at * 1000}\t{100_000_500 + at * 1000}\tx\t1\t+\n" for at in range(2000))
+        (folder / "records.bed").write_text("".join(lines), encoding="ascii")
+        lines = (f"chr1\t{at * 10}\t{200_000_000 - at * 10}\n" for at in range(10_000))
+        (folder / "second.bed").write_text("".join(lines), encoding="ascii")
+
+
+READS = Features("reads", 1, 149, 151, 6)
+EXONS = Features("exons", 10, 50, 400, 6)
+PEAKS = Features("peaks", 25, 200, 2000, 3)
+
+
+@dataclass
 class Workload:
-    """A command over records of some columns, and how the others do the same job."""
+    """A command over records of some kind, and how the others do the same job."""
 
     words: list
-    columns: int
+    data: object
     # Whether bedtools takes -g there.
     takes_genome: bool
     # The words by which bedops does it, if it does.
@@ -48,36 +120,25 @@ class Workload:
     instructions: int
     # At most such a part of bedtools' time is aimed at.
     part: float
-    # For so many records of the first input there is one of a second, of three columns; 0 for none.
-    each: int = 0
+    is_drawn: bool = True
 
     def name(self):
-        return f"{' '.join(self.words)}, {self.columns} columns"
+        return f"{' '.join(self.words)}, {self.data.name()}"
 
-    def inputs(self, folder):
-        """The words that name the inputs."""
-        records = str(folder / "records.bed")
-        return ["-a", records, "-b", str(folder / "second.bed")] if self.each else ["-i", records]
 
-    def write(self, folder, count):
-        """Writes its inputs, the first of about `count` records."""
-        write_records(folder / "records.bed", count, self.columns, 1)
-        if self.each:
-            write_records(folder / "second.bed", count // self.each, 3, 2)
-
+SHAPES = [[], ["-wa"], ["-wb"], ["-wa", "-wb"], ["-wo"], ["-u"], ["-v"], ["-c"]]
 
 WORKLOADS = [
-    Workload(["merge"], 3, False, ["--merge"], 450, 0.2),
-    Workload(["merge"], 6, False, ["--merge"], 600, 0.3),
-    Workload(["merge", "-S", "+", "-d", "100"], 6, False, None, 600, 0.3),
-    Workload(["complement"], 3, True, None, 450, 0.2),
-    Workload(["complement"], 6, True, None, 600, 0.3),
-    Workload(["intersect", "-sorted"], 6, True, None, None, 0.35, 5),
-    Workload(["intersect", "-sorted", "-wa", "-wb"], 6, True, None, None, 0.35, 5),
-    Workload(["intersect", "-sorted", "-wo"], 6, True, None, None, 0.35, 5),
-    Workload(["intersect", "-sorted", "-u"], 6, True, None, None, 0.35, 5),
-    Workload(["intersect", "-sorted", "-v"], 6, True, None, None, 0.35, 5),
-    Workload(["intersect", "-sorted", "-c"], 6, True, None, None, 0.35, 5),
+    Workload(["merge"], Touching(3), False, ["--merge"], 450, 0.2),
+    Workload(["merge"], Touching(6), False, ["--merge"], 600, 0.3),
+    Workload(["merge", "-S", "+", "-d", "100"], Touching(6), False, None, 600, 0.3),
+    Workload(["complement"], Touching(3), True, None, 450, 0.2),
+    Workload(["complement"], Touching(6), True, None, 600, 0.3),
+    *(
+        Workload(["intersect", "-sorted", *shape], data, True, None, None, 0.35, not shape)
+        for data in (Pair(READS, EXONS), Pair(EXONS, PEAKS), Nested())
+        for shape in SHAPES
+    ),
 ]
 
 
@@ -121,6 +182,18 @@ def write_records(path, count, columns, seed):
                 stop = start + numbers.randrange(1, mean)
 
 
+def write_features(path, count, features, seed):
+    """Writes about `count` records at random places, in order."""
+    numbers = random.Random(seed)
+    total = sum(LENGTHS)
+    with open(path, "w", encoding="ascii") as records:
+        for name, length in zip(NAMES, LENGTHS):
+            last = length * 1_000_000 - features.longest
+            for start in sorted(numbers.randrange(last) for _ in range(count * length // total)):
+                stop = start + numbers.randrange(features.shortest, features.longest)
+                records.write(f"{name}\t{start}\t{stop}{further_columns(numbers, features.columns)}\n")
+
+
 def time_run(run, output):
     """Runs a program, and keeps its processor time in seconds and its peak memory in kilobytes."""
     with open(output, "wb") as out:
@@ -150,7 +223,7 @@ def peak_so_far(process):
 def runs_of(workload, others, folder):
     """The runs of a workload: this program's first, then those of the other programs that do the same job."""
     genome = ["-g", str(folder / "genome.txt")]
-    words = [*workload.words, *workload.inputs(folder)]
+    words = [*workload.words, *workload.data.inputs(folder)]
     runs = [Run("dunekettle", [str(PROGRAM), *words, *genome])]
     if others["bedtools"]:
         runs.append(Run("bedtools", [others["bedtools"], *words, *(genome if workload.takes_genome else [])]))
@@ -159,39 +232,50 @@ def runs_of(workload, others, folder):
     return runs
 
 
+def prepared(workload, folder, size):
+    """The folder of a workload's inputs of this size, which are written unless they are there."""
+    place = folder / f"{workload.data.name()}, {size}"
+    if not place.exists():
+        place.mkdir()
+        write_genome(place / "genome.txt")
+        workload.data.write(place, size)
+    return place
+
+
 def compare(workload, others, folder, size):
     """Runs a workload on `size` records by each program. Answers what each took."""
-    workload.write(folder, size)
-    runs = runs_of(workload, others, folder)
-    megabytes = (folder / "records.bed").stat().st_size / 1e6
+    place = prepared(workload, folder, size)
+    runs = runs_of(workload, others, place)
+    megabytes = (place / "records.bed").stat().st_size / 1e6
     print(f"{workload.name()}: about {size} records, {megabytes:.0f} MB")
     for run in runs:
         time_run(run, folder / f"{run.program}.bed")
         part = "" if run is runs[0] else f", of which ours is {runs[0].seconds / run.seconds:.2f}"
-        print(f"  {run.program:10} {run.seconds:6.2f} s{part}; {run.kilobytes} kB")
-    ours = (folder / "dunekettle.bed").read_bytes()
+        print(f"  {run.program:10} {run.seconds:6.2f} s{part}; {run.kilobytes} kB", flush=True)
     for run in runs[1:]:
-        if (folder / f"{run.program}.bed").read_bytes() != ours:
+        if not filecmp.cmp(folder / f"{runs[0].program}.bed", folder / f"{run.program}.bed", shallow=False):
             sys.exit(f"the output of {run.program} differs")
     return runs
 
 
 def count_instructions(valgrind, workload, others, folder):
     """Prints the instructions a record of each program."""
-    workload.write(folder, COUNTED)
-    lines = (folder / "records.bed").read_bytes().count(b"\n")
+    place = prepared(workload, folder, COUNTED)
+    with open(place / "records.bed", "rb") as records:
+        lines = sum(1 for _ in records)
     aim = f", at most {workload.instructions} aimed at" if workload.instructions else ""
     print(f"{workload.name()}: instructions a record{aim}")
-    for run in runs_of(workload, others, folder):
+    for run in runs_of(workload, others, place):
         words = [valgrind, "--tool=callgrind", "--callgrind-out-file=/dev/null", *run.words]
         told = subprocess.run(words, stdout=subprocess.DEVNULL, stderr=subprocess.PIPE, check=True, text=True)
         count = int(re.search(r"Collected : (\d+)", told.stderr).group(1))
-        print(f"  {run.program:10} {count / lines:6.0f}")
+        print(f"  {run.program:10} {count / lines:6.0f}", flush=True)
 
 
 def main():
     parser = argparse.ArgumentParser(description=__doc__.splitlines()[0])
     parser.add_argument("records", nargs="?", type=int, default=5_000_000)
+    parser.add_argument("--only", metavar="WORDS", default="")
     parser.add_argument("--chart", metavar="FILE")
     asked = parser.parse_args()
     others = {name: shutil.which(name) for name in ("bedtools", "bedops")}
@@ -201,16 +285,16 @@ def main():
     rows = []
     with tempfile.TemporaryDirectory() as folder:
         folder = Path(folder)
-        write_genome(folder / "genome.txt")
-        for workload in WORKLOADS:
+        for workload in (it for it in WORKLOADS if asked.only in it.name()):
             small, large = (compare(workload, others, folder, size) for size in (asked.records // 10, asked.records))
             if large[0].kilobytes > small[0].kilobytes + SLACK:
                 sys.exit("the memory grows with the input")
             if others["bedtools"]:
                 print(f"  at most {workload.part} of bedtools' time aimed at")
-            if valgrind:
+            if valgrind and workload.is_drawn:
                 count_instructions(valgrind, workload, others, folder)
-            rows.append((workload.name(), large))
+            if workload.is_drawn:
+                rows.append((workload.name(), large))
     if asked.chart:
         Path(asked.chart).write_text(draw(rows), encoding="utf-8")
 

@@ -14,11 +14,15 @@ CanBeTold NotUnicode = Unit {0}
 CanBeTold (Usage words usage) = IsTellable usage (length words.now)
 CanBeTold (CannotOpen command name) = Unit {0}
 
+-- the line of a file that a command can't open
+abbrev pub cannot_open_text : List ℕ → List ℕ → List ℕ
+cannot_open_text command name = codes "bedtools " ++ command ++ codes ": " ++ name ++ codes ": cannot be opened\n"
+
 -- the line, with its line feed
 abbrev pub line_of : Trouble → List ℕ
 line_of NotUnicode = codes "bedtools: argument is not UTF-8\n"
 line_of (Usage words usage) = usage_text (words_seen words.now) usage
-line_of (CannotOpen command name) = codes "bedtools " ++ command.now ++ codes ": " ++ name.now ++ codes ": cannot be opened\n"
+line_of (CannotOpen command name) = cannot_open_text command.now name.now
 
 -- the exit status
 abbrev pub status_of : Trouble → ℕ

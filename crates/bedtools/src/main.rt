@@ -1,13 +1,14 @@
 //! `bedtools`: makes the plan of a command line, opens its files, runs it, and tells what went wrong.
 #![tactic(auto)]
 
-ghost use Rattle.std.specs.Prelude.{◌≡◌, ◌≤◌, Err, [], is_some, None, option_map, unwrap_or, IfOk, IfErr, IsOk};
+ghost use Rattle.std.specs.Prelude.{◌≡◌, Ok, Err, [], is_some, None, Some, option_map, string_bytes, IfOk, IfErr};
 ghost use Rattle.bt_lines.specs.Names.{told};
-ghost use Rattle.bt_tool.specs.Options.{options};
+ghost use Rattle.bt_tool.specs.Options.{PlanSeen, options};
 ghost use Rattle.bt_tool.specs.Plan.{plan_seen, words_seen};
-ghost use Rattle.bt_tool.specs.Report.{fault_text, status_of as run_status};
+ghost use Rattle.bt_tool.specs.Table.{Word};
 ghost use Rattle.bt_tool.specs.Usage.{usage_text};
 ghost use Rattle.bt_tool.specs.declared.usage.Usage.{Usage};
+ghost use Rattle.bedtools.specs.Ending.{CannotBegin, Ends, TellsRun, TellsUnopened};
 ghost use Rattle.bedtools.specs.Message.{Says, line_seen};
 
 mod message;
@@ -46,7 +47,7 @@ fn words(rt: &HostRuntime) -> io::Result<Vec<String>> {
 fn start(rt: &HostRuntime, words: &[String]) -> Message
     ensures usage { (usage : Usage) → options (words_seen words.now) ≡ Err usage
         → Says (usage_text (words_seen words.now) usage) 2 result }
-    ensures run { IsOk (options (words_seen words.now)) → result.status ≤ 1 }
+    ensures run { (plan : PlanSeen) → options (words_seen words.now) ≡ Ok plan → Ends plan result }
 {
     match plan(rt.alloc(), words) {
         Ok(plan) => carry_out(rt, &plan),
@@ -57,7 +58,7 @@ fn start(rt: &HostRuntime, words: &[String]) -> Message
 
 // Opens the files of a plan, the genome file first, and runs it.
 fn carry_out(rt: &HostRuntime, plan: &Plan) -> Message
-    ensures { result.status ≤ 1 }
+    ensures { Ends (plan_seen plan.now) result }
 {
     match run_opened(rt, plan) {
         Ok(outcome) => end_of(rt.alloc(), plan, &outcome),
@@ -67,7 +68,7 @@ fn carry_out(rt: &HostRuntime, plan: &Plan) -> Message
 
 // Runs a plan over its files. `Err` where one can't be opened.
 fn run_opened(rt: &HostRuntime, plan: &Plan) -> Result<Outcome, Message>
-    ensures { IfErr result (λ message. message.status ≡ 1) }
+    ensures { IfErr result (CannotBegin (plan_seen plan.now)) }
 {
     let genome = open_if_named(rt, plan, &plan.genome)?;
     let first = open(rt, plan, plan.first.as_str())?;
@@ -84,7 +85,8 @@ fn open_if_named(
     name: &Option<String>,
 ) -> Result<Option<Opened>, Message>
     ensures input { IfOk result (λ input. is_some input ≡ is_some name.now) }
-    ensures status { IfErr result (λ message. message.status ≡ 1) }
+    ensures tells { IfErr result (λ message. (word : Word) × (option_map string_bytes name.now ≡ Some word)
+        × TellsUnopened (plan_seen plan.now) word message) }
 {
     match name {
         Some(name) => Ok(Some(open(rt, plan, name.as_str())?)),
@@ -94,7 +96,7 @@ fn open_if_named(
 
 // Opens an input. `Err` where it can't be opened.
 fn open(rt: &HostRuntime, plan: &Plan, name: &str) -> Result<Opened, Message>
-    ensures { IfErr result (λ message. message.status ≡ 1) }
+    ensures { IfErr result (TellsUnopened (plan_seen plan.now) name.now) }
 {
     match Opened::open(rt, name) {
         Ok(input) => Ok(input),
@@ -108,9 +110,7 @@ fn open(rt: &HostRuntime, plan: &Plan, name: &str) -> Result<Opened, Message>
 
 // How a run ended: its fault, if there is one, is told.
 fn end_of(alloc: Global, plan: &Plan, outcome: &Outcome) -> Message
-    ensures fault { Says
-        (unwrap_or (option_map (λ fault. fault_text (plan_seen plan.now) (told fault)) outcome.now.fault) [])
-        (run_status (option_map told outcome.now.fault)) result }
+    ensures fault { TellsRun (plan_seen plan.now) (option_map told outcome.now.fault) result }
     ensures none { outcome.now.fault ≡ None → line_seen result.line ≡ [] × result.status ≡ 0 }
 {
     let line = match outcome.fault_line(alloc, plan) {
@@ -132,7 +132,7 @@ mod tests {
     // With memory for its line, each end has its own line and status.
     #[test]
     fn ends(rt: HostRuntime) -> Result<(), Fail> {
-        let cases: [(&str, &[u8], u8); 6] = [
+        let cases: [(&str, &[u8], u8); 12] = [
             ("", b"bedtools: no or unknown command\n", 2),
             ("sort", b"bedtools: no or unknown command\n", 2),
             ("merge -q", b"bedtools: unknown option: -q\n", 2),
@@ -144,6 +144,36 @@ mod tests {
             (
                 "merge -g no/such/file",
                 b"bedtools merge: no/such/file: cannot be opened\n",
+                1,
+            ),
+            (
+                "intersect -a no/a -b no/b -g no/g",
+                b"bedtools intersect: no/g: cannot be opened\n",
+                1,
+            ),
+            (
+                "intersect -a no/a -b no/b -g /dev/null",
+                b"bedtools intersect: no/a: cannot be opened\n",
+                1,
+            ),
+            (
+                "intersect -a /dev/null -b no/b -g /dev/null",
+                b"bedtools intersect: no/b: cannot be opened\n",
+                1,
+            ),
+            (
+                "intersect -a . -b /dev/null -g /dev/null",
+                b"bedtools intersect: .:1: reading failed\n",
+                1,
+            ),
+            (
+                "intersect -a /dev/null -b . -g /dev/null",
+                b"bedtools intersect: .:1: reading failed\n",
+                1,
+            ),
+            (
+                "merge -i . -g /dev/null",
+                b"bedtools merge: .:1: reading failed\n",
                 1,
             ),
             ("merge -i /dev/null -g /dev/null", b"", 0),

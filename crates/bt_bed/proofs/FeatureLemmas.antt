@@ -154,12 +154,15 @@ three_say text a b c rest bounds cut found = ap columns_say cut ∙ sym found
 
 -- the feature that is made of a name, of what was found of its start and end, and of what stands behind its columns, is what the text says
 pub made_is_said : (text a b c : List ℕ) (rest : List (List ℕ)) (bounds : ℕ × ℕ) (strand : Strand) (kept : List ℕ) → pieces 9 text ≡ a ∷ b ∷ c ∷ rest
-    → feature_between a (Ok bounds) rest ≡ feature_of a (value_of b) (value_of c) rest → strand ≡ strand_of rest → kept ≡ drop (length a + length b + length c + 2) text
+    → feature_between a (Ok bounds) rest ≡ feature_of a (value_of b) (value_of c) rest → strand ≡ strand_of (columns_in kept) → kept ≡ drop (length a + length b + length c + 2) text
     → Ok (record { chrom = a; start = bounds.0; stop = bounds.1; strand = strand; rest = kept }) ≡ columns_say (pieces 9 text)
 made_is_said text a b c rest bounds strand kept cut found s k =
-    rw (s, k, rest_of_three text a b c rest cut) (sym (three_say text a b c rest bounds cut found))
+    let same : kept ≡ kept_columns rest = k ∙ rest_of_three text a b c rest cut in
+    let columns = subst (λ l. AllByRecursion IsColumn l) cut (pieces_are_columns text) in
+    let named : strand ≡ strand_of rest = s ∙ ap (λ l. strand_of (columns_in l)) same ∙ ap strand_of (columns_in_kept rest columns.1.1.1) in
+    rw (named, same) (sym (three_say text a b c rest bounds cut found))
 
 pub made_is_feature : (text a b c : List ℕ) (rest : List (List ℕ)) (bounds : ℕ × ℕ) (strand : Strand) (kept : List ℕ) → pieces 9 text ≡ a ∷ b ∷ c ∷ rest
-    → feature_between a (Ok bounds) rest ≡ feature_of a (value_of b) (value_of c) rest → strand ≡ strand_of rest → kept ≡ drop (length a + length b + length c + 2) text
+    → feature_between a (Ok bounds) rest ≡ feature_of a (value_of b) (value_of c) rest → strand ≡ strand_of (columns_in kept) → kept ≡ drop (length a + length b + length c + 2) text
     → IsFeature (record { chrom = a; start = bounds.0; stop = bounds.1; strand = strand; rest = kept })
 made_is_feature text a b c rest bounds strand kept cut found s k = said_is_feature text _ (sym (made_is_said text a b c rest bounds strand kept cut found s k))

@@ -27,6 +27,10 @@ cut_at text n within tab column =
     let whole : text ≡ take n text ++ 9 ∷ drop (n + 1) text = sym (take-append-drop n text) ∙ ap (λ l. take n text ++ l) there in
     ap (pieces 9) whole ∙ slice_split_at (λ byte. eqb byte 9) (take n text) 9 (drop (n + 1) text) column refl
 
+-- a text without a tab is one column
+pub uncut : (text : List ℕ) (n : ℕ) → length text ≤ n → IsColumn (take n text) → pieces 9 text ≡ text ∷ []
+uncut text n past column = slice_split_none (λ byte. eqb byte 9) text (subst IsColumn (take_all n text past) column)
+
 cut_by : (text : List ℕ) (n : ℕ) → n ≤ length text → (n < length text → get_or text n 0 ≡ 9) → IsColumn (take n text) → (b : Bool) → ltb n (length text) ≡ b → pieces 9 text ≡ take n text ∷ columns_in (drop n text)
 cut_by text n within tab column true e =
     let inside : n < length text = grind (arith, nat_tests) in

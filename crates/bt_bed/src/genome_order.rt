@@ -1,5 +1,6 @@
 //! The order of chromosomes that a genome file gives.
 
+ghost use Rattle.std.specs.Prelude.{◌≡◌, IsTrue};
 ghost use Rattle.bt_bed.specs.RankTotal.{ranks_total};
 ghost use Rattle.bt_bed.specs.GenomeTable.{names_of};
 ghost use Rattle.bt_bed.specs.Rank.{rank_order};
@@ -22,6 +23,19 @@ impl ChromOrder for Genome {
         if left == right {
             return Ordering::Equal;
         }
+        self.compare_ranks(left, right)
+    }
+}
+
+impl Genome {
+    // Which of two known chromosomes comes first. It stands apart, so that equal names are told
+    // without a call.
+    #[inline(never)]
+    fn compare_ranks(&self, left: &[u8], right: &[u8]) -> Ordering
+        requires left { IsTrue ((rank_order (names_of self.now)).knows left.now) }
+        requires right { IsTrue ((rank_order (names_of self.now)).knows right.now) }
+        ensures { result ≡ (rank_order (names_of self.now)).compare left.now right.now }
+    {
         match (self.rank(left), self.rank(right)) {
             (Some(left), Some(right)) => left.cmp(&right),
             // Both are known, so this isn't reached.

@@ -2,16 +2,15 @@
 
 ghost use Rattle.std.specs.Prelude.{◌≡◌, ◌≤◌, List, drop, length, ℕ};
 ghost use Rattle.bt_bed.specs.Bed.{EndsWithRest, feature_between, feature_seen, record_seen};
-ghost use Rattle.bt_bed.specs.Record.{columns_say, feature_of, record_of, strand_named, strand_of};
-ghost use Rattle.bt_lines.specs.Columns.{columns_left};
+ghost use Rattle.bt_bed.specs.Record.{columns_say, feature_of, record_of};
 ghost use Rattle.bt_lines.specs.Lines.{pieces};
 ghost use Rattle.bt_lines.specs.Number.{value_of};
 
 use crate::bed::BedRef;
 use crate::header::is_header;
-use crate::plain::plain_feature;
+use crate::plain::{kept_strand, plain_feature};
 use crate::strand::Strand;
-use bt_lines::{Columns, Kind, columns, number};
+use bt_lines::{Kind, columns, number};
 
 /// The feature of a line's text, or none where the line is blank or a header (UCSC BED description:
 /// columns stand between tabs, the first base is numbered 0, and the end isn't included). `Err` tells
@@ -50,7 +49,7 @@ fn first_columns(text: &[u8]) -> Result<BedRef<'_>, Kind>
     let end = chrom.len() + start.len() + stop.len() + 2;
     let rest = behind(text, end);
     let (start, stop) = bounds(chrom, start, stop)?;
-    let strand = third_strand(columns);
+    let strand = kept_strand(rest);
     Ok(BedRef {
         chrom,
         start,
@@ -86,29 +85,6 @@ fn bounds(chrom: &[u8], start: &[u8], stop: &[u8]) -> Result<(u64, u64), Kind>
         return Err(Kind::EmptyFeature);
     }
     Ok((start, stop))
-}
-
-// The strand of the columns from the fourth on: the third of them names it.
-pub(crate) fn third_strand(mut columns: Columns<'_>) -> Strand
-    ensures { result ≡ strand_of (columns_left columns.entry) }
-{
-    let _name = columns.next();
-    let _score = columns.next();
-    match columns.next() {
-        Some(column) => strand_named(column),
-        None => Strand::Dot,
-    }
-}
-
-// The strand that a column names.
-fn strand_named(column: &[u8]) -> Strand
-    ensures { result ≡ strand_named column.now }
-{
-    match column {
-        b"+" => Strand::Plus,
-        b"-" => Strand::Minus,
-        _ => Strand::Dot,
-    }
 }
 
 #[cfg(test)]

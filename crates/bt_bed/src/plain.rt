@@ -1,19 +1,18 @@
 //! Lines of which the first three columns are in order, read in one pass.
 
-ghost use Rattle.std.specs.Prelude.{◌≡◌, Ok, IfSome};
+ghost use Rattle.std.specs.Prelude.{◌≡◌, ◌∷◌, [], List, ℕ, Ok, IfSome};
 ghost use Rattle.bt_bed.specs.Bed.{feature_lent};
-ghost use Rattle.bt_bed.specs.Plain.{EndsName, Leads};
-ghost use Rattle.bt_bed.specs.Record.{columns_in, columns_say, strand_of};
+ghost use Rattle.bt_bed.specs.Plain.{CutAt, EndsName, Leads};
+ghost use Rattle.bt_bed.specs.Record.{columns_in, columns_say, strand_named, strand_of};
 ghost use Rattle.bt_lines.specs.Lines.{pieces};
 
 use crate::bed::BedRef;
 use crate::leading::Leading;
-use crate::parsing::{behind, third_strand};
+use crate::parsing::behind;
 use crate::strand::Strand;
-use bt_lines::columns;
 
-// A number up to here may have one more digit.
-const SHORT: u64 = 99_999_999_999;
+// So many digits are within the greatest number, whatever they are.
+const SHORT: usize = 12;
 
 // The feature of a text of which the first three columns are in order. There is none where something is
 // wrong with them, and for numbers with more than twelve digits.
@@ -56,31 +55,82 @@ fn name_end(text: &[u8]) -> Option<usize>
 }
 
 // The number that the first column denotes, and where that ends.
+#[inline(never)]
 fn leading_number(text: &[u8]) -> Option<Leading>
     ensures { IfSome result (Leads text.now) }
 {
+    let most = text.len().min(SHORT);
     let mut value: u64 = 0;
     let mut end = 0;
-    while end < text.len() && text[end] != b'\t' {
-        let byte = text[end];
-        if !byte.is_ascii_digit() || value > SHORT {
-            return None;
-        }
-        value = value * 10 + u64::from(byte - b'0');
+    while end < most && text[end].is_ascii_digit() {
+        value = value * 10 + u64::from(text[end] - b'0');
         end += 1;
     }
     if end == 0 {
+        return None;
+    }
+    if end < text.len() && text[end] != b'\t' {
         return None;
     }
     Some(Leading { value, end })
 }
 
 // The strand of the columns that are kept, each with the tab before it.
-fn kept_strand(rest: &[u8]) -> Strand
+#[inline(never)]
+pub(crate) fn kept_strand(rest: &[u8]) -> Strand
     ensures { result ≡ strand_of (columns_in rest.now) }
 {
     match rest {
         [] => Strand::Dot,
-        [_tab, behind @ ..] => third_strand(columns(behind)),
+        [_tab, columns @ ..] => third_column(columns),
+    }
+}
+
+// The strand that the third column of a text names.
+fn third_column(text: &[u8]) -> Strand
+    ensures { result ≡ strand_of (pieces 9 text.now) }
+{
+    let Some(first) = first_tab(text) else {
+        return Strand::Dot;
+    };
+    let text = behind(text, first + 1);
+    let Some(second) = first_tab(text) else {
+        return Strand::Dot;
+    };
+    first_column(behind(text, second + 1))
+}
+
+// Where the first tab of a text stands.
+fn first_tab(text: &[u8]) -> Option<usize>
+    ensures { CutAt text.now result }
+{
+    let mut end = 0;
+    while end < text.len() {
+        if text[end] == b'\t' {
+            return Some(end);
+        }
+        end += 1;
+    }
+    None
+}
+
+// The strand that the first column of a text names, behind two others.
+fn first_column(text: &[u8]) -> Strand
+    ensures { (name score : List ℕ) → result ≡ strand_of (name ∷ score ∷ pieces 9 text.now) }
+{
+    match text {
+        [byte] | [byte, b'\t', ..] => named_by(*byte),
+        _ => Strand::Dot,
+    }
+}
+
+// The strand that a column of one byte names.
+fn named_by(byte: u8) -> Strand
+    ensures { result ≡ strand_named (byte ∷ []) }
+{
+    match byte {
+        b'+' => Strand::Plus,
+        b'-' => Strand::Minus,
+        _ => Strand::Dot,
     }
 }

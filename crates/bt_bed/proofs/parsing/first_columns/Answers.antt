@@ -21,10 +21,10 @@ behind-rest-requires c =
 pub invariant_of-result : goal.invariant_of-result
 invariant_of-result c =
     let cut = taken_in_turn _ _ _ _ c.args.text.now _ _ _ c.columns-columns.ensures c.in-Some.ensures.steps c.in-Some-next.ensures.steps c.in-Some-next-2.ensures.steps in
-    let said = made_is_feature _ _ _ _ _ _ _ _ cut (c.in_ok-start.ensures _) c.third_strand-strand.ensures c.behind-rest.ensures in
+    let said = made_is_feature _ _ _ _ _ _ _ _ cut (c.in_ok-start.ensures _) c.kept_strand-strand.ensures c.behind-rest.ensures in
     record { named = said.named; non_empty = said.non_empty; in_range = said.in_range; kept = said.kept; stranded = said.stranded }
 
 pub returns : goal.returns
 returns c =
     let cut = taken_in_turn _ _ _ _ c.args.text.now _ _ _ c.columns-columns.ensures c.in-Some.ensures.steps c.in-Some-next.ensures.steps c.in-Some-next-2.ensures.steps in
-    made_is_said _ _ _ _ _ _ _ _ cut (c.in_ok-start.ensures _) c.third_strand-strand.ensures c.behind-rest.ensures
+    made_is_said _ _ _ _ _ _ _ _ cut (c.in_ok-start.ensures _) c.kept_strand-strand.ensures c.behind-rest.ensures

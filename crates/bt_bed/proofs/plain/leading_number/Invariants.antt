@@ -1,4 +1,4 @@
-use Rattle.std.proofs.Common.{◌≡◌, length, take, ◌-◌, ◌≤◌, true}
+use Rattle.std.proofs.Common.{◌≡◌, ◌<◌, ◌≤◌, ◌-◌, ◌^◌, take, true}
 use Rattle.std.specs.Char.{is_ascii_digit}
 use Rattle.std.specs.List.{list_all}
 use Rattle.std.specs.Str.Parse.{digits_value}
@@ -9,9 +9,10 @@ abbrev pub invariant-loop-end : goal.invariant-loop-end
 invariant-loop-end l = record {
   value : l.value ≡ digits_value 10 (take l.end l.text);
   digits : list_all is_ascii_digit (take l.end l.text) ≡ true;
+  below : l.value < 10 ^ l.end;
   small : l.value ≤ 999999999999;
-  within : l.end ≤ length l.text;
+  within : l.end ≤ l.most;
 }
 
 abbrev pub decreases-loop-end : goal.decreases-loop-end
-decreases-loop-end l = length l.text - l.end
+decreases-loop-end l = l.most - l.end
