@@ -132,7 +132,7 @@ mod tests {
     // With memory for its line, each end has its own line and status.
     #[test]
     fn ends(rt: HostRuntime) -> Result<(), Fail> {
-        let cases: [(&str, &[u8], u8); 12] = [
+        let cases: [(&str, &[u8], u8); 14] = [
             ("", b"bedtools: no or unknown command\n", 2),
             ("sort", b"bedtools: no or unknown command\n", 2),
             ("merge -q", b"bedtools: unknown option: -q\n", 2),
@@ -177,6 +177,8 @@ mod tests {
                 1,
             ),
             ("merge -i /dev/null -g /dev/null", b"", 0),
+            ("bamtobed -i /dev/null", b"", 0),
+            ("bamtobed -g g.txt", b"bedtools: unknown option: -g\n", 2),
         ];
         for (command, line, status) in &cases {
             let mut words = Vec::new(rt.alloc());

@@ -3,9 +3,9 @@
 ghost use Rattle.std.specs.Prelude.{◌<◌, All};
 
 use crate::entry::EntryRef;
-use crate::faults::{at_line, no_memory};
+use crate::faults::at_line;
 use crate::genome_line::entry;
-use bt_lines::{Fault, Kind, LineReader, Place, Source};
+use bt_lines::{Fault, Kind, LineReader, Place, Source, no_memory};
 use indexmap::IndexMap;
 use std::alloc::Global;
 

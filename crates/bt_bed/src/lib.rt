@@ -30,6 +30,7 @@ mod strand;
 mod writing;
 
 pub use bed::BedRef;
+pub use faults::at_line;
 pub use genome::Genome;
 pub use interval_line::put_interval;
 pub use order::ChromOrder;

@@ -1,11 +1,11 @@
 //! The last record and the one ahead, sorted by some rule.
 
 use crate::bed::BedRef;
-use crate::faults::{at_line, no_memory};
+use crate::faults::at_line;
 use crate::parsing::parse_bed;
 use crate::sorted::Sorted;
 use crate::spot::Spot;
-use bt_lines::{Fault, Kind, Place};
+use bt_lines::{Fault, Kind, Place, no_memory};
 use std::alloc::{AllocError, Global};
 
 // The names of chromosomes stand in buffers that are used again. A record on the chromosome of the last

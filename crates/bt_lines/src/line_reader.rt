@@ -9,6 +9,7 @@ ghost use Rattle.bt_lines.specs.Names.{told};
 use crate::block::Block;
 use crate::device::Source;
 use crate::fault::{Fault, Input, Kind, Place};
+use crate::faults::no_memory;
 use crate::filling::{Stop, fill};
 use crate::line::{Line, LineEnd};
 use std::alloc::Global;
@@ -227,16 +228,6 @@ impl<S: Source> LineReader<S> {
             kind: Kind::ReadFailed,
             place: Some(place),
         }
-    }
-}
-
-// The fault of a refused growth.
-fn no_memory() -> Fault
-    ensures { told result ≡ no_memory }
-{
-    Fault {
-        kind: Kind::NoMemory,
-        place: None,
     }
 }
 

@@ -8,7 +8,8 @@ ghost use Rattle.bt_lines.specs.Names.{told};
 
 use crate::block::BLOCK;
 use crate::device::{DeviceFailed, Sink};
-use crate::fault::{Fault, Kind};
+use crate::fault::Fault;
+use crate::faults::write_failed;
 use crate::held_back::HeldBack;
 use std::marker::Model;
 
@@ -125,16 +126,6 @@ impl<K: Sink> Out<K> {
             has_failed: _,
         } = self;
         sink
-    }
-}
-
-// The fault of a failed write.
-fn write_failed() -> Fault
-    ensures { told result ≡ write_failed }
-{
-    Fault {
-        kind: Kind::WriteFailed,
-        place: None,
     }
 }
 

@@ -1,225 +1,328 @@
--- Items that come chromosome by chromosome, and are settled by the last record: those of the chromosomes before its own, and of its own those that pass a test. An engine owes what its items on one chromosome are; that a record elsewhere leaves them as they are, that all items of a chromosome before are settled and none of one after. It is given what is settled, what is left, and what the next record adds.
-use Rattle.std.proofs.Common.{◌≡◌, ◌⊎◌, ℕ, ◌≤◌, inl, inr, List, [], ◌∷◌, ◌++◌, append_assoc, append-nil, refl, sym, ap, ap₂, ◌∙◌, subst, arith, length, length-append, map, filter, flat_map, Bool, true, false, ◌||◌, bytes_eq, Option, Some, None}
-use Rattle.std.specs.Prelude.{⊤, is_some}
-use Rattle.std.proofs.lemmas.Bool.{or_parts, or_left, or_right}
+-- Items that come chromosome by chromosome, and are settled by the last record: those of the chromosomes before its own, and of its own those that are over by its start. Here it is proved, once for all engines, that what is settled stays, that it begins the whole, and what one more record adds.
+--
+-- An engine says two things of one chromosome, in a `Form`: what its items are by the records on it (`part`), and which of them are over by the last record (`pick`). For its code it also says what it keeps while some aren't (`fresh`, `left`, `step`, `after`), and in a relation `At` how the items stand by the last start on the chromosome: those that are done, and what is kept. Then it owes three lemmas, the last fields of `Owes`:
+-- 1. `none`: a chromosome without records has its known items (`bare`), and nothing is done on it.
+-- 2. `next`: one more record on it, at or behind the last start, adds to what is done what the step settles, and leaves what the step keeps.
+-- 3. `divides`: the items are those that are done and those that are left; by the last start all of the first are over, and none of the others.
+-- The other fields are a line each: a record elsewhere changes no item, and on the chromosomes before and behind the last record's all items are over, or none. `Written` and `Ordered` say that the definitions of the whole and of what is settled go by these parts, in an order of chromosomes.
+--
+-- It is given: what one more record settles and what is kept then, on the same chromosome or a later one (`goes_first`, `goes_on`, `goes_to`), which is what `feed` has to do; what is left for `finish` (`whole_left`); and `Settles` (`settling`), from which settled items stay and begin the whole (`SettlingLemmas`). `MergeForm` and `ComplementForm` are two engines' forms, `SettledRuns` and `GapSteps` what they take from here.
+use Rattle.std.proofs.Common.{◌≡◌, ◌⊎◌, ℕ, ◌<◌, ◌≤◌, inl, inr, List, [], ◌∷◌, ◌++◌, append_assoc, append-nil, refl, sym, ap, ap₂, ◌∙◌, subst, arith, length, length-append, map, filter, flat_map, Bool, true, false, bytes_eq, Some}
+use Rattle.std.specs.Prelude.{⊤}
+use Rattle.std.proofs.lemmas.Bool.{or_parts}
 use Rattle.std.proofs.lemmas.Grind.{flat_map-append}
-use Rattle.std.proofs.lemmas.List.Elements.{filter-append}
+use Rattle.std.proofs.lemmas.List.{map-append, take_at}
+use Rattle.std.proofs.lemmas.List.Elements.{filter-append, All-contains, All-take, Contains-push}
 use Rattle.std.specs.declared.cmp.Ordering.TheVariants.{Less, Greater}
-use Rattle.bt_bed.specs.Interval.{Interval, last_from, last_of}
-use Rattle.bt_bed.specs.Locus.{ArePlaced, IsUpTo, locus_of}
-use Rattle.bt_bed.specs.Rank.{is_among, AreDistinct, rank_of, rank_order}
+use Rattle.bt_bed.specs.Feature.{Feature, interval_of, intervals_of}
+use Rattle.bt_bed.specs.Interval.{Interval, AreNonEmpty, last_of}
+use Rattle.bt_bed.specs.Locus.{ArePlaced}
+use Rattle.bt_bed.specs.Rank.{is_among, AreDistinct, rank_order}
 use Rattle.bt_bed.specs.Together.{has_records}
-use Rattle.bt_bed.proofs.NameLemmas.{name_eq, name_ne, name_ne-sym}
-use Rattle.bt_bed.proofs.TogetherLemmas.{last_of-push, placed_front}
-use Rattle.bt_runs.proofs.Keys.{AllCompare, Found, all_after, all_before, apart, found, later, less_cmp, rank_at}
+use Rattle.bt_bed.proofs.NameLemmas.{name_ne-sym}
+use Rattle.bt_bed.proofs.TogetherLemmas.{placed_front}
+use Rattle.bt_runs.specs.Settling.{Settles}
+use Rattle.bt_runs.proofs.Keys.{AllCompare, all_after, all_before}
+use Rattle.bt_runs.proofs.Standing.{Arrives, GoesTo, NoneOn, Stand, begins_at, elsewhere_of, goes, last_rank, none_at_first, stand_at}
 
--- one more record on another chromosome, and on this one
-pub has_records-push : (name : List ℕ) (past : List Interval) (r : Interval) → bytes_eq r.chrom name ≡ false → has_records name (past ++ r ∷ []) ≡ has_records name past
-has_records-push name [] r f = rw f refl
-has_records-push name (q ∷ qs) r f = ap (λ b. bytes_eq q.chrom name || b) (has_records-push name qs r f)
+-- what an engine says of its items: K are the chromosomes, T the items, and S is what is open on a chromosome
+pub record Form (K T S : Type 0) : Type 0 where
+  -- a chromosome's name, and its items after the records
+  pub name : K → List ℕ
+  pub part : K → List Feature → List T
+  -- of items in their order, those that are over where this is the last record
+  pub pick : Interval → List T → List T
+  -- the items of all chromosomes, and those that are settled
+  pub whole : List Feature → List T
+  pub settled : List Feature → List T
+  -- the items of a chromosome without records, and what is open before its first
+  pub bare : K → List T
+  pub fresh : S
+  -- the items that aren't done while this is open
+  pub left : K → S → List T
+  -- the items that one more record settles of what is open, and what is open then
+  pub step : K → S → Feature → List T
+  pub after : K → S → Feature → S
 
-pub has_records-here : (name : List ℕ) (past : List Interval) (r : Interval) → r.chrom ≡ name → has_records name (past ++ r ∷ []) ≡ true
-has_records-here name [] r e = or_left (bytes_eq r.chrom name) false (name_eq r.chrom name e)
-has_records-here name (q ∷ qs) r e = or_right (bytes_eq q.chrom name) (has_records name (qs ++ r ∷ [])) (has_records-here name qs r e)
+-- what is picked of two lists: all of the first and what is picked of the second, where all of the first is picked; and nothing, where nothing is of either
+pub record Picks {T : Type 0} (pick : List T → List T) : Type 0 where
+  pub nothing : pick [] ≡ []
+  pub all : (xs ys : List T) → pick xs ≡ xs → pick (xs ++ ys) ≡ xs ++ pick ys
+  pub none : (xs ys : List T) → pick xs ≡ [] → pick ys ≡ [] → pick (xs ++ ys) ≡ []
 
--- the last of records and the next one are in order
-next_up : (names : List (List ℕ)) (q : Interval) (qs : List Interval) (r : Interval) → ArePlaced (rank_order names) (q ∷ qs ++ r ∷ []) → IsUpTo (rank_order names) (locus_of (last_from q qs)) (locus_of r)
-next_up names q [] r placed = placed.1
-next_up names q (s ∷ ss) r placed = next_up names s ss r placed.2
+-- a test picks so
+pub picks_by : {T : Type 0} (test : T → Bool) → Picks (filter test)
+picks_by test = record {
+  nothing = refl;
+  all = λ xs ys whole. filter-append test xs ys ∙ ap (λ l. l ++ filter test ys) whole;
+  none = λ xs ys first second. filter-append test xs ys ∙ ap₂ (λ l m. l ++ m) first second;
+}
 
-pub last_up : (names : List (List ℕ)) (records : List Interval) (last r : Interval) → last_of records ≡ Some last → ArePlaced (rank_order names) (records ++ r ∷ []) → IsUpTo (rank_order names) (locus_of last) (locus_of r)
-last_up names [] last r is placed = cc
-last_up names (q ∷ qs) last r is placed = let e : last_from q qs ≡ last = cc in rw (← e) (next_up names q qs r placed)
+module _ {K T S : Type 0} (f : Form K T S) where
+  -- the items of the chromosomes, one behind another
+  abbrev pub parts : List Feature → List K → List T
+  parts past keys = flat_map (λ k. f.part k past) keys
 
-known_at_end : (names : List (List ℕ)) (records : List Interval) (r : Interval) → ArePlaced (rank_order names) (records ++ r ∷ []) → is_some (rank_of names r.chrom) ≡ true
-known_at_end names [] r placed = placed.0
-known_at_end names (q ∷ qs) r placed = known_at_end names qs r placed.2
+  -- those of chromosomes without records
+  abbrev pub bares : List K → List T
+  bares keys = flat_map f.bare keys
 
-rank_known : (o : Option ℕ) → is_some o ≡ true → (k : ℕ) × (o ≡ Some k)
-rank_known None e = cc
-rank_known (Some k) e = (k, refl)
+pub intervals_next : (past : List Feature) (r : Feature) → intervals_of (past ++ r ∷ []) ≡ intervals_of past ++ interval_of r ∷ []
+intervals_next past r = map-append interval_of past (r ∷ [])
 
-module _ {K : Type 0} (name : K → List ℕ) where
-  -- no record lies on any of the chromosomes
-  abbrev pub NoneOn : List Interval → List K → Type 0
-  NoneOn records [] = ⊤
-  NoneOn records (k ∷ ks) = (has_records (name k) records ≡ false) × NoneOn records ks
+-- the first records of non-empty ones, and the last
+pub full_front : (past more : List Feature) → AreNonEmpty (intervals_of (past ++ more)) → AreNonEmpty (intervals_of past)
+full_front past more full =
+    let xs = intervals_of past in
+    let ys = intervals_of more in
+    subst AreNonEmpty (take_at xs ys (length xs) refl) (All-take (λ r. r.start < r.stop) (length xs) (xs ++ ys) (subst AreNonEmpty (map-append interval_of past more) full))
 
-  pub none_at_first : (keys : List K) → NoneOn [] keys
-  none_at_first [] = tt
-  none_at_first (k ∷ ks) = (refl, none_at_first ks)
+pub full_last : (past : List Feature) (r : Feature) → AreNonEmpty (intervals_of (past ++ r ∷ [])) → r.start < r.stop
+full_last past r full =
+    let x = interval_of r in
+    let xs = intervals_of past in
+    All-contains (λ r. r.start < r.stop) (xs ++ x ∷ []) x (subst AreNonEmpty (intervals_next past r) full) (Contains-push xs x)
 
-  pub none_parts : (records : List Interval) (xs ys : List K) → NoneOn records (xs ++ ys) → NoneOn records xs × NoneOn records ys
-  none_parts records [] ys n = (tt, n)
-  none_parts records (x ∷ xs) ys n = let rest = none_parts records xs ys n.1 in ((n.0, rest.0), rest.1)
+-- records in an order of chromosomes, each with a base
+pub record InOrder (names : List (List ℕ)) (past : List Feature) : Type 0 where
+  pub placed : ArePlaced (rank_order names) (intervals_of past)
+  pub full : AreNonEmpty (intervals_of past)
 
-  pub none_other : (records : List Interval) (r : Interval) (keys : List K) → is_among (map name keys) r.chrom ≡ false → NoneOn records keys → NoneOn (records ++ r ∷ []) keys
-  none_other records r [] f n = tt
-  none_other records r (k ∷ ks) f n =
-      let tests = or_parts (bytes_eq (name k) r.chrom) (is_among (map name ks) r.chrom) f in
-      (has_records-push (name k) records r (name_ne-sym (name k) r.chrom tests.0) ∙ n.0, none_other records r ks tests.1 n.1)
+pub order_front : (names : List (List ℕ)) (past more : List Feature) → InOrder names (past ++ more) → InOrder names past
+order_front names past more o = record {
+  placed = placed_front (rank_order names) (intervals_of past) (intervals_of more) (subst (λ (l : List Interval). ArePlaced (rank_order names) l) (map-append interval_of past more) o.placed);
+  full = full_front past more o.full;
+}
 
-  -- the records reach the chromosome of the last one and no later one
-  pub record Stand (keys : List K) (records : List Interval) (last : Interval) : Type 0 where
-    pub before : List K
-    pub key : K
-    pub after : List K
-    pub split : keys ≡ before ++ key ∷ after
-    pub last_is : last_of records ≡ Some last
-    pub is : name key ≡ last.chrom
-    pub some : has_records (name key) records ≡ true
-    pub none_after : NoneOn records after
+module _ {K T S : Type 0} (f : Form K T S) (At : K → List Feature → ℕ → List T → S → Type 0) where
+  pub record NoRecords (k : K) (past : List Feature) : Type 0 where
+    pub part_is : f.part k past ≡ f.bare k
+    pub begins : At k past 0 [] f.fresh
 
-  module _ (keys : List K) (distinct : AreDistinct (map name keys)) where
-    -- a record on a chromosome behind which there are none
-    pub record Arrives (records : List Interval) (r : Interval) (before : List K) (key : K) (after : List K) : Type 0 where
-      pub split : keys ≡ before ++ key ∷ after
-      pub is : name key ≡ r.chrom
-      pub none_after : NoneOn records after
+  pub record Divides (k : K) (past : List Feature) (last : Interval) (done : List T) (state : S) : Type 0 where
+    pub all : f.part k past ≡ done ++ f.left k state
+    pub done_over : f.pick last done ≡ done
+    pub left_open : f.pick last (f.left k state) ≡ []
 
-    pub elsewhere_of : (records : List Interval) (r : Interval) (before : List K) (key : K) (after : List K) → Arrives records r before key after
-        → (is_among (map name before) r.chrom ≡ false) × (is_among (map name after) r.chrom ≡ false)
-    elsewhere_of records r before key after a =
-        let sides = apart name before key after (subst (λ (l : List K). AreDistinct (map name l)) a.split distinct) in
-        rw (← a.is) (sides.none_before, sides.none_after)
+  -- what an engine proves
+  pub record Owes (names : List (List ℕ)) : Type 0 where
+    -- before any record nothing is settled, and a record elsewhere changes no chromosome's items
+    pub nothing : f.settled [] ≡ []
+    pub picks : (last : Interval) → Picks (f.pick last)
+    pub elsewhere : (k : K) (past : List Feature) (r : Feature) → bytes_eq r.chrom (f.name k) ≡ false → f.part k (past ++ r ∷ []) ≡ f.part k past
+    -- the items of a chromosome before the last record's are over, and none of one behind it
+    pub is_before : (last : Interval) (k : K) (past : List Feature) → (rank_order names).compare (f.name k) last.chrom ≡ Less → f.pick last (f.part k past) ≡ f.part k past
+    pub is_behind : (last : Interval) (k : K) (past : List Feature) → (rank_order names).compare (f.name k) last.chrom ≡ Greater → has_records (f.name k) (intervals_of past) ≡ false → f.pick last (f.part k past) ≡ []
+    -- the three lemmas
+    pub none : (k : K) (past : List Feature) → has_records (f.name k) (intervals_of past) ≡ false → NoRecords k past
+    pub next : (k : K) (past : List Feature) (start : ℕ) (done : List T) (state : S) (r : Feature) → At k past start done state → f.name k ≡ r.chrom → start ≤ r.start → r.start < r.stop
+        → At k (past ++ r ∷ []) r.start (done ++ f.step k state r) (f.after k state r)
+    pub divides : (k : K) (past : List Feature) (last : Interval) (done : List T) (state : S) → At k past last.start done state → f.name k ≡ last.chrom → has_records (f.name k) (intervals_of past) ≡ true → Divides k past last done state
 
-    abbrev pub stand_at : (records : List Interval) (r : Interval) (before : List K) (key : K) (after : List K) → Arrives records r before key after → Stand keys (records ++ r ∷ []) r
-    stand_at records r before key after a = record {
-      before = before;
-      key = key;
-      after = after;
-      split = a.split;
-      last_is = last_of-push records r;
-      is = a.is;
-      some = has_records-here (name key) records r (sym a.is);
-      none_after = none_other records r after (elsewhere_of records r before key after a).1 a.none_after;
-    }
+  module _ (keys : List K) where
+    -- its output is written in the order of these chromosomes
+    pub record Written (past : List Feature) : Type 0 where
+      pub whole_is : f.whole past ≡ parts f past keys
+      pub settled_is : (last : Interval) → last_of (intervals_of past) ≡ Some last → f.settled past ≡ f.pick last (parts f past keys)
 
-    pub last_rank : (records : List Interval) (last : Interval) (s : Stand keys records last) → rank_of (map name keys) last.chrom ≡ Some (length s.before)
-    last_rank records last s = rw (← s.is, s.split) (rank_at name s.before s.key s.after (subst (λ (l : List K). AreDistinct (map name l)) s.split distinct))
+    -- the records reach this chromosome, and this is open on it
+    pub record Standing (past : List Feature) (before : List K) (key : K) (after : List K) (state : S) : Type 0 where
+      pub last : Interval
+      pub done : List T
+      pub stand : Stand f.name keys (intervals_of past) last before key after
+      pub at : At key past last.start done state
 
-    -- the next record lies on a later chromosome
-    pub record GoesTo (records : List Interval) (r : Interval) (last : Interval) (s : Stand keys records last) : Type 0 where
-      pub middle : List K
+    pub record Somewhere (past : List Feature) : Type 0 where
+      pub before : List K
       pub key : K
       pub after : List K
-      pub rest : s.after ≡ middle ++ key ∷ after
-      pub rank : rank_of (map name keys) r.chrom ≡ Some (length (s.before ++ s.key ∷ middle))
-      pub none_between : NoneOn records middle
-      pub none_here : has_records (name key) records ≡ false
-      pub other : bytes_eq (name s.key) r.chrom ≡ false
-      pub arrives : Arrives records r (s.before ++ s.key ∷ middle) key after
+      pub state : S
+      pub here : Standing past before key after state
 
-    -- or it goes on
-    pub goes : (records : List Interval) (r : Interval) (last : Interval) (s : Stand keys records last) → ArePlaced (rank_order (map name keys)) (records ++ r ∷ [])
-        → ((r.chrom ≡ last.chrom) × (last.start ≤ r.start)) ⊎ GoesTo records r last s
-    goes records r last s placed =
-        let names = map name keys in
-        let known = rank_known (rank_of names r.chrom) (known_at_end names records r placed) in
-        let mine = last_rank records last s in
-        elim (last_up names records last r s.last_is placed) [
-          | inl less ↦
-              let higher = less_cmp (length s.before) known.0 (rw mine at (rw known.1 at less)) in
-              let f = found name keys r.chrom known.0 known.1 in
-              let between = later s.before s.key s.after f.before f.key f.after (sym s.split ∙ f.split) (let a = f.at in omega arith) in
-              let none = none_parts records between.middle (f.key ∷ f.after) (subst (λ (l : List K). NoneOn records l) {y = between.middle ++ f.key ∷ f.after} between.rest s.none_after) in
-              inr (record {
-                middle = between.middle;
-                key = f.key;
-                after = f.after;
-                rest = between.rest;
-                rank = known.1 ∙ ap Some (sym f.at ∙ ap length between.front);
-                none_between = none.0;
-                none_here = none.1.0;
-                other = name_ne (name s.key) r.chrom (λ e.
-                    let both : Some (length s.before) ≡ Some known.0 = sym mine ∙ ap (rank_of names) (sym s.is ∙ e) ∙ known.1 in
-                    let same : length s.before ≡ known.0 = cc in
-                    absurd (omega arith));
-                arrives = record {
-                  split = f.split ∙ ap (λ l. l ++ f.key ∷ f.after) between.front;
-                  is = f.is;
-                  none_after = none.1.1;
-                };
-              })
-          | inr same ↦ inl (sym same.0, same.1)
-        ]
+    -- they reach one, if there are records
+    abbrev pub Begun : List Feature → Type 0
+    Begun [] = ⊤
+    Begun (q ∷ qs) = Somewhere (q ∷ qs)
 
-    -- the first record
-    pub begins_at : (r : Interval) → ArePlaced (rank_order (map name keys)) (r ∷ []) → (rank : ℕ) × (f : Found name keys r.chrom rank) × (rank_of (map name keys) r.chrom ≡ Some rank) × Arrives [] r f.before f.key f.after
-    begins_at r placed =
-        let names = map name keys in
-        let known = rank_known (rank_of names r.chrom) placed.0 in
-        let f = found name keys r.chrom known.0 known.1 in
-        (known.0, f, known.1, record { split = f.split; is = f.is; none_after = none_at_first f.after })
+    -- one more record settles these items, and this is open then
+    pub record Moves (past : List Feature) (r : Feature) (items : List T) (before : List K) (key : K) (after : List K) (state : S) : Type 0 where
+      pub settles : Written past → Written (past ++ r ∷ []) → f.settled (past ++ r ∷ []) ≡ f.settled past ++ items
+      pub here : Standing (past ++ r ∷ []) before key after state
 
-    -- so each list of records in order stands somewhere
-    stand_more : (q : Interval) (qs more : List Interval) (last : Interval) → Stand keys (q ∷ qs) last → ArePlaced (rank_order (map name keys)) (q ∷ qs ++ more) → (last : Interval) × Stand keys (q ∷ qs ++ more) last
-    stand_more q qs [] last s placed = (last, subst (λ (l : List Interval). Stand keys l last) (sym (append-nil (q ∷ qs))) s)
-    stand_more q qs (r ∷ rs) last s placed =
-        let grown : q ∷ qs ++ r ∷ rs ≡ (q ∷ qs ++ r ∷ []) ++ rs = sym (append_assoc (q ∷ qs) (r ∷ []) rs) in
-        let order = rank_order (map name keys) in
-        let placed_grown = subst (λ (l : List Interval). ArePlaced order l) grown placed in
-        let next : Stand keys (q ∷ qs ++ r ∷ []) r = elim (goes (q ∷ qs) r last s (placed_front order (q ∷ qs ++ r ∷ []) rs placed_grown)) [
-          | inl same ↦ stand_at (q ∷ qs) r s.before s.key s.after (record { split = s.split; is = s.is ∙ sym same.0; none_after = s.none_after })
-          | inr g ↦ stand_at (q ∷ qs) r (s.before ++ s.key ∷ g.middle) g.key g.after g.arrives
-        ] in
-        let rest = stand_more q (qs ++ r ∷ []) rs r next placed_grown in
-        (rest.0, subst (λ (l : List Interval). Stand keys l rest.0) (sym grown) rest.1)
+    record Turn (past : List Feature) (r : Feature) : Type 0 where
+      items : List T
+      before : List K
+      key : K
+      after : List K
+      state : S
+      moves : Moves past r items before key after state
 
-    pub stand : (q : Interval) (qs : List Interval) → ArePlaced (rank_order (map name keys)) (q ∷ qs) → (last : Interval) × Stand keys (q ∷ qs) last
-    stand q qs placed =
-        let first = begins_at q (placed_front (rank_order (map name keys)) (q ∷ []) qs placed) in
-        stand_more q [] qs q (stand_at [] q first.1.before first.1.key first.1.after first.3) placed
+    module _ (owes : Owes (map f.name keys)) (distinct : AreDistinct (map f.name keys)) where
+      parts_other : (past : List Feature) (r : Feature) (ks : List K) → is_among (map f.name ks) r.chrom ≡ false → parts f (past ++ r ∷ []) ks ≡ parts f past ks
+      parts_other past r [] away = refl
+      parts_other past r (k ∷ ks) away =
+          let tests = or_parts (bytes_eq (f.name k) r.chrom) (is_among (map f.name ks) r.chrom) away in
+          ap₂ (λ (xs ys : List T). xs ++ ys) (owes.elsewhere k past r (name_ne-sym (f.name k) r.chrom tests.0)) (parts_other past r ks tests.1)
 
--- items of type T, by the records of type R, of which each has an interval
-module _ {K T R : Type 0} (name : K → List ℕ) (intervals : List R → List Interval) (part : K → List R → List T) where
-  -- the items of the chromosomes, one behind another
-  abbrev pub parts : List R → List K → List T
-  parts past keys = flat_map (λ k. part k past) keys
+      pub parts_none : (past : List Feature) (ks : List K) → NoneOn f.name (intervals_of past) ks → parts f past ks ≡ bares f ks
+      parts_none past [] none = refl
+      parts_none past (k ∷ ks) none = ap₂ (λ (xs ys : List T). xs ++ ys) (owes.none k past none.0).part_is (parts_none past ks none.1)
 
-  pub parts-append : (past : List R) (xs ys : List K) → parts past (xs ++ ys) ≡ parts past xs ++ parts past ys
-  parts-append past xs ys = flat_map-append (λ k. part k past) xs ys
+      parts_before : (last : Interval) (past : List Feature) (ks : List K) → AllCompare f.name (map f.name keys) last.chrom Less ks → f.pick last (parts f past ks) ≡ parts f past ks
+      parts_before last past [] all = (owes.picks last).nothing
+      parts_before last past (k ∷ ks) all =
+          (owes.picks last).all (f.part k past) (parts f past ks) (owes.is_before last k past all.0)
+          ∙ ap (λ l. f.part k past ++ l) (parts_before last past ks all.1)
 
-  -- a record elsewhere leaves them as they are
-  pub parts_other : (chrom : R → List ℕ) → ((k : K) (past : List R) (r : R) → bytes_eq (chrom r) (name k) ≡ false → part k (past ++ r ∷ []) ≡ part k past)
-      → (past : List R) (r : R) (keys : List K) → is_among (map name keys) (chrom r) ≡ false → parts (past ++ r ∷ []) keys ≡ parts past keys
-  parts_other chrom elsewhere past r [] f = refl
-  parts_other chrom elsewhere past r (k ∷ ks) f =
-      let tests = or_parts (bytes_eq (name k) (chrom r)) (is_among (map name ks) (chrom r)) f in
-      ap₂ (λ (xs ys : List T). xs ++ ys) (elsewhere k past r (name_ne-sym (name k) (chrom r) tests.0)) (parts_other chrom elsewhere past r ks tests.1)
+      parts_behind : (last : Interval) (past : List Feature) (ks : List K) → AllCompare f.name (map f.name keys) last.chrom Greater ks → NoneOn f.name (intervals_of past) ks → f.pick last (parts f past ks) ≡ []
+      parts_behind last past [] all none = (owes.picks last).nothing
+      parts_behind last past (k ∷ ks) all none =
+          (owes.picks last).none (f.part k past) (parts f past ks) (owes.is_behind last k past all.0 none.0) (parts_behind last past ks all.1 none.1)
 
-  module _ (keys : List K) (distinct : AreDistinct (map name keys)) (test : Interval → T → Bool)
-      (before : (last : Interval) (k : K) (past : List R) → (rank_order (map name keys)).compare (name k) last.chrom ≡ Less → filter (test last) (part k past) ≡ part k past)
-      (after : (last : Interval) (k : K) (past : List R) → (rank_order (map name keys)).compare (name k) last.chrom ≡ Greater → has_records (name k) (intervals past) ≡ false → filter (test last) (part k past) ≡ []) where
-    parts_before : (last : Interval) (past : List R) (ks : List K) → AllCompare name (map name keys) last.chrom Less ks → filter (test last) (parts past ks) ≡ parts past ks
-    parts_before last past [] all = refl
-    parts_before last past (k ∷ ks) all =
-        filter-append (test last) (part k past) (parts past ks)
-        ∙ ap₂ (λ (xs ys : List T). xs ++ ys) (before last k past all.0) (parts_before last past ks all.1)
+      -- where the records stand, the items fall into three: those before and those done, those left, and those behind
+      module _ (past : List Feature) (before : List K) (key : K) (after : List K) (state : S) (s : Standing past before key after state) where
+        divided : Divides key past s.last s.done state
+        divided = owes.divides key past s.last s.done state s.at s.stand.is s.stand.some
 
-    parts_after : (last : Interval) (past : List R) (ks : List K) → AllCompare name (map name keys) last.chrom Greater ks → NoneOn name (intervals past) ks → filter (test last) (parts past ks) ≡ []
-    parts_after last past [] all none = refl
-    parts_after last past (k ∷ ks) all none =
-        filter-append (test last) (part k past) (parts past ks)
-        ∙ ap₂ (λ (xs ys : List T). xs ++ ys) (after last k past all.0 none.0) (parts_after last past ks all.1 none.1)
+        parts_to : (middle : List K) → NoneOn f.name (intervals_of past) middle → parts f past (before ++ key ∷ middle) ≡ (parts f past before ++ s.done) ++ (f.left key state ++ bares f middle)
+        parts_to middle none =
+            let front = parts f past before in
+            let left = f.left key state in
+            flat_map-append (λ k. f.part k past) before (key ∷ middle)
+            ∙ ap₂ (λ (xs ys : List T). front ++ (xs ++ ys)) divided.all (parts_none past middle none)
+            ∙ ap (λ l. front ++ l) (append_assoc s.done left (bares f middle))
+            ∙ sym (append_assoc front s.done (left ++ bares f middle))
 
-    module _ (past : List R) (records : List Interval) (same : intervals past ≡ records) (last : Interval) (s : Stand name keys records last) where
-      pub whole_is : parts past keys ≡ parts past s.before ++ (part s.key past ++ parts past s.after)
-      whole_is = ap (parts past) s.split ∙ parts-append past s.before (s.key ∷ s.after)
+        picked : f.pick s.last (parts f past keys) ≡ parts f past before ++ s.done
+        picked =
+            let n = length before in
+            let ranked = last_rank f.name keys distinct (intervals_of past) s.last before key after s.stand in
+            let less = all_before f.name keys distinct s.last.chrom n ranked [] before (key ∷ after) s.stand.split (omega arith) in
+            let split_after : keys ≡ (before ++ key ∷ []) ++ (after ++ []) = s.stand.split ∙ sym (append_assoc before (key ∷ []) after) ∙ ap (λ l. (before ++ key ∷ []) ++ l) (sym (append-nil after)) in
+            let longer = length-append before (key ∷ []) in
+            let greater = all_after f.name keys distinct s.last.chrom n ranked (before ++ key ∷ []) after [] split_after (omega arith) in
+            let front = parts f past before in
+            let left = f.left key state in
+            let behind = parts f past after in
+            let picks = owes.picks s.last in
+            ap (λ l. f.pick s.last (parts f past l)) s.stand.split
+            ∙ ap (f.pick s.last) (flat_map-append (λ k. f.part k past) before (key ∷ after) ∙ ap (λ l. front ++ (l ++ behind)) divided.all)
+            ∙ picks.all front ((s.done ++ left) ++ behind) (parts_before s.last past before less)
+            ∙ ap (λ l. front ++ f.pick s.last l) (append_assoc s.done left behind)
+            ∙ ap (λ l. front ++ l) (picks.all s.done (left ++ behind) divided.done_over)
+            ∙ ap (λ l. front ++ (s.done ++ l)) (picks.none left behind divided.left_open (parts_behind s.last past after greater s.stand.none_after))
+            ∙ ap (λ l. front ++ l) (append-nil s.done)
 
-      -- what is settled: the items of the chromosomes before, and those of its own that pass
-      pub settled_is : filter (test last) (parts past keys) ≡ parts past s.before ++ filter (test last) (part s.key past)
-      settled_is =
-          let n = length s.before in
-          let ranked = last_rank name keys distinct records last s in
-          let less = all_before name keys distinct last.chrom n ranked [] s.before (s.key ∷ s.after) s.split (omega arith) in
-          let split_after : keys ≡ (s.before ++ s.key ∷ []) ++ (s.after ++ []) = s.split ∙ sym (append_assoc s.before (s.key ∷ []) s.after) ∙ ap (λ l. (s.before ++ s.key ∷ []) ++ l) (sym (append-nil s.after)) in
-          let behind = length-append s.before (s.key ∷ []) in
-          let greater = all_after name keys distinct last.chrom n ranked (s.before ++ s.key ∷ []) s.after [] split_after (omega arith) in
-          let own = filter (test last) (part s.key past) in
-          ap (filter (test last)) whole_is
-          ∙ filter-append (test last) (parts past s.before) (part s.key past ++ parts past s.after)
-          ∙ ap₂ (λ (xs ys : List T). xs ++ ys) (parts_before last past s.before less)
-          (filter-append (test last) (part s.key past) (parts past s.after)
-          ∙ ap (λ l. own ++ l) (parts_after last past s.after greater (subst (λ (l : List Interval). NoneOn name l s.after) (sym same) s.none_after))
-          ∙ append-nil own)
+        settled_here : Written past → f.settled past ≡ parts f past before ++ s.done
+        settled_here w = w.settled_is s.last s.stand.last_is ∙ picked
+
+        -- what is left at the end
+        pub whole_left : Written past → f.whole past ≡ f.settled past ++ (f.left key state ++ bares f after)
+        whole_left w = w.whole_is ∙ ap (parts f past) s.stand.split ∙ parts_to after s.stand.none_after ∙ ap (λ l. l ++ (f.left key state ++ bares f after)) (sym (settled_here w))
+
+      -- a record arrives on a chromosome, of which this is open
+      module _ (past : List Feature) (r : Feature) (before : List K) (key : K) (after : List K) (a : Arrives f.name keys (intervals_of past) (interval_of r) before key after)
+          (start : ℕ) (done : List T) (state : S) (at : At key past start done state) (up : start ≤ r.start) (full : r.start < r.stop) where
+        arrived : (items : List T) → (Written past → parts f past before ++ done ≡ f.settled past ++ items) → Moves past r (items ++ f.step key state r) before key after (f.after key state r)
+        arrived items was =
+            let here : Standing (past ++ r ∷ []) before key after (f.after key state r) = record {
+              last = interval_of r;
+              done = done ++ f.step key state r;
+              stand = subst (λ (l : List Interval). Stand f.name keys l (interval_of r) before key after) (sym (intervals_next past r)) (stand_at f.name keys distinct (intervals_of past) (interval_of r) before key after a);
+              at = owes.next key past start done state r at a.is up full;
+            } in
+            record {
+              settles = λ w_past w.
+                  settled_here (past ++ r ∷ []) before key after (f.after key state r) here w
+                  ∙ ap (λ l. l ++ (done ++ f.step key state r)) (parts_other past r before (elsewhere_of f.name keys distinct (intervals_of past) (interval_of r) before key after a).0)
+                  ∙ sym (append_assoc (parts f past before) done (f.step key state r))
+                  ∙ ap (λ l. l ++ f.step key state r) (was w_past)
+                  ∙ append_assoc (f.settled past) items (f.step key state r);
+              here = here;
+            }
+
+      -- the first record
+      pub goes_first : (r : Feature) (before : List K) (key : K) (after : List K) → Arrives f.name keys [] (interval_of r) before key after → r.start < r.stop
+          → Moves [] r (bares f before ++ f.step key f.fresh r) before key after (f.after key f.fresh r)
+      goes_first r before key after a full =
+          arrived [] r before key after a 0 [] f.fresh (owes.none key [] refl).begins (omega arith) full (bares f before)
+          (λ w. append-nil (parts f [] before) ∙ parts_none [] before (none_at_first f.name before) ∙ ap (λ l. l ++ bares f before) (sym owes.nothing))
+
+      module _ (past : List Feature) (r : Feature) (before : List K) (key : K) (after : List K) (state : S) (s : Standing past before key after state) where
+        -- one on the chromosome of the last
+        pub goes_on : r.chrom ≡ s.last.chrom → s.last.start ≤ r.start → r.start < r.stop → Moves past r (f.step key state r) before key after (f.after key state r)
+        goes_on same up full =
+            arrived past r before key after (record { split = s.stand.split; is = s.stand.is ∙ sym same; none_after = s.stand.none_after }) s.last.start s.done state s.at up full []
+            (λ w. sym (settled_here past before key after state s w) ∙ sym (append-nil (f.settled past)))
+
+        -- one on a later chromosome
+        pub goes_to : (g : GoesTo f.name keys (intervals_of past) (interval_of r) before key after) → r.start < r.stop
+            → Moves past r ((f.left key state ++ bares f g.middle) ++ f.step g.next f.fresh r) (before ++ key ∷ g.middle) g.next g.behind (f.after g.next f.fresh r)
+        goes_to g full =
+            let front = before ++ key ∷ g.middle in
+            let more = f.left key state ++ bares f g.middle in
+            arrived past r front g.next g.behind g.arrives 0 [] f.fresh (owes.none g.next past g.none_here).begins (omega arith) full more
+            (λ w. append-nil (parts f past front) ∙ parts_to past before key after state s g.middle g.none_between ∙ ap (λ l. l ++ more) (sym (settled_here past before key after state s w)))
+
+        -- it is the one or the other
+        pub goes_next : InOrder (map f.name keys) (past ++ r ∷ []) → ((r.chrom ≡ s.last.chrom) × (s.last.start ≤ r.start)) ⊎ GoesTo f.name keys (intervals_of past) (interval_of r) before key after
+        goes_next o = goes f.name keys distinct (intervals_of past) (interval_of r) s.last before key after s.stand (subst (λ (l : List Interval). ArePlaced (rank_order (map f.name keys)) l) (intervals_next past r) o.placed)
+
+      turn : (past : List Feature) (r : Feature) → InOrder (map f.name keys) (past ++ r ∷ []) → Begun past → Turn past r
+      turn [] r o b =
+          let first = begins_at f.name keys distinct (interval_of r) o.placed in
+          record { items = _; before = first.1.before; key = first.1.key; after = first.1.after; state = _; moves = goes_first r first.1.before first.1.key first.1.after first.3 (full_last [] r o.full) }
+      turn (q ∷ qs) r o b =
+          let past = q ∷ qs in
+          let full = full_last past r o.full in
+          elim (goes_next past r b.before b.key b.after b.state b.here o) [
+            | inl same ↦ record { items = _; before = b.before; key = b.key; after = b.after; state = _; moves = goes_on past r b.before b.key b.after b.state b.here same.0 same.1 full }
+            | inr g ↦ record { items = _; before = b.before ++ b.key ∷ g.middle; key = g.next; after = g.behind; state = _; moves = goes_to past r b.before b.key b.after b.state b.here g full }
+          ]
+
+      -- so records in order stand somewhere
+      has_begun : (past : List Feature) → Somewhere past → Begun past
+      has_begun [] s = tt
+      has_begun (q ∷ qs) s = s
+
+      begun_more : (past more : List Feature) → InOrder (map f.name keys) (past ++ more) → Begun past → Begun (past ++ more)
+      begun_more past [] o b = subst Begun (sym (append-nil past)) b
+      begun_more past (r ∷ rs) o b =
+          let grown : (past ++ r ∷ []) ++ rs ≡ past ++ r ∷ rs = append_assoc past (r ∷ []) rs in
+          let o_grown = subst (λ (l : List Feature). InOrder (map f.name keys) l) (sym grown) o in
+          let t = turn past r (order_front (map f.name keys) (past ++ r ∷ []) rs o_grown) b in
+          let next = has_begun (past ++ r ∷ []) (record { before = t.before; key = t.key; after = t.after; state = t.state; here = t.moves.here }) in
+          subst Begun grown (begun_more (past ++ r ∷ []) rs o_grown next)
+
+      pub begun : (past : List Feature) → InOrder (map f.name keys) past → Begun past
+      begun past o = begun_more [] past o tt
+
+      -- each next one settles some items, and some are left at the end
+      settles_some : (past : List Feature) (r : Feature) → InOrder (map f.name keys) (past ++ r ∷ []) → Written past → Written (past ++ r ∷ []) → (items : List T) × (f.settled (past ++ r ∷ []) ≡ f.settled past ++ items)
+      settles_some past r o w_past w =
+          let t = turn past r o (begun past (order_front (map f.name keys) past (r ∷ []) o)) in
+          (t.items, t.moves.settles w_past w)
+
+      leaves_some : (past : List Feature) → Written past → Begun past → (items : List T) × (f.whole past ≡ f.settled past ++ items)
+      leaves_some [] w b = (f.whole [], ap (λ l. l ++ f.whole []) (sym owes.nothing))
+      leaves_some (q ∷ qs) w b = (f.left b.key b.state ++ bares f b.after, whole_left (q ∷ qs) b.before b.key b.after b.state b.here w)
+
+  -- how all of some records are written: in an order of chromosomes in which they come, and their first ones in the same order
+  pub record Ordered (all : List Feature) : Type 0 where
+    pub keys : List K
+    pub owes : Owes (map f.name keys)
+    pub distinct : AreDistinct (map f.name keys)
+    pub in_order : InOrder (map f.name keys) all
+    pub written : (past more : List Feature) → past ++ more ≡ all → Written keys past
+
+  -- where all that it may take is ordered, what is settled begins what is settled later, and the whole
+  pub settling : (Taken : List Feature → Type 0) → ((past more : List Feature) → Taken (past ++ more) → Taken past) → ((all : List Feature) → Taken all → Ordered all) → Settles f.settled f.whole Taken
+  settling Taken front ordered = record {
+    front = front;
+    next = λ past r t.
+        let o = ordered (past ++ r ∷ []) t in
+        settles_some o.keys o.owes o.distinct past r o.in_order (o.written past (r ∷ []) refl) (o.written (past ++ r ∷ []) [] (append-nil (past ++ r ∷ [])));
+    begins = λ past t.
+        let o = ordered past t in
+        leaves_some o.keys o.owes o.distinct past (o.written past [] (append-nil past)) (begun o.keys o.owes o.distinct past o.in_order);
+  }

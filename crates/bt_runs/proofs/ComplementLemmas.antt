@@ -14,7 +14,8 @@ use Rattle.bt_bed.specs.IntervalLine.{interval_lines}
 use Rattle.bt_lines.specs.Putting.{Adds, FailsToAdd, FailsToPut, Grown}
 use Rattle.bt_runs.specs.declared.complement.Reached.{Reached}
 use Rattle.bt_runs.proofs.EngineLemmas.{feeds_cut, feeds_taken, finishes_by}
-use Rattle.bt_runs.proofs.GapSteps.{all_settled, held_is, next_kept, next_settled, taken_front}
+use Rattle.bt_runs.proofs.GapSteps.{ends, held_is, held_kept, steps}
+use Rattle.bt_runs.proofs.ComplementForm.{taken_front}
 use Rattle.bt_bed.proofs.IntervalLineLemmas.{lines-append}
 
 -- a complement as its fields show it
@@ -41,7 +42,7 @@ module _ (past : List Feature) (table : List Entry) (limit : Bool) (current : Op
   lines_next r entries wanted fault now is stands =
       same_words (λ e l. AreTaken e (past ++ r ∷ []) → lines_so_far l e (past ++ r ∷ []) ≡ lines_so_far l e past ++ interval_lines (gap_step limit table current (interval_of r)).1) entries wanted fault now is stands (λ kept next.
       let t = taken_front table past (r ∷ []) next in
-      ap interval_lines (next_settled table past t limit r current next (held_is table past t current at kept))
+      ap interval_lines (steps limit table past r current next (held_is limit table past current t at kept)).settles
       ∙ lines-append (settled_gaps limit table past) (gap_step limit table current (interval_of r)).1)
 
   -- the complement stands after the record too
@@ -52,7 +53,7 @@ module _ (past : List Feature) (table : List Entry) (limit : Bool) (current : Op
     same_limit = ap (λ c. c.limit) is ∙ stands.same_limit;
     kept = same_words (λ e l. AreTaken e (past ++ r ∷ []) → places table next ≡ kept_place e (past ++ r ∷ [])) entries wanted fault now is stands (λ kept more.
         let t = taken_front table past (r ∷ []) more in
-        ap (places table) step ∙ next_kept table past t limit r current more (held_is table past t current at kept)) taken;
+        ap (places table) step ∙ held_kept limit table (past ++ r ∷ []) _ t.distinct (steps limit table past r current more (held_is limit table past current t at kept)).held) taken;
     going = ap (λ c. c.fault) is ∙ stands.going;
   }
 
@@ -61,7 +62,7 @@ module _ (past : List Feature) (table : List Entry) (limit : Bool) (current : Op
       → interval_lines (complement wanted entries past) ≡ lines_so_far wanted entries past ++ interval_lines (gaps_before limit table current stop)
   lines_left stop all entries wanted fault now is stands =
       same_words (λ e l. AreTaken e past → interval_lines (complement l e past) ≡ lines_so_far l e past ++ interval_lines (gaps_before limit table current stop)) entries wanted fault now is stands (λ kept t.
-      ap interval_lines (all_settled table past t limit current (held_is table past t current at kept) ∙ ap (λ n. settled_gaps limit table past ++ gaps_before limit table current n) (sym all))
+      ap interval_lines (ends limit table past current t.distinct (held_is limit table past current t at kept) ∙ ap (λ n. settled_gaps limit table past ++ gaps_before limit table current n) (sym all))
       ∙ lines-append (settled_gaps limit table past) (gaps_before limit table current stop))
 
 module _ (table : List Entry) (limit : Bool) (current : Option Reached) (at : AreAt table current) (fault : Option Told) (old : Complementing) (is : shown table limit current fault ≡ old) (was_going : kept_fault old ≡ None) (out : Output) where

@@ -1,9 +1,9 @@
 -- Records in the order of a genome file: their chromosomes come in that order, each once.
-use Rattle.std.proofs.Common.{◌≡◌, ℕ, suc, ◌<◌, ◌≤◌, ◌⊎◌, inl, inr, List, [], ◌∷◌, ◌++◌, refl, sym, ap, subst, ◌∙◌, arith, map, filter, cond, Bool, true, false, ◌||◌, bytes_eq, Option, Some, None, option_map}
-use Rattle.std.specs.Prelude.{IsTrue, is_some}
+use Rattle.std.proofs.Common.{◌≡◌, ℕ, suc, ◌<◌, ◌≤◌, ◌⊎◌, inl, inr, List, [], ◌∷◌, ◌++◌, refl, sym, ap, subst, ◌∙◌, arith, map, filter, cond, Bool, true, false, ◌||◌, bytes_eq, Option, Some, option_map}
+use Rattle.std.specs.Prelude.{IsTrue}
 use Rattle.std.specs.Cmp.{ranked}
 use Rattle.std.specs.declared.cmp.Ordering.TheVariants.{Less}
-use Rattle.std.proofs.lemmas.Bool.{cases_Bool, cond-true, cond-false, or_parts, or_from, or_left, false≢true}
+use Rattle.std.proofs.lemmas.Bool.{cases_Bool, cond-true, cond-false, or_parts, or_from, or_left}
 use Rattle.bt_bed.specs.Feature.{Feature, interval_of, intervals_of}
 use Rattle.bt_bed.specs.Interval.{Interval, placed_on}
 use Rattle.bt_bed.specs.Order.{Order, IsTotal}
@@ -16,6 +16,7 @@ use Rattle.bt_bed.proofs.NameLemmas.{name_eq, name_ne, name_ne-sym, cases_name}
 use Rattle.bt_runs.specs.Counted.{is_counted, counted}
 use Rattle.bt_runs.specs.Merged.{runs_of, runs_on, merged, without, chromosomes}
 use Rattle.bt_runs.specs.MergedRuns.{runs_come_in_order}
+use Rattle.bt_runs.proofs.Keys.{known_rank, later_rank}
 use Rattle.bt_runs.proofs.ChromosomeLemmas.{spans_on-none, among_chromosomes, without-here, without-other}
 
 -- a record up to the next one but one
@@ -55,16 +56,9 @@ rank_of-here n name ns e = cond-true (bytes_eq n name) (Some 0) (option_map (λ 
 pub rank_of-later : (n name : List ℕ) (ns : List (List ℕ)) → bytes_eq n name ≡ false → rank_of (n ∷ ns) name ≡ option_map (λ rank. suc rank) (rank_of ns name)
 rank_of-later n name ns f = cond-false (bytes_eq n name) (Some 0) (option_map (λ rank. suc rank) (rank_of ns name)) f
 
-one_less : (o : Option ℕ) (i : ℕ) → option_map (λ rank. suc rank) o ≡ Some i → (k : ℕ) × (o ≡ Some k) × (i ≡ suc k)
-one_less None i e = absurd (cc)
-one_less (Some k) i e = (k, refl, cc)
-
 -- the rank past the first name
 rank_past : (n name : List ℕ) (ns : List (List ℕ)) (i : ℕ) → bytes_eq n name ≡ false → rank_of (n ∷ ns) name ≡ Some i → (k : ℕ) × (rank_of ns name ≡ Some k) × (i ≡ suc k)
-rank_past n name ns i f e = one_less (rank_of ns name) i (sym (rank_of-later n name ns f) ∙ e)
-
-rank_first : (n name : List ℕ) (ns : List (List ℕ)) (i : ℕ) → n ≡ name → rank_of (n ∷ ns) name ≡ Some i → i ≡ 0
-rank_first n name ns i same e = let h = rank_of-here n name ns same in cc
+rank_past n name ns i f e = later_rank (rank_of ns name) i (sym (rank_of-later n name ns f) ∙ e)
 
 -- the ranks of a record's chromosome and of the next one's
 record RanksUpTo (names : List (List ℕ)) (r s : Interval) : Type 0 where
@@ -74,17 +68,13 @@ record RanksUpTo (names : List (List ℕ)) (r s : Interval) : Type 0 where
   next_rank_is : rank_of names s.chrom ≡ Some next_rank
   up_to : (rank < next_rank) ⊎ (r.chrom ≡ s.chrom)
 
-some_rank : (o : Option ℕ) → IsTrue (is_some o) → (i : ℕ) × (o ≡ Some i)
-some_rank None h = absurd (false≢true h)
-some_rank (Some i) h = (i, refl)
-
 less_ranks : (o p : Option ℕ) (i j : ℕ) → o ≡ Some i → p ≡ Some j → compare_ranks o p ≡ Less → i < j
 less_ranks o p i j e f less = ranked i j Less (sym (sym (ap (λ q. compare_ranks q p) e ∙ ap (λ q. compare_ranks (Some i) q) f) ∙ less))
 
 ranks_up_to : (names : List (List ℕ)) (r s : Interval) (ss : List Interval) → ArePlaced (rank_order names) (r ∷ s ∷ ss) → RanksUpTo names r s
 ranks_up_to names r s ss placed =
-    let a = some_rank (rank_of names r.chrom) placed.0 in
-    let b = some_rank (rank_of names s.chrom) placed.2.0 in
+    let a = known_rank (rank_of names r.chrom) placed.0 in
+    let b = known_rank (rank_of names s.chrom) placed.2.0 in
     record {
       rank = a.0;
       next_rank = b.0;
@@ -180,7 +170,7 @@ or_twice false y = refl
 names_in_order : (names : List (List ℕ)) (records : List Interval) → AreDistinct names → ArePlaced (rank_order names) records → filter (λ n. has_records n records) names ≡ chromosomes records
 names_in_order names [] distinct placed = filter_none names
 names_in_order names (r ∷ []) distinct placed =
-    let rank = some_rank (rank_of names r.chrom) placed.0 in
+    let rank = known_rank (rank_of names r.chrom) placed.0 in
     pick_first names r.chrom rank.0 (λ n. false) distinct rank.1 (λ n j h l. refl) ∙ ap (λ ns. r.chrom ∷ ns) (filter_none names)
 names_in_order names (r ∷ s ∷ ss) distinct placed =
     let next = ranks_up_to names r s ss placed in

@@ -1,7 +1,6 @@
--- The gaps of the chromosomes that are asked for, one chromosome after another.
-use Rattle.std.proofs.Common.{◌≡◌, ℕ, ◌<◌, inl, inr, List, [], ◌∷◌, ◌++◌, refl, ap, ap₂, ◌∙◌, map, filter, flat_map, cond, not, nat_le, nat_lt, Bool, true, false, bytes_eq}
+-- The gaps of a chromosome, where they are asked for: with records and without, and which of them are over.
+use Rattle.std.proofs.Common.{◌≡◌, ℕ, ◌<◌, inl, inr, List, [], ◌∷◌, ◌++◌, refl, ap, ◌∙◌, map, filter, flat_map, cond, not, nat_le, nat_lt, Bool, true, false, bytes_eq}
 use Rattle.std.proofs.lemmas.Bool.{cases_Bool, cases_lt, cond-true, or_right, lt-ltb, le-ltb, lt-leb, le-leb}
-use Rattle.std.proofs.lemmas.Grind.{flat_map-append}
 use Rattle.std.specs.declared.cmp.Ordering.TheVariants.{Less, Equal, Greater}
 use Rattle.bt_bed.specs.Feature.{Feature, intervals_of}
 use Rattle.bt_bed.specs.Genome.{Entry}
@@ -10,24 +9,13 @@ use Rattle.bt_bed.specs.Rank.{rank_order}
 use Rattle.bt_bed.specs.Together.{has_records}
 use Rattle.bt_runs.specs.Gaps.{gaps_of, gaps_on, is_asked, is_over, is_over_at, complement}
 use Rattle.bt_runs.specs.GapStep.{gap_between, whole_of, wholes}
-use Rattle.bt_runs.proofs.ByChromosome.{NoneOn, has_records-push}
+use Rattle.bt_runs.proofs.Standing.{has_records-push}
 use Rattle.bt_runs.proofs.ChromosomeLemmas.{spans_on-push_elsewhere, spans_on-none}
-use Rattle.bt_runs.proofs.GapRanks.{name_at}
 use Rattle.bt_runs.proofs.OneGap.{OneGap, no_gap, one_gaps, span_between, EndBy}
 
 -- the gaps of a chromosome, if they are asked for
 abbrev pub part : Bool → List Interval → Entry → List Interval
 part limit records entry = cond (is_asked limit records entry) (gaps_on records entry) []
-
--- as a function of the chromosome, by records that are their own intervals
-abbrev pub part_at : Bool → Entry → List Interval → List Interval
-part_at limit entry records = part limit records entry
-
-abbrev pub all_of : List Interval → List Interval
-all_of records = records
-
-abbrev pub parts : Bool → List Interval → List Entry → List Interval
-parts limit records entries = flat_map (part limit records) entries
 
 flat_map-filter : {A : Type 0} (f : Entry → List A) (test : Entry → Bool) (xs : List Entry) → flat_map f (filter test xs) ≡ flat_map (λ x. cond (test x) (f x) []) xs
 flat_map-filter f test [] = refl
@@ -36,12 +24,9 @@ flat_map-filter f test (x ∷ xs) = elim (cases_Bool (test x)) [
   | inr t ↦ rw (t, flat_map-filter f test xs) refl
 ]
 
-pub complement_parts : (limit : Bool) (entries : List Entry) (records : List Feature) → complement limit entries records ≡ parts limit (intervals_of records) entries
+pub complement_parts : (limit : Bool) (entries : List Entry) (records : List Feature) → complement limit entries records ≡ flat_map (part limit (intervals_of records)) entries
 unfolding complement
 complement_parts limit entries records = flat_map-filter (gaps_on (intervals_of records)) (is_asked limit (intervals_of records)) entries
-
-pub parts-append : (limit : Bool) (records : List Interval) (xs ys : List Entry) → parts limit records (xs ++ ys) ≡ parts limit records xs ++ parts limit records ys
-parts-append limit records xs ys = flat_map-append (part limit records) xs ys
 
 -- a gap as the only one of a list, or none
 pub placed_between : (name : List ℕ) (start stop : ℕ) → map (placed_on name) (span_between start stop) ≡ gap_between name start stop
@@ -54,26 +39,19 @@ placed_between name start stop = elim (cases_Bool (nat_lt start stop)) [
 gaps_none : (size : ℕ) → gaps_of size [] ≡ span_between 0 size
 gaps_none size = one_gaps size [] [] 0 (no_gap size)
 
-part_none : (limit : Bool) (records : List Interval) (e : Entry) → has_records e.name records ≡ false → part limit records e ≡ cond limit [] (whole_of e)
+pub part_none : (limit : Bool) (records : List Interval) (e : Entry) → has_records e.name records ≡ false → part limit records e ≡ cond limit [] (whole_of e)
 part_none true records e none = rw none refl
 part_none false records e none =
     ap (λ spans. map (placed_on e.name) (gaps_of e.length spans)) (spans_on-none e.name records none)
     ∙ ap (map (placed_on e.name)) (gaps_none e.length)
     ∙ placed_between e.name 0 e.length
 
-wholes_more : (limit : Bool) (e : Entry) (es : List Entry) → cond limit [] (whole_of e) ++ wholes limit es ≡ wholes limit (e ∷ es)
-wholes_more true e es = refl
-wholes_more false e es = refl
-
-wholes_none : (limit : Bool) → [] ≡ wholes limit []
-wholes_none true = refl
-wholes_none false = refl
-
-pub parts_none : (limit : Bool) (records : List Interval) (entries : List Entry) → NoneOn name_at records entries → parts limit records entries ≡ wholes limit entries
-parts_none limit records [] none = wholes_none limit
-parts_none limit records (e ∷ es) none =
-    ap₂ (λ (xs ys : List Interval). xs ++ ys) (part_none limit records e none.0) (parts_none limit records es none.1)
-    ∙ wholes_more limit e es
+-- chromosomes without records are whole
+pub bare_wholes : (limit : Bool) (entries : List Entry) → flat_map (λ e. cond limit [] (whole_of e)) entries ≡ wholes limit entries
+bare_wholes true [] = refl
+bare_wholes false [] = refl
+bare_wholes true (e ∷ es) = bare_wholes true es
+bare_wholes false (e ∷ es) = ap (λ l. whole_of e ++ l) (bare_wholes false es)
 
 -- one with records has the gaps that are done, and the last
 pub part_here : (limit : Bool) (records : List Interval) (e : Entry) (done : List Span) (kept : ℕ) → has_records e.name records ≡ true → OneGap e.length (spans_on e.name records) done kept

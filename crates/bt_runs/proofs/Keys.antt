@@ -1,6 +1,6 @@
 -- Chromosomes in an order, each once: where a name is found among them, and what lies before and after.
-use Rattle.std.proofs.Common.{◌≡◌, ℕ, suc, ◌+◌, ◌<◌, ◌≤◌, inl, inr, List, [], ◌∷◌, ◌++◌, append_assoc, refl, sym, ap, ◌∙◌, subst, arith, length, length-append, map, false, bytes_eq, Option, Some, None, option_map}
-use Rattle.std.specs.Prelude.{⊤}
+use Rattle.std.proofs.Common.{◌≡◌, ℕ, suc, ◌+◌, ◌<◌, ◌≤◌, inl, inr, List, [], ◌∷◌, ◌++◌, append_assoc, refl, sym, ap, ◌∙◌, subst, arith, length, length-append, map, true, false, bytes_eq, Option, Some, None, option_map}
+use Rattle.std.specs.Prelude.{⊤, is_some}
 use Rattle.std.specs.Ordering.{nat_cmp}
 use Rattle.std.specs.declared.cmp.Ordering.{Ordering}
 use Rattle.std.specs.declared.cmp.Ordering.TheVariants.{Less, Equal, Greater}
@@ -43,7 +43,12 @@ not_less names a b same less = let apart : Equal ≡ Less = sym (compare_same na
 compare_at : (names : List (List ℕ)) (name other : List ℕ) (k n : ℕ) (way : Ordering) → rank_of names name ≡ Some k → rank_of names other ≡ Some n → compare_ranks (Some k) (Some n) ≡ way → (rank_order names).compare name other ≡ way
 compare_at names name other k n way a b e = rw (a, b) e
 
-later_rank : (o : Option ℕ) (rank : ℕ) → option_map (λ n. suc n) o ≡ Some rank → (k : ℕ) × (o ≡ Some k) × (rank ≡ suc k)
+-- a known name has a rank
+pub known_rank : (o : Option ℕ) → is_some o ≡ true → (k : ℕ) × (o ≡ Some k)
+known_rank None e = cc
+known_rank (Some k) e = (k, refl)
+
+pub later_rank : (o : Option ℕ) (rank : ℕ) → option_map (λ n. suc n) o ≡ Some rank → (k : ℕ) × (o ≡ Some k) × (rank ≡ suc k)
 later_rank None rank e = cc
 later_rank (Some k) rank e = (k, refl, cc)
 

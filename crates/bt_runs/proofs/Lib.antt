@@ -1,7 +1,9 @@
 pub mod SettlingLemmas
 pub mod Bridging
+pub mod Covering
 pub mod OneOpen
 pub mod Keys
+pub mod Standing
 pub mod ByChromosome
 pub mod ChromosomeLemmas
 pub mod Passing
@@ -9,7 +11,7 @@ pub mod Counting
 pub mod SettledRuns
 pub mod FileOrder
 pub mod OwnOrder
-pub mod OpenRuns
+pub mod MergeForm
 pub mod EngineLemmas
 pub mod MergeLemmas
 pub mod PlainSpans
@@ -18,7 +20,7 @@ pub mod OneGap
 pub mod GapRanks
 pub mod GapLines
 pub mod GapParts
-pub mod GapStanding
+pub mod ComplementForm
 pub mod GapSteps
 pub mod ComplementLemmas
 pub mod PlainGaps

@@ -1,5 +1,5 @@
 -- The gaps of one chromosome whose starts don't fall: those that end by the last start, and the one from the greatest end to the chromosome's length.
-use Rattle.std.proofs.Common.{◌≡◌, ℕ, ◌+◌, ◌<◌, ◌≤◌, ◌⊎◌, inl, inr, List, [], ◌∷◌, ◌++◌, sym, arith, max, min, cond, nat_lt, append_assoc}
+use Rattle.std.proofs.Common.{◌≡◌, ℕ, ◌+◌, ◌<◌, ◌≤◌, inl, inr, List, [], ◌∷◌, ◌++◌, sym, arith, max, min, cond, nat_lt, append_assoc}
 use Rattle.std.specs.Prelude.{⊤}
 use Rattle.std.proofs.lemmas.Bool.{cases_lt, cond-true, cond-false, lt-ltb, le-ltb}
 use Rattle.bt_bed.specs.Interval.{Span}
@@ -7,6 +7,7 @@ use Rattle.bt_bed.specs.Stretches.{IsCovered, AreApartFrom, AreStretchesOf}
 use Rattle.bt_runs.specs.Merged.{end_of}
 use Rattle.bt_runs.specs.Gaps.{IsBare, gaps_of}
 use Rattle.bt_runs.proofs.Bareness.{only_gaps}
+use Rattle.bt_runs.proofs.Covering.{covered_last, covered_left, covered_parts, covered_right}
 
 -- the span between two positions, if it has one
 abbrev pub span_between : ℕ → ℕ → List Span
@@ -43,20 +44,6 @@ covered_by_end start [] p e c = absurd c
 covered_by_end start (x ∷ xs) p e (inl w) = omega (arith, e.0)
 covered_by_end start (x ∷ xs) p e (inr w) = covered_by_end start xs p e.1 w
 
-covered_both : (xs ys : List Span) (p : ℕ) → IsCovered (xs ++ ys) p → IsCovered xs p ⊎ IsCovered ys p
-covered_both [] ys p c = inr c
-covered_both (x ∷ xs) ys p (inl w) = inl (inl w)
-covered_both (x ∷ xs) ys p (inr w) = elim (covered_both xs ys p w) [ inl a ↦ inl (inr a) | inr b ↦ inr b ]
-
-covered_left : (xs ys : List Span) (p : ℕ) → IsCovered xs p → IsCovered (xs ++ ys) p
-covered_left [] ys p c = absurd c
-covered_left (x ∷ xs) ys p (inl w) = inl w
-covered_left (x ∷ xs) ys p (inr w) = inr (covered_left xs ys p w)
-
-covered_right : (xs ys : List Span) (p : ℕ) → IsCovered ys p → IsCovered (xs ++ ys) p
-covered_right [] ys p c = c
-covered_right (x ∷ xs) ys p c = inr (covered_right xs ys p c)
-
 covered_between : (start stop p : ℕ) → IsCovered (span_between start stop) p → (start ≤ p) × (p < stop)
 covered_between start stop p = elim (cases_lt start stop) [
   | inl l ↦ rw (span_some start stop l) (λ c. elim c [ inl w ↦ w | inr w ↦ absurd w ])
@@ -65,9 +52,6 @@ covered_between start stop p = elim (cases_lt start stop) [
 
 between_covers : (start stop p : ℕ) → start ≤ p → p < stop → IsCovered (span_between start stop) p
 between_covers start stop p low high = let l : start < stop = omega arith in rw (span_some start stop l) (inl (low, high))
-
-covered_spans : (xs ys : List Span) (p : ℕ) → IsCovered (xs ++ ys) p → (IsCovered xs p → ⊥) → IsCovered ys p
-covered_spans xs ys p c bare = elim (covered_both xs ys p c) [ inl w ↦ absurd (bare w) | inr w ↦ w ]
 
 -- the spans after a first part may be others that begin no earlier
 apart_tail : (first : ℕ) (xs : List Span) (y : Span) (zs : List Span) → AreApartFrom first (xs ++ y ∷ []) → AreApartFrom y.start zs → AreApartFrom first (xs ++ zs)
@@ -114,10 +98,6 @@ end_of-push : (spans : List Span) (s : Span) → end_of (spans ++ s ∷ []) ≡ 
 end_of-push [] s = omega arith
 end_of-push (x ∷ xs) s = let h = end_of-push xs s in omega arith
 
-covered_one : (s : Span) (p : ℕ) → IsCovered (s ∷ []) p → (s.start ≤ p) × (p < s.stop)
-covered_one s p (inl w) = w
-covered_one s p (inr w) = absurd w
-
 module _ (size : ℕ) (spans done : List Span) (kept : ℕ) (s : Span) (one : OneGap size spans done kept) (ended : EndBy s.start done) (full : s.start < s.stop) where
   abbrev first : List Span
   first = span_between kept (min s.start size)
@@ -142,16 +122,16 @@ module _ (size : ℕ) (spans done : List Span) (kept : ℕ) (s : Span) (one : On
   cover_within p c =
       let bare : IsCovered (done ++ span_between kept size) p → (IsCovered (s ∷ []) p → ⊥) → IsBare size (spans ++ s ∷ []) p = λ old off.
       let was = one.parts.within p old in
-      record { within = was.within; bare = λ w. elim (covered_both spans (s ∷ []) p w) [ inl a ↦ was.bare a | inr b ↦ off b ] } in
-      elim (covered_both done (first ++ rest) p c) [
-        | inl w ↦ let low = covered_by_end s.start done p ended w in bare (covered_left done (span_between kept size) p w) (λ h. let o = covered_one s p h in absurd (omega (arith, o.0)))
-        | inr w ↦ elim (covered_both first rest p w) [
+      record { within = was.within; bare = λ w. elim (covered_parts spans (s ∷ []) p w) [ inl a ↦ was.bare a | inr b ↦ off b ] } in
+      elim (covered_parts done (first ++ rest) p c) [
+        | inl w ↦ let low = covered_by_end s.start done p ended w in bare (covered_left done (span_between kept size) p w) (λ h. let o = covered_last s p h in absurd (omega (arith, o.0)))
+        | inr w ↦ elim (covered_parts first rest p w) [
           | inl v ↦
               let b = covered_between kept (min s.start size) p v in
-              bare (covered_right done (span_between kept size) p (between_covers kept size p b.0 (omega (arith, b.1)))) (λ h. let o = covered_one s p h in absurd (omega (arith, o.0, b.1)))
+              bare (covered_right done (span_between kept size) p (between_covers kept size p b.0 (omega (arith, b.1)))) (λ h. let o = covered_last s p h in absurd (omega (arith, o.0, b.1)))
           | inr v ↦
               let b = covered_between (max kept (min s.stop size)) size p v in
-              bare (covered_right done (span_between kept size) p (between_covers kept size p (omega (arith, b.0)) b.1)) (λ h. let o = covered_one s p h in absurd (omega (arith, o.1, b.0, b.1)))
+              bare (covered_right done (span_between kept size) p (between_covers kept size p (omega (arith, b.0)) b.1)) (λ h. let o = covered_last s p h in absurd (omega (arith, o.1, b.0, b.1)))
         ]
       ]
 
@@ -159,7 +139,7 @@ module _ (size : ℕ) (spans done : List Span) (kept : ℕ) (s : Span) (one : On
   cover_whole p b =
       let was : IsBare size spans p = record { within = b.within; bare = λ w. b.bare (covered_left spans (s ∷ []) p w) } in
       let off : IsCovered (s ∷ []) p → ⊥ = λ w. b.bare (covered_right spans (s ∷ []) p w) in
-      elim (covered_both done (span_between kept size) p (one.parts.whole p was)) [
+      elim (covered_parts done (span_between kept size) p (one.parts.whole p was)) [
         | inl w ↦ covered_left done (first ++ rest) p w
         | inr w ↦
             let at = covered_between kept size p w in

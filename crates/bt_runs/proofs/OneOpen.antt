@@ -1,10 +1,11 @@
 -- On one chromosome, with starts that don't fall, one run is open: the one that holds the start of the last record.
-use Rattle.std.proofs.Common.{◌≡◌, ℕ, ◌+◌, ◌-◌, ◌<◌, ◌≤◌, ◌⊎◌, inl, inr, List, [], ◌∷◌, ◌++◌, refl, arith, max}
+use Rattle.std.proofs.Common.{◌≡◌, ℕ, ◌+◌, ◌-◌, ◌<◌, ◌≤◌, inl, inr, List, [], ◌∷◌, ◌++◌, refl, arith, max}
 use Rattle.std.proofs.lemmas.Bool.{cases_lt}
 use Rattle.bt_bed.specs.Interval.{Span}
 use Rattle.bt_bed.specs.Stretches.{IsCovered}
 use Rattle.bt_runs.specs.Merged.{Bridged, runs_of}
 use Rattle.bt_bed.proofs.Apart.{IsWithin}
+use Rattle.bt_runs.proofs.Covering.{covered_last, covered_left, covered_parts, covered_right}
 use Rattle.bt_runs.proofs.Bridging.{AreApartBy, AreJoined, joined_are_runs}
 
 -- the runs of the spans are those that are done and one more, which holds the start of the last span and ends where a span ends
@@ -13,24 +14,6 @@ pub record OneOpen (gap : ℕ) (spans : List Span) (last : ℕ) (done : List Spa
   pub began : run.start ≤ last
   pub reaches : last < run.stop
   pub ends : (p : ℕ) → p + 1 ≡ run.stop → IsCovered spans p
-
-pub covered_left : (xs ys : List Span) (p : ℕ) → IsCovered xs p → IsCovered (xs ++ ys) p
-covered_left [] ys p c = absurd c
-covered_left (x ∷ xs) ys p (inl w) = inl w
-covered_left (x ∷ xs) ys p (inr w) = inr (covered_left xs ys p w)
-
-pub covered_right : (xs ys : List Span) (p : ℕ) → IsCovered ys p → IsCovered (xs ++ ys) p
-covered_right [] ys p c = c
-covered_right (x ∷ xs) ys p c = inr (covered_right xs ys p c)
-
-pub covered_parts : (xs ys : List Span) (p : ℕ) → IsCovered (xs ++ ys) p → IsCovered xs p ⊎ IsCovered ys p
-covered_parts [] ys p c = inr c
-covered_parts (x ∷ xs) ys p (inl w) = inl (inl w)
-covered_parts (x ∷ xs) ys p (inr w) = elim (covered_parts xs ys p w) [ inl h ↦ inl (inr h) | inr h ↦ inr h ]
-
-covered_last : (x : Span) (p : ℕ) → IsCovered (x ∷ []) p → (x.start ≤ p) × (p < x.stop)
-covered_last x p (inl w) = w
-covered_last x p (inr w) = absurd w
 
 bridged_more : (gap : ℕ) (xs ys : List Span) (p : ℕ) → Bridged gap xs p → Bridged gap (xs ++ ys) p
 bridged_more gap xs ys p b = record {

@@ -1,6 +1,6 @@
 -- Which runs a record has passed.
-use Rattle.std.proofs.Common.{◌≡◌, ℕ, ◌+◌, ◌<◌, ◌≤◌, inl, inr, List, [], ◌∷◌, ◌++◌, refl, ap, ◌∙◌, arith, map, filter, true, false, not, bytes_eq, nat_lt, lt-ltb, le-ltb}
-use Rattle.std.proofs.lemmas.Bool.{cond-true, or_cases, or_from, or_left, or_right, not_from_true, not_from_false, ltb-true}
+use Rattle.std.proofs.Common.{◌≡◌, ℕ, ◌+◌, ◌<◌, ◌≤◌, List, [], ◌∷◌, ◌++◌, refl, ap, ◌∙◌, arith, map, filter, true, false, not, bytes_eq, nat_lt, lt-ltb, le-ltb}
+use Rattle.std.proofs.lemmas.Bool.{cond-true, or_from, or_left, or_right, not_from_true, not_from_false}
 use Rattle.bt_bed.specs.Interval.{Interval, Span, placed_on}
 use Rattle.bt_bed.proofs.NameLemmas.{name_eq}
 use Rattle.bt_runs.specs.MergedRuns.{is_passed}
@@ -14,14 +14,6 @@ passed_far gap last run far = or_right (not (bytes_eq run.chrom last.chrom)) (na
 
 pub not_passed : (gap : ℕ) (last run : Interval) → run.chrom ≡ last.chrom → last.start ≤ run.stop + gap → is_passed gap last run ≡ false
 not_passed gap last run same near = or_from (not (bytes_eq run.chrom last.chrom)) (nat_lt (run.stop + gap) last.start) (not_from_true (bytes_eq run.chrom last.chrom) (name_eq run.chrom last.chrom same)) (le-ltb (run.stop + gap) last.start near)
-
--- a later record on the chromosome of an earlier one has passed what that one has
-pub passed_later : (gap : ℕ) (earlier later run : Interval) → later.chrom ≡ earlier.chrom → earlier.start ≤ later.start → is_passed gap earlier run ≡ true → is_passed gap later run ≡ true
-passed_later gap earlier later run same up passed =
-    elim (or_cases (not (bytes_eq run.chrom earlier.chrom)) (nat_lt (run.stop + gap) earlier.start) passed) [
-      | inl other ↦ or_left (not (bytes_eq run.chrom later.chrom)) (nat_lt (run.stop + gap) later.start) (rw same other)
-      | inr far ↦ passed_far gap later run (let h = ltb-true (run.stop + gap) earlier.start far in omega arith)
-    ]
 
 -- a record has passed all runs on other chromosomes than its own
 pub placed_elsewhere : (gap : ℕ) (last : Interval) (name : List ℕ) (spans : List Span) → bytes_eq name last.chrom ≡ false → filter (is_passed gap last) (map (placed_on name) spans) ≡ map (placed_on name) spans

@@ -14,7 +14,7 @@ use Rattle.bt_seq.specs.Room.{FitBehind, fit_behind}
 use Rattle.bt_seq.specs.declared.operation.Operation.{Operation}
 
 -- the blocks of operations, of which the first begins here and has come so far
-abbrev open_blocks : ℕ → ℕ → List Operation → List Span
+abbrev pub open_blocks : ℕ → ℕ → List Operation → List Span
 open_blocks start stop [] = with_bases start stop
 open_blocks start stop (operation ∷ operations) =
     cond (is_skip operation) (with_bases start stop ++ open_blocks (stop + operation.length) (stop + operation.length) operations) (open_blocks start (stop + covered_by operation) operations)
@@ -35,7 +35,7 @@ length_push : (before : List Operation) (operation : Operation) → reference_le
 length_push before operation = sum_by_push covered_by before operation
 
 -- an N covers all of its number
-skip_covers : (operation : Operation) → is_skip operation ≡ true → covered_by operation ≡ operation.length
+pub skip_covers : (operation : Operation) → is_skip operation ≡ true → covered_by operation ≡ operation.length
 skip_covers operation e = grind (arith, nat_tests)
 
 up_by : (b : Bool) (operation : Operation) (rest : List Operation) → reference_length (cond (not b) (operation ∷ rest) []) ≡ cond b 0 (covered_by operation + reference_length rest)
@@ -101,19 +101,19 @@ le_from n m e = grind (arith, nat_tests)
 le_to : (n m : ℕ) → n ≤ m → nat_le n m ≡ true
 le_to n m e = grind (arith, nat_tests)
 
--- an N ends the run
+-- an N ends the block
 module _ (start stop : ℕ) (operation : Operation) where
-  pub run_ends : (more : Option (List Operation)) → is_skip operation ≡ true → FitBehind stop (with_operation (Some operation) more)
+  pub block_ends : (more : Option (List Operation)) → is_skip operation ≡ true → FitBehind stop (with_operation (Some operation) more)
       → open_in start stop (with_operation (Some operation) more) ≡ with_bases start stop ++ blocks_in (stop + operation.length) more
-  run_ends None k h = absurd (false≢true h)
-  run_ends (Some operations) k h = rw k (ap (λ l. with_bases start stop ++ l) (sym (blocks_open (stop + operation.length) operations)))
+  block_ends None k h = absurd (false≢true h)
+  block_ends (Some operations) k h = rw k (ap (λ l. with_bases start stop ++ l) (sym (blocks_open (stop + operation.length) operations)))
 
 -- no operation is left
-pub run_is_last : (start stop : ℕ) (rest : List ℕ) → operations_in rest ≡ none_left rest → FitBehind stop (operations_in rest)
+pub block_is_last : (start stop : ℕ) (rest : List ℕ) → operations_in rest ≡ none_left rest → FitBehind stop (operations_in rest)
     → open_in start stop (operations_in rest) ≡ with_bases start stop ++ blocks_in stop (operations_in rest)
-run_is_last start stop [] e h =
+block_is_last start stop [] e h =
     rw e (sym (ap (λ l. with_bases start stop ++ l) (blocks_open stop [] ∙ no_bases stop stop refl) ∙ append-nil (with_bases start stop)))
-run_is_last start stop (byte ∷ bytes) e h = absurd (false≢true (sym (ap (fit_behind stop) e) ∙ h))
+block_is_last start stop (byte ∷ bytes) e h = absurd (false≢true (sym (ap (fit_behind stop) e) ∙ h))
 
 -- an empty text has no blocks
 pub no_blocks : (start : ℕ) (rest : List ℕ) → length rest ≡ 0 → blocks_in start (operations_in rest) ≡ []

@@ -65,9 +65,9 @@ module _ (with_cigar : Bool) (a : Alignment) where
       let size : length (bed_line with_cigar a s) ≡ 0 = ap length e in
       absurd (omega (arith, ap length (sym (line_parts with_cigar a s)), length-append (a.chrom ++ codes "\t") ((decimal s.start ++ codes "\t") ++ ((decimal s.stop ++ codes "\t") ++ ((a.name ++ name_end a.first a.last) ++ line_tail with_cigar a))), length-append a.chrom (codes "\t")))
 
-  -- the lines of stretches
+  -- the lines of blocks
   abbrev pub lines_of : List Span → List ℕ
-  lines_of stretches = flat_map (bed_line with_cigar a) stretches
+  lines_of blocks = flat_map (bed_line with_cigar a) blocks
 
   one_more : (done : List Span) (s : Span) → lines_of (done ++ s ∷ []) ≡ lines_of done ++ bed_line with_cigar a s
   one_more done s = flat_map-append (bed_line with_cigar a) done (s ∷ []) ∙ ap (λ l. lines_of done ++ l) (append-nil (bed_line with_cigar a s))
@@ -86,7 +86,7 @@ module _ (with_cigar : Bool) (a : Alignment) where
       append_assoc (lines_of done) (bed_line with_cigar a s) (lines_of rest) ∙ sym (flat_map-append (bed_line with_cigar a) done (s ∷ rest)) ∙ ap lines_of e in
       subst (λ l. FailsToAdd old l fault new) lines (cut_off old new (lines_of done ++ bed_line with_cigar a s) (lines_of rest) fault here)
 
--- one more of the stretches
+-- one more of the blocks
 pub left_more : (done : List (ℕ × ℕ)) (x : ℕ × ℕ) (rest more all : List Span) → map span_given done ++ more ≡ all → more ≡ span_given x ∷ rest → map span_given (done ++ x ∷ []) ++ rest ≡ all
 left_more done x rest more all h e =
     ap (λ l. l ++ rest) (map-append span_given done (x ∷ [])) ∙ append_assoc (map span_given done) (span_given x ∷ []) rest

@@ -17,15 +17,15 @@ read_name a = a.name ++ (text_if a.first (codes "/1") ++ text_if a.last (codes "
 abbrev pub strand_sign : Bool → List ℕ
 strand_sign reverse = if reverse then codes "-" else codes "+"
 
--- the columns of a stretch of an alignment: chromosome, start, end, name, mapping quality and strand, and
+-- the columns of a block of an alignment: chromosome, start, end, name, mapping quality and strand, and
 -- the whole CIGAR where it is asked for
 abbrev pub bed_columns : Bool → Alignment → Span → List (List ℕ)
-bed_columns with_cigar a stretch =
-    a.chrom ∷ decimal stretch.start ∷ decimal stretch.stop ∷ read_name a ∷ decimal a.quality ∷ strand_sign a.reverse ∷ (if with_cigar then a.cigar ∷ [] else [])
+bed_columns with_cigar a block =
+    a.chrom ∷ decimal block.start ∷ decimal block.stop ∷ read_name a ∷ decimal a.quality ∷ strand_sign a.reverse ∷ (if with_cigar then a.cigar ∷ [] else [])
 
 -- its line: the columns with tabs between them, and a line feed
 abbrev pub bed_line : Bool → Alignment → Span → List ℕ
-bed_line with_cigar a stretch = join_with_byte 9 (bed_columns with_cigar a stretch) ++ codes "\n"
+bed_line with_cigar a block = join_with_byte 9 (bed_columns with_cigar a block) ++ codes "\n"
 
 -- the lines of an alignment, one for each of its blocks
 abbrev pub bed_lines : Bool → Bool → Alignment → List ℕ

@@ -1,4 +1,4 @@
--- The blocks of an alignment, one for each stretch of its operations without N, which is a region of the
+-- The blocks of an alignment, one for each maximal list of its operations without N, which is a region of the
 -- reference that the read skips (Sequence Alignment/Map Format Specification, section 1.4, field 6;
 -- bedtools manual, bamtobed, option -split).
 use Rattle.std.specs.Prelude.{◌≡◌, ℕ, ◌+◌, ◌==◌, Bool, true, not, List, [], ◌∷◌, ◌++◌, flat_map, nat_lt, Option, Some, None, if◌then◌else◌}
@@ -33,7 +33,7 @@ begins_block (operation ∷ next ∷ operations) = begins_block (next ∷ operat
 abbrev pub up_to_skip : List Operation → List Operation
 up_to_skip operations = take_while (λ operation. not (is_skip operation)) operations
 
--- a stretch of the reference, if it has a base
+-- a span of the reference, if it has a base
 abbrev pub with_bases : ℕ → ℕ → List Span
 with_bases start stop = if nat_lt start stop then record { start = start; stop = stop } ∷ [] else []
 
@@ -51,7 +51,7 @@ abbrev pub blocks_in : ℕ → Option (List Operation) → List Span
 blocks_in start None = []
 blocks_in start (Some operations) = blocks_of start operations
 
--- the stretches of the reference that are written of an alignment: its blocks where it is cut at each N, and
+-- the spans of the reference that are written of an alignment: its blocks where it is cut at each N, and
 -- else all of it from its first base to its last
 abbrev pub alignment_blocks : Bool → Alignment → List Span
 alignment_blocks split a =

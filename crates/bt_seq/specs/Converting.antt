@@ -11,5 +11,5 @@ pub record Converting : Type 0 where
   pub fault : Option Told
 
 -- the lines of an alignment
-abbrev pub lines_for : Converting → Alignment → List ℕ
-lines_for converting a = bed_lines converting.split converting.with_cigar a
+abbrev pub bed_lines_by : Converting → Alignment → List ℕ
+bed_lines_by converting a = bed_lines converting.split converting.with_cigar a

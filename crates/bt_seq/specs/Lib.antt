@@ -2,9 +2,11 @@ pub mod Cigar
 pub mod CigarSteps
 pub mod Flag
 pub mod Alignment
-pub mod Span
+pub mod AlignmentEnd
 pub mod Sam
+pub mod GoodSam
 pub mod Blocks
+pub mod Between
 pub mod Room
 pub mod SamBlocks
 pub mod BedLines

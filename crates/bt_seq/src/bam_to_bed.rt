@@ -5,13 +5,13 @@ ghost use Rattle.bt_lines.specs.Fault.{Told, write_failed};
 ghost use Rattle.bt_lines.specs.Names.{told};
 ghost use Rattle.bt_lines.specs.Putting.{Adds};
 ghost use Rattle.bt_seq.specs.BedLines.{bed_lines};
-ghost use Rattle.bt_seq.specs.Converting.{lines_for};
+ghost use Rattle.bt_seq.specs.Converting.{bed_lines_by};
 ghost use Rattle.bt_seq.specs.Sam.{alignment_lent};
 
 use crate::bed_line::put_line;
 use crate::sam::SamRef;
 use crate::splitting::blocks;
-use bt_lines::{Fault, Kind, Out, Sink};
+use bt_lines::{Fault, Out, Sink, write_failed};
 use std::marker::Model;
 
 /// Writes alignments as BED lines, each at once: it keeps nothing of them, and takes no memory. Start
@@ -55,7 +55,7 @@ impl BamToBed {
     /// that fault from then on.
     pub fn feed<K: Sink>(&mut self, sam: &SamRef<'_>, out: &mut Out<K>) -> Result<(), Fault>
         ensures writes { self.old.fault ≡ None
-            → Adds out.old (lines_for self.old (alignment_lent sam.now)) result out.new }
+            → Adds out.old (bed_lines_by self.old (alignment_lent sam.now)) result out.new }
         ensures unchanged { OnOk result (self.new ≡ self.old) }
         ensures kept { IfErr result (λ fault.
             self.new ≡ record self.old { fault = Some (told fault) }) }
@@ -69,16 +69,6 @@ impl BamToBed {
         let put = put_lines(sam, self.split, self.with_cigar, out);
         self.has_failed = put.is_err();
         put
-    }
-}
-
-// The fault of a failed write.
-fn write_failed() -> Fault
-    ensures { told result ≡ write_failed }
-{
-    Fault {
-        kind: Kind::WriteFailed,
-        place: None,
     }
 }
 

@@ -1,4 +1,4 @@
-//! The BED line of a stretch of an alignment.
+//! The BED line of a block of an alignment.
 
 ghost use Rattle.std.specs.Prelude.{◌≡◌};
 ghost use Rattle.bt_lines.specs.Putting.{Puts};
@@ -9,7 +9,7 @@ ghost use Rattle.bt_seq.specs.Sam.{alignment_lent};
 use crate::sam::SamRef;
 use bt_lines::{Fault, Out, Sink, put_column, put_number};
 
-// Puts the line of the stretch from `start` up to `stop`, piece by piece.
+// Puts the line of the block from `start` up to `stop`, piece by piece.
 pub(crate) fn put_line<K: Sink>(
     sam: &SamRef<'_>,
     start: u64,

@@ -3,12 +3,12 @@
 ghost use Rattle.bt_seq.specs.Cigar.{operations_in};
 ghost use Rattle.bt_seq.specs.Room.{FitBehind};
 
-use crate::run::first_run;
+use crate::first_block::first_block;
 use crate::sam::SamRef;
 
 /// The blocks of an alignment that are still to come, each as its start and its end on the reference.
 /// They are zero-based, and the end isn't included.
-#[derive(Clone, Copy, Debug)]
+#[derive(Debug, Drop)]
 pub struct SamBlocks<'a> {
     // The alignment, where it isn't cut.
     whole: Option<(u64, u64)>,
@@ -60,11 +60,11 @@ impl<'a> Iterator for SamBlocks<'a> {
         }
         while !self.rest.is_empty() {
             let start = self.at;
-            let run = first_run(self.rest, start);
-            self.rest = run.rest;
-            self.at = run.next;
-            if start < run.stop {
-                return Some((start, run.stop));
+            let block = first_block(self.rest, start);
+            self.rest = block.rest;
+            self.at = block.next;
+            if start < block.stop {
+                return Some((start, block.stop));
             }
         }
         None

@@ -2,6 +2,7 @@
 
 ghost use Rattle.std.specs.Prelude.{◌≡◌, [], ◌∷◌, Some, None, Ok, Err, codes, true, false};
 ghost use Rattle.bt_seq.specs.Alignment.{alignment_of};
+ghost use Rattle.bt_seq.specs.Between.{blocks_are_within};
 ghost use Rattle.bt_seq.specs.Blocks.{blocks_in, unskipped_are_one_block};
 ghost use Rattle.bt_seq.specs.Cigar.{division_is_found, division_is_one, length_of, operations_are_divided, operations_of};
 ghost use Rattle.bt_seq.specs.SamKind.{sam_kinds_are_of_lines, wrong_have_sam_kinds};
@@ -63,6 +64,12 @@ pub fn blocks_of_small_cigars()
 /// Operations without an N are one block, if they cover a base.
 pub fn operations_without_skips_are_one_block()
     ensures { unskipped_are_one_block }
+{}
+
+/// The blocks of an alignment lie one behind another, from its start to its end, and each has a base.
+#[tactic(auto, using(crate::proofs::BetweenLemmas::within))]
+pub fn blocks_lie_within_their_alignment()
+    ensures { blocks_are_within }
 {}
 
 /// What is wrong with a line is one of seven kinds, each of which lies at a line.

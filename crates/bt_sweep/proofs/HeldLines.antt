@@ -5,18 +5,16 @@ use Rattle.bt_bed.specs.Feature.{Feature}
 use Rattle.bt_sweep.specs.Hits.{hits}
 use Rattle.bt_sweep.specs.Lines.{lines_of, lines_for}
 use Rattle.bt_sweep.specs.Standing.{is_held}
+use Rattle.bt_sweep.specs.declared.hit_rule.HitRule.{HitRule}
 use Rattle.bt_sweep.specs.declared.shape.Shape.{Shape}
 use Rattle.bt_sweep.proofs.FilterLemmas.{filter-wider}
+use Rattle.bt_sweep.proofs.RuleLemmas.{hit_overlaps, overlap_parts}
 
-hit_parts : (c : Bool) (n : ℕ) → ltb 0 (cond c n 0) ≡ true → (c ≡ true) × (0 < n)
-hit_parts true n e = (refl, ltb-true 0 n e)
-hit_parts false n e = absurd (false≢true e)
-
-hit_is_held : (a b : Feature) → hits a b ≡ true → is_held a b ≡ true
-hit_is_held a b e =
-    let parts = hit_parts (bytes_eq a.chrom b.chrom) (min a.stop b.stop - max a.start b.start) e in
+hit_is_held : (rule : HitRule) (a b : Feature) → hits rule a b ≡ true → is_held a b ≡ true
+hit_is_held rule a b e =
+    let parts = overlap_parts a b (hit_overlaps rule a b e) in
     and_from (bytes_eq a.chrom b.chrom) (ltb a.start b.stop) parts.0 (lt-ltb a.start b.stop (omega (arith, parts.1)))
 
-pub held_lines : (shape : Shape) (a : Feature) (taken : List Feature) → lines_for shape a (filter (is_held a) taken) ≡ lines_for shape a taken
+pub held_lines : (shape : Shape) (rule : HitRule) (a : Feature) (taken : List Feature) → lines_for shape rule a (filter (is_held a) taken) ≡ lines_for shape rule a taken
 unfolding lines_for
-held_lines shape a taken = ap (lines_of shape a) (filter-wider (hits a) (is_held a) (hit_is_held a) taken)
+held_lines shape rule a taken = ap (lines_of shape a) (filter-wider (hits rule a) (is_held a) (hit_is_held rule a) taken)

@@ -12,6 +12,8 @@ use Rattle.bt_bed.proofs.NameLemmas.{same_name}
 use Rattle.bt_sweep.specs.Deciding.{decides}
 use Rattle.bt_sweep.specs.Hits.{hits, hits_among}
 use Rattle.bt_sweep.specs.Lines.{lines_of, lines_for, lines_stay, lines_are_before}
+use Rattle.bt_sweep.specs.declared.hit_rule.HitRule.{HitRule}
+use Rattle.bt_sweep.proofs.RuleLemmas.{apart_misses}
 use Rattle.bt_sweep.proofs.DecidingLemmas.{IsPast, past_from, later_decide, placed_back, all_decide}
 
 nothing_shared : (c : Bool) (n : ℕ) → (c ≡ true → n ≡ 0) → ltb 0 (cond c n 0) ≡ false
@@ -19,38 +21,38 @@ nothing_shared true n h = ap (ltb 0) (h refl)
 nothing_shared false n h = refl
 
 -- what is past a doesn't hit it
-past_misses : (order : Order) (a b : Feature) → IsTotal order → IsTrue (order.knows b.chrom) → IsPast order a b → hits a b ≡ false
-past_misses order a b total kb past =
-    nothing_shared (bytes_eq a.chrom b.chrom) (min a.stop b.stop - max a.start b.start) (λ same.
+past_misses : (order : Order) (rule : HitRule) (a b : Feature) → IsTotal order → IsTrue (order.knows b.chrom) → IsPast order a b → hits rule a b ≡ false
+past_misses order rule a b total kb past =
+    apart_misses rule a b (nothing_shared (bytes_eq a.chrom b.chrom) (min a.stop b.stop - max a.start b.start) (λ same.
     elim past [
       | inl later ↦
           let it : order.compare b.chrom b.chrom ≡ Greater = subst (λ (c : List ℕ). order.compare b.chrom c ≡ Greater) (same_name a.chrom b.chrom same) later in
           absurd (let apart : Greater ≡ Equal = sym it ∙ total.same b.chrom kb in cc)
       | inr here ↦ omega (arith, here.1)
-    ])
+    ]))
 
-misses_at : (order : Order) (a : Feature) (x : Feature) (xs : List Feature) → hits a x ≡ false → filter (hits a) xs ≡ [] → filter (hits a) (x ∷ xs) ≡ []
-misses_at order a x xs e rest = ap (λ b. cond b (x ∷ filter (hits a) xs) (filter (hits a) xs)) e ∙ rest
+misses_at : (rule : HitRule) (a : Feature) (x : Feature) (xs : List Feature) → hits rule a x ≡ false → filter (hits rule a) xs ≡ [] → filter (hits rule a) (x ∷ xs) ≡ []
+misses_at rule a x xs e rest = ap (λ b. cond b (x ∷ filter (hits rule a) xs) (filter (hits rule a) xs)) e ∙ rest
 
 -- so nothing that decides a does
-pub none_hit : (order : Order) (a : Feature) (xs : List Feature) → IsTotal order → IsTrue (order.knows a.chrom) → ArePlaced order (intervals_of xs) → list_all (decides order a) xs ≡ true → hits_among a xs ≡ []
-none_hit order a [] total ka placed e = refl
-none_hit order a (x ∷ xs) total ka placed e =
+pub none_hit : (order : Order) (rule : HitRule) (a : Feature) (xs : List Feature) → IsTotal order → IsTrue (order.knows a.chrom) → ArePlaced order (intervals_of xs) → list_all (decides order a) xs ≡ true → hits_among rule a xs ≡ []
+none_hit order rule a [] total ka placed e = refl
+none_hit order rule a (x ∷ xs) total ka placed e =
     let parts = and_parts (decides order a x) (list_all (decides order a) xs) e in
-    misses_at order a x xs (past_misses order a x total placed.0 (past_from order a x total ka placed.0 parts.0)) (none_hit order a xs total ka placed.2 parts.1)
+    misses_at rule a x xs (past_misses order rule a x total placed.0 (past_from order a x total ka placed.0 parts.0)) (none_hit order rule a xs total ka placed.2 parts.1)
 
 pub stay_lines : lines_stay
 unfolding lines_for
-stay_lines order shape a bs more total ka placed some =
-    ap (lines_of shape a) (filter-append (hits a) bs more
-    ∙ ap (λ l. hits_among a bs ++ l) (none_hit order a more total ka (placed_back order bs more placed) (later_decide order a bs more total ka placed some))
-    ∙ append-nil (hits_among a bs))
+stay_lines order shape rule a bs more total ka placed some =
+    ap (lines_of shape a) (filter-append (hits rule a) bs more
+    ∙ ap (λ l. hits_among rule a bs ++ l) (none_hit order rule a more total ka (placed_back order bs more placed) (later_decide order a bs more total ka placed some))
+    ∙ append-nil (hits_among rule a bs))
 
 -- the lines of a against the records before the one that decides it are those against all
 pub before_lines : lines_are_before
 unfolding lines_for
-before_lines order shape a b bs total ka e more placed =
+before_lines order shape rule a b bs total ka e more placed =
     let back = placed_back order bs (b ∷ more) placed in
-    ap (lines_of shape a) (filter-append (hits a) bs (b ∷ more)
-    ∙ ap (λ l. hits_among a bs ++ l) (none_hit order a (b ∷ more) total ka back (and_from (decides order a b) (list_all (decides order a) more) e (all_decide order a b more total ka back e)))
-    ∙ append-nil (hits_among a bs))
+    ap (lines_of shape a) (filter-append (hits rule a) bs (b ∷ more)
+    ∙ ap (λ l. hits_among rule a bs ++ l) (none_hit order rule a (b ∷ more) total ka back (and_from (decides order a b) (list_all (decides order a) more) e (all_decide order a b more total ka back e)))
+    ∙ append-nil (hits_among rule a bs))

@@ -16,12 +16,12 @@ use Rattle.bt_bed.specs.Together.{has_records}
 use Rattle.bt_bed.proofs.NameLemmas.{name_eq, name_ne, other_name}
 use Rattle.bt_sweep.specs.Deciding.{decides}
 use Rattle.bt_sweep.specs.Standing.{is_held, held_for, last_after, last_given, leaves_some, HoldsFor}
-use Rattle.bt_sweep.specs.Steps.{held_with}
+use Rattle.bt_sweep.specs.StateSteps.{held_with}
 use Rattle.bt_sweep.proofs.FilterLemmas.{filter-both}
 use Rattle.bt_sweep.proofs.PlacedLemmas.{last_given-push, last_is_there, next_lies}
 
 -- places that come in order
-up_trans : (order : Order) (x y z : Feature) → IsTotal order → IsTrue (order.knows x.chrom) → IsTrue (order.knows y.chrom) → IsTrue (order.knows z.chrom) → IsUpTo order (locus_at x) (locus_at y) → IsUpTo order (locus_at y) (locus_at z) → IsUpTo order (locus_at x) (locus_at z)
+pub up_trans : (order : Order) (x y z : Feature) → IsTotal order → IsTrue (order.knows x.chrom) → IsTrue (order.knows y.chrom) → IsTrue (order.knows z.chrom) → IsUpTo order (locus_at x) (locus_at y) → IsUpTo order (locus_at y) (locus_at z) → IsUpTo order (locus_at x) (locus_at z)
 up_trans order x y z total kx ky kz first second =
     elim first [
       | inl less ↦ elim second [

@@ -1,3 +1,4 @@
+pub mod RuleLemmas
 pub mod DecidingLemmas
 pub mod FilterLemmas
 pub mod HitLemmas
@@ -12,3 +13,7 @@ pub mod HoldLemmas
 pub mod StepLemmas
 pub mod PlainLemmas
 pub mod QuietLemmas
+pub mod RisingLemmas
+pub mod PieceLemmas
+pub mod WalkLemmas
+pub mod PlainPieceLemmas

@@ -10,9 +10,9 @@ use Rattle.bt_lines.specs.Putting.{Adds, FailsToAdd, Grown}
 use Rattle.bt_lines.specs.declared.fault.Fault.{Fault}
 use Rattle.bt_bed.specs.Feature.{Feature}
 use Rattle.bt_bed.proofs.NameLemmas.{same_name}
-use Rattle.bt_sweep.specs.Held.{AreOn, AreWith}
+use Rattle.bt_sweep.specs.Held.{AreOn, AreRising, AreWith}
 use Rattle.bt_sweep.specs.Lines.{lines_for}
-use Rattle.bt_sweep.specs.Steps.{TakesA, WritesLast, held_with, is_held_by, moved_to}
+use Rattle.bt_sweep.specs.StateSteps.{TakesA, WritesLast, held_with, is_held_by, moved_to}
 use Rattle.bt_sweep.specs.Sweeping.{Sweeping}
 
 same_some : (a x : Feature) → Some a ≡ Some x → a ≡ x
@@ -54,29 +54,29 @@ on_ok_of (Ok done) e h = h
 on_ok_of (Err f) e h = absurd (false≢true (sym e))
 
 -- the lines of the last record were written
-pub writes_last : {A : Type 0} (r : Result A Fault) (inside now : Sweeping) (a : Feature) (out grown : Output) → inside ≡ now → is_err r ≡ false → Adds out (lines_for inside.shape a inside.held) r grown → WritesLast now a out r (record inside { waits = false }) grown
+pub writes_last : {A : Type 0} (r : Result A Fault) (inside now : Sweeping) (a : Feature) (out grown : Output) → inside ≡ now → is_err r ≡ false → Adds out (lines_for inside.shape inside.rule a inside.held) r grown → WritesLast now a out r (record inside { waits = false }) grown
 writes_last (Ok done) inside now a out grown e ok adds =
-    (ap (λ (s : Sweeping). record s { waits = false }) e, subst (λ (s : Sweeping). Grown out (lines_for s.shape a s.held) grown) e adds)
+    (ap (λ (s : Sweeping). record s { waits = false }) e, subst (λ (s : Sweeping). Grown out (lines_for s.shape s.rule a s.held) grown) e adds)
 writes_last (Err f) inside now a out grown e ok adds = absurd (false≢true (sym ok))
 
 -- they couldn't be
-pub stops_last : {A : Type 0} (r : Result A Fault) (inside now : Sweeping) (a : Feature) (out grown : Output) → inside ≡ now → is_err r ≡ true → Adds out (lines_for inside.shape a inside.held) r grown → WritesLast now a out r (record inside { waits = false; done = true }) grown
+pub stops_last : {A : Type 0} (r : Result A Fault) (inside now : Sweeping) (a : Feature) (out grown : Output) → inside ≡ now → is_err r ≡ true → Adds out (lines_for inside.shape inside.rule a inside.held) r grown → WritesLast now a out r (record inside { waits = false; done = true }) grown
 stops_last (Ok done) inside now a out grown e bad adds = absurd (false≢true bad)
-stops_last (Err f) inside now a out grown e bad adds = (refl, subst (λ (s : Sweeping). FailsToAdd out (lines_for s.shape a s.held) (told f) grown) e adds)
+stops_last (Err f) inside now a out grown e bad adds = (refl, subst (λ (s : Sweeping). FailsToAdd out (lines_for s.shape s.rule a s.held) (told f) grown) e adds)
 
 takes_by : {A : Type 0} (r : Result A Fault) (now new : Sweeping) (a : Feature) (out grown : Output) → now.b_ended ≡ true → WritesLast (moved_to now a) a out r new grown → TakesA now a out r new grown
 takes_by (Ok done) now new a out grown e writes = (
   writes.0 ∙ ap (λ (b : Bool). record (moved_to now a) { waits = cond b false true }) (sym e),
-  subst (λ (b : Bool). Grown out (cond b (lines_for now.shape a (held_with now.last now.held a)) []) grown) (sym e) writes.1,
+  subst (λ (b : Bool). Grown out (cond b (lines_for now.shape now.rule a (held_with now.last now.held a)) []) grown) (sym e) writes.1,
 )
 takes_by (Err f) now new a out grown e writes = (
   writes.0,
-  inl (subst (λ (b : Bool). FailsToAdd out (cond b (lines_for now.shape a (held_with now.last now.held a)) []) (told f) grown) (sym e) writes.1),
+  inl (subst (λ (b : Bool). FailsToAdd out (cond b (lines_for now.shape now.rule a (held_with now.last now.held a)) []) (told f) grown) (sym e) writes.1),
 )
 
 -- a record of the first input was taken, where the second has ended
 pub takes_now : {A : Type 0} (r : Result A Fault) (now mid new : Sweeping) (a : Feature) (out grown : Output) → mid ≡ moved_to now a → mid.b_ended ≡ true
-    → ((x : Feature) → mid.last ≡ Some x → WritesLast mid x out r new grown) → TakesA now a out r new grown
-takes_now r now mid new a out grown e ended writes =
+    → AreRising (held_with now.last now.held a) → ((x : Feature) → mid.last ≡ Some x → AreRising mid.held → WritesLast mid x out r new grown) → TakesA now a out r new grown
+takes_now r now mid new a out grown e ended rises writes =
     takes_by r now new a out grown (ap (λ (s : Sweeping). s.b_ended) (sym e) ∙ ended)
-    (subst (λ (s : Sweeping). WritesLast s a out r new grown) e (writes a (ap (λ (s : Sweeping). s.last) e)))
+    (subst (λ (s : Sweeping). WritesLast s a out r new grown) e (writes a (ap (λ (s : Sweeping). s.last) e) (subst (λ (s : Sweeping). AreRising s.held) (sym e) rises)))

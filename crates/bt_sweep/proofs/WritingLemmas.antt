@@ -1,5 +1,5 @@
 -- Lemmas on the lines of a record.
-use Rattle.std.proofs.Common.{◌≡◌, ◌⊎◌, ℕ, ◌-◌, Bool, true, false, cond, List, [], ◌∷◌, ◌++◌, Result, refl, sym, ap, ◌∙◌, subst, ltb, max, min, bytes_eq, decimal, filter, flat_map, length, not, ◌||◌}
+use Rattle.std.proofs.Common.{◌≡◌, ◌⊎◌, inl, inr, ℕ, ◌<◌, arith, ◌-◌, Bool, true, false, cond, List, [], ◌∷◌, ◌++◌, Result, refl, sym, ap, ◌∙◌, subst, ltb, max, min, bytes_eq, decimal, filter, flat_map, length, not, ◌||◌}
 use Rattle.std.specs.List.{list_any}
 use Rattle.std.proofs.lemmas.Bool.{false≢true}
 use Rattle.bt_lines.specs.Output.{Output}
@@ -9,10 +9,12 @@ use Rattle.bt_lines.proofs.PuttingLemmas.{adds_some}
 use Rattle.bt_bed.specs.Feature.{Feature}
 use Rattle.bt_bed.specs.Record.{bed_text}
 use Rattle.bt_sweep.specs.Hits.{hits, hits_among, shared_bases}
-use Rattle.bt_sweep.specs.Lines.{hit_line, line_with, lines_for, lines_of}
+use Rattle.bt_sweep.specs.Lines.{hit_line, line_with, lines_for, lines_of, piece_line}
+use Rattle.bt_sweep.specs.Pieces.{pieces}
 use Rattle.bt_sweep.proofs.PlainLemmas.{each_hit}
+use Rattle.bt_sweep.specs.declared.hit_rule.HitRule.{HitRule}
 use Rattle.bt_sweep.specs.declared.shape.Shape.{Shape}
-use Rattle.bt_sweep.specs.declared.shape.Shape.TheVariants.{Cut, OrigA, CutAndB, OrigBoth, Overlap, Once, Missing, Count}
+use Rattle.bt_sweep.specs.declared.shape.Shape.TheVariants.{Cut, OrigA, CutAndB, OrigBoth, Overlap, Once, Missing, Count, Pieces, Whole}
 
 ended : (xs : List ℕ) (b : ℕ) → xs ++ b ∷ [] ≡ [] → ⊥
 ended [] b e = cc
@@ -32,12 +34,12 @@ line_some (text ∷ next ∷ more) e = behind (text ++ 9 ∷ []) (line_with (nex
 pub line_adds : {A : Type 0} (texts : List (List ℕ)) (out grown : Output) (r : Result A Fault) → Puts out (line_with texts) r grown → Adds out (line_with texts) r grown
 line_adds texts out grown r puts = adds_some out grown (line_with texts) r (line_some texts) puts
 
-shared_where : (c : Bool) (n : ℕ) → ltb 0 (cond c n 0) ≡ true → n ≡ cond c n 0
+shared_where : (c : Bool) (n : ℕ) → 0 < cond c n 0 → n ≡ cond c n 0
 shared_where true n e = refl
-shared_where false n e = absurd (false≢true e)
+shared_where false n e = absurd (omega (arith, e))
 
--- the bases that two records share that hit one another
-pub hit_shares : (a b : Feature) → hits a b ≡ true → min a.stop b.stop - max a.start b.start ≡ shared_bases a b
+-- the bases that two records share, if they share one
+pub hit_shares : (a b : Feature) → 0 < shared_bases a b → min a.stop b.stop - max a.start b.start ≡ shared_bases a b
 hit_shares a b e = shared_where (bytes_eq a.chrom b.chrom) (min a.stop b.stop - max a.start b.start) e
 
 once_at : (a : Feature) (p : Feature → Bool) (b : Feature) (bs : List Feature) (c : Bool) → p b ≡ c → lines_of Once a (filter p bs) ≡ cond (list_any p bs) (line_with (bed_text a ∷ [])) []
@@ -58,29 +60,46 @@ missing_of : (a : Feature) (p : Feature → Bool) (bs : List Feature) → lines_
 missing_of a p [] = refl
 missing_of a p (b ∷ bs) = missing_at a p b bs (p b) refl (missing_of a p bs)
 
-module _ {A : Type 0} (a : Feature) (bs : List Feature) (out grown : Output) (r : Result A Fault) (shape : Shape) where
+whole_of : (a : Feature) (found : List Feature) → lines_of Whole a found ≡ lines_of Missing a found
+whole_of a [] = refl
+whole_of a (b ∷ found) = refl
+
+module _ {A : Type 0} (a : Feature) (bs : List Feature) (out grown : Output) (r : Result A Fault) (shape : Shape) (rule : HitRule) where
   -- a record that is put where something hits it
-  pub once_adds : (any : Bool) → shape ≡ Once → any ≡ list_any (hits a) bs → Adds out (cond any (line_with (bed_text a ∷ [])) []) r grown → Adds out (lines_for shape a bs) r grown
+  pub once_adds : (any : Bool) → shape ≡ Once → any ≡ list_any (hits rule a) bs → Adds out (cond any (line_with (bed_text a ∷ [])) []) r grown → Adds out (lines_for shape rule a bs) r grown
   unfolding lines_for
   once_adds any is e adds =
-      subst (λ (s : Shape). Adds out (lines_of s a (hits_among a bs)) r grown) (sym is)
-      (subst (λ (l : List ℕ). Adds out l r grown) (ap (λ (b : Bool). cond b (line_with (bed_text a ∷ [])) []) e ∙ sym (once_of a (hits a) bs)) adds)
+      subst (λ (s : Shape). Adds out (lines_of s a (hits_among rule a bs)) r grown) (sym is)
+      (subst (λ (l : List ℕ). Adds out l r grown) (ap (λ (b : Bool). cond b (line_with (bed_text a ∷ [])) []) e ∙ sym (once_of a (hits rule a) bs)) adds)
 
   -- a record that is put where nothing does
-  pub missing_adds : (any : Bool) → shape ≡ Missing → any ≡ list_any (hits a) bs → Adds out (cond (not any) (line_with (bed_text a ∷ [])) []) r grown → Adds out (lines_for shape a bs) r grown
+  missing_as : (s : Shape) (any : Bool) → shape ≡ s → lines_of s a (hits_among rule a bs) ≡ cond (not (list_any (hits rule a) bs)) (line_with (bed_text a ∷ [])) [] → any ≡ list_any (hits rule a) bs
+      → Adds out (cond (not any) (line_with (bed_text a ∷ [])) []) r grown → Adds out (lines_for shape rule a bs) r grown
   unfolding lines_for
+  missing_as s any is lines e adds =
+      subst (λ (s : Shape). Adds out (lines_of s a (hits_among rule a bs)) r grown) (sym is)
+      (subst (λ (l : List ℕ). Adds out l r grown) (ap (λ (b : Bool). cond (not b) (line_with (bed_text a ∷ [])) []) e ∙ sym lines) adds)
+
+  pub missing_adds : (any : Bool) → (shape ≡ Missing) ⊎ (shape ≡ Whole) → any ≡ list_any (hits rule a) bs → Adds out (cond (not any) (line_with (bed_text a ∷ [])) []) r grown → Adds out (lines_for shape rule a bs) r grown
   missing_adds any is e adds =
-      subst (λ (s : Shape). Adds out (lines_of s a (hits_among a bs)) r grown) (sym is)
-      (subst (λ (l : List ℕ). Adds out l r grown) (ap (λ (b : Bool). cond (not b) (line_with (bed_text a ∷ [])) []) e ∙ sym (missing_of a (hits a) bs)) adds)
+      elim is [
+        | inl is ↦ missing_as Missing any is (missing_of a (hits rule a) bs) e adds
+        | inr is ↦ missing_as Whole any is (whole_of a (hits_among rule a bs) ∙ missing_of a (hits rule a) bs) e adds
+      ]
+
+  -- the pieces that those leave that hit it
+  pub pieces_add : shape ≡ Pieces → Adds out (flat_map (piece_line a) (pieces a (hits_among rule a bs))) r grown → Adds out (lines_for shape rule a bs) r grown
+  unfolding lines_for
+  pieces_add is adds = subst (λ (s : Shape). Adds out (lines_of s a (hits_among rule a bs)) r grown) (sym is) adds
 
   -- a record and the number of its hits
-  pub count_adds : (n : ℕ) → shape ≡ Count → n ≡ length (hits_among a bs) → Puts out (line_with (bed_text a ∷ decimal n ∷ [])) r grown → Adds out (lines_for shape a bs) r grown
+  pub count_adds : (n : ℕ) → shape ≡ Count → n ≡ length (hits_among rule a bs) → Puts out (line_with (bed_text a ∷ decimal n ∷ [])) r grown → Adds out (lines_for shape rule a bs) r grown
   unfolding lines_for
   count_adds n is e puts =
-      subst (λ (s : Shape). Adds out (lines_of s a (hits_among a bs)) r grown) (sym is)
-      (line_adds (bed_text a ∷ decimal (length (hits_among a bs)) ∷ []) out grown r
+      subst (λ (s : Shape). Adds out (lines_of s a (hits_among rule a bs)) r grown) (sym is)
+      (line_adds (bed_text a ∷ decimal (length (hits_among rule a bs)) ∷ []) out grown r
       (subst (λ (m : ℕ). Puts out (line_with (bed_text a ∷ decimal m ∷ [])) r grown) e puts))
 
   -- a line for each hit
-  pub hits_adds : (shape ≡ Cut) ⊎ ((shape ≡ OrigA) ⊎ ((shape ≡ CutAndB) ⊎ ((shape ≡ OrigBoth) ⊎ (shape ≡ Overlap)))) → Adds out (flat_map (hit_line shape a) (hits_among a bs)) r grown → Adds out (lines_for shape a bs) r grown
-  hits_adds is adds = subst (λ (l : List ℕ). Adds out l r grown) (sym (each_hit a bs shape is)) adds
+  pub hits_adds : (shape ≡ Cut) ⊎ ((shape ≡ OrigA) ⊎ ((shape ≡ CutAndB) ⊎ ((shape ≡ OrigBoth) ⊎ (shape ≡ Overlap)))) → Adds out (flat_map (hit_line shape a) (hits_among rule a bs)) r grown → Adds out (lines_for shape rule a bs) r grown
+  hits_adds is adds = subst (λ (l : List ℕ). Adds out l r grown) (sym (each_hit a bs shape rule is)) adds

@@ -1,5 +1,5 @@
 -- Held records.
-use Rattle.std.specs.Prelude.{◌≡◌, ℕ, List, All, Option}
+use Rattle.std.specs.Prelude.{◌≡◌, ℕ, ◌≤◌, ⊤, List, [], ◌∷◌, All, Option}
 use Rattle.std.specs.Option.{ForSome}
 use Rattle.bt_bed.specs.Feature.{Feature}
 
@@ -10,3 +10,12 @@ AreOn name held = All (λ b. b.chrom ≡ name) held
 -- they lie on that of the record that was given last
 abbrev pub AreWith : Option Feature → List Feature → Type 0
 AreWith last held = ForSome last (λ a. AreOn a.chrom held)
+
+-- each starts at this position or behind it, and at the start of the one before it or behind that
+abbrev pub AreRisingFrom : ℕ → List Feature → Type 0
+AreRisingFrom low [] = ⊤
+AreRisingFrom low (b ∷ bs) = (low ≤ b.start) × AreRisingFrom b.start bs
+
+-- their starts don't fall
+abbrev pub AreRising : List Feature → Type 0
+AreRising held = AreRisingFrom 0 held

@@ -1,16 +1,49 @@
--- Which records hit one another: all pairs are compared (bedtools manual, intersect).
-use Rattle.std.specs.Prelude.{ℕ, Bool, List, filter, nat_lt}
-use Rattle.bt_bed.specs.Bases.{shared}
+-- Which records hit one another: all pairs are compared (bedtools manual, intersect, options -f, -r and
+-- -s).
+use Rattle.std.specs.Prelude.{◌≡◌, ℕ, ◌*◌, Bool, true, false, not, ◌&&◌, ◌||◌, List, filter, nat_le, nat_lt}
+use Rattle.bt_bed.specs.Bases.{length_of, shared}
 use Rattle.bt_bed.specs.Feature.{Feature, interval_of}
+use Rattle.bt_bed.specs.declared.strand.Strand.{Strand}
+use Rattle.bt_bed.specs.declared.strand.Strand.TheVariants.{Plus, Minus, Dot}
+use Rattle.bt_sweep.specs.declared.hit_rule.HitRule.{HitRule}
 
 -- how many bases two records have in common
 abbrev pub shared_bases : Feature → Feature → ℕ
 shared_bases a b = shared (interval_of a) (interval_of b)
 
--- whether they have one
-abbrev pub hits : Feature → Feature → Bool
-hits a b = nat_lt 0 (shared_bases a b)
+-- whether so many bases are at least so many billionths of a record's
+unfoldable pub has_fraction : ℕ → ℕ → Feature → Bool
+has_fraction billionths bases r = nat_le (billionths * length_of (interval_of r)) (bases * 1000000000)
+
+-- whether so many bases are as much of a as the rule asks for, and of b where it asks for both
+unfoldable pub is_enough : HitRule → ℕ → Feature → Feature → Bool
+is_enough rule bases a b = has_fraction rule.billionths bases a && (not rule.both || has_fraction rule.billionths bases b)
+
+-- whether two strands are one; none is one with none
+abbrev pub is_strand : Strand → Strand → Bool
+is_strand Plus Plus = true
+is_strand Minus Minus = true
+is_strand Dot Dot = true
+is_strand _ _ = false
+
+-- whether the strands of a and b are one, where the rule asks for that
+unfoldable pub strands_agree : HitRule → Feature → Feature → Bool
+strands_agree rule a b = not rule.same_strand || is_strand a.strand b.strand
+
+-- whether b hits a: they have a base in common, and what the rule asks for
+unfoldable pub hits : HitRule → Feature → Feature → Bool
+hits rule a b = nat_lt 0 (shared_bases a b) && (strands_agree rule a b && is_enough rule (shared_bases a b) a b)
+
+-- the rule that one common base satisfies
+abbrev pub any_overlap : HitRule
+any_overlap = record { billionths = 0; both = false; same_strand = false }
 
 -- the records that hit a, in file order
-abbrev pub hits_among : Feature → List Feature → List Feature
-hits_among a bs = filter (hits a) bs
+abbrev pub hits_among : HitRule → Feature → List Feature → List Feature
+hits_among rule a bs = filter (hits rule a) bs
+
+-- without a fraction it doesn't matter whether it is asked of both
+abbrev pub both_of_nothing : Type 0
+both_of_nothing = (both same_strand : Bool) (a b : Feature)
+    → hits (record { billionths = 0; both = both; same_strand = same_strand }) a b
+    ≡ hits (record { billionths = 0; both = false; same_strand = same_strand }) a b

@@ -1,10 +1,16 @@
 pub mod Deciding
 pub mod Hits
+pub mod Pieces
 pub mod Lines
 pub mod Sweeps
+pub mod Subtract
+pub mod Worked
 pub mod Sweeping
 pub mod Standing
+pub mod Walking
 pub mod Steps
+pub mod StateSteps
+pub mod Plain
 pub mod Held
 pub mod HeldList
 pub mod Sweep

@@ -6,6 +6,7 @@ use Rattle.bt_bed.specs.Locus.{ArePlaced}
 use Rattle.bt_bed.specs.Order.{Order, IsTotal}
 use Rattle.bt_sweep.specs.Deciding.{decides, decided}
 use Rattle.bt_sweep.specs.Sweeping.{Sweeping, want_of}
+use Rattle.bt_sweep.specs.declared.hit_rule.HitRule.{HitRule}
 use Rattle.bt_sweep.specs.declared.shape.Shape.{Shape}
 use Rattle.bt_sweep.specs.declared.want.Want.{Want}
 
@@ -66,13 +67,16 @@ pub record HoldsFor (order : Order) (as_given taken held : List Feature) : Type 
   pub reached : IsTrue (list_all (leaves_some order as_given) taken)
 
 -- the sweep stands there
-pub record StandsAt (order : Order) (shape : Shape) (stage : Stage) (sweep : Sweeping) : Type 0 where
+pub record StandsAt (order : Order) (shape : Shape) (rule : HitRule) (stage : Stage) (sweep : Sweeping) : Type 0 where
   pub shape_is : sweep.shape ≡ shape
+  pub rule_is : sweep.rule ≡ rule
   pub last_is : sweep.last ≡ last_given (given stage)
   pub waits : sweep.waits ≡ is_some stage.waiting
   pub done : sweep.done ≡ stage.a_ended
   pub b_ended : sweep.b_ended ≡ stage.b_ended
   pub holds : HoldsFor order (given stage) stage.taken sweep.held
+  -- a record waits only while neither input has ended
+  pub unended : is_some stage.waiting ≡ true → (stage.a_ended ≡ false) × (stage.b_ended ≡ false)
 
 -- the stage with one more record of the first input: its lines are written at once where the second
 -- input has ended

@@ -1,5 +1,5 @@
 -- What the calls of a sweep do.
-use Rattle.std.specs.Prelude.{◌≡◌, ◌⊎◌, ℕ, Bool, true, false, cond, List, [], ◌∷◌, ◌++◌, Option, Some, None, Result, Ok, Err, filter, nat_lt, bytes_eq}
+use Rattle.std.specs.Prelude.{◌≡◌, ◌⊎◌, ℕ, Bool, true, false, cond, List, [], Result, Ok, Err}
 use Rattle.bt_lines.specs.Fault.{Told, no_memory}
 use Rattle.bt_lines.specs.Names.{told}
 use Rattle.bt_lines.specs.Output.{Output}
@@ -11,6 +11,7 @@ use Rattle.bt_sweep.specs.Deciding.{decides}
 use Rattle.bt_sweep.specs.Lines.{LinesBefore, lines_for}
 use Rattle.bt_sweep.specs.Standing.{Stage, StandsAt, is_held, with_a, with_b, with_b_ended, with_lines}
 use Rattle.bt_sweep.specs.Sweeping.{Sweeping, want_in}
+use Rattle.bt_sweep.specs.declared.hit_rule.HitRule.{HitRule}
 use Rattle.bt_sweep.specs.declared.shape.Shape.{Shape}
 use Rattle.bt_sweep.specs.declared.want.Taken.{Taken}
 use Rattle.bt_sweep.specs.declared.want.Taken.TheVariants.{Yes, No}
@@ -22,38 +23,38 @@ abbrev pub Fails : Output → List ℕ → Told → Output → Type 0
 Fails out lines fault grown = FailsToAdd out lines fault grown ⊎ ((fault ≡ no_memory) × (grown ≡ out))
 
 -- the lines that are written when a is given: its own where the second input has ended, and else none
-abbrev pub lines_with : Shape → Stage → Feature → List ℕ
-lines_with shape stage a = cond stage.b_ended (lines_for shape a stage.taken) []
+abbrev pub lines_with : Shape → HitRule → Stage → Feature → List ℕ
+lines_with shape rule stage a = cond stage.b_ended (lines_for shape rule a stage.taken) []
 
 -- what a call with the next record of the first input does; after a fault nothing is asked for
-abbrev pub GivesA : {A : Type 0} → Order → Shape → Stage → Feature → Output → Result A Fault → Sweeping → Output → Type 0
-GivesA order shape stage a out (Ok done) new grown = StandsAt order shape (with_a stage a) new × Grown out (lines_with shape stage a) grown
-GivesA order shape stage a out (Err fault) new grown = (want_in new ≡ Nothing) × Fails out (lines_with shape stage a) (told fault) grown
+abbrev pub GivesA : {A : Type 0} → Order → Shape → HitRule → Stage → Feature → Output → Result A Fault → Sweeping → Output → Type 0
+GivesA order shape rule stage a out (Ok done) new grown = StandsAt order shape rule (with_a stage a) new × Grown out (lines_with shape rule stage a) grown
+GivesA order shape rule stage a out (Err fault) new grown = (want_in new ≡ Nothing) × Fails out (lines_with shape rule stage a) (told fault) grown
 
 -- what the end of the second input does, while a waits
-abbrev pub EndsB : {A : Type 0} → Order → Shape → Stage → Feature → Output → Result A Fault → Sweeping → Output → Type 0
-EndsB order shape stage a out (Ok done) new grown = StandsAt order shape (with_b_ended stage) new × Grown out (lines_for shape a stage.taken) grown
-EndsB order shape stage a out (Err fault) new grown = (want_in new ≡ Nothing) × FailsToAdd out (lines_for shape a stage.taken) (told fault) grown
+abbrev pub EndsB : {A : Type 0} → Order → Shape → HitRule → Stage → Feature → Output → Result A Fault → Sweeping → Output → Type 0
+EndsB order shape rule stage a out (Ok done) new grown = StandsAt order shape rule (with_b_ended stage) new × Grown out (lines_for shape rule a stage.taken) grown
+EndsB order shape rule stage a out (Err fault) new grown = (want_in new ≡ Nothing) × FailsToAdd out (lines_for shape rule a stage.taken) (told fault) grown
 
 -- one more record of the second input, while a waits
-module _ (order : Order) (shape : Shape) (stage : Stage) (a b : Feature) (out : Output) where
+module _ (order : Order) (shape : Shape) (rule : HitRule) (stage : Stage) (a b : Feature) (out : Output) where
   -- it leaves a undecided, and is taken
   pub record TakesB (new : Sweeping) (grown : Output) : Type 0 where
     pub undecided : decides order a b ≡ false
-    pub stands : StandsAt order shape (with_b stage b) new
+    pub stands : StandsAt order shape rule (with_b stage b) new
     pub same_output : grown ≡ out
 
   -- it decides a: the lines of a are written, which stay whatever follows in order
   pub record WritesA (new : Sweeping) (grown : Output) : Type 0 where
     pub decides : decides order a b ≡ true
-    pub stands : StandsAt order shape (with_lines stage) new
-    pub puts : Grown out (lines_for shape a stage.taken) grown
-    pub settled : LinesBefore order shape a stage.taken b
+    pub stands : StandsAt order shape rule (with_lines stage) new
+    pub puts : Grown out (lines_for shape rule a stage.taken) grown
+    pub settled : LinesBefore order shape rule a stage.taken b
 
   -- it decides a, whose lines couldn't be written
   pub record FailsToWriteA (fault : Told) (grown : Output) : Type 0 where
     pub decides : decides order a b ≡ true
-    pub fails : FailsToAdd out (lines_for shape a stage.taken) fault grown
+    pub fails : FailsToAdd out (lines_for shape rule a stage.taken) fault grown
 
   -- it leaves a undecided and has to be held, for which there is no memory
   pub record FailsToHold (fault : Told) (grown : Output) : Type 0 where
@@ -70,46 +71,7 @@ module _ (order : Order) (shape : Shape) (stage : Stage) (a b : Feature) (out : 
 
 -- a record that leaves the waiting one undecided and hasn't to be held is taken, and nothing is written
 abbrev pub quiet_are_taken : Type 0
-quiet_are_taken = (order : Order) (shape : Shape) (stage : Stage) (a b : Feature) (out : Output)
+quiet_are_taken = (order : Order) (shape : Shape) (rule : HitRule) (stage : Stage) (a b : Feature) (out : Output)
     (answer : Result Taken Fault) (new : Sweeping) (grown : Output)
-    → GivesB order shape stage a b out answer new grown → decides order a b ≡ false → is_held a b ≡ false
+    → GivesB order shape rule stage a b out answer new grown → decides order a b ≡ false → is_held a b ≡ false
     → (answer ≡ Ok Yes) × (grown ≡ out)
-
--- what is held once a is given, behind the one that was given last
-abbrev pub held_with : Option Feature → List Feature → Feature → List Feature
-held_with None held a = []
-held_with (Some last) held a = cond (bytes_eq last.chrom a.chrom) (filter (λ b. nat_lt a.start b.stop) held) []
-
--- the sweep with a given, before it waits or is written
-abbrev pub moved_to : Sweeping → Feature → Sweeping
-moved_to old a = record { shape = old.shape; last = Some a; waits = false; held = held_with old.last old.held a; done = old.done; b_ended = old.b_ended }
-
--- no record of the first input became the last one but this
-abbrev pub KeepsLast : Sweeping → Feature → Sweeping → Type 0
-KeepsLast old a new = (new.last ≡ old.last) ⊎ (new.last ≡ Some a)
-
--- taking a: it waits, or its lines against what is held are written
-abbrev pub TakesA : {A : Type 0} → Sweeping → Feature → Output → Result A Fault → Sweeping → Output → Type 0
-TakesA old a out (Ok done) new grown = (new ≡ record (moved_to old a) { waits = cond old.b_ended false true })
-    × Grown out (cond old.b_ended (lines_for old.shape a (held_with old.last old.held a)) []) grown
-TakesA old a out (Err fault) new grown = (want_in new ≡ Nothing)
-    × Fails out (cond old.b_ended (lines_for old.shape a (held_with old.last old.held a)) []) (told fault) grown
-
--- writing the lines of a, which was given last
-abbrev pub WritesLast : {A : Type 0} → Sweeping → Feature → Output → Result A Fault → Sweeping → Output → Type 0
-WritesLast old a out (Ok done) new grown = (new ≡ record old { waits = false }) × Grown out (lines_for old.shape a old.held) grown
-WritesLast old a out (Err fault) new grown = (want_in new ≡ Nothing) × FailsToAdd out (lines_for old.shape a old.held) (told fault) grown
-
--- whether b has to be held, by the record that was given last
-abbrev pub is_held_by : Option Feature → Feature → Bool
-is_held_by None b = false
-is_held_by (Some a) b = is_held a b
-
--- the sweep with b held, where it has to be
-abbrev pub holding : Sweeping → Feature → Sweeping
-holding old b = record old { held = old.held ++ filter (is_held_by old.last) (b ∷ []) }
-
--- holding b
-abbrev pub Holds : {A : Type 0} → Sweeping → Feature → Result A Fault → Sweeping → Type 0
-Holds old b (Ok done) new = new ≡ holding old b
-Holds old b (Err fault) new = (want_in new ≡ Nothing) × (told fault ≡ no_memory) × (is_held_by old.last b ≡ true)

@@ -3,38 +3,96 @@
 ghost use Rattle.std.specs.Prelude.{◌≡◌, length, option_copied, option_to_list};
 ghost use Rattle.std.specs.List.{list_any};
 ghost use Rattle.bt_bed.specs.Bed.{feature_lent};
-ghost use Rattle.bt_sweep.specs.Hits.{hits, hits_among};
+ghost use Rattle.bt_sweep.specs.Hits.{has_fraction, hits, hits_among, is_enough, is_strand, shared_bases, strands_agree};
 ghost use Rattle.bt_sweep.specs.Held.{AreOn};
 
 use crate::held::Held;
-use bt_bed::{BedRef, Rec};
+use crate::hit_rule::HitRule;
+use bt_bed::{BedRef, Rec, Strand};
 
-// Whether two records of one chromosome have a base in common.
-pub(crate) fn is_hit(a: &BedRef<'_>, b: &BedRef<'_>) -> bool
+// Whether two records of one chromosome hit one another. Those that share no base are told by two
+// comparisons.
+#[tactic(auto, unfolding(crate::specs::Hits::hits))]
+pub(crate) fn is_hit(rule: HitRule, a: &BedRef<'_>, b: &BedRef<'_>) -> bool
     requires { b.now.chrom.now ≡ a.now.chrom.now }
-    ensures { result ≡ hits (feature_lent a.now) (feature_lent b.now) }
+    ensures { result ≡ hits rule (feature_lent a.now) (feature_lent b.now) }
 {
-    a.start < b.stop && b.start < a.stop
+    a.start < b.stop && b.start < a.stop && strands_agree(rule, a, b) && shares_enough(rule, a, b)
+}
+
+// Whether two records of one chromosome share as many bases as the rule asks for. Where it asks for no
+// fraction, no length is computed.
+fn shares_enough(rule: HitRule, a: &BedRef<'_>, b: &BedRef<'_>) -> bool
+    requires { b.now.chrom.now ≡ a.now.chrom.now }
+    ensures { result ≡ is_enough rule (shared_bases (feature_lent a.now) (feature_lent b.now))
+        (feature_lent a.now) (feature_lent b.now) }
+{
+    if rule.billionths == 0 {
+        return true;
+    }
+    is_enough(rule, common_bases(a, b), a, b)
+}
+
+// How many bases two records of one chromosome have in common.
+fn common_bases(a: &BedRef<'_>, b: &BedRef<'_>) -> u64
+    requires { b.now.chrom.now ≡ a.now.chrom.now }
+    ensures { result ≡ shared_bases (feature_lent a.now) (feature_lent b.now) }
+{
+    a.stop.min(b.stop).saturating_sub(a.start.max(b.start))
+}
+
+// Whether the strands of two records are what the rule asks for.
+#[tactic(auto, unfolding(crate::specs::Hits::strands_agree))]
+pub(crate) fn strands_agree(rule: HitRule, a: &BedRef<'_>, b: &BedRef<'_>) -> bool
+    ensures { result ≡ strands_agree rule (feature_lent a.now) (feature_lent b.now) }
+{
+    !rule.same_strand || is_strand(a.strand, b.strand)
+}
+
+// Whether two strands are one.
+fn is_strand(first: Strand, second: Strand) -> bool
+    ensures { result ≡ is_strand first second }
+{
+    first == second
+}
+
+// Whether so many bases are as much of the first record as the rule asks for, and of the second where
+// it asks for both.
+#[tactic(auto, unfolding(crate::specs::Hits::is_enough))]
+pub(crate) fn is_enough(rule: HitRule, bases: u64, a: &BedRef<'_>, b: &BedRef<'_>) -> bool
+    ensures { result ≡ is_enough rule bases (feature_lent a.now) (feature_lent b.now) }
+{
+    has_fraction(rule.billionths, bases, a)
+        && (!rule.both || has_fraction(rule.billionths, bases, b))
+}
+
+// Whether so many bases are at least so many billionths of a record's. The products may exceed 64 bits.
+#[tactic(auto, unfolding(crate::specs::Hits::has_fraction))]
+fn has_fraction(billionths: u64, bases: u64, a: &BedRef<'_>) -> bool
+    ensures { result ≡ has_fraction billionths bases (feature_lent a.now) }
+{
+    let length = a.stop.saturating_sub(a.start);
+    billionths as u128 * length as u128 <= bases as u128 * 1_000_000_000
 }
 
 // Whether a held record, if there is one, hits the record.
-fn is_hit_by(a: &BedRef<'_>, b: Option<&Rec>) -> bool
+fn is_hit_by(rule: HitRule, a: &BedRef<'_>, b: Option<&Rec>) -> bool
     requires { AreOn a.now.chrom.now (option_to_list (option_copied b)) }
-    ensures { result ≡ list_any (hits (feature_lent a.now)) (option_to_list (option_copied b.entry)) }
+    ensures { result ≡ list_any (hits rule (feature_lent a.now)) (option_to_list (option_copied b.entry)) }
 {
     match b {
         None => false,
-        Some(b) => is_hit(a, &b.as_bed()),
+        Some(b) => is_hit(rule, a, &b.as_bed()),
     }
 }
 
 // Whether a held record hits the record.
-pub(crate) fn is_any_hit<H: Held>(a: &BedRef<'_>, held: &H) -> bool
+pub(crate) fn is_any_hit<H: Held>(rule: HitRule, a: &BedRef<'_>, held: &H) -> bool
     requires { AreOn a.now.chrom.now (H.records held.now) }
-    ensures { result ≡ list_any (hits (feature_lent a.now)) (H.records held.now) }
+    ensures { result ≡ list_any (hits rule (feature_lent a.now)) (H.records held.now) }
 {
     for index in 0..held.len() {
-        if is_hit_by(a, held.nth(index)) {
+        if is_hit_by(rule, a, held.nth(index)) {
             return true;
         }
     }
@@ -42,13 +100,13 @@ pub(crate) fn is_any_hit<H: Held>(a: &BedRef<'_>, held: &H) -> bool
 }
 
 // How many held records hit the record.
-pub(crate) fn count_hits<H: Held>(a: &BedRef<'_>, held: &H) -> usize
+pub(crate) fn count_hits<H: Held>(rule: HitRule, a: &BedRef<'_>, held: &H) -> usize
     requires { AreOn a.now.chrom.now (H.records held.now) }
-    ensures { result ≡ length (hits_among (feature_lent a.now) (H.records held.now)) }
+    ensures { result ≡ length (hits_among rule (feature_lent a.now) (H.records held.now)) }
 {
     let mut count = 0;
     for index in 0..held.len() {
-        if is_hit_by(a, held.nth(index)) {
+        if is_hit_by(rule, a, held.nth(index)) {
             count += 1;
         }
     }

@@ -1,9 +1,13 @@
 //! The laws of the definitions, each as the contract of a function that does nothing.
 
 ghost use Rattle.bt_sweep.specs.Deciding.{decided_stays};
+ghost use Rattle.bt_sweep.specs.Hits.{both_of_nothing};
 ghost use Rattle.bt_sweep.specs.Lines.{lines_are_before, lines_stay};
+ghost use Rattle.bt_sweep.specs.Pieces.{pieces_are, pieces_only};
 ghost use Rattle.bt_sweep.specs.Standing.{taken_are_first};
 ghost use Rattle.bt_sweep.specs.Steps.{quiet_are_taken};
+ghost use Rattle.bt_sweep.specs.Subtract.{subtract_is_met};
+ghost use Rattle.bt_sweep.specs.Worked.{fault_behind_undecided, fault_of_first, half_is_taken, parts_are_left, whole_is_left};
 ghost use Rattle.bt_sweep.specs.Sweeps.{faultless_are_all, written_are_a_front};
 
 /// What is decided stays decided, and its lines stay as they are, whatever comes after in order: the
@@ -12,6 +16,23 @@ pub fn decided_lines_stay()
     ensures decided { decided_stays }
     ensures lines { lines_stay }
     ensures before { lines_are_before }
+{}
+
+/// Without a fraction, asking it of both records changes nothing.
+pub fn no_fraction_is_that_of_both()
+    ensures { both_of_nothing }
+{}
+
+/// The pieces of a record are the stretches of its positions that none of the others has, and no other
+/// list is.
+pub fn pieces_are_stretches()
+    ensures are { pieces_are }
+    ensures only { pieces_only }
+{}
+
+/// Where the second input has no fault, what the sweep writes for subtract is what all pairs give.
+pub fn faultless_inputs_are_subtracted()
+    ensures { subtract_is_met }
 {}
 
 /// Where the second input has no fault, what is written is what all pairs give.
@@ -33,4 +54,13 @@ pub fn taken_records_come_first()
 /// held is taken, so it needs no memory, and nothing is written.
 pub fn quiet_records_are_taken()
     ensures { quiet_are_taken }
+{}
+
+/// What is written and told of small inputs.
+pub fn small_inputs_meet()
+    ensures undecided { fault_behind_undecided }
+    ensures first { fault_of_first }
+    ensures parts { parts_are_left }
+    ensures half { half_is_taken }
+    ensures whole { whole_is_left }
 {}

@@ -1,12 +1,16 @@
-//! Intersect by comparing all pairs of records: slow, and plainly what the definition says. Tests
-//! compare the sweep with it.
+//! Intersect and subtract by comparing all pairs of records: slow, and plainly what the definition
+//! says. Tests compare the sweep with it.
 
 ghost use Rattle.std.specs.Prelude.{◌≡◌, ◌∷◌, ◌++◌, [], OnOk, IfOk, decimal, filter, flat_map, length};
 ghost use Rattle.bt_bed.specs.Bed.{feature_lent};
 ghost use Rattle.bt_bed.specs.Record.{bed_text, cut_to};
-ghost use Rattle.bt_sweep.specs.Hits.{hits_among, shared_bases};
-ghost use Rattle.bt_sweep.specs.Lines.{hit_line, intersect, line_with, lines_for};
+ghost use Rattle.bt_sweep.specs.Hits.{hits, hits_among, shared_bases};
+ghost use Rattle.bt_sweep.specs.Lines.{hit_line, intersect, line_with, lines_for, piece_line};
+ghost use Rattle.bt_sweep.specs.Pieces.{pieces};
 
+use crate::hit::{is_enough, strands_agree};
+use crate::hit_rule::HitRule;
+use crate::plain_pieces::find_pieces;
 use crate::shape::Shape;
 use bt_bed::{BedRef, Rec, write_bed, write_cut};
 use itoa::Buffer;
@@ -16,44 +20,62 @@ use std::alloc::{AllocError, Global};
 pub fn plain_intersect(
     alloc: Global,
     shape: Shape,
+    rule: HitRule,
     first: &[Rec],
     second: &[Rec],
 ) -> Result<Vec<u8>, AllocError>
-    ensures { IfOk result (λ v. v.items ≡ intersect shape first.now second.now) }
+    ensures { IfOk result (λ v. v.items ≡ intersect shape rule first.now second.now) }
 {
     let mut text = Vec::new(alloc);
     for a in first {
-        write_lines(shape, a, second, &mut text)?;
+        write_lines(alloc, shape, rule, a, second, &mut text)?;
     }
     Ok(text)
 }
 
 // Adds what is written of a record against these.
-fn write_lines(shape: Shape, a: &Rec, second: &[Rec], text: &mut Vec<u8>) -> Result<(), AllocError>
-    ensures { OnOk result (text.new.items ≡ text.old.items ++ lines_for shape a.now second.now) }
+fn write_lines(
+    alloc: Global,
+    shape: Shape,
+    rule: HitRule,
+    a: &Rec,
+    second: &[Rec],
+    text: &mut Vec<u8>,
+) -> Result<(), AllocError>
+    ensures { OnOk result (text.new.items ≡ text.old.items ++ lines_for shape rule a.now second.now) }
 {
-    let count = count_hits(a, second);
+    let count = count_hits(rule, a, second);
     let a = a.as_bed();
     match shape {
         Shape::Once if count == 0 => Ok(()),
         Shape::Once => write_line(&a, a.start, a.stop, text),
-        Shape::Missing if count == 0 => write_line(&a, a.start, a.stop, text),
-        Shape::Missing => Ok(()),
+        Shape::Missing | Shape::Whole if count == 0 => write_line(&a, a.start, a.stop, text),
+        Shape::Missing | Shape::Whole => Ok(()),
         Shape::Count => write_counted(&a, count as u64, text),
         Shape::Cut | Shape::OrigA | Shape::CutAndB | Shape::OrigBoth | Shape::Overlap => {
-            write_hits(shape, &a, second, text)
+            write_hits(shape, rule, &a, second, text)
         }
+        Shape::Pieces => write_pieces(alloc, rule, &a, second, text),
     }
 }
 
-// How many of these records share a base with the record.
-fn count_hits(a: &Rec, second: &[Rec]) -> usize
-    ensures { result ≡ length (hits_among a.now second.now) }
+// How many of these records hit the record.
+fn count_hits(rule: HitRule, a: &Rec, second: &[Rec]) -> usize
+    ensures { result ≡ length (hits_among rule a.now second.now) }
 {
     second
         .iter()
-        .filter(|b| shared(&a.as_bed(), &b.as_bed()) > 0)
+        .filter(|b| hits(rule, &a.as_bed(), &b.as_bed()))
         .count()
+}
+
+// Whether a record hits another: they share a base, and as much as the rule asks for.
+#[tactic(auto, unfolding(crate::specs::Hits::hits))]
+pub(crate) fn hits(rule: HitRule, a: &BedRef<'_>, b: &BedRef<'_>) -> bool
+    ensures { result ≡ hits rule (feature_lent a.now) (feature_lent b.now) }
+{
+    let bases = shared(a, b);
+    bases > 0 && strands_agree(rule, a, b) && is_enough(rule, bases, a, b)
 }
 
 // How many bases two records have in common.
@@ -67,26 +89,27 @@ fn shared(a: &BedRef<'_>, b: &BedRef<'_>) -> u64
     }
 }
 
-// Adds a line for each of these records that shares a base with the record.
+// Adds a line for each of these records that hits the record.
 fn write_hits(
     shape: Shape,
+    rule: HitRule,
     a: &BedRef<'_>,
     second: &[Rec],
     text: &mut Vec<u8>,
 ) -> Result<(), AllocError>
     ensures { OnOk result (text.new.items ≡ text.old.items
-        ++ flat_map (hit_line shape (feature_lent a.now)) (hits_among (feature_lent a.now) second.now)) }
+        ++ flat_map (hit_line shape (feature_lent a.now)) (hits_among rule (feature_lent a.now) second.now)) }
 {
     for b in second {
         let b = b.as_bed();
-        if shared(a, &b) > 0 {
+        if hits(rule, a, &b) {
             write_hit(shape, a, &b, text)?;
         }
     }
     Ok(())
 }
 
-// Adds the line of two records that share a base, in a shape that has one for each.
+// Adds the line of two records that hit one another, in a shape that has one for each.
 fn write_hit(
     shape: Shape,
     a: &BedRef<'_>,
@@ -104,8 +127,26 @@ fn write_hit(
         Shape::CutAndB => write_pair(a, start, stop, b, text),
         Shape::OrigBoth => write_pair(a, a.start, a.stop, b, text),
         Shape::Overlap => write_overlap(a, b, shared(a, b), text),
-        Shape::Once | Shape::Missing | Shape::Count => Ok(()),
+        Shape::Once | Shape::Missing | Shape::Count | Shape::Pieces | Shape::Whole => Ok(()),
     }
+}
+
+// Adds a line for each piece of the record that those which hit it leave.
+fn write_pieces(
+    alloc: Global,
+    rule: HitRule,
+    a: &BedRef<'_>,
+    second: &[Rec],
+    text: &mut Vec<u8>,
+) -> Result<(), AllocError>
+    ensures { OnOk result (text.new.items ≡ text.old.items ++ flat_map (piece_line (feature_lent a.now))
+        (pieces (feature_lent a.now) (hits_among rule (feature_lent a.now) second.now))) }
+{
+    let mut found = find_pieces(alloc, rule, a, second)?;
+    while let Some(piece) = found.pop() {
+        write_line(a, piece.start, piece.stop, text)?;
+    }
+    Ok(())
 }
 
 // Adds the line of a part of a record.

@@ -1,7 +1,7 @@
 //! The shapes of what is written.
 
-/// What is written of a record of the first input and of those of the second that share a base with it
-/// (bedtools manual, intersect). A record is written as in BED output: start and end are zero-based
+/// What is written of a record of the first input and of those of the second that hit it
+/// (bedtools manual, intersect and subtract). A record is written as in BED output: start and end are zero-based
 /// and half-open and printed without leading zeros, and further columns are kept as they stood.
 #[derive(Clone, Copy, Debug, PartialEq, Eq)]
 pub enum Shape {
@@ -21,4 +21,8 @@ pub enum Shape {
     Missing,
     /// The record and the number of its hits, which may be 0 (`-c`).
     Count,
+    /// Its pieces that have no base of a record that hits it (subtract).
+    Pieces,
+    /// The record, if nothing hits it (subtract, `-A`).
+    Whole,
 }

@@ -1,23 +1,22 @@
 //! What a sweep keeps, and its steps.
 
 ghost use Rattle.std.specs.Prelude.{◌≡◌, ◌∷◌, ◌++◌, [], IsTrue, None, Some, OnOk, OnErr, false, true};
-ghost use Rattle.bt_lines.specs.Fault.{no_memory};
-ghost use Rattle.bt_lines.specs.Names.{told};
 ghost use Rattle.bt_lines.specs.Putting.{Adds};
 ghost use Rattle.bt_bed.specs.Bed.{feature_lent};
 ghost use Rattle.bt_bed.specs.Feature.{Feature};
 ghost use Rattle.bt_sweep.specs.Deciding.{decides};
-ghost use Rattle.bt_sweep.specs.Held.{AreWith};
+ghost use Rattle.bt_sweep.specs.Held.{AreRising, AreWith};
 ghost use Rattle.bt_sweep.specs.Lines.{lines_for};
-ghost use Rattle.bt_sweep.specs.Steps.{Holds, KeepsLast, TakesA, WritesLast, held_with, is_held_by, moved_to};
+ghost use Rattle.bt_sweep.specs.StateSteps.{Holds, KeepsLast, TakesA, WritesLast, held_with, is_held_by, moved_to};
 ghost use Rattle.bt_sweep.specs.Sweeping.{want_in};
 
 use crate::held::Held;
+use crate::hit_rule::HitRule;
 use crate::shape::Shape;
 use crate::want::Want;
 use crate::writing::put_lines;
 use bt_bed::{BedRef, ChromOrder, Rec};
-use bt_lines::{Fault, Kind, Out, Sink};
+use bt_lines::{Fault, Out, Sink, no_memory};
 use std::alloc::{AllocError, Global};
 use std::cmp::Ordering;
 use std::marker::Model;
@@ -28,6 +27,7 @@ use std::marker::Model;
 pub(crate) struct State<H: Held> {
     alloc: Global,
     shape: Shape,
+    rule: HitRule,
     // The record of the first input that was given last. Its buffer is used again.
     last: Option<Rec>,
     waits: bool,
@@ -44,6 +44,7 @@ impl<H: Held> Model for State<H> {
 
     ghost view = { λ s. record {
       shape = s.shape;
+      rule = s.rule;
       last = s.last;
       waits = s.waits;
       held = H.records s.held;
@@ -55,10 +56,11 @@ impl<H: Held> Model for State<H> {
 }
 
 impl<H: Held> State<H> {
-    pub(crate) fn new(alloc: Global, held: H, shape: Shape) -> State<H>
+    pub(crate) fn new(alloc: Global, held: H, shape: Shape, rule: HitRule) -> State<H>
         requires { H.records held ≡ [] }
         ensures { result ≡ record {
           shape = shape;
+          rule = rule;
           last = None;
           waits = false;
           held = [];
@@ -69,6 +71,7 @@ impl<H: Held> State<H> {
         State {
             alloc,
             shape,
+            rule,
             last: None,
             waits: false,
             held,
@@ -105,7 +108,9 @@ impl<H: Held> State<H> {
     // Takes the next record of the first input: it waits, or where the second input has ended its lines
     // are written.
     pub(crate) fn take_a<K: Sink>(&mut self, a: &BedRef<'_>, out: &mut Out<K>) -> Result<(), Fault>
-        ensures takes { TakesA self.old (feature_lent a.now) out.old result self.new out.new }
+        ensures takes { AreRising (held_with self.old.last self.old.held (feature_lent a.now))
+            → TakesA self.old (feature_lent a.now) out.old result self.new out.new }
+        ensures stops { OnErr result (want_in self.new ≡ Want.Nothing) }
         ensures last { KeepsLast self.old (feature_lent a.now) self.new }
     {
         if self.move_to(a).is_err() {
@@ -135,6 +140,7 @@ impl<H: Held> State<H> {
     // Holds the record, if it can hit the last one of the first input or a later one.
     pub(crate) fn hold(&mut self, b: &BedRef<'_>) -> Result<(), Fault>
         ensures holds { Holds self.old (feature_lent b.now) result self.new }
+        ensures stops { OnErr result (want_in self.new ≡ Want.Nothing) }
         ensures last { self.new.last ≡ self.old.last }
     {
         if !is_to_be_held(&self.last, b) {
@@ -149,12 +155,13 @@ impl<H: Held> State<H> {
 
     // Writes the lines of the last record of the first input, which waits no longer.
     pub(crate) fn write<K: Sink>(&mut self, out: &mut Out<K>) -> Result<(), Fault>
-        ensures writes { (a : Feature) → self.old.last ≡ Some a
+        ensures writes { (a : Feature) → self.old.last ≡ Some a → AreRising self.old.held
             → WritesLast self.old a out.old result self.new out.new }
+        ensures stops { OnErr result (want_in self.new ≡ Want.Nothing) }
         ensures last { self.new.last ≡ self.old.last }
     {
         self.waits = false;
-        let written = put_last(self.shape, &self.last, &self.held, out);
+        let written = put_last(self.shape, self.rule, &self.last, &self.held, out);
         if written.is_err() {
             self.done = true;
         }
@@ -163,8 +170,9 @@ impl<H: Held> State<H> {
 
     // Says that the second input has ended, and writes the lines of the record that waits.
     pub(crate) fn end_b<K: Sink>(&mut self, out: &mut Out<K>) -> Result<(), Fault>
-        ensures writes { (a : Feature) → self.old.last ≡ Some a
+        ensures writes { (a : Feature) → self.old.last ≡ Some a → AreRising self.old.held
             → WritesLast (record self.old { b_ended = true }) a out.old result self.new out.new }
+        ensures stops { OnErr result (want_in self.new ≡ Want.Nothing) }
         ensures last { self.new.last ≡ self.old.last }
     {
         self.b_ended = true;
@@ -200,16 +208,6 @@ impl<H: Held> State<H> {
             Ok(()) => Ok(()),
             Err(_) => Err(AllocError),
         }
-    }
-}
-
-// The fault of a refused growth.
-fn no_memory() -> Fault
-    ensures { told result ≡ no_memory }
-{
-    Fault {
-        kind: Kind::NoMemory,
-        place: None,
     }
 }
 
@@ -266,16 +264,17 @@ fn is_past<O: ChromOrder>(order: &O, a: &BedRef<'_>, b: &BedRef<'_>) -> bool
 // Puts the lines of the last record against what is held, if there is one.
 fn put_last<H: Held, K: Sink>(
     shape: Shape,
+    rule: HitRule,
     last: &Option<Rec>,
     held: &H,
     out: &mut Out<K>,
 ) -> Result<(), Fault>
     requires { AreWith last.now (H.records held.now) }
-    ensures { (a : Feature) → last.now ≡ Some a
-        → Adds out.old (lines_for shape a (H.records held.now)) result out.new }
+    ensures { (a : Feature) → last.now ≡ Some a → AreRising (H.records held.now)
+        → Adds out.old (lines_for shape rule a (H.records held.now)) result out.new }
 {
     match last {
         None => Ok(()),
-        Some(last) => put_lines(shape, &last.as_bed(), held, out),
+        Some(last) => put_lines(shape, rule, &last.as_bed(), held, out),
     }
 }

@@ -4,6 +4,7 @@ ghost use Rattle.std.specs.Prelude.{◌≡◌, IsTrue, Some};
 ghost use Rattle.bt_bed.specs.Feature.{Feature};
 
 use crate::held::Held;
+use crate::hit_rule::HitRule;
 use crate::shape::Shape;
 use crate::state::State;
 use crate::want::{Taken, Want};
@@ -26,8 +27,10 @@ pub struct Sweep<'o, H: Held, O: ChromOrder> {
 }
 
 impl<'o, H: Held, O: ChromOrder> Sweep<'o, H, O> {
-    ghost use Rattle.std.specs.Prelude.{◌≡◌, [], IsTrue, Some};
+    ghost use Rattle.std.specs.Prelude.{◌≡◌, [], IsTrue, OnErr, Some};
     ghost use Rattle.bt_bed.specs.Bed.{feature_lent};
+    ghost use Rattle.bt_bed.specs.Feature.{intervals_of};
+    ghost use Rattle.bt_bed.specs.Locus.{ArePlaced};
     ghost use Rattle.bt_bed.specs.Order.{Order};
     ghost use Rattle.bt_sweep.specs.Standing.{IsInOrder, Stage, StandsAt, first_stage, given, held_for, last_given, want_at, with_a, with_a_ended};
     ghost use Rattle.bt_sweep.specs.Steps.{EndsB, GivesA, GivesB};
@@ -35,22 +38,22 @@ impl<'o, H: Held, O: ChromOrder> Sweep<'o, H, O> {
     ghost use Rattle.bt_sweep.specs.Sweeping.{want_in};
 
     /// A sweep that was given nothing, over an empty list of held records. It takes no memory.
-    pub fn new(alloc: Global, held: H, shape: Shape, order: &'o O) -> Sweep<'o, H, O>
+    pub fn new(alloc: Global, held: H, shape: Shape, rule: HitRule, order: &'o O) -> Sweep<'o, H, O>
         requires { H.records held ≡ [] }
-        ensures stands { StandsAt (O.order order.now) shape first_stage (state_of result) }
+        ensures stands { StandsAt (O.order order.now) shape rule first_stage (state_of result) }
         ensures order { order_of result ≡ O.order order.now }
     {
         Sweep {
             order,
-            state: State::new(alloc, held, shape),
+            state: State::new(alloc, held, shape, rule),
         }
     }
 
     /// What it asks for next.
     pub fn want(&self) -> Want
         ensures is { result ≡ want_in (state_of self.now) }
-        ensures stage { (order : Order) (shape : Shape) (stage : Stage)
-            → StandsAt order shape stage (state_of self.now) → result ≡ want_at stage }
+        ensures stage { (order : Order) (shape : Shape) (rule : HitRule) (stage : Stage)
+            → StandsAt order shape rule stage (state_of self.now) → result ≡ want_at stage }
     {
         self.state.want()
     }
@@ -58,23 +61,25 @@ impl<'o, H: Held, O: ChromOrder> Sweep<'o, H, O> {
     /// The records of the second input that it holds.
     pub fn held(&self) -> &H
         ensures is { H.records result.now ≡ (state_of self.now).held }
-        ensures stage { (order : Order) (shape : Shape) (stage : Stage)
-            → StandsAt order shape stage (state_of self.now)
+        ensures stage { (order : Order) (shape : Shape) (rule : HitRule) (stage : Stage)
+            → StandsAt order shape rule stage (state_of self.now)
             → H.records result.now ≡ held_for (last_given (given stage)) stage.taken }
     {
         self.state.held()
     }
 
     /// Takes the next record of the first input. Where the second has ended its lines are written at
-    /// once, and else nothing is. It fails with `NoMemory` where the record can't be kept, and with
+    /// once, and else nothing is. For those the records of the second input have to be in order too, since
+    /// pieces are found by their starts. It fails with `NoMemory` where the record can't be kept, and with
     /// `WriteFailed` where the lines can't be written.
     pub fn give_a<K: Sink>(&mut self, a: &BedRef<'_>, out: &mut Out<K>) -> Result<(), Fault>
         requires want { want_in (state_of self.old) ≡ Want.A }
         requires known { IsTrue ((order_of self.old).knows a.now.chrom.now) }
-        ensures gives { (shape : Shape) (stage : Stage) → StandsAt (order_of self.old) shape stage (state_of self.old)
+        ensures gives { (shape : Shape) (rule : HitRule) (stage : Stage) → StandsAt (order_of self.old) shape rule stage (state_of self.old)
             → IsInOrder (order_of self.old) (with_a stage (feature_lent a.now))
-            → GivesA (order_of self.old) shape stage (feature_lent a.now) out.old result
+            → GivesA (order_of self.old) shape rule stage (feature_lent a.now) out.old result
             (state_of self.new) out.new }
+        ensures stops { OnErr result (want_in (state_of self.new) ≡ Want.Nothing) }
         ensures order { order_of self.new ≡ order_of self.old }
     {
         self.state.take_a(a, out)
@@ -83,8 +88,8 @@ impl<'o, H: Held, O: ChromOrder> Sweep<'o, H, O> {
     /// Takes the end of the first input. Nothing is written, and nothing more is asked for.
     pub fn end_a(&mut self)
         requires { want_in (state_of self.old) ≡ Want.A }
-        ensures stands { (shape : Shape) (stage : Stage) → StandsAt (order_of self.old) shape stage (state_of self.old)
-            → StandsAt (order_of self.old) shape (with_a_ended stage) (state_of self.new) }
+        ensures stands { (shape : Shape) (rule : HitRule) (stage : Stage) → StandsAt (order_of self.old) shape rule stage (state_of self.old)
+            → StandsAt (order_of self.old) shape rule (with_a_ended stage) (state_of self.new) }
         ensures nothing { want_in (state_of self.new) ≡ Want.Nothing }
         ensures order { order_of self.new ≡ order_of self.old }
     {
@@ -98,10 +103,12 @@ impl<'o, H: Held, O: ChromOrder> Sweep<'o, H, O> {
     pub fn give_b<K: Sink>(&mut self, b: &BedRef<'_>, out: &mut Out<K>) -> Result<Taken, Fault>
         requires want { want_in (state_of self.old) ≡ Want.B }
         requires known { IsTrue ((order_of self.old).knows b.now.chrom.now) }
-        ensures gives { (shape : Shape) (stage : Stage) (a : Feature)
-            → StandsAt (order_of self.old) shape stage (state_of self.old) → stage.waiting ≡ Some a
-            → GivesB (order_of self.old) shape stage a (feature_lent b.now) out.old result
+        ensures gives { (shape : Shape) (rule : HitRule) (stage : Stage) (a : Feature)
+            → StandsAt (order_of self.old) shape rule stage (state_of self.old) → stage.waiting ≡ Some a
+            → ArePlaced (order_of self.old) (intervals_of stage.taken)
+            → GivesB (order_of self.old) shape rule stage a (feature_lent b.now) out.old result
             (state_of self.new) out.new }
+        ensures stops { OnErr result (want_in (state_of self.new) ≡ Want.Nothing) }
         ensures order { order_of self.new ≡ order_of self.old }
     {
         if self.state.is_decided_by(self.order, b) {
@@ -116,9 +123,11 @@ impl<'o, H: Held, O: ChromOrder> Sweep<'o, H, O> {
     /// fails with `WriteFailed` where they can't be written.
     pub fn end_b<K: Sink>(&mut self, out: &mut Out<K>) -> Result<(), Fault>
         requires { want_in (state_of self.old) ≡ Want.B }
-        ensures gives { (shape : Shape) (stage : Stage) (a : Feature)
-            → StandsAt (order_of self.old) shape stage (state_of self.old) → stage.waiting ≡ Some a
-            → EndsB (order_of self.old) shape stage a out.old result (state_of self.new) out.new }
+        ensures gives { (shape : Shape) (rule : HitRule) (stage : Stage) (a : Feature)
+            → StandsAt (order_of self.old) shape rule stage (state_of self.old) → stage.waiting ≡ Some a
+            → ArePlaced (order_of self.old) (intervals_of stage.taken)
+            → EndsB (order_of self.old) shape rule stage a out.old result (state_of self.new) out.new }
+        ensures stops { OnErr result (want_in (state_of self.new) ≡ Want.Nothing) }
         ensures order { order_of self.new ≡ order_of self.old }
     {
         self.state.end_b(out)

@@ -1,52 +1,59 @@
 //! The lines of one record.
 
-ghost use Rattle.std.specs.Prelude.{◌≡◌, ◌∷◌, [], IsTrue, cond, decimal, flat_map, option_copied, option_to_list};
+ghost use Rattle.std.specs.Prelude.{◌≡◌, ◌∷◌, [], ◌<◌, cond, decimal, flat_map, option_copied, option_to_list};
 ghost use Rattle.bt_lines.specs.Putting.{Adds, Puts};
 ghost use Rattle.bt_bed.specs.Bed.{feature_lent};
 ghost use Rattle.bt_bed.specs.Record.{bed_text, cut_to};
-ghost use Rattle.bt_sweep.specs.Held.{AreOn};
-ghost use Rattle.bt_sweep.specs.Hits.{hits, hits_among};
+ghost use Rattle.bt_sweep.specs.Held.{AreOn, AreRising};
+ghost use Rattle.bt_sweep.specs.Hits.{hits_among, shared_bases};
 ghost use Rattle.bt_sweep.specs.Lines.{hit_line, line_with, lines_for};
 
 use crate::held::Held;
 use crate::hit::{count_hits, is_any_hit, is_hit};
+use crate::hit_rule::HitRule;
+use crate::pieces::put_pieces;
 use crate::shape::Shape;
 use bt_bed::{BedRef, Rec, put_bed, put_cut};
 use bt_lines::{Fault, Out, Sink, put_number};
 
-// Puts the lines of a record against these, which lie on its chromosome. It takes no memory.
+// Puts the lines of a record against these, which lie on its chromosome and come by their starts. It
+// takes no memory.
 pub(crate) fn put_lines<H: Held, K: Sink>(
     shape: Shape,
+    rule: HitRule,
     a: &BedRef<'_>,
     held: &H,
     out: &mut Out<K>,
 ) -> Result<(), Fault>
     requires { AreOn a.now.chrom.now (H.records held.now) }
-    ensures { Adds out.old (lines_for shape (feature_lent a.now) (H.records held.now)) result out.new }
+    ensures { AreRising (H.records held.now)
+        → Adds out.old (lines_for shape rule (feature_lent a.now) (H.records held.now)) result out.new }
 {
     match shape {
-        Shape::Count => put_counted(a, count_hits(a, held) as u64, out),
-        Shape::Once => put_where(is_any_hit(a, held), a, out),
-        Shape::Missing => put_where(!is_any_hit(a, held), a, out),
+        Shape::Count => put_counted(a, count_hits(rule, a, held) as u64, out),
+        Shape::Once => put_where(is_any_hit(rule, a, held), a, out),
+        Shape::Missing | Shape::Whole => put_where(!is_any_hit(rule, a, held), a, out),
         Shape::Cut | Shape::OrigA | Shape::CutAndB | Shape::OrigBoth | Shape::Overlap => {
-            put_hits(shape, a, held, out)
+            put_hits(shape, rule, a, held, out)
         }
+        Shape::Pieces => put_pieces(rule, a, held, out),
     }
 }
 
 // Puts a line for each held record that hits the record.
 fn put_hits<H: Held, K: Sink>(
     shape: Shape,
+    rule: HitRule,
     a: &BedRef<'_>,
     held: &H,
     out: &mut Out<K>,
 ) -> Result<(), Fault>
     requires { AreOn a.now.chrom.now (H.records held.now) }
     ensures { Adds out.old (flat_map (hit_line shape (feature_lent a.now))
-        (hits_among (feature_lent a.now) (H.records held.now))) result out.new }
+        (hits_among rule (feature_lent a.now) (H.records held.now))) result out.new }
 {
     for index in 0..held.len() {
-        put_if_hit(shape, a, held.nth(index), out)?;
+        put_if_hit(shape, rule, a, held.nth(index), out)?;
     }
     Ok(())
 }
@@ -54,32 +61,33 @@ fn put_hits<H: Held, K: Sink>(
 // Puts the line of a held record, if there is one and it hits the record.
 fn put_if_hit<K: Sink>(
     shape: Shape,
+    rule: HitRule,
     a: &BedRef<'_>,
     b: Option<&Rec>,
     out: &mut Out<K>,
 ) -> Result<(), Fault>
     requires { AreOn a.now.chrom.now (option_to_list (option_copied b)) }
     ensures { Adds out.old (flat_map (hit_line shape (feature_lent a.now))
-        (hits_among (feature_lent a.now) (option_to_list (option_copied b.entry)))) result out.new }
+        (hits_among rule (feature_lent a.now) (option_to_list (option_copied b.entry)))) result out.new }
 {
     let Some(b) = b else {
         return Ok(());
     };
     let b = b.as_bed();
-    if !is_hit(a, &b) {
+    if !is_hit(rule, a, &b) {
         return Ok(());
     }
     put_hit(shape, a, &b, out)
 }
 
-// Puts the line of a record that hits the record, in a shape that has one for each.
+// Puts the line of a record that shares a base with the record, in a shape that has one for each hit.
 fn put_hit<K: Sink>(
     shape: Shape,
     a: &BedRef<'_>,
     b: &BedRef<'_>,
     out: &mut Out<K>,
 ) -> Result<(), Fault>
-    requires { IsTrue (hits (feature_lent a.now) (feature_lent b.now)) }
+    requires { 0 < shared_bases (feature_lent a.now) (feature_lent b.now) }
     ensures { Adds out.old (hit_line shape (feature_lent a.now) (feature_lent b.now)) result out.new }
 {
     let start = a.start.max(b.start);
@@ -90,7 +98,7 @@ fn put_hit<K: Sink>(
         Shape::CutAndB => put_both(a, start, stop, b, out),
         Shape::OrigBoth => put_both(a, a.start, a.stop, b, out),
         Shape::Overlap => put_overlap(a, b, stop.saturating_sub(start), out),
-        Shape::Once | Shape::Missing | Shape::Count => Ok(()),
+        Shape::Once | Shape::Missing | Shape::Count | Shape::Pieces | Shape::Whole => Ok(()),
     }
 }
 

@@ -23,7 +23,7 @@ use Rattle.bt_bed.specs.GoodBed.{bed_format, locus_at}
 use Rattle.bt_bed.specs.Sorting.{sorting_of}
 use Rattle.bt_bed.proofs.NeighbourLemmas.{says_of_line}
 use Rattle.bt_bed.specs.GoodLines.{IsBeyond}
-use Rattle.bt_bed.specs.LineKind.{fault_at_line}
+use Rattle.bt_bed.specs.LineKind.{fault_at_line, is_bed_kind}
 use Rattle.bt_bed.specs.Interval.{Interval, AreNonEmpty, last_of}
 use Rattle.bt_bed.specs.Order.{Order}
 use Rattle.bt_bed.specs.Locus.{Locus, locus_of, IsUpTo, ArePlaced}
@@ -36,7 +36,7 @@ use Rattle.bt_bed.proofs.TogetherLemmas.{last_of-push, grows_placed}
 use Rattle.bt_tool.proofs.StopLemmas.{StopsBehind, coming_is, stops_ended, stops_faulty, stops_given}
 use Rattle.bt_lines.specs.declared.fault.Fault.{Fault}
 use Rattle.bt_runs.specs.Engine.{Feeds as EngineFeeds, NotTaken}
-use Rattle.bt_tool.specs.Feeding.{StopCause, ComeFirst, IsFresh, KeepsNear, PutsLines, Took, TookButBlock, FeedsAll, FeedsUpTo, member_items}
+use Rattle.bt_tool.specs.Feeding.{AreInOrder, StopCause, ComeFirst, IsFresh, KeepsNear, PutsLines, Took, TookButBlock, FeedsAll, FeedsUpTo, member_items}
 
 -- the first member of what is to come was passed
 pub come_more : {A : Type 0} (old now peeked next : Option (Good A)) (past : List (Member A)) (m : Member A)
@@ -250,7 +250,7 @@ first_members format input state (Some lines) (Some good) (Some now) past count 
     ap (λ g. g.members) (first_from format input count count 1 state lines past now.members now.fault (omega arith) n
     (sym (ap (λ g. g.members) same) ∙ c.0) (sym (ap (λ g. g.fault) same) ∙ c.1) up b)
 
-settles_by : {A State : Type 0} (format : Format A State) (input : Input) (state : State) (settled : List A → List ℕ) (lines : Option (List TextLine)) (past : List (Member A)) (count : ℕ) (out grown : Output)
+pub settles_by : {A State : Type 0} (format : Format A State) (input : Input) (state : State) (settled : List A → List ℕ) (lines : Option (List TextLine)) (past : List (Member A)) (count : ℕ) (out grown : Output)
     → IfSome lines (λ lines. (good_from format input state (take count lines)).members ≡ past)
     → TookButBlock out (settled (member_items past)) grown
     → IfSome lines (λ lines. TookButBlock out (settled (member_items (good_from format input state (take count lines)).members)) grown)
@@ -283,15 +283,13 @@ module _ {S O : Type 0} {ghosts : Ghosts O} (settled : List Feature → List ℕ
             (took_later out grown later (settled (member_items g.past)) g.grows grows (took_lines out grown (settled (member_items g.past)) g.puts g.block));
       }
 
-  taken_more : (new : Records S O ghosts) → order_in new ≡ order_in now → (bytes : List ℕ) × Hands left (below now) bytes (below new)
+  taken_more : (new : Records S O ghosts) → (bytes : List ℕ) × Hands left (below now) bytes (below new)
       → (past : List (Member Feature)) → ArePlaced (order_in old) (intervals_of (member_items past)) → AreNonEmpty (intervals_of (member_items past))
       → (later : Output) → Grows grown.took later.took → KeepsNear left settled (view_of old) out (below new) later
-      → Took settled left failed old out past new later
-  taken_more new order hands past placed full later grows near = record {
-    order = order ∙ g.order;
+      → Took settled is_bed_kind (AreInOrder (order_in old)) left failed (view_of old) out past (below new) later
+  taken_more new hands past placed full later grows near = record {
     bytes = (g.bytes.0 ++ hands.0, hands_both left (below old) (below now) (below new) g.bytes.0 hands.0 g.bytes.1 hands.1);
-    placed = placed;
-    full = full;
+    sorted = (placed, full);
     grows = grows_both out.took grown.took later.took g.grows grows;
     near = near;
   }
@@ -301,10 +299,10 @@ module _ {S O : Type 0} {ghosts : Ghosts O} (settled : List Feature → List ℕ
 
   -- after the last record
   pub feeds_all : (new : Records S O ghosts) → order_in new ≡ order_in now → IsSound left end (below new)
-      → EndsMembers left failed (view_of now) (view_of new) → FeedsAll settled left failed Stands old out new grown
+      → EndsMembers left failed (view_of now) (view_of new) → FeedsAll settled is_bed_kind (AreInOrder (order_in old)) left failed Stands (view_of old) out (below new) grown
   feeds_all new order sound ends = record {
     past = g.past;
-    took = taken_more new order ends.stays.bytes g.past g.placed g.full grown none_more
+    took = taken_more new ends.stays.bytes g.past g.placed g.full grown none_more
         (near_at (below new) grown (stops_ended left failed end (view_of now) g.none_ahead g.going g.sound (view_of new) ends ends.rises) none_more);
     whole = whole_with (good_coming left (view_of old)) (good_coming left (view_of now)) g.past None g.come ends.none_left;
     stands = g.stands;
@@ -318,13 +316,13 @@ module _ {S O : Type 0} {ghosts : Ghosts O} (settled : List Feature → List ℕ
   same_input = g.bytes.1.same_input
 
   cause_of : (new : Records S O ghosts) (fault : Told) → IsSound left end (below new) → AnswersFault left failed end (view_of now) fault (view_of new)
-      → PeekCause left failed end (view_of now) fault (view_of new) → StopCause settled left failed old out g.past fault new grown
+      → PeekCause left failed end (view_of now) fault (view_of new) → StopCause settled is_bed_kind (AreInOrder (order_in old)) left failed (view_of old) out g.past fault (below new) grown
   cause_of new fault sound answers (inl at) = inl (inl (record {
     whole = whole_with (good_coming left (view_of old)) (good_coming left (view_of now)) g.past (Some fault) g.come at.none_left;
     line = lines_given (below new);
     kind = at.kind;
     is = at.place ∙ ap (λ input. fault_at_line input (lines_given (below new)) at.kind) same_input;
-    of_bed = says_of_line (sorting_of (order_in old)) (view_of now).state at.line.text at.kind (ap (λ f. f.says (view_of now).state at.line) (sym (g.format ∙ is_bed)) ∙ at.says);
+    of_kind = says_of_line (sorting_of (order_in old)) (view_of now).state at.line.text at.kind (ap (λ f. f.says (view_of now).state at.line) (sym (g.format ∙ is_bed)) ∙ at.says);
     puts = g.puts;
     works = g.works;
     served = at.served ∙ g.served;
@@ -348,10 +346,10 @@ module _ {S O : Type 0} {ghosts : Ghosts O} (settled : List Feature → List ℕ
 
   -- the reader told a fault
   pub stops_reading : (new : Records S O ghosts) (fault : Told) → order_in new ≡ order_in now → IsSound left end (below new)
-      → AnswersFault left failed end (view_of now) fault (view_of new) → FeedsUpTo settled left failed old out fault new grown
+      → AnswersFault left failed end (view_of now) fault (view_of new) → FeedsUpTo settled is_bed_kind (AreInOrder (order_in old)) left failed (view_of old) out fault (below new) grown
   stops_reading new fault order sound answers = record {
     past = g.past;
-    took = taken_more new order answers.stays.bytes g.past g.placed g.full grown none_more
+    took = taken_more new answers.stays.bytes g.past g.placed g.full grown none_more
         (near_at (below new) grown (stops_faulty left failed end (view_of now) g.none_ahead g.going g.sound (view_of new) fault answers sound) none_more);
     begins = begins_with (good_coming left (view_of old)) (good_coming left (view_of now)) g.past g.come;
     cause = cause_of new fault sound answers (answers.first g.going);
@@ -387,9 +385,9 @@ module _ {S O : Type 0} {ghosts : Ghosts O} (settled : List Feature → List ℕ
     pub full_items : AreNonEmpty (intervals_of (member_items g.past ++ r ∷ []))
     full_items = subst (λ rs. AreNonEmpty (intervals_of rs)) items_more full_more
 
-    took_more : (later : Output) → Grows grown.took later.took → Took settled left failed old out with_next peeked later
+    took_more : (later : Output) → Grows grown.took later.took → Took settled is_bed_kind (AreInOrder (order_in old)) left failed (view_of old) out with_next (below peeked) later
     took_more later grows =
-        taken_more peeked order gives.read.stays.bytes with_next placed_more full_more later grows
+        taken_more peeked gives.read.stays.bytes with_next placed_more full_more later grows
         (near_at (below peeked) later (stops_given left failed end (view_of now) g.none_ahead g.going g.sound next_member (view_of peeked) gives.read sound
         (line_going peeked (gives.read.goes ∙ g.going))) grows)
 
@@ -410,7 +408,7 @@ module _ {S O : Type 0} {ghosts : Ghosts O} (settled : List Feature → List ℕ
     pub stops_writing : (fault : Told) (later : Output) → fault ≡ write_failed
         → CutsRest (settled (member_items g.past)) (settled (member_items g.past ++ r ∷ [])) grown later
         → later.has_failed ≡ true → later.sink_has_failed ≡ true → Grows grown.took later.took
-        → FeedsUpTo settled left failed old out fault peeked later
+        → FeedsUpTo settled is_bed_kind (AreInOrder (order_in old)) left failed (view_of old) out fault (below peeked) later
     stops_writing fault later is cuts fails sink grows = record {
       past = with_next;
       took = took_more later grows;
@@ -430,7 +428,7 @@ module _ {S O : Type 0} {ghosts : Ghosts O} (settled : List Feature → List ℕ
     pub stops_growing : (fault : Told) (later : Output) → fault ≡ no_memory
         → PutsPart (settled (member_items g.past)) (settled (member_items g.past ++ r ∷ [])) grown later
         → WorksAsBefore grown later → Grows grown.took later.took
-        → FeedsUpTo settled left failed old out fault peeked later
+        → FeedsUpTo settled is_bed_kind (AreInOrder (order_in old)) left failed (view_of old) out fault (below peeked) later
     stops_growing fault later is part works grows = record {
       past = with_next;
       took = took_more later grows;
@@ -460,11 +458,11 @@ module _ {S O : Type 0} {ghosts : Ghosts O} (settled : List Feature → List ℕ
         let rises = gives.read.rises g.none_ahead in
         record {
           past = with_next;
-          order = passes.order ∙ taken.order;
+          order = passes.order ∙ order ∙ g.order;
           format = passes.passes.format ∙ gives.read.stays.format ∙ g.format;
           bytes = subst (λ reader. (bytes : List ℕ) × Hands left (below old) bytes reader) (sym same) taken.bytes;
-          placed = taken.placed;
-          full = taken.full;
+          placed = taken.sorted.0;
+          full = taken.sorted.1;
           grows = taken.grows;
           come = come_more (good_coming left (view_of old)) (good_coming left (view_of now)) (good_coming left (view_of peeked)) (good_coming left (view_of next)) g.past next_member g.come gives.read.good gives.read.first
               (passes.passes.good next_member gives.read.ahead);
@@ -518,7 +516,7 @@ module _ {S O E : Type 0} {ghosts : Ghosts O} (MayTake : E → List Feature → 
     (g : Going (settled first) (λ past. Stands first past engine) left failed end old out now grown)
     (peeked : Records S O ghosts) (r : Feature) (order : order_in peeked ≡ order_in now) (sound : IsSound left end (below peeked)) (gives : GivesRecord left failed now r peeked) where
   stops_not_taken : (fault : Told) (new : E) (later : Output) → MayTake first (member_items g.past ++ r ∷ []) → engine_fault engine ≡ None → Grows grown.took later.took
-      → NotTaken MayTake Stands engine_fault settled engine r grown fault new later → FeedsUpTo (settled first) left failed old out fault peeked later
+      → NotTaken MayTake Stands engine_fault settled engine r grown fault new later → FeedsUpTo (settled first) is_bed_kind (AreInOrder (order_in old)) left failed (view_of old) out fault (below peeked) later
   stops_not_taken fault new later takes going grows (inl again) = absurd (let apart : None ≡ Some fault = sym going ∙ again.is in cc)
   stops_not_taken fault new later takes going grows (inr (inl fails)) =
       stops_writing (settled first) (λ past. Stands first past engine) left failed end old out now grown fresh is_bed g peeked r order sound gives fault later fails.is
@@ -528,7 +526,7 @@ module _ {S O E : Type 0} {ghosts : Ghosts O} (MayTake : E → List Feature → 
       (runs_out.puts first (member_items g.past) g.stands takes) runs_out.works grows
 
   pub stops_feeding : {A : Type 0} (Quiet : E → List Feature → Feature → Type 0) (fault : Fault) (new : E) (later : Output) → MayTake first (member_items g.past ++ r ∷ [])
-      → EngineFeeds MayTake Stands engine_fault settled engine r grown {A = A} Quiet (Err fault) new later → FeedsUpTo (settled first) left failed old out (told fault) peeked later
+      → EngineFeeds MayTake Stands engine_fault settled engine r grown {A = A} Quiet (Err fault) new later → FeedsUpTo (settled first) is_bed_kind (AreInOrder (order_in old)) left failed (view_of old) out (told fault) (below peeked) later
   stops_feeding Quiet fault new later takes fed =
       stops_not_taken (told fault) new later takes (fed.going first (member_items g.past) g.stands) fed.grows fed.answers
 

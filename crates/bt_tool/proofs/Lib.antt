@@ -3,6 +3,7 @@ pub mod Division
 pub mod GivenLemmas
 pub mod Reading
 pub mod FeedLemmas
+pub mod FractionLemmas
 pub mod PassedLemmas
 pub mod SweptLemmas
 pub mod RestLemmas
@@ -13,6 +14,7 @@ pub mod CameLemmas
 pub mod MetLemmas
 pub mod StartLemmas
 pub mod DrivingLemmas
+pub mod ConvertLemmas
 pub mod WriteLemmas
 pub mod ReportWords
 pub mod TableLemmas
@@ -26,3 +28,4 @@ pub mod RunningLemmas
 pub mod FaultLemmas
 pub mod StopLemmas
 pub mod HeadlineLemmas
+pub mod SubtractLemmas

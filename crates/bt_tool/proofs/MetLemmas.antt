@@ -27,6 +27,7 @@ use Rattle.bt_bed.proofs.GoodBedLemmas.{placed_good}
 use Rattle.bt_bed.proofs.MeetingLemmas.{all_stop, all_written, met_fault_all, met_fault_stop, met_lines, written_past, written_stop}
 use Rattle.bt_sweep.specs.Deciding.{decided}
 use Rattle.bt_sweep.specs.Sweeps.{intersect_met, sweep_rule}
+use Rattle.bt_sweep.specs.declared.hit_rule.HitRule.{HitRule}
 use Rattle.bt_sweep.specs.declared.shape.Shape.{Shape}
 use Rattle.bt_tool.specs.Both.{Intersects, intersect_reaches, intersect_report, intersect_settles}
 use Rattle.bt_tool.specs.Coming.{Came}
@@ -40,39 +41,39 @@ use Rattle.bt_tool.proofs.FaultLemmas.{memory_no_write, placed_no_write, some_is
 use Rattle.bt_tool.proofs.HandedReader.{passes_by}
 
 -- what the lines and the fault of a meeting are
-abbrev MeetsAs : Order → Shape → Good Feature → Good Feature → List ℕ → Option Told → Type 0
-MeetsAs order shape first second lines fault =
-    ((intersect_met order shape first second).lines ≡ lines) × ((intersect_met order shape first second).fault ≡ fault)
+abbrev MeetsAs : Order → Shape → HitRule → Good Feature → Good Feature → List ℕ → Option Told → Type 0
+MeetsAs order shape rule first second lines fault =
+    ((intersect_met order shape rule first second).lines ≡ lines) × ((intersect_met order shape rule first second).fault ≡ fault)
 
 -- the rule that the second input makes
-abbrev rule_of : Order → Shape → Good Feature → Rule Feature ℕ Told
-rule_of order shape second = sweep_rule order shape (items_in second) second.fault
+abbrev rule_of : Order → Shape → HitRule → Good Feature → Rule Feature ℕ Told
+rule_of order shape rule second = sweep_rule order shape rule (items_in second) second.fault
 
-module _ (order : Order) (shape : Shape) (first second : Good Feature) (xs : List Feature) (lines : List ℕ)
-    (here : (list_all (rule_of order shape second).decided xs ≡ true) × (flat_map (rule_of order shape second).lines xs ≡ lines)) where
+module _ (order : Order) (shape : Shape) (rule : HitRule) (first second : Good Feature) (xs : List Feature) (lines : List ℕ)
+    (here : (list_all (rule_of order shape rule second).decided xs ≡ true) × (flat_map (rule_of order shape rule second).lines xs ≡ lines)) where
   -- all records of the first are written
-  meets_all : items_in first ≡ xs → MeetsAs order shape first second lines (option_or first.fault second.fault)
+  meets_all : items_in first ≡ xs → MeetsAs order shape rule first second lines (option_or first.fault second.fault)
   meets_all is =
-      let rule = rule_of order shape second in
-      let all : list_all rule.decided (items_in first) ≡ true = ap (list_all rule.decided) is ∙ here.0 in (
-        met_lines rule (items_in first) first.fault ∙ sym (all_written rule (items_in first) all) ∙ ap (flat_map rule.lines) is ∙ here.1,
-        met_fault_all rule (items_in first) first.fault all,
+      let made = rule_of order shape rule second in
+      let all : list_all made.decided (items_in first) ≡ true = ap (list_all made.decided) is ∙ here.0 in (
+        met_lines made (items_in first) first.fault ∙ sym (all_written made (items_in first) all) ∙ ap (flat_map made.lines) is ∙ here.1,
+        met_fault_all made (items_in first) first.fault all,
       )
 
   -- one of them waits, which the second input doesn't decide
-  meets_stop : (a : Feature) (rest : List Feature) (fault : Told) → items_in first ≡ xs ++ a ∷ rest → second.fault ≡ Some fault → decided order a (items_in second) ≡ false → MeetsAs order shape first second lines (Some fault)
+  meets_stop : (a : Feature) (rest : List Feature) (fault : Told) → items_in first ≡ xs ++ a ∷ rest → second.fault ≡ Some fault → decided order a (items_in second) ≡ false → MeetsAs order shape rule first second lines (Some fault)
   meets_stop a rest fault is told undecided_by =
-      let rule = rule_of order shape second in
-      let undecided : rule.decided a ≡ false = or_from (is_none second.fault) (decided order a (items_in second)) (ap is_none told) undecided_by in (
-        met_lines rule (items_in first) first.fault ∙ ap (written rule) is ∙ written_stop rule xs a rest here.0 undecided ∙ here.1,
-        met_fault_stop rule (items_in first) first.fault (ap (list_all rule.decided) is ∙ all_stop rule xs a rest undecided) ∙ told,
+      let made = rule_of order shape rule second in
+      let undecided : made.decided a ≡ false = or_from (is_none second.fault) (decided order a (items_in second)) (ap is_none told) undecided_by in (
+        met_lines made (items_in first) first.fault ∙ ap (written made) is ∙ written_stop made xs a rest here.0 undecided ∙ here.1,
+        met_fault_stop made (items_in first) first.fault (ap (list_all made.decided) is ∙ all_stop made xs a rest undecided) ∙ told,
       )
 
   -- whatever comes after them
-  meets_front : (rest : List Feature) → items_in first ≡ xs ++ rest → (more : List ℕ) × ((intersect_met order shape first second).lines ≡ lines ++ more)
+  meets_front : (rest : List Feature) → items_in first ≡ xs ++ rest → (more : List ℕ) × ((intersect_met order shape rule first second).lines ≡ lines ++ more)
   meets_front rest is =
-      let rule = rule_of order shape second in
-      (written rule rest, met_lines rule (items_in first) first.fault ∙ ap (written rule) is ∙ written_past rule xs rest here.0 ∙ ap (λ l. l ++ written rule rest) here.1)
+      let made = rule_of order shape rule second in
+      (written made rest, met_lines made (items_in first) first.fault ∙ ap (written made) is ∙ written_past made xs rest here.0 ∙ ap (λ l. l ++ written made rest) here.1)
 
 -- of two fronts of a list, that which lies on lower lines begins the other
 front_in : (past rest seen more : List (Member Feature)) (count : ℕ) → past ++ rest ≡ seen ++ more → All (λ m. m.line ≤ count) seen → All (λ m. count < m.line) rest
@@ -115,10 +116,10 @@ puts_kept : (out : Output) (lines : List ℕ) (grown : Output) → PutsLines out
 puts_kept out lines grown puts = record { front = lines; rest = []; parts = sym (append-nil lines); puts = puts }
 
 module _ {A B O : Type 0} {g : Ghosts O} (a_left : A → Option (List ℕ)) (a_failed a_end : A → Bool) (b_left : B → Option (List ℕ)) (b_failed b_end : B → Bool)
-    (order : Order) (shape : Shape) (total : IsTotal order) (old_first : Records A O g) (old_second : Records B O g) (out : Output)
+    (order : Order) (shape : Shape) (rule : HitRule) (total : IsTotal order) (old_first : Records A O g) (old_second : Records B O g) (out : Output)
     (one_before : A) (two_before : B) (begins : BeginsAt a_left order First one_before old_first) (begins_second : BeginsAt b_left order Second two_before old_second)
     (first : Records A O g) (second : Records B O g) (one_after : A) (two_after : B) (ended : source_of (below first) ≡ one_after) (ended_second : source_of (below second) ≡ two_after)
-    (fault : Option Told) (grown : Output) (w : Finishes a_left a_failed a_end b_left b_failed b_end order shape old_first old_second out fault first second grown) where
+    (fault : Option Told) (grown : Output) (w : Finishes a_left a_failed a_end b_left b_failed b_end order shape rule old_first old_second out fault first second grown) where
   abbrev Wrong : List (Member Feature) → Told → Type 0
   Wrong past other = IsWrongBehind a_left a_failed a_end old_first past other first ⊎ IsUnreadBehind a_left a_failed a_end old_first past other first
 
@@ -131,7 +132,7 @@ module _ {A B O : Type 0} {g : Ghosts O} (a_left : A → Option (List ℕ)) (a_f
 
   module _ (two : Handed) (known : IsSome (good_coming b_left (view_of old_second))) where
     here_by : MayCome (member_items w.wrote.seen) w.wrote.ended (items_in (bed_good Second order two)) (bed_good Second order two).fault
-        → (list_all (rule_of order shape (bed_good Second order two)).decided w.written ≡ true) × (flat_map (rule_of order shape (bed_good Second order two)).lines w.written ≡ w.lines)
+        → (list_all (rule_of order shape rule (bed_good Second order two)).decided w.written ≡ true) × (flat_map (rule_of order shape rule (bed_good Second order two)).lines w.written ≡ w.lines)
     here_by may = (w.wrote.settles known).whatever (items_in (bed_good Second order two)) (bed_good Second order two).fault (placed_good Second order two total) may
 
   -- what the fault of the first says of it
@@ -144,7 +145,7 @@ module _ {A B O : Type 0} {g : Ghosts O} (a_left : A → Option (List ℕ)) (a_f
       let is = came_cut a_left a_failed a_end order First one_before old_first begins first one_after ended past other handed came unread in
       (ap (λ (g : Good Feature). g.members) is, ap (λ (g : Good Feature). g.fault) is)
 
-  second_wrong : (past : List (Member Feature)) (other : Told) (handed : Handed) → Came b_left b_failed two_before two_after (Some other) handed → SecondFails a_left a_failed a_end b_left b_failed b_end order shape old_first old_second out w.wrote.ended past second other
+  second_wrong : (past : List (Member Feature)) (other : Told) (handed : Handed) → Came b_left b_failed two_before two_after (Some other) handed → SecondFails a_left a_failed a_end b_left b_failed b_end order shape rule old_first old_second out w.wrote.ended past second other
       → ((bed_good Second order handed).members ≡ past) × ((bed_good Second order handed).fault ≡ Some other)
       × MayCome (member_items w.wrote.seen) w.wrote.ended (items_in (bed_good Second order handed)) (bed_good Second order handed).fault
   second_wrong past other handed came fails =
@@ -183,15 +184,15 @@ module _ {A B O : Type 0} {g : Ghosts O} (a_left : A → Option (List ℕ)) (a_f
         let text = text_known b_left b_failed b_end order Second two_before old_second begins_second second two_after ended_second fault two came_second in
         is_known b_left b_failed b_end order Second two_before old_second begins_second second two_after ended_second text.0 text.1
 
-    meets_first : (other : Told) → fault ≡ Some other → FirstStops a_left a_failed a_end b_left b_failed b_end order shape old_first old_second out w.written first second other → MeetsAs order shape GoodOne GoodTwo w.lines fault
+    meets_first : (other : Told) → fault ≡ Some other → FirstStops a_left a_failed a_end b_left b_failed b_end order shape rule old_first old_second out w.written first second other → MeetsAs order shape rule GoodOne GoodTwo w.lines fault
     meets_first other is stops =
         let says = first_wrong stops.past other one (subst (λ f. Came a_left a_failed one_before one_after f one) is came) stops.cause in
         let may = came_whole b_left b_failed b_end order Second two_before old_second begins_second second two_after ended_second fault two came_second w.wrote.second_bytes stops.serves.served stops.serves.within
         (λ good. MayCome (member_items w.wrote.seen) w.wrote.ended (items_in good) good.fault) second_may in
-        let met = meets_all order shape GoodOne GoodTwo w.written w.lines (here_by two known_two may) (ap member_items says.0 ∙ sym stops.all) in
+        let met = meets_all order shape rule GoodOne GoodTwo w.written w.lines (here_by two known_two may) (ap member_items says.0 ∙ sym stops.all) in
         (met.0, met.1 ∙ ap (λ f. option_or f GoodTwo.fault) says.1 ∙ sym is)
 
-    meets_second : (other : Told) → fault ≡ Some other → SecondStops a_left a_failed a_end b_left b_failed b_end order shape old_first old_second out w.written w.wrote.ended first second other → MeetsAs order shape GoodOne GoodTwo w.lines fault
+    meets_second : (other : Told) → fault ≡ Some other → SecondStops a_left a_failed a_end b_left b_failed b_end order shape rule old_first old_second out w.written w.wrote.ended first second other → MeetsAs order shape rule GoodOne GoodTwo w.lines fault
     meets_second other is stops =
         let says = second_wrong stops.past other two (subst (λ f. Came b_left b_failed two_before two_after f two) is came_second) stops.fails in
         let waits = came_whole a_left a_failed a_end order First one_before old_first begins first one_after ended fault one came w.wrote.first_bytes stops.serves.served stops.serves.within
@@ -199,10 +200,10 @@ module _ {A B O : Type 0} {g : Ghosts O} (a_left : A → Option (List ℕ)) (a_f
         let undecided_by : decided order stops.waiting (items_in GoodTwo) ≡ false =
         ap (λ ms. decided order stops.waiting (member_items ms)) says.0
         ∙ from_known (good_coming b_left (view_of old_second)) (decided order stops.waiting (member_items stops.past) ≡ false) known_two stops.undecided in
-        let met = meets_stop order shape GoodOne GoodTwo w.written w.lines (here_by two known_two says.2) stops.waiting waits.0 other waits.1 says.1 undecided_by in
+        let met = meets_stop order shape rule GoodOne GoodTwo w.written w.lines (here_by two known_two says.2) stops.waiting waits.0 other waits.1 says.1 undecided_by in
         (met.0, met.1 ∙ sym is)
 
-    meets_rest : RestStops a_left a_failed a_end b_left b_failed b_end order shape old_first old_second out w.written w.wrote.ended first second fault → MeetsAs order shape GoodOne GoodTwo w.lines fault
+    meets_rest : RestStops a_left a_failed a_end b_left b_failed b_end order shape rule old_first old_second out w.written w.wrote.ended first second fault → MeetsAs order shape rule GoodOne GoodTwo w.lines fault
     meets_rest stops =
         let all = came_whole a_left a_failed a_end order First one_before old_first begins first one_after ended fault one came w.wrote.first_bytes stops.serves.served stops.serves.within
         (λ good. (good.members ≡ stops.past) × (good.fault ≡ None)) stops.whole in
@@ -212,33 +213,33 @@ module _ {A B O : Type 0} {g : Ghosts O} (a_left : A → Option (List ℕ)) (a_f
               (λ good. MayCome (member_items w.wrote.seen) w.wrote.ended (items_in good) good.fault) second_may in
               let says = came_whole b_left b_failed b_end order Second two_before old_second begins_second second two_after ended_second fault two came_second w.wrote.second_bytes end.2.served end.2.within
               (λ good. (good.members ≡ stops.past_second) × (good.fault ≡ None)) end.1 in
-              let met = meets_all order shape GoodOne GoodTwo w.written w.lines (here_by two known_two may) (ap member_items all.0 ∙ sym stops.all) in
+              let met = meets_all order shape rule GoodOne GoodTwo w.written w.lines (here_by two known_two may) (ap member_items all.0 ∙ sym stops.all) in
               (met.0, met.1 ∙ ap (λ f. option_or f GoodTwo.fault) all.1 ∙ says.1 ∙ sym end.0)
           | inr told ↦
               let says = second_wrong stops.past_second told.0 two (subst (λ f. Came b_left b_failed two_before two_after f two) told.1 came_second) told.2 in
-              let met = meets_all order shape GoodOne GoodTwo w.written w.lines (here_by two known_two says.2) (ap member_items all.0 ∙ sym stops.all) in
+              let met = meets_all order shape rule GoodOne GoodTwo w.written w.lines (here_by two known_two says.2) (ap member_items all.0 ∙ sym stops.all) in
               (met.0, met.1 ∙ ap (λ f. option_or f GoodTwo.fault) all.1 ∙ says.1 ∙ sym told.1)
         ]
 
-    pub meets : InputsEnd a_left a_failed a_end b_left b_failed b_end order shape old_first old_second out w.written w.wrote.ended first second fault → MeetsAs order shape GoodOne GoodTwo w.lines fault
+    pub meets : InputsEnd a_left a_failed a_end b_left b_failed b_end order shape rule old_first old_second out w.written w.wrote.ended first second fault → MeetsAs order shape rule GoodOne GoodTwo w.lines fault
     meets (inl stops) = meets_first stops.0 stops.1 stops.2
     meets (inr (inl stops)) = meets_second stops.0 stops.1 stops.2
     meets (inr (inr stops)) = meets_rest stops
 
-    reported : (before : List ℕ) → out.put ≡ Some before → InputsEnd a_left a_failed a_end b_left b_failed b_end order shape old_first old_second out w.written w.wrote.ended first second fault → PutsLines out w.lines grown
-        → (fault ≡ (intersect_met order shape GoodOne GoodTwo).fault) × (grown.put ≡ Some (before ++ (intersect_met order shape GoodOne GoodTwo).lines))
+    reported : (before : List ℕ) → out.put ≡ Some before → InputsEnd a_left a_failed a_end b_left b_failed b_end order shape rule old_first old_second out w.written w.wrote.ended first second fault → PutsLines out w.lines grown
+        → (fault ≡ (intersect_met order shape rule GoodOne GoodTwo).fault) × (grown.put ≡ Some (before ++ (intersect_met order shape rule GoodOne GoodTwo).lines))
     reported before put end puts = let met = meets end in (sym met.1, puts before put ∙ ap (λ l. Some (before ++ l)) (sym met.0))
 
   -- what was written begins the report on the whole texts
   front_of : (one two : List ℕ) → a_left one_before ≡ Some one → b_left two_before ≡ Some two
-      → (more : List ℕ) × ((intersect_met order shape (bed_good First order (whole_text one)) (bed_good Second order (whole_text two))).lines ≡ w.lines ++ more)
+      → (more : List ℕ) × ((intersect_met order shape rule (bed_good First order (whole_text one)) (bed_good Second order (whole_text two))).lines ≡ w.lines ++ more)
   front_of one two e f =
       let known = is_known b_left b_failed b_end order Second two_before old_second begins_second second two_after ended_second two f in
       let may = at_whole b_left b_failed b_end order Second two_before old_second begins_second second two_after ended_second two f
       (λ good. MayCome (member_items w.wrote.seen) w.wrote.ended (items_in good) good.fault) second_may in
       let rest = at_whole a_left a_failed a_end order First one_before old_first begins first one_after ended one e
       (λ good. (rest : List Feature) × (items_in good ≡ w.written ++ rest)) w.wrote.first_begins in
-      meets_front order shape (bed_good First order (whole_text one)) (bed_good Second order (whole_text two)) w.written w.lines (here_by (whole_text two) known may) rest.0 rest.1
+      meets_front order shape rule (bed_good First order (whole_text one)) (bed_good Second order (whole_text two)) w.written w.lines (here_by (whole_text two) known may) rest.0 rest.1
 
   -- a fault of an input isn't a failed write
   first_no_write : (past : List (Member Feature)) (other : Told) → Wrong past other → other ≡ write_failed → ⊥
@@ -249,7 +250,7 @@ module _ {A B O : Type 0} {g : Ghosts O} (a_left : A → Option (List ℕ)) (a_f
   second_no_write past other (inl wrong) e = placed_no_write (input_of (below old_second)) wrong.line wrong.kind (sym wrong.is ∙ e)
   second_no_write past other (inr unread) e = placed_no_write (input_of (below old_second)) (suc (lines_given (below second))) ReadFailed (sym unread.is ∙ e)
 
-  inputs_no_write : InputsEnd a_left a_failed a_end b_left b_failed b_end order shape old_first old_second out w.written w.wrote.ended first second fault → fault ≡ Some write_failed → ⊥
+  inputs_no_write : InputsEnd a_left a_failed a_end b_left b_failed b_end order shape rule old_first old_second out w.written w.wrote.ended first second fault → fault ≡ Some write_failed → ⊥
   inputs_no_write (inl stops) e = first_no_write stops.2.past stops.0 stops.2.cause (some_is stops.0 write_failed (sym stops.1 ∙ e))
   inputs_no_write (inr (inl stops)) e = second_no_write stops.2.past stops.0 stops.2.fails.cause (some_is stops.0 write_failed (sym stops.1 ∙ e))
   inputs_no_write (inr (inr stops)) e =
@@ -279,7 +280,7 @@ module _ {A B O : Type 0} {g : Ghosts O} (a_left : A → Option (List ℕ)) (a_f
       (TellsInput a_left a_failed is_bed_kind First one_before one_after told ⊎ TellsInput b_left b_failed is_bed_kind Second two_before two_after told)
       ⊎ TellsDevice grown.sink_has_failed told
 
-  named_by : (told : Told) → fault ≡ Some told → Why a_left a_failed a_end b_left b_failed b_end order shape old_first old_second out w.written w.lines w.wrote.ended first second fault grown → Named told
+  named_by : (told : Told) → fault ≡ Some told → Why a_left a_failed a_end b_left b_failed b_end order shape rule old_first old_second out w.written w.lines w.wrote.ended first second fault grown → Named told
   named_by told e (inl ((inl stops), puts, works)) = subst Named (some_is stops.0 told (sym stops.1 ∙ e)) (inl (inl (first_named stops.2.past stops.0 stops.2.cause)))
   named_by told e (inl ((inr (inl stops)), puts, works)) = subst Named (some_is stops.0 told (sym stops.1 ∙ e)) (inl (inr (second_named stops.2.past stops.0 stops.2.fails.cause)))
   named_by told e (inl ((inr (inr stops)), puts, works)) =
@@ -290,7 +291,7 @@ module _ {A B O : Type 0} {g : Ghosts O} (a_left : A → Option (List ℕ)) (a_f
   named_by told e (inr (inl ran)) = inr (inr (some_is told no_memory (sym e ∙ ran.0)))
   named_by told e (inr (inr cut)) = inr (inl (some_is told write_failed (sym e ∙ cut.0), cut.1.sink_failed))
 
-  served_by : fault ≡ None → Why a_left a_failed a_end b_left b_failed b_end order shape old_first old_second out w.written w.lines w.wrote.ended first second fault grown
+  served_by : fault ≡ None → Why a_left a_failed a_end b_left b_failed b_end order shape rule old_first old_second out w.written w.lines w.wrote.ended first second fault grown
       → ((a_failed one_after ≡ a_failed one_before) × (b_failed two_after ≡ b_failed two_before)) × (grown.sink_has_failed ≡ out.sink_has_failed)
   served_by e (inl ((inl stops), puts, works)) = absurd (let apart : None ≡ Some stops.0 = sym e ∙ stops.1 in cc)
   served_by e (inl ((inr (inl stops)), puts, works)) = absurd (let apart : None ≡ Some stops.0 = sym e ∙ stops.1 in cc)
@@ -306,21 +307,21 @@ module _ {A B O : Type 0} {g : Ghosts O} (a_left : A → Option (List ℕ)) (a_f
   served_by e (inr (inr cut)) = absurd (let apart : None ≡ Some write_failed = sym e ∙ cut.0 in cc)
 
   abbrev Reported : Handed → Handed → List ℕ → Type 0
-  Reported one two before = IsReported (intersect_report order shape one two) before fault grown
+  Reported one two before = IsReported (intersect_report order shape rule one two) before fault grown
 
   whole_by : (one two : Handed) (before : List ℕ) → Came a_left a_failed one_before one_after fault one → Came b_left b_failed two_before two_after fault two → out.put ≡ Some before
-      → fault ≢ Some write_failed → fault ≢ Some no_memory → Why a_left a_failed a_end b_left b_failed b_end order shape old_first old_second out w.written w.lines w.wrote.ended first second fault grown → Reported one two before
+      → fault ≢ Some write_failed → fault ≢ Some no_memory → Why a_left a_failed a_end b_left b_failed b_end order shape rule old_first old_second out w.written w.lines w.wrote.ended first second fault grown → Reported one two before
   whole_by one two before came came_second put write memory (inl (end, puts, works)) = reported one two came came_second before put end puts
   whole_by one two before came came_second put write memory (inr (inl ran)) = absurd (memory ran.0)
   whole_by one two before came came_second put write memory (inr (inr cut)) = absurd (write cut.0)
 
-  cut_by : fault ≡ Some write_failed → (before : List ℕ) → out.put ≡ Some before → Why a_left a_failed a_end b_left b_failed b_end order shape old_first old_second out w.written w.lines w.wrote.ended first second fault grown
+  cut_by : fault ≡ Some write_failed → (before : List ℕ) → out.put ≡ Some before → Why a_left a_failed a_end b_left b_failed b_end order shape rule old_first old_second out w.written w.lines w.wrote.ended first second fault grown
       → IsFrontOf grown.took (Some (before ++ w.lines)) []
   cut_by is before put (inl (end, puts, works)) = absurd (inputs_no_write end is)
   cut_by is before put (inr (inl ran)) = absurd (memory_no_write (some_is no_memory write_failed (sym ran.0 ∙ is)))
   cut_by is before put (inr (inr cut)) = cut.1.front before put
 
-  kept_by : fault ≢ Some write_failed → Why a_left a_failed a_end b_left b_failed b_end order shape old_first old_second out w.written w.lines w.wrote.ended first second fault grown → PutsFront out w.lines grown
+  kept_by : fault ≢ Some write_failed → Why a_left a_failed a_end b_left b_failed b_end order shape rule old_first old_second out w.written w.lines w.wrote.ended first second fault grown → PutsFront out w.lines grown
   kept_by other (inl (end, puts, works)) = puts_kept out w.lines grown puts
   kept_by other (inr (inl ran)) = ran.1
   kept_by other (inr (inr cut)) = absurd (other cut.0)
@@ -328,10 +329,10 @@ module _ {A B O : Type 0} {g : Ghosts O} (a_left : A → Option (List ℕ)) (a_f
   abbrev pub NearBoth : Type 0
   NearBoth = (one two before taken : List ℕ) → a_left one_before ≡ Some one → b_left two_before ≡ Some two → out.put ≡ Some before → out.took ≡ Some taken
       → ReadsNoFurther (λ lines. a_end one_after ≡ false → HandsUpTo b_left (intersect_reaches order (whole_text two) lines + block_size) two_before two_after)
-      (intersect_settles order shape (whole_text two)) one (a_left one_after) before grown.took
+      (intersect_settles order shape rule (whole_text two)) one (a_left one_after) before grown.took
 
   -- the report on how the inputs meet, by how far they were read
-  pub writes_both : NearBoth → Intersects a_left a_failed a_end b_left b_failed order shape one_before two_before out fault one_after two_after grown
+  pub writes_both : NearBoth → Intersects a_left a_failed a_end b_left b_failed order shape rule one_before two_before out fault one_after two_after grown
   writes_both near = record {
     whole = λ one two before reads reads_second put write memory. whole_by one two before (inl reads) (inl reads_second) put write memory w.why;
     told = λ one two before e f put is.

@@ -14,7 +14,7 @@ use Rattle.bt_tool.specs.Usage.{input_named_twice, options_exclusive, required_m
 use Rattle.bt_tool.specs.declared.given.Given.{Given}
 use Rattle.bt_tool.specs.declared.takes.Takes.TheVariants.{FileName}
 use Rattle.bt_tool.specs.declared.tool.Tool.{Tool}
-use Rattle.bt_tool.specs.declared.tool.Tool.TheVariants.{Merge, Complement, Intersect}
+use Rattle.bt_tool.specs.declared.tool.Tool.TheVariants.{Merge, Complement, Intersect, Subtract, BamToBed}
 use Rattle.bt_tool.proofs.GivenLemmas.{valued}
 
 -- where nothing is wrong, nothing is lacking
@@ -110,6 +110,8 @@ pub named-output : (tool : Tool) (items : List Item) (copy : Option (String Glob
 named-output Merge items copy e = ((λ h. absurd (false≢true h)), λ _. none-output copy None refl e)
 named-output Complement items copy e = ((λ h. absurd (false≢true h)), λ _. none-output copy None refl e)
 named-output Intersect items copy e = ((λ h. absurd (false≢true h)), λ _. none-output copy None refl e)
+named-output Subtract items copy e = ((λ h. absurd (false≢true h)), λ _. none-output copy None refl e)
+named-output BamToBed items copy e = ((λ h. absurd (false≢true h)), λ _. none-output copy None refl e)
 
 -- the options that name inputs take the names of files
 is-file : (table : Table) (option word : Word) → takes table option ≡ Some FileName
@@ -121,14 +123,20 @@ pub genome-file : (tool : Tool) (word : Word) → (table_of tool).genome ≡ Som
 genome-file Merge word e = is-file (table_of Merge) (codes "-g") word refl e
 genome-file Complement word e = is-file (table_of Complement) (codes "-g") word refl e
 genome-file Intersect word e = is-file (table_of Intersect) (codes "-g") word refl e
+genome-file Subtract word e = is-file (table_of Subtract) (codes "-g") word refl e
+genome-file BamToBed word e = cc
 
 pub second-file : (tool : Tool) (word : Word) → (table_of tool).second ≡ Some word
     → takes (table_of tool) word ≡ Some FileName
 second-file Merge word e = cc
 second-file Complement word e = cc
 second-file Intersect word e = is-file (table_of Intersect) (codes "-b") word refl e
+second-file Subtract word e = is-file (table_of Subtract) (codes "-b") word refl e
+second-file BamToBed word e = cc
 
 pub tool-by : (tool : Tool) (items : List Item) → tool_of (command_by tool items) ≡ tool
 tool-by Merge items = refl
 tool-by Complement items = refl
 tool-by Intersect items = refl
+tool-by Subtract items = refl
+tool-by BamToBed items = refl

@@ -31,6 +31,7 @@ use Rattle.bt_bed.proofs.GoodLemmas.{ascend_from, first_from}
 use Rattle.bt_sweep.specs.Deciding.{decides}
 use Rattle.bt_sweep.specs.Lines.{intersect}
 use Rattle.bt_sweep.specs.Standing.{leaves_some}
+use Rattle.bt_sweep.specs.declared.hit_rule.HitRule.{HitRule}
 use Rattle.bt_sweep.specs.declared.shape.Shape.{Shape}
 use Rattle.bt_tool.specs.Both.{bytes_up_to, decider, intersect_reaches, intersect_settles, records_on}
 use Rattle.bt_tool.specs.Driving.{ReadsNoFurther}
@@ -156,10 +157,10 @@ module _ {S O : Type 0} {ghosts : Ghosts O} (left : S → Option (List ℕ)) (fa
       (hands.0, handed, handed_near (suc count) text hands.0 parts.0 parts.2 here)
 
 module _ {A B O : Type 0} {g : Ghosts O} (a_left : A → Option (List ℕ)) (a_failed a_end : A → Bool) (b_left : B → Option (List ℕ)) (b_failed b_end : B → Bool)
-    (order : Order) (shape : Shape) (total : IsTotal order) (old_first : Records A O g) (old_second : Records B O g) (out : Output)
+    (order : Order) (shape : Shape) (rule : HitRule) (total : IsTotal order) (old_first : Records A O g) (old_second : Records B O g) (out : Output)
     (one_before : A) (two_before : B) (begins : BeginsAt a_left order First one_before old_first) (begins_second : BeginsAt b_left order Second two_before old_second)
     (first : Records A O g) (second : Records B O g) (one_after : A) (two_after : B) (ended : source_of (below first) ≡ one_after) (ended_second : source_of (below second) ≡ two_after)
-    (grown : Output) (near : StaysNear a_left a_failed a_end b_left b_failed b_end order shape old_first old_second out first second grown) where
+    (grown : Output) (near : StaysNear a_left a_failed a_end b_left b_failed b_end order shape rule old_first old_second out first second grown) where
   abbrev count : ℕ
   count = near.first_near.to.count
 
@@ -196,15 +197,15 @@ module _ {A B O : Type 0} {g : Ghosts O} (a_left : A → Option (List ℕ)) (a_f
         (found.0, ap member_items found.1 ∙ map-append (λ m. m.item) near.given_first found.0)
 
     -- their lines were written
-    settled : intersect_settles order shape (whole_text two) (take count (text_lines one)) ≡ near.lines
+    settled : intersect_settles order shape rule (whole_text two) (take count (text_lines one)) ≡ near.lines
     settled =
         let may = of_two (λ good. MayCome (member_items near.wrote.seen) near.wrote.ended (items_in good) good.fault)
         (may_come (good_coming b_left (view_of old_second)) near.wrote.seen near.wrote.ended near.wrote.second_begins near.wrote.second_all) in
-        ap (λ (l : List Feature). intersect shape l (items_in good_two)) on_lines
+        ap (λ (l : List Feature). intersect shape rule l (items_in good_two)) on_lines
         ∙ ((near.wrote.settles known).whatever (items_in good_two) good_two.fault (placed_good Second order (whole_text two) total) may).1
 
     -- the second input was read as far as they ask for
-    beside_by : AsksFor a_left a_failed a_end b_left b_failed b_end order shape old_first old_second out near.given_first second
+    beside_by : AsksFor a_left a_failed a_end b_left b_failed b_end order shape rule old_first old_second out near.given_first second
         → HandsUpTo b_left (intersect_reaches order (whole_text two) (take (suc count) (text_lines one)) + block_size) two_before two_after
     beside_by asks =
         let read = asks.near known in
@@ -219,7 +220,7 @@ module _ {A B O : Type 0} {g : Ghosts O} (a_left : A → Option (List ℕ)) (a_f
         subst (λ (o : Option (Member Feature)). bytes_in (take (suc read.count) (text_lines two)) ≤ bytes_up_to (text_lines two) o) (sym is) (reaches_least order on b.0 (text_lines two) read.count b.2.members) in
         record { handed = handed.0; consumed = handed.1; read = omega (arith, handed.2, least) }
 
-    beside : a_end one_after ≡ false → (a_end (source_of (below first)) ≡ true) ⊎ AsksFor a_left a_failed a_end b_left b_failed b_end order shape old_first old_second out near.given_first second
+    beside : a_end one_after ≡ false → (a_end (source_of (below first)) ≡ true) ⊎ AsksFor a_left a_failed a_end b_left b_failed b_end order shape rule old_first old_second out near.given_first second
         → HandsUpTo b_left (intersect_reaches order (whole_text two) (take (suc count) (text_lines one)) + block_size) two_before two_after
     beside open_end (inl told) = absurd (false≢true (sym open_end ∙ ap a_end (sym ended) ∙ told))
     beside open_end (inr asks) = beside_by asks
@@ -227,11 +228,11 @@ module _ {A B O : Type 0} {g : Ghosts O} (a_left : A → Option (List ℕ)) (a_f
   -- how far both inputs were read
   pub near_both : (one two before taken : List ℕ) → a_left one_before ≡ Some one → b_left two_before ≡ Some two → out.put ≡ Some before → out.took ≡ Some taken
       → ReadsNoFurther (λ lines. a_end one_after ≡ false → HandsUpTo b_left (intersect_reaches order (whole_text two) lines + block_size) two_before two_after)
-      (intersect_settles order shape (whole_text two)) one (a_left one_after) before grown.took
+      (intersect_settles order shape rule (whole_text two)) one (a_left one_after) before grown.took
   near_both one two before taken e f put took =
       let handed = handed_to a_left a_failed a_end order First one_before old_first begins first one_after ended count one e near.first_near.to.near near.wrote.first_bytes in
       let less : suc count - 1 ≡ count = omega arith in
-      let lines : TookButBlock out (intersect_settles order shape (whole_text two) (take count (text_lines one))) grown = subst (λ l. TookButBlock out l grown) (sym (settled one two e f)) near.took in
+      let lines : TookButBlock out (intersect_settles order shape rule (whole_text two) (take count (text_lines one))) grown = subst (λ l. TookButBlock out l grown) (sym (settled one two e f)) near.took in
       record {
         n = suc count;
         some = omega arith;

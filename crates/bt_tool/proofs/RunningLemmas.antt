@@ -28,7 +28,7 @@ use Rattle.bt_tool.specs.Inputs.{HandsUpToIf, Inputs}
 use Rattle.bt_tool.specs.RecordReport.{Report}
 use Rattle.bt_tool.specs.Report.{chromosomes_of, command_report, command_reaches, command_settles, first_kinds, reaches_on, report_of, report_on, second_kinds, settles_on}
 use Rattle.bt_tool.specs.declared.plan_type.Command.{Command}
-use Rattle.bt_tool.specs.declared.plan_type.Command.TheVariants.{Merge, Complement, Intersect}
+use Rattle.bt_tool.specs.declared.plan_type.Command.TheVariants.{Merge, Complement, Intersect, Subtract, BamToBed}
 use Rattle.bt_tool.proofs.FeedLemmas.{grows_both}
 use Rattle.bt_tool.proofs.WritingLemmas.{hands_none}
 use Rattle.bt_tool.proofs.FaultLemmas.{memory_no_write, placed_no_write, some_is, write_no_read}
@@ -137,7 +137,9 @@ none_settle : (command : Command) (entries : List Entry) (second : Option Handed
 unfolding good_from settled_gaps
 none_settle (Merge d strand) entries second = refl
 none_settle (Complement limit) entries second = refl
-none_settle (Intersect shape) entries second = refl
+none_settle (Intersect shape rule) entries second = refl
+none_settle (Subtract whole rule) entries second = refl
+none_settle (BamToBed split cigar) entries second = refl
 
 none_settle_on : (command : Command) (chromosomes : Result (List Entry) Told) (second : Option Handed) → settles_on command chromosomes second [] ≡ []
 none_settle_on command (Err fault) second = refl

@@ -9,6 +9,7 @@ use Rattle.bt_bed.specs.declared.order.ChromOrder.{Ghosts}
 use Rattle.bt_bed.specs.declared.records.Records.{Records}
 use Rattle.bt_sweep.specs.Standing.{StandsAt, first_stage}
 use Rattle.bt_sweep.specs.Sweeping.{Sweeping}
+use Rattle.bt_sweep.specs.declared.hit_rule.HitRule.{HitRule}
 use Rattle.bt_sweep.specs.declared.shape.Shape.{Shape}
 use Rattle.bt_tool.specs.Feeding.{IsFresh}
 use Rattle.bt_tool.specs.Swept.{Sweeps}
@@ -16,11 +17,11 @@ use Rattle.bt_tool.proofs.PassedLemmas.{passes_start, read_start}
 use Rattle.bt_tool.proofs.SweptLemmas.{settles_nothing}
 
 module _ {A B O : Type 0} {g : Ghosts O} (a_left : A → Option (List ℕ)) (a_failed a_end : A → Bool) (b_left : B → Option (List ℕ)) (b_failed b_end : B → Bool)
-    (shape : Shape) (first : Records A O g) (second : Records B O g) (out : Output) where
+    (shape : Shape) (rule : HitRule) (first : Records A O g) (second : Records B O g) (out : Output) where
   -- nothing was given yet
   pub sweeps_start : IsFresh a_left a_end (view_of first) → last_locus first ≡ None → IsFresh b_left b_end (view_of second) → last_locus second ≡ None
-      → HoldsBlock out.took out.put → (sweep : Sweeping) → StandsAt (order_in first) shape first_stage sweep
-      → Sweeps a_left a_failed a_end b_left b_failed b_end (order_in first) shape first second out first second sweep out
+      → HoldsBlock out.took out.put → (sweep : Sweeping) → StandsAt (order_in first) shape rule first_stage sweep
+      → Sweeps a_left a_failed a_end b_left b_failed b_end (order_in first) shape rule first second out first second sweep out
   sweeps_start fresh none fresh_second none_second block sweep stands = record {
     past_first = [];
     past_second = [];
@@ -32,7 +33,7 @@ module _ {A B O : Type 0} {g : Ghosts O} (a_left : A → Option (List ℕ)) (a_f
     all_given = refl;
     all_taken = refl;
     lines = [];
-    settles = λ known. settles_nothing (order_in first) shape ([] ++ option_to_list (record_ahead second)) false;
+    settles = λ known. settles_nothing (order_in first) shape rule ([] ++ option_to_list (record_ahead second)) false;
     is_open = inr (inr refl);
     first_all = λ e. absurd (false≢true e);
     second_all = λ e. absurd (false≢true e);

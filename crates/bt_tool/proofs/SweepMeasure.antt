@@ -8,11 +8,12 @@ use Rattle.bt_bed.specs.Records.{order_in, room}
 use Rattle.bt_bed.specs.declared.order.ChromOrder.{Ghosts}
 use Rattle.bt_bed.specs.declared.records.Records.{Records}
 use Rattle.bt_sweep.specs.Sweeping.{Sweeping, want_in, want_of}
+use Rattle.bt_sweep.specs.declared.hit_rule.HitRule.{HitRule}
 use Rattle.bt_sweep.specs.declared.shape.Shape.{Shape}
 use Rattle.bt_sweep.specs.declared.want.Want.TheVariants.{A as WantA, B as WantB, Nothing}
 use Rattle.bt_tool.specs.Swept.{Sweeps}
 use Rattle.bt_tool.specs.Turns.{EndsFirst, EndsSecond, GivesFirst, LeavesSecond, TakesSecond}
-use Rattle.bt_tool.proofs.SweptLemmas.{none_waits}
+use Rattle.bt_tool.proofs.SweptLemmas.{none_waits, placed_taken}
 
 -- a record that waits is to be written, and then the first input is asked for
 abbrev pub asks : Bool → Bool → ℕ
@@ -49,8 +50,8 @@ abbrev pub left_to_ask : {A B O : Type 0} {g : Ghosts O} → Records A O g → R
 left_to_ask first second sweep = 2 * (room first + room second) + asks sweep.waits sweep.done
 
 module _ {A B O : Type 0} {g : Ghosts O} (a_left : A → Option (List ℕ)) (a_failed a_end : A → Bool) (b_left : B → Option (List ℕ)) (b_failed b_end : B → Bool)
-    (shape : Shape) (old_first : Records A O g) (old_second : Records B O g) (out : Output) (total : IsTotal (order_in old_first)) (same_order : order_in old_second ≡ order_in old_first)
-    (first : Records A O g) (second : Records B O g) (sweep : Sweeping) (grown : Output) (s : Sweeps a_left a_failed a_end b_left b_failed b_end (order_in old_first) shape old_first old_second out first second sweep grown) where
+    (shape : Shape) (rule : HitRule) (old_first : Records A O g) (old_second : Records B O g) (out : Output) (total : IsTotal (order_in old_first)) (same_order : order_in old_second ≡ order_in old_first)
+    (first : Records A O g) (second : Records B O g) (sweep : Sweeping) (grown : Output) (s : Sweeps a_left a_failed a_end b_left b_failed b_end (order_in old_first) shape rule old_first old_second out first second sweep grown) where
   pub less_first : want_in sweep ≡ WantA → (now : Records A O g) (swept : Sweeping) (later : Output) → GivesFirst a_left a_failed a_end (order_in old_first) first sweep grown now swept later
       → left_to_ask now second swept < left_to_ask first second sweep
   less_first wants now swept later turn =
@@ -59,8 +60,8 @@ module _ {A B O : Type 0} {g : Ghosts O} (a_left : A → Option (List ℕ)) (a_f
   pub less_end : want_in sweep ≡ WantA → (now : Records A O g) (swept : Sweeping) (later : Output) → EndsFirst a_left a_failed a_end (order_in old_first) first sweep grown now swept later
       → left_to_ask now second swept < left_to_ask first second sweep
   less_end wants now swept later turn =
-      let stands = turn.given shape s.stage s.stands in
-      let none = none_waits a_left a_failed a_end b_left b_failed b_end shape old_first old_second out total same_order first second sweep grown s wants in
+      let stands = turn.given shape rule s.stage s.stands in
+      let none = none_waits a_left a_failed a_end b_left b_failed b_end shape rule old_first old_second out total same_order first second sweep grown s wants in
       omega (arith, turn.ended.ends.shrinks, asks_first sweep.waits sweep.done wants, asks_none swept.waits swept.done (stands.waits ∙ ap is_some none) stands.done)
 
   module _ (wants : want_in sweep ≡ WantB) (a : Feature) (waits : s.stage.waiting ≡ Some a) where
@@ -72,11 +73,11 @@ module _ {A B O : Type 0} {g : Ghosts O} (a_left : A → Option (List ℕ)) (a_f
     pub less_left : (now : Records B O g) (swept : Sweeping) (later : Output) → LeavesSecond b_left b_failed b_end (order_in old_first) second sweep grown now swept later
         → left_to_ask first now swept < left_to_ask first second sweep
     less_left now swept later turn =
-        let writes = turn.given shape s.stage a s.stands waits in
+        let writes = turn.given shape rule s.stage a s.stands waits (placed_taken a_left a_failed a_end b_left b_failed b_end shape rule old_first old_second out total same_order first second sweep grown s) in
         omega (arith, turn.ahead.gives.read.shrinks, asks_second sweep.waits sweep.done wants, asks_few swept.waits swept.done writes.stands.waits)
 
     pub less_ended : (now : Records B O g) (swept : Sweeping) (later : Output) → EndsSecond b_left b_failed b_end (order_in old_first) second sweep grown now swept later
         → left_to_ask first now swept < left_to_ask first second sweep
     less_ended now swept later turn =
-        let ends = turn.given shape s.stage a s.stands waits in
+        let ends = turn.given shape rule s.stage a s.stands waits (placed_taken a_left a_failed a_end b_left b_failed b_end shape rule old_first old_second out total same_order first second sweep grown s) in
         omega (arith, turn.ended.ends.shrinks, asks_second sweep.waits sweep.done wants, asks_few swept.waits swept.done ends.0.waits)

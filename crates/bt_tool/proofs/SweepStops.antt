@@ -25,6 +25,7 @@ use Rattle.bt_sweep.specs.Lines.{lines_for}
 use Rattle.bt_sweep.specs.Standing.{Stage, given, leaves_some}
 use Rattle.bt_sweep.specs.Steps.{Fails}
 use Rattle.bt_sweep.specs.Sweeping.{Sweeping, want_in}
+use Rattle.bt_sweep.specs.declared.hit_rule.HitRule.{HitRule}
 use Rattle.bt_sweep.specs.declared.shape.Shape.{Shape}
 use Rattle.bt_sweep.specs.declared.want.Want.TheVariants.{A as WantA, Nothing}
 use Rattle.bt_sweep.proofs.HitLemmas.{before_lines}
@@ -38,7 +39,7 @@ use Rattle.bt_tool.proofs.FeedLemmas.{begins_more, begins_with, front_all, grows
 use Rattle.bt_tool.proofs.PassedLemmas.{ahead_at, ahead_first, bytes_more, ended_at, no_ahead_at_end, no_ahead_at_stop, passes_all, passes_end, passes_peek, passes_stop, read_ahead, read_at, read_for, stopped_at}
 use Rattle.bt_tool.proofs.RestLemmas.{rises_up}
 use Rattle.bt_tool.proofs.StopLemmas.{StopsBehind}
-use Rattle.bt_tool.proofs.SweptLemmas.{all_with, all_written, done_by, is_known, ordered, second_goes, settles_end, settles_ended, settles_peeked, settles_with}
+use Rattle.bt_tool.proofs.SweptLemmas.{all_with, all_written, done_by, is_known, ordered, placed_taken, second_goes, settles_end, settles_ended, settles_peeked, settles_with}
 
 -- the members before some others, by their items
 items_begin : (good : Option (Good Feature)) (past : List (Member Feature)) (written extra : List Feature) → member_items past ≡ written ++ extra
@@ -87,22 +88,22 @@ cuts_more out old new lines more fault puts fails = record {
 }
 
 module _ {A B O : Type 0} {g : Ghosts O} (a_left : A → Option (List ℕ)) (a_failed a_end : A → Bool) (b_left : B → Option (List ℕ)) (b_failed b_end : B → Bool)
-    (shape : Shape) (old_first : Records A O g) (old_second : Records B O g) (out : Output) (total : IsTotal (order_in old_first)) (same_order : order_in old_second ≡ order_in old_first)
+    (shape : Shape) (rule : HitRule) (old_first : Records A O g) (old_second : Records B O g) (out : Output) (total : IsTotal (order_in old_first)) (same_order : order_in old_second ≡ order_in old_first)
     (is_bed : (view_of old_first).format ≡ bed_format (sorting_of (order_in old_first))) (is_bed_second : (view_of old_second).format ≡ bed_format (sorting_of (order_in old_second))) where
   abbrev order : Order
   order = order_in old_first
 
   abbrev Going : Records A O g → Records B O g → Sweeping → Output → Type 0
-  Going = Sweeps a_left a_failed a_end b_left b_failed b_end order shape old_first old_second out
+  Going = Sweeps a_left a_failed a_end b_left b_failed b_end order shape rule old_first old_second out
 
   abbrev Ends : Option Told → Records A O g → Records B O g → Output → Type 0
-  Ends = Finishes a_left a_failed a_end b_left b_failed b_end order shape old_first old_second out
+  Ends = Finishes a_left a_failed a_end b_left b_failed b_end order shape rule old_first old_second out
 
   abbrev Near : Records A O g → Records B O g → Output → Type 0
-  Near = StaysNear a_left a_failed a_end b_left b_failed b_end order shape old_first old_second out
+  Near = StaysNear a_left a_failed a_end b_left b_failed b_end order shape rule old_first old_second out
 
   abbrev Asks : List (Member Feature) → Records B O g → Type 0
-  Asks = AsksFor a_left a_failed a_end b_left b_failed b_end order shape old_first old_second out
+  Asks = AsksFor a_left a_failed a_end b_left b_failed b_end order shape rule old_first old_second out
 
   abbrev BeginsWith : List Feature → Type 0
   BeginsWith written = IfSome (good_coming a_left (view_of old_first)) (λ good. (rest : List Feature) × (items_in good ≡ written ++ rest))
@@ -111,13 +112,13 @@ module _ {A B O : Type 0} {g : Ghosts O} (a_left : A → Option (List ℕ)) (a_f
   wrote_by : (past : List (Member Feature)) (now new : Records B O g) → Passes b_left b_failed b_end old_second past now → lines_given (below now) ≤ lines_given (below new)
       → (bytes : List ℕ) × Hands b_left (below old_second) bytes (below new) → (first : Records A O g) → (bytes : List ℕ) × Hands a_left (below old_first) bytes (below first)
       → (written : List Feature) (lines : List ℕ) (ended : Bool) (grown : Output)
-      → (IsSome (good_coming b_left (view_of old_second)) → Settles order shape written lines (member_items past ++ option_to_list (record_ahead now)) ended)
+      → (IsSome (good_coming b_left (view_of old_second)) → Settles order shape rule written lines (member_items past ++ option_to_list (record_ahead now)) ended)
       → BeginsWith written → (ended ≡ true → AreAll b_left b_failed b_end old_second past × ((view_of now).ahead ≡ None)) → Grows out.took grown.took
-      → Wrote a_left a_failed a_end b_left b_failed b_end order shape old_first old_second out written lines first new grown
+      → Wrote a_left a_failed a_end b_left b_failed b_end order shape rule old_first old_second out written lines first new grown
   wrote_by past now new p rises bytes first first_bytes written lines ended grown settles begins all grows = record {
     seen = past ++ option_to_list (view_of now).ahead;
     ended = ended;
-    settles = λ known. subst (λ (l : List Feature). Settles order shape written lines l ended) (sym (seen_items past (view_of now).ahead)) (settles known);
+    settles = λ known. subst (λ (l : List Feature). Settles order shape rule written lines l ended) (sym (seen_items past (view_of now).ahead)) (settles known);
     first_begins = begins;
     second_begins = seen_begins b_left (good_coming b_left (view_of old_second)) now past (view_of now).ahead refl p.come;
     low = up_to (lines_given (below now)) (lines_given (below new)) (past ++ option_to_list (view_of now).ahead) rises
@@ -134,14 +135,14 @@ module _ {A B O : Type 0} {g : Ghosts O} (a_left : A → Option (List ℕ)) (a_f
     abbrev stage : Stage
     stage = s.stage
 
-    second_serves : SecondServes a_left a_failed a_end b_left b_failed b_end order shape old_first old_second out second
+    second_serves : SecondServes a_left a_failed a_end b_left b_failed b_end order shape rule old_first old_second out second
     second_serves = record { served = s.second_passes.served; within = s.second_passes.sound.within (line_going second s.second_passes.going) }
 
-    first_serves : FirstServes a_left a_failed a_end b_left b_failed b_end order shape old_first old_second out first
+    first_serves : FirstServes a_left a_failed a_end b_left b_failed b_end order shape rule old_first old_second out first
     first_serves = record { served = s.first_passes.served; within = s.first_passes.sound.within (line_going first s.first_passes.going) }
 
-    settles_now : IsSome (good_coming b_left (view_of old_second)) → Settles order shape stage.written s.lines (member_items s.past_second ++ option_to_list (record_ahead second)) stage.b_ended
-    settles_now known = subst (λ (l : List Feature). Settles order shape stage.written s.lines (l ++ option_to_list (record_ahead second)) stage.b_ended) s.all_taken (s.settles known)
+    settles_now : IsSome (good_coming b_left (view_of old_second)) → Settles order shape rule stage.written s.lines (member_items s.past_second ++ option_to_list (record_ahead second)) stage.b_ended
+    settles_now known = subst (λ (l : List Feature). Settles order shape rule stage.written s.lines (l ++ option_to_list (record_ahead second)) stage.b_ended) s.all_taken (s.settles known)
 
     begins_now : BeginsWith stage.written
     begins_now =
@@ -154,13 +155,13 @@ module _ {A B O : Type 0} {g : Ghosts O} (a_left : A → Option (List ℕ)) (a_f
 
     -- the lines written so far, and what was read of the first input later
     wrote_first : (first_now : Records A O g) → (bytes : List ℕ) × Hands a_left (below old_first) bytes (below first_now)
-        → Wrote a_left a_failed a_end b_left b_failed b_end order shape old_first old_second out stage.written s.lines first_now second grown
+        → Wrote a_left a_failed a_end b_left b_failed b_end order shape rule old_first old_second out stage.written s.lines first_now second grown
     wrote_first first_now bytes =
         wrote_by s.past_second second second s.second_passes (omega arith) s.second_passes.bytes first_now bytes stage.written s.lines stage.b_ended grown settles_now begins_now ended_now s.grows
 
     -- and of the second
     wrote_second : (second_now : Records B O g) → lines_given (below second) ≤ lines_given (below second_now) → (bytes : List ℕ) × Hands b_left (below old_second) bytes (below second_now)
-        → Wrote a_left a_failed a_end b_left b_failed b_end order shape old_first old_second out stage.written s.lines first second_now grown
+        → Wrote a_left a_failed a_end b_left b_failed b_end order shape rule old_first old_second out stage.written s.lines first second_now grown
     wrote_second second_now rises bytes =
         wrote_by s.past_second second second_now s.second_passes rises bytes first s.first_passes.bytes stage.written s.lines stage.b_ended grown settles_now begins_now ended_now s.grows
 
@@ -175,7 +176,7 @@ module _ {A B O : Type 0} {g : Ghosts O} (a_left : A → Option (List ℕ)) (a_f
 
     -- the sink took all but a block of the lines so far
     near_by : (first_now : Records A O g) (second_now : Records B O g) (now : Output)
-        → Wrote a_left a_failed a_end b_left b_failed b_end order shape old_first old_second out stage.written s.lines first_now second_now grown → Grows grown.took now.took
+        → Wrote a_left a_failed a_end b_left b_failed b_end order shape rule old_first old_second out stage.written s.lines first_now second_now grown → Grows grown.took now.took
         → (past : List (Member Feature)) → member_items past ≡ stage.written → IsReadFor a_left a_failed a_end old_first past s.past_first first_now
         → (a_end (source_of (below first_now)) ≡ true) ⊎ Asks s.past_first second_now → Near first_now second_now now
     near_by first_now second_now now wrote more past items first_near beside = record {
@@ -200,13 +201,13 @@ module _ {A B O : Type 0} {g : Ghosts O} (a_left : A → Option (List ℕ)) (a_f
           → (count : ℕ) × StopsBehind a_left (view_of first) count (below first_now) → Near first_now second now
       near_first_by first_now now bytes more stops =
           near_by first_now second now (wrote_first first_now bytes) more s.past_first
-          (sym (all_written a_left a_failed a_end b_left b_failed b_end shape old_first old_second out total same_order first second sweep grown s wants))
+          (sym (all_written a_left a_failed a_end b_left b_failed b_end shape rule old_first old_second out total same_order first second sweep grown s wants))
           (read_for a_left a_failed a_end old_first s.past_first first s.first_passes first_now stops) (inr (asks_by second s.near_second))
 
       stops_first_by : (fault : Told) (first_now : Records A O g) → StopsAfter a_left a_failed a_end old_first s.past_first fault first_now
-          → Why a_left a_failed a_end b_left b_failed b_end order shape old_first old_second out stage.written s.lines stage.b_ended first_now second (Some fault) grown
+          → Why a_left a_failed a_end b_left b_failed b_end order shape rule old_first old_second out stage.written s.lines stage.b_ended first_now second (Some fault) grown
       stops_first_by fault first_now stops =
-          let written = all_written a_left a_failed a_end b_left b_failed b_end shape old_first old_second out total same_order first second sweep grown s wants in
+          let written = all_written a_left a_failed a_end b_left b_failed b_end shape rule old_first old_second out total same_order first second sweep grown s wants in
           elim stops.cause [
             | inl wrong ↦ inl (inl (fault, refl, record { past = s.past_first; all = written; cause = inl wrong; serves = second_serves }), s.puts, s.works)
             | inr other ↦ elim other [
@@ -230,7 +231,7 @@ module _ {A B O : Type 0} {g : Ghosts O} (a_left : A → Option (List ℕ)) (a_f
           })
 
       fails_first_by : (b : Bool) → stage.b_ended ≡ b → (fault : Told) (first_now : Records A O g) (swept : Sweeping) (now : Output) (turn : FailsFirst a_left a_failed a_end order first sweep grown fault first_now swept now)
-          → Fails grown (cond b (lines_for shape turn.item stage.taken) []) fault now → Ends (Some fault) first_now second now
+          → Fails grown (cond b (lines_for shape rule turn.item stage.taken) []) fault now → Ends (Some fault) first_now second now
       fails_first_by b e fault first_now swept now turn (inr ran) =
           subst (λ o. Ends (Some fault) first_now second o) (sym ran.1)
           (record {
@@ -243,10 +244,10 @@ module _ {A B O : Type 0} {g : Ghosts O} (a_left : A → Option (List ℕ)) (a_f
           })
       fails_first_by false e fault first_now swept now turn (inl adds) = absurd (adds.some refl)
       fails_first_by true e fault first_now swept now turn (inl adds) =
-          let written = all_written a_left a_failed a_end b_left b_failed b_end shape old_first old_second out total same_order first second sweep grown s wants in
+          let written = all_written a_left a_failed a_end b_left b_failed b_end shape rule old_first old_second out total same_order first second sweep grown s wants in
           let r = turn.item in
           let m : Member Feature = record { line = turn.ahead.gives.line; item = r } in
-          let more = lines_for shape r stage.taken in
+          let more = lines_for shape rule r stage.taken in
           let end = s.second_all e in
           let seen : stage.taken ++ option_to_list (record_ahead second) ≡ stage.taken =
           ap (λ (o : Option (Member Feature)). stage.taken ++ option_to_list (option_map (λ m. m.item) o)) end.2 ∙ append-nil stage.taken in
@@ -257,9 +258,9 @@ module _ {A B O : Type 0} {g : Ghosts O} (a_left : A → Option (List ℕ)) (a_f
             lines = s.lines ++ more;
             wrote = wrote_by s.past_second second second s.second_passes (omega arith) s.second_passes.bytes first_now
                 (bytes_more a_left a_failed a_end old_first s.past_first first s.first_passes first_now turn.ahead.gives.read.stays.bytes) (stage.written ++ r ∷ []) (s.lines ++ more) true now
-                (λ known. subst (λ (l : List Feature). Settles order shape (stage.written ++ r ∷ []) (s.lines ++ more) (l ++ option_to_list (record_ahead second)) true) s.all_taken
-                (subst (λ (l : List Feature). Settles order shape (stage.written ++ r ∷ []) (s.lines ++ more) l true) (sym seen)
-                (settles_end order shape stage.written s.lines stage.taken stage.b_ended r (subst (λ (l : List Feature). Settles order shape stage.written s.lines l stage.b_ended) seen (s.settles known)))))
+                (λ known. subst (λ (l : List Feature). Settles order shape rule (stage.written ++ r ∷ []) (s.lines ++ more) (l ++ option_to_list (record_ahead second)) true) s.all_taken
+                (subst (λ (l : List Feature). Settles order shape rule (stage.written ++ r ∷ []) (s.lines ++ more) l true) (sym seen)
+                (settles_end order shape rule stage.written s.lines stage.taken stage.b_ended r (subst (λ (l : List Feature). Settles order shape rule stage.written s.lines l stage.b_ended) seen (s.settles known)))))
                 (items_first (good_coming a_left (view_of old_first)) (stage.written ++ r ∷ []) []
                 (items_begin (good_coming a_left (view_of old_first)) (s.past_first ++ m ∷ []) (stage.written ++ r ∷ []) [] items
                 (begins_more (good_coming a_left (view_of old_first)) (good_coming a_left (view_of first)) s.past_first m s.first_passes.come turn.ahead.gives.read.first)))
@@ -274,14 +275,14 @@ module _ {A B O : Type 0} {g : Ghosts O} (a_left : A → Option (List ℕ)) (a_f
       pub fails_first : (fault : Told) (first_now : Records A O g) (swept : Sweeping) (now : Output) → FailsFirst a_left a_failed a_end order first sweep grown fault first_now swept now → Ends (Some fault) first_now second now
       fails_first fault first_now swept now turn =
           fails_first_by stage.b_ended refl fault first_now swept now turn
-          (turn.fails shape stage s.stands (ordered a_left a_failed a_end b_left b_failed b_end shape old_first old_second out total same_order first second sweep grown s wants turn.item first_now turn.ahead))
+          (turn.fails shape rule stage s.stands (ordered a_left a_failed a_end b_left b_failed b_end shape rule old_first old_second out total same_order first second sweep grown s wants turn.item first_now turn.ahead))
 
     module _ (a : Feature) (waits : stage.waiting ≡ Some a) where
       goes : stage.b_ended ≡ false
-      goes = second_goes a_left a_failed a_end b_left b_failed b_end shape old_first old_second out total same_order first second sweep grown s a waits
+      goes = second_goes a_left a_failed a_end b_left b_failed b_end shape rule old_first old_second out total same_order first second sweep grown s a waits
 
       all_here : member_items s.past_first ≡ (stage.written ++ a ∷ []) ++ []
-      all_here = sym (all_with a_left a_failed a_end b_left b_failed b_end shape old_first old_second out total same_order first second sweep grown s a waits) ∙ sym (append-nil (stage.written ++ a ∷ []))
+      all_here = sym (all_with a_left a_failed a_end b_left b_failed b_end shape rule old_first old_second out total same_order first second sweep grown s a waits) ∙ sym (append-nil (stage.written ++ a ∷ []))
 
       begins_here : BeginsWith (stage.written ++ a ∷ [])
       begins_here =
@@ -292,7 +293,7 @@ module _ {A B O : Type 0} {g : Ghosts O} (a_left : A → Option (List ℕ)) (a_f
       begins_before : IfSome (good_coming a_left (view_of old_first)) (λ good. (rest : List Feature) × (items_in good ≡ stage.written ++ a ∷ rest))
       begins_before =
           items_begin (good_coming a_left (view_of old_first)) s.past_first stage.written (a ∷ [])
-          (sym (all_with a_left a_failed a_end b_left b_failed b_end shape old_first old_second out total same_order first second sweep grown s a waits))
+          (sym (all_with a_left a_failed a_end b_left b_failed b_end shape rule old_first old_second out total same_order first second sweep grown s a waits))
           (begins_with (good_coming a_left (view_of old_first)) (good_coming a_left (view_of first)) s.past_first s.first_passes.come)
 
       open_by : (view_of second).ahead ≡ None → decided order a (member_items s.past_second) ≡ false
@@ -313,7 +314,7 @@ module _ {A B O : Type 0} {g : Ghosts O} (a_left : A → Option (List ℕ)) (a_f
           near_by first second_now now (wrote_second second_now rises bytes) more read.0 read.1 read.2 (inr (asks_by second_now near))
 
       second_stops_by : (fault : Told) (second_now : Records B O g) → HasStopped b_left b_failed b_end second fault second_now → StopsAfter b_left b_failed b_end old_second s.past_second fault second_now
-          → Why a_left a_failed a_end b_left b_failed b_end order shape old_first old_second out stage.written s.lines stage.b_ended first second_now (Some fault) grown
+          → Why a_left a_failed a_end b_left b_failed b_end order shape rule old_first old_second out stage.written s.lines stage.b_ended first second_now (Some fault) grown
       second_stops_by fault second_now stopped stops =
           let undecided : IfSome (good_coming b_left (view_of old_second)) (λ good. decided order a (member_items s.past_second) ≡ false) =
           if_known (good_coming b_left (view_of old_second)) (decided order a (member_items s.past_second) ≡ false)
@@ -378,21 +379,21 @@ module _ {A B O : Type 0} {g : Ghosts O} (a_left : A → Option (List ℕ)) (a_f
       fails_second fault second_now swept now turn =
           let p = passes_peek b_left b_failed b_end old_second s.past_second second s.second_passes turn.item second_now turn.ahead in
           let r = turn.item in
-          let more = lines_for shape a stage.taken in
+          let more = lines_for shape rule a stage.taken in
           let seen : stage.taken ++ r ∷ [] ≡ member_items s.past_second ++ option_to_list (record_ahead second_now) =
           ap (λ l. l ++ r ∷ []) s.all_taken ∙ ap (λ (o : Option (Member Feature)). member_items s.past_second ++ option_to_list (option_map (λ m. m.item) o)) (sym turn.ahead.gives.read.ahead) in
-          let known_a = is_known a_left a_failed a_end b_left b_failed b_end shape old_first old_second out total same_order first second sweep grown s a waits in
+          let known_a = is_known a_left a_failed a_end b_left b_failed b_end shape rule old_first old_second out total same_order first second sweep grown s a waits in
           let rises = rises_up b_left b_failed (view_of second) (view_of second_now) (record { line = turn.ahead.gives.line; item = r }) (view_of second).ahead refl turn.ahead.gives.read in
           let read : IsSome (good_coming b_left (view_of old_second)) → IsReadTo b_left b_failed b_end old_second s.past_second second_now =
           λ known. read_ahead b_left b_failed b_end old_second s.past_second second s.second_passes (s.near_second known) r second_now turn.ahead in
-          let peeked = settles_peeked a_left a_failed a_end b_left b_failed b_end shape old_first old_second out total same_order first second sweep grown s a waits r second_now turn.ahead in
-          elim (turn.fails shape stage a s.stands waits) [
+          let peeked = settles_peeked a_left a_failed a_end b_left b_failed b_end shape rule old_first old_second out total same_order first second sweep grown s a waits r second_now turn.ahead in
+          elim (turn.fails shape rule stage a s.stands waits (placed_taken a_left a_failed a_end b_left b_failed b_end shape rule old_first old_second out total same_order first second sweep grown s)) [
             | inl writes ↦ record {
               written = stage.written ++ a ∷ [];
               lines = s.lines ++ more;
               wrote = wrote_by s.past_second second_now second_now p (omega arith) p.bytes first s.first_passes.bytes (stage.written ++ a ∷ []) (s.lines ++ more) false now
-                  (λ known. subst (λ (l : List Feature). Settles order shape (stage.written ++ a ∷ []) (s.lines ++ more) l false) seen
-                  (settles_with order shape stage.written s.lines stage.taken a r (peeked known) writes.decides (before_lines order shape a r stage.taken total known_a writes.decides)))
+                  (λ known. subst (λ (l : List Feature). Settles order shape rule (stage.written ++ a ∷ []) (s.lines ++ more) l false) seen
+                  (settles_with order shape rule stage.written s.lines stage.taken a r (peeked known) writes.decides (before_lines order shape rule a r stage.taken total known_a writes.decides)))
                   begins_here (λ e. absurd (false≢true e)) (grows_both out.took grown.took now.took s.grows writes.fails.puts.grows);
               why = inr (inr (ap Some writes.fails.puts.is, cuts_more out grown now s.lines more fault s.puts writes.fails));
               near = near_second_by second_now now rises p.bytes writes.fails.puts.grows read;
@@ -402,7 +403,7 @@ module _ {A B O : Type 0} {g : Ghosts O} (a_left : A → Option (List ℕ)) (a_f
                   written = stage.written;
                   lines = s.lines;
                   wrote = wrote_by s.past_second second_now second_now p (omega arith) p.bytes first s.first_passes.bytes stage.written s.lines false grown
-                      (λ known. subst (λ (l : List Feature). Settles order shape stage.written s.lines l false) seen (peeked known))
+                      (λ known. subst (λ (l : List Feature). Settles order shape rule stage.written s.lines l false) seen (peeked known))
                       begins_now (λ e. absurd (false≢true e)) s.grows;
                   why = inr (inl (ap Some holds.is, puts_front out s.lines grown s.puts));
                   near = near_second_by second_now grown rises p.bytes no_more read;
@@ -413,17 +414,17 @@ module _ {A B O : Type 0} {g : Ghosts O} (a_left : A → Option (List ℕ)) (a_f
       pub fails_at_end : (fault : Told) (second_now : Records B O g) (swept : Sweeping) (now : Output) → FailsAtEnd b_left b_failed b_end order second sweep grown fault second_now swept now → Ends (Some fault) first second_now now
       fails_at_end fault second_now swept now turn =
           let p = passes_end b_left b_failed b_end old_second s.past_second second s.second_passes second_now turn.ended in
-          let fails = turn.fails shape stage a s.stands waits in
-          let more = lines_for shape a stage.taken in
+          let fails = turn.fails shape rule stage a s.stands waits (placed_taken a_left a_failed a_end b_left b_failed b_end shape rule old_first old_second out total same_order first second sweep grown s) in
+          let more = lines_for shape rule a stage.taken in
           let seen : stage.taken ≡ member_items s.past_second ++ option_to_list (record_ahead second_now) =
           s.all_taken ∙ sym (ap (λ (o : Option (Member Feature)). member_items s.past_second ++ option_to_list (option_map (λ m. m.item) o)) turn.ended.ends.none_ahead ∙ append-nil (member_items s.past_second)) in
           record {
             written = stage.written ++ a ∷ [];
             lines = s.lines ++ more;
             wrote = wrote_by s.past_second second_now second_now p (omega arith) p.bytes first s.first_passes.bytes (stage.written ++ a ∷ []) (s.lines ++ more) true now
-                (λ known. subst (λ (l : List Feature). Settles order shape (stage.written ++ a ∷ []) (s.lines ++ more) l true) seen
-                (settles_end order shape stage.written s.lines stage.taken false a
-                (settles_ended a_left a_failed a_end b_left b_failed b_end shape old_first old_second out total same_order first second sweep grown s a waits second_now turn.ended known)))
+                (λ known. subst (λ (l : List Feature). Settles order shape rule (stage.written ++ a ∷ []) (s.lines ++ more) l true) seen
+                (settles_end order shape rule stage.written s.lines stage.taken false a
+                (settles_ended a_left a_failed a_end b_left b_failed b_end shape rule old_first old_second out total same_order first second sweep grown s a waits second_now turn.ended known)))
                 begins_here (λ e. (passes_all b_left b_failed b_end old_second s.past_second second s.second_passes second_now turn.ended, turn.ended.ends.none_ahead))
                 (grows_both out.took grown.took now.took s.grows fails.puts.grows);
             why = inr (inr (ap Some fails.puts.is, cuts_more out grown now s.lines more fault s.puts fails));
@@ -442,9 +443,9 @@ module _ {A B O : Type 0} {g : Ghosts O} (a_left : A → Option (List ℕ)) (a_f
       all_done = sym (append-nil stage.written) ∙ ap (λ (o : Option Feature). stage.written ++ option_to_list o) (sym (s.first_all done).1) ∙ s.all_given
 
       rest_ends : (fault : Option Told) (second_now : Records B O g) (past : List (Member Feature))
-          → ((fault ≡ None) × AreAll b_left b_failed b_end old_second past × SecondServes a_left a_failed a_end b_left b_failed b_end order shape old_first old_second out second_now)
-          ⊎ ((other : Told) × (fault ≡ Some other) × SecondFails a_left a_failed a_end b_left b_failed b_end order shape old_first old_second out stage.b_ended past second_now other)
-          → Why a_left a_failed a_end b_left b_failed b_end order shape old_first old_second out stage.written s.lines stage.b_ended first second_now fault grown
+          → ((fault ≡ None) × AreAll b_left b_failed b_end old_second past × SecondServes a_left a_failed a_end b_left b_failed b_end order shape rule old_first old_second out second_now)
+          ⊎ ((other : Told) × (fault ≡ Some other) × SecondFails a_left a_failed a_end b_left b_failed b_end order shape rule old_first old_second out stage.b_ended past second_now other)
+          → Why a_left a_failed a_end b_left b_failed b_end order shape rule old_first old_second out stage.written s.lines stage.b_ended first second_now fault grown
       rest_ends fault second_now past rest = inl (
         inr (inr (record {
           past = s.past_first;
@@ -480,7 +481,7 @@ module _ {A B O : Type 0} {g : Ghosts O} (a_left : A → Option (List ℕ)) (a_f
       before_end fault second_now checks e = checks.before_end (s.second_all e).3
 
       finishes_by : (fault : Told) (second_now : Records B O g) → ChecksUpTo b_left b_failed b_end old_second s.past_second second fault second_now
-          → Why a_left a_failed a_end b_left b_failed b_end order shape old_first old_second out stage.written s.lines stage.b_ended first second_now (Some fault) grown
+          → Why a_left a_failed a_end b_left b_failed b_end order shape rule old_first old_second out stage.written s.lines stage.b_ended first second_now (Some fault) grown
       finishes_by fault second_now checks =
           elim checks.stops.cause [
             | inl wrong ↦ rest_ends (Some fault) second_now (s.past_second ++ checks.more) (inr (fault, refl, record { cause = inl wrong; before_end = before_end fault second_now checks }))
@@ -501,6 +502,6 @@ module _ {A B O : Type 0} {g : Ghosts O} (a_left : A → Option (List ℕ)) (a_f
       }
 
       pub finishes_both : {T : Type 0} (result : Result T Fault) (second_now : Records B O g) → ReadsOn b_left b_failed b_end second result second_now
-          → FinishesBoth a_left a_failed a_end b_left b_failed b_end order shape old_first old_second out result first second_now grown
+          → FinishesBoth a_left a_failed a_end b_left b_failed b_end order shape rule old_first old_second out result first second_now grown
       finishes_both (Ok _) second_now reads = finishes_all second_now (reads old_second s.past_second s.second_passes is_bed_second)
       finishes_both (Err fault) second_now reads = finishes_fault (told fault) second_now (reads old_second s.past_second s.second_passes is_bed_second)

@@ -22,6 +22,7 @@ use Rattle.bt_sweep.specs.Lines.{LinesBefore, lines_for}
 use Rattle.bt_sweep.specs.Standing.{IsInOrder, Stage, StandsAt, given, with_a, with_a_ended, with_b, with_b_ended, with_lines}
 use Rattle.bt_sweep.specs.Sweeping.{Sweeping, want_in, want_of}
 use Rattle.bt_sweep.specs.Sweeps.{sweep_rule}
+use Rattle.bt_sweep.specs.declared.hit_rule.HitRule.{HitRule}
 use Rattle.bt_sweep.specs.declared.shape.Shape.{Shape}
 use Rattle.bt_sweep.specs.declared.want.Want.TheVariants.{A as WantA, B as WantB, Nothing}
 use Rattle.bt_sweep.proofs.DecidingLemmas.{none_before}
@@ -68,7 +69,7 @@ grown_puts out old new lines more puts grown before e = text_grows old.put new.p
 grown_works : (old new : Output) (more : List ℕ) → Grown old more new → WorksAsBefore old new
 grown_works old new more grown = record { served = grown.served; sink_served = grown.sink_served; put = (more, grown.appends); block = grown.block }
 
-module _ (order : Order) (shape : Shape) where
+module _ (order : Order) (shape : Shape) (rule : HitRule) where
   -- one more record is decided and has these lines
   one_more : (rule : Rule Feature ℕ Told) (written : List Feature) (a : Feature) (lines more : List ℕ) → (list_all rule.decided written ≡ true) × (flat_map rule.lines written ≡ lines)
       → rule.decided a ≡ true → rule.lines a ≡ more → (list_all rule.decided (written ++ a ∷ []) ≡ true) × (flat_map rule.lines (written ++ a ∷ []) ≡ lines ++ more)
@@ -77,61 +78,61 @@ module _ (order : Order) (shape : Shape) where
     flat_map-append rule.lines written (a ∷ []) ∙ ap (λ l. l ++ flat_map rule.lines (a ∷ [])) was.1 ∙ ap (λ l. lines ++ l) (append-nil (rule.lines a) ∙ is),
   )
 
-  pub settles_nothing : (seen : List Feature) (ended : Bool) → Settles order shape [] [] seen ended
+  pub settles_nothing : (seen : List Feature) (ended : Bool) → Settles order shape rule [] [] seen ended
   settles_nothing seen ended = record { whatever = λ second fault placed may. (refl, refl) }
 
   -- one more record of the second input is seen
-  pub settles_seen : (written : List Feature) (lines : List ℕ) (seen more : List Feature) → Settles order shape written lines seen false → Settles order shape written lines (seen ++ more) false
+  pub settles_seen : (written : List Feature) (lines : List ℕ) (seen more : List Feature) → Settles order shape rule written lines seen false → Settles order shape rule written lines (seen ++ more) false
   settles_seen written lines seen more s = record {
     whatever = λ second fault placed may. s.whatever second fault placed
         (record { begins = (more ++ may.begins.0, may.begins.1 ∙ append_assoc seen more may.begins.0); all = λ e. absurd (false≢true e) });
   }
 
   -- a is decided by b
-  pub settles_with : (written : List Feature) (lines : List ℕ) (taken : List Feature) (a b : Feature) → Settles order shape written lines (taken ++ b ∷ []) false
-      → decides order a b ≡ true → LinesBefore order shape a taken b → Settles order shape (written ++ a ∷ []) (lines ++ lines_for shape a taken) (taken ++ b ∷ []) false
+  pub settles_with : (written : List Feature) (lines : List ℕ) (taken : List Feature) (a b : Feature) → Settles order shape rule written lines (taken ++ b ∷ []) false
+      → decides order a b ≡ true → LinesBefore order shape rule a taken b → Settles order shape rule (written ++ a ∷ []) (lines ++ lines_for shape rule a taken) (taken ++ b ∷ []) false
   settles_with written lines taken a b s d before = record {
     whatever = λ second fault placed may.
         let parts : second ≡ taken ++ b ∷ may.begins.0 = may.begins.1 ∙ append_assoc taken (b ∷ []) may.begins.0 in
         let here : decided order a second ≡ true =
         ap (λ (l : List Feature). decided order a l) parts ∙ list_any-append (decides order a) taken (b ∷ may.begins.0)
         ∙ or_right (decided order a taken) (decided order a (b ∷ may.begins.0)) (or_left (decides order a b) (decided order a may.begins.0) d) in
-        one_more (sweep_rule order shape second fault) written a lines (lines_for shape a taken) (s.whatever second fault placed may)
+        one_more (sweep_rule order shape rule second fault) written a lines (lines_for shape rule a taken) (s.whatever second fault placed may)
         (or_right (is_none fault) (decided order a second) here)
-        (ap (lines_for shape a) parts ∙ before may.begins.0 (subst (λ (l : List Feature). ArePlaced order (intervals_of l)) parts placed));
+        (ap (lines_for shape rule a) parts ∙ before may.begins.0 (subst (λ (l : List Feature). ArePlaced order (intervals_of l)) parts placed));
   }
 
   -- the second input has ended
-  pub settles_end : (written : List Feature) (lines : List ℕ) (taken : List Feature) (ended : Bool) (a : Feature) → Settles order shape written lines taken ended
-      → Settles order shape (written ++ a ∷ []) (lines ++ lines_for shape a taken) taken true
+  pub settles_end : (written : List Feature) (lines : List ℕ) (taken : List Feature) (ended : Bool) (a : Feature) → Settles order shape rule written lines taken ended
+      → Settles order shape rule (written ++ a ∷ []) (lines ++ lines_for shape rule a taken) taken true
   settles_end written lines taken ended a s = record {
     whatever = λ second fault placed may.
         let all = may.all refl in
-        one_more (sweep_rule order shape second fault) written a lines (lines_for shape a taken)
+        one_more (sweep_rule order shape rule second fault) written a lines (lines_for shape rule a taken)
         (s.whatever second fault placed (record { begins = may.begins; all = λ e. all }))
         (or_left (is_none fault) (decided order a second) (ap is_none all.1))
-        (ap (lines_for shape a) all.0);
+        (ap (lines_for shape rule a) all.0);
   }
 
   -- the record ahead is seen
   pub seen_by : {S State : Type 0} (left : S → Option (List ℕ)) (failed : S → Bool) (now new : MemberReader S Feature State) (m : Member Feature) (o : Option (Member Feature)) → now.ahead ≡ o → GivesMember left failed now m new
-      → (written : List Feature) (lines : List ℕ) (taken : List Feature) → Settles order shape written lines (taken ++ option_to_list (option_map (λ m. m.item) o)) false
-      → Settles order shape written lines (taken ++ m.item ∷ []) false
+      → (written : List Feature) (lines : List ℕ) (taken : List Feature) → Settles order shape rule written lines (taken ++ option_to_list (option_map (λ m. m.item) o)) false
+      → Settles order shape rule written lines (taken ++ m.item ∷ []) false
   seen_by left failed now new m None e gives written lines taken s =
-      settles_seen written lines taken (m.item ∷ []) (subst (λ (l : List Feature). Settles order shape written lines l false) (append-nil taken) s)
+      settles_seen written lines taken (m.item ∷ []) (subst (λ (l : List Feature). Settles order shape rule written lines l false) (append-nil taken) s)
   seen_by {S} {State} left failed now new m (Some x) e gives written lines taken s =
       let same : new ≡ now = gives.again (subst IsSome (sym e) refl) in
       let is : Some x ≡ Some m = sym e ∙ ap (λ (r : MemberReader S Feature State). r.ahead) (sym same) ∙ gives.ahead in
       let eq : x ≡ m = cc in
-      subst (λ (y : Member Feature). Settles order shape written lines (taken ++ y.item ∷ []) false) eq s
+      subst (λ (y : Member Feature). Settles order shape rule written lines (taken ++ y.item ∷ []) false) eq s
 
 module _ {A B O : Type 0} {g : Ghosts O} (a_left : A → Option (List ℕ)) (a_failed a_end : A → Bool) (b_left : B → Option (List ℕ)) (b_failed b_end : B → Bool)
-    (shape : Shape) (old_first : Records A O g) (old_second : Records B O g) (out : Output) (total : IsTotal (order_in old_first)) (same_order : order_in old_second ≡ order_in old_first) where
+    (shape : Shape) (rule : HitRule) (old_first : Records A O g) (old_second : Records B O g) (out : Output) (total : IsTotal (order_in old_first)) (same_order : order_in old_second ≡ order_in old_first) where
   abbrev order : Order
   order = order_in old_first
 
   abbrev Going : Records A O g → Records B O g → Sweeping → Output → Type 0
-  Going = Sweeps a_left a_failed a_end b_left b_failed b_end order shape old_first old_second out
+  Going = Sweeps a_left a_failed a_end b_left b_failed b_end order shape rule old_first old_second out
 
   module _ (first : Records A O g) (second : Records B O g) (sweep : Sweeping) (grown : Output) (s : Going first second sweep grown) where
     abbrev stage : Stage
@@ -177,8 +178,8 @@ module _ {A B O : Type 0} {g : Ghosts O} (a_left : A → Option (List ℕ)) (a_f
         }
 
       gave_by : (b : Bool) → stage.b_ended ≡ b → (first_now : Records A O g) (swept : Sweeping) (now : Output) → (turn : GivesFirst a_left a_failed a_end order first sweep grown first_now swept now)
-          → StandsAt order shape (cond b (record stage { written = stage.written ++ turn.item ∷ [] }) (record stage { waiting = Some turn.item })) swept
-          → Grown grown (cond b (lines_for shape turn.item stage.taken) []) now → Going first_now second swept now
+          → StandsAt order shape rule (cond b (record stage { written = stage.written ++ turn.item ∷ [] }) (record stage { waiting = Some turn.item })) swept
+          → Grown grown (cond b (lines_for shape rule turn.item stage.taken) []) now → Going first_now second swept now
       gave_by true e first_now swept now turn stands adds =
           let end = s.second_all e in
           let m = next turn.item turn.peeked turn.ahead in
@@ -194,15 +195,15 @@ module _ {A B O : Type 0} {g : Ghosts O} (a_left : A → Option (List ℕ)) (a_f
             stands = stands;
             all_given = given_with turn.item turn.peeked turn.ahead true ∙ all_next turn.item turn.peeked turn.ahead;
             all_taken = s.all_taken;
-            lines = s.lines ++ lines_for shape turn.item stage.taken;
-            settles = λ known. subst (λ (b : Bool). Settles order shape (stage.written ++ turn.item ∷ []) (s.lines ++ lines_for shape turn.item stage.taken) (stage.taken ++ option_to_list (record_ahead second)) b) (sym e)
-                (subst (λ (l : List Feature). Settles order shape (stage.written ++ turn.item ∷ []) (s.lines ++ lines_for shape turn.item stage.taken) l true) (sym seen)
-                (settles_end order shape stage.written s.lines stage.taken stage.b_ended turn.item (subst (λ (l : List Feature). Settles order shape stage.written s.lines l stage.b_ended) seen (s.settles known))));
+            lines = s.lines ++ lines_for shape rule turn.item stage.taken;
+            settles = λ known. subst (λ (b : Bool). Settles order shape rule (stage.written ++ turn.item ∷ []) (s.lines ++ lines_for shape rule turn.item stage.taken) (stage.taken ++ option_to_list (record_ahead second)) b) (sym e)
+                (subst (λ (l : List Feature). Settles order shape rule (stage.written ++ turn.item ∷ []) (s.lines ++ lines_for shape rule turn.item stage.taken) l true) (sym seen)
+                (settles_end order shape rule stage.written s.lines stage.taken stage.b_ended turn.item (subst (λ (l : List Feature). Settles order shape rule stage.written s.lines l stage.b_ended) seen (s.settles known))));
             is_open = inr (inl e);
             first_all = λ e. never_ended e;
             second_all = s.second_all;
-            puts = grown_puts out grown now s.lines (lines_for shape turn.item stage.taken) s.puts adds;
-            works = works_both out grown now s.works (grown_works grown now (lines_for shape turn.item stage.taken) adds);
+            puts = grown_puts out grown now s.lines (lines_for shape rule turn.item stage.taken) s.puts adds;
+            works = works_both out grown now s.works (grown_works grown now (lines_for shape rule turn.item stage.taken) adds);
             block = adds.block s.block;
             grows = grows_both out.took grown.took now.took s.grows adds.grows;
             near_first = λ asked. elim asked [
@@ -245,7 +246,7 @@ module _ {A B O : Type 0} {g : Ghosts O} (a_left : A → Option (List ℕ)) (a_f
       -- a record of the first input was given
       pub goes_first : (first_now : Records A O g) (swept : Sweeping) (now : Output) → GivesFirst a_left a_failed a_end order first sweep grown first_now swept now → Going first_now second swept now
       goes_first first_now swept now turn =
-          let gives = turn.given shape stage s.stands (ordered turn.item turn.peeked turn.ahead) in
+          let gives = turn.given shape rule stage s.stands (ordered turn.item turn.peeked turn.ahead) in
           gave_by stage.b_ended refl first_now swept now turn gives.0 gives.1
 
       -- and its end
@@ -259,7 +260,7 @@ module _ {A B O : Type 0} {g : Ghosts O} (a_left : A → Option (List ℕ)) (a_f
             none_ahead = turn.ended.ends.none_ahead;
             second_passes = s.second_passes;
             stage = with_a_ended stage;
-            stands = turn.given shape stage s.stands;
+            stands = turn.given shape rule stage s.stands;
             all_given = s.all_given;
             all_taken = s.all_taken;
             lines = s.lines;
@@ -311,15 +312,15 @@ module _ {A B O : Type 0} {g : Ghosts O} (a_left : A → Option (List ℕ)) (a_f
             (subst (λ (o : Order). ArePlaced o (intervals_of (member_items (s.past_second ++ next_second ∷ [])))) same_order
             (placed_next b_left b_failed b_end old_second s.past_second second s.second_passes r peeked ahead))
 
-        pub settles_peeked : IsSome (good_coming b_left (view_of old_second)) → Settles order shape stage.written s.lines (stage.taken ++ r ∷ []) false
+        pub settles_peeked : IsSome (good_coming b_left (view_of old_second)) → Settles order shape rule stage.written s.lines (stage.taken ++ r ∷ []) false
         settles_peeked known =
-            seen_by order shape b_left b_failed (view_of second) (view_of peeked) next_second (view_of second).ahead refl ahead.gives.read stage.written s.lines stage.taken
-            (subst (λ (b : Bool). Settles order shape stage.written s.lines (stage.taken ++ option_to_list (record_ahead second)) b) second_goes (s.settles known))
+            seen_by order shape rule b_left b_failed (view_of second) (view_of peeked) next_second (view_of second).ahead refl ahead.gives.read stage.written s.lines stage.taken
+            (subst (λ (b : Bool). Settles order shape rule stage.written s.lines (stage.taken ++ option_to_list (record_ahead second)) b) second_goes (s.settles known))
 
       -- a record of the second input was taken
       pub takes_second : (second_now : Records B O g) (swept : Sweeping) (now : Output) → TakesSecond b_left b_failed b_end order second sweep grown second_now swept now → Going first second_now swept now
       takes_second second_now swept now turn =
-          let takes = turn.given shape stage a s.stands waits in
+          let takes = turn.given shape rule stage a s.stands waits placed_taken in
           let r = turn.item in
           let none : option_to_list (record_ahead second_now) ≡ [] = ap (λ (o : Option (Member Feature)). option_to_list (option_map (λ m. m.item) o)) turn.passes.passes.none_ahead in
           let seen : (stage.taken ++ r ∷ []) ++ option_to_list (record_ahead second_now) ≡ stage.taken ++ r ∷ [] = ap (λ l. (stage.taken ++ r ∷ []) ++ l) none ∙ append-nil (stage.taken ++ r ∷ []) in
@@ -335,8 +336,8 @@ module _ {A B O : Type 0} {g : Ghosts O} (a_left : A → Option (List ℕ)) (a_f
             all_given = s.all_given;
             all_taken = taken_next r turn.peeked turn.ahead;
             lines = s.lines;
-            settles = λ known. subst (λ (b : Bool). Settles order shape stage.written s.lines ((stage.taken ++ r ∷ []) ++ option_to_list (record_ahead second_now)) b) (sym second_goes)
-                (subst (λ (l : List Feature). Settles order shape stage.written s.lines l false) (sym seen) (settles_peeked r turn.peeked turn.ahead known));
+            settles = λ known. subst (λ (b : Bool). Settles order shape rule stage.written s.lines ((stage.taken ++ r ∷ []) ++ option_to_list (record_ahead second_now)) b) (sym second_goes)
+                (subst (λ (l : List Feature). Settles order shape rule stage.written s.lines l false) (sym seen) (settles_peeked r turn.peeked turn.ahead known));
             is_open = inr (inr (subst (λ (w : Option Feature). IsOpenAt order w (stage.taken ++ r ∷ [])) (sym waits)
                 (none_before order a stage.taken r total is_known (placed_with r turn.peeked turn.ahead) takes.undecided)));
             first_all = λ e. first_waits e;
@@ -353,9 +354,9 @@ module _ {A B O : Type 0} {g : Ghosts O} (a_left : A → Option (List ℕ)) (a_f
       -- it made the lines of a be written
       pub leaves_second : (second_now : Records B O g) (swept : Sweeping) (now : Output) → LeavesSecond b_left b_failed b_end order second sweep grown second_now swept now → Going first second_now swept now
       leaves_second second_now swept now turn =
-          let writes = turn.given shape stage a s.stands waits in
+          let writes = turn.given shape rule stage a s.stands waits placed_taken in
           let r = turn.item in
-          let more = lines_for shape a stage.taken in
+          let more = lines_for shape rule a stage.taken in
           let seen : stage.taken ++ r ∷ [] ≡ stage.taken ++ option_to_list (record_ahead second_now) =
           ap (λ (o : Option (Member Feature)). stage.taken ++ option_to_list (option_map (λ m. m.item) o)) (sym turn.ahead.gives.read.ahead) in
           record {
@@ -369,10 +370,10 @@ module _ {A B O : Type 0} {g : Ghosts O} (a_left : A → Option (List ℕ)) (a_f
             all_given = append-nil (given stage) ∙ s.all_given;
             all_taken = s.all_taken;
             lines = s.lines ++ more;
-            settles = λ known. subst (λ (b : Bool). Settles order shape (given stage) (s.lines ++ more) (stage.taken ++ option_to_list (record_ahead second_now)) b) (sym second_goes)
-                (subst (λ (l : List Feature). Settles order shape (given stage) (s.lines ++ more) l false) seen
-                (subst (λ (w : List Feature). Settles order shape w (s.lines ++ more) (stage.taken ++ r ∷ []) false) (sym with_waiting)
-                (settles_with order shape stage.written s.lines stage.taken a r (settles_peeked r second_now turn.ahead known) writes.decides writes.settled)));
+            settles = λ known. subst (λ (b : Bool). Settles order shape rule (given stage) (s.lines ++ more) (stage.taken ++ option_to_list (record_ahead second_now)) b) (sym second_goes)
+                (subst (λ (l : List Feature). Settles order shape rule (given stage) (s.lines ++ more) l false) seen
+                (subst (λ (w : List Feature). Settles order shape rule w (s.lines ++ more) (stage.taken ++ r ∷ []) false) (sym with_waiting)
+                (settles_with order shape rule stage.written s.lines stage.taken a r (settles_peeked r second_now turn.ahead known) writes.decides writes.settled)));
             is_open = inl (ap is_some turn.ahead.gives.read.ahead);
             first_all = λ e. first_waits e;
             second_all = λ e. absurd (false≢true (sym second_goes ∙ e));
@@ -388,19 +389,19 @@ module _ {A B O : Type 0} {g : Ghosts O} (a_left : A → Option (List ℕ)) (a_f
           }
 
       -- where the second input has ended, nothing of it is ahead
-      pub settles_ended : (second_now : Records B O g) → HasEnded b_left b_failed b_end second second_now → IsSome (good_coming b_left (view_of old_second)) → Settles order shape stage.written s.lines stage.taken false
+      pub settles_ended : (second_now : Records B O g) → HasEnded b_left b_failed b_end second second_now → IsSome (good_coming b_left (view_of old_second)) → Settles order shape rule stage.written s.lines stage.taken false
       settles_ended second_now ended known =
           let none : (view_of second).ahead ≡ None = no_ahead_at_end b_left b_failed b_end old_second s.past_second second s.second_passes second_now ended known in
           let seen : stage.taken ++ option_to_list (record_ahead second) ≡ stage.taken =
           ap (λ (o : Option (Member Feature)). stage.taken ++ option_to_list (option_map (λ m. m.item) o)) none ∙ append-nil stage.taken in
-          subst (λ (l : List Feature). Settles order shape stage.written s.lines l false) seen
-          (subst (λ (b : Bool). Settles order shape stage.written s.lines (stage.taken ++ option_to_list (record_ahead second)) b) second_goes (s.settles known))
+          subst (λ (l : List Feature). Settles order shape rule stage.written s.lines l false) seen
+          (subst (λ (b : Bool). Settles order shape rule stage.written s.lines (stage.taken ++ option_to_list (record_ahead second)) b) second_goes (s.settles known))
 
       -- its end made them be written
       pub ends_second : (second_now : Records B O g) (swept : Sweeping) (now : Output) → EndsSecond b_left b_failed b_end order second sweep grown second_now swept now → Going first second_now swept now
       ends_second second_now swept now turn =
-          let ends = turn.given shape stage a s.stands waits in
-          let more = lines_for shape a stage.taken in
+          let ends = turn.given shape rule stage a s.stands waits placed_taken in
+          let more = lines_for shape rule a stage.taken in
           let seen : stage.taken ++ option_to_list (record_ahead second_now) ≡ stage.taken =
           ap (λ (o : Option (Member Feature)). stage.taken ++ option_to_list (option_map (λ m. m.item) o)) turn.ended.ends.none_ahead ∙ append-nil stage.taken in
           record {
@@ -414,9 +415,9 @@ module _ {A B O : Type 0} {g : Ghosts O} (a_left : A → Option (List ℕ)) (a_f
             all_given = append-nil (given stage) ∙ s.all_given;
             all_taken = s.all_taken;
             lines = s.lines ++ more;
-            settles = λ known. subst (λ (l : List Feature). Settles order shape (given stage) (s.lines ++ more) l true) (sym seen)
-                (subst (λ (w : List Feature). Settles order shape w (s.lines ++ more) stage.taken true) (sym with_waiting)
-                (settles_end order shape stage.written s.lines stage.taken false a (settles_ended second_now turn.ended known)));
+            settles = λ known. subst (λ (l : List Feature). Settles order shape rule (given stage) (s.lines ++ more) l true) (sym seen)
+                (subst (λ (w : List Feature). Settles order shape rule w (s.lines ++ more) stage.taken true) (sym with_waiting)
+                (settles_end order shape rule stage.written s.lines stage.taken false a (settles_ended second_now turn.ended known)));
             is_open = inr (inl refl);
             first_all = λ e. first_waits e;
             second_all = λ e. (passes_all b_left b_failed b_end old_second s.past_second second s.second_passes second_now turn.ended, refl, turn.ended.ends.none_ahead, turn.ended.ends.told);

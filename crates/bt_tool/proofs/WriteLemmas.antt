@@ -7,12 +7,14 @@ use Rattle.bt_lines.specs.Handed.{Handed, whole_text}
 use Rattle.bt_lines.specs.Lines.{TextLine, text_lines}
 use Rattle.bt_lines.specs.Output.{Output, block_size}
 use Rattle.bt_lines.specs.declared.fault.Input.TheVariants.{First}
+use Rattle.bt_lines.specs.declared.fault.Kind.{Kind}
 use Rattle.bt_bed.specs.Feature.{Feature, intervals_of}
 use Rattle.bt_bed.specs.Genome.{Entry, genome_names}
 use Rattle.bt_bed.specs.Good.{good, items_in}
 use Rattle.bt_bed.specs.GoodBed.{bed_format, bed_good}
 use Rattle.bt_bed.specs.Interval.{Interval, last_of}
 use Rattle.bt_bed.specs.IntervalLine.{interval_line, interval_lines}
+use Rattle.bt_bed.specs.LineKind.{is_bed_kind}
 use Rattle.bt_bed.specs.Order.{IsTotal}
 use Rattle.bt_bed.specs.Locus.{ArePlaced}
 use Rattle.bt_bed.specs.Rank.{AreDistinct}
@@ -44,7 +46,7 @@ lines_begin settled whole Taken begins past more taken =
     (interval_lines s.0, ap interval_lines s.1 ∙ flat_map-append interval_line (settled past) s.0)
 
 -- what a merge writes, chromosomes as they come
-abbrev pub merge_as_they_come : ℕ → MergeStrand → Written
+abbrev pub merge_as_they_come : ℕ → MergeStrand → Written Feature
 merge_as_they_come d strand = record {
   whole = λ records. interval_lines (merged_runs d strand records);
   settled = λ records. interval_lines (settled_runs d strand records);
@@ -61,11 +63,11 @@ unfolding settled_gaps
 complement_begins limit entries = refl
 
 -- a report in the place of an equal one
-pub writes_same : {A : Type 0} (left : A → Option (List ℕ)) (failed : A → Bool) (mine report : Handed → Report) (mine_settle settles : List TextLine → List ℕ)
+pub writes_same : {A : Type 0} (left : A → Option (List ℕ)) (failed : A → Bool) (kinds : Kind → Bool) (mine report : Handed → Report) (mine_settle settles : List TextLine → List ℕ)
     → ((handed : Handed) → mine handed ≡ report handed) → ((lines : List TextLine) → mine_settle lines ≡ settles lines)
-    → (first : A) (out : Output) (fault : Option Told) (new : A) (grown : Output) → WritesInput left failed mine mine_settle first out fault new grown
-    → WritesInput left failed report settles first out fault new grown
-writes_same left failed mine report mine_settle settles same same_settle first out fault new grown w = record {
+    → (first : A) (out : Output) (fault : Option Told) (new : A) (grown : Output) → WritesInput left failed kinds mine mine_settle first out fault new grown
+    → WritesInput left failed kinds report settles first out fault new grown
+writes_same left failed kinds mine report mine_settle settles same same_settle first out fault new grown w = record {
   whole = λ handed before reads put write memory. subst (λ r. IsReported r before fault grown) (same handed) (w.whole handed before reads put write memory);
   told = λ text before e put is. subst (λ r. IsReported r before fault grown) (same (whole_text text)) (w.told text before e put is);
   cut = λ is text before e put.
@@ -127,9 +129,9 @@ module _ (entries : List Entry) (distinct : AreDistinct (genome_names entries)) 
   pub merge_writes : {A : Type 0} (left : A → Option (List ℕ)) (failed : A → Bool) (command : Command) (d gap : ℕ) (strand counted : MergeStrand) → command ≡ Merge d strand → gap ≡ d → counted ≡ strand
       → (first : A) (out : Output) (fault : Option Told) (new : A) (grown : Output)
       → WritesRecords left failed (merge_as_they_come gap counted) (order_of entries) first out fault new grown
-      → WritesInput left failed (λ handed. command_report command entries handed None) (command_settles command entries None) first out fault new grown
+      → WritesInput left failed is_bed_kind (λ handed. command_report command entries handed None) (command_settles command entries None) first out fault new grown
   merge_writes left failed command d gap strand counted is same_gap same_strand =
-      writes_same left failed (records_report (merge_as_they_come gap counted) (order_of entries)) (λ handed. command_report command entries handed None)
+      writes_same left failed is_bed_kind (records_report (merge_as_they_come gap counted) (order_of entries)) (λ handed. command_report command entries handed None)
       (records_settle (merge_as_they_come gap counted) (order_of entries)) (command_settles command entries None)
       (λ handed. ap (λ n. records_report (merge_as_they_come n counted) (order_of entries) handed) same_gap
       ∙ ap (λ s. records_report (merge_as_they_come d s) (order_of entries) handed) same_strand
@@ -142,9 +144,9 @@ module _ (entries : List Entry) (distinct : AreDistinct (genome_names entries)) 
 pub complement_writes : {A : Type 0} (left : A → Option (List ℕ)) (failed : A → Bool) (command : Command) (entries mine : List Entry) (limit told : Bool) → command ≡ Complement limit → mine ≡ entries → told ≡ limit
     → (first : A) (out : Output) (fault : Option Told) (new : A) (grown : Output)
     → WritesRecords left failed (complement_written mine told) (order_of entries) first out fault new grown
-    → WritesInput left failed (λ handed. command_report command entries handed None) (command_settles command entries None) first out fault new grown
+    → WritesInput left failed is_bed_kind (λ handed. command_report command entries handed None) (command_settles command entries None) first out fault new grown
 complement_writes left failed command entries mine limit told is same_entries same_limit =
-    writes_same left failed (records_report (complement_written mine told) (order_of entries)) (λ handed. command_report command entries handed None)
+    writes_same left failed is_bed_kind (records_report (complement_written mine told) (order_of entries)) (λ handed. command_report command entries handed None)
     (records_settle (complement_written mine told) (order_of entries)) (command_settles command entries None)
     (λ handed. ap (λ es. records_report (complement_written es told) (order_of entries) handed) same_entries
     ∙ ap (λ l. records_report (complement_written entries l) (order_of entries) handed) same_limit ∙ ap (λ c. command_report c entries handed None) (sym is))

@@ -27,15 +27,15 @@ serves_none failed (Some source) = refl
 
 module _ {A B : Type 0} (a_left : A → Option (List ℕ)) (a_failed a_end : A → Bool) (b_left : B → Option (List ℕ)) (b_failed : B → Bool) where
   -- a command that doesn't look at a second input
-  module _ (second_kinds : Kind → Bool) (mine : Handed → Report) (mine_settle : List TextLine → List ℕ) (report : Handed → Option Handed → Report) (settles : Option Handed → List TextLine → List ℕ) (reaches : Option Handed → List TextLine → ℕ)
+  module _ (kinds second_kinds : Kind → Bool) (mine : Handed → Report) (mine_settle : List TextLine → List ℕ) (report : Handed → Option Handed → Report) (settles : Option Handed → List TextLine → List ℕ) (reaches : Option Handed → List TextLine → ℕ)
       (same : (one : Handed) (two : Option Handed) → mine one ≡ report one two) (same_settle : (two : Option Handed) → mine_settle ≡ settles two)
-      (first : A) (second : Option B) (out : Output) (fault : Option Told) (first_after : A) (grown : Output) (w : WritesInput a_left a_failed mine mine_settle first out fault first_after grown) where
-    named_alone : (t : Told) → TellsInput a_left a_failed is_bed_kind First first first_after t ⊎ TellsDevice grown.sink_has_failed t
-        → (TellsInput a_left a_failed is_bed_kind First first first_after t ⊎ TellsInputIf b_left b_failed second_kinds Second second second t) ⊎ TellsDevice grown.sink_has_failed t
+      (first : A) (second : Option B) (out : Output) (fault : Option Told) (first_after : A) (grown : Output) (w : WritesInput a_left a_failed kinds mine mine_settle first out fault first_after grown) where
+    named_alone : (t : Told) → TellsInput a_left a_failed kinds First first first_after t ⊎ TellsDevice grown.sink_has_failed t
+        → (TellsInput a_left a_failed kinds First first first_after t ⊎ TellsInputIf b_left b_failed second_kinds Second second second t) ⊎ TellsDevice grown.sink_has_failed t
     named_alone t (inl tells) = inl (inl tells)
     named_alone t (inr tells) = inr tells
 
-    pub alone_writes : WritesInputs a_left a_failed a_end b_left b_failed is_bed_kind second_kinds report settles reaches first second out fault first_after second grown
+    pub alone_writes : WritesInputs a_left a_failed a_end b_left b_failed kinds second_kinds report settles reaches first second out fault first_after second grown
     alone_writes = record {
       whole = λ one two before reads others put write memory. subst (λ r. IsReported r before fault grown) (same one two) (w.whole one before reads put write memory);
       told = λ one two before holds others put is.

@@ -15,7 +15,9 @@ use Rattle.bt_bed.specs.Order.{Order}
 use Rattle.bt_bed.specs.Sorting.{sorting_of}
 use Rattle.bt_sweep.specs.Deciding.{decides}
 use Rattle.bt_sweep.specs.Lines.{intersect}
+use Rattle.bt_sweep.specs.Subtract.{subtract, subtract_shape}
 use Rattle.bt_sweep.specs.Sweeps.{intersect_met}
+use Rattle.bt_sweep.specs.declared.hit_rule.HitRule.{HitRule}
 use Rattle.bt_sweep.specs.declared.shape.Shape.{Shape}
 use Rattle.bt_tool.specs.Driving.{IsOfInput, IsReported, ReadsNoFurther, TellsDevice, TellsInput}
 use Rattle.bt_tool.specs.Inputs.{HandsUpTo, Reads}
@@ -26,18 +28,27 @@ abbrev pub met_report : Met ℕ Told → Report
 met_report met = record { output = met.lines; fault = met.fault }
 
 -- the report of intersect on its inputs, in an order of their chromosomes
-abbrev pub intersect_report : Order → Shape → Handed → Handed → Report
-intersect_report order shape first second =
-    met_report (intersect_met order shape (bed_good First order first) (bed_good Second order second))
+abbrev pub intersect_report : Order → Shape → HitRule → Handed → Handed → Report
+intersect_report order shape rule first second =
+    met_report (intersect_met order shape rule (bed_good First order first) (bed_good Second order second))
 
 -- the good records on these lines of the first input
 abbrev pub records_on : Order → List TextLine → List Feature
 records_on order lines = items_in (good (bed_format (sorting_of order)) First lines)
 
 -- what the records on these lines make intersect write, against all of the second input
-abbrev pub intersect_settles : Order → Shape → Handed → List TextLine → List ℕ
-intersect_settles order shape second lines =
-    intersect shape (records_on order lines) (items_in (bed_good Second order second))
+abbrev pub intersect_settles : Order → Shape → HitRule → Handed → List TextLine → List ℕ
+intersect_settles order shape rule second lines =
+    intersect shape rule (records_on order lines) (items_in (bed_good Second order second))
+
+-- the report of subtract on its inputs: what is left in pieces, or of whole records
+abbrev pub subtract_report : Order → Bool → HitRule → Handed → Handed → Report
+subtract_report order whole rule = intersect_report order (subtract_shape whole) rule
+
+-- what is left of the records on these lines, by all of the second input
+abbrev pub subtract_settles : Order → Bool → HitRule → Handed → List TextLine → List ℕ
+subtract_settles order whole rule second lines =
+    subtract whole rule (records_on order lines) (items_in (bed_good Second order second))
 
 -- the first record that decides all of these, if there is one
 abbrev pub decider : Order → List Feature → List (Member Feature) → Option (Member Feature)
@@ -55,6 +66,10 @@ bytes_up_to lines (Some member) = bytes_in (take member.line lines)
 abbrev pub intersect_reaches : Order → Handed → List TextLine → ℕ
 intersect_reaches order second lines =
     bytes_up_to (text_lines second.text) (decider order (records_on order lines) (bed_good Second order second).members)
+
+-- subtract asks for as much of it
+abbrev pub subtract_reaches : Order → Handed → List TextLine → ℕ
+subtract_reaches = intersect_reaches
 
 module _ {A B : Type 0} (a_left : A → Option (List ℕ)) (a_failed a_end : A → Bool) (b_left : B → Option (List ℕ)) (b_failed : B → Bool) (report : Handed → Handed → Report) (settles : Handed → List TextLine → List ℕ) (reaches : Handed → List TextLine → ℕ) where
   -- two inputs were read, and what they make a command write was written: the report on what they hand over
@@ -92,6 +107,6 @@ module _ {A B : Type 0} (a_left : A → Option (List ℕ)) (a_failed a_end : A �
 
 -- two inputs were swept, in an order of their chromosomes
 abbrev pub Intersects : {A B : Type 0} → (A → Option (List ℕ)) → (A → Bool) → (A → Bool) → (B → Option (List ℕ)) → (B → Bool)
-    → Order → Shape → A → B → Output → Option Told → A → B → Output → Type 0
-Intersects a_left a_failed a_end b_left b_failed order shape =
-    WritesBoth a_left a_failed a_end b_left b_failed (intersect_report order shape) (intersect_settles order shape) (intersect_reaches order)
+    → Order → Shape → HitRule → A → B → Output → Option Told → A → B → Output → Type 0
+Intersects a_left a_failed a_end b_left b_failed order shape rule =
+    WritesBoth a_left a_failed a_end b_left b_failed (intersect_report order shape rule) (intersect_settles order shape rule) (intersect_reaches order)

@@ -1,4 +1,4 @@
--- What a command does with the records of an input, by what the input hands over.
+-- What a command does with the members of an input, by what the input hands over.
 use Rattle.std.specs.Prelude.{◌≡◌, ◌≢◌, ℕ, ◌+◌, ◌-◌, ◌^◌, ◌≤◌, ◌⊎◌, ⊤, Bool, true, List, [], ◌++◌, length, take, Option, Some, None, IfSome}
 use Rattle.std.specs.Io.KnownBytes.{Consumes}
 use Rattle.bt_lines.specs.Fault.{Told, read_failed, no_memory, write_failed}
@@ -8,6 +8,7 @@ use Rattle.bt_lines.specs.Output.{Output, IsFrontOf, Grows, block_size}
 use Rattle.bt_lines.specs.declared.fault.Input.{Input}
 use Rattle.bt_lines.specs.declared.fault.Input.TheVariants.{First}
 use Rattle.bt_lines.specs.declared.fault.Kind.{Kind}
+use Rattle.bt_bed.specs.Feature.{Feature}
 use Rattle.bt_bed.specs.LineKind.{fault_at_line, is_bed_kind}
 use Rattle.bt_bed.specs.Order.{Order}
 use Rattle.bt_tool.specs.Inputs.{Reads}
@@ -70,7 +71,7 @@ pub record ReadsNoFurther (Beside : List TextLine → Type 0) (settles : List Te
 abbrev pub IsReported : Report → List ℕ → Option Told → Output → Type 0
 IsReported report before fault grown = (fault ≡ report.fault) × (grown.put ≡ Some (before ++ report.output))
 
-module _ {A : Type 0} (left : A → Option (List ℕ)) (failed : A → Bool) (report : Handed → Report) (settles : List TextLine → List ℕ) where
+module _ {A : Type 0} (left : A → Option (List ℕ)) (failed : A → Bool) (kinds : Kind → Bool) (report : Handed → Report) (settles : List TextLine → List ℕ) where
   -- an input was read, and what it makes a command write was written: the report on what it hands over
   pub record WritesInput (first : A) (out : Output) (fault : Option Told) (new : A) (grown : Output) : Type 0 where
     -- no write and no growth failed: the report on what was handed over, also where a read failed
@@ -95,9 +96,9 @@ module _ {A : Type 0} (left : A → Option (List ℕ)) (failed : A → Bool) (re
         → ReadsNoFurther (λ lines. ⊤) settles text (left new) before grown.took
     -- what the fault may be, whatever the devices do
     pub named : (told : Told) → fault ≡ Some told
-        → TellsInput left failed is_bed_kind First first new told ⊎ TellsDevice grown.sink_has_failed told
+        → TellsInput left failed kinds First first new told ⊎ TellsDevice grown.sink_has_failed told
 
 -- the records of an input were read, in an order of their chromosomes
-abbrev pub WritesRecords : {A : Type 0} → (A → Option (List ℕ)) → (A → Bool) → Written → Order
+abbrev pub WritesRecords : {A : Type 0} → (A → Option (List ℕ)) → (A → Bool) → Written Feature → Order
     → A → Output → Option Told → A → Output → Type 0
-WritesRecords left failed written order = WritesInput left failed (records_report written order) (records_settle written order)
+WritesRecords left failed written order = WritesInput left failed is_bed_kind (records_report written order) (records_settle written order)

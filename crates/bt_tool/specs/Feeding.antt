@@ -1,4 +1,4 @@
--- What feeding an engine with the records of a reader does to the devices.
+-- What feeding an engine with the members of a reader does to the devices.
 use Rattle.std.specs.Prelude.{◌≡◌, ℕ, suc, ◌+◌, ◌^◌, ◌<◌, ◌≤◌, ◌⊎◌, All, Bool, true, List, [], ◌++◌, map, length, drop, take, Option, Some, None, Result, Ok, Err, IfSome, ⊤}
 use Rattle.bt_lines.specs.Fault.{Told, read_failed, no_memory, write_failed}
 use Rattle.bt_lines.specs.Lines.{bytes_in}
@@ -15,6 +15,7 @@ use Rattle.bt_bed.specs.GoodLines.{IsBeyond}
 use Rattle.bt_bed.specs.Interval.{AreNonEmpty}
 use Rattle.bt_bed.specs.LineKind.{fault_at_line, is_bed_kind}
 use Rattle.bt_bed.specs.Locus.{ArePlaced}
+use Rattle.bt_bed.specs.Order.{Order}
 use Rattle.bt_bed.specs.Reading.{MemberReader, good_coming}
 use Rattle.bt_bed.specs.Records.{below, order_in, view_of}
 use Rattle.bt_bed.specs.declared.order.ChromOrder.{Ghosts}
@@ -70,79 +71,88 @@ module _ {S A State : Type 0} (left : S → Option (List ℕ)) (end : S → Bool
     pub going : reader.fault ≡ None
     pub sound : IsSound left end reader.below
 
-module _ {S O : Type 0} {g : Ghosts O} (settled : List Feature → List ℕ) (left : S → Option (List ℕ)) (failed : S → Bool) where
-  -- these records were taken, in the order of the reader
-  pub record Took (old : Records S O g) (out : Output) (past : List (Member Feature)) (new : Records S O g) (grown : Output) : Type 0 where
-    pub order : order_in new ≡ order_in old
-    pub bytes : (bytes : List ℕ) × Hands left (below old) bytes (below new)
-    pub placed : ArePlaced (order_in old) (intervals_of (member_items past))
-    pub full : AreNonEmpty (intervals_of (member_items past))
+module _ {S A State : Type 0} (settled : List A → List ℕ) (kinds : Kind → Bool) (Sorted : List A → Type 0) (left : S → Option (List ℕ)) (failed : S → Bool) where
+  -- these members were taken
+  pub record Took (old : MemberReader S A State) (out : Output) (past : List (Member A)) (new : LineReader S) (grown : Output) : Type 0 where
+    pub bytes : (bytes : List ℕ) × Hands left old.below bytes new
+    -- they stand as the input's format has them
+    pub sorted : Sorted (member_items past)
     pub grows : Grows out.took grown.took
-    pub near : KeepsNear left settled (view_of old) out (below new) grown
+    pub near : KeepsNear left settled old out new grown
 
-  -- all records were taken, and the engine stands after them
-  pub record FeedsAll (Stands : List Feature → Type 0) (old : Records S O g) (out : Output) (new : Records S O g) (grown : Output) : Type 0 where
-    pub past : List (Member Feature)
+  -- all members were taken, and the engine stands after them
+  pub record FeedsAll (Stands : List A → Type 0) (old : MemberReader S A State) (out : Output) (new : LineReader S) (grown : Output) : Type 0 where
+    pub past : List (Member A)
     pub took : Took old out past new grown
-    pub whole : IfSome (good_coming left (view_of old)) (λ good. (good.members ≡ past) × (good.fault ≡ None))
+    pub whole : IfSome (good_coming left old) (λ good. (good.members ≡ past) × (good.fault ≡ None))
     pub stands : Stands (member_items past)
     pub puts : PutsLines out (settled (member_items past)) grown
     pub works : WorksAsBefore out grown
-    pub served : failed (source_of (below new)) ≡ failed (source_of (below old))
-    pub within : bytes_taken (below new) < 2 ^ 63
+    pub served : failed (source_of new) ≡ failed (source_of old.below)
+    pub within : bytes_taken new < 2 ^ 63
 
   -- a line is at fault
-  pub record StopsAtLine (old : Records S O g) (out : Output) (past : List (Member Feature)) (fault : Told) (new : Records S O g) (grown : Output) : Type 0 where
-    pub whole : IfSome (good_coming left (view_of old)) (λ good. (good.members ≡ past) × (good.fault ≡ Some fault))
+  pub record StopsAtLine (old : MemberReader S A State) (out : Output) (past : List (Member A)) (fault : Told) (new : LineReader S) (grown : Output) : Type 0 where
+    pub whole : IfSome (good_coming left old) (λ good. (good.members ≡ past) × (good.fault ≡ Some fault))
     pub line : ℕ
     pub kind : Kind
-    pub is : fault ≡ fault_at_line (input_of (below old)) line kind
-    pub of_bed : is_bed_kind kind ≡ true
+    pub is : fault ≡ fault_at_line (input_of old.below) line kind
+    pub of_kind : kinds kind ≡ true
     pub puts : PutsLines out (settled (member_items past)) grown
     pub works : WorksAsBefore out grown
-    pub served : failed (source_of (below new)) ≡ failed (source_of (below old))
-    pub within : bytes_taken (below new) < 2 ^ 63
+    pub served : failed (source_of new) ≡ failed (source_of old.below)
+    pub within : bytes_taken new < 2 ^ 63
 
   -- the source failed, or its text is too long: behind the lines that were given
-  pub record StopsReading (old : Records S O g) (out : Output) (past : List (Member Feature)) (fault : Told) (new : Records S O g) (grown : Output) : Type 0 where
-    pub is : fault ≡ read_failed (input_of (below old)) (suc (lines_given (below new)))
-    pub cause : (failed (source_of (below new)) ≡ true) ⊎ (2 ^ 63 ≤ bytes_taken (below new))
-    pub cut : CutsOff left (below old) (below new)
-    -- the lines given have these records, and none of them is at fault
-    pub members : IfSome (good_coming left (view_of old)) (λ good. (rest : List (Member Feature))
+  pub record StopsReading (old : MemberReader S A State) (out : Output) (past : List (Member A)) (fault : Told) (new : LineReader S) (grown : Output) : Type 0 where
+    pub is : fault ≡ read_failed (input_of old.below) (suc (lines_given new))
+    pub cause : (failed (source_of new) ≡ true) ⊎ (2 ^ 63 ≤ bytes_taken new)
+    pub cut : CutsOff left old.below new
+    -- the lines given have these members, and none of them is at fault
+    pub members : IfSome (good_coming left old) (λ good. (rest : List (Member A))
         × (good.members ≡ past ++ rest)
-        × IsBeyond (lines_given (below new)) (record { members = rest; fault = good.fault }))
-    pub behind : All (λ m. m.line ≤ lines_given (below new)) past
+        × IsBeyond (lines_given new) (record { members = rest; fault = good.fault }))
+    pub behind : All (λ m. m.line ≤ lines_given new) past
     pub puts : PutsLines out (settled (member_items past)) grown
     pub works : WorksAsBefore out grown
 
   -- memory ran out
-  pub record StopsGrowing (old : Records S O g) (out : Output) (past : List (Member Feature)) (fault : Told) (new : Records S O g) (grown : Output) : Type 0 where
+  pub record StopsGrowing (old : MemberReader S A State) (out : Output) (past : List (Member A)) (fault : Told) (new : LineReader S) (grown : Output) : Type 0 where
     pub is : fault ≡ no_memory
     pub puts : PutsFront out (settled (member_items past)) grown
     pub works : WorksAsBefore out grown
-    pub served : failed (source_of (below new)) ≡ failed (source_of (below old))
+    pub served : failed (source_of new) ≡ failed (source_of old.below)
 
   -- the sink failed
-  pub record StopsWriting (old : Records S O g) (out : Output) (past : List (Member Feature)) (fault : Told) (new : Records S O g) (grown : Output) : Type 0 where
+  pub record StopsWriting (old : MemberReader S A State) (out : Output) (past : List (Member A)) (fault : Told) (new : LineReader S) (grown : Output) : Type 0 where
     pub is : fault ≡ write_failed
     pub cuts : CutsLines out (settled (member_items past)) grown
-    pub served : failed (source_of (below new)) ≡ failed (source_of (below old))
+    pub served : failed (source_of new) ≡ failed (source_of old.below)
 
-  -- why the records weren't all taken
-  abbrev pub StopCause : Records S O g → Output → List (Member Feature) → Told → Records S O g → Output → Type 0
+  -- why the members weren't all taken
+  abbrev pub StopCause : MemberReader S A State → Output → List (Member A) → Told → LineReader S → Output → Type 0
   StopCause old out past fault new grown =
       (StopsAtLine old out past fault new grown ⊎ StopsReading old out past fault new grown)
       ⊎ (StopsGrowing old out past fault new grown ⊎ StopsWriting old out past fault new grown)
 
-  -- the records were taken up to a fault
-  pub record FeedsUpTo (old : Records S O g) (out : Output) (fault : Told) (new : Records S O g) (grown : Output) : Type 0 where
-    pub past : List (Member Feature)
+  -- the members were taken up to a fault
+  pub record FeedsUpTo (old : MemberReader S A State) (out : Output) (fault : Told) (new : LineReader S) (grown : Output) : Type 0 where
+    pub past : List (Member A)
     pub took : Took old out past new grown
-    pub begins : IfSome (good_coming left (view_of old)) (λ good. (rest : List (Member Feature)) × (good.members ≡ past ++ rest))
+    pub begins : IfSome (good_coming left old) (λ good. (rest : List (Member A)) × (good.members ≡ past ++ rest))
     pub cause : StopCause old out past fault new grown
 
+  -- what feeding an engine with all members does
+  abbrev pub FeedsMembers : {T : Type 0} → (List A → Type 0) → MemberReader S A State → Output → Result T Fault → LineReader S → Output → Type 0
+  FeedsMembers Stands old out (Ok done) new grown = FeedsAll Stands old out new grown
+  FeedsMembers Stands old out (Err fault) new grown = FeedsUpTo old out (told fault) new grown
+
+-- records stand in the order of their chromosomes, and each has a base
+abbrev pub AreInOrder : Order → List Feature → Type 0
+AreInOrder order records = ArePlaced order (intervals_of records) × AreNonEmpty (intervals_of records)
+
+module _ {S O : Type 0} {g : Ghosts O} (settled : List Feature → List ℕ) (left : S → Option (List ℕ)) (failed : S → Bool) where
   -- what feeding an engine with all records does
-  abbrev pub FeedsRecords : {A : Type 0} → (List Feature → Type 0) → Records S O g → Output → Result A Fault → Records S O g → Output → Type 0
-  FeedsRecords Stands old out (Ok done) new grown = FeedsAll Stands old out new grown
-  FeedsRecords Stands old out (Err fault) new grown = FeedsUpTo old out (told fault) new grown
+  abbrev pub FeedsRecords : {T : Type 0} → (List Feature → Type 0) → Records S O g → Output → Result T Fault → Records S O g → Output → Type 0
+  FeedsRecords Stands old out answer new grown =
+      FeedsMembers settled is_bed_kind (AreInOrder (order_in old)) left failed Stands (view_of old) out answer (below new) grown

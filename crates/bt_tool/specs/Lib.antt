@@ -1,3 +1,4 @@
+pub mod Fraction
 pub mod Items
 pub mod ItemLent
 pub mod Given
@@ -16,6 +17,8 @@ pub mod RecordReport
 pub mod Flushing
 pub mod Feeding
 pub mod Driving
+pub mod Converted
+pub mod Converting
 pub mod Writing
 pub mod Both
 pub mod Turns

@@ -1,11 +1,14 @@
 -- The limits of the numbers of a plan.
 use Rattle.std.specs.Prelude.{Bool, true, nat_le}
 use Rattle.bt_lines.specs.Number.{max_number}
+use Rattle.bt_tool.specs.Fraction.{one_in_billionths}
 use Rattle.bt_tool.specs.declared.plan_type.Command.{Command}
-use Rattle.bt_tool.specs.declared.plan_type.Command.TheVariants.{Merge, Complement, Intersect}
+use Rattle.bt_tool.specs.declared.plan_type.Command.TheVariants.{Merge, Complement, Intersect, Subtract, BamToBed}
 
 -- whether the numbers of a command are within their limits
 abbrev pub is_within_limits : Command → Bool
 is_within_limits (Merge d strand) = nat_le d max_number
 is_within_limits (Complement limit) = true
-is_within_limits (Intersect shape) = true
+is_within_limits (Intersect shape rule) = nat_le rule.billionths one_in_billionths
+is_within_limits (Subtract whole rule) = nat_le rule.billionths one_in_billionths
+is_within_limits (BamToBed split cigar) = true

@@ -6,13 +6,15 @@ use Rattle.bt_bed.specs.Record.{strand_named}
 use Rattle.bt_lines.specs.Number.{value_of as number_of}
 use Rattle.bt_runs.specs.declared.merge_strand.MergeStrand.{MergeStrand}
 use Rattle.bt_runs.specs.declared.merge_strand.MergeStrand.TheVariants.{All, One}
+use Rattle.bt_sweep.specs.declared.hit_rule.HitRule.{HitRule}
 use Rattle.bt_sweep.specs.declared.shape.Shape.{Shape}
 use Rattle.bt_sweep.specs.declared.shape.Shape.TheVariants.{Cut, OrigA, CutAndB, OrigBoth, Overlap, Once, Missing, Count}
 use Rattle.bt_tool.specs.declared.plan_type.Command.{Command}
-use Rattle.bt_tool.specs.declared.plan_type.Command.TheVariants.{Merge as MergeWith, Complement as ComplementWith, Intersect as IntersectWith}
+use Rattle.bt_tool.specs.declared.plan_type.Command.TheVariants.{Merge as MergeWith, Complement as ComplementWith, Intersect as IntersectWith, Subtract as SubtractWith, BamToBed as BamToBedWith}
 use Rattle.bt_tool.specs.declared.tool.Tool.{Tool}
-use Rattle.bt_tool.specs.declared.tool.Tool.TheVariants.{Merge, Complement, Intersect}
+use Rattle.bt_tool.specs.declared.tool.Tool.TheVariants.{Merge, Complement, Intersect, Subtract, BamToBed}
 use Rattle.bt_tool.specs.declared.usage.Usage.{Usage}
+use Rattle.bt_tool.specs.Fraction.{fraction_of}
 use Rattle.bt_tool.specs.Items.{Item, IsLongestDivision, items_of, spelled}
 use Rattle.bt_tool.specs.Table.{Word, Table, command_named, table_of, takes}
 use Rattle.bt_tool.specs.Usage.{no_command, unknown_option, value_missing, bad_value, required_missing, options_exclusive, input_named_twice}
@@ -82,6 +84,18 @@ strand_by (Some word) = One (strand_named word)
 abbrev pub number_by : Option Word → ℕ
 number_by value = unwrap_or (option_and_then number_of value) 0
 
+-- the fraction that the value of an option denotes, in billionths, 0 without one
+abbrev pub billionths_by : Option Word → ℕ
+billionths_by value = unwrap_or (option_and_then fraction_of value) 0
+
+-- what makes a hit: the fraction of -f, of both records or of the first alone, and equal strands with -s
+abbrev pub rule_by : List Item → Bool → HitRule
+rule_by items both = record {
+  billionths = billionths_by (value_of items (codes "-f"));
+  both = both;
+  same_strand = is_given items (codes "-s");
+}
+
 -- the shape of what intersect writes, by -wa and -wb alone: a hit's own part of the record or the record, and what hits it
 abbrev pub hit_shape : Bool → Bool → Shape
 hit_shape false false = Cut
@@ -101,7 +115,9 @@ shape_by items = if is_given items (codes "-u") then Once
 abbrev pub command_by : Tool → List Item → Command
 command_by Merge items = MergeWith (number_by (value_of items (codes "-d"))) (strand_by (value_of items (codes "-S")))
 command_by Complement items = ComplementWith (is_given items (codes "-L"))
-command_by Intersect items = IntersectWith (shape_by items)
+command_by Intersect items = IntersectWith (shape_by items) (rule_by items (is_given items (codes "-r")))
+command_by Subtract items = SubtractWith (is_given items (codes "-A")) (rule_by items false)
+command_by BamToBed items = BamToBedWith (is_given items (codes "-split")) (is_given items (codes "-cigar"))
 
 -- the names of the inputs and of the output, as the items give them
 pub record Named : Type 0 where

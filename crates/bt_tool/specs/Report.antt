@@ -9,15 +9,17 @@ use Rattle.bt_lines.specs.declared.fault.Kind.{Kind}
 use Rattle.bt_bed.specs.LineKind.{is_bed_kind}
 use Rattle.bt_bed.specs.Order.{Order}
 use Rattle.bt_bed.specs.Rank.{rank_order}
+use Rattle.bt_seq.specs.SamKind.{is_sam_kind}
+use Rattle.bt_tool.specs.Converted.{bamtobed_report, bamtobed_settles}
 use Rattle.bt_tool.specs.Inputs.{Inputs}
 use Rattle.bt_tool.specs.Options.{PlanSeen, options}
 use Rattle.bt_tool.specs.Table.{Word, tool_name, tool_of}
 use Rattle.bt_tool.specs.Usage.{usage_text}
-use Rattle.bt_tool.specs.Both.{intersect_reaches, intersect_report, intersect_settles}
+use Rattle.bt_tool.specs.Both.{intersect_reaches, intersect_report, intersect_settles, subtract_reaches, subtract_report, subtract_settles}
 use Rattle.bt_tool.specs.RecordReport.{Report, records_report, records_settle}
 use Rattle.bt_tool.specs.Written.{complement_written, merge_written}
 use Rattle.bt_tool.specs.declared.plan_type.Command.{Command}
-use Rattle.bt_tool.specs.declared.plan_type.Command.TheVariants.{Merge, Complement, Intersect}
+use Rattle.bt_tool.specs.declared.plan_type.Command.TheVariants.{Merge, Complement, Intersect, Subtract, BamToBed}
 use Rattle.bt_tool.specs.declared.usage.Usage.{Usage}
 use Rattle.bt_tool.specs.declared.usage.Refusal.{Refusal}
 use Rattle.bt_tool.specs.declared.usage.Refusal.TheVariants.{Usage as InWords, NoMemory}
@@ -36,8 +38,11 @@ command_report (Merge d strand) entries first second =
     records_report (merge_written entries d strand) (order_of entries) first
 command_report (Complement limit) entries first second =
     records_report (complement_written entries limit) (order_of entries) first
-command_report (Intersect shape) entries first second =
-    intersect_report (order_of entries) shape first (or_empty second)
+command_report (Intersect shape rule) entries first second =
+    intersect_report (order_of entries) shape rule first (or_empty second)
+command_report (Subtract whole rule) entries first second =
+    subtract_report (order_of entries) whole rule first (or_empty second)
+command_report (BamToBed split cigar) entries first second = bamtobed_report split cigar first
 
 -- what the first lines of the first input settle
 abbrev pub command_settles : Command → List Entry → Option Handed → List TextLine → List ℕ
@@ -45,20 +50,27 @@ command_settles (Merge d strand) entries second lines =
     records_settle (merge_written entries d strand) (order_of entries) lines
 command_settles (Complement limit) entries second lines =
     records_settle (complement_written entries limit) (order_of entries) lines
-command_settles (Intersect shape) entries second lines =
-    intersect_settles (order_of entries) shape (or_empty second) lines
+command_settles (Intersect shape rule) entries second lines =
+    intersect_settles (order_of entries) shape rule (or_empty second) lines
+command_settles (Subtract whole rule) entries second lines =
+    subtract_settles (order_of entries) whole rule (or_empty second) lines
+command_settles (BamToBed split cigar) entries second lines = bamtobed_settles split cigar lines
 
 -- the kinds of fault that a line of a command's first input can have
 abbrev pub first_kinds : Command → Kind → Bool
 first_kinds (Merge d strand) kind = is_bed_kind kind
 first_kinds (Complement limit) kind = is_bed_kind kind
-first_kinds (Intersect shape) kind = is_bed_kind kind
+first_kinds (Intersect shape rule) kind = is_bed_kind kind
+first_kinds (Subtract whole rule) kind = is_bed_kind kind
+first_kinds (BamToBed split cigar) kind = is_sam_kind kind
 
 -- and one of its second input
 abbrev pub second_kinds : Command → Kind → Bool
 second_kinds (Merge d strand) kind = false
 second_kinds (Complement limit) kind = false
-second_kinds (Intersect shape) kind = is_bed_kind kind
+second_kinds (Intersect shape rule) kind = is_bed_kind kind
+second_kinds (Subtract whole rule) kind = is_bed_kind kind
+second_kinds (BamToBed split cigar) kind = false
 
 -- the chromosomes of the genome file, or its fault; without a genome file no chromosome is known
 abbrev pub chromosomes_of : Option Handed → Result (List Entry) Told
@@ -84,8 +96,11 @@ settles_on command (Ok entries) second lines = command_settles command entries s
 abbrev pub command_reaches : Command → List Entry → Option Handed → List TextLine → ℕ
 command_reaches (Merge d strand) entries second lines = 0
 command_reaches (Complement limit) entries second lines = 0
-command_reaches (Intersect shape) entries second lines =
+command_reaches (Intersect shape rule) entries second lines =
     intersect_reaches (order_of entries) (or_empty second) lines
+command_reaches (Subtract whole rule) entries second lines =
+    subtract_reaches (order_of entries) (or_empty second) lines
+command_reaches (BamToBed split cigar) entries second lines = 0
 
 -- the same by the genome file: after its fault nothing is asked for
 abbrev pub reaches_on : Command → Result (List Entry) Told → Option Handed → List TextLine → ℕ

@@ -24,6 +24,7 @@ use Rattle.bt_sweep.specs.Standing.{Stage, StandsAt, given, leaves_some}
 use Rattle.bt_sweep.specs.Sweeping.{Sweeping, want_in}
 use Rattle.bt_sweep.specs.declared.want.Want.TheVariants.{Nothing}
 use Rattle.bt_sweep.specs.Sweeps.{sweep_rule}
+use Rattle.bt_sweep.specs.declared.hit_rule.HitRule.{HitRule}
 use Rattle.bt_sweep.specs.declared.shape.Shape.{Shape}
 use Rattle.bt_tool.specs.Feeding.{CutsLines, PutsFront, PutsLines, TookButBlock, member_items}
 use Rattle.bt_tool.specs.Passing.{AreAll, IsReadFor, IsReadTo, IsUnreadBehind, IsWrongBehind, Passes, StopsAfter}
@@ -34,12 +35,12 @@ pub record MayCome (seen : List Feature) (ended : Bool) (second : List Feature) 
   pub begins : (more : List Feature) × (second ≡ seen ++ more)
   pub all : ended ≡ true → (second ≡ seen) × (fault ≡ None)
 
-module _ (order : Order) (shape : Shape) where
+module _ (order : Order) (shape : Shape) (rule : HitRule) where
   -- whatever the second input still has, these records are decided and have these lines
   pub record Settles (written : List Feature) (lines : List ℕ) (seen : List Feature) (ended : Bool) : Type 0 where
     pub whatever : (second : List Feature) (fault : Option Told) → ArePlaced order (intervals_of second) → MayCome seen ended second fault
-        → (list_all (sweep_rule order shape second fault).decided written ≡ true)
-        × (flat_map (sweep_rule order shape second fault).lines written ≡ lines)
+        → (list_all (sweep_rule order shape rule second fault).decided written ≡ true)
+        × (flat_map (sweep_rule order shape rule second fault).lines written ≡ lines)
 
 -- the waiting record is undecided; where none waits, none was taken yet
 abbrev pub IsOpenAt : Order → Option Feature → List Feature → Type 0
@@ -51,7 +52,7 @@ abbrev pub IsOpen : Order → Bool → Bool → Option Feature → List Feature 
 IsOpen order ahead ended waiting taken = (ahead ≡ true) ⊎ ((ended ≡ true) ⊎ IsOpenAt order waiting taken)
 
 module _ {A B O : Type 0} {g : Ghosts O} (a_left : A → Option (List ℕ)) (a_failed a_end : A → Bool) (b_left : B → Option (List ℕ)) (b_failed b_end : B → Bool)
-    (order : Order) (shape : Shape) (old_first : Records A O g) (old_second : Records B O g) (out : Output) where
+    (order : Order) (shape : Shape) (rule : HitRule) (old_first : Records A O g) (old_second : Records B O g) (out : Output) where
   -- the records so far were given
   pub record Sweeps (first : Records A O g) (second : Records B O g) (sweep : Sweeping) (grown : Output) : Type 0 where
     pub past_first : List (Member Feature)
@@ -60,11 +61,11 @@ module _ {A B O : Type 0} {g : Ghosts O} (a_left : A → Option (List ℕ)) (a_f
     pub none_ahead : (view_of first).ahead ≡ None
     pub second_passes : Passes b_left b_failed b_end old_second past_second second
     pub stage : Stage
-    pub stands : StandsAt order shape stage sweep
+    pub stands : StandsAt order shape rule stage sweep
     pub all_given : given stage ≡ member_items past_first
     pub all_taken : stage.taken ≡ member_items past_second
     pub lines : List ℕ
-    pub settles : IsSome (good_coming b_left (view_of old_second)) → Settles order shape stage.written lines (stage.taken ++ option_to_list (record_ahead second)) stage.b_ended
+    pub settles : IsSome (good_coming b_left (view_of old_second)) → Settles order shape rule stage.written lines (stage.taken ++ option_to_list (record_ahead second)) stage.b_ended
     pub is_open : IsOpen order (is_some (view_of second).ahead) stage.b_ended stage.waiting stage.taken
     pub first_all : stage.a_ended ≡ true → AreAll a_left a_failed a_end old_first past_first × (stage.waiting ≡ None) × (end_told (below first) ≡ true)
     pub second_all : stage.b_ended ≡ true → AreAll b_left b_failed b_end old_second past_second × (stage.waiting ≡ None)
@@ -82,7 +83,7 @@ module _ {A B O : Type 0} {g : Ghosts O} (a_left : A → Option (List ℕ)) (a_f
   pub record Wrote (written : List Feature) (lines : List ℕ) (first : Records A O g) (second : Records B O g) (grown : Output) : Type 0 where
     pub seen : List (Member Feature)
     pub ended : Bool
-    pub settles : IsSome (good_coming b_left (view_of old_second)) → Settles order shape written lines (member_items seen) ended
+    pub settles : IsSome (good_coming b_left (view_of old_second)) → Settles order shape rule written lines (member_items seen) ended
     pub first_begins : IfSome (good_coming a_left (view_of old_first)) (λ good. (rest : List Feature) × (items_in good ≡ written ++ rest))
     pub second_begins : IfSome (good_coming b_left (view_of old_second)) (λ good. (rest : List (Member Feature)) × (good.members ≡ seen ++ rest))
     pub low : All (λ m. m.line ≤ lines_given (below second)) seen

@@ -5,24 +5,26 @@ use Rattle.std.specs.Prelude.{ℕ, Bool, false, true, ◌||◌, List, [], ◌∷
 use Rattle.std.specs.List.{list_any}
 use Rattle.std.specs.Option.{option_map_or}
 use Rattle.bt_lines.specs.Number.{value_of as number_of}
+use Rattle.bt_tool.specs.Fraction.{fraction_of}
 use Rattle.bt_tool.specs.declared.plan_type.Command.{Command}
-use Rattle.bt_tool.specs.declared.plan_type.Command.TheVariants.{Merge as MergeWith, Complement as ComplementWith, Intersect as IntersectWith}
+use Rattle.bt_tool.specs.declared.plan_type.Command.TheVariants.{Merge as MergeWith, Complement as ComplementWith, Intersect as IntersectWith, Subtract as SubtractWith, BamToBed as BamToBedWith}
 use Rattle.bt_tool.specs.declared.takes.Takes.{Takes}
-use Rattle.bt_tool.specs.declared.takes.Takes.TheVariants.{Nothing, FileName, Number, Strand}
+use Rattle.bt_tool.specs.declared.takes.Takes.TheVariants.{Nothing, FileName, Number, Fraction, Strand}
 use Rattle.bt_tool.specs.declared.tool.Tool.{Tool}
-use Rattle.bt_tool.specs.declared.tool.Tool.TheVariants.{Merge, Complement, Intersect}
+use Rattle.bt_tool.specs.declared.tool.Tool.TheVariants.{Merge, Complement, Intersect, Subtract, BamToBed}
 
 -- a word of the command line, as its bytes
 abbrev pub Word : Type 0
 Word = List ℕ
 
--- whether an option may stand with this value, or without one: a file name isn't empty, a number is one of bt_lines, and a strand is `+` or `-`
+-- whether an option may stand with this value, or without one: a file name isn't empty, a number is one of bt_lines, a fraction is at most 1, and a strand is `+` or `-`
 abbrev pub fits : Takes → Option Word → Bool
 fits Nothing None = true
 fits Nothing (Some value) = false
 fits takes None = false
 fits FileName (Some value) = nat_lt 0 (length value)
 fits Number (Some value) = is_some (number_of value)
+fits Fraction (Some value) = is_some (fraction_of value)
 fits Strand (Some value) = bytes_eq value (codes "+") || bytes_eq value (codes "-")
 
 -- an option of a command
@@ -103,6 +105,9 @@ intersect_table = record {
       ∷ record { option = codes "-u"; takes = Nothing }
       ∷ record { option = codes "-v"; takes = Nothing }
       ∷ record { option = codes "-c"; takes = Nothing }
+      ∷ record { option = codes "-f"; takes = Fraction }
+      ∷ record { option = codes "-r"; takes = Nothing }
+      ∷ record { option = codes "-s"; takes = Nothing }
       ∷ record { option = codes "-sorted"; takes = Nothing }
       ∷ [];
   required = codes "-a" ∷ codes "-b" ∷ codes "-g" ∷ [];
@@ -117,14 +122,51 @@ intersect_table = record {
   output = None;
 }
 
+-- The fraction of subtract is always that of the first record alone.
+abbrev pub subtract_table : Table
+subtract_table = record {
+  options = record { option = codes "-a"; takes = FileName }
+      ∷ record { option = codes "-b"; takes = FileName }
+      ∷ record { option = codes "-g"; takes = FileName }
+      ∷ record { option = codes "-A"; takes = Nothing }
+      ∷ record { option = codes "-f"; takes = Fraction }
+      ∷ record { option = codes "-s"; takes = Nothing }
+      ∷ [];
+  required = codes "-a" ∷ codes "-b" ∷ codes "-g" ∷ [];
+  one_of = [];
+  exclusive = [];
+  genome = Some (codes "-g");
+  first = codes "-a";
+  second = Some (codes "-b");
+  output = None;
+}
+
+abbrev pub bamtobed_table : Table
+bamtobed_table = record {
+  options = record { option = codes "-i"; takes = FileName }
+      ∷ record { option = codes "-split"; takes = Nothing }
+      ∷ record { option = codes "-cigar"; takes = Nothing }
+      ∷ [];
+  required = [];
+  one_of = [];
+  exclusive = [];
+  genome = None;
+  first = codes "-i";
+  second = None;
+  output = None;
+}
+
 abbrev pub table_of : Tool → Table
 table_of Merge = merge_table
 table_of Complement = complement_table
 table_of Intersect = intersect_table
+table_of Subtract = subtract_table
+table_of BamToBed = bamtobed_table
 
 -- the tools by their names
 abbrev pub commands : List (Word × Tool)
-commands = (codes "merge", Merge) ∷ (codes "complement", Complement) ∷ (codes "intersect", Intersect) ∷ []
+commands = (codes "merge", Merge) ∷ (codes "complement", Complement) ∷ (codes "intersect", Intersect)
+    ∷ (codes "subtract", Subtract) ∷ (codes "bamtobed", BamToBed) ∷ []
 
 abbrev pub command_named : Word → Option Tool
 command_named word = option_map (λ row. row.1) (find (λ row. bytes_eq word row.0) commands)
@@ -134,9 +176,13 @@ abbrev pub tool_name : Tool → Word
 tool_name Merge = codes "merge"
 tool_name Complement = codes "complement"
 tool_name Intersect = codes "intersect"
+tool_name Subtract = codes "subtract"
+tool_name BamToBed = codes "bamtobed"
 
 -- the tool of a command
 abbrev pub tool_of : Command → Tool
 tool_of (MergeWith d strand) = Merge
 tool_of (ComplementWith limit) = Complement
-tool_of (IntersectWith shape) = Intersect
+tool_of (IntersectWith shape rule) = Intersect
+tool_of (SubtractWith whole rule) = Subtract
+tool_of (BamToBedWith split cigar) = BamToBed

@@ -6,7 +6,8 @@ use Rattle.bt_lines.specs.Output.{Output}
 use Rattle.bt_lines.specs.Putting.{FailsToAdd, Grown}
 use Rattle.bt_lines.specs.Reader.{IsSound}
 use Rattle.bt_lines.specs.declared.fault.Fault.{Fault}
-use Rattle.bt_bed.specs.Feature.{Feature}
+use Rattle.bt_bed.specs.Feature.{Feature, intervals_of}
+use Rattle.bt_bed.specs.Locus.{ArePlaced}
 use Rattle.bt_bed.specs.Order.{Order}
 use Rattle.bt_bed.specs.Reading.{AnswersFault, EndsMembers}
 use Rattle.bt_bed.specs.Records.{GivesRecord, PassesRecord, below, order_in, view_of}
@@ -16,6 +17,7 @@ use Rattle.bt_sweep.specs.Lines.{lines_for}
 use Rattle.bt_sweep.specs.Standing.{IsInOrder, Stage, StandsAt, with_a, with_a_ended, with_b_ended}
 use Rattle.bt_sweep.specs.Steps.{Fails, FailsToHold, FailsToWriteA, TakesB, WritesA, lines_with}
 use Rattle.bt_sweep.specs.Sweeping.{Sweeping}
+use Rattle.bt_sweep.specs.declared.hit_rule.HitRule.{HitRule}
 use Rattle.bt_sweep.specs.declared.shape.Shape.{Shape}
 
 module _ {S O : Type 0} {g : Ghosts O} (left : S → Option (List ℕ)) (failed end : S → Bool) where
@@ -44,21 +46,21 @@ module _ {S O : Type 0} {g : Ghosts O} (left : S → Option (List ℕ)) (failed 
       pub peeked : Records S O g
       pub ahead : HasAhead old item peeked
       pub passes : PassesRecord left peeked new
-      pub given : (shape : Shape) (stage : Stage) → StandsAt order shape stage sweep → IsInOrder order (with_a stage item)
-          → StandsAt order shape (with_a stage item) swept × Grown out (lines_with shape stage item) grown
+      pub given : (shape : Shape) (rule : HitRule) (stage : Stage) → StandsAt order shape rule stage sweep → IsInOrder order (with_a stage item)
+          → StandsAt order shape rule (with_a stage item) swept × Grown out (lines_with shape rule stage item) grown
 
     -- its end was given
     pub record EndsFirst (new : Records S O g) (swept : Sweeping) (grown : Output) : Type 0 where
       pub ended : HasEnded old new
-      pub given : (shape : Shape) (stage : Stage) → StandsAt order shape stage sweep → StandsAt order shape (with_a_ended stage) swept
+      pub given : (shape : Shape) (rule : HitRule) (stage : Stage) → StandsAt order shape rule stage sweep → StandsAt order shape rule (with_a_ended stage) swept
       pub same_output : grown ≡ out
 
     -- a record of the first input wasn't taken, or its lines weren't written
     pub record FailsFirst (fault : Told) (new : Records S O g) (swept : Sweeping) (grown : Output) : Type 0 where
       pub item : Feature
       pub ahead : HasAhead old item new
-      pub fails : (shape : Shape) (stage : Stage) → StandsAt order shape stage sweep → IsInOrder order (with_a stage item)
-          → Fails out (lines_with shape stage item) fault grown
+      pub fails : (shape : Shape) (rule : HitRule) (stage : Stage) → StandsAt order shape rule stage sweep → IsInOrder order (with_a stage item)
+          → Fails out (lines_with shape rule stage item) fault grown
 
     -- the input couldn't give one
     pub record StopsTurn (fault : Told) (new : Records S O g) (swept : Sweeping) (grown : Output) : Type 0 where
@@ -77,34 +79,39 @@ module _ {S O : Type 0} {g : Ghosts O} (left : S → Option (List ℕ)) (failed 
       pub peeked : Records S O g
       pub ahead : HasAhead old item peeked
       pub passes : PassesRecord left peeked new
-      pub given : (shape : Shape) (stage : Stage) (a : Feature) → StandsAt order shape stage sweep → stage.waiting ≡ Some a
-          → TakesB order shape stage a item out swept grown
+      pub given : (shape : Shape) (rule : HitRule) (stage : Stage) (a : Feature) → StandsAt order shape rule stage sweep → stage.waiting ≡ Some a
+          → ArePlaced order (intervals_of stage.taken)
+          → TakesB order shape rule stage a item out swept grown
 
     -- it made the waiting record of the first be written, and stays ahead
     pub record LeavesSecond (new : Records S O g) (swept : Sweeping) (grown : Output) : Type 0 where
       pub item : Feature
       pub ahead : HasAhead old item new
-      pub given : (shape : Shape) (stage : Stage) (a : Feature) → StandsAt order shape stage sweep → stage.waiting ≡ Some a
-          → WritesA order shape stage a item out swept grown
+      pub given : (shape : Shape) (rule : HitRule) (stage : Stage) (a : Feature) → StandsAt order shape rule stage sweep → stage.waiting ≡ Some a
+          → ArePlaced order (intervals_of stage.taken)
+          → WritesA order shape rule stage a item out swept grown
 
     -- the end of the second input was given
     pub record EndsSecond (new : Records S O g) (swept : Sweeping) (grown : Output) : Type 0 where
       pub ended : HasEnded old new
-      pub given : (shape : Shape) (stage : Stage) (a : Feature) → StandsAt order shape stage sweep → stage.waiting ≡ Some a
-          → StandsAt order shape (with_b_ended stage) swept × Grown out (lines_for shape a stage.taken) grown
+      pub given : (shape : Shape) (rule : HitRule) (stage : Stage) (a : Feature) → StandsAt order shape rule stage sweep → stage.waiting ≡ Some a
+          → ArePlaced order (intervals_of stage.taken)
+          → StandsAt order shape rule (with_b_ended stage) swept × Grown out (lines_for shape rule a stage.taken) grown
 
     -- a record of the second input wasn't taken, or the lines of the waiting one weren't written
     pub record FailsSecond (fault : Told) (new : Records S O g) (swept : Sweeping) (grown : Output) : Type 0 where
       pub item : Feature
       pub ahead : HasAhead old item new
-      pub fails : (shape : Shape) (stage : Stage) (a : Feature) → StandsAt order shape stage sweep → stage.waiting ≡ Some a
-          → FailsToWriteA order shape stage a item out fault grown ⊎ FailsToHold order shape stage a item out fault grown
+      pub fails : (shape : Shape) (rule : HitRule) (stage : Stage) (a : Feature) → StandsAt order shape rule stage sweep → stage.waiting ≡ Some a
+          → ArePlaced order (intervals_of stage.taken)
+          → FailsToWriteA order shape rule stage a item out fault grown ⊎ FailsToHold order shape rule stage a item out fault grown
 
     -- at its end the lines of the waiting record weren't written
     pub record FailsAtEnd (fault : Told) (new : Records S O g) (swept : Sweeping) (grown : Output) : Type 0 where
       pub ended : HasEnded old new
-      pub fails : (shape : Shape) (stage : Stage) (a : Feature) → StandsAt order shape stage sweep → stage.waiting ≡ Some a
-          → FailsToAdd out (lines_for shape a stage.taken) fault grown
+      pub fails : (shape : Shape) (rule : HitRule) (stage : Stage) (a : Feature) → StandsAt order shape rule stage sweep → stage.waiting ≡ Some a
+          → ArePlaced order (intervals_of stage.taken)
+          → FailsToAdd out (lines_for shape rule a stage.taken) fault grown
 
     -- a turn of the second input
     abbrev pub TurnsSecond : {A : Type 0} → Result A Fault → Records S O g → Sweeping → Output → Type 0

@@ -19,7 +19,7 @@ use bt_lines::{Fault, Input, LineReader, Out, Sink, Source};
 use bt_runs::Engine;
 use std::alloc::Global;
 
-// FeedsRecords an engine that has taken no record with all records of a reader.
+// Feeds an engine that has taken no record with all records of a reader.
 fn feed_all<S: Source, O: ChromOrder, E: Engine, K: Sink>(
     records: &mut Records<'_, S, O>,
     engine: &mut E,
@@ -44,7 +44,7 @@ fn feed_all<S: Source, O: ChromOrder, E: Engine, K: Sink>(
     Ok(())
 }
 
-/// FeedsRecords an engine with all records of an input, in an order of their chromosomes, and lets it finish.
+/// Feeds an engine with all records of an input, in an order of their chromosomes, and lets it finish.
 /// It gives the source back, and the fault that the run ends with, if there is one.
 pub(crate) fn drive<A: Source, O: ChromOrder, E: Engine + Drop, K: Sink>(
     alloc: Global,

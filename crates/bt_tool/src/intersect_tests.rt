@@ -5,14 +5,14 @@ use std::alloc::Global;
 use std::process::Abort;
 use std::test::Fail;
 
-// A run of intersect, and what it gives on the genome of all tests.
-struct Case {
-    name: &'static str,
-    options: &'static [&'static str],
-    first: &'static [u8],
-    second: &'static [u8],
-    output: &'static [u8],
-    line: &'static [u8],
+// A run of a command of two inputs, and what it gives on the genome of all tests.
+pub(crate) struct Case {
+    pub(crate) name: &'static str,
+    pub(crate) options: &'static [&'static str],
+    pub(crate) first: &'static [u8],
+    pub(crate) second: &'static [u8],
+    pub(crate) output: &'static [u8],
+    pub(crate) line: &'static [u8],
 }
 
 const CASES: [Case; 29] = [
@@ -250,15 +250,204 @@ const CASES: [Case; 29] = [
     },
 ];
 
-// Runs intersect with these options.
-fn intersect(
+// What makes a hit: a fraction of the record, or of both, and equal strands.
+const RULES: [Case; 23] = [
+    Case {
+        name: "half of the record",
+        options: &["-f", "0.5"],
+        first: b"chr1\t0\t10\n",
+        second: b"chr1\t0\t5\n",
+        output: b"chr1\t0\t5\n",
+        line: b"",
+    },
+    Case {
+        name: "half of the record, without a digit before the point",
+        options: &["-f", ".5"],
+        first: b"chr1\t0\t10\n",
+        second: b"chr1\t0\t5\n",
+        output: b"chr1\t0\t5\n",
+        line: b"",
+    },
+    Case {
+        name: "a billionth more than half",
+        options: &["-f", "0.500000001"],
+        first: b"chr1\t0\t10\n",
+        second: b"chr1\t0\t5\n",
+        output: b"",
+        line: b"",
+    },
+    Case {
+        name: "half of both",
+        options: &["-f", "0.5", "-r"],
+        first: b"chr1\t0\t10\n",
+        second: b"chr1\t0\t5\n",
+        output: b"chr1\t0\t5\n",
+        line: b"",
+    },
+    Case {
+        name: "half of the record, and not of the other",
+        options: &["-r", "-f", "0.5"],
+        first: b"chr1\t0\t10\n",
+        second: b"chr1\t0\t100\n",
+        output: b"",
+        line: b"",
+    },
+    Case {
+        name: "the same, asked of the record alone",
+        options: &["-f", "0.5"],
+        first: b"chr1\t0\t10\n",
+        second: b"chr1\t0\t100\n",
+        output: b"chr1\t0\t10\n",
+        line: b"",
+    },
+    Case {
+        name: "all of the record",
+        options: &["-f", "1"],
+        first: b"chr1\t0\t10\nchr1\t4\t6\n",
+        second: b"chr1\t0\t9\n",
+        output: b"chr1\t4\t6\n",
+        line: b"",
+    },
+    Case {
+        name: "all of it, without a digit behind the point",
+        options: &["-f", "1."],
+        first: b"chr1\t0\t10\nchr1\t4\t6\n",
+        second: b"chr1\t0\t9\n",
+        output: b"chr1\t4\t6\n",
+        line: b"",
+    },
+    Case {
+        name: "the last fraction",
+        options: &["-f", "1", "-f", "0.5"],
+        first: b"chr1\t0\t10\n",
+        second: b"chr1\t0\t5\n",
+        output: b"chr1\t0\t5\n",
+        line: b"",
+    },
+    Case {
+        name: "no fraction",
+        options: &["-f", "0"],
+        first: b"chr1\t0\t10\n",
+        second: b"chr1\t9\t1000\n",
+        output: b"chr1\t9\t10\n",
+        line: b"",
+    },
+    Case {
+        name: "of both, without a fraction",
+        options: &["-r"],
+        first: b"chr1\t0\t10\n",
+        second: b"chr1\t9\t1000\n",
+        output: b"chr1\t9\t10\n",
+        line: b"",
+    },
+    Case {
+        name: "half of the record in one of two",
+        options: &["-f", "0.5"],
+        first: b"chr1\t0\t100\n",
+        second: b"chr1\t0\t10\nchr1\t20\t90\n",
+        output: b"chr1\t20\t90\n",
+        line: b"",
+    },
+    Case {
+        name: "half of the longest record",
+        options: &["-f", "0.5"],
+        first: b"chr1\t0\t999999999999\n",
+        second: b"chr1\t0\t500000000000\n",
+        output: b"chr1\t0\t500000000000\n",
+        line: b"",
+    },
+    Case {
+        name: "less than half of the longest record",
+        options: &["-f", "0.5"],
+        first: b"chr1\t0\t999999999999\n",
+        second: b"chr1\t0\t499999999999\n",
+        output: b"",
+        line: b"",
+    },
+    Case {
+        name: "no record without half of it",
+        options: &["-f", "0.5", "-v"],
+        first: b"chr1\t0\t10\n",
+        second: b"chr1\t0\t5\n",
+        output: b"",
+        line: b"",
+    },
+    Case {
+        name: "a record without more than half of it",
+        options: &["-f", "0.6", "-v"],
+        first: b"chr1\t0\t10\n",
+        second: b"chr1\t0\t5\n",
+        output: b"chr1\t0\t10\n",
+        line: b"",
+    },
+    Case {
+        name: "the number of hits of half of the record",
+        options: &["-c", "-f", "0.5"],
+        first: b"chr1\t0\t10\n",
+        second: b"chr1\t0\t2\nchr1\t0\t5\n",
+        output: b"chr1\t0\t10\t1\n",
+        line: b"",
+    },
+    Case {
+        name: "another strand",
+        options: &["-s"],
+        first: b"chr1\t0\t10\ta\t0\t+\n",
+        second: b"chr1\t5\t8\tb\t0\t-\n",
+        output: b"",
+        line: b"",
+    },
+    Case {
+        name: "another strand, which isn't looked at",
+        options: &[],
+        first: b"chr1\t0\t10\ta\t0\t+\n",
+        second: b"chr1\t5\t8\tb\t0\t-\n",
+        output: b"chr1\t5\t8\ta\t0\t+\n",
+        line: b"",
+    },
+    Case {
+        name: "the same strand",
+        options: &["-s"],
+        first: b"chr1\t0\t10\ta\t0\t-\n",
+        second: b"chr1\t5\t8\tb\t0\t-\n",
+        output: b"chr1\t5\t8\ta\t0\t-\n",
+        line: b"",
+    },
+    Case {
+        name: "no strand in both",
+        options: &["-s"],
+        first: b"chr1\t0\t10\n",
+        second: b"chr1\t5\t8\n",
+        output: b"chr1\t5\t8\n",
+        line: b"",
+    },
+    Case {
+        name: "no strand in one",
+        options: &["-s"],
+        first: b"chr1\t0\t10\n",
+        second: b"chr1\t5\t8\tb\t0\t+\n",
+        output: b"",
+        line: b"",
+    },
+    Case {
+        name: "half of both on one strand",
+        options: &["-s", "-r", "-f", "0.5"],
+        first: b"chr1\t0\t10\ta\t0\t+\n",
+        second: b"chr1\t0\t6\tb\t0\t-\nchr1\t0\t7\tc\t0\t+\n",
+        output: b"chr1\t0\t7\ta\t0\t+\n",
+        line: b"",
+    },
+];
+
+/// Runs a command of two inputs with these options.
+pub(crate) fn run_on(
     alloc: Global,
-    options: &[&str],
+    command: &'static str,
+    options: &[&'static str],
     first: (&[u8], Script),
     second: (&[u8], Script),
     out: Script,
 ) -> Result<Answer, Fail> {
-    let mut words = vec![in alloc; "intersect", "-a", "a.bed", "-b", "b.bed", "-g", "g.txt"]?;
+    let mut words = vec![in alloc; command, "-a", "a.bed", "-b", "b.bed", "-g", "g.txt"]?;
     words.extend_from_slice(options)?;
     run_both(
         alloc,
@@ -270,11 +459,18 @@ fn intersect(
     )
 }
 
-fn check(rt: &impl Abort, alloc: Global, case: &Case, step: usize) -> Result<(), Fail> {
+/// Runs a command in one case, by sources and a sink of this step.
+pub(crate) fn check(
+    rt: &impl Abort,
+    alloc: Global,
+    command: &'static str,
+    case: &Case,
+    step: usize,
+) -> Result<(), Fail> {
     let script = whole(step.max(1));
     let first = (case.first, script);
     let second = (case.second, script);
-    let answer = intersect(alloc, case.options, first, second, script)?;
+    let answer = run_on(alloc, command, case.options, first, second, script)?;
     assert_eq!(rt; answer.output.as_slice(), case.output, "{}", case.name);
     assert_eq!(rt; line_of(&answer), case.line, "{}", case.name);
     assert_eq!(rt;
@@ -286,11 +482,31 @@ fn check(rt: &impl Abort, alloc: Global, case: &Case, step: usize) -> Result<(),
     Ok(())
 }
 
+// Runs intersect without options.
+fn intersect(
+    alloc: Global,
+    first: (&[u8], Script),
+    second: (&[u8], Script),
+    out: Script,
+) -> Result<Answer, Fail> {
+    run_on(alloc, "intersect", &[], first, second, out)
+}
+
 #[test]
 fn worked_cases(rt: HostRuntime) -> Result<(), Fail> {
     for step in [1, 7, 8192] {
         for case in &CASES {
-            check(&rt, rt.alloc(), case, step)?;
+            check(&rt, rt.alloc(), "intersect", case, step)?;
+        }
+    }
+    Ok(())
+}
+
+#[test]
+fn worked_rules(rt: HostRuntime) -> Result<(), Fail> {
+    for step in [1, 7, 8192] {
+        for case in &RULES {
+            check(&rt, rt.alloc(), "intersect", case, step)?;
         }
     }
     Ok(())
@@ -310,7 +526,7 @@ fn a_first_input_that_fails_at_each_byte(rt: HostRuntime) -> Result<(), Fail> {
     for step in [1, 7] {
         for good in 0..=FIRST.len() {
             let first = (FIRST, failing_by(step, good));
-            let answer = intersect(rt.alloc(), &[], first, (SECOND, whole(step)), whole(step))?;
+            let answer = intersect(rt.alloc(), first, (SECOND, whole(step)), whole(step))?;
             let (output, line): (&[u8], &[u8]) = match failed_line(FIRST, good) {
                 1 => (b"", b"bedtools intersect: a.bed:1: reading failed\n"),
                 2 => (SHARED, b"bedtools intersect: a.bed:2: reading failed\n"),
@@ -332,7 +548,7 @@ fn a_second_input_that_fails_at_each_byte(rt: HostRuntime) -> Result<(), Fail> {
     for step in [1, 7] {
         for good in 0..=SECOND.len() {
             let second = (SECOND, failing_by(step, good));
-            let answer = intersect(rt.alloc(), &[], (FIRST, whole(step)), second, whole(step))?;
+            let answer = intersect(rt.alloc(), (FIRST, whole(step)), second, whole(step))?;
             let (output, line): (&[u8], &[u8]) = match failed_line(SECOND, good) {
                 1 => (b"", b"bedtools intersect: b.bed:1: reading failed\n"),
                 2 => (b"", b"bedtools intersect: b.bed:2: reading failed\n"),
@@ -355,7 +571,7 @@ fn a_second_input_that_fails_beside_a_faulty_first(rt: HostRuntime) -> Result<()
     let first = b"chr1\t0\t10\nchr1\tx\t5\n";
     for good in 0..=SECOND.len() {
         let second = (SECOND, failing(good));
-        let answer = intersect(rt.alloc(), &[], (first, whole(7)), second, whole(7))?;
+        let answer = intersect(rt.alloc(), (first, whole(7)), second, whole(7))?;
         let (output, line): (&[u8], &[u8]) = match failed_line(SECOND, good) {
             1 => (b"", b"bedtools intersect: b.bed:1: reading failed\n"),
             2 => (b"", b"bedtools intersect: b.bed:2: reading failed\n"),
@@ -374,7 +590,7 @@ fn a_second_input_that_fails_beside_a_faulty_first(rt: HostRuntime) -> Result<()
 fn an_output_that_fails_at_each_byte(rt: HostRuntime) -> Result<(), Fail> {
     for good in 0..SHARED.len() {
         let inputs = ((FIRST, whole(7)), (SECOND, whole(7)));
-        let answer = intersect(rt.alloc(), &[], inputs.0, inputs.1, failing(good))?;
+        let answer = intersect(rt.alloc(), inputs.0, inputs.1, failing(good))?;
         assert_eq!(rt; answer.output.as_slice(), &SHARED[..good]);
         assert_eq!(rt;
             line_of(&answer),

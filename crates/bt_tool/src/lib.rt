@@ -2,8 +2,10 @@
 #![tactic(auto)]
 
 mod checking;
+mod converting;
 mod driving;
 mod flushing;
+mod fraction;
 mod given;
 pub mod headline;
 mod item;
@@ -27,8 +29,14 @@ pub use tool::Tool;
 pub use usage::{Refusal, Usage, usage_line};
 
 #[cfg(test)]
+mod bamtobed_tests;
+#[cfg(test)]
 mod command_tests;
 #[cfg(test)]
+mod fault_tests;
+#[cfg(test)]
 mod intersect_tests;
+#[cfg(test)]
+mod subtract_tests;
 #[cfg(test)]
 mod tests;

@@ -1,13 +1,15 @@
 //! What holds of every command line, and the answers to some. These functions do nothing: they
 //! carry facts on which their callers may rely.
 
-ghost use Rattle.std.specs.Prelude.{◌≡◌, true, Ok, Err, Some, None, [], ◌∷◌, codes};
+ghost use Rattle.std.specs.Prelude.{◌≡◌, true, false, Ok, Err, Some, None, [], ◌∷◌, codes};
+ghost use Rattle.bt_tool.specs.Fraction.{fraction_of};
 ghost use Rattle.bt_tool.specs.OptionLaws.{AnswerIsUnique, LongestDivisionIsUnique, FaultIsOfWhatIsLeft, LastItemCounts, FaultsCanBeTold};
 ghost use Rattle.bt_tool.specs.Options.{options};
 ghost use Rattle.bt_tool.specs.Usage.{no_command, unknown_option, value_missing, bad_value, required_missing, input_named_twice};
 
 use crate::plan_type::Command;
 use bt_runs::MergeStrand;
+use bt_sweep::Shape;
 
 /// How the words after a command are divided into items.
 pub fn division()
@@ -19,7 +21,7 @@ pub fn division()
 {}
 
 /// Some command lines, and what they ask for.
-#[tactic(auto, unfolding(crate::specs::Items::items_of, crate::specs::Options::word_fault, crate::specs::Options::options, bt_lines::specs::Number::value_of))]
+#[tactic(auto, unfolding(crate::specs::Items::items_of, crate::specs::Options::word_fault, crate::specs::Options::options, crate::specs::Fraction::fraction_in, bt_lines::specs::Number::value_of))]
 pub fn worked_cases()
     ensures no_words { options [] ≡ Err no_command }
     ensures no_such_command { options (codes "mend" ∷ codes "-g" ∷ codes "g" ∷ [])
@@ -72,6 +74,25 @@ pub fn worked_cases()
           second = None;
           output = None;
         }) }
+    ensures fraction_of_both_on_one_strand { options (codes "intersect" ∷ codes "-a" ∷ codes "x" ∷ codes "-b"
+        ∷ codes "y" ∷ codes "-g" ∷ codes "g" ∷ codes "-f" ∷ codes ".5" ∷ codes "-r" ∷ codes "-s" ∷ [])
+        ≡ Ok (record {
+          command = Command.Intersect Shape.Cut (record { billionths = 500000000; both = true; same_strand = true });
+          genome = Some (codes "g");
+          first = codes "x";
+          second = Some (codes "y");
+          output = None;
+        }) }
+    ensures whole_records_by_a_fraction { options (codes "subtract" ∷ codes "-A" ∷ codes "-a" ∷ codes "x" ∷ codes "-b"
+        ∷ codes "y" ∷ codes "-g" ∷ codes "g" ∷ codes "-f" ∷ codes "1" ∷ [])
+        ≡ Ok (record {
+          command = Command.Subtract true (record { billionths = 1000000000; both = false; same_strand = false });
+          genome = Some (codes "g");
+          first = codes "x";
+          second = Some (codes "y");
+          output = None;
+        }) }
+    ensures subtract_of_both { options (codes "subtract" ∷ codes "-r" ∷ []) ≡ Err (unknown_option 1) }
     ensures value_like_an_option { options (codes "merge" ∷ codes "-g" ∷ codes "-i" ∷ [])
         ≡ Ok (record {
           command = Command.Merge 0 MergeStrand.All;
@@ -82,4 +103,26 @@ pub fn worked_cases()
         }) }
     ensures first_fault { options (codes "merge" ∷ codes "-i" ∷ codes "a" ∷ codes "-q"
         ∷ codes "-g" ∷ []) ≡ Err (unknown_option 3) }
+{}
+
+/// Some words, and the fractions that they denote, in billionths.
+#[tactic(auto, unfolding(crate::specs::Fraction::fraction_in))]
+pub fn worked_fractions()
+    ensures half { fraction_of (codes "0.5") ≡ Some 500000000 }
+    ensures no_digit_before { fraction_of (codes ".5") ≡ Some 500000000 }
+    ensures zeros_before { fraction_of (codes "00.5") ≡ Some 500000000 }
+    ensures nothing { fraction_of (codes "0") ≡ Some 0 }
+    ensures one { fraction_of (codes "1") ≡ Some 1000000000 }
+    ensures no_digit_behind { fraction_of (codes "1.") ≡ Some 1000000000 }
+    ensures nine_decimals { fraction_of (codes "1.000000000") ≡ Some 1000000000 }
+    ensures least { fraction_of (codes "0.000000001") ≡ Some 1 }
+    ensures above_one { fraction_of (codes "1.000000001") ≡ None }
+    ensures one_and_a_half { fraction_of (codes "1.5") ≡ None }
+    ensures ten_decimals { fraction_of (codes "0.5000000000") ≡ None }
+    ensures no_word { fraction_of [] ≡ None }
+    ensures point_alone { fraction_of (codes ".") ≡ None }
+    ensures two_points { fraction_of (codes "0.5.") ≡ None }
+    ensures exponent { fraction_of (codes "5e-1") ≡ None }
+    ensures sign { fraction_of (codes "+1") ≡ None }
+    ensures space { fraction_of (codes " 1") ≡ None }
 {}

@@ -2,8 +2,9 @@
 
 ghost use Rattle.std.specs.Prelude.{◌≡◌, ◌≤◌, Ok, Err, Some, None, string_bytes, IsTrue, MatchResult, IfOk, IfErr, length, option_map};
 ghost use Rattle.bt_tool.specs.Limits.{is_within_limits};
+ghost use Rattle.bt_tool.specs.Fraction.{one_in_billionths};
 ghost use Rattle.bt_tool.specs.Given.{items_in};
-ghost use Rattle.bt_tool.specs.Options.{command_by, command_of, fault_together, hit_shape, number_by, options, plan_of, shape_by, strand_by};
+ghost use Rattle.bt_tool.specs.Options.{billionths_by, command_by, command_of, fault_together, hit_shape, number_by, options, plan_of, rule_by, shape_by, strand_by};
 ghost use Rattle.bt_tool.specs.Plan.{plan_seen, words_seen};
 ghost use Rattle.bt_tool.specs.Refusal.{CanBeTold, IsRefusalOf};
 ghost use Rattle.bt_tool.specs.Report.{ReportsPlan, ReportsRefusal};
@@ -13,6 +14,7 @@ ghost use Rattle.bt_tool.specs.Usage.{no_command};
 ghost use Rattle.bt_lines.specs.Number.{max_number};
 
 use crate::checking::check;
+use crate::fraction::fraction;
 use crate::given::Given;
 use crate::names::names_of;
 use crate::plan_type::{Command, Plan};
@@ -21,7 +23,7 @@ use crate::usage::{Refusal, Usage, UsageKind};
 use bt_bed::Strand;
 use bt_lines::number;
 use bt_runs::MergeStrand;
-use bt_sweep::Shape;
+use bt_sweep::{HitRule, Shape};
 use std::alloc::{AllocError, Global};
 
 // The tool that the first word names.
@@ -50,6 +52,15 @@ fn command(tool: Tool, given: Given<'_>) -> Command
         },
         Tool::Intersect => Command::Intersect {
             shape: shape_of(given),
+            rule: rule_of(given, given.has("-r")),
+        },
+        Tool::Subtract => Command::Subtract {
+            whole: given.has("-A"),
+            rule: rule_of(given, false),
+        },
+        Tool::BamToBed => Command::BamToBed {
+            split: given.has("-split"),
+            cigar: given.has("-cigar"),
         },
     }
 }
@@ -61,6 +72,29 @@ fn number_of(value: Option<&str>) -> u64
 {
     match value {
         Some(value) => number(value.as_bytes()).unwrap_or(0),
+        None => 0,
+    }
+}
+
+// What makes a hit; `both` asks for the fraction of both records.
+fn rule_of(given: Given<'_>, both: bool) -> HitRule
+    ensures rule { result ≡ rule_by (items_in given.entry) both }
+    ensures limit { result.billionths ≤ one_in_billionths }
+{
+    HitRule {
+        billionths: billionths_of(given.value_of("-f")),
+        both,
+        same_strand: given.has("-s"),
+    }
+}
+
+// The fraction of a value in billionths, 0 without one.
+fn billionths_of(value: Option<&str>) -> u64
+    ensures value { result ≡ billionths_by (option_map (λ value. value.now) value.entry) }
+    ensures limit { result ≤ one_in_billionths }
+{
+    match value {
+        Some(value) => fraction(value).unwrap_or(0),
         None => 0,
     }
 }

@@ -6,7 +6,7 @@ ghost use Rattle.std.specs.Prelude.{IsTrue};
 
 use crate::tool::Tool;
 use bt_runs::MergeStrand;
-use bt_sweep::Shape;
+use bt_sweep::{HitRule, Shape};
 
 /// A tool, with what its options ask for.
 #[derive(Clone, Copy, Debug, PartialEq, Eq)]
@@ -16,8 +16,15 @@ pub enum Command {
     /// The parts of each chromosome that no feature covers; with `limit` only of those chromosomes that
     /// have records.
     Complement { limit: bool },
-    /// What the records of the second input share with those of the first, in this shape.
-    Intersect { shape: Shape },
+    /// What the records of the second input make of those of the first, in this shape and by this rule
+    /// of what hits a record.
+    Intersect { shape: Shape, rule: HitRule },
+    /// What is left of the records of the first input by those of the second that hit them: pieces, or
+    /// with `whole` the records that none hits.
+    Subtract { whole: bool, rule: HitRule },
+    /// The alignments of SAM text as BED lines: with `split` a line for each block, and with `cigar` the
+    /// CIGAR as a seventh column.
+    BamToBed { split: bool, cigar: bool },
 }
 
 impl Command {
@@ -32,6 +39,8 @@ impl Command {
             Command::Merge { .. } => Tool::Merge,
             Command::Complement { .. } => Tool::Complement,
             Command::Intersect { .. } => Tool::Intersect,
+            Command::Subtract { .. } => Tool::Subtract,
+            Command::BamToBed { .. } => Tool::BamToBed,
         }
     }
 

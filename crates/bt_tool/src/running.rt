@@ -6,11 +6,13 @@ ghost use Rattle.bt_lines.specs.Names.{told};
 ghost use Rattle.bt_lines.specs.Output.{HoldsBlock};
 ghost use Rattle.bt_bed.specs.GenomeTable.{entries, names_of};
 ghost use Rattle.bt_bed.specs.Rank.{AreDistinct};
+ghost use Rattle.bt_sweep.specs.Subtract.{subtract_shape};
 ghost use Rattle.bt_tool.specs.Chromosomes.{ReadsChromosomes, WritesBy, WritesOutput};
 ghost use Rattle.bt_tool.specs.Gives.{Runs};
 ghost use Rattle.bt_tool.specs.Limits.{is_within_limits};
 ghost use Rattle.bt_tool.specs.Table.{IsNamedBy, table_of, tool_of};
 
+use crate::converting::convert;
 use crate::driving::drive;
 use crate::flushing::flushed;
 use crate::outcome::Outcome;
@@ -19,7 +21,7 @@ use crate::sweeping::sweep;
 use bt_bed::Genome;
 use bt_lines::{Fault, Input, LineReader, Out, Sink, Source};
 use bt_runs::{Complement, Merge};
-use bt_sweep::Shape;
+use bt_sweep::{HitRule, Shape};
 use std::alloc::Global;
 
 /// How a run ended, and the devices that it was given: `genome` and `second` are there exactly where
@@ -111,7 +113,7 @@ fn write_output<A: Source, B: Source, K: Sink>(
     }
 }
 
-// Writes what the records of the inputs make a command write, by the chromosomes of a genome file. It
+// Writes what the inputs make a command write, by the chromosomes of a genome file. It
 // gives the sources back, and the fault that the run ends with, if there is one.
 fn write_records<A: Source, B: Source, K: Sink>(
     alloc: Global,
@@ -140,15 +142,33 @@ fn write_records<A: Source, B: Source, K: Sink>(
             let (fault, first) = drive(alloc, genome, engine, first, out);
             (fault, first, second)
         }
-        Command::Intersect { shape } => sweep_both(alloc, genome, shape, first, second, out),
+        Command::Intersect { shape, rule } => {
+            sweep_both(alloc, genome, shape, rule, first, second, out)
+        }
+        Command::Subtract { whole, rule } => {
+            let shape = shape_left(whole);
+            sweep_both(alloc, genome, shape, rule, first, second, out)
+        }
+        Command::BamToBed { split, cigar } => {
+            let (fault, first) = convert(alloc, split, cigar, first, out);
+            (fault, first, second)
+        }
     }
 }
 
-// Sweeps the two inputs of intersect.
+// The shape of what is left of a record: its pieces, or all of it.
+fn shape_left(whole: bool) -> Shape
+    ensures { result ≡ subtract_shape whole }
+{
+    if whole { Shape::Whole } else { Shape::Pieces }
+}
+
+// Sweeps the two inputs of intersect, or of subtract in its shapes.
 fn sweep_both<A: Source, B: Source, K: Sink>(
     alloc: Global,
     genome: &Genome,
     shape: Shape,
+    rule: HitRule,
     first: A,
     second: Option<B>,
     out: &mut Out<K>,
@@ -156,11 +176,11 @@ fn sweep_both<A: Source, B: Source, K: Sink>(
     requires second { IsSome second }
     requires distinct { AreDistinct (names_of genome.now) }
     requires block { HoldsBlock out.old.took out.old.put }
-    ensures written { WritesBy A.left A.has_failed A.end_told B.left B.has_failed (Command.Intersect shape) (entries genome.now)
+    ensures written { WritesBy A.left A.has_failed A.end_told B.left B.has_failed (Command.Intersect shape rule) (entries genome.now)
         first second out.old (option_map told result.0) result.1 result.2 out.new }
     ensures second { is_some result.2 ≡ is_some second }
 {
     let Some(second) = second else { unreachable!() };
-    let (fault, first, second) = sweep(alloc, genome, shape, first, second, out);
+    let (fault, first, second) = sweep(alloc, genome, shape, rule, first, second, out);
     (fault, first, Some(second))
 }

@@ -121,6 +121,18 @@ pub(crate) const INTERSECT: Table = Table {
             takes: Takes::Nothing,
         },
         Row {
+            option: "-f",
+            takes: Takes::Fraction,
+        },
+        Row {
+            option: "-r",
+            takes: Takes::Nothing,
+        },
+        Row {
+            option: "-s",
+            takes: Takes::Nothing,
+        },
+        Row {
             option: "-sorted",
             takes: Takes::Nothing,
         },
@@ -143,6 +155,68 @@ pub(crate) const INTERSECT: Table = Table {
     genome: Some("-g"),
     first: "-a",
     second: Some("-b"),
+    output: None,
+};
+
+/// `bedtools subtract`.
+pub(crate) const SUBTRACT: Table = Table {
+    options: &[
+        Row {
+            option: "-a",
+            takes: Takes::FileName,
+        },
+        Row {
+            option: "-b",
+            takes: Takes::FileName,
+        },
+        Row {
+            option: "-g",
+            takes: Takes::FileName,
+        },
+        Row {
+            option: "-A",
+            takes: Takes::Nothing,
+        },
+        Row {
+            option: "-f",
+            takes: Takes::Fraction,
+        },
+        Row {
+            option: "-s",
+            takes: Takes::Nothing,
+        },
+    ],
+    required: &["-a", "-b", "-g"],
+    one_of: &[],
+    exclusive: &[],
+    genome: Some("-g"),
+    first: "-a",
+    second: Some("-b"),
+    output: None,
+};
+
+/// `bedtools bamtobed`.
+pub(crate) const BAM_TO_BED: Table = Table {
+    options: &[
+        Row {
+            option: "-i",
+            takes: Takes::FileName,
+        },
+        Row {
+            option: "-split",
+            takes: Takes::Nothing,
+        },
+        Row {
+            option: "-cigar",
+            takes: Takes::Nothing,
+        },
+    ],
+    required: &[],
+    one_of: &[],
+    exclusive: &[],
+    genome: None,
+    first: "-i",
+    second: None,
     output: None,
 };
 

@@ -3,6 +3,7 @@
 ghost use Rattle.std.specs.Prelude.{◌≡◌, None, Some};
 ghost use Rattle.bt_tool.specs.Table.{fits};
 
+use crate::fraction::fraction;
 use bt_lines::number;
 
 /// What an option takes after its own word.
@@ -12,6 +13,8 @@ pub(crate) enum Takes {
     FileName,
     /// A number of at most twelve digits, leading zeros aside.
     Number,
+    /// A number of at most 1, with at most nine decimals.
+    Fraction,
     /// `+` or `-`.
     Strand,
 }
@@ -32,6 +35,7 @@ impl Takes {
             Takes::Nothing => false,
             Takes::FileName => !value.is_empty(),
             Takes::Number => number(value.as_bytes()).is_some(),
+            Takes::Fraction => fraction(value).is_some(),
             Takes::Strand => value == "+" || value == "-",
         }
     }

@@ -4,7 +4,7 @@ ghost use Rattle.bt_tool.specs.Table.{command_named, tool_name, table_of};
 ghost use Rattle.bt_tool.specs.TableLent.{table_lent};
 ghost use Rattle.std.specs.Prelude.{◌≡◌};
 
-use crate::table::{COMPLEMENT, INTERSECT, MERGE, Table};
+use crate::table::{BAM_TO_BED, COMPLEMENT, INTERSECT, MERGE, SUBTRACT, Table};
 
 /// A tool, apart from what its options ask for.
 #[derive(Clone, Copy, Debug, PartialEq, Eq)]
@@ -12,6 +12,8 @@ pub enum Tool {
     Merge,
     Complement,
     Intersect,
+    Subtract,
+    BamToBed,
 }
 
 impl Tool {
@@ -23,6 +25,8 @@ impl Tool {
             "merge" => Some(Tool::Merge),
             "complement" => Some(Tool::Complement),
             "intersect" => Some(Tool::Intersect),
+            "subtract" => Some(Tool::Subtract),
+            "bamtobed" => Some(Tool::BamToBed),
             _ => None,
         }
     }
@@ -35,6 +39,8 @@ impl Tool {
             Tool::Merge => "merge",
             Tool::Complement => "complement",
             Tool::Intersect => "intersect",
+            Tool::Subtract => "subtract",
+            Tool::BamToBed => "bamtobed",
         }
     }
 
@@ -46,6 +52,8 @@ impl Tool {
             Tool::Merge => MERGE,
             Tool::Complement => COMPLEMENT,
             Tool::Intersect => INTERSECT,
+            Tool::Subtract => SUBTRACT,
+            Tool::BamToBed => BAM_TO_BED,
         }
     }
 }

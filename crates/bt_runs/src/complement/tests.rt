@@ -4,7 +4,7 @@ use super::*;
 use crate::plain::PlainSpan;
 use crate::plain_gaps::plain_gaps;
 use bt_bed::parse_bed;
-use bt_lines::{Input, Kind, LineReader, ScriptSink, ScriptSource};
+use bt_lines::{Input, LineReader, ScriptSink, ScriptSource, write_failed};
 use std::alloc::{AllocError, Global};
 use std::test::Fail;
 
@@ -165,13 +165,6 @@ fn feed_until_refused<E: Engine, K: Sink>(
 fn end<E: Engine, K: Sink>(engine: E, out: &mut Out<K>) -> Result<(), Fault> {
     engine.finish(out)?;
     out.flush()
-}
-
-fn write_failed() -> Fault {
-    Fault {
-        kind: Kind::WriteFailed,
-        place: None,
-    }
 }
 
 #[test]

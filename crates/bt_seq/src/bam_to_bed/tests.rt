@@ -1,6 +1,6 @@
 use super::*;
 use crate::sam_text::sam_line;
-use bt_lines::ScriptSink;
+use bt_lines::{Kind, ScriptSink};
 use std::test::Fail;
 
 // A line, the options -split and -cigar, and what is written.

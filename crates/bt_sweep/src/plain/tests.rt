@@ -1,4 +1,5 @@
 use super::*;
+use crate::worked::{FRACTIONS, RuledCase, STRANDS, SUBTRACTED};
 use bt_bed::parse_bed;
 use std::test::Fail;
 
@@ -101,8 +102,38 @@ fn worked_rows(rt: HostRuntime) -> Result<(), Fail> {
     for (name, shape, first, second, want) in CASES {
         let first = records_of(rt.alloc(), first)?;
         let second = records_of(rt.alloc(), second)?;
-        let text = plain_intersect(rt.alloc(), shape, first.as_slice(), second.as_slice())?;
+        let text = plain_intersect(
+            rt.alloc(),
+            shape,
+            HitRule::any_overlap(),
+            first.as_slice(),
+            second.as_slice(),
+        )?;
         assert_eq!(rt; text.as_slice(), want, "{name}");
     }
+    Ok(())
+}
+
+// The name of the first case that is written otherwise.
+fn first_miswritten(
+    alloc: Global,
+    cases: &[RuledCase],
+) -> Result<Option<&'static str>, AllocError> {
+    for (name, shape, rule, first, second, want) in cases {
+        let first = records_of(alloc, first)?;
+        let second = records_of(alloc, second)?;
+        let text = plain_intersect(alloc, *shape, *rule, first.as_slice(), second.as_slice())?;
+        if text.as_slice() != *want {
+            return Ok(Some(*name));
+        }
+    }
+    Ok(None)
+}
+
+#[test]
+fn worked_rows_with_rules(rt: HostRuntime) -> Result<(), Fail> {
+    assert_eq!(rt; first_miswritten(rt.alloc(), &FRACTIONS)?, None);
+    assert_eq!(rt; first_miswritten(rt.alloc(), &STRANDS)?, None);
+    assert_eq!(rt; first_miswritten(rt.alloc(), &SUBTRACTED)?, None);
     Ok(())
 }

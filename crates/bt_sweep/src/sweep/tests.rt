@@ -1,6 +1,7 @@
 use super::*;
 use crate::held_list::HeldList;
 use crate::plain::plain_intersect;
+use crate::worked::{FRACTIONS, RuledCase, STRANDS, SUBTRACTED};
 use bt_bed::{Genome, Rec, parse_bed};
 use bt_lines::{Input, Kind, LineReader, ScriptSink, ScriptSource};
 use std::alloc::AllocError;
@@ -136,7 +137,7 @@ const CASES: [Case; 18] = [
     ),
 ];
 
-const SHAPES: [Shape; 8] = [
+const SHAPES: [Shape; 10] = [
     Shape::Cut,
     Shape::OrigA,
     Shape::CutAndB,
@@ -145,6 +146,8 @@ const SHAPES: [Shape; 8] = [
     Shape::Once,
     Shape::Missing,
     Shape::Count,
+    Shape::Pieces,
+    Shape::Whole,
 ];
 
 fn read_genome(alloc: Global) -> Result<Genome, Fault> {
@@ -152,6 +155,17 @@ fn read_genome(alloc: Global) -> Result<Genome, Fault> {
     let genome = Genome::read(alloc, &mut lines);
     let _ = lines.into_source();
     genome
+}
+
+// A sweep in which one shared base is a hit.
+fn any_overlap<O: ChromOrder>(alloc: Global, shape: Shape, order: &O) -> Sweep<'_, HeldList, O> {
+    Sweep::new(
+        alloc,
+        HeldList::new(alloc),
+        shape,
+        HitRule::any_overlap(),
+        order,
+    )
 }
 
 // Gives a record of the first input. None: it isn't asked for.
@@ -274,13 +288,62 @@ fn worked_rows(rt: HostRuntime) {
         return;
     };
     for (name, shape, first, second, want) in CASES {
-        let mut sweep = Sweep::new(rt.alloc(), HeldList::new(rt.alloc()), shape, &genome);
+        let mut sweep = any_overlap(rt.alloc(), shape, &genome);
         let mut out = Out::new(ScriptSink::new(rt.alloc(), 3, None));
         let swept = sweep_all(&mut sweep, first, second, &mut out);
         assert_eq!(rt; swept, Ok(()), "{name}");
         assert_eq!(rt; out.flush(), Ok(()), "{name}");
         assert_eq!(rt; out.into_sink().taken(), want, "{name}");
     }
+}
+
+// Whether a sweep writes what the case wants, to a sink that takes so many bytes.
+fn writes_ruled<O: ChromOrder>(
+    rt: &HostRuntime,
+    order: &O,
+    case: &RuledCase,
+    good: Option<usize>,
+) -> bool {
+    let (_, shape, rule, first, second, want) = *case;
+    let mut sweep = Sweep::new(rt.alloc(), HeldList::new(rt.alloc()), shape, rule, order);
+    let mut out = Out::new(ScriptSink::new(rt.alloc(), 3, good));
+    let swept = sweep_all(&mut sweep, first, second, &mut out);
+    let ended = swept.is_ok() && out.flush().is_ok();
+    let sink = out.into_sink();
+    match good {
+        None => ended && sink.taken() == want,
+        Some(good) => !ended && Some(sink.taken()) == want.get(..good),
+    }
+}
+
+// The name of the first case that is written otherwise, on a sink that works and on those that fail.
+fn first_miswritten<O: ChromOrder>(
+    rt: &HostRuntime,
+    order: &O,
+    cases: &[RuledCase],
+) -> Option<&'static str> {
+    for case in cases {
+        if !writes_ruled(rt, order, case, None) {
+            return Some(case.0);
+        }
+        for good in 0..case.5.len() {
+            if !writes_ruled(rt, order, case, Some(good)) {
+                return Some(case.0);
+            }
+        }
+    }
+    None
+}
+
+#[test]
+fn worked_rows_with_rules(rt: HostRuntime) {
+    let Ok(genome) = read_genome(rt.alloc()) else {
+        assert!(rt; false);
+        return;
+    };
+    assert_eq!(rt; first_miswritten(&rt, &genome, &FRACTIONS), None);
+    assert_eq!(rt; first_miswritten(&rt, &genome, &STRANDS), None);
+    assert_eq!(rt; first_miswritten(&rt, &genome, &SUBTRACTED), None);
 }
 
 // After a fault nothing is asked for, and the sink has a front of what is written else.
@@ -292,7 +355,7 @@ fn a_sink_that_fails_at_each_byte(rt: HostRuntime) {
     };
     for (name, shape, first, second, want) in CASES {
         for good in 0..want.len() {
-            let mut sweep = Sweep::new(rt.alloc(), HeldList::new(rt.alloc()), shape, &genome);
+            let mut sweep = any_overlap(rt.alloc(), shape, &genome);
             let mut out = Out::new(ScriptSink::new(rt.alloc(), 4, Some(good)));
             let swept = sweep_all(&mut sweep, first, second, &mut out);
             assert_eq!(rt; sweep.want(), Want::Nothing, "{name} at {good}");
@@ -330,7 +393,7 @@ fn records_are_held_until_one_starts_past_them(rt: HostRuntime) {
         assert!(rt; false);
         return;
     };
-    let mut sweep = Sweep::new(rt.alloc(), HeldList::new(rt.alloc()), Shape::Cut, &genome);
+    let mut sweep = any_overlap(rt.alloc(), Shape::Cut, &genome);
     let mut out = Out::new(ScriptSink::new(rt.alloc(), 100, None));
     assert_eq!(rt; sweep.want(), Want::A);
     assert_eq!(rt;
@@ -365,7 +428,7 @@ fn a_record_before_the_chromosome_is_not_held(rt: HostRuntime) {
         assert!(rt; false);
         return;
     };
-    let mut sweep = Sweep::new(rt.alloc(), HeldList::new(rt.alloc()), Shape::Cut, &genome);
+    let mut sweep = any_overlap(rt.alloc(), Shape::Cut, &genome);
     let mut out = Out::new(ScriptSink::new(rt.alloc(), 100, None));
     assert_eq!(rt;
         give_first(&mut sweep, b"chr2\t0\t5", &mut out),
@@ -394,7 +457,7 @@ fn decided_lines_are_written_before_the_end(rt: HostRuntime) {
         assert!(rt; false);
         return;
     };
-    let mut sweep = Sweep::new(rt.alloc(), HeldList::new(rt.alloc()), Shape::Cut, &genome);
+    let mut sweep = any_overlap(rt.alloc(), Shape::Cut, &genome);
     let mut out = Out::new(ScriptSink::new(rt.alloc(), 100, None));
     assert_eq!(rt;
         give_first(&mut sweep, b"chr1\t0\t10", &mut out),
@@ -428,7 +491,7 @@ fn many_records_that_are_not_held(rt: HostRuntime) -> Result<(), Fail> {
         assert!(rt; false);
         return Ok(());
     };
-    let mut sweep = Sweep::new(rt.alloc(), HeldList::new(rt.alloc()), Shape::Count, &genome);
+    let mut sweep = any_overlap(rt.alloc(), Shape::Count, &genome);
     let mut out = Out::new(ScriptSink::new(rt.alloc(), 100, None));
     assert_eq!(rt;
         give_first(&mut sweep, b"chr1\t50000\t50001", &mut out),
@@ -466,8 +529,14 @@ fn gives_what_the_plain_program_gives(rt: HostRuntime) -> Result<(), Fail> {
         let records = records_of(rt.alloc(), first)?;
         let others = records_of(rt.alloc(), second)?;
         for shape in SHAPES {
-            let want = plain_intersect(rt.alloc(), shape, records.as_slice(), others.as_slice())?;
-            let mut sweep = Sweep::new(rt.alloc(), HeldList::new(rt.alloc()), shape, &genome);
+            let want = plain_intersect(
+                rt.alloc(),
+                shape,
+                HitRule::any_overlap(),
+                records.as_slice(),
+                others.as_slice(),
+            )?;
+            let mut sweep = any_overlap(rt.alloc(), shape, &genome);
             let mut out = Out::new(ScriptSink::new(rt.alloc(), 3, None));
             let swept = sweep_all(&mut sweep, first, second, &mut out);
             assert_eq!(rt; swept, Ok(()), "{name}");

@@ -1,6 +1,7 @@
 use super::*;
 use crate::option_laws::{division, worked_cases};
 use crate::usage::usage_line;
+use std::process::Abort;
 use std::test::Fail;
 
 /// The words, and the plan or the line on standard error that they give.
@@ -150,43 +151,204 @@ const INTERSECT: [(&[&str], &str); 22] = [
         "bedtools: standard input named twice\n",
     ),
     (
-        &["-a", "x", "-b", "y", "-g", "g", "-f", "0.5"],
-        "bedtools: unknown option: -f\n",
+        &["-a", "x", "-b", "y", "-g", "g", "-F", "0.5"],
+        "bedtools: unknown option: -F\n",
     ),
     (&["-i", "x"], "bedtools: unknown option: -i\n"),
     (&["-a", "x", "-b"], "bedtools: value missing: -b\n"),
     (
         &["-a", "x", "-b", "y", "-g", "g"],
-        "Intersect { shape: Cut } Some(\"g\") x Some(\"y\") None",
+        "Intersect { shape: Cut, rule: HitRule { billionths: 0, both: false, same_strand: false } } Some(\"g\") x Some(\"y\") None",
     ),
     (
         &["-sorted", "-a", "x", "-b", "y", "-g", "g", "-wa", "-wa"],
-        "Intersect { shape: OrigA } Some(\"g\") x Some(\"y\") None",
+        "Intersect { shape: OrigA, rule: HitRule { billionths: 0, both: false, same_strand: false } } Some(\"g\") x Some(\"y\") None",
     ),
     (
         &["-a", "x", "-b", "y", "-g", "g", "-wb"],
-        "Intersect { shape: CutAndB } Some(\"g\") x Some(\"y\") None",
+        "Intersect { shape: CutAndB, rule: HitRule { billionths: 0, both: false, same_strand: false } } Some(\"g\") x Some(\"y\") None",
     ),
     (
         &["-wb", "-a", "x", "-b", "y", "-wa", "-g", "g"],
-        "Intersect { shape: OrigBoth } Some(\"g\") x Some(\"y\") None",
+        "Intersect { shape: OrigBoth, rule: HitRule { billionths: 0, both: false, same_strand: false } } Some(\"g\") x Some(\"y\") None",
     ),
     (
         &["-a", "x", "-b", "y", "-g", "g", "-wo"],
-        "Intersect { shape: Overlap } Some(\"g\") x Some(\"y\") None",
+        "Intersect { shape: Overlap, rule: HitRule { billionths: 0, both: false, same_strand: false } } Some(\"g\") x Some(\"y\") None",
     ),
     (
         &["-a", "x", "-b", "y", "-g", "g", "-u", "-wa"],
-        "Intersect { shape: Once } Some(\"g\") x Some(\"y\") None",
+        "Intersect { shape: Once, rule: HitRule { billionths: 0, both: false, same_strand: false } } Some(\"g\") x Some(\"y\") None",
     ),
     (
         &["-a", "x", "-b", "y", "-g", "g", "-v", "-sorted"],
-        "Intersect { shape: Missing } Some(\"g\") x Some(\"y\") None",
+        "Intersect { shape: Missing, rule: HitRule { billionths: 0, both: false, same_strand: false } } Some(\"g\") x Some(\"y\") None",
     ),
     (
         &["-a", "-", "-b", "y", "-g", "g", "-c"],
-        "Intersect { shape: Count } Some(\"g\") - Some(\"y\") None",
+        "Intersect { shape: Count, rule: HitRule { billionths: 0, both: false, same_strand: false } } Some(\"g\") - Some(\"y\") None",
     ),
+];
+
+/// The same for what makes a hit.
+const RULES: [(&[&str], &str); 14] = [
+    (
+        &["-a", "x", "-b", "y", "-g", "g", "-f", "1.5"],
+        "bedtools: bad value: -f\n",
+    ),
+    (
+        &["-a", "x", "-b", "y", "-g", "g", "-f", "0.5000000000"],
+        "bedtools: bad value: -f\n",
+    ),
+    (
+        &["-a", "x", "-b", "y", "-g", "g", "-f", "."],
+        "bedtools: bad value: -f\n",
+    ),
+    (
+        &["-a", "x", "-b", "y", "-g", "g", "-f", "1.000000001"],
+        "bedtools: bad value: -f\n",
+    ),
+    (
+        &["-a", "x", "-b", "y", "-g", "g", "-f", ""],
+        "bedtools: bad value: -f\n",
+    ),
+    (
+        &["-a", "x", "-b", "y", "-g", "g", "-f", "5e-1"],
+        "bedtools: bad value: -f\n",
+    ),
+    (
+        &["-a", "x", "-b", "y", "-g", "g", "-f", "+1"],
+        "bedtools: bad value: -f\n",
+    ),
+    (
+        &["-a", "x", "-b", "y", "-g", "g", "-f", " 1"],
+        "bedtools: bad value: -f\n",
+    ),
+    (
+        &["-a", "x", "-b", "y", "-g", "g", "-f"],
+        "bedtools: value missing: -f\n",
+    ),
+    (
+        &["-a", "x", "-b", "y", "-g", "g", "-f", "0.5"],
+        "Intersect { shape: Cut, rule: HitRule { billionths: 500000000, both: false, same_strand: false } } Some(\"g\") x Some(\"y\") None",
+    ),
+    (
+        &["-a", "x", "-b", "y", "-g", "g", "-f", ".5", "-r", "-s"],
+        "Intersect { shape: Cut, rule: HitRule { billionths: 500000000, both: true, same_strand: true } } Some(\"g\") x Some(\"y\") None",
+    ),
+    (
+        &["-r", "-a", "x", "-b", "y", "-g", "g", "-f", "1"],
+        "Intersect { shape: Cut, rule: HitRule { billionths: 1000000000, both: true, same_strand: false } } Some(\"g\") x Some(\"y\") None",
+    ),
+    (
+        &["-a", "x", "-b", "y", "-g", "g", "-s", "-u", "-s"],
+        "Intersect { shape: Once, rule: HitRule { billionths: 0, both: false, same_strand: true } } Some(\"g\") x Some(\"y\") None",
+    ),
+    (
+        &[
+            "-a",
+            "x",
+            "-b",
+            "y",
+            "-g",
+            "g",
+            "-f",
+            "1.",
+            "-f",
+            "0.000000001",
+        ],
+        "Intersect { shape: Cut, rule: HitRule { billionths: 1, both: false, same_strand: false } } Some(\"g\") x Some(\"y\") None",
+    ),
+];
+
+/// The same for subtract.
+const SUBTRACT: [(&[&str], &str); 16] = [
+    (&["-a", "x"], "bedtools: required option missing\n"),
+    (
+        &["-a", "x", "-b", "y"],
+        "bedtools: required option missing\n",
+    ),
+    (
+        &["-a", "-", "-b", "stdin", "-g", "g"],
+        "bedtools: standard input named twice\n",
+    ),
+    (
+        &["-a", "x", "-b", "-", "-g", "-"],
+        "bedtools: standard input named twice\n",
+    ),
+    (
+        &["-a", "x", "-b", "y", "-g", "g", "-r"],
+        "bedtools: unknown option: -r\n",
+    ),
+    (
+        &["-a", "x", "-b", "y", "-g", "g", "-sorted"],
+        "bedtools: unknown option: -sorted\n",
+    ),
+    (
+        &["-a", "x", "-b", "y", "-g", "g", "-N"],
+        "bedtools: unknown option: -N\n",
+    ),
+    (
+        &["-a", "x", "-b", "y", "-g", "g", "-wb"],
+        "bedtools: unknown option: -wb\n",
+    ),
+    (
+        &["-a", "x", "-b", "y", "-g", "g", "-wo"],
+        "bedtools: unknown option: -wo\n",
+    ),
+    (
+        &["-a", "x", "-b", "y", "-g", "g", "-F"],
+        "bedtools: unknown option: -F\n",
+    ),
+    (
+        &["-a", "x", "-b", "y", "-g", "g", "-S"],
+        "bedtools: unknown option: -S\n",
+    ),
+    (
+        &["-a", "x", "-b", "y", "-g", "g", "-f", "1.000000001"],
+        "bedtools: bad value: -f\n",
+    ),
+    (
+        &["-a", "x", "-b", "y", "-g", "g"],
+        "Subtract { whole: false, rule: HitRule { billionths: 0, both: false, same_strand: false } } Some(\"g\") x Some(\"y\") None",
+    ),
+    (
+        &["-a", "x", "-b", "y", "-g", "g", "-A"],
+        "Subtract { whole: true, rule: HitRule { billionths: 0, both: false, same_strand: false } } Some(\"g\") x Some(\"y\") None",
+    ),
+    (
+        &["-a", "x", "-b", "y", "-g", "g", "-s", "-f", "00.5", "-A"],
+        "Subtract { whole: true, rule: HitRule { billionths: 500000000, both: false, same_strand: true } } Some(\"g\") x Some(\"y\") None",
+    ),
+    (
+        &["-f", "0.5", "-a", "x", "-b", "y", "-g", "g", "-f", "1"],
+        "Subtract { whole: false, rule: HitRule { billionths: 1000000000, both: false, same_strand: false } } Some(\"g\") x Some(\"y\") None",
+    ),
+];
+
+/// The same for bamtobed.
+const BAM_TO_BED: [(&[&str], &str); 9] = [
+    (
+        &[],
+        "BamToBed { split: false, cigar: false } None stdin None None",
+    ),
+    (
+        &["-split", "-i", "a.sam", "-cigar"],
+        "BamToBed { split: true, cigar: true } None a.sam None None",
+    ),
+    (
+        &["-cigar", "-i", "a.sam", "-cigar", "-i", "-"],
+        "BamToBed { split: false, cigar: true } None - None None",
+    ),
+    (
+        &["-i", "-split", "-split"],
+        "BamToBed { split: true, cigar: false } None -split None None",
+    ),
+    (&["-g", "x"], "bedtools: unknown option: -g\n"),
+    (&["x"], "bedtools: unknown option: x\n"),
+    (&["-splitD"], "bedtools: unknown option: -splitD\n"),
+    (&["-i"], "bedtools: value missing: -i\n"),
+    (&["-cigar", "-i", ""], "bedtools: bad value: -i\n"),
 ];
 
 fn shown(alloc: Global, plan: &Plan) -> Result<String, AllocError> {
@@ -228,16 +390,41 @@ fn words_give_a_plan_or_a_usage_line(rt: HostRuntime) -> Result<(), Fail> {
     Ok(())
 }
 
-#[test]
-fn words_of_intersect(rt: HostRuntime) -> Result<(), Fail> {
-    for (options, wanted) in INTERSECT {
-        let mut texts = vec![in rt.alloc(); "intersect"]?;
+// Each command line of a table gives what stands there.
+fn check_all(
+    rt: &impl Abort,
+    alloc: Global,
+    command: &'static str,
+    cases: &[(&'static [&'static str], &'static str)],
+) -> Result<(), Fail> {
+    for (options, wanted) in cases {
+        let mut texts = vec![in alloc; command]?;
         texts.extend_from_slice(options)?;
-        let words = owned(rt.alloc(), texts.as_slice())?;
-        let given = answer(rt.alloc(), words.as_slice())?;
-        assert_eq!(rt; given.as_str(), wanted, "at {options:?}");
+        let words = owned(alloc, texts.as_slice())?;
+        let given = answer(alloc, words.as_slice())?;
+        assert_eq!(rt; given.as_str(), *wanted, "at {options:?}");
     }
     Ok(())
+}
+
+#[test]
+fn words_of_intersect(rt: HostRuntime) -> Result<(), Fail> {
+    check_all(&rt, rt.alloc(), "intersect", &INTERSECT)
+}
+
+#[test]
+fn words_of_rules(rt: HostRuntime) -> Result<(), Fail> {
+    check_all(&rt, rt.alloc(), "intersect", &RULES)
+}
+
+#[test]
+fn words_of_subtract(rt: HostRuntime) -> Result<(), Fail> {
+    check_all(&rt, rt.alloc(), "subtract", &SUBTRACT)
+}
+
+#[test]
+fn words_of_bamtobed(rt: HostRuntime) -> Result<(), Fail> {
+    check_all(&rt, rt.alloc(), "bamtobed", &BAM_TO_BED)
 }
 
 #[test]

@@ -8,7 +8,7 @@ use Rattle.bt_sweep.proofs.hit.count_hits.Goals.{then-is_hit_by, else-is_hit_by}
 
 pub loop-index-preserved : goal.loop-index-preserved
 loop-index-preserved g c =
-    let p = hits (feature_lent c.args.a.now) in
+    let p = hits c.args.rule (feature_lent c.args.a.now) in
     let held = g.H.Held.records c.args.held.now in
     let i = c.loop-index.index in
     let n = c.loop-index.count in

@@ -7,12 +7,12 @@ use Rattle.bt_sweep.proofs.hit.is_any_hit.Goals as goal
 
 pub returns-then-is_hit_by : goal.returns-then-is_hit_by
 returns-then-is_hit_by g c =
-    let p = hits (feature_lent c.args.a.now) in
+    let p = hits c.args.rule (feature_lent c.args.a.now) in
     let at = ap (λ o. list_any p (option_to_list o)) c.nth.ensures in
     sym (any_at p (g.H.Held.records c.args.held.now) c.loop-index.index (sym (c.if-is_hit_by.ensures ∙ at)))
 
 pub loop-index-preserved : goal.loop-index-preserved
 loop-index-preserved g c =
-    let p = hits (feature_lent c.args.a.now) in
+    let p = hits c.args.rule (feature_lent c.args.a.now) in
     let at = ap (λ o. list_any p (option_to_list o)) c.nth.ensures in
     none_next p (g.H.Held.records c.args.held.now) c.loop-index.index c.loop-index.invariant (sym (c.if-is_hit_by.ensures ∙ at))

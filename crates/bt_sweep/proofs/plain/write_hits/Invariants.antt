@@ -5,4 +5,4 @@ use Rattle.bt_sweep.specs.Lines.{hit_line}
 use Rattle.bt_sweep.proofs.plain.write_hits.Given as goal
 
 abbrev pub invariant-loop-b : goal.invariant-loop-b
-invariant-loop-b l = l.text.items ≡ l.initial.text.items ++ flat_map (hit_line l.shape (feature_lent l.a)) (hits_among (feature_lent l.a) (take l.b-index l.second))
+invariant-loop-b l = l.text.items ≡ l.initial.text.items ++ flat_map (hit_line l.shape (feature_lent l.a)) (hits_among l.rule (feature_lent l.a) (take l.b-index l.second))

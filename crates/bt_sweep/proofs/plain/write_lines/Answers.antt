@@ -3,36 +3,43 @@ use Rattle.std.proofs.lemmas.Result.{on_ok_weaker}
 use Rattle.bt_bed.specs.Feature.{Feature}
 use Rattle.bt_bed.specs.Record.{bed_text}
 use Rattle.bt_sweep.specs.Hits.{hits_among}
-use Rattle.bt_sweep.specs.Lines.{hit_line, line_with}
-use Rattle.bt_sweep.proofs.PlainLemmas.{count_all, each_hit, missing_none, missing_some, once_none, once_some}
+use Rattle.bt_sweep.specs.Lines.{hit_line, line_with, piece_line}
+use Rattle.bt_sweep.specs.Pieces.{pieces}
+use Rattle.bt_sweep.proofs.PlainLemmas.{all_pieces, count_all, each_hit, missing_none, missing_some, once_none, once_some}
 use Rattle.bt_sweep.proofs.plain.write_lines.Goals as goal
 
 pub returns-in-Once : goal.returns-in-Once
-returns-in-Once c = sym (append-nil c.args.text.now.items) ∙ ap (λ (l : List ℕ). c.args.text.now.items ++ l) (sym (once_none c.args.a.now c.args.second.now c.args.shape c.count_hits-count.result c.count_hits-count.ensures c.in-Once.is c.if-count-eq0.true))
+returns-in-Once c = sym (append-nil c.args.text.now.items) ∙ ap (λ (l : List ℕ). c.args.text.now.items ++ l) (sym (once_none c.args.a.now c.args.second.now c.args.shape c.args.rule c.count_hits-count.result c.count_hits-count.ensures c.in-Once.is c.if-count-eq0.true))
 
 pub returns-in-Once-2 : goal.returns-in-Once-2
 returns-in-Once-2 c =
     on_ok_weaker c.write_line.result
-    (λ e. e ∙ ap (λ (l : List ℕ). c.args.text.now.items ++ l) (ap (λ (f : Feature). line_with (bed_text f ∷ [])) c.as_bed-a.ensures ∙ sym (once_some c.args.a.now c.args.second.now c.args.shape c.count_hits-count.result c.count_hits-count.ensures c.in-Once.is c.if-count-eq0.false)))
+    (λ e. e ∙ ap (λ (l : List ℕ). c.args.text.now.items ++ l) (ap (λ (f : Feature). line_with (bed_text f ∷ [])) c.as_bed-a.ensures ∙ sym (once_some c.args.a.now c.args.second.now c.args.shape c.args.rule c.count_hits-count.result c.count_hits-count.ensures c.in-Once.is c.if-count-eq0.false)))
     c.write_line.ensures
 
 pub returns-in-Missing : goal.returns-in-Missing
 returns-in-Missing c =
     on_ok_weaker c.write_line-in-Missing.result
-    (λ e. e ∙ ap (λ (l : List ℕ). c.args.text.now.items ++ l) (ap (λ (f : Feature). line_with (bed_text f ∷ [])) c.as_bed-a.ensures ∙ sym (missing_none c.args.a.now c.args.second.now c.args.shape c.count_hits-count.result c.count_hits-count.ensures c.in-Missing.is c.if-count-eq0-2.true)))
+    (λ e. e ∙ ap (λ (l : List ℕ). c.args.text.now.items ++ l) (ap (λ (f : Feature). line_with (bed_text f ∷ [])) c.as_bed-a.ensures ∙ sym (missing_none c.args.a.now c.args.second.now c.args.shape c.args.rule c.count_hits-count.result c.count_hits-count.ensures c.in-Missing.is c.if-count-eq0-2.true)))
     c.write_line-in-Missing.ensures
 
 pub returns-in-Missing-2 : goal.returns-in-Missing-2
-returns-in-Missing-2 c = sym (append-nil c.args.text.now.items) ∙ ap (λ (l : List ℕ). c.args.text.now.items ++ l) (sym (missing_some c.args.a.now c.args.second.now c.args.shape c.count_hits-count.result c.count_hits-count.ensures c.in-Missing.is c.if-count-eq0-2.false))
+returns-in-Missing-2 c = sym (append-nil c.args.text.now.items) ∙ ap (λ (l : List ℕ). c.args.text.now.items ++ l) (sym (missing_some c.args.a.now c.args.second.now c.args.shape c.args.rule c.count_hits-count.result c.count_hits-count.ensures c.in-Missing.is c.if-count-eq0-2.false))
 
 pub returns-in-Count : goal.returns-in-Count
 returns-in-Count c =
     on_ok_weaker c.write_counted.result
-    (λ e. e ∙ ap (λ (l : List ℕ). c.args.text.now.items ++ l) (ap (λ (f : Feature). line_with (bed_text f ∷ decimal c.count_hits-count.result ∷ [])) c.as_bed-a.ensures ∙ sym (count_all c.args.a.now c.args.second.now c.args.shape c.count_hits-count.result c.count_hits-count.ensures c.in-Count.is)))
+    (λ e. e ∙ ap (λ (l : List ℕ). c.args.text.now.items ++ l) (ap (λ (f : Feature). line_with (bed_text f ∷ decimal c.count_hits-count.result ∷ [])) c.as_bed-a.ensures ∙ sym (count_all c.args.a.now c.args.second.now c.args.shape c.args.rule c.count_hits-count.result c.count_hits-count.ensures c.in-Count.is)))
     c.write_counted.ensures
 
 pub returns-in-Cut : goal.returns-in-Cut
 returns-in-Cut c =
     on_ok_weaker c.write_hits.result
-    (λ e. e ∙ ap (λ (l : List ℕ). c.args.text.now.items ++ l) (ap (λ (f : Feature). flat_map (hit_line c.args.shape f) (hits_among f c.args.second.now)) c.as_bed-a.ensures ∙ sym (each_hit c.args.a.now c.args.second.now c.args.shape c.in-Cut.is)))
+    (λ e. e ∙ ap (λ (l : List ℕ). c.args.text.now.items ++ l) (ap (λ (f : Feature). flat_map (hit_line c.args.shape f) (hits_among c.args.rule f c.args.second.now)) c.as_bed-a.ensures ∙ sym (each_hit c.args.a.now c.args.second.now c.args.shape c.args.rule c.in-Cut.is)))
     c.write_hits.ensures
+
+pub returns-in-Pieces : goal.returns-in-Pieces
+returns-in-Pieces c =
+    on_ok_weaker c.write_pieces.result
+    (λ e. e ∙ ap (λ (l : List ℕ). c.args.text.now.items ++ l) (ap (λ (f : Feature). flat_map (piece_line f) (pieces f (hits_among c.args.rule f c.args.second.now))) c.as_bed-a.ensures ∙ sym (all_pieces c.args.a.now c.args.second.now c.args.shape c.args.rule c.in-Pieces.is)))
+    c.write_pieces.ensures

@@ -1,15 +1,18 @@
 use Rattle.bt_bed.specs.Bed.{feature_lent}
-use Rattle.bt_sweep.proofs.WritingLemmas.{count_adds, hits_adds, missing_adds, once_adds}
+use Rattle.bt_sweep.proofs.WritingLemmas.{count_adds, hits_adds, missing_adds, once_adds, pieces_add}
 use Rattle.bt_sweep.proofs.writing.put_lines.Goals as goal
 
 pub returns-in-Count : goal.returns-in-Count
-returns-in-Count g c = count_adds (feature_lent c.args.a.now) (g.H.Held.records c.args.held.now) _ _ c.put_counted.result c.args.shape _ c.in-Count.is c.count_hits.ensures c.put_counted.ensures
+returns-in-Count g c = λ rises. count_adds (feature_lent c.args.a.now) (g.H.Held.records c.args.held.now) _ _ c.put_counted.result c.args.shape c.args.rule _ c.in-Count.is c.count_hits.ensures c.put_counted.ensures
 
 pub returns-in-Once : goal.returns-in-Once
-returns-in-Once g c = once_adds (feature_lent c.args.a.now) (g.H.Held.records c.args.held.now) _ _ c.put_where.result c.args.shape _ c.in-Once.is c.is_any_hit.ensures c.put_where.ensures
+returns-in-Once g c = λ rises. once_adds (feature_lent c.args.a.now) (g.H.Held.records c.args.held.now) _ _ c.put_where.result c.args.shape c.args.rule _ c.in-Once.is c.is_any_hit.ensures c.put_where.ensures
 
 pub returns-in-Missing : goal.returns-in-Missing
-returns-in-Missing g c = missing_adds (feature_lent c.args.a.now) (g.H.Held.records c.args.held.now) _ _ c.put_where-in-Missing.result c.args.shape _ c.in-Missing.is c.is_any_hit-in-Missing.ensures c.put_where-in-Missing.ensures
+returns-in-Missing g c = λ rises. missing_adds (feature_lent c.args.a.now) (g.H.Held.records c.args.held.now) _ _ c.put_where-in-Missing.result c.args.shape c.args.rule _ c.in-Missing.is c.is_any_hit-in-Missing.ensures c.put_where-in-Missing.ensures
 
 pub returns-in-Cut : goal.returns-in-Cut
-returns-in-Cut g c = hits_adds (feature_lent c.args.a.now) (g.H.Held.records c.args.held.now) _ _ c.put_hits.result c.args.shape c.in-Cut.is c.put_hits.ensures
+returns-in-Cut g c = λ rises. hits_adds (feature_lent c.args.a.now) (g.H.Held.records c.args.held.now) _ _ c.put_hits.result c.args.shape c.args.rule c.in-Cut.is c.put_hits.ensures
+
+pub returns-in-Pieces : goal.returns-in-Pieces
+returns-in-Pieces g c = λ rises. pieces_add (feature_lent c.args.a.now) (g.H.Held.records c.args.held.now) _ _ c.put_pieces.result c.args.shape c.args.rule c.in-Pieces.is (c.put_pieces.ensures rises)

@@ -18,6 +18,6 @@ returns-clause-written g c =
     let es = entries c.args.genome.now in
     let order = order_of es in
     let swept = c.sweep-fault in
-    subst (λ second. WritesBy g.A.Source.left g.A.Source.has_failed g.A.Source.end_told g.B.Source.left g.B.Source.has_failed (Intersect c.args.shape) es c.args.first second c.args.out.now (option_map told swept.result.0) swept.result.1 (Some swept.result.2) swept.new.out) (sym c.in-Some.is)
-    (both_write g.A.Source.left g.A.Source.has_failed g.A.Source.end_told g.B.Source.left g.B.Source.has_failed (intersect_report order c.args.shape) (intersect_settles order c.args.shape) (intersect_reaches order)
+    subst (λ second. WritesBy g.A.Source.left g.A.Source.has_failed g.A.Source.end_told g.B.Source.left g.B.Source.has_failed (Intersect c.args.shape c.args.rule) es c.args.first second c.args.out.now (option_map told swept.result.0) swept.result.1 (Some swept.result.2) swept.new.out) (sym c.in-Some.is)
+    (both_write g.A.Source.left g.A.Source.has_failed g.A.Source.end_told g.B.Source.left g.B.Source.has_failed (intersect_report order c.args.shape c.args.rule) (intersect_settles order c.args.shape c.args.rule) (intersect_reaches order)
     c.args.first c.in-Some.second c.args.out.now (option_map told swept.result.0) swept.result.1 swept.result.2 swept.new.out swept.ensures)

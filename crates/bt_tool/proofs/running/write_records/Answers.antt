@@ -13,8 +13,10 @@ use Rattle.bt_runs.specs.MergedRuns.{AreTaken, merged_runs, settled_runs}
 use Rattle.bt_tool.proofs.WriteLemmas.{lines_stay, lines_begin, complement_begins, complement_writes, merge_begins, merge_writes}
 use Rattle.std.proofs.Common.{None, refl, subst, sym}
 use Rattle.bt_tool.specs.Chromosomes.{WritesBy}
-use Rattle.bt_tool.specs.Report.{command_reaches, command_report, command_settles, second_kinds}
-use Rattle.bt_tool.specs.declared.plan_type.Command.TheVariants.{Merge, Complement}
+use Rattle.bt_tool.specs.Report.{command_reaches, command_report, command_settles, second_kinds, first_kinds}
+use Rattle.bt_tool.specs.declared.plan_type.Command.TheVariants.{Merge, Complement, Intersect, BamToBed}
+use Rattle.bt_tool.proofs.SubtractLemmas.{subtract_writes}
+use Rattle.bt_tool.specs.Converted.{bamtobed_report, bamtobed_settles}
 use Rattle.bt_tool.proofs.WritingLemmas.{alone_writes}
 use Rattle.bt_tool.proofs.running.write_records.Goals as goal
 
@@ -38,7 +40,7 @@ returns-in-Merge-clause-written g c =
     let es = entries c.args.genome.now in
     let engine = c.new-engine in
     subst (λ command. WritesBy g.A.Source.left g.A.Source.has_failed g.A.Source.end_told g.B.Source.left g.B.Source.has_failed command es c.args.first c.args.second c.args.out.now (option_map told drive.result.0) drive.result.1 c.args.second drive.new.out) (sym c.in-Merge.is)
-    (alone_writes g.A.Source.left g.A.Source.has_failed g.A.Source.end_told g.B.Source.left g.B.Source.has_failed (second_kinds (Merge c.in-Merge.d c.in-Merge.strand)) (λ handed. command_report (Merge c.in-Merge.d c.in-Merge.strand) es handed None) (command_settles (Merge c.in-Merge.d c.in-Merge.strand) es None)
+    (alone_writes g.A.Source.left g.A.Source.has_failed g.A.Source.end_told g.B.Source.left g.B.Source.has_failed (first_kinds (Merge c.in-Merge.d c.in-Merge.strand)) (second_kinds (Merge c.in-Merge.d c.in-Merge.strand)) (λ handed. command_report (Merge c.in-Merge.d c.in-Merge.strand) es handed None) (command_settles (Merge c.in-Merge.d c.in-Merge.strand) es None)
     (command_report (Merge c.in-Merge.d c.in-Merge.strand) es) (command_settles (Merge c.in-Merge.d c.in-Merge.strand) es) (command_reaches (Merge c.in-Merge.d c.in-Merge.strand) es) (λ one two. refl) (λ two. refl)
     c.args.first c.args.second c.args.out.now (option_map told drive.result.0) drive.result.1 drive.new.out
     (merge_writes es c.requires.distinct g.A.Source.left g.A.Source.has_failed (Merge c.in-Merge.d c.in-Merge.strand) c.in-Merge.d engine.result.gap c.in-Merge.strand engine.result.strand
@@ -66,8 +68,29 @@ returns-in-Complement-clause-written g c =
     let es = entries c.args.genome.now in
     let engine = c.new-engine-in-Complement in
     subst (λ command. WritesBy g.A.Source.left g.A.Source.has_failed g.A.Source.end_told g.B.Source.left g.B.Source.has_failed command es c.args.first c.args.second c.args.out.now (option_map told drive.result.0) drive.result.1 c.args.second drive.new.out) (sym c.in-Complement.is)
-    (alone_writes g.A.Source.left g.A.Source.has_failed g.A.Source.end_told g.B.Source.left g.B.Source.has_failed (second_kinds (Complement c.in-Complement.limit)) (λ handed. command_report (Complement c.in-Complement.limit) es handed None) (command_settles (Complement c.in-Complement.limit) es None)
+    (alone_writes g.A.Source.left g.A.Source.has_failed g.A.Source.end_told g.B.Source.left g.B.Source.has_failed (first_kinds (Complement c.in-Complement.limit)) (second_kinds (Complement c.in-Complement.limit)) (λ handed. command_report (Complement c.in-Complement.limit) es handed None) (command_settles (Complement c.in-Complement.limit) es None)
     (command_report (Complement c.in-Complement.limit) es) (command_settles (Complement c.in-Complement.limit) es) (command_reaches (Complement c.in-Complement.limit) es) (λ one two. refl) (λ two. refl)
     c.args.first c.args.second c.args.out.now (option_map told drive.result.0) drive.result.1 drive.new.out
     (complement_writes g.A.Source.left g.A.Source.has_failed (Complement c.in-Complement.limit) es engine.result.entries c.in-Complement.limit engine.result.limit
     refl engine.ensures.entries engine.ensures.limit c.args.first c.args.out.now (option_map told drive.result.0) drive.result.1 drive.new.out drive.ensures))
+
+pub returns-in-Subtract-clause-written : goal.returns-in-Subtract-clause-written
+returns-in-Subtract-clause-written g c =
+    let swept = c.sweep_both-in-Subtract in
+    let es = entries c.args.genome.now in
+    subst (λ command. WritesBy g.A.Source.left g.A.Source.has_failed g.A.Source.end_told g.B.Source.left g.B.Source.has_failed command es c.args.first c.args.second c.args.out.now (option_map told swept.result.0) swept.result.1 swept.result.2 swept.new.out) (sym c.in-Subtract.is)
+    (subtract_writes g.A.Source.left g.A.Source.has_failed g.A.Source.end_told g.B.Source.left g.B.Source.has_failed c.in-Subtract.whole c.in-Subtract.rule es c.args.first c.args.second c.args.out.now (option_map told swept.result.0) swept.result.1 swept.result.2 swept.new.out
+    (subst (λ shape. WritesBy g.A.Source.left g.A.Source.has_failed g.A.Source.end_told g.B.Source.left g.B.Source.has_failed (Intersect shape c.in-Subtract.rule) es c.args.first c.args.second c.args.out.now (option_map told swept.result.0) swept.result.1 swept.result.2 swept.new.out)
+    c.shape_left-shape.ensures swept.ensures.written))
+
+pub returns-in-BamToBed-clause-written : goal.returns-in-BamToBed-clause-written
+returns-in-BamToBed-clause-written g c =
+    let convert = c.convert-fault in
+    let es = entries c.args.genome.now in
+    let split = c.in-BamToBed.split in
+    let cigar = c.in-BamToBed.cigar in
+    let command = BamToBed split cigar in
+    subst (λ command. WritesBy g.A.Source.left g.A.Source.has_failed g.A.Source.end_told g.B.Source.left g.B.Source.has_failed command es c.args.first c.args.second c.args.out.now (option_map told convert.result.0) convert.result.1 c.args.second convert.new.out) (sym c.in-BamToBed.is)
+    (alone_writes g.A.Source.left g.A.Source.has_failed g.A.Source.end_told g.B.Source.left g.B.Source.has_failed (first_kinds command) (second_kinds command) (bamtobed_report split cigar) (bamtobed_settles split cigar)
+    (command_report command es) (command_settles command es) (command_reaches command es) (λ one two. refl) (λ two. refl)
+    c.args.first c.args.second c.args.out.now (option_map told convert.result.0) convert.result.1 convert.new.out convert.ensures)

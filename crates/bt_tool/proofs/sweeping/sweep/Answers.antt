@@ -6,6 +6,7 @@ use Rattle.bt_bed.specs.Order.{Order}
 use Rattle.bt_bed.specs.Records.{order_in}
 use Rattle.bt_sweep.specs.Standing.{StandsAt, first_stage}
 use Rattle.bt_sweep.specs.Sweep.{state_of}
+use Rattle.bt_sweep.specs.declared.hit_rule.HitRule.{HitRule}
 use Rattle.bt_sweep.specs.declared.shape.Shape.{Shape}
 use Rattle.bt_tool.specs.Swept.{Finishes}
 use Rattle.bt_tool.proofs.CameLemmas.{begins_by}
@@ -28,12 +29,13 @@ read_both-swept-requires-clause-starts g c =
     let reader_2 = c.new-2.ensures in
     let records_2 = c.new-seconds.ensures in
     let stands = c.new-sweep.ensures.stands in
-    sweeps_start g.A.Source.left g.A.Source.has_failed g.A.Source.end_told g.B.Source.left g.B.Source.has_failed g.B.Source.end_told (state_of c.new-sweep.result).shape c.new-firsts.result c.new-seconds.result c.args.out.now
+    sweeps_start g.A.Source.left g.A.Source.has_failed g.A.Source.end_told g.B.Source.left g.B.Source.has_failed g.B.Source.end_told (state_of c.new-sweep.result).shape (state_of c.new-sweep.result).rule c.new-firsts.result c.new-seconds.result c.args.out.now
     (fresh_start _ _ c.new.result c.new-firsts.result records.below reader.none_given reader.none_taken.0 reader.none_fed (records.fault ∙ reader.going.0) records.none_ahead reader.sound) records.none_last
     (fresh_start _ _ c.new-2.result c.new-seconds.result records_2.below reader_2.none_given reader_2.none_taken.0 reader_2.none_fed (records_2.fault ∙ reader_2.going.0) records_2.none_ahead reader_2.sound) records_2.none_last
     c.requires.block (state_of c.new-sweep.result)
-    (subst (λ (s : Shape). StandsAt (order_in c.new-firsts.result) s first_stage (state_of c.new-sweep.result)) (sym stands.shape_is)
-    (subst (λ (o : Order). StandsAt o c.args.shape first_stage (state_of c.new-sweep.result)) (sym records.order) stands))
+    (subst (λ (r : HitRule). StandsAt (order_in c.new-firsts.result) (state_of c.new-sweep.result).shape r first_stage (state_of c.new-sweep.result)) (sym stands.rule_is)
+    (subst (λ (s : Shape). StandsAt (order_in c.new-firsts.result) s c.args.rule first_stage (state_of c.new-sweep.result)) (sym stands.shape_is)
+    (subst (λ (o : Order). StandsAt o c.args.shape c.args.rule first_stage (state_of c.new-sweep.result)) (sym records.order) stands)))
 
 pub returns-in-Ok : goal.returns-in-Ok
 returns-in-Ok g c =
@@ -42,15 +44,16 @@ returns-in-Ok g c =
     let reader_2 = c.new-2.ensures in
     let records_2 = c.new-seconds.ensures in
     let order = g.O.ChromOrder.order c.args.order.now in
-    let ends = subst (λ (s : Shape). Finishes g.A.Source.left g.A.Source.has_failed g.A.Source.end_told g.B.Source.left g.B.Source.has_failed g.B.Source.end_told order s c.new-firsts.result c.new-seconds.result c.args.out.now None c.read_both-swept.new.first c.read_both-swept.new.second c.read_both-swept.new.out) c.new-sweep.ensures.stands.shape_is
-    (subst (λ (o : Order). Finishes g.A.Source.left g.A.Source.has_failed g.A.Source.end_told g.B.Source.left g.B.Source.has_failed g.B.Source.end_told o (state_of c.new-sweep.result).shape c.new-firsts.result c.new-seconds.result c.args.out.now None c.read_both-swept.new.first c.read_both-swept.new.second c.read_both-swept.new.out) records.order c.in-Ok.ensures) in
-    writes_both g.A.Source.left g.A.Source.has_failed g.A.Source.end_told g.B.Source.left g.B.Source.has_failed g.B.Source.end_told order c.args.shape c.requires.total c.new-firsts.result c.new-seconds.result c.args.out.now c.args.first c.args.second
+    let ends = subst (λ (r : HitRule). Finishes g.A.Source.left g.A.Source.has_failed g.A.Source.end_told g.B.Source.left g.B.Source.has_failed g.B.Source.end_told order c.args.shape r c.new-firsts.result c.new-seconds.result c.args.out.now None c.read_both-swept.new.first c.read_both-swept.new.second c.read_both-swept.new.out) c.new-sweep.ensures.stands.rule_is
+    (subst (λ (s : Shape). Finishes g.A.Source.left g.A.Source.has_failed g.A.Source.end_told g.B.Source.left g.B.Source.has_failed g.B.Source.end_told order s (state_of c.new-sweep.result).rule c.new-firsts.result c.new-seconds.result c.args.out.now None c.read_both-swept.new.first c.read_both-swept.new.second c.read_both-swept.new.out) c.new-sweep.ensures.stands.shape_is
+    (subst (λ (o : Order). Finishes g.A.Source.left g.A.Source.has_failed g.A.Source.end_told g.B.Source.left g.B.Source.has_failed g.B.Source.end_told o (state_of c.new-sweep.result).shape (state_of c.new-sweep.result).rule c.new-firsts.result c.new-seconds.result c.args.out.now None c.read_both-swept.new.first c.read_both-swept.new.second c.read_both-swept.new.out) records.order c.in-Ok.ensures)) in
+    writes_both g.A.Source.left g.A.Source.has_failed g.A.Source.end_told g.B.Source.left g.B.Source.has_failed g.B.Source.end_told order c.args.shape c.args.rule c.requires.total c.new-firsts.result c.new-seconds.result c.args.out.now c.args.first c.args.second
     (begins_by g.A.Source.left order First c.args.first c.new.result c.new-firsts.result records.below reader.source reader.input reader.none_taken.0 reader.none_fed reader.going.0 reader.lines records.good)
     (begins_by g.B.Source.left order Second c.args.second c.new-2.result c.new-seconds.result records_2.below reader_2.source reader_2.input reader_2.none_taken.0 reader_2.none_fed reader_2.going.0 reader_2.lines records_2.good)
     c.read_both-swept.new.first c.read_both-swept.new.second c.into_source-first.result c.into_source-second.result
     (sym (c.into_source-first.ensures ∙ ap source_of c.into_reader.ensures)) (sym (c.into_source-second.ensures ∙ ap source_of c.into_reader-2.ensures))
     None c.read_both-swept.new.out ends
-    (near_both g.A.Source.left g.A.Source.has_failed g.A.Source.end_told g.B.Source.left g.B.Source.has_failed g.B.Source.end_told order c.args.shape c.requires.total c.new-firsts.result c.new-seconds.result c.args.out.now c.args.first c.args.second
+    (near_both g.A.Source.left g.A.Source.has_failed g.A.Source.end_told g.B.Source.left g.B.Source.has_failed g.B.Source.end_told order c.args.shape c.args.rule c.requires.total c.new-firsts.result c.new-seconds.result c.args.out.now c.args.first c.args.second
     (begins_by g.A.Source.left order First c.args.first c.new.result c.new-firsts.result records.below reader.source reader.input reader.none_taken.0 reader.none_fed reader.going.0 reader.lines records.good)
     (begins_by g.B.Source.left order Second c.args.second c.new-2.result c.new-seconds.result records_2.below reader_2.source reader_2.input reader_2.none_taken.0 reader_2.none_fed reader_2.going.0 reader_2.lines records_2.good)
     c.read_both-swept.new.first c.read_both-swept.new.second c.into_source-first.result c.into_source-second.result
@@ -65,15 +68,16 @@ returns g c =
     let records_2 = c.new-seconds.ensures in
     let order = g.O.ChromOrder.order c.args.order.now in
     let fault = Some (told c.in-Err.fault) in
-    let ends = subst (λ (s : Shape). Finishes g.A.Source.left g.A.Source.has_failed g.A.Source.end_told g.B.Source.left g.B.Source.has_failed g.B.Source.end_told order s c.new-firsts.result c.new-seconds.result c.args.out.now fault c.read_both-swept.new.first c.read_both-swept.new.second c.read_both-swept.new.out) c.new-sweep.ensures.stands.shape_is
-    (subst (λ (o : Order). Finishes g.A.Source.left g.A.Source.has_failed g.A.Source.end_told g.B.Source.left g.B.Source.has_failed g.B.Source.end_told o (state_of c.new-sweep.result).shape c.new-firsts.result c.new-seconds.result c.args.out.now fault c.read_both-swept.new.first c.read_both-swept.new.second c.read_both-swept.new.out) records.order c.in-Err.ensures) in
-    writes_both g.A.Source.left g.A.Source.has_failed g.A.Source.end_told g.B.Source.left g.B.Source.has_failed g.B.Source.end_told order c.args.shape c.requires.total c.new-firsts.result c.new-seconds.result c.args.out.now c.args.first c.args.second
+    let ends = subst (λ (r : HitRule). Finishes g.A.Source.left g.A.Source.has_failed g.A.Source.end_told g.B.Source.left g.B.Source.has_failed g.B.Source.end_told order c.args.shape r c.new-firsts.result c.new-seconds.result c.args.out.now fault c.read_both-swept.new.first c.read_both-swept.new.second c.read_both-swept.new.out) c.new-sweep.ensures.stands.rule_is
+    (subst (λ (s : Shape). Finishes g.A.Source.left g.A.Source.has_failed g.A.Source.end_told g.B.Source.left g.B.Source.has_failed g.B.Source.end_told order s (state_of c.new-sweep.result).rule c.new-firsts.result c.new-seconds.result c.args.out.now fault c.read_both-swept.new.first c.read_both-swept.new.second c.read_both-swept.new.out) c.new-sweep.ensures.stands.shape_is
+    (subst (λ (o : Order). Finishes g.A.Source.left g.A.Source.has_failed g.A.Source.end_told g.B.Source.left g.B.Source.has_failed g.B.Source.end_told o (state_of c.new-sweep.result).shape (state_of c.new-sweep.result).rule c.new-firsts.result c.new-seconds.result c.args.out.now fault c.read_both-swept.new.first c.read_both-swept.new.second c.read_both-swept.new.out) records.order c.in-Err.ensures)) in
+    writes_both g.A.Source.left g.A.Source.has_failed g.A.Source.end_told g.B.Source.left g.B.Source.has_failed g.B.Source.end_told order c.args.shape c.args.rule c.requires.total c.new-firsts.result c.new-seconds.result c.args.out.now c.args.first c.args.second
     (begins_by g.A.Source.left order First c.args.first c.new.result c.new-firsts.result records.below reader.source reader.input reader.none_taken.0 reader.none_fed reader.going.0 reader.lines records.good)
     (begins_by g.B.Source.left order Second c.args.second c.new-2.result c.new-seconds.result records_2.below reader_2.source reader_2.input reader_2.none_taken.0 reader_2.none_fed reader_2.going.0 reader_2.lines records_2.good)
     c.read_both-swept.new.first c.read_both-swept.new.second c.into_source-first.result c.into_source-second.result
     (sym (c.into_source-first.ensures ∙ ap source_of c.into_reader.ensures)) (sym (c.into_source-second.ensures ∙ ap source_of c.into_reader-2.ensures))
     fault c.read_both-swept.new.out ends
-    (near_both g.A.Source.left g.A.Source.has_failed g.A.Source.end_told g.B.Source.left g.B.Source.has_failed g.B.Source.end_told order c.args.shape c.requires.total c.new-firsts.result c.new-seconds.result c.args.out.now c.args.first c.args.second
+    (near_both g.A.Source.left g.A.Source.has_failed g.A.Source.end_told g.B.Source.left g.B.Source.has_failed g.B.Source.end_told order c.args.shape c.args.rule c.requires.total c.new-firsts.result c.new-seconds.result c.args.out.now c.args.first c.args.second
     (begins_by g.A.Source.left order First c.args.first c.new.result c.new-firsts.result records.below reader.source reader.input reader.none_taken.0 reader.none_fed reader.going.0 reader.lines records.good)
     (begins_by g.B.Source.left order Second c.args.second c.new-2.result c.new-seconds.result records_2.below reader_2.source reader_2.input reader_2.none_taken.0 reader_2.none_fed reader_2.going.0 reader_2.lines records_2.good)
     c.read_both-swept.new.first c.read_both-swept.new.second c.into_source-first.result c.into_source-second.result

@@ -13,7 +13,7 @@ returns-in_err-give_b-in-Some-clause-turns g c =
     (inr (inl (record {
       item = feature_lent c.in-Some.record;
       ahead = record { gives = peek.answers; sound = peek.sound; order = peek.order };
-      fails = λ shape stage a stands waits. (c.in_err-give_b-in-Some.ensures.gives shape stage a stands waits).1;
+      fails = λ shape rule stage a stands waits placed. (c.in_err-give_b-in-Some.ensures.gives shape rule stage a stands waits placed).1;
     })))
 
 pub returns-in-Yes-clause-turns : goal.returns-in-Yes-clause-turns
@@ -24,7 +24,7 @@ returns-in-Yes-clause-turns g c =
       peeked = c.peek.follows.lender-at-none;
       ahead = record { gives = peek.answers; sound = peek.sound; order = peek.order };
       passes = c.advance.ensures;
-      given = λ shape stage a stands waits. rw c.in-Yes.is at c.in_ok-give_b-in-Some.ensures.gives shape stage a stands waits;
+      given = λ shape rule stage a stands waits placed. rw c.in-Yes.is at c.in_ok-give_b-in-Some.ensures.gives shape rule stage a stands waits placed;
     })
 
 pub returns-in-No-clause-turns : goal.returns-in-No-clause-turns
@@ -33,7 +33,7 @@ returns-in-No-clause-turns g c =
     inr (inl (record {
       item = feature_lent c.in-Some.record;
       ahead = record { gives = peek.answers; sound = peek.sound; order = peek.order };
-      given = λ shape stage a stands waits. rw c.in-No.is at c.in_ok-give_b-in-Some.ensures.gives shape stage a stands waits;
+      given = λ shape rule stage a stands waits placed. rw c.in-No.is at c.in_ok-give_b-in-Some.ensures.gives shape rule stage a stands waits placed;
     }))
 
 pub returns-in_ok-end_b-in-None-clause-turns : goal.returns-in_ok-end_b-in-None-clause-turns
@@ -41,5 +41,5 @@ returns-in_ok-end_b-in-None-clause-turns g c =
     let peek = rw (c.in_ok-record.was, c.in-None.is) at c.peek.follows.holds-at-none in
     inr (inr (record {
       ended = record { ends = peek.answers; sound = peek.sound; order = peek.order };
-      given = λ shape stage a stands waits. c.in_ok-end_b-in-None.ensures.gives shape stage a stands waits;
+      given = λ shape rule stage a stands waits placed. c.in_ok-end_b-in-None.ensures.gives shape rule stage a stands waits placed;
     }))

@@ -2,7 +2,7 @@ use Rattle.std.proofs.Common.{◌≡◌, true, [], ◌∷◌, ◌++◌, ap, subs
 use Rattle.bt_bed.specs.Bed.{feature_lent}
 use Rattle.bt_bed.specs.Feature.{Feature}
 use Rattle.bt_sweep.specs.Held.{AreWith}
-use Rattle.bt_sweep.specs.Steps.{is_held_by}
+use Rattle.bt_sweep.specs.StateSteps.{is_held_by}
 use Rattle.bt_sweep.specs.Sweeping.{Sweeping}
 use Rattle.bt_sweep.proofs.StateLemmas.{added_with}
 use Rattle.bt_sweep.proofs.state.State.add.Goals as goal

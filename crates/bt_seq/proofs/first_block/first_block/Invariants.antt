@@ -2,9 +2,9 @@ use Rattle.std.proofs.Common.{◌≡◌, ◌≤◌, length}
 use Rattle.bt_seq.specs.Cigar.{operations_in}
 use Rattle.bt_seq.specs.Room.{FitBehind}
 use Rattle.bt_seq.proofs.BlockLemmas.{open_in}
-use Rattle.bt_seq.proofs.run.first_run.Given as goal
+use Rattle.bt_seq.proofs.first_block.first_block.Given as goal
 
--- the blocks of the text are those of the run so far and the rest
+-- the blocks of the text are those of the block so far and the rest
 abbrev pub invariant-loop-operation : goal.invariant-loop-operation
 invariant-loop-operation l = record {
   same : open_in l.start l.stop (operations_in l.rest) ≡ open_in l.start l.start (operations_in l.text);

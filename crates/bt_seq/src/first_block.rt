@@ -1,4 +1,4 @@
-//! Runs of operations without an N.
+//! The first block of a text of operations.
 
 ghost use Rattle.std.specs.Prelude.{◌≡◌, ◌++◌, ◌<◌, length};
 ghost use Rattle.bt_seq.specs.Blocks.{blocks_in, with_bases};
@@ -13,14 +13,14 @@ const SKIP: u8 = b'N';
 // Where the operations before the first N end on the reference, what stands behind the N, and from where
 // on that lies.
 #[derive(Clone, Copy, Debug)]
-pub(crate) struct Run<'a> {
+pub(crate) struct FirstBlock<'a> {
     pub(crate) stop: u64,
     pub(crate) rest: &'a [u8],
     pub(crate) next: u64,
 }
 
-// The first run of a text of operations that lie from `start` on.
-pub(crate) fn first_run(text: &[u8], start: u64) -> Run<'_>
+// The first block of a text of operations that lie from `start` on, with a base or without one.
+pub(crate) fn first_block(text: &[u8], start: u64) -> FirstBlock<'_>
     requires { FitBehind start (operations_in text.now) }
     ensures blocks { blocks_in start (operations_in text.now)
         ≡ with_bases start result.stop ++ blocks_in result.next (operations_in result.rest.now) }
@@ -33,11 +33,11 @@ pub(crate) fn first_run(text: &[u8], start: u64) -> Run<'_>
         rest = behind;
         if operation.letter == SKIP {
             let next = stop + operation.length;
-            return Run { stop, rest, next };
+            return FirstBlock { stop, rest, next };
         }
         stop += covered_by(operation);
     }
-    Run {
+    FirstBlock {
         stop,
         rest,
         next: stop,

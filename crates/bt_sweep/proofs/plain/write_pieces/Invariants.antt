@@ -1,0 +1,14 @@
+use Rattle.std.proofs.Common.{◌≡◌, ◌++◌, flat_map, length}
+use Rattle.bt_bed.specs.Bed.{feature_lent}
+use Rattle.bt_sweep.specs.Lines.{piece_line}
+use Rattle.bt_sweep.specs.Plain.{pieces_in}
+use Rattle.bt_sweep.proofs.plain.write_pieces.Given as goal
+
+-- what is written, with those pieces that aren't yet
+abbrev pub invariant-loop-piece : goal.invariant-loop-piece
+invariant-loop-piece l =
+    l.text.items ++ flat_map (piece_line (feature_lent l.a)) (pieces_in l.found.items)
+    ≡ l.initial.text.items ++ flat_map (piece_line (feature_lent l.a)) (pieces_in l.initial.found.items)
+
+abbrev pub decreases-loop-piece : goal.decreases-loop-piece
+decreases-loop-piece l = length l.found.items

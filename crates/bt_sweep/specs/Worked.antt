@@ -1,0 +1,59 @@
+-- Small inputs, worked by hand: what is written and told of them.
+use Rattle.std.specs.Prelude.{◌≡◌, ℕ, false, true, List, [], ◌∷◌, codes, Option, Some, None}
+use Rattle.bt_lines.specs.Fault.{Told}
+use Rattle.bt_bed.specs.Feature.{Feature}
+use Rattle.bt_bed.specs.Good.{Good}
+use Rattle.bt_bed.specs.Meeting.{Met}
+use Rattle.bt_bed.specs.Order.{Order}
+use Rattle.bt_bed.specs.Rank.{rank_order}
+use Rattle.bt_bed.specs.declared.strand.Strand.TheVariants.{Dot}
+use Rattle.bt_sweep.specs.Hits.{any_overlap}
+use Rattle.bt_sweep.specs.Subtract.{subtract}
+use Rattle.bt_sweep.specs.Sweeps.{intersect_met}
+use Rattle.bt_sweep.specs.declared.hit_rule.HitRule.{HitRule}
+use Rattle.bt_sweep.specs.declared.shape.Shape.TheVariants.{Cut}
+
+-- a record of chr1, without further columns
+abbrev pub at : ℕ → ℕ → Feature
+at start stop = record { chrom = codes "chr1"; start = start; stop = stop; strand = Dot; rest = [] }
+
+-- two records on two lines, and a fault behind them
+abbrev pub two : Feature → Feature → Option Told → Good Feature
+two first next fault = record {
+  members = record { line = 1; item = first } ∷ record { line = 2; item = next } ∷ [];
+  fault = fault;
+}
+
+abbrev pub one : Feature → Option Told → Good Feature
+one first fault = record { members = record { line = 1; item = first } ∷ []; fault = fault }
+
+abbrev pub only_chr1 : Order
+only_chr1 = rank_order (codes "chr1" ∷ [])
+
+-- The second input has a fault behind 2 to 4 and 50 to 60: of 0 to 10 and 100 to 110 it decides the
+-- first, whose lines are written, and then its fault is told.
+abbrev pub fault_behind_undecided : Type 0
+fault_behind_undecided = (fault : Told)
+    → intersect_met only_chr1 Cut any_overlap (two (at 0 10) (at 100 110) None) (two (at 2 4) (at 50 60) (Some fault))
+    ≡ record { lines = codes "chr1\t2\t4\n"; fault = Some fault }
+
+-- where both have one and all records of the first are decided, that of the first is told
+abbrev pub fault_of_first : Type 0
+fault_of_first = (fault other : Told)
+    → intersect_met only_chr1 Cut any_overlap (one (at 0 10) (Some fault)) (two (at 2 4) (at 50 60) (Some other))
+    ≡ record { lines = codes "chr1\t2\t4\n"; fault = Some fault }
+
+-- half of a record of ten bases is five
+abbrev pub half : HitRule
+half = record { billionths = 500000000; both = false; same_strand = false }
+
+-- records that overlap leave the parts beside them, and one that isn't half of the record takes nothing
+abbrev pub parts_are_left : Type 0
+parts_are_left = subtract false any_overlap (at 0 20 ∷ []) (at 3 6 ∷ at 5 8 ∷ at 18 30 ∷ []) ≡ codes "chr1\t0\t3\nchr1\t8\t18\n"
+
+abbrev pub half_is_taken : Type 0
+half_is_taken = subtract false half (at 0 10 ∷ []) (at 0 4 ∷ at 4 9 ∷ []) ≡ codes "chr1\t0\t4\nchr1\t9\t10\n"
+
+-- with -A nothing is left of a record that is hit, and all of one that isn't
+abbrev pub whole_is_left : Type 0
+whole_is_left = subtract true any_overlap (at 0 10 ∷ at 20 30 ∷ []) (at 5 20 ∷ []) ≡ codes "chr1\t20\t30\n"

@@ -1,0 +1,29 @@
+//! What makes a hit.
+
+ghost use Rattle.std.specs.Prelude.{◌≡◌};
+ghost use Rattle.bt_sweep.specs.Hits.{any_overlap};
+
+/// Which records hit one another: they share a base, and what the rule asks for beside that (bedtools
+/// manual, intersect, options -f, -r and -s). Each pair of records is judged by itself.
+#[derive(Clone, Copy, Debug, PartialEq, Eq)]
+pub struct HitRule {
+    /// How many billionths of the first record the shared bases have to be at least.
+    pub billionths: u64,
+    /// The same is asked of the second record.
+    pub both: bool,
+    /// The strands have to be equal; a record without a strand has the same as another without.
+    pub same_strand: bool,
+}
+
+impl HitRule {
+    /// The rule that one shared base satisfies.
+    pub fn any_overlap() -> HitRule
+        ensures { result ≡ any_overlap }
+    {
+        HitRule {
+            billionths: 0,
+            both: false,
+            same_strand: false,
+        }
+    }
+}

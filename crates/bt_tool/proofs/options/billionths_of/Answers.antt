@@ -1,0 +1,9 @@
+use Rattle.std.proofs.Common.{sym, ap, ◌∙◌, ◌≤◌, subst}
+use Rattle.std.specs.Prelude.{unwrap_or}
+use Rattle.bt_tool.specs.Fraction.{one_in_billionths}
+use Rattle.bt_tool.proofs.FractionLemmas.{fraction-limit-or}
+use Rattle.bt_tool.proofs.options.billionths_of.Goals as goal
+
+pub returns-in-Some-clause-limit : goal.returns-in-Some-clause-limit
+returns-in-Some-clause-limit c =
+    subst (λ n. n ≤ one_in_billionths) (sym (c.unwrap_or.ensures ∙ ap (λ o. unwrap_or o 0) c.fraction.ensures)) (fraction-limit-or c.in-Some.value.now)

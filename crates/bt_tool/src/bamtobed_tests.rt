@@ -1,0 +1,301 @@
+use crate::tests::{Answer, Script, failed_line, failing, failing_by, line_of, run_words, whole};
+use std::alloc::Global;
+use std::process::Abort;
+use std::test::Fail;
+
+// A run of bamtobed, and what it gives. In the rows one space stands for a tab, and ` ; ` separates
+// lines, each of which ends with a line feed.
+struct Case {
+    name: &'static str,
+    options: &'static [&'static str],
+    first: &'static str,
+    output: &'static str,
+    line: &'static str,
+}
+
+const R001: &str = "r001 99 ref 7 30 8M2I4M1D3M = 37 39 TTAGATAAAGGATACTG *";
+
+const R004: &str = "r004 0 ref 16 30 6M14N5M * 0 0 ATAGCTTCAGC *";
+
+// The example of the SAM specification, section 1.1.
+const EXAMPLE: &str =
+    "@HD VN:1.6 SO:coordinate ; @SQ SN:ref LN:45 ; r001 99 ref 7 30 8M2I4M1D3M = 37 39 TTAGATAAAGGATACTG * ; r002 0 ref 9 30 3S6M1P1I4M * 0 0 AAAAGATAAGGATA * ; r003 0 ref 9 30 5S6M * 0 0 GCCTAAGCTAA * SA:Z:ref,29,-,6H5M,17,0; ; r004 0 ref 16 30 6M14N5M * 0 0 ATAGCTTCAGC * ; r003 2064 ref 29 17 6H5M * 0 0 TAGGC * SA:Z:ref,9,+,5S6M,30,1; ; r001 147 ref 37 30 9M = 7 -39 CAGCGGCAT * NM:i:1";
+
+const CASES: [Case; 14] = [
+    Case {
+        name: "the first segment of a template",
+        options: &[],
+        first: R001,
+        output: "ref 6 22 r001/1 30 +",
+        line: "",
+    },
+    Case {
+        name: "with its CIGAR",
+        options: &["-cigar"],
+        first: R001,
+        output: "ref 6 22 r001/1 30 + 8M2I4M1D3M",
+        line: "",
+    },
+    Case {
+        name: "the last segment, on the reverse strand",
+        options: &[],
+        first: "r001 147 ref 37 30 9M = 7 -39 CAGCGGCAT *",
+        output: "ref 36 45 r001/2 30 -",
+        line: "",
+    },
+    Case {
+        name: "an alignment with a skipped region",
+        options: &[],
+        first: R004,
+        output: "ref 15 40 r004 30 +",
+        line: "",
+    },
+    Case {
+        name: "cut at the skipped region",
+        options: &["-split"],
+        first: R004,
+        output: "ref 15 21 r004 30 + ; ref 35 40 r004 30 +",
+        line: "",
+    },
+    Case {
+        name: "cut, and with its whole CIGAR on each line",
+        options: &["-split", "-cigar"],
+        first: R004,
+        output: "ref 15 21 r004 30 + 6M14N5M ; ref 35 40 r004 30 + 6M14N5M",
+        line: "",
+    },
+    Case {
+        name: "an unmapped read",
+        options: &["-split"],
+        first: "r004 4 ref 16 30 6M14N5M * 0 0 ATAGCTTCAGC *",
+        output: "",
+        line: "",
+    },
+    Case {
+        name: "no CIGAR",
+        options: &["-split"],
+        first: "r004 0 ref 16 30 * * 0 0 ATAGCTTCAGC *",
+        output: "",
+        line: "",
+    },
+    Case {
+        name: "a letter that is no operation",
+        options: &["-split"],
+        first: "r004 0 ref 16 30 5Q * 0 0 ATAGCTTCAGC *",
+        output: "",
+        line: "bedtools bamtobed: a.sam:1: CIGAR is malformed\n",
+    },
+    Case {
+        name: "the example of the specification",
+        options: &[],
+        first: EXAMPLE,
+        output: "ref 6 22 r001/1 30 + ; ref 8 18 r002 30 + ; ref 8 14 r003 30 + ; ref 15 40 r004 30 + ; ref 28 33 r003 17 - ; ref 36 45 r001/2 30 -",
+        line: "",
+    },
+    Case {
+        name: "the example, cut and with CIGARs",
+        options: &["-cigar", "-split"],
+        first: EXAMPLE,
+        output: "ref 6 22 r001/1 30 + 8M2I4M1D3M ; ref 8 18 r002 30 + 3S6M1P1I4M ; ref 8 14 r003 30 + 5S6M ; ref 15 21 r004 30 + 6M14N5M ; ref 35 40 r004 30 + 6M14N5M ; ref 28 33 r003 17 - 6H5M ; ref 36 45 r001/2 30 - 9M",
+        line: "",
+    },
+    Case {
+        name: "a line of ten columns behind an alignment",
+        options: &[],
+        first: "r001 99 ref 7 30 8M2I4M1D3M = 37 39 TTAGATAAAGGATACTG * ; r001 147 ref 37 30 9M = 7 -39 CAGCGGCAT",
+        output: "ref 6 22 r001/1 30 +",
+        line: "bedtools bamtobed: a.sam:2: too few columns\n",
+    },
+    Case {
+        name: "all lines before a fault are written, and none behind it",
+        options: &["-split"],
+        first: "a 0 s 1 9 5M2N5M * 0 0 * * ; @CO x ; b 4 s 1 9 5M * 0 0 * * ; c 16 s 1 9 3M * 0 0 * * ; d x s 1 9 3M * 0 0 * * ; e 0 s 1 9 3M * 0 0 * *",
+        output: "s 0 5 a 9 + ; s 7 12 a 9 + ; s 0 3 c 9 -",
+        line: "bedtools bamtobed: a.sam:5: flag is not a number\n",
+    },
+    Case {
+        name: "an empty input",
+        options: &[],
+        first: "",
+        output: "",
+        line: "",
+    },
+];
+
+// Single lines: the columns from FLAG to CIGAR of a read `r`, the options, its BED line, and the words
+// of its fault.
+type Edge = (
+    &'static str,
+    &'static [&'static str],
+    &'static str,
+    &'static str,
+);
+
+const EDGES: [Edge; 18] = [
+    ("65536 s 1 30 5M", &[], "", "flag is not a number"),
+    ("x s 1 30 5M", &[], "", "flag is not a number"),
+    ("0 s 2147483648 30 5M", &[], "", "position is not a number"),
+    ("0 s 1 256 5M", &[], "", "mapping quality is not a number"),
+    ("0 s 1 30 5", &[], "", "CIGAR is malformed"),
+    ("0 s 1 30 1000000000000M", &[], "", "CIGAR is malformed"),
+    ("4 s 1 30 5Q", &[], "", "CIGAR is malformed"),
+    ("0  1 30 5M", &[], "", "empty chromosome name"),
+    ("0 s 2 30 999999999999M", &[], "", "end is too large"),
+    ("0 s 1 30 999999999999M", &[], "s 0 999999999999 r 30 +", ""),
+    ("4 s 2 30 999999999999M", &[], "", ""),
+    ("192 s 1 0 5M", &[], "s 0 5 r/1/2 0 +", ""),
+    ("0 s 1 255 5N5M", &[], "s 0 10 r 255 +", ""),
+    ("0 s 1 255 5N5M", &["-split"], "s 5 10 r 255 +", ""),
+    ("0 s 1 30 0M", &[], "", ""),
+    ("0 * 1 30 5M", &[], "", ""),
+    ("0 s 0 30 5M", &[], "", ""),
+    ("65535 s 2147483647 255 1M", &[], "", ""),
+];
+
+// The text of a row.
+fn text(alloc: Global, row: &str) -> Result<Vec<u8>, Fail> {
+    let mut text = Vec::new(alloc);
+    if row.is_empty() {
+        return Ok(text);
+    }
+    for line in row.split(" ; ") {
+        for byte in line.bytes() {
+            text.push(if byte == b' ' { b'\t' } else { byte })?;
+        }
+        text.push(b'\n')?;
+    }
+    Ok(text)
+}
+
+// Runs bamtobed with these options.
+fn bamtobed(
+    alloc: Global,
+    options: &[&str],
+    first: (&[u8], Script),
+    out: Script,
+) -> Result<Answer, Fail> {
+    let mut words = vec![in alloc; "bamtobed", "-i", "a.sam"]?;
+    words.extend_from_slice(options)?;
+    run_words(alloc, words.as_slice(), (b"", whole(1)), first, out)
+}
+
+fn check(rt: &impl Abort, alloc: Global, case: &Case, step: usize) -> Result<(), Fail> {
+    let script = whole(step.max(1));
+    let first = text(alloc, case.first)?;
+    let output = text(alloc, case.output)?;
+    let answer = bamtobed(alloc, case.options, (first.as_slice(), script), script)?;
+    assert_eq!(rt;
+        answer.output.as_slice(),
+        output.as_slice(),
+        "{}",
+        case.name
+    );
+    assert_eq!(rt; line_of(&answer), case.line.as_bytes(), "{}", case.name);
+    assert_eq!(rt;
+        answer.status,
+        u8::from(!case.line.is_empty()),
+        "{}",
+        case.name
+    );
+    Ok(())
+}
+
+#[test]
+fn worked_cases(rt: HostRuntime) -> Result<(), Fail> {
+    for step in [1, 7, 8192] {
+        for case in &CASES {
+            check(&rt, rt.alloc(), case, step)?;
+        }
+    }
+    Ok(())
+}
+
+fn check_edge(rt: &impl Abort, alloc: Global, edge: Edge) -> Result<(), Fail> {
+    let (columns, options, output, told) = edge;
+    let row = format!(in alloc; "r {columns} * 0 0 * *")?;
+    let first = text(alloc, row.as_str())?;
+    let output = text(alloc, output)?;
+    let answer = bamtobed(alloc, options, (first.as_slice(), whole(7)), whole(7))?;
+    assert_eq!(rt; answer.output.as_slice(), output.as_slice(), "{columns}");
+    if told.is_empty() {
+        assert_eq!(rt; line_of(&answer), b"".as_slice(), "{columns}");
+        return Ok(());
+    }
+    let line = format!(in alloc; "bedtools bamtobed: a.sam:1: {told}\n")?;
+    assert_eq!(rt; line_of(&answer), line.as_bytes(), "{columns}");
+    Ok(())
+}
+
+#[test]
+fn single_lines(rt: HostRuntime) -> Result<(), Fail> {
+    for edge in EDGES {
+        check_edge(&rt, rt.alloc(), edge)?;
+    }
+    Ok(())
+}
+
+// Without -i the input is standard input, and its lines are told so.
+#[test]
+fn a_missing_name(rt: HostRuntime) -> Result<(), Fail> {
+    let alloc = rt.alloc();
+    let first = text(alloc, "@CO x ; r001 99 ref 7 30 *")?;
+    let inputs = ((b"".as_slice(), whole(1)), (first.as_slice(), whole(7)));
+    let answer = run_words(alloc, &["bamtobed"], inputs.0, inputs.1, whole(7))?;
+    assert_eq!(rt; answer.output.len(), 0);
+    assert_eq!(rt;
+        line_of(&answer),
+        b"bedtools bamtobed: stdin:2: too few columns\n".as_slice()
+    );
+    assert_eq!(rt; answer.status, 1);
+    Ok(())
+}
+
+// Two lines, and what they give.
+const TWO: &[u8] = b"a\t0\ts\t1\t9\t5M2N5M\t*\t0\t0\t*\t*\nb\t16\ts\t4\t8\t3M\t*\t0\t0\t*\t*\n";
+
+const FIRST: &[u8] = b"s\t0\t5\ta\t9\t+\ns\t7\t12\ta\t9\t+\n";
+
+const BOTH: &[u8] = b"s\t0\t5\ta\t9\t+\ns\t7\t12\ta\t9\t+\ns\t3\t6\tb\t8\t-\n";
+
+// Whatever byte of the input fails to come: the lines of the whole lines before it, and the failed read
+// at the line after them.
+#[test]
+fn an_input_that_fails_at_each_byte(rt: HostRuntime) -> Result<(), Fail> {
+    for step in [1, 7] {
+        for good in 0..=TWO.len() {
+            let first = (TWO, failing_by(step, good));
+            let answer = bamtobed(rt.alloc(), &["-split"], first, whole(step))?;
+            let (output, line): (&[u8], &[u8]) = match failed_line(TWO, good) {
+                1 => (b"", b"bedtools bamtobed: a.sam:1: reading failed\n"),
+                2 => (FIRST, b"bedtools bamtobed: a.sam:2: reading failed\n"),
+                _ => (BOTH, b"bedtools bamtobed: a.sam:3: reading failed\n"),
+            };
+            assert_eq!(rt; answer.output.as_slice(), output);
+            assert_eq!(rt; line_of(&answer), line);
+            assert_eq!(rt; answer.status, 1);
+        }
+    }
+    Ok(())
+}
+
+#[test]
+fn an_output_that_fails_at_each_byte(rt: HostRuntime) -> Result<(), Fail> {
+    for good in 0..BOTH.len() {
+        let answer = bamtobed(rt.alloc(), &["-split"], (TWO, whole(7)), failing(good))?;
+        assert_eq!(rt; answer.output.as_slice(), &BOTH[..good]);
+        assert_eq!(rt;
+            line_of(&answer),
+            b"bedtools bamtobed: writing failed\n".as_slice()
+        );
+        assert_eq!(rt; answer.status, 1);
+    }
+    let answer = bamtobed(
+        rt.alloc(),
+        &["-split"],
+        (TWO, whole(7)),
+        failing(BOTH.len()),
+    )?;
+    assert_eq!(rt; answer.output.as_slice(), BOTH);
+    assert_eq!(rt; answer.status, 0);
+    Ok(())
+}

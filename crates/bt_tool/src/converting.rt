@@ -1,0 +1,79 @@
+//! The loop over the alignments of a SAM input: each is written as soon as its line was read.
+
+ghost use Rattle.std.specs.Prelude.{◌≡◌, None, option_map};
+ghost use Rattle.bt_lines.specs.Given.{line_seen};
+ghost use Rattle.bt_lines.specs.Names.{told};
+ghost use Rattle.bt_lines.specs.Output.{HoldsBlock};
+ghost use Rattle.bt_lines.specs.Reader.{fault_kept};
+ghost use Rattle.bt_seq.specs.SamKind.{is_sam_kind};
+ghost use Rattle.bt_tool.specs.Converted.{bamtobed_report, bamtobed_settles};
+ghost use Rattle.bt_tool.specs.Converting.{ConvertsAll, ConvertsLine, sam_reader};
+ghost use Rattle.bt_tool.specs.Driving.{WritesInput};
+ghost use Rattle.bt_tool.specs.Feeding.{IsFresh};
+
+use bt_bed::at_line;
+use bt_lines::{Fault, Input, Line, LineReader, Out, Place, Sink, Source};
+use bt_seq::{BamToBed, sam_line};
+use std::alloc::Global;
+
+// Writes the alignment that a line says, if it says one.
+fn convert_line<K: Sink>(
+    line: Line<'_>,
+    input: Input,
+    converter: &mut BamToBed,
+    out: &mut Out<K>,
+) -> Result<(), Fault>
+    requires { converter.old.fault ≡ None }
+    ensures { ConvertsLine input converter.old (line_seen line.entry) out.old result converter.new out.new }
+{
+    match sam_line(line.text) {
+        Ok(Some(sam)) => converter.feed(&sam, out),
+        Ok(None) => Ok(()),
+        Err(kind) => {
+            let line = line.number;
+            Err(at_line(kind, Place { input, line }))
+        }
+    }
+}
+
+// Writes the alignments of all lines of a reader that has given none.
+fn convert_all<S: Source, K: Sink>(
+    lines: &mut LineReader<S>,
+    converter: &mut BamToBed,
+    out: &mut Out<K>,
+) -> Result<(), Fault>
+    requires fresh { IsFresh S.left S.end_told (sam_reader lines.old) }
+    requires reads { fault_kept lines.old ≡ None }
+    requires going { converter.old.fault ≡ None }
+    requires block { HoldsBlock out.old.took out.old.put }
+    ensures { ConvertsAll S.left S.has_failed converter.old lines.old out.old result lines.new out.new }
+{
+    let input = lines.input();
+    while let Some(line) = lines.next()? {
+        convert_line(line, input, converter, out)?;
+    }
+    Ok(())
+}
+
+/// Writes the alignments of an input as BED lines, with `split` one for each block, and with `cigar` each
+/// with its CIGAR. It gives the source back, and the fault that the run ends with, if there is one.
+pub(crate) fn convert<A: Source, K: Sink>(
+    alloc: Global,
+    split: bool,
+    cigar: bool,
+    first: A,
+    out: &mut Out<K>,
+) -> (Option<Fault>, A)
+    requires { HoldsBlock out.old.took out.old.put }
+    ensures { WritesInput A.left A.has_failed is_sam_kind (bamtobed_report split cigar) (bamtobed_settles split cigar)
+        first out.old (option_map told result.0) result.1 out.new }
+{
+    let mut lines = LineReader::new(alloc, first, Input::First);
+    let mut converter = BamToBed::new(split, cigar);
+    let converted = convert_all(&mut lines, &mut converter, out);
+    let first = lines.into_source();
+    match converted {
+        Ok(()) => (None, first),
+        Err(fault) => (Some(fault), first),
+    }
+}

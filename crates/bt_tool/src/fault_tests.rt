@@ -1,0 +1,142 @@
+use crate::intersect_tests::{Case, check};
+use std::test::Fail;
+
+// What can be wrong with a line of the first input, behind a record whose lines are written.
+const OF_FIRST: [Case; 7] = [
+    Case {
+        name: "too few columns",
+        options: &[],
+        first: b"chr1\t2\t9\nchr1\t5\n",
+        second: b"chr1\t2\t4\nchr2\t0\t5\n",
+        output: b"chr1\t2\t4\n",
+        line: b"bedtools intersect: a.bed:2: too few columns\n",
+    },
+    Case {
+        name: "no name",
+        options: &[],
+        first: b"chr1\t2\t9\n\t1\t2\n",
+        second: b"chr1\t2\t4\nchr2\t0\t5\n",
+        output: b"chr1\t2\t4\n",
+        line: b"bedtools intersect: a.bed:2: empty chromosome name\n",
+    },
+    Case {
+        name: "a start that isn't a number",
+        options: &[],
+        first: b"chr1\t2\t9\nchr1\tx\t9\n",
+        second: b"chr1\t2\t4\nchr2\t0\t5\n",
+        output: b"chr1\t2\t4\n",
+        line: b"bedtools intersect: a.bed:2: start is not a number\n",
+    },
+    Case {
+        name: "an end that isn't a number",
+        options: &[],
+        first: b"chr1\t2\t9\nchr1\t5\t1000000000000\n",
+        second: b"chr1\t2\t4\nchr2\t0\t5\n",
+        output: b"chr1\t2\t4\n",
+        line: b"bedtools intersect: a.bed:2: end is not a number\n",
+    },
+    Case {
+        name: "no base",
+        options: &[],
+        first: b"chr1\t2\t9\nchr1\t5\t5\n",
+        second: b"chr1\t2\t4\nchr2\t0\t5\n",
+        output: b"chr1\t2\t4\n",
+        line: b"bedtools intersect: a.bed:2: start is not below end\n",
+    },
+    Case {
+        name: "an unknown chromosome",
+        options: &[],
+        first: b"chr1\t2\t9\nchr3\t1\t2\n",
+        second: b"chr1\t2\t4\nchr2\t0\t5\n",
+        output: b"chr1\t2\t4\n",
+        line: b"bedtools intersect: a.bed:2: chromosome is not in the genome file\n",
+    },
+    Case {
+        name: "a start before the last one",
+        options: &[],
+        first: b"chr1\t2\t9\nchr1\t1\t3\n",
+        second: b"chr1\t2\t4\nchr2\t0\t5\n",
+        output: b"chr1\t2\t4\n",
+        line: b"bedtools intersect: a.bed:2: record is out of order\n",
+    },
+];
+
+// What can be wrong with a line of the second input, which the first record asks for.
+const OF_SECOND: [Case; 7] = [
+    Case {
+        name: "too few columns",
+        options: &[],
+        first: b"chr1\t2\t4\n",
+        second: b"chr1\t2\t9\nchr1\t5\n",
+        output: b"",
+        line: b"bedtools intersect: b.bed:2: too few columns\n",
+    },
+    Case {
+        name: "no name",
+        options: &[],
+        first: b"chr1\t2\t4\n",
+        second: b"chr1\t2\t9\n\t1\t2\n",
+        output: b"",
+        line: b"bedtools intersect: b.bed:2: empty chromosome name\n",
+    },
+    Case {
+        name: "a start that isn't a number",
+        options: &[],
+        first: b"chr1\t2\t4\n",
+        second: b"chr1\t2\t9\nchr1\tx\t9\n",
+        output: b"",
+        line: b"bedtools intersect: b.bed:2: start is not a number\n",
+    },
+    Case {
+        name: "an end that isn't a number",
+        options: &[],
+        first: b"chr1\t2\t4\n",
+        second: b"chr1\t2\t9\nchr1\t5\t1000000000000\n",
+        output: b"",
+        line: b"bedtools intersect: b.bed:2: end is not a number\n",
+    },
+    Case {
+        name: "no base",
+        options: &[],
+        first: b"chr1\t2\t4\n",
+        second: b"chr1\t2\t9\nchr1\t5\t5\n",
+        output: b"",
+        line: b"bedtools intersect: b.bed:2: start is not below end\n",
+    },
+    Case {
+        name: "an unknown chromosome",
+        options: &[],
+        first: b"chr1\t2\t4\n",
+        second: b"chr1\t2\t9\nchr3\t1\t2\n",
+        output: b"",
+        line: b"bedtools intersect: b.bed:2: chromosome is not in the genome file\n",
+    },
+    Case {
+        name: "a start before the last one",
+        options: &[],
+        first: b"chr1\t2\t4\n",
+        second: b"chr1\t2\t9\nchr1\t1\t3\n",
+        output: b"",
+        line: b"bedtools intersect: b.bed:2: record is out of order\n",
+    },
+];
+
+#[test]
+fn faults_of_the_first_input(rt: HostRuntime) -> Result<(), Fail> {
+    for step in [1, 7, 8192] {
+        for case in &OF_FIRST {
+            check(&rt, rt.alloc(), "intersect", case, step)?;
+        }
+    }
+    Ok(())
+}
+
+#[test]
+fn faults_of_the_second_input(rt: HostRuntime) -> Result<(), Fail> {
+    for step in [1, 7, 8192] {
+        for case in &OF_SECOND {
+            check(&rt, rt.alloc(), "intersect", case, step)?;
+        }
+    }
+    Ok(())
+}
