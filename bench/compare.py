@@ -6,7 +6,7 @@
 Prints, for each command and kind of record, for RECORDS records (5,000,000 where it is missing) and
 for a tenth of them, the processor time and the peak memory; beside them those of the bedtools and the
 bedops on PATH, where they are there and do the same job; and the instructions a record, where valgrind
-is there. With `--only` it takes the workloads alone whose names have these words in them; with `--chart`
+is there. For `bamtobed` samtools makes the BAM file that bedtools reads. With `--only` it takes the workloads alone whose names have these words in them; with `--chart`
 it draws the larger runs as an SVG. It fails where a program fails, where two outputs differ, or where
 this program's memory grows with its input.
 """
@@ -101,6 +101,25 @@ class Nested:
         (folder / "second.bed").write_text("".join(lines), encoding="ascii")
 
 
+@dataclass
+class Alignments:
+    """Reads of 100 bases as SAM text, one for three records asked for; bedtools has them as BAM, made by samtools."""
+
+    def name(self):
+        return "alignments"
+
+    def inputs(self, folder):
+        return ["-i", str(folder / "records.bed")]
+
+    def inputs_of_bedtools(self, folder):
+        return ["-i", str(folder / "records.bam")]
+
+    def write(self, folder, count):
+        write_alignments(folder / "records.bed", count // 3, 1)
+        with open(folder / "records.bam", "wb") as bam:
+            subprocess.run(["samtools", "view", "-b", str(folder / "records.bed")], stdout=bam, check=True)
+
+
 READS = Features("reads", 1, 149, 151, 6)
 EXONS = Features("exons", 10, 50, 400, 6)
 PEAKS = Features("peaks", 25, 200, 2000, 3)
@@ -112,8 +131,8 @@ class Workload:
 
     words: list
     data: object
-    # Whether bedtools takes -g there.
-    takes_genome: bool
+    # Which of the programs take -g there.
+    genome_of: tuple
     # The words by which bedops does it, if it does.
     bedops: list
     # At most so many instructions a record are aimed at, if that is said.
@@ -121,24 +140,37 @@ class Workload:
     # At most such a part of bedtools' time is aimed at.
     part: float
     is_drawn: bool = True
+    # The words of bedtools, where they are others.
+    words_of_bedtools: list = None
 
     def name(self):
         return f"{' '.join(self.words)}, {self.data.name()}"
 
 
+OURS = ("dunekettle",)
+BOTH = ("dunekettle", "bedtools")
 SHAPES = [[], ["-wa"], ["-wb"], ["-wa", "-wb"], ["-wo"], ["-u"], ["-v"], ["-c"]]
 
 WORKLOADS = [
-    Workload(["merge"], Touching(3), False, ["--merge"], 450, 0.2),
-    Workload(["merge"], Touching(6), False, ["--merge"], 600, 0.3),
-    Workload(["merge", "-S", "+", "-d", "100"], Touching(6), False, None, 600, 0.3),
-    Workload(["complement"], Touching(3), True, None, 450, 0.2),
-    Workload(["complement"], Touching(6), True, None, 600, 0.3),
+    Workload(["merge"], Touching(3), OURS, ["--merge"], 450, 0.2),
+    Workload(["merge"], Touching(6), OURS, ["--merge"], 600, 0.3),
+    Workload(["merge", "-S", "+", "-d", "100"], Touching(6), OURS, None, 600, 0.3),
+    Workload(["complement"], Touching(3), BOTH, None, 450, 0.2),
+    Workload(["complement"], Touching(6), BOTH, None, 600, 0.3),
     *(
-        Workload(["intersect", "-sorted", *shape], data, True, None, None, 0.35, not shape)
+        Workload(["intersect", "-sorted", *shape], data, BOTH, None, None, 0.35, not shape)
         for data in (Pair(READS, EXONS), Pair(EXONS, PEAKS), Nested())
         for shape in SHAPES
     ),
+    Workload(["intersect", "-sorted", "-f", "0.5", "-r"], Pair(READS, EXONS), BOTH, None, None, 0.35, False),
+    Workload(["intersect", "-sorted", "-f", "0.1", "-s"], Pair(READS, EXONS), BOTH, None, None, 0.35, False),
+    *(
+        Workload(["subtract", *shape], data, BOTH, None, None, 0.3, not shape, ["subtract", "-sorted", *shape])
+        for data in (Pair(READS, EXONS), Pair(EXONS, PEAKS))
+        for shape in ([], ["-A"], ["-f", "0.5"])
+    ),
+    Workload(["bamtobed"], Alignments(), (), None, None, 0.15),
+    Workload(["bamtobed", "-split"], Alignments(), (), None, None, 0.15, False),
 ]
 
 
@@ -194,6 +226,24 @@ def write_features(path, count, features, seed):
                 records.write(f"{name}\t{start}\t{stop}{further_columns(numbers, features.columns)}\n")
 
 
+def write_alignments(path, count, seed):
+    """Writes about `count` reads of 100 bases in SAM text, with a header, sorted as aligners leave them."""
+    numbers = random.Random(seed)
+    total = sum(LENGTHS)
+    cigars = ["100M", "100M", "100M", "60M1500N40M", "5S95M", "50M2D50M", "48M2I50M"]
+    bases = "".join(numbers.choice("ACGT") for _ in range(4000))
+    with open(path, "w", encoding="ascii") as reads:
+        reads.write("@HD\tVN:1.6\tSO:coordinate\n")
+        reads.writelines(f"@SQ\tSN:{name}\tLN:{length * 1_000_000}\n" for name, length in zip(NAMES, LENGTHS))
+        for name, length in zip(NAMES, LENGTHS):
+            last = length * 1_000_000 - 5000
+            for start in sorted(numbers.randrange(1, last) for _ in range(count * length // total)):
+                flag = numbers.choice([99, 147, 83, 163, 0, 16])
+                place = f"{name}\t{start}\t{numbers.randrange(61)}\t{numbers.choice(cigars)}\t=\t{start + 200}\t300"
+                at = numbers.randrange(3900)
+                reads.write(f"read{start}\t{flag}\t{place}\t{bases[at : at + 100]}\t{'F' * 100}\tNM:i:0\n")
+
+
 def time_run(run, output):
     """Runs a program, and keeps its processor time in seconds and its peak memory in kilobytes."""
     with open(output, "wb") as out:
@@ -222,11 +272,13 @@ def peak_so_far(process):
 
 def runs_of(workload, others, folder):
     """The runs of a workload: this program's first, then those of the other programs that do the same job."""
-    genome = ["-g", str(folder / "genome.txt")]
-    words = [*workload.words, *workload.data.inputs(folder)]
-    runs = [Run("dunekettle", [str(PROGRAM), *words, *genome])]
+    genome = {program: ["-g", str(folder / "genome.txt")] for program in workload.genome_of}
+    inputs = workload.data.inputs(folder)
+    runs = [Run("dunekettle", [str(PROGRAM), *workload.words, *inputs, *genome.get("dunekettle", [])])]
     if others["bedtools"]:
-        runs.append(Run("bedtools", [others["bedtools"], *words, *(genome if workload.takes_genome else [])]))
+        inputs = getattr(workload.data, "inputs_of_bedtools", workload.data.inputs)(folder)
+        words = workload.words_of_bedtools or workload.words
+        runs.append(Run("bedtools", [others["bedtools"], *words, *inputs, *genome.get("bedtools", [])]))
     if others["bedops"] and workload.bedops:
         runs.append(Run("bedops", [others["bedops"], *workload.bedops, str(folder / "records.bed")]))
     return runs

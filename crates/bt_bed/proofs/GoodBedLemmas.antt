@@ -95,22 +95,22 @@ placed_lines input order lines total = (placed_from input order None lines total
 pub placed_good : good_are_placed
 placed_good input order handed total = (placed_from input order None (lines_handed handed) total tt).placed
 
-non_empty_with : (input : Input) (order : Order) (last : Option Locus) (line : TextLine) (rest : Option Locus → Good Feature) → ((now : Option Locus) → AreNonEmpty (intervals_of (items_in (rest now))))
-    → (said : Result (Option Feature) Kind) → line_says (sorting_of order) last line.text ≡ said → AreNonEmpty (intervals_of (items_in (good_with (bed_format (sorting_of order)) input line.number last said rest)))
-non_empty_with input order last line rest h (Err kind) e = All-nil (λ r. r.start < r.stop)
-non_empty_with input order last line rest h (Ok None) e = h last
-non_empty_with input order last line rest h (Ok (Some r)) e =
-    All-cons (λ r. r.start < r.stop) (interval_of r) (intervals_of (items_in (rest (Some (locus_at r))))) (said_features line.text r (line_said (sorting_of order) last line.text r e).says).non_empty (h (Some (locus_at r)))
+non_empty_with : (input : Input) (sorting : Sorting) (last : Option Locus) (line : TextLine) (rest : Option Locus → Good Feature) → ((now : Option Locus) → AreNonEmpty (intervals_of (items_in (rest now))))
+    → (said : Result (Option Feature) Kind) → line_says sorting last line.text ≡ said → AreNonEmpty (intervals_of (items_in (good_with (bed_format sorting) input line.number last said rest)))
+non_empty_with input sorting last line rest h (Err kind) e = All-nil (λ r. r.start < r.stop)
+non_empty_with input sorting last line rest h (Ok None) e = h last
+non_empty_with input sorting last line rest h (Ok (Some r)) e =
+    All-cons (λ r. r.start < r.stop) (interval_of r) (intervals_of (items_in (rest (Some (locus_at r))))) (said_features line.text r (line_said sorting last line.text r e).says).non_empty (h (Some (locus_at r)))
 
-non_empty_from : (input : Input) (order : Order) (last : Option Locus) (lines : List TextLine) → AreNonEmpty (intervals_of (items_in (good_from (bed_format (sorting_of order)) input last lines)))
+pub non_empty_from : (input : Input) (sorting : Sorting) (last : Option Locus) (lines : List TextLine) → AreNonEmpty (intervals_of (items_in (good_from (bed_format sorting) input last lines)))
 unfolding good_from
-non_empty_from input order last [] = All-nil (λ r. r.start < r.stop)
-non_empty_from input order last (line ∷ lines) =
-    non_empty_with input order last line (λ now. good_from (bed_format (sorting_of order)) input now lines) (λ now. non_empty_from input order now lines) (line_says (sorting_of order) last line.text) refl
+non_empty_from input sorting last [] = All-nil (λ r. r.start < r.stop)
+non_empty_from input sorting last (line ∷ lines) =
+    non_empty_with input sorting last line (λ now. good_from (bed_format sorting) input now lines) (λ now. non_empty_from input sorting now lines) (line_says sorting last line.text) refl
 
 -- the good records have positions
 pub non_empty_good : good_are_non_empty
-non_empty_good input order handed = non_empty_from input order None (lines_handed handed)
+non_empty_good input order handed = non_empty_from input (sorting_of order) None (lines_handed handed)
 
 -- they stand on the lines of the text
 pub good_on_lines : good_stand_on_lines

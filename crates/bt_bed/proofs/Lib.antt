@@ -21,6 +21,8 @@ pub mod ReadingLemmas
 pub mod NeighbourLemmas
 pub mod CursorLemmas
 pub mod RecordsLemmas
+pub mod GoodBlocksLemmas
+pub mod BlocksLemmas
 pub mod IntervalLineLemmas
 pub mod MeetingLemmas
 pub mod RecordLineLemmas

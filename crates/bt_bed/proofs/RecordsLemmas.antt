@@ -90,12 +90,12 @@ module _ {S Q : Type 0} (left : S → Option (List ℕ)) (failed end : S → Boo
   no_line_at_start none = ap (option_map (λ (m : Member Feature). m.line)) (none_in left failed end sorting (option_map told cursor.fault) cursor.reader cursor.neighbours none)
 
 -- a record that was passed has a known chromosome
-pub passed_placed : {S : Type 0} (order : Order) (old new : MemberReader S Feature (Option Locus)) (m : Member Feature) → IsPlaced (sorting_of order) old → old.ahead ≡ Some m → new.state ≡ Some (locus_at m.item) → new.ahead ≡ None
-    → IsPlaced (sorting_of order) new
-passed_placed order old new m placed e state none =
-    let said = line_said (sorting_of order) old.state (text_at (line_at old.below)) m.item (placed.ahead m e) in
+pub passed_placed : {S : Type 0} (sorting : Sorting) (old new : MemberReader S Feature (Option Locus)) (m : Member Feature) → IsPlaced sorting old → old.ahead ≡ Some m → new.state ≡ Some (locus_at m.item) → new.ahead ≡ None
+    → IsPlaced sorting new
+passed_placed sorting old new m placed e state none =
+    let said = line_said sorting old.state (text_at (line_at old.below)) m.item (placed.ahead m e) in
     record {
-      last = λ place at. let same : Some (locus_at m.item) ≡ Some place = sym state ∙ at in let is : locus_at m.item ≡ place = cc in subst (λ (p : Locus). IsTrue (order.knows p.chrom)) is said.known;
+      last = λ place at. let same : Some (locus_at m.item) ≡ Some place = sym state ∙ at in let is : locus_at m.item ≡ place = cc in subst (λ (p : Locus). IsTrue (sorting.knows p.chrom)) is said.known;
       ahead = λ other at. cc;
     }
 
@@ -114,7 +114,7 @@ module _ {S O : Type 0} (g : Ghosts O) (old new : Cursor S (ByOrder O)) (rule : 
   unfolding view_with
   advanced_placed left placed some passes =
       let there = is_some_line (λ (m : Member Feature). m.line) (view_in (sorting_at g old) old).ahead some in
-      placed_by (passed_placed (g.order old.neighbours.rule.order.now) (view_in (sorting_at g old) old) (view_in (sorting_at g old) new) there.0 placed there.1 (passes.state there.0 there.1) passes.none_ahead)
+      placed_by (passed_placed (sorting_at g old) (view_in (sorting_at g old) old) (view_in (sorting_at g old) new) there.0 placed there.1 (passes.state there.0 there.1) passes.none_ahead)
 
 module _ {S O : Type 0} {g : Ghosts O} (left : S → Option (List ℕ)) (failed end : S → Bool) (old new : Records S O g) (rule : new.cursor.neighbours.rule ≡ old.cursor.neighbours.rule) where
   same_order : order_in new ≡ order_in old

@@ -17,6 +17,7 @@ pub mod Sorting
 pub mod Good
 pub mod GoodLines
 pub mod GoodBed
+pub mod GoodBlocks
 pub mod Reading
 pub mod Genome
 pub mod GenomeTable
@@ -24,5 +25,6 @@ pub mod Ahead
 pub mod Neighbours
 pub mod Cursor
 pub mod Records
+pub mod Blocks
 pub mod Meeting
 pub mod Rec

@@ -22,6 +22,10 @@ sorting_of order = record {
   comes_before = λ name other. is_less (order.compare name other);
 }
 
+-- that of blocks, each of one chromosome: every name is a chromosome, and none comes before another
+abbrev pub block_sorting : Sorting
+block_sorting = record { knows = λ name. true; comes_before = λ name other. false }
+
 -- Whether a place falls below the last one, if there is one: it is on its chromosome and has a
 -- smaller
 -- start, or is on a chromosome that comes before it.

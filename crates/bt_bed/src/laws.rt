@@ -4,6 +4,7 @@ ghost use Rattle.std.specs.Prelude.{◌≡◌, [], ◌∷◌, ◌++◌, Some, No
 ghost use Rattle.bt_bed.specs.Bases.{shared_are_common};
 ghost use Rattle.bt_bed.specs.Genome.{first_lines_make_entries, genome_names_are_distinct};
 ghost use Rattle.bt_bed.specs.GoodBed.{first_lines_have_the_first, good_are_non_empty, good_are_placed, good_stand_on_lines};
+ghost use Rattle.bt_bed.specs.GoodBlocks.{good_are_in_blocks, good_in_blocks_are_non_empty, good_in_blocks_stand_on_lines};
 ghost use Rattle.bt_bed.specs.Locus.{fronts_are_placed, placed_grows};
 ghost use Rattle.bt_bed.specs.Meeting.{EarlyLinesBegin};
 ghost use Rattle.bt_bed.specs.Rank.{ranks_are_total};
@@ -43,6 +44,14 @@ pub fn order_gathers()
 pub fn good_records_are_in_order()
     ensures placed { good_are_placed }
     ensures non_empty { good_are_non_empty }
+{}
+
+/// The good records of an input in blocks are in order in each of them, each has a base, and they stand
+/// on the lines of the text.
+pub fn good_blocks_are_in_order()
+    ensures in_blocks { good_are_in_blocks }
+    ensures non_empty { good_in_blocks_are_non_empty }
+    ensures lines { good_in_blocks_stand_on_lines }
 {}
 
 /// The good records of a text stand on its lines, and those of its first lines are the first of them.

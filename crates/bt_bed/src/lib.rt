@@ -3,10 +3,12 @@
 //! A feature is what a line of a BED file says ([`parse_bed`]). A [`BedRef`] borrows it, and a [`Rec`]
 //! keeps it; both are written whole or in parts ([`write_bed`], [`write_cut`], [`put_bed`],
 //! [`put_cut`]). [`Records`] reads the features of sorted input in an order of the chromosomes
-//! ([`ChromOrder`]), as that of a [`Genome`].
+//! ([`ChromOrder`]), as that of a [`Genome`], and [`Blocks`] those of input in which only the records
+//! of a chromosome that stand together are sorted.
 #![tactic(auto)]
 
 mod bed;
+mod blocks;
 mod cursor;
 mod entry;
 mod faults;
@@ -30,6 +32,7 @@ mod strand;
 mod writing;
 
 pub use bed::BedRef;
+pub use blocks::Blocks;
 pub use faults::at_line;
 pub use genome::Genome;
 pub use interval_line::put_interval;

@@ -1,7 +1,7 @@
 //! Rules by which the records of an input are sorted.
 
 ghost use Rattle.std.specs.Prelude.{◌≡◌, IsTrue};
-ghost use Rattle.bt_bed.specs.Sorting.{Sorting, sorting_of};
+ghost use Rattle.bt_bed.specs.Sorting.{Sorting, block_sorting, sorting_of};
 
 use crate::order::ChromOrder;
 use std::cmp::Ordering;
@@ -37,5 +37,22 @@ impl<'o, O: ChromOrder> Sorted for ByOrder<'o, O> {
 
     fn comes_before(&self, name: &[u8], other: &[u8]) -> bool {
         self.order.compare(name, other) == Ordering::Less
+    }
+}
+
+/// Sorted by their starts alone, on each run of records of one chromosome. The runs come in any order,
+/// and a chromosome may have several.
+#[derive(Drop)]
+pub(crate) struct InBlocks;
+
+impl Sorted for InBlocks {
+    ghost sorting = { λ _. block_sorting };
+
+    fn knows(&self, _name: &[u8]) -> bool {
+        true
+    }
+
+    fn comes_before(&self, _name: &[u8], _other: &[u8]) -> bool {
+        false
     }
 }

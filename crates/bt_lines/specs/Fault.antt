@@ -1,7 +1,7 @@
 -- The texts of faults, and the line that tells one.
 use Rattle.std.specs.Prelude.{ℕ, List, [], ◌++◌, Bool, true, false, Option, Some, None, codes, decimal}
 use Rattle.bt_lines.specs.declared.fault.Kind.{Kind}
-use Rattle.bt_lines.specs.declared.fault.Kind.TheVariants.{TooFewColumns, EmptyName, BadStart, BadStop, EmptyFeature, UnknownChrom, OutOfOrder, BadLength, RepeatedChrom, BadFlag, BadPosition, BadQuality, BadCigar, StopTooLarge, ReadFailed, WriteFailed, NoMemory}
+use Rattle.bt_lines.specs.declared.fault.Kind.TheVariants.{TooFewColumns, EmptyName, BadStart, BadStop, EmptyFeature, UnknownChrom, OutOfOrder, BadLength, RepeatedChrom, BadFlag, BadPosition, BadQuality, BadCigar, StopTooLarge, TextBeforeHeader, NoSequence, ReadFailed, WriteFailed, NoMemory}
 use Rattle.bt_lines.specs.declared.fault.Input.{Input}
 use Rattle.bt_lines.specs.declared.fault.Input.TheVariants.{Genome, First, Second}
 use Rattle.bt_lines.specs.declared.fault.Place.{Place}
@@ -33,6 +33,8 @@ text_of BadPosition = codes "position is not a number"
 text_of BadQuality = codes "mapping quality is not a number"
 text_of BadCigar = codes "CIGAR is malformed"
 text_of StopTooLarge = codes "end is too large"
+text_of TextBeforeHeader = codes "text before the first header"
+text_of NoSequence = codes "no such sequence from here on"
 text_of ReadFailed = codes "reading failed"
 text_of WriteFailed = codes "writing failed"
 text_of NoMemory = codes "no memory"

@@ -34,6 +34,10 @@ pub enum Kind {
     BadCigar,
     /// An alignment's end is above the greatest number.
     StopTooLarge,
+    /// A line of a FASTA input has text before the first header.
+    TextBeforeHeader,
+    /// A record's chromosome isn't the name of a sequence that is still to come.
+    NoSequence,
     /// The input couldn't be read further, or is longer than 2^63 - 1 bytes.
     ReadFailed,
     /// The output couldn't be written.
@@ -70,6 +74,8 @@ impl Kind {
             Kind::BadQuality => b"mapping quality is not a number",
             Kind::BadCigar => b"CIGAR is malformed",
             Kind::StopTooLarge => b"end is too large",
+            Kind::TextBeforeHeader => b"text before the first header",
+            Kind::NoSequence => b"no such sequence from here on",
             Kind::ReadFailed => b"reading failed",
             Kind::WriteFailed => b"writing failed",
             Kind::NoMemory => b"no memory",

@@ -173,7 +173,7 @@ fn fault_lines(rt: HostRuntime) -> Result<(), AllocError> {
         first: b"a.bed",
         second: b"b.bed",
     };
-    let cases: [(Kind, Option<(Input, u64)>, &[u8]); 10] = [
+    let cases: [(Kind, Option<(Input, u64)>, &[u8]); 12] = [
         (
             Kind::OutOfOrder,
             Some((Input::First, 3)),
@@ -213,6 +213,16 @@ fn fault_lines(rt: HostRuntime) -> Result<(), AllocError> {
             Kind::StopTooLarge,
             Some((Input::First, 5)),
             b"bedtools merge: a.bed:5: end is too large\n",
+        ),
+        (
+            Kind::TextBeforeHeader,
+            Some((Input::First, 1)),
+            b"bedtools merge: a.bed:1: text before the first header\n",
+        ),
+        (
+            Kind::NoSequence,
+            Some((Input::Second, 1)),
+            b"bedtools merge: b.bed:1: no such sequence from here on\n",
         ),
         (Kind::WriteFailed, None, b"bedtools merge: writing failed\n"),
         (Kind::NoMemory, None, b"bedtools merge: no memory\n"),

@@ -5,3 +5,13 @@ pub mod BlockLemmas
 pub mod BetweenLemmas
 pub mod LineLemmas
 pub mod SamKindLemmas
+pub mod MaskLemmas
+pub mod OwnerLemmas
+pub mod NameLemmas
+pub mod StretchLemmas
+pub mod TextLemmas
+pub mod MaskingLemmas
+pub mod LeftLemmas
+pub mod QuietLemmas
+pub mod KnowsLemmas
+pub mod HeldLemmas

@@ -13,3 +13,13 @@ pub mod BedLines
 pub mod LineEnds
 pub mod Converting
 pub mod SamKind
+pub mod MaskHow
+pub mod Sequences
+pub mod Owners
+pub mod Masked
+pub mod Matching
+pub mod Stretches
+pub mod Window
+pub mod Masking
+pub mod Held
+pub mod Knows

@@ -5,9 +5,16 @@ ghost use Rattle.bt_seq.specs.Alignment.{alignment_of};
 ghost use Rattle.bt_seq.specs.Between.{blocks_are_within};
 ghost use Rattle.bt_seq.specs.Blocks.{blocks_in, unskipped_are_one_block};
 ghost use Rattle.bt_seq.specs.Cigar.{division_is_found, division_is_one, length_of, operations_are_divided, operations_of};
+ghost use Rattle.bt_bed.specs.LineKind.{fault_at_line};
+ghost use Rattle.bt_seq.specs.Held.{held_mask_alone};
+ghost use Rattle.bt_seq.specs.Knows.{owners_are_found};
+ghost use Rattle.bt_seq.specs.Masking.{quiet_records_are_taken};
+ghost use Rattle.bt_seq.specs.Masked.{mask_texts};
+ghost use Rattle.bt_seq.specs.Owners.{blocks_are_maximal_runs, next_goes_on_or_begins};
 ghost use Rattle.bt_seq.specs.SamKind.{sam_kinds_are_of_lines, wrong_have_sam_kinds};
 
-use bt_lines::Kind;
+use crate::mask_how::MaskHow;
+use bt_lines::{Input, Kind};
 
 /// A CIGAR can be divided into numbers and letters in one way only, and its operations are those of
 /// that division.
@@ -76,4 +83,80 @@ pub fn blocks_lie_within_their_alignment()
 pub fn faults_of_alignments_lie_at_lines()
     ensures kinds { wrong_have_sam_kinds }
     ensures lines { sam_kinds_are_of_lines }
+{}
+
+/// The blocks of records are their maximal runs of one chromosome.
+pub fn blocks_are_runs()
+    ensures { blocks_are_maximal_runs }
+{}
+
+/// A further record goes on with the last block, or begins one behind it.
+pub fn blocks_follow_one_another()
+    ensures { next_goes_on_or_begins }
+{}
+
+/// A record that neither decides the line that waits nor has to be held is taken, and nothing is written.
+pub fn quiet_records_are_taken()
+    ensures { quiet_records_are_taken }
+{}
+
+/// What is known line by line and record by record tells the sequence of a block.
+pub fn owners_of_blocks_are_found()
+    ensures { owners_are_found }
+{}
+
+/// The records held by a line mask it as all records of the input do.
+pub fn held_records_mask_alone()
+    ensures { held_mask_alone }
+{}
+
+/// The masked text of small inputs.
+#[tactic(auto, unfolding(bt_bed::specs::Good::good_from, bt_bed::specs::GoodBed::line_says, bt_bed::specs::Record::record_of, bt_lines::specs::Lines::lines_from, bt_lines::specs::Number::value_of))]
+pub fn masked_small_texts()
+    ensures over_two_lines { mask_texts (MaskHow.Hard 78) false (codes ">s d\nACGTAC\nGTAC") (codes "s\t4\t8\n")
+        ≡ record { lines = codes ">s d\nACGTNN\nNNAC"; fault = None } }
+    ensures soft { mask_texts MaskHow.Soft false (codes ">s d\nACGTAC\nGTAC") (codes "s\t4\t8\n")
+        ≡ record { lines = codes ">s d\nACGTac\ngtAC"; fault = None } }
+    ensures other_byte { mask_texts (MaskHow.Hard 120) false (codes ">s d\nACGTAC\nGTAC") (codes "s\t4\t8\n")
+        ≡ record { lines = codes ">s d\nACGTxx\nxxAC"; fault = None } }
+    ensures past_the_end { mask_texts (MaskHow.Hard 78) false (codes ">s\nACGT\n") (codes "s\t2\t20\n")
+        ≡ record { lines = codes ">s\nACNN\n"; fault = None } }
+    ensures behind_the_end { mask_texts (MaskHow.Hard 78) false (codes ">s\nACGT\n") (codes "s\t10\t20\n")
+        ≡ record { lines = codes ">s\nACGT\n"; fault = None } }
+    ensures line_ends { mask_texts (MaskHow.Hard 78) false (codes "\r\n>s\r\nAC\r\n\nGT\r") (codes "s\t1\t3\n")
+        ≡ record { lines = codes "\r\n>s\r\nAN\r\n\nNT\r"; fault = None } }
+    ensures full_header { mask_texts (MaskHow.Hard 78) true (codes ">s d\nACGT\n") (codes "s d\t0\t1\n")
+        ≡ record { lines = codes ">s d\nNCGT\n"; fault = None } }
+{}
+
+/// Which sequence is masked where several have a name, or a block has none.
+#[tactic(auto, unfolding(bt_bed::specs::Good::good_from, bt_bed::specs::GoodBed::line_says, bt_bed::specs::Record::record_of, bt_lines::specs::Lines::lines_from, bt_lines::specs::Number::value_of))]
+pub fn masked_sequences_of_blocks()
+    ensures each_in_turn { mask_texts (MaskHow.Hard 78) false (codes ">s\nAAAA\n>t\nCCCC\n>s\nGGGG\n") (codes "s\t0\t1\nt\t0\t1\ns\t0\t1\n")
+        ≡ record { lines = codes ">s\nNAAA\n>t\nNCCC\n>s\nNGGG\n"; fault = None } }
+    ensures second_of_a_name { mask_texts (MaskHow.Hard 78) false (codes ">s\nAAAA\n>t\nCCCC\n>s\nGGGG\n") (codes "t\t0\t1\ns\t0\t1\n")
+        ≡ record { lines = codes ">s\nAAAA\n>t\nNCCC\n>s\nNGGG\n"; fault = None } }
+    ensures across_lines { mask_texts (MaskHow.Hard 78) false (codes ">s\nAC\nGT\n>t\nTTTT\n") (codes "s\t1\t3\nt\t0\t1\n")
+        ≡ record { lines = codes ">s\nAN\nNT\n>t\nNTTT\n"; fault = None } }
+    ensures earlier_name { mask_texts (MaskHow.Hard 78) false (codes ">s\nAA\n>t\nCC\n>u\n") (codes "t\t0\t1\ns\t0\t1\nu\t0\t1\n")
+        ≡ record { lines = codes ">s\nAA\n>t\nNC\n>u\n"; fault = Some (fault_at_line Input.Second 2 Kind.NoSequence) } }
+    ensures empty_name { mask_texts (MaskHow.Hard 78) false (codes ">\nAA\n>t") (codes "t\t0\t1\n")
+        ≡ record { lines = codes ">\nAA\n>t"; fault = None } }
+{}
+
+/// What is written before a fault.
+#[tactic(auto, unfolding(bt_bed::specs::Good::good_from, bt_bed::specs::GoodBed::line_says, bt_bed::specs::Record::record_of, bt_lines::specs::Lines::lines_from, bt_lines::specs::Number::value_of))]
+pub fn masked_lines_before_a_fault()
+    ensures no_sequence { mask_texts (MaskHow.Hard 78) false (codes ">s\nACGT\n") (codes "t\t0\t2\n")
+        ≡ record { lines = codes ">s\nACGT\n"; fault = Some (fault_at_line Input.Second 1 Kind.NoSequence) } }
+    ensures before_a_fault { mask_texts (MaskHow.Hard 78) false (codes ">s\nAAAA\n") (codes "t\t0\t2\nt\tx\t5\n")
+        ≡ record { lines = codes ">s\nAAAA\n"; fault = Some (fault_at_line Input.Second 1 Kind.NoSequence) } }
+    ensures no_header { mask_texts (MaskHow.Hard 78) false (codes "ACGT\n>s\n") []
+        ≡ record { lines = []; fault = Some (fault_at_line Input.First 1 Kind.TextBeforeHeader) } }
+    ensures out_of_order { mask_texts (MaskHow.Hard 78) false (codes ">s\nAAAA\n") (codes "s\t3\t4\ns\t1\t2\n")
+        ≡ record { lines = codes ">s\n"; fault = Some (fault_at_line Input.Second 2 Kind.OutOfOrder) } }
+    ensures bad_start { mask_texts (MaskHow.Hard 78) false (codes ">s\nAAAA\nCCCC\n") (codes "s\t0\t1\ns\tx\t2\n")
+        ≡ record { lines = codes ">s\n"; fault = Some (fault_at_line Input.Second 2 Kind.BadStart) } }
+    ensures first_line { mask_texts (MaskHow.Hard 78) false (codes ">s\nAAAA\n") (codes "s\tx\t2\n")
+        ≡ record { lines = []; fault = Some (fault_at_line Input.Second 1 Kind.BadStart) } }
 {}

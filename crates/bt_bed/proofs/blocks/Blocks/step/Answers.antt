@@ -1,0 +1,5 @@
+use Rattle.bt_bed.proofs.BlocksLemmas.{steps_blocks}
+use Rattle.bt_bed.proofs.blocks.Blocks.step.Goals as goal
+
+pub returns : goal.returns
+returns g c = steps_blocks g.S.Source.left g.S.Source.has_failed g.S.Source.end_told c.args.self.now _ _ c.step.ensures.step

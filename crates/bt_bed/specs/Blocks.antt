@@ -1,0 +1,101 @@
+-- What a reader of records in blocks holds, and what its calls do.
+use Rattle.std.specs.Prelude.{◌≡◌, ℕ, Bool, List, Option, Some, None, option_map, Result, Ok, Err, IfSome}
+use Rattle.bt_lines.specs.Fault.{Told}
+use Rattle.bt_lines.specs.Names.{told}
+use Rattle.bt_lines.specs.Reader.{IsSound}
+use Rattle.bt_lines.specs.declared.fault.Fault.{Fault}
+use Rattle.bt_lines.specs.declared.line_reader.LineReader.{LineReader}
+use Rattle.bt_bed.specs.Bed.{feature_lent}
+use Rattle.bt_bed.specs.Cursor.{view_in}
+use Rattle.bt_bed.specs.Feature.{Feature}
+use Rattle.bt_bed.specs.Good.{Good, Member}
+use Rattle.bt_bed.specs.GoodBed.{locus_at}
+use Rattle.bt_bed.specs.GoodBlocks.{IsBlockUpTo}
+use Rattle.bt_bed.specs.Locus.{Locus}
+use Rattle.bt_bed.specs.Reading.{Advances, AnswersFault, EndsMembers, GivesMember, MemberReader, good_coming, line_of_ahead, room as room_in}
+use Rattle.bt_bed.specs.Record.{IsFeature}
+use Rattle.bt_bed.specs.Sorting.{block_sorting}
+use Rattle.bt_bed.specs.declared.bed.BedRef.{BedRef}
+use Rattle.bt_bed.specs.declared.blocks.Blocks.{Blocks}
+
+module _ {S : Type 0} where
+  -- what it holds, as a reader of members
+  unfoldable pub view_of : Blocks S → MemberReader S Feature (Option Locus)
+  view_of blocks = view_in block_sorting blocks.cursor
+
+  -- the reader of lines below
+  abbrev pub below : Blocks S → LineReader S
+  below blocks = (view_of blocks).below
+
+  -- where the record that was passed last started, if there was one
+  abbrev pub last_locus : Blocks S → Option Locus
+  last_locus blocks = (view_of blocks).state
+
+  -- the record ahead, once it was asked for
+  abbrev pub record_ahead : Blocks S → Option Feature
+  record_ahead blocks = option_map (λ m. m.item) (view_of blocks).ahead
+
+  -- its line
+  abbrev pub line_ahead : Blocks S → Option ℕ
+  line_ahead blocks = line_of_ahead (view_of blocks)
+
+  -- the fault that is kept
+  abbrev pub fault_kept : Blocks S → Option Told
+  fault_kept blocks = (view_of blocks).fault
+
+  -- what is still to come, the record ahead included, where the source's bytes are known
+  abbrev pub good_left : (S → Option (List ℕ)) → Blocks S → Option (Good Feature)
+  good_left left blocks = good_coming left (view_of blocks)
+
+  -- how many bytes and records may still come: it never rises, and falls with each record passed
+  abbrev pub room : Blocks S → ℕ
+  room blocks = room_in (view_of blocks)
+
+  -- a record is ahead
+  pub record GivesRecord (left : S → Option (List ℕ)) (failed : S → Bool) (old : Blocks S)
+      (r : Feature) (new : Blocks S) : Type 0 where
+    pub line : ℕ
+    pub read : GivesMember left failed (view_of old) (record { line = line; item = r })
+        (view_of new)
+    -- it is one that a line can say, and in its block it doesn't start before the record before it
+    pub feature : IsFeature r
+    pub in_order : IfSome (last_locus old) (λ last. IsBlockUpTo last (locus_at r))
+
+  -- what a step gives: a record, or the end where there is none
+  abbrev pub StepsTo : (S → Option (List ℕ)) → (S → Bool) → Blocks S → Option (Member Feature)
+      → Blocks S → Type 0
+  StepsTo left failed old (Some m) new = GivesRecord left failed old m.item new
+  StepsTo left failed old None new = EndsMembers left failed (view_of old) (view_of new)
+
+  -- the same, or a fault
+  abbrev pub StepAnswers : {A : Type 0} → (S → Option (List ℕ)) → (S → Bool) → (S → Bool)
+      → Blocks S → Result A Fault → Blocks S → Type 0
+  StepAnswers left failed end old (Ok done) new = StepsTo left failed old (view_of new).ahead new
+  StepAnswers left failed end old (Err fault) new = AnswersFault left failed end (view_of old)
+      (told fault) (view_of new)
+
+  -- a call of `peek`, with the record held in place of lent
+  pub record StepsBlocks {A : Type 0} (left : S → Option (List ℕ)) (failed end : S → Bool)
+      (old : Blocks S) (answer : Result A Fault) (new : Blocks S) : Type 0 where
+    pub answers : StepAnswers left failed end old answer new
+    pub sound : IsSound left end (below old) → IsSound left end (below new)
+
+  -- what an answer says
+  abbrev pub Answers : (S → Option (List ℕ)) → (S → Bool) → (S → Bool) → Blocks S → Result
+      (Option BedRef) Fault → Blocks S → Type 0
+  Answers left failed end old (Ok (Some bed)) new = GivesRecord left failed old
+      (feature_lent bed) new
+  Answers left failed end old (Ok None) new = EndsMembers left failed (view_of old) (view_of new)
+  Answers left failed end old (Err fault) new = AnswersFault left failed end (view_of old)
+      (told fault) (view_of new)
+
+  -- one call of `peek`
+  pub record PeeksBlocks (left : S → Option (List ℕ)) (failed end : S → Bool) (old : Blocks S)
+      (answer : Result (Option BedRef) Fault) (new : Blocks S) : Type 0 where
+    pub answers : Answers left failed end old answer new
+    pub sound : IsSound left end (below old) → IsSound left end (below new)
+
+  -- one call of `advance`: the record ahead is the last one, and nothing is read
+  pub record PassesBlocks (left : S → Option (List ℕ)) (old new : Blocks S) : Type 0 where
+    pub last : last_locus new ≡ option_map locus_at (record_ahead old)
+    pub passes : Advances left (view_of old) (view_of new)

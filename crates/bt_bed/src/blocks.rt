@@ -1,0 +1,92 @@
+//! The records of a BED input whose chromosomes come in any order.
+
+ghost use Rattle.bt_bed.specs.Cursor.{IsPlaced, view_in};
+ghost use Rattle.bt_bed.specs.Sorting.{block_sorting};
+
+use crate::bed::BedRef;
+use crate::cursor::Cursor;
+use crate::sorted::InBlocks;
+use bt_lines::{Fault, LineReader, Source};
+use std::alloc::Global;
+
+/// Reads the records of a BED input in blocks, and tells the first line at fault: one that isn't a
+/// feature, or starts before the record before it on the same chromosome. A block is a maximal run of
+/// records of one chromosome; the blocks come in any order, and a chromosome may have several. Header
+/// lines and blank lines are skipped. The record ahead is lent until the next call.
+#[derive(Drop)]
+pub struct Blocks<S> {
+    cursor: Cursor<S, InBlocks>,
+    ghost placed: { IsPlaced block_sorting (view_in block_sorting cursor) },
+}
+
+#[tactic(auto, unfolding(crate::specs::Cursor::view_with, crate::specs::Blocks::view_of))]
+impl<S: Source> Blocks<S> {
+    ghost use Rattle.std.specs.Prelude.{◌≡◌, [], Some, None, IsSome, option_map};
+    ghost use Rattle.std.specs.Borrow.{sem};
+    ghost use Rattle.std.specs.Io.BufRead.{Rests};
+    ghost use Rattle.bt_lines.specs.Reader.{fault_kept as line_fault, input_of, lines_left};
+    ghost use Rattle.bt_bed.specs.contracts.blocks.Blocks.{the_row};
+    ghost use Rattle.bt_bed.specs.Blocks.{PassesBlocks, PeeksBlocks, StepsBlocks, below, fault_kept, good_left, last_locus, line_ahead};
+    ghost use Rattle.bt_bed.specs.Good.{good};
+    ghost use Rattle.bt_bed.specs.GoodBlocks.{block_format};
+
+    /// A reader of the records that the reader of lines has left.
+    pub fn new(alloc: Global, reader: LineReader<S>) -> Blocks<S>
+        ensures below { below result ≡ reader }
+        ensures fault { fault_kept result ≡ line_fault reader }
+        ensures good { line_fault reader ≡ None → good_left S.left result
+            ≡ option_map (good block_format (input_of reader)) (lines_left S.left reader) }
+        ensures none_last { last_locus result ≡ None }
+        ensures none_ahead { line_ahead result ≡ None }
+    {
+        Blocks {
+            cursor: Cursor::new(alloc, reader, InBlocks),
+        }
+    }
+
+    /// The record ahead, or none at the end of the input. It reads on only where no record is ahead,
+    /// and after a fault and after the end nothing is read. A line that couldn't be read is told
+    /// before what is wrong with it, and want of memory for its chromosome's name after. Memory is
+    /// taken for the line, and where the chromosome is another than that of the record before.
+    pub fn peek(&mut self) -> Result<Option<BedRef<'_>>, Fault>
+        ensures* after { sem 𝓛 (Rests (the_row S.row) self.entry
+            (λ new. PeeksBlocks S.left S.has_failed S.end_told self.old result new)) }
+    {
+        self.step()?;
+        Ok(self.cursor.record())
+    }
+
+    /// Passes the record ahead, which the last `peek` gave. It reads nothing and takes no memory.
+    pub fn advance(&mut self)
+        requires { IsSome (line_ahead self.old) }
+        ensures { PassesBlocks S.left self.old self.new }
+    {
+        self.cursor.advance();
+    }
+
+    /// The line of the record ahead, which the last `peek` gave.
+    pub fn line(&self) -> u64
+        requires { IsSome (line_ahead self.now) }
+        ensures { line_ahead self.now ≡ Some result }
+    {
+        self.cursor.line()
+    }
+
+    /// Gives back the reader of lines.
+    pub fn into_reader(self) -> LineReader<S>
+        ensures { result ≡ below self }
+    {
+        let Blocks { cursor } = self;
+        cursor.into_reader()
+    }
+
+    // Reads on to the next record, if none is ahead and there is one.
+    fn step(&mut self) -> Result<(), Fault>
+        ensures { StepsBlocks S.left S.has_failed S.end_told self.old result self.new }
+    {
+        self.cursor.step()
+    }
+}
+
+#[cfg(test)]
+mod tests;

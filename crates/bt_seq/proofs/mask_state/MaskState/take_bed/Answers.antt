@@ -1,0 +1,10 @@
+use Rattle.std.proofs.Common.{◌∙◌, ap, sym}
+use Rattle.bt_bed.specs.Bed.{feature_lent}
+use Rattle.bt_seq.specs.Masking.{Masking}
+use Rattle.bt_seq.proofs.MaskingLemmas.{wrote_line}
+use Rattle.bt_seq.proofs.mask_state.MaskState.take_bed.Goals as goal
+
+pub returns-then-is_decided : goal.returns-then-is_decided
+returns-then-is_decided g c = λ line is.
+    wrote_line c.args.self.now _ c.write.new.self (feature_lent c.args.bed.now) c.owner-owner.result c.owner-owner.new.self line c.args.out.now c.write.new.out c.self.view_is c.owner-owner.ensures.owner c.owner-owner.ensures.next
+    (sym c.if-is_decided.ensures) (c.in_ok-write.ensures line (ap (λ (m : Masking). m.waiting) c.self.view_is ∙ is))

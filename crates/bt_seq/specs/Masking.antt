@@ -1,0 +1,164 @@
+-- What a masking engine keeps, and its steps.
+use Rattle.bt_seq.specs.declared.matching.Owner.TheVariants.{Own, Earlier, Nobody}
+use Rattle.bt_seq.specs.declared.matching.Owner.{Owner}
+use Rattle.bt_seq.specs.declared.mask_want.Taken.TheVariants.{Yes, No}
+use Rattle.bt_seq.specs.declared.mask_want.Taken.{Taken}
+use Rattle.std.specs.Prelude.{◌≡◌, ◌⊎◌, ℕ, ◌&&◌, ◌||◌, not, Bool, true, false, List, ◌++◌, length, nat_lt, Option, Some, None, is_none, ⊤, nat_le, Result, Ok, Err, if◌then◌else◌, cond, [], ◌∷◌}
+use Rattle.bt_bed.specs.Feature.{Feature}
+use Rattle.bt_bed.specs.LineKind.{fault_at_line}
+use Rattle.bt_lines.specs.Fault.{no_memory}
+use Rattle.bt_lines.specs.Lines.{end_bytes}
+use Rattle.bt_lines.specs.Names.{told}
+use Rattle.bt_lines.specs.Output.{Output}
+use Rattle.bt_lines.specs.Putting.{FailsToAdd, Grown}
+use Rattle.bt_lines.specs.declared.fault.Fault.{Fault}
+use Rattle.bt_lines.specs.declared.fault.Input.TheVariants.{First, Second}
+use Rattle.bt_lines.specs.declared.fault.Kind.TheVariants.{TextBeforeHeader, NoSequence}
+use Rattle.bt_lines.specs.declared.line.LineEnd.{LineEnd}
+use Rattle.bt_seq.specs.Matching.{Matched, named, matched_with, owner_of}
+use Rattle.bt_seq.specs.Sequences.{is_header, name_in}
+use Rattle.bt_seq.specs.Stretches.{masked_in}
+use Rattle.bt_seq.specs.Window.{Bounds, gone_on, no_bases}
+use Rattle.bt_seq.specs.declared.mask_how.MaskHow.{MaskHow}
+use Rattle.bt_seq.specs.declared.mask_want.MaskWant.{MaskWant}
+use Rattle.bt_seq.specs.declared.mask_want.MaskWant.TheVariants.{Line, Bed, Nothing}
+
+-- a line that isn't written yet
+pub record Waiting : Type 0 where
+  pub text : List ℕ
+  pub ending : LineEnd
+
+pub record Masking : Type 0 where
+  pub how : MaskHow
+  pub full : Bool
+  pub matched : Matched
+  pub window : Bounds
+  pub waiting : Option Waiting
+  pub want : MaskWant
+  pub bed_ended : Bool
+
+-- whether a line of this text is at fault: there is text, and no header yet
+abbrev pub is_stray : Masking → List ℕ → Bool
+is_stray m text = not (is_header text) && (is_none m.matched.name && nat_lt 0 (length text))
+
+-- with the next line, before it waits or is written
+abbrev pub moved_to : Masking → List ℕ → Masking
+moved_to m text =
+    if is_header text
+    then record m { matched = named m.matched (name_in m.full text); window = no_bases }
+    else record m { window = gone_on m.window (length text) }
+
+-- what is written of a line
+abbrev pub line_bytes : Masking → Waiting → List ℕ
+line_bytes m line = masked_in m.how m.window.held m.window.before line.text ++ end_bytes line.ending
+
+-- whether lines are written at once
+abbrev pub writes_at_once : Masking → Bool
+writes_at_once m = m.bed_ended || is_none m.matched.name
+
+-- moving to a line
+abbrev pub Moves : {A : Type 0} → Masking → ℕ → List ℕ → Result A Fault → Masking → Type 0
+Moves old number text (Ok done) new = (new ≡ moved_to old text) × (is_stray old text ≡ false)
+Moves old number text (Err fault) new =
+    ((told fault ≡ fault_at_line First number TextBeforeHeader) × (is_stray old text ≡ true))
+    ⊎ ((told fault ≡ no_memory) × (is_stray old text ≡ false))
+
+-- writing the line that waits
+abbrev pub Writes : {A : Type 0} → Masking → Waiting → Output → Result A Fault → Masking → Output → Type 0
+Writes old line out (Ok done) new grown =
+    (new ≡ record old { waiting = None; want = Line }) × Grown out (line_bytes old line) grown
+Writes old line out (Err fault) new grown =
+    (new.want ≡ Nothing) × FailsToAdd out (line_bytes old line) (told fault) grown
+
+-- keeping a line until it is decided
+abbrev pub Keeps : {A : Type 0} → Masking → Waiting → Result A Fault → Masking → Type 0
+Keeps old line (Ok done) new = new ≡ record old { waiting = Some line; want = Bed }
+Keeps old line (Err fault) new = (new.want ≡ Nothing) × (told fault ≡ no_memory)
+
+-- the lines that are written once a line is given: itself where it is written at once, and else none
+abbrev pub bytes_at_once : Masking → Waiting → List ℕ
+bytes_at_once moved line = cond (writes_at_once moved) (line_bytes moved line) []
+
+-- taking a line: it is written, or waits
+abbrev pub TakesLine : {A : Type 0} → Masking → ℕ → Waiting → Output → Result A Fault → Masking → Output → Type 0
+TakesLine old number line out (Ok done) new grown =
+    (is_stray old line.text ≡ false)
+    × (new ≡ record (moved_to old line.text) {
+      waiting = cond (writes_at_once (moved_to old line.text)) None (Some line);
+      want = cond (writes_at_once (moved_to old line.text)) Line Bed;
+    })
+    × Grown out (bytes_at_once (moved_to old line.text) line) grown
+TakesLine old number line out (Err fault) new grown =
+    (new.want ≡ Nothing)
+    × (((told fault ≡ fault_at_line First number TextBeforeHeader) × (is_stray old line.text ≡ true) × (grown ≡ out))
+    ⊎ ((is_stray old line.text ≡ false)
+    × (FailsToAdd out (bytes_at_once (moved_to old line.text) line) (told fault) grown
+    ⊎ ((told fault ≡ no_memory) × (grown ≡ out)))))
+
+-- with the sequence of the block of a record on this chromosome
+abbrev pub with_owner : Masking → List ℕ → Masking
+with_owner m chrom = record m { matched = matched_with m.matched chrom }
+
+-- whether a record decides the line that waits
+abbrev pub decides_by : Owner → ℕ → ℕ → Bool
+decides_by Earlier bases start = false
+decides_by Own bases start = nat_le bases start
+decides_by Nobody bases start = true
+
+abbrev pub decides : Masking → Feature → Bool
+decides m r = decides_by (owner_of m.matched r.chrom) m.window.bases r.start
+
+-- whether a record that doesn't decide it has to be held
+abbrev pub holds_by : Owner → Bounds → Feature → Bool
+holds_by Earlier w r = false
+holds_by Own w r = nat_lt w.before r.stop
+holds_by Nobody w r = false
+
+abbrev pub holds : Masking → Feature → Bool
+holds m r = holds_by (owner_of m.matched r.chrom) m.window r
+
+-- with the record held, where it has to be
+abbrev pub with_stretch : Bool → Bounds → ℕ → ℕ → Bounds
+with_stretch to_hold w start stop =
+    if to_hold then record w { held = w.held ++ record { start = start; stop = stop } ∷ [] } else w
+
+abbrev pub holding : Masking → Feature → Masking
+holding m r = record (with_owner m r.chrom) { window = with_stretch (holds m r) m.window r.start r.stop }
+
+-- taking a record while a line waits
+abbrev pub TakesBed : Masking → Waiting → Feature → Output → Result Taken Fault → Masking → Output → Type 0
+TakesBed old line r out (Ok Yes) new grown =
+    (decides old r ≡ false) × (new ≡ holding old r) × (grown ≡ out)
+TakesBed old line r out (Ok No) new grown =
+    (decides old r ≡ true)
+    × (new ≡ record (with_owner old r.chrom) { waiting = None; want = Line })
+    × Grown out (line_bytes old line) grown
+TakesBed old line r out (Err fault) new grown =
+    (new.want ≡ Nothing)
+    × (((decides old r ≡ true) × FailsToAdd out (line_bytes old line) (told fault) grown)
+    ⊎ ((decides old r ≡ false) × (holds old r ≡ true) × (told fault ≡ no_memory) × (grown ≡ out)))
+
+-- the block belongs to a sequence
+abbrev pub has_owner : Owner → Type 0
+has_owner Own = ⊤
+has_owner Earlier = ⊤
+has_owner Nobody = ⊥
+
+-- checking a record behind the last line
+abbrev pub ChecksBed : {A : Type 0} → Masking → Feature → ℕ → Result A Fault → Masking → Type 0
+ChecksBed old r line (Ok done) new =
+    has_owner (owner_of old.matched r.chrom) × (new ≡ with_owner old r.chrom)
+ChecksBed old r line (Err fault) new =
+    (owner_of old.matched r.chrom ≡ Nobody) × (told fault ≡ fault_at_line Second line NoSequence) × (new.want ≡ Nothing)
+
+-- an answer that is no fault says that the record was taken
+abbrev pub taken_if_ok : Result Taken Fault → Type 0
+taken_if_ok (Ok taken) = taken ≡ Yes
+taken_if_ok (Err fault) = ⊤
+
+-- a record that neither decides the line that waits nor has to be held is taken, and nothing is written
+abbrev pub quiet_records_are_taken : Type 0
+quiet_records_are_taken = (old : Masking) (line : Waiting) (r : Feature) (out : Output)
+    (answer : Result Taken Fault) (new : Masking) (grown : Output)
+    → TakesBed old line r out answer new grown → decides old r ≡ false → holds old r ≡ false
+    → (answer ≡ Ok Yes) × (grown ≡ out)

@@ -1,0 +1,132 @@
+//! The engine of `bedtools maskfasta`.
+
+ghost use Rattle.std.specs.Prelude.{◌≡◌, None, Some, [], false, true, cond, length, IsOk};
+ghost use Rattle.bt_bed.specs.Bed.{feature_lent};
+ghost use Rattle.bt_seq.specs.Masking.{ChecksBed, TakesBed, TakesLine, Waiting, Writes, taken_if_ok};
+ghost use Rattle.bt_seq.specs.Window.{no_bases};
+
+use crate::mask_how::MaskHow;
+use crate::mask_state::MaskState;
+use crate::mask_want::{MaskWant, Taken};
+use bt_bed::BedRef;
+use bt_lines::{Fault, Line, Out, Sink};
+use std::alloc::Global;
+use std::marker::Model;
+
+/// Masks the bases of a FASTA input that records of a BED input cover. It is given what it asks for
+/// ([`Mask::want`]): the lines of the FASTA input and the records of the BED input, each one after
+/// another, and at last the end of each. A line is written as soon as no later record can change it.
+/// The records of one chromosome that stand together are a block; a block masks the first sequence of
+/// its name behind that of the block before it. Only one line is kept, and of the records of its
+/// sequence's block those that reach into it. A first fault ends it: then it asks for nothing.
+#[derive(Drop)]
+pub struct Mask {
+    state: MaskState,
+}
+
+impl Model for Mask {
+    ghost use Rattle.bt_seq.specs.Masking.{Masking};
+
+    ghost Value = { Masking };
+
+    ghost view = { λ m. m.state };
+}
+
+impl Mask {
+    /// An engine that was given nothing. With `full` a sequence's name is its whole header, and else
+    /// what stands before the first space or tab. It takes no memory.
+    pub fn new(alloc: Global, how: MaskHow, full: bool) -> Mask
+        ensures { result ≡ record {
+          how = how;
+          full = full;
+          matched = record { name = None; last = None; own = false };
+          window = no_bases;
+          waiting = None;
+          want = MaskWant.Line;
+          bed_ended = false;
+        } }
+    {
+        Mask {
+            state: MaskState::new(alloc, how, full),
+        }
+    }
+
+    /// What it asks for next.
+    pub fn want(&self) -> MaskWant
+        ensures { result ≡ self.now.want }
+    {
+        self.state.want()
+    }
+
+    /// How many records it holds: those of the sequence's block that start before the end of the line
+    /// given last and reach past its start.
+    pub fn kept_len(&self) -> usize
+        ensures { result ≡ length self.now.window.held }
+    {
+        self.state.kept_len()
+    }
+
+    /// Takes the next line. It is written at once where the records have ended, or where it is a blank
+    /// line before the first header, and else it waits. It fails with `TextBeforeHeader` where it has
+    /// text before the first header, with `NoMemory` where it can't be kept, and with `WriteFailed`
+    /// where it can't be written.
+    pub fn give_line<K: Sink>(&mut self, line: &Line<'_>, out: &mut Out<K>) -> Result<(), Fault>
+        requires { self.old.want ≡ MaskWant.Line }
+        ensures { TakesLine self.old line.now.number
+            (record { text = line.now.text.now; ending = line.now.ending }) out.old result self.new out.new }
+    {
+        self.state.take_line(line, out)
+    }
+
+    /// Takes the end of the lines. Nothing is written. Records are asked for until they end: each has
+    /// to belong to a sequence.
+    pub fn end_lines(&mut self)
+        requires { self.old.want ≡ MaskWant.Line }
+        ensures { self.new ≡ record self.old {
+          want = cond self.old.bed_ended MaskWant.Nothing MaskWant.Bed;
+        } }
+    {
+        self.state.end_lines();
+    }
+
+    /// Takes the next record, which stands on this line, unless it decides the line that waits: then
+    /// that is written, and the record is to be given again. It fails with `WriteFailed` where the line
+    /// can't be written, with `NoMemory` where the record has to be held and can't be, and behind the
+    /// last line with `NoSequence` where its block belongs to no sequence. A record that neither
+    /// decides nor has to be held takes no memory.
+    pub fn give_bed<K: Sink>(
+        &mut self,
+        bed: &BedRef<'_>,
+        line: u64,
+        out: &mut Out<K>,
+    ) -> Result<Taken, Fault>
+        requires { self.old.want ≡ MaskWant.Bed }
+        ensures waits { (waiting : Waiting) → self.old.waiting ≡ Some waiting
+            → TakesBed self.old waiting (feature_lent bed.now) out.old result self.new out.new }
+        ensures none_waits { self.old.waiting ≡ None
+            → ChecksBed self.old (feature_lent bed.now) line result self.new
+            × taken_if_ok result × (out.new ≡ out.old) }
+    {
+        if self.state.waits() {
+            return self.state.take_bed(bed, out);
+        }
+        self.state.check_bed(bed, line)?;
+        Ok(Taken::Yes)
+    }
+
+    /// Takes the end of the records, and writes the line that waits. It fails with `WriteFailed` where
+    /// that can't be written.
+    pub fn end_bed<K: Sink>(&mut self, out: &mut Out<K>) -> Result<(), Fault>
+        requires { self.old.want ≡ MaskWant.Bed }
+        ensures waits { (waiting : Waiting) → self.old.waiting ≡ Some waiting
+            → Writes (record self.old { bed_ended = true }) waiting out.old result self.new out.new }
+        ensures none_waits { self.old.waiting ≡ None → IsOk result
+            × (self.new ≡ record self.old { bed_ended = true; want = MaskWant.Nothing })
+            × (out.new ≡ out.old) }
+    {
+        self.state.end_bed(out)
+    }
+}
+
+#[cfg(test)]
+mod tests;

@@ -1,0 +1,299 @@
+//! What a masking engine keeps, and its steps.
+
+ghost use Rattle.std.specs.Prelude.{◌≡◌, None, Some, [], OnOk, IfErr, IsOk, cond, false, true, is_some, length, nat_lt};
+ghost use Rattle.bt_lines.specs.Fault.{no_memory};
+ghost use Rattle.bt_lines.specs.Names.{told};
+ghost use Rattle.bt_bed.specs.Bed.{feature_lent};
+ghost use Rattle.bt_bed.specs.LineKind.{fault_at_line};
+ghost use Rattle.bt_seq.specs.Masking.{ChecksBed, Keeps, Moves, TakesBed, TakesLine, Waiting, Writes, decides_by, with_stretch, writes_at_once};
+ghost use Rattle.bt_seq.specs.Window.{no_bases};
+
+use crate::header_name::{is_header, name_in};
+use crate::mask_how::MaskHow;
+use crate::mask_want::{MaskWant, Taken};
+use crate::matching::{Matching, Owner};
+use crate::put_text::put_text;
+use crate::window::Window;
+use bt_bed::BedRef;
+use bt_lines::{Fault, Input, Kind, Line, LineEnd, Out, Place, Sink};
+use std::alloc::Global;
+use std::marker::Model;
+
+// The line that waits stands in a buffer, which is used again.
+#[derive(Drop)]
+pub(crate) struct MaskState {
+    how: MaskHow,
+    full: bool,
+    matching: Matching,
+    window: Window,
+    text: Vec<u8>,
+    ending: LineEnd,
+    waits: bool,
+    want: MaskWant,
+    bed_ended: bool,
+}
+
+impl Model for MaskState {
+    ghost use Rattle.std.specs.Prelude.{None, Some, if◌then◌else◌};
+    ghost use Rattle.bt_seq.specs.Masking.{Masking};
+
+    ghost Value = { Masking };
+
+    ghost view = { λ m. record {
+      how = m.how;
+      full = m.full;
+      matched = m.matching;
+      window = m.window;
+      waiting = if m.waits then Some (record { text = m.text.items; ending = m.ending }) else None;
+      want = m.want;
+      bed_ended = m.bed_ended;
+    } };
+}
+
+impl MaskState {
+    // Nothing was given.
+    pub(crate) fn new(alloc: Global, how: MaskHow, full: bool) -> MaskState
+        ensures { result ≡ record {
+          how = how;
+          full = full;
+          matched = record { name = None; last = None; own = false };
+          window = no_bases;
+          waiting = None;
+          want = MaskWant.Line;
+          bed_ended = false;
+        } }
+    {
+        MaskState {
+            how,
+            full,
+            matching: Matching::new(alloc),
+            window: Window::new(alloc),
+            text: Vec::new(alloc),
+            ending: LineEnd::Absent,
+            waits: false,
+            want: MaskWant::Line,
+            bed_ended: false,
+        }
+    }
+
+    // What is asked for.
+    pub(crate) fn want(&self) -> MaskWant
+        ensures { result ≡ self.now.want }
+    {
+        self.want
+    }
+
+    // How many stretches are held.
+    pub(crate) fn kept_len(&self) -> usize
+        ensures { result ≡ length self.now.window.held }
+    {
+        self.window.len()
+    }
+
+    // Whether a line waits.
+    pub(crate) fn waits(&self) -> bool
+        ensures { result ≡ is_some self.now.waiting }
+    {
+        self.waits
+    }
+
+    // Takes the next line, which is kept until it is decided.
+    pub(crate) fn take_line<K: Sink>(
+        &mut self,
+        line: &Line<'_>,
+        out: &mut Out<K>,
+    ) -> Result<(), Fault>
+        ensures { TakesLine self.old line.now.number
+            (record { text = line.now.text.now; ending = line.now.ending }) out.old result self.new out.new }
+    {
+        if let Err(fault) = self.move_to(line.number, line.text) {
+            self.want = MaskWant::Nothing;
+            return Err(fault);
+        }
+        self.keep(line.text, line.ending)?;
+        if self.writes_at_once() {
+            return self.write(out);
+        }
+        Ok(())
+    }
+
+    // Takes a record while a line waits, unless it decides the line.
+    pub(crate) fn take_bed<K: Sink>(
+        &mut self,
+        bed: &BedRef<'_>,
+        out: &mut Out<K>,
+    ) -> Result<Taken, Fault>
+        ensures { (line : Waiting) → self.old.waiting ≡ Some line
+            → TakesBed self.old line (feature_lent bed.now) out.old result self.new out.new }
+    {
+        let owner = self.matching.owner(bed.chrom);
+        if self.is_decided(owner, bed.start) {
+            self.write(out)?;
+            return Ok(Taken::No);
+        }
+        if owner == Owner::Own {
+            self.hold(bed.start, bed.stop)?;
+        }
+        Ok(Taken::Yes)
+    }
+
+    // Checks that the block of a record behind the last line belongs to a sequence.
+    pub(crate) fn check_bed(&mut self, bed: &BedRef<'_>, line: u64) -> Result<(), Fault>
+        ensures { ChecksBed self.old (feature_lent bed.now) line result self.new }
+    {
+        match self.matching.owner(bed.chrom) {
+            Owner::Own | Owner::Earlier => Ok(()),
+            Owner::Nobody => {
+                self.want = MaskWant::Nothing;
+                Err(no_sequence(line))
+            }
+        }
+    }
+
+    // Takes the end of the lines.
+    pub(crate) fn end_lines(&mut self)
+        ensures { self.new ≡ record self.old {
+          want = cond self.old.bed_ended MaskWant.Nothing MaskWant.Bed;
+        } }
+    {
+        self.want = if self.bed_ended {
+            MaskWant::Nothing
+        } else {
+            MaskWant::Bed
+        };
+    }
+
+    // Takes the end of the records, and writes the line that waits.
+    pub(crate) fn end_bed<K: Sink>(&mut self, out: &mut Out<K>) -> Result<(), Fault>
+        ensures waits { (line : Waiting) → self.old.waiting ≡ Some line
+            → Writes (record self.old { bed_ended = true }) line out.old result self.new out.new }
+        ensures none_waits { self.old.waiting ≡ None → IsOk result
+            × (self.new ≡ record self.old { bed_ended = true; want = MaskWant.Nothing })
+            × (out.new ≡ out.old) }
+    {
+        self.bed_ended = true;
+        if self.waits {
+            return self.write(out);
+        }
+        self.want = MaskWant::Nothing;
+        Ok(())
+    }
+
+    // Whether lines are written at once: the records have ended, or no header has come.
+    fn writes_at_once(&self) -> bool
+        ensures { result ≡ writes_at_once self.now }
+    {
+        self.bed_ended || !self.matching.is_named()
+    }
+
+    // Whether a record of a block with this owner decides the line that waits.
+    fn is_decided(&self, owner: Owner, start: u64) -> bool
+        ensures { result ≡ decides_by owner self.now.window.bases start }
+    {
+        match owner {
+            Owner::Earlier => false,
+            Owner::Own => !self.window.reaches(start),
+            Owner::Nobody => true,
+        }
+    }
+
+    // Holds the part of a record that reaches past the start of the line.
+    fn hold(&mut self, start: u64, stop: u64) -> Result<(), Fault>
+        ensures held { OnOk result (self.new ≡ record self.old {
+          window = with_stretch (nat_lt self.old.window.before stop) self.old.window start stop;
+        }) }
+        ensures lost { IfErr result (λ fault. (told fault ≡ no_memory) × (self.new.want ≡ MaskWant.Nothing)
+            × (nat_lt self.old.window.before stop ≡ true)) }
+    {
+        if self.window.hold(start, stop).is_err() {
+            self.want = MaskWant::Nothing;
+            return Err(no_memory());
+        }
+        Ok(())
+    }
+
+    // Goes on to a line.
+    fn move_to(&mut self, number: u64, text: &[u8]) -> Result<(), Fault>
+        ensures { Moves self.old number text.now result self.new }
+    {
+        if is_header(text) {
+            if self.matching.begin(name_in(self.full, text)).is_err() {
+                return Err(no_memory());
+            }
+            self.window.begin();
+            return Ok(());
+        }
+        if !self.matching.is_named() && !text.is_empty() {
+            return Err(stray_text(number));
+        }
+        self.window.go_on(text.len());
+        Ok(())
+    }
+
+    // Keeps a line until it is decided.
+    fn keep(&mut self, text: &[u8], ending: LineEnd) -> Result<(), Fault>
+        ensures { Keeps self.old (record { text = text.now; ending = ending }) result self.new }
+    {
+        self.text.clear();
+        if self.text.extend_from_slice(text).is_err() {
+            self.want = MaskWant::Nothing;
+            return Err(no_memory());
+        }
+        self.ending = ending;
+        self.waits = true;
+        self.want = MaskWant::Bed;
+        Ok(())
+    }
+
+    // Writes the line that waits.
+    fn write<K: Sink>(&mut self, out: &mut Out<K>) -> Result<(), Fault>
+        ensures { (line : Waiting) → self.old.waiting ≡ Some line
+            → Writes self.old line out.old result self.new out.new }
+    {
+        self.window.mask(self.text.as_mut_slice(), self.how);
+        let written = put_text(self.text.as_slice(), self.ending, out);
+        self.waits = false;
+        self.want = if written.is_ok() {
+            MaskWant::Line
+        } else {
+            MaskWant::Nothing
+        };
+        written
+    }
+}
+
+// The fault of a refused growth.
+fn no_memory() -> Fault
+    ensures { told result ≡ no_memory }
+{
+    Fault {
+        kind: Kind::NoMemory,
+        place: None,
+    }
+}
+
+// The fault of text before the first header.
+fn stray_text(line: u64) -> Fault
+    ensures { told result ≡ fault_at_line Input.First line Kind.TextBeforeHeader }
+{
+    Fault {
+        kind: Kind::TextBeforeHeader,
+        place: Some(Place {
+            input: Input::First,
+            line,
+        }),
+    }
+}
+
+// The fault of a record whose block belongs to no sequence.
+fn no_sequence(line: u64) -> Fault
+    ensures { told result ≡ fault_at_line Input.Second line Kind.NoSequence }
+{
+    Fault {
+        kind: Kind::NoSequence,
+        place: Some(Place {
+            input: Input::Second,
+            line,
+        }),
+    }
+}

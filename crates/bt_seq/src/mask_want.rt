@@ -1,0 +1,21 @@
+//! What a masking engine asks for, and what it answers to a record.
+
+/// What a [`crate::Mask`] asks for next.
+#[derive(Clone, Copy, Debug, PartialEq, Eq)]
+pub enum MaskWant {
+    /// A line of the FASTA input, or its end.
+    Line,
+    /// A record of the BED input, or its end.
+    Bed,
+    /// Nothing more: both inputs have ended, or a fault was answered.
+    Nothing,
+}
+
+/// Whether a record was taken.
+#[derive(Clone, Copy, Debug, PartialEq, Eq)]
+pub enum Taken {
+    /// It was: the caller goes on to the next one.
+    Yes,
+    /// It wasn't: it decides the line that waits, which is written, and is given again.
+    No,
+}
