@@ -18,6 +18,8 @@ example: $(PROGRAM)
 	$(PROGRAM) merge -i examples/exons.bed -g examples/genome.txt -d 1000
 	$(PROGRAM) complement -i examples/exons.bed -g examples/genome.txt -L
 	$(PROGRAM) intersect -a examples/exons.bed -b examples/exons.bed -g examples/genome.txt -u
+	$(PROGRAM) subtract -a examples/exons.bed -b examples/exons.bed -g examples/genome.txt -A
+	$(PROGRAM) bamtobed -i examples/alignments.sam -split
 
 test:
 	rt ci

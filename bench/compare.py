@@ -6,9 +6,10 @@
 Prints, for each command and kind of record, for RECORDS records (5,000,000 where it is missing) and
 for a tenth of them, the processor time and the peak memory; beside them those of the bedtools and the
 bedops on PATH, where they are there and do the same job; and the instructions a record, where valgrind
-is there. For `bamtobed` samtools makes the BAM file that bedtools reads. With `--only` it takes the workloads alone whose names have these words in them; with `--chart`
-it draws the larger runs as an SVG. It fails where a program fails, where two outputs differ, or where
-this program's memory grows with its input.
+is there. For `bamtobed` samtools makes the BAM file that bedtools reads. With `--only` it takes the
+workloads alone whose names have these words in them; with `--chart` it draws the larger runs as an SVG.
+It fails where a program fails, where two outputs differ, or where this program's memory grows with its
+input.
 """
 
 import argparse
@@ -116,6 +117,8 @@ class Alignments:
 
     def write(self, folder, count):
         write_alignments(folder / "records.bed", count // 3, 1)
+        if not shutil.which("samtools"):
+            return
         with open(folder / "records.bam", "wb") as bam:
             subprocess.run(["samtools", "view", "-b", str(folder / "records.bed")], stdout=bam, check=True)
 
@@ -275,7 +278,7 @@ def runs_of(workload, others, folder):
     genome = {program: ["-g", str(folder / "genome.txt")] for program in workload.genome_of}
     inputs = workload.data.inputs(folder)
     runs = [Run("dunekettle", [str(PROGRAM), *workload.words, *inputs, *genome.get("dunekettle", [])])]
-    if others["bedtools"]:
+    if others["bedtools"] and (workload.genome_of or shutil.which("samtools")):
         inputs = getattr(workload.data, "inputs_of_bedtools", workload.data.inputs)(folder)
         words = workload.words_of_bedtools or workload.words
         runs.append(Run("bedtools", [others["bedtools"], *words, *inputs, *genome.get("bedtools", [])]))

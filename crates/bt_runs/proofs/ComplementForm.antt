@@ -121,7 +121,7 @@ module _ (limit : Bool) (entries : List Entry) where
     written = λ front more is. written front;
   }
 
--- the first records of those that a complement may take
+-- the first records of those that a complement or a coverage may take
 pub taken_front : (entries : List Entry) (past more : List Feature) → AreTaken entries (past ++ more) → AreTaken entries past
 taken_front entries past more t =
     let front = order_front (genome_names entries) past more (record { placed = t.placed; full = t.full }) in

@@ -19,7 +19,7 @@ use Rattle.bt_bed.proofs.IntervalLineLemmas.{adds_line, adds_lines, cut_lines}
 use Rattle.bt_lines.proofs.PuttingLemmas.{grown_none}
 
 -- the chromosomes from one rank to another, by way of a third
-slice_split : (entries : List Entry) (first rank stop : ℕ) → first ≤ rank → rank ≤ stop → slice_range entries first stop ≡ slice_range entries first rank ++ slice_range entries rank stop
+pub slice_split : (entries : List Entry) (first rank stop : ℕ) → first ≤ rank → rank ≤ stop → slice_range entries first stop ≡ slice_range entries first rank ++ slice_range entries rank stop
 slice_split entries first rank stop low high =
     let parts : stop - first ≡ (rank - first) + (stop - rank) = omega arith in
     let same : first + (rank - first) ≡ rank = omega arith in

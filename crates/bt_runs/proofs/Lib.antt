@@ -24,5 +24,17 @@ pub mod ComplementForm
 pub mod GapSteps
 pub mod ComplementLemmas
 pub mod PlainGaps
+pub mod LevelLemmas
+pub mod ScanLemmas
+pub mod DepthLemmas
+pub mod OneDepth
+pub mod AcrossLemmas
+pub mod DepthStanding
+pub mod DepthSteps
+pub mod DepthLines
+pub mod CoverageLemmas
+pub mod CoverageSteps
+pub mod PlainDepths
 mod Examples
 mod GapExamples
+mod DepthExamples

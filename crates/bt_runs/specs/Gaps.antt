@@ -70,7 +70,7 @@ kept_at entries records (Some last) = record { chrom = last.chrom; start = min (
 unfoldable pub kept_place : List Entry → List Feature → List Locus
 kept_place entries records = kept_at entries (intervals_of records) (last_of (intervals_of records))
 
--- records that a complement may take: they are in the order of the genome file, which has each chromosome once, and each has a base
+-- records that a complement or a coverage may take: they are in the order of the genome file, which has each chromosome once, and each has a base
 pub record AreTaken (entries : List Entry) (records : List Feature) : Type 0 where
   pub distinct : AreDistinct (genome_names entries)
   pub placed : ArePlaced (rank_order (genome_names entries)) (intervals_of records)

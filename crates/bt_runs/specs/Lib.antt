@@ -11,3 +11,9 @@ pub mod Taking
 pub mod Gaps
 pub mod GapStep
 pub mod Complementing
+pub mod Levels
+pub mod Depth
+pub mod DepthStep
+pub mod CountSeen
+pub mod Covering
+pub mod PlainLevels

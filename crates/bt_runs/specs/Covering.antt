@@ -1,0 +1,112 @@
+-- A count of depths as its callers see it.
+use Rattle.std.specs.Prelude.{◌≡◌, ℕ, ⊤, Bool, List, [], ◌∷◌, length, Option, Some, None, Result, Ok, Err, cond, nat_lt, ◌++◌}
+use Rattle.bt_lines.specs.Fault.{Told, write_failed}
+use Rattle.bt_lines.specs.Output.{Output}
+use Rattle.bt_lines.specs.Putting.{FailsToAdd, Grown}
+use Rattle.bt_bed.specs.Feature.{Feature}
+use Rattle.bt_bed.specs.Genome.{Entry}
+use Rattle.bt_bed.specs.Interval.{Span}
+use Rattle.bt_bed.specs.Locus.{Locus}
+use Rattle.bt_bed.specs.declared.strand.Strand.{Strand}
+use Rattle.bt_runs.specs.CountSeen.{place_seen}
+use Rattle.bt_runs.specs.Depth.{DepthInterval, coverage, depth_lines, kept_records, known_place, settled_depths, unfinished}
+use Rattle.bt_runs.specs.DepthStep.{IsPlaced, Known, Place, begun_to, opened, still_open}
+use Rattle.bt_runs.specs.Gaps.{AreTaken}
+use Rattle.bt_runs.specs.GapStep.{entry_at}
+use Rattle.bt_runs.specs.Levels.{Begun}
+use Rattle.bt_runs.specs.declared.depths.OpenSpan.{OpenSpan}
+use Rattle.bt_runs.specs.declared.depths.Reached.{Reached}
+use Rattle.bt_runs.specs.declared.failure.Failure.{Failure}
+use Rattle.bt_runs.specs.declared.failure.Failure.TheVariants.{Write, Memory}
+
+-- the chromosomes, whether depth 0 is reported, the strand that is counted, the place up to which depths are known, the
+-- interval that is unfinished there, the records that are kept, and the fault that was answered
+pub record Covering : Type 0 where
+  pub entries : List Entry
+  pub zeros : Bool
+  pub strand : Option Strand
+  pub place : List Locus
+  pub begun : Option Begun
+  pub kept : List Span
+  pub fault : Option Told
+
+-- the coverage has taken the records of the past, and answered no fault
+pub record StandsAfter (entries : List Entry) (zeros : Bool) (strand : Option Strand) (past : List Feature) (coverage : Covering) : Type 0 where
+  pub same_entries : coverage.entries ≡ entries
+  pub same_zeros : coverage.zeros ≡ zeros
+  pub same_strand : coverage.strand ≡ strand
+  pub place : coverage.place ≡ known_place entries past
+  pub begun : coverage.begun ≡ unfinished zeros strand entries past
+  pub kept : coverage.kept ≡ kept_records strand entries past
+  pub going : coverage.fault ≡ None
+
+-- the records that may be taken
+abbrev pub may_take : Covering → List Feature → Type 0
+may_take first past = AreTaken first.entries past
+
+-- what the coverage has become after the records
+abbrev pub stands_after : Covering → List Feature → Covering → Type 0
+stands_after first past now = StandsAfter first.entries first.zeros first.strand past now
+
+-- the fault that it answered, if one
+abbrev pub kept_fault : Covering → Option Told
+kept_fault coverage = coverage.fault
+
+-- the lines of the settled intervals
+abbrev pub settled_lines : Covering → List Feature → List ℕ
+settled_lines first past = depth_lines (settled_depths first.zeros first.strand first.entries past)
+
+-- the lines of all intervals
+abbrev pub whole_output : Covering → List Feature → List ℕ
+whole_output first past = depth_lines (coverage first.zeros first.strand first.entries past)
+
+-- how many records are kept
+abbrev pub held_count : Covering → List Feature → ℕ
+held_count first past = length (kept_records first.strand first.entries past)
+
+-- no record is said to be taken without a growth
+abbrev pub is_quiet : Covering → List Feature → Feature → Type 0
+is_quiet first past r = ⊥
+
+-- the chromosome that was reached, if one was
+abbrev pub seen : Option Reached → List OpenSpan → Option Place
+seen None spans = None
+seen (Some reached) spans = Some (place_seen reached spans)
+
+-- it is one of the table
+abbrev pub AreReached : List Entry → Option Reached → Type 0
+AreReached entries None = ⊤
+AreReached entries (Some reached) = IsPlaced entries reached.rank
+
+-- the place up to which depths are known, and what is unfinished there
+abbrev pub place_of : List Entry → Option Place → List Locus
+place_of entries None = []
+place_of entries (Some place) = record { chrom = (entry_at entries place.rank).name; start = place.known.to } ∷ []
+
+abbrev pub begun_of : Option Place → Option Begun
+begun_of None = None
+begun_of (Some place) = place.known.begun
+
+abbrev pub held_of : Option Place → List Span
+held_of None = []
+held_of (Some place) = place.known.held
+
+-- what is known once the depths are settled by a record's start, before the record is counted
+abbrev pub settled_known : Bool → ℕ → Known → ℕ → Known
+settled_known zeros size known start = cond (nat_lt size start) (record { to = size; begun = None; held = known.held }) (record { to = start; begun = begun_to zeros known start; held = known.held })
+
+-- the records that are open with one more
+abbrev pub open_by : Bool → ℕ → List Span → ℕ → ℕ → List Span
+open_by counted size held start stop = cond (nat_lt size start) [] (still_open start held ++ opened counted size start stop)
+
+-- one more record was taken, as the step says
+pub record Advances (step : Option Place × List DepthInterval) (entries : List Entry) (next : Option Reached) (held : List OpenSpan) (out grown : Output) : Type 0 where
+  pub puts : Grown out (depth_lines step.1) grown
+  pub reached : seen next held ≡ step.0
+  pub at : AreReached entries next
+
+-- or its lines couldn't be written, or the record couldn't be kept
+abbrev pub AdvanceAnswers : Option Place × List DepthInterval → List Entry → Result (Option Reached) Failure → List OpenSpan → Output → Output → Type 0
+AdvanceAnswers step entries (Ok next) held out grown = Advances step entries next held out grown
+AdvanceAnswers step entries (Err Write) held out grown = FailsToAdd out (depth_lines step.1) write_failed grown
+AdvanceAnswers step entries (Err Memory) held out grown = Grown out (depth_lines step.1) grown

@@ -1,0 +1,391 @@
+//! The engine of `bedtools genomecov -bg`: the records that are open, and the interval that isn't ended.
+
+ghost use Rattle.std.specs.Prelude.{◌≡◌, false, ◌<◌, ◌≤◌, ℕ, List, [], length, flat_map, min, slice_range, Option, Some, None, Ok, Err, IfOk, OnOk};
+ghost use Rattle.bt_bed.specs.Bed.{feature_lent};
+ghost use Rattle.bt_bed.specs.GenomeTable.{entries};
+ghost use Rattle.bt_lines.specs.Putting.{Adds};
+ghost use Rattle.bt_runs.specs.CountSeen.{place_seen, spans_open};
+ghost use Rattle.bt_runs.specs.Covering.{AdvanceAnswers, AreReached, StandsAfter, held_count, is_quiet, kept_fault, may_take, open_by, seen, settled_known, settled_lines, stands_after, whole_output};
+ghost use Rattle.bt_runs.specs.Depth.{depth_lines, is_counted_by};
+ghost use Rattle.bt_runs.specs.DepthStep.{IsPlaced, bare_of, bares_of, count_step, counting, is_here, left_before, left_of, levels_by, levels_left, levels_on, reached};
+ghost use Rattle.bt_runs.specs.Engine.{Feeds, KeepsHeld};
+ghost use Rattle.bt_runs.specs.GapStep.{entry_at};
+
+use crate::depths::{OpenSpan, Reached, go_on, keep_open, open_at, put_depth, put_ended};
+use crate::engine::Engine;
+use crate::failure::Failure;
+use bt_bed::{BedRef, Genome, Strand};
+use bt_lines::{Fault, Out, Sink};
+use std::alloc::{AllocError, Global};
+use std::marker::Model;
+
+/// The intervals of equal depth of each chromosome, in the order of a genome file, with their depths.
+/// It keeps the counted records that end at the last start or past it, and one unfinished interval. An
+/// interval is written once a record starts past its end, or on a later chromosome. A record on a
+/// chromosome that the genome file doesn't have is passed over.
+#[derive(Drop, Debug)]
+pub struct Coverage<'g> {
+    genome: &'g Genome,
+    zeros: bool,
+    strand: Option<Strand>,
+    current: Option<Reached>,
+    held: Vec<OpenSpan>,
+    failure: Option<Failure>,
+}
+
+impl<'g> Model for Coverage<'g> {
+    ghost use Rattle.std.specs.Prelude.{option_map};
+    ghost use Rattle.bt_bed.specs.GenomeTable.{entries};
+    ghost use Rattle.bt_runs.specs.CountSeen.{spans_open};
+    ghost use Rattle.bt_runs.specs.Covering.{AreReached, Covering, begun_of, place_of, seen};
+    ghost use Rattle.bt_runs.specs.Failure.{fault_of};
+
+    ghost Value = { Covering };
+
+    ghost view = { λ m. record {
+      entries = entries m.genome.now;
+      zeros = m.zeros;
+      strand = m.strand;
+      place = place_of (entries m.genome.now) (seen m.current m.held.items);
+      begun = begun_of (seen m.current m.held.items);
+      kept = spans_open m.held.items;
+      fault = option_map fault_of m.failure;
+    } };
+
+    ghost invariant = { λ m. AreReached (entries m.genome.now) m.current };
+}
+
+impl<'g> Coverage<'g> {
+    /// A coverage that has taken no record. With `zeros` it also writes the intervals of depth 0, and
+    /// with a strand it counts the records of that strand alone.
+    pub fn new(
+        alloc: Global,
+        genome: &'g Genome,
+        zeros: bool,
+        strand: Option<Strand>,
+    ) -> Coverage<'g>
+        ensures stands { StandsAfter (entries genome.now) zeros strand [] result }
+        ensures entries { result.entries ≡ entries genome.now }
+        ensures rules { (result.zeros ≡ zeros) × (result.strand ≡ strand) }
+    {
+        Coverage {
+            genome,
+            zeros,
+            strand,
+            current: None,
+            held: Vec::new(alloc),
+            failure: None,
+        }
+    }
+}
+
+impl Engine for Coverage<'_> {
+    ghost takes = { may_take };
+
+    ghost settled = { settled_lines };
+
+    ghost whole = { whole_output };
+
+    ghost held = { held_count };
+
+    ghost stands = { stands_after };
+
+    ghost fault = { kept_fault };
+
+    ghost quiet = { is_quiet };
+
+    fn feed<K: Sink>(&mut self, bed: &BedRef<'_>, out: &mut Out<K>) -> Result<(), Fault> {
+        if let Some(failure) = self.failure {
+            return Err(failure.fault());
+        }
+        match advance(
+            self.genome,
+            self.zeros,
+            self.strand,
+            self.current,
+            &mut self.held,
+            bed,
+            out,
+        ) {
+            Ok(current) => {
+                self.current = current;
+                Ok(())
+            }
+            Err(failure) => {
+                self.failure = Some(failure);
+                Err(failure.fault())
+            }
+        }
+    }
+
+    fn finish<K: Sink>(self, out: &mut Out<K>) -> Result<(), Fault> {
+        let count = self.genome.count();
+        match self.failure {
+            None => put_before(
+                self.genome,
+                self.zeros,
+                self.current,
+                self.held.as_slice(),
+                count,
+                out,
+            ),
+            Some(failure) => Err(failure.fault()),
+        }
+    }
+
+    /// How many records it keeps.
+    fn kept_len(&self) -> usize
+        ensures list { result ≡ length self.now.kept }
+        ensures held { KeepsHeld may_take stands_after self.now held_count result }
+    {
+        self.held.len()
+    }
+}
+
+// Takes one more record, and gives what is reached with it.
+fn advance<K: Sink>(
+    genome: &Genome,
+    zeros: bool,
+    strand: Option<Strand>,
+    current: Option<Reached>,
+    held: &mut Vec<OpenSpan>,
+    bed: &BedRef<'_>,
+    out: &mut Out<K>,
+) -> Result<Option<Reached>, Failure>
+    requires { AreReached (entries genome.now) current }
+    ensures { AdvanceAnswers (count_step zeros strand (entries genome.now) (seen current held.old.items) (feature_lent bed.now)) (entries genome.now) result held.new.items out.old out.new }
+{
+    if let Some(reached) = current {
+        if genome.name(reached.rank) == bed.chrom {
+            return count(genome, zeros, strand, reached, held, bed, out);
+        }
+    }
+    begin(genome, zeros, strand, current, held, bed, out)
+}
+
+// Goes to the chromosome of a record, if the genome has it. It writes what is left before that, and
+// takes the record.
+fn begin<K: Sink>(
+    genome: &Genome,
+    zeros: bool,
+    strand: Option<Strand>,
+    current: Option<Reached>,
+    held: &mut Vec<OpenSpan>,
+    bed: &BedRef<'_>,
+    out: &mut Out<K>,
+) -> Result<Option<Reached>, Failure>
+    requires at { AreReached (entries genome.now) current }
+    requires elsewhere { is_here (entries genome.now) (seen current held.now.items) bed.now.chrom.now ≡ false }
+    ensures { AdvanceAnswers (count_step zeros strand (entries genome.now) (seen current held.old.items) (feature_lent bed.now)) (entries genome.now) result held.new.items out.old out.new }
+{
+    let Some(rank) = genome.rank(bed.chrom) else {
+        return Ok(current);
+    };
+    match put_before(genome, zeros, current, held.as_slice(), rank, out) {
+        Err(_) => Err(Failure::Write),
+        Ok(()) => {
+            held.clear();
+            let reached = Reached {
+                rank,
+                known: 0,
+                begun: None,
+            };
+            count(genome, zeros, strand, reached, held, bed, out)
+        }
+    }
+}
+
+// Takes a record on the chromosome that was reached. It writes the intervals that the record settles
+// there.
+fn count<K: Sink>(
+    genome: &Genome,
+    zeros: bool,
+    strand: Option<Strand>,
+    reached: Reached,
+    held: &mut Vec<OpenSpan>,
+    bed: &BedRef<'_>,
+    out: &mut Out<K>,
+) -> Result<Option<Reached>, Failure>
+    requires { IsPlaced (entries genome.now) reached.rank }
+    ensures { AdvanceAnswers (Some (counting zeros strand (entries genome.now) (place_seen reached held.old.items) (feature_lent bed.now)).0, (counting zeros strand (entries genome.now) (place_seen reached held.old.items) (feature_lent bed.now)).1) (entries genome.now) result held.new.items out.old out.new }
+{
+    let length = genome.length(reached.rank);
+    let chrom = genome.name(reached.rank);
+    let Ok(next) = settle(
+        chrom,
+        zeros,
+        held.as_slice(),
+        reached,
+        length,
+        bed.start,
+        out,
+    ) else {
+        return Err(Failure::Write);
+    };
+    let counted = counts(strand, bed.strand);
+    match hold(held, counted, length, bed.start, bed.stop) {
+        Ok(()) => Ok(Some(next)),
+        Err(AllocError) => Err(Failure::Memory),
+    }
+}
+
+// Whether a record of this strand is counted.
+fn counts(wanted: Option<Strand>, strand: Strand) -> bool
+    ensures { result ≡ is_counted_by wanted strand }
+{
+    match wanted {
+        None => true,
+        Some(wanted) => wanted == strand,
+    }
+}
+
+// Writes the intervals that a record's start settles, and gives what is known then.
+fn settle<K: Sink>(
+    chrom: &[u8],
+    zeros: bool,
+    held: &[OpenSpan],
+    reached: Reached,
+    length: u64,
+    start: u64,
+    out: &mut Out<K>,
+) -> Result<Reached, Fault>
+    ensures adds { Adds out.old (depth_lines (levels_on chrom.now (levels_by zeros length (place_seen reached held.now).known start))) result out.new }
+    ensures known { IfOk result (λ next. place_seen next held.now ≡ record { rank = reached.rank; known = settled_known zeros length (place_seen reached held.now).known start }) }
+{
+    let rank = reached.rank;
+    if length < start {
+        put_left(chrom, zeros, held, reached, length, out)?;
+        return Ok(Reached {
+            rank,
+            known: length,
+            begun: None,
+        });
+    }
+    let begun = go_on(chrom, zeros, held, reached, start, out)?;
+    Ok(Reached {
+        rank,
+        known: start,
+        begun,
+    })
+}
+
+// Leaves out the open records that end before a record's start, and adds the record. Past the
+// chromosome's length none is left.
+fn hold(
+    held: &mut Vec<OpenSpan>,
+    counted: bool,
+    length: u64,
+    start: u64,
+    stop: u64,
+) -> Result<(), AllocError>
+    ensures { OnOk result (spans_open held.new.items ≡ open_by counted length (spans_open held.old.items) start stop) }
+{
+    if length < start {
+        held.clear();
+        return Ok(());
+    }
+    keep_open(held, start);
+    open_at(held, counted, length, start, stop)
+}
+
+// Writes what is left of a chromosome.
+fn put_left<K: Sink>(
+    chrom: &[u8],
+    zeros: bool,
+    held: &[OpenSpan],
+    reached: Reached,
+    length: u64,
+    out: &mut Out<K>,
+) -> Result<(), Fault>
+    ensures { Adds out.old (depth_lines (levels_on chrom.now (levels_left zeros length (place_seen reached held.now).known))) result out.new }
+{
+    let begun = go_on(chrom, zeros, held, reached, length, out)?;
+    put_ended(chrom, begun, length, out)
+}
+
+// Writes what is left before the chromosome of the rank `stop`: the rest of the current one, and each
+// one between the two.
+fn put_before<K: Sink>(
+    genome: &Genome,
+    zeros: bool,
+    current: Option<Reached>,
+    held: &[OpenSpan],
+    stop: usize,
+    out: &mut Out<K>,
+) -> Result<(), Fault>
+    requires at { AreReached (entries genome.now) current }
+    requires within { stop ≤ length (entries genome.now) }
+    ensures { Adds out.old (depth_lines (left_before zeros (entries genome.now) (seen current held.now) stop)) result out.new }
+{
+    put_current(genome, zeros, current, held, out)?;
+    put_bares(genome, zeros, first_rank(current, stop), stop, out)
+}
+
+// The rank of the chromosome after the current one, but no more than `stop`.
+fn first_rank(current: Option<Reached>, stop: usize) -> usize
+    ensures { result ≡ min (reached (seen current [])) stop }
+{
+    match current {
+        None => 0,
+        Some(reached) if reached.rank < stop => reached.rank + 1,
+        Some(_) => stop,
+    }
+}
+
+// Writes what is left of the current chromosome.
+fn put_current<K: Sink>(
+    genome: &Genome,
+    zeros: bool,
+    current: Option<Reached>,
+    held: &[OpenSpan],
+    out: &mut Out<K>,
+) -> Result<(), Fault>
+    requires { AreReached (entries genome.now) current }
+    ensures { Adds out.old (depth_lines (left_of zeros (entries genome.now) (seen current held.now))) result out.new }
+{
+    match current {
+        None => Ok(()),
+        Some(reached) => {
+            let length = genome.length(reached.rank);
+            put_left(genome.name(reached.rank), zeros, held, reached, length, out)
+        }
+    }
+}
+
+// Writes the chromosomes of the ranks from `first` on and below `stop`, which have no records.
+fn put_bares<K: Sink>(
+    genome: &Genome,
+    zeros: bool,
+    first: usize,
+    stop: usize,
+    out: &mut Out<K>,
+) -> Result<(), Fault>
+    requires order { first ≤ stop }
+    requires within { stop ≤ length (entries genome.now) }
+    ensures { Adds out.old (depth_lines (bares_of zeros (slice_range (entries genome.now) first stop))) result out.new }
+{
+    for rank in first..stop {
+        put_bare(genome, zeros, rank, out)?;
+    }
+    Ok(())
+}
+
+// Writes a chromosome that has no records, where depth 0 is reported.
+fn put_bare<K: Sink>(
+    genome: &Genome,
+    zeros: bool,
+    rank: usize,
+    out: &mut Out<K>,
+) -> Result<(), Fault>
+    requires { rank < length (entries genome.now) }
+    ensures { Adds out.old (depth_lines (bare_of zeros (entry_at (entries genome.now) rank))) result out.new }
+{
+    let length = genome.length(rank);
+    if zeros && 0 < length {
+        return put_depth(genome.name(rank), 0, length, 0, out);
+    }
+    Ok(())
+}
+
+#[cfg(test)]
+mod tests;

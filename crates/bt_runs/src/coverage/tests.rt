@@ -1,0 +1,282 @@
+use super::*;
+use crate::plain::PlainSpan;
+use crate::plain_depths::{PlainDepth, plain_depths};
+use bt_bed::parse_bed;
+use bt_lines::{Input, Kind, LineReader, ScriptSink, ScriptSource};
+use std::alloc::{AllocError, Global};
+use std::test::Fail;
+
+// The genome file of the cases.
+const GENOME: &[u8] = b"chr1\t20\nchr2\t5\n";
+
+// A case: its name, the records, whether depth 0 is reported, the strand that is counted, how many
+// records are kept after them, and the lines that are wanted: those written with the records, and those
+// written at the end.
+type Case = (
+    &'static str,
+    &'static [&'static [u8]],
+    bool,
+    Option<Strand>,
+    usize,
+    &'static [u8],
+    &'static [u8],
+);
+
+const CASES: [Case; 12] = [
+    ("no record", &[], false, None, 0, b"", b""),
+    (
+        "no record, with zeros",
+        &[],
+        true,
+        None,
+        0,
+        b"",
+        b"chr1\t0\t20\t0\nchr2\t0\t5\t0\n",
+    ),
+    (
+        "one behind another",
+        &[b"chr1\t0\t10", b"chr1\t10\t20"],
+        false,
+        None,
+        2,
+        b"",
+        b"chr1\t0\t20\t1\n",
+    ),
+    (
+        "one within another, and one behind",
+        &[b"chr1\t0\t10", b"chr1\t5\t10", b"chr1\t10\t15"],
+        false,
+        None,
+        3,
+        b"chr1\t0\t5\t1\n",
+        b"chr1\t5\t10\t2\nchr1\t10\t15\t1\n",
+    ),
+    (
+        "one strand",
+        &[b"chr1\t0\t10\ta\t0\t+", b"chr1\t5\t15\tb\t0\t-"],
+        false,
+        Some(Strand::Minus),
+        1,
+        b"",
+        b"chr1\t5\t15\t1\n",
+    ),
+    (
+        "a record of the other strand settles",
+        &[b"chr1\t3\t4\ta\t0\t+", b"chr1\t6\t9\tb\t0\t-"],
+        true,
+        Some(Strand::Plus),
+        0,
+        b"chr1\t0\t3\t0\nchr1\t3\t4\t1\n",
+        b"chr1\t4\t20\t0\nchr2\t0\t5\t0\n",
+    ),
+    (
+        "the second chromosome, with zeros",
+        &[b"chr2\t3\t9"],
+        true,
+        None,
+        1,
+        b"chr1\t0\t20\t0\n",
+        b"chr2\t0\t3\t0\nchr2\t3\t5\t1\n",
+    ),
+    (
+        "depth 0 between, not asked for",
+        &[b"chr1\t0\t5", b"chr1\t7\t9"],
+        false,
+        None,
+        1,
+        b"chr1\t0\t5\t1\n",
+        b"chr1\t7\t9\t1\n",
+    ),
+    (
+        "the last start isn't settled",
+        &[b"chr1\t0\t5", b"chr1\t5\t9"],
+        false,
+        None,
+        2,
+        b"",
+        b"chr1\t0\t9\t1\n",
+    ),
+    (
+        "past the length",
+        &[b"chr2\t3\t4", b"chr2\t6\t9"],
+        true,
+        None,
+        0,
+        b"chr1\t0\t20\t0\nchr2\t0\t3\t0\nchr2\t3\t4\t1\nchr2\t4\t5\t0\n",
+        b"",
+    ),
+    (
+        "at the length",
+        &[b"chr2\t3\t9", b"chr2\t5\t9"],
+        false,
+        None,
+        1,
+        b"",
+        b"chr2\t3\t5\t1\n",
+    ),
+    (
+        "from one chromosome to the next",
+        &[b"chr1\t2\t9", b"chr1\t3\t9", b"chr2\t0\t1"],
+        false,
+        None,
+        1,
+        b"chr1\t2\t3\t1\nchr1\t3\t9\t2\n",
+        b"chr2\t0\t1\t1\n",
+    ),
+];
+
+fn genome(alloc: Global, text: &[u8]) -> Result<Genome, Fault> {
+    let mut reader = LineReader::new(alloc, ScriptSource::new(text, 7, None), Input::Genome);
+    let genome = Genome::read(alloc, &mut reader);
+    let _ = reader.into_source();
+    genome
+}
+
+// Feeds the record of a line.
+fn feed_line<E: Engine, K: Sink>(
+    engine: &mut E,
+    line: &[u8],
+    out: &mut Out<K>,
+) -> Result<(), Fault> {
+    match parse_bed(line) {
+        Ok(Some(bed)) => engine.feed(&bed, out),
+        _ => Ok(()),
+    }
+}
+
+// Feeds the records of lines. At the end it tells how many items are kept.
+fn feed_lines<E: Engine, K: Sink>(
+    engine: &mut E,
+    lines: &[&[u8]],
+    out: &mut Out<K>,
+) -> Result<usize, Fault> {
+    for line in lines {
+        feed_line(engine, line, out)?;
+    }
+    Ok(engine.kept_len())
+}
+
+// Feeds the records of lines until one is refused, and then once more. It tells whether that answers
+// the same.
+fn feed_until_refused<E: Engine, K: Sink>(
+    engine: &mut E,
+    lines: &[&[u8]],
+    out: &mut Out<K>,
+) -> bool {
+    for line in lines {
+        if feed_line(engine, line, out).is_err() {
+            return feed_line(engine, line, out) == Err(write_failed());
+        }
+    }
+    true
+}
+
+fn end<E: Engine, K: Sink>(engine: E, out: &mut Out<K>) -> Result<(), Fault> {
+    engine.finish(out)?;
+    out.flush()
+}
+
+fn write_failed() -> Fault {
+    Fault {
+        kind: Kind::WriteFailed,
+        place: None,
+    }
+}
+
+#[test]
+fn worked_rows(rt: HostRuntime) {
+    let Ok(genome) = genome(rt.alloc(), GENOME) else {
+        return assert!(rt; false, "the genome");
+    };
+    for (name, lines, zeros, strand, kept, settled, left) in CASES {
+        let mut coverage = Coverage::new(rt.alloc(), &genome, zeros, strand);
+        let mut out = Out::new(ScriptSink::new(rt.alloc(), 3, None));
+        assert_eq!(rt; coverage.kept_len(), 0, "{name}");
+        assert_eq!(rt;
+            feed_lines(&mut coverage, lines, &mut out),
+            Ok(kept),
+            "{name}"
+        );
+        assert_eq!(rt; out.flush(), Ok(()), "{name}");
+        assert_eq!(rt; out.into_sink().taken(), settled, "{name}");
+        let mut out = Out::new(ScriptSink::new(rt.alloc(), 3, None));
+        assert_eq!(rt; end(coverage, &mut out), Ok(()), "{name}");
+        assert_eq!(rt; out.into_sink().taken(), left, "{name}");
+    }
+}
+
+#[test]
+fn a_sink_that_fails(rt: HostRuntime) {
+    let Ok(genome) = genome(rt.alloc(), GENOME) else {
+        return assert!(rt; false, "the genome");
+    };
+    let lines: [&[u8]; 3] = [b"chr1\t0\t10", b"chr1\t5\t10", b"chr2\t0\t1"];
+    let want = b"chr1\t0\t5\t1\nchr1\t5\t10\t2\n";
+    for good in 0..want.len() {
+        let mut coverage = Coverage::new(rt.alloc(), &genome, false, None);
+        let mut out = Out::new(ScriptSink::new(rt.alloc(), 7, Some(good)));
+        assert!(rt;
+            feed_until_refused(&mut coverage, &lines, &mut out),
+            "{good}"
+        );
+        assert_eq!(rt; end(coverage, &mut out), Err(write_failed()), "{good}");
+        assert_eq!(rt; out.into_sink().taken(), &want[..good], "{good}");
+    }
+}
+
+// The lines of intervals of the first chromosome.
+fn lines_of(alloc: Global, depths: &[PlainDepth]) -> Result<Vec<u8>, AllocError> {
+    let mut text = Vec::new(alloc);
+    for depth in depths {
+        let line = format!(in alloc; "chr1\t{}\t{}\t{}\n", depth.start, depth.stop, depth.depth)?;
+        text.extend_from_slice(line.as_bytes())?;
+    }
+    Ok(text)
+}
+
+// Feeds spans on the first chromosome.
+fn feed_spans<E: Engine, K: Sink>(
+    alloc: Global,
+    engine: &mut E,
+    spans: &[PlainSpan],
+    out: &mut Out<K>,
+) -> Result<bool, AllocError> {
+    for span in spans {
+        let line = format!(in alloc; "chr1\t{}\t{}", span.start, span.stop)?;
+        if feed_line(engine, line.as_bytes(), out).is_err() {
+            return Ok(false);
+        }
+    }
+    Ok(true)
+}
+
+fn span(start: u64, stop: u64) -> PlainSpan {
+    PlainSpan { start, stop }
+}
+
+#[test]
+fn gives_what_the_plain_program_gives(rt: HostRuntime) -> Result<(), Fail> {
+    let Ok(genome) = genome(rt.alloc(), b"chr1\t20\n") else {
+        assert!(rt; false, "the genome");
+        return Ok(());
+    };
+    let cases: [&[PlainSpan]; 5] = [
+        &[span(0, 1), span(0, 7), span(3, 5), span(9, 10)],
+        &[span(1, 2), span(2, 3), span(4, 18), span(10, 15)],
+        &[span(3, 9), span(3, 9), span(9, 12), span(12, 30)],
+        &[span(5, 6), span(20, 21), span(22, 23)],
+        &[span(0, 20)],
+    ];
+    for zeros in [false, true] {
+        for spans in cases {
+            let depths = plain_depths(rt.alloc(), spans, 20, zeros)?;
+            let want = lines_of(rt.alloc(), depths.as_slice())?;
+            let mut coverage = Coverage::new(rt.alloc(), &genome, zeros, None);
+            let mut out = Out::new(ScriptSink::new(rt.alloc(), 3, None));
+            assert!(rt; feed_spans(rt.alloc(), &mut coverage, spans, &mut out)?);
+            assert_eq!(rt; end(coverage, &mut out), Ok(()));
+            assert_eq!(rt; out.into_sink().taken(), want.as_slice());
+        }
+    }
+    Ok(())
+}
