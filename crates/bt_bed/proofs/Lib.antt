@@ -12,6 +12,7 @@ pub mod Kept
 pub mod HeaderLemmas
 pub mod FeatureLemmas
 pub mod PlainLemmas
+pub mod TabLemmas
 pub mod RoundTrip
 pub mod SaidLemmas
 pub mod SortingLemmas
@@ -26,3 +27,4 @@ pub mod BlocksLemmas
 pub mod IntervalLineLemmas
 pub mod MeetingLemmas
 pub mod RecordLineLemmas
+pub mod KnownChromLemmas

@@ -1,5 +1,5 @@
 -- Lemmas on the first columns of a line that are in order.
-use Rattle.std.proofs.Common.{◌≡◌, ℕ, ◌+◌, ◌<◌, ◌≤◌, Bool, true, false, List, [], ◌∷◌, ◌++◌, length, take, drop, get_or, Option, Some, Ok, refl, sym, ap, ◌∙◌, subst, arith, eqb, ltb, length-take}
+use Rattle.std.proofs.Common.{◌≡◌, ℕ, ◌+◌, ◌^◌, ◌<◌, ◌≤◌, Bool, true, false, List, [], ◌∷◌, ◌++◌, length, take, drop, get_or, Option, Some, Ok, refl, sym, ap, ◌∙◌, subst, arith, eqb, ltb, length-take}
 use Rattle.std.specs.Prelude.{nat_lt, ◌&&◌}
 use Rattle.std.specs.Char.{is_ascii_digit}
 use Rattle.std.specs.List.{list_all}
@@ -9,13 +9,13 @@ use Rattle.std.proofs.lemmas.Bool.Decides.{nat_tests}
 use Rattle.std.proofs.lemmas.List.{take-append-drop, drop_more, drop_all, take_all, take_more}
 use Rattle.std.proofs.lemmas.List.Elements.{All-nil, All-cons, All-push}
 use Rattle.std.proofs.lemmas.List.Splits.{slice_split_at, slice_split_none, length-slice_split}
-use Rattle.bt_lines.proofs.NumberLemmas.{value_of_digits}
+use Rattle.bt_lines.proofs.NumberLemmas.{digits_below, value_of_digits}
 use Rattle.bt_lines.specs.Lines.{pieces}
 use Rattle.bt_lines.specs.Number.{value_of}
 use Rattle.bt_bed.proofs.Kept.{IsColumn, IsInside, cut_and_kept}
 use Rattle.bt_bed.proofs.FeatureLemmas.{said_is_feature}
 use Rattle.bt_bed.specs.Feature.{Feature}
-use Rattle.bt_bed.specs.Plain.{EndsName, Leads}
+use Rattle.bt_bed.specs.Plain.{BeginsWith, EndsName, Leads}
 use Rattle.bt_bed.specs.Record.{IsFeature, columns_in, columns_say, feature_of, is_kept, kept_columns, strand_of}
 use Rattle.bt_bed.specs.declared.leading.Leading.{Leading}
 use Rattle.bt_bed.specs.declared.strand.Strand.{Strand}
@@ -120,3 +120,11 @@ plain_feature_is text f e = said_is_feature text f (sym e)
 
 pub digit_bound : (byte : ℕ) → is_ascii_digit byte ≡ true → byte ≤ 57
 digit_bound byte digit = grind (arith, nat_tests)
+
+-- the value of the first digits is below the power of ten that has one digit more
+pub begins_below : (text : List ℕ) (lead : Leading) → BeginsWith text lead → lead.value < 10 ^ lead.end
+begins_below text lead begins =
+    let within = begins.within in
+    let size : length (take lead.end text) ≡ lead.end = omega (arith, length-take lead.end text) in
+    let below : digits_value 10 (take lead.end text) < 10 ^ length (take lead.end text) = digits_below (take lead.end text) begins.digits in
+    rw begins.value (subst (λ (n : ℕ). digits_value 10 (take lead.end text) < 10 ^ n) size below)

@@ -1,10 +1,11 @@
 -- The good records of a BED input whose chromosomes come in any order. A block is a maximal run of
 -- records of one chromosome; in each block the starts don't fall, and a chromosome may have several
 -- blocks (bedtools manual, maskfasta).
-use Rattle.std.specs.Prelude.{◌≡◌, ℕ, ◌≤◌, ⊤, All, List, [], ◌∷◌, length, Option}
+use Rattle.std.specs.Prelude.{◌≡◌, ◌≢◌, ℕ, ◌≤◌, ⊤, All, IfSome, List, [], ◌∷◌, length, Option}
 use Rattle.bt_lines.specs.Handed.{Handed}
 use Rattle.bt_lines.specs.Lines.{text_lines}
 use Rattle.bt_lines.specs.declared.fault.Input.{Input}
+use Rattle.bt_lines.specs.declared.fault.Kind.TheVariants.{UnknownChrom}
 use Rattle.bt_bed.specs.Feature.{Feature, intervals_of}
 use Rattle.bt_bed.specs.Good.{Format, Good, good, good_handed, items_in}
 use Rattle.bt_bed.specs.GoodBed.{bed_format, locus_at}
@@ -47,3 +48,8 @@ good_in_blocks_stand_on_lines = (input : Input) (text : List ℕ)
     → AreAscending 1 (good block_format input (text_lines text)).members
     × All (λ m. m.line ≤ length (text_lines text))
     (good block_format input (text_lines text)).members
+
+-- no line is at fault for its chromosome: every name is one
+abbrev pub blocks_know_each_chromosome : Type 0
+blocks_know_each_chromosome = (input : Input) (handed : Handed)
+    → IfSome (block_good input handed).fault (λ fault. fault.kind ≢ UnknownChrom)

@@ -1,6 +1,7 @@
 pub mod Interval
 pub mod IntervalLine
 pub mod Feature
+pub mod Strands
 pub mod Bases
 pub mod Stretches
 pub mod Order

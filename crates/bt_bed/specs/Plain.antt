@@ -1,6 +1,8 @@
 -- The first columns of a line that are in order.
-use Rattle.std.specs.Prelude.{◌≡◌, ℕ, ◌<◌, ◌≤◌, ◌+◌, ◌==◌, false, List, [], ◌∷◌, length, take, drop, get_or, Option, Some, None}
-use Rattle.std.specs.List.{All}
+use Rattle.std.specs.Prelude.{◌≡◌, ℕ, ◌<◌, ◌≤◌, ◌+◌, ◌==◌, Bool, true, false, List, [], ◌∷◌, length, take, drop, get_or, Option, Some, None}
+use Rattle.std.specs.Char.{is_ascii_digit}
+use Rattle.std.specs.List.{All, list_all}
+use Rattle.std.specs.Str.Parse.{digits_value}
 use Rattle.bt_lines.specs.Lines.{pieces}
 use Rattle.bt_lines.specs.Number.{value_of}
 use Rattle.bt_bed.specs.declared.leading.Leading.{Leading}
@@ -23,3 +25,21 @@ pub record Leads (text : List ℕ) (lead : Leading) : Type 0 where
   pub tab : lead.end < length text → get_or text lead.end 0 ≡ 9
   pub column : All (λ byte. (byte == 9) ≡ false) (take lead.end text)
   pub value : value_of (take lead.end text) ≡ Some lead.value
+
+-- so many digits come first, at most twelve, and denote the number
+pub record BeginsWith (text : List ℕ) (lead : Leading) : Type 0 where
+  pub within : lead.end ≤ length text
+  pub short : lead.end ≤ 12
+  pub digits : list_all is_ascii_digit (take lead.end text) ≡ true
+  pub value : lead.value ≡ digits_value 10 (take lead.end text)
+
+-- whether a byte is a tab
+abbrev pub is_tab : ℕ → Bool
+is_tab byte = byte == 9
+
+-- the second tab stands here: it parts the first two columns from the others
+pub record CutsTwo (text : List ℕ) (at : ℕ) : Type 0 where
+  pub within : at < length text
+  pub first : List ℕ
+  pub second : List ℕ
+  pub cut : pieces 9 text ≡ first ∷ second ∷ pieces 9 (drop (at + 1) text)

@@ -15,6 +15,7 @@ use std::alloc::Global;
 /// lines and blank lines are skipped. The record ahead is lent until the next call.
 #[derive(Drop)]
 pub struct Blocks<S> {
+    // Always valid: `placed` says that it goes by the order of blocks.
     cursor: Cursor<S, InBlocks>,
     ghost placed: { IsPlaced block_sorting (view_in block_sorting cursor) },
 }
@@ -48,6 +49,7 @@ impl<S: Source> Blocks<S> {
     /// and after a fault and after the end nothing is read. A line that couldn't be read is told
     /// before what is wrong with it, and want of memory for its chromosome's name after. Memory is
     /// taken for the line, and where the chromosome is another than that of the record before.
+    #[inline]
     pub fn peek(&mut self) -> Result<Option<BedRef<'_>>, Fault>
         ensures* after { sem 𝓛 (Rests (the_row S.row) self.entry
             (λ new. PeeksBlocks S.left S.has_failed S.end_told self.old result new)) }

@@ -15,8 +15,10 @@ use std::alloc::Global;
 // keeps its own.
 #[derive(Drop)]
 pub(crate) struct Cursor<S, Q> {
+    // At the line of the record ahead, where there is one, else behind the last line read.
     reader: LineReader<S>,
     pub(crate) neighbours: Neighbours<Q>,
+    // `None` until a line is at fault; then it stays.
     fault: Option<Fault>,
     ghost said: { IsSaidBy (text_at (line_at reader)) neighbours },
 }
@@ -107,7 +109,9 @@ impl<S: Source, Q: Sorted + Drop> Cursor<S, Q> {
         reader
     }
 
-    // Reads on to the next record, if there is one. No record is ahead.
+    // Reads on to the next record, if there is one. No record is ahead. It stands apart, so that a
+    // record that is ahead already is lent without a call.
+    #[inline(never)]
     fn read_record(&mut self) -> Result<(), Fault>
         requires none_ahead { has_ahead self.old.neighbours ≡ false }
         requires placed { IsPlaced (Q.sorting self.old.neighbours.rule)

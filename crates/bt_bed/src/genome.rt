@@ -14,6 +14,7 @@ use std::alloc::Global;
 /// by name is hashed.
 #[derive(Drop, Debug)]
 pub struct Genome {
+    // Always valid: each length is above 0, and a name stands once.
     lengths: IndexMap<Vec<u8>, u64>,
     ghost non_empty: { All (λ chromosome. 0 < chromosome.1) lengths.entries },
 }

@@ -4,7 +4,7 @@ ghost use Rattle.std.specs.Prelude.{◌≡◌, [], ◌∷◌, ◌++◌, Some, No
 ghost use Rattle.bt_bed.specs.Bases.{shared_are_common};
 ghost use Rattle.bt_bed.specs.Genome.{first_lines_make_entries, genome_names_are_distinct};
 ghost use Rattle.bt_bed.specs.GoodBed.{first_lines_have_the_first, good_are_non_empty, good_are_placed, good_stand_on_lines};
-ghost use Rattle.bt_bed.specs.GoodBlocks.{good_are_in_blocks, good_in_blocks_are_non_empty, good_in_blocks_stand_on_lines};
+ghost use Rattle.bt_bed.specs.GoodBlocks.{blocks_know_each_chromosome, good_are_in_blocks, good_in_blocks_are_non_empty, good_in_blocks_stand_on_lines};
 ghost use Rattle.bt_bed.specs.Locus.{fronts_are_placed, placed_grows};
 ghost use Rattle.bt_bed.specs.Meeting.{EarlyLinesBegin};
 ghost use Rattle.bt_bed.specs.Rank.{ranks_are_total};
@@ -91,6 +91,11 @@ pub fn lines_say_features()
 pub fn written_records_are_read_back()
     ensures read_back { written_are_read }
     ensures rewritten { read_are_rewritten }
+{}
+
+/// In blocks every name is a chromosome, so no line is at fault for it.
+pub fn blocks_know_each_chromosome()
+    ensures { blocks_know_each_chromosome }
 {}
 
 /// Where two inputs meet, what is written early begins what is written in the end, whichever fault is

@@ -5,6 +5,16 @@
 //! [`put_cut`]). [`Records`] reads the features of sorted input in an order of the chromosomes
 //! ([`ChromOrder`]), as that of a [`Genome`], and [`Blocks`] those of input in which only the records
 //! of a chromosome that stand together are sorted.
+//!
+//! An example, which the test `answers_a_fault_again` runs: the text `chr2 0 5`, `chr1 0 5`,
+//! `chr2 6 8`, with tabs and line feeds, in the order of a genome file that has `chr1` first.
+//!
+//! ```text
+//! let mut records = Records::new(rt.alloc(), lines, &genome);
+//! records.peek()       // Ok(Some(bed)): chr2, from 0 to 5, lent until the next call
+//! records.advance();
+//! records.peek()       // Err(fault): record is out of order, at line 2; and so from then on
+//! ```
 #![tactic(auto)]
 
 mod bed;
@@ -29,6 +39,7 @@ mod records;
 mod sorted;
 mod spot;
 mod strand;
+mod tabs;
 mod writing;
 
 pub use bed::BedRef;

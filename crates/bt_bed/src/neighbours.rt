@@ -14,10 +14,15 @@ use std::alloc::{AllocError, Global};
 #[derive(Drop)]
 pub(crate) struct Neighbours<Q> {
     pub(crate) rule: Q,
+    // The chromosome of the last record, while `last` is one.
     last_name: Vec<u8>,
+    // The chromosome of the record ahead, while one is ahead and `is_elsewhere` holds.
     ahead_name: Vec<u8>,
+    // The start of the last record; `None` before the first.
     last: Option<u64>,
+    // The record ahead; `None` until a line says one, and once it was passed.
     ahead: Option<Spot>,
+    // Whether the record ahead lies on another chromosome than the last, while one is ahead.
     is_elsewhere: bool,
 }
 

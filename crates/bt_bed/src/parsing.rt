@@ -94,7 +94,7 @@ mod tests {
     // The start, the end, the strand and what is kept of a record.
     type Said = (u64, u64, Strand, &'static [u8]);
 
-    const RECORDS: [(&[u8], Said); 15] = [
+    const RECORDS: [(&[u8], Said); 20] = [
         (b"chr1\t5\t9", (5, 9, Strand::Dot, b"")),
         (b"chr1\t5\t9\t", (5, 9, Strand::Dot, b"\t")),
         (b"chr1\t007\t9\tn\t0\t+", (7, 9, Strand::Plus, b"\tn\t0\t+")),
@@ -117,6 +117,36 @@ mod tests {
         (
             b"chr1\t7\t9\t+\t+\t.\t+",
             (7, 9, Strand::Dot, b"\t+\t+\t.\t+"),
+        ),
+        (
+            b"chr1\t12345678\t123456789\tabcdefghij\t789\t+",
+            (
+                12_345_678,
+                123_456_789,
+                Strand::Plus,
+                b"\tabcdefghij\t789\t+",
+            ),
+        ),
+        (
+            b"chr1\t00000007\t000000009\tabcdefghijk\t789\t-",
+            (7, 9, Strand::Minus, b"\tabcdefghijk\t789\t-"),
+        ),
+        (
+            b"chr1\t7\t9\tabcdefghijkl\t789\t-\t+",
+            (7, 9, Strand::Minus, b"\tabcdefghijkl\t789\t-\t+"),
+        ),
+        (
+            b"chr1\t7\t9\tabcdefghijklmnopqrst\t789",
+            (7, 9, Strand::Dot, b"\tabcdefghijklmnopqrst\t789"),
+        ),
+        (
+            b"chr1\t90817263\t90817264\t\t\t-\t\t\t\t\t\t\t\t\t\t\t\t\t",
+            (
+                90_817_263,
+                90_817_264,
+                Strand::Minus,
+                b"\t\t\t-\t\t\t\t\t\t\t\t\t\t\t\t\t",
+            ),
         ),
         (b"tracks\t1\t2", (1, 2, Strand::Dot, b"")),
         (b"trackX\t1\t2", (1, 2, Strand::Dot, b"")),
@@ -143,7 +173,7 @@ mod tests {
         b"browser position",
     ];
 
-    const FAULTS: [(&[u8], Kind); 17] = [
+    const FAULTS: [(&[u8], Kind); 20] = [
         (b"chr1", Kind::TooFewColumns),
         (b"chr1\t5", Kind::TooFewColumns),
         (b"\tx", Kind::TooFewColumns),
@@ -155,6 +185,9 @@ mod tests {
         (b"chr1\t-1\tx", Kind::BadStart),
         (b"chr1\t1000000000000\t5", Kind::BadStart),
         (b"chr1\t18446744073709551616\t5", Kind::BadStart),
+        (b"chr1\t1234567:\t123456789", Kind::BadStart),
+        (b"chr1\t/2345678\t123456789", Kind::BadStart),
+        (b"chr1\t1\t12345678p", Kind::BadStop),
         (b"chr1\t1\tx", Kind::BadStop),
         (b"chr1\t1\t2\r", Kind::BadStop),
         (b"chr1\t5\t1000000000000", Kind::BadStop),

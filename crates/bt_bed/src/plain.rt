@@ -1,15 +1,18 @@
 //! Lines of which the first three columns are in order, read in one pass.
 
-ghost use Rattle.std.specs.Prelude.{◌≡◌, ◌∷◌, [], List, ℕ, Ok, IfSome};
+ghost use Rattle.std.specs.Prelude.{◌≡◌, ◌≤◌, ◌∷◌, [], List, ℕ, Ok, Some, IfSome, length, take};
 ghost use Rattle.bt_bed.specs.Bed.{feature_lent};
-ghost use Rattle.bt_bed.specs.Plain.{CutAt, EndsName, Leads};
+ghost use Rattle.bt_bed.specs.Plain.{BeginsWith, CutAt, EndsName, Leads};
 ghost use Rattle.bt_bed.specs.Record.{columns_in, columns_say, strand_named, strand_of};
 ghost use Rattle.bt_lines.specs.Lines.{pieces};
+ghost use Rattle.bt_lines.specs.Number.{value_of};
 
 use crate::bed::BedRef;
 use crate::leading::Leading;
 use crate::parsing::behind;
 use crate::strand::Strand;
+use crate::tabs::second_tab;
+use bt_lines::eight_digits;
 
 // So many digits are within the greatest number, whatever they are.
 const SHORT: usize = 12;
@@ -60,8 +63,9 @@ fn leading_number(text: &[u8]) -> Option<Leading>
     ensures { IfSome result (Leads text.now) }
 {
     let most = text.len().min(SHORT);
-    let mut value: u64 = 0;
-    let mut end = 0;
+    let first = first_digits(text);
+    let mut value = first.value;
+    let mut end = first.end;
     while end < most && text[end].is_ascii_digit() {
         value = value * 10 + u64::from(text[end] - b'0');
         end += 1;
@@ -73,6 +77,23 @@ fn leading_number(text: &[u8]) -> Option<Leading>
         return None;
     }
     Some(Leading { value, end })
+}
+
+// The number of the first eight digits, or that of none where fewer come first.
+fn first_digits(text: &[u8]) -> Leading
+    ensures { BeginsWith text.now result }
+{
+    match first_eight(text) {
+        Some(value) => Leading { value, end: 8 },
+        None => Leading { value: 0, end: 0 },
+    }
+}
+
+// The number of the first eight digits, if so many come first.
+fn first_eight(text: &[u8]) -> Option<u64>
+    ensures { IfSome result (λ value. (8 ≤ length text.now) × (Some value ≡ value_of (take 8 text.now))) }
+{
+    eight_digits(text.first_chunk::<8>()?)
 }
 
 // The strand of the columns that are kept, each with the tab before it.
@@ -90,6 +111,9 @@ pub(crate) fn kept_strand(rest: &[u8]) -> Strand
 fn third_column(text: &[u8]) -> Strand
     ensures { result ≡ strand_of (pieces 9 text.now) }
 {
+    if let Some(second) = second_tab(text) {
+        return first_column(behind(text, second + 1));
+    }
     let Some(first) = first_tab(text) else {
         return Strand::Dot;
     };

@@ -1,6 +1,6 @@
 //! Records that are kept.
 
-ghost use Rattle.std.specs.Prelude.{◌≡◌, ◌++◌, OnOk, OnErr, IfOk};
+ghost use Rattle.std.specs.Prelude.{◌≡◌, ◌≤◌, ◌++◌, length, take, OnOk, OnErr, IfOk};
 ghost use Rattle.bt_bed.specs.Bed.{feature_lent};
 
 use crate::bed::BedRef;
@@ -14,6 +14,7 @@ use std::marker::Model;
 pub struct Rec {
     // The chromosome's name, and behind it the columns from the fourth on, each with the tab before it.
     text: Vec<u8>,
+    // How much of the text is the name. The fields below are always those of one feature.
     name_len: usize,
     start: u64,
     stop: u64,
@@ -60,6 +61,27 @@ impl Rec {
         self.strand = bed.strand;
         Ok(())
     }
+
+    /// Becomes the record that is given as [`Rec::copy_from`] does, where both lie on one chromosome:
+    /// its name isn't copied again.
+    pub fn copy_rest_from(&mut self, bed: &BedRef<'_>) -> Result<(), AllocError>
+        requires { bed.now.chrom.now ≡ self.old.chrom }
+        ensures copied { OnOk result (self.new ≡ feature_lent bed.now) }
+        ensures unchanged { OnErr result (self.new ≡ self.old) }
+    {
+        let BedRef {
+            start,
+            stop,
+            strand,
+            rest,
+            ..
+        } = *bed;
+        refill(&mut self.text, self.name_len, rest)?;
+        self.start = start;
+        self.stop = stop;
+        self.strand = strand;
+        Ok(())
+    }
 }
 
 impl BedRef<'_> {
@@ -88,6 +110,19 @@ fn fill(text: &mut Vec<u8>, name: &[u8], rest: &[u8]) -> Result<(), AllocError>
     text.reserve(size.saturating_sub(text.len()))?;
     text.clear();
     text.extend_from_slice(name)?;
+    text.extend_from_slice(rest)
+}
+
+// Puts other bytes behind the first ones of a text, so many, or where memory runs out leaves it as it
+// was.
+fn refill(text: &mut Vec<u8>, kept: usize, rest: &[u8]) -> Result<(), AllocError>
+    requires { kept ≤ length text.old.items }
+    ensures filled { OnOk result (text.new.items ≡ take kept text.old.items ++ rest.now) }
+    ensures unchanged { OnErr result (text.new.items ≡ text.old.items) }
+{
+    let whole = kept + rest.len();
+    text.reserve(whole.saturating_sub(text.len()))?;
+    text.truncate(kept);
     text.extend_from_slice(rest)
 }
 
@@ -152,6 +187,22 @@ mod tests {
         Ok(())
     }
 
+    // The first line of a table whose record, which lies on the same chromosome, is lent otherwise once
+    // it has become it.
+    fn first_misfilled(rec: &mut Rec, rows: &[Row]) -> Result<Option<&'static [u8]>, AllocError> {
+        for row in rows {
+            if let Ok(Some(bed)) = parse_bed(row.0) {
+                if rec.as_bed().chrom == bed.chrom {
+                    rec.copy_rest_from(&bed)?;
+                }
+            }
+            if !is_seen_as(rec.as_bed(), row.1) {
+                return Ok(Some(row.0));
+            }
+        }
+        Ok(None)
+    }
+
     // Longer ones follow shorter ones, and the other way round.
     #[test]
     fn a_record_becomes_another(rt: HostRuntime) -> Result<(), Fail> {
@@ -161,6 +212,7 @@ mod tests {
         };
         let mut rec = first.to_rec(rt.alloc())?;
         assert_eq!(rt; first_miscopied(&mut rec, &RECORDS)?, None);
+        assert_eq!(rt; first_misfilled(&mut rec, &RECORDS)?, None);
         Ok(())
     }
 }

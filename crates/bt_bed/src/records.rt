@@ -16,6 +16,7 @@ use std::alloc::Global;
 /// call.
 #[derive(Drop)]
 pub struct Records<'o, S, O: ChromOrder> {
+    // Always valid: `placed` says that it goes by the order.
     cursor: Cursor<S, ByOrder<'o, O>>,
     ghost placed: { IsPlaced (sorting_of (O.order cursor.neighbours.rule.order.now))
         (view_in (sorting_of (O.order cursor.neighbours.rule.order.now)) cursor) },
@@ -55,6 +56,7 @@ impl<'o, S: Source, O: ChromOrder> Records<'o, S, O> {
     /// and after a fault and after the end nothing is read. A line that couldn't be read is told
     /// before what is wrong with it, and want of memory for its chromosome's name after. Memory is
     /// taken for the line, and where the chromosome is another than that of the record before.
+    #[inline]
     pub fn peek(&mut self) -> Result<Option<BedRef<'_>>, Fault>
         ensures* after { sem 𝓛 (Rests (the_row (record { mir = named 0; lft = [] }) S.row O.row O.ChromOrder)
             self.entry

@@ -1,13 +1,14 @@
 -- Lemmas on the number that a text denotes.
-use Rattle.std.proofs.Common.{◌≡◌, ℕ, ◌+◌, ◌-◌, ◌*◌, ◌<◌, ◌≤◌, Bool, true, false, ◌&&◌, List, ◌++◌, length, take, drop, get_or, Some, None, refl, sym, ap, ◌∙◌, arith, ltb, leb, cond, map, ◌^◌, pow-suc, add-one}
+use Rattle.std.proofs.Common.{[], ◌∷◌, ◌≡◌, ℕ, ◌+◌, ◌-◌, ◌*◌, ◌<◌, ◌≤◌, Bool, true, false, ◌&&◌, List, ◌++◌, length, take, drop, get_or, Some, None, refl, sym, ap, ◌∙◌, arith, ltb, leb, cond, map, ◌^◌, pow-suc, add-one}
 use Rattle.std.proofs.Math.Nat.{pow-le-pow_right}
 use Rattle.std.proofs.lemmas.List.{take-append-drop, map-append, take_all}
 use Rattle.std.proofs.lemmas.List.Folds.{list_all_more, list_all_at}
-use Rattle.std.proofs.lemmas.Int.Digits.{digits_value_is, digits_value_more, number_after_append, number_after_ge}
+use Rattle.std.proofs.lemmas.Bool.{and_parts}
+use Rattle.std.proofs.lemmas.Int.Digits.{digits_value-lt, digits_value_is, digits_value_more, number_after_append, number_after_ge}
 use Rattle.std.proofs.lemmas.Bool.Decides.{nat_tests}
 use Rattle.std.specs.List.{list_all}
 use Rattle.std.specs.Char.{is_ascii_digit, digit_value}
-use Rattle.std.specs.Str.Parse.{digits_value}
+use Rattle.std.specs.Str.Parse.{AllDigits, digits_value}
 use Rattle.std.specs.Int.Digits.{number_from_digits, number_from_digits_after}
 use Rattle.bt_lines.specs.Number.{value_of}
 
@@ -18,7 +19,7 @@ chosen a b c x y p q r = rw (p, q, r) refl
 refused_first : {X : Type 0} (a b c : Bool) (x y : X) → a ≡ false → cond ((a && b) && c) x y ≡ y
 refused_first a b c x y p = rw p refl
 
-refused_second : {X : Type 0} (a b c : Bool) (x y : X) → b ≡ false → cond ((a && b) && c) x y ≡ y
+pub refused_second : {X : Type 0} (a b c : Bool) (x y : X) → b ≡ false → cond ((a && b) && c) x y ≡ y
 refused_second true b c x y p = rw p refl
 refused_second false b c x y p = refl
 
@@ -66,7 +67,7 @@ value_of_digits text some digits small =
     sym (chosen (ltb 0 (length text)) (list_all is_ascii_digit text) (leb (digits_value 10 text) 999999999999) (Some (digits_value 10 text)) None here digits within)
 
 -- a digit stands for its distance from '0'
-digit_is : (b : ℕ) → is_ascii_digit b ≡ true → digit_value b ≡ b - 48
+pub digit_is : (b : ℕ) → is_ascii_digit b ≡ true → digit_value b ≡ b - 48
 digit_is b digit = grind (arith, nat_tests)
 
 -- the value with one more digit
@@ -103,3 +104,25 @@ pub value_short : (i value : ℕ) → value < 10 ^ i → i ≤ 12 → value ≤ 
 value_short i value below short =
     let most : 10 ^ i ≤ 1000000000000 = pow-le-pow_right {n = 10} (omega arith) {i = i} {j = 12} short in
     omega (arith, below, most)
+
+all_digits_in : (text : List ℕ) → list_all is_ascii_digit text ≡ true → AllDigits 10 text
+all_digits_in [] all = tt
+all_digits_in (byte ∷ bytes) all =
+    let parts = and_parts (is_ascii_digit byte) (list_all is_ascii_digit bytes) all in
+    let small : digit_value byte < 10 = rw (digit_is byte parts.0) (let most = digit_small byte parts.0 in omega arith) in
+    (small, all_digits_in bytes parts.1)
+
+-- so many digits denote less than this
+pub digits_below : (text : List ℕ) → list_all is_ascii_digit text ≡ true → digits_value 10 text < 10 ^ length text
+digits_below text all = digits_value-lt 10 text (all_digits_in text all)
+
+taken : (a b c : Bool) (x value : ℕ) → Some value ≡ cond ((a && b) && c) (Some x) None → (b ≡ true) × (value ≡ x)
+taken true true true x value e = (refl, cc)
+taken true true false x value e = cc
+taken true false c x value e = cc
+taken false b c x value e = cc
+
+-- what denotes a number is its digits
+pub digits_denoting : (text : List ℕ) (value : ℕ) → Some value ≡ value_of text → (list_all is_ascii_digit text ≡ true) × (value ≡ digits_value 10 text)
+unfolding value_of
+digits_denoting text value e = taken (ltb 0 (length text)) (list_all is_ascii_digit text) (leb (digits_value 10 text) 999999999999) (digits_value 10 text) value e

@@ -16,9 +16,12 @@ pub const BLOCK: usize = 8192;
 // text of the line that was cut off last.
 #[derive(Drop)]
 pub(crate) struct Block {
+    // Only the bytes that the bounds below name mean anything.
     bytes: [u8; BLOCK],
+    // The text of the line that was cut off last, until the next fill; empty before the first.
     from: usize,
     stop: usize,
+    // What was read and not yet taken; valid at any time.
     start: usize,
     end: usize,
     ghost text_ordered: { from ≤ stop },

@@ -12,8 +12,11 @@ use std::io::Read;
 /// reader has failed, it isn't asked any more.
 #[derive(Drop, Debug)]
 pub struct FromRead<R> {
+    // Not asked any more once it has failed.
     reader: R,
+    // Whether a read has failed; it stays so.
     has_failed: bool,
+    // Whether a read gave no bytes although it was asked for some.
     end_told: bool,
 }
 

@@ -9,7 +9,9 @@ use std::marker::Model;
 // Its first `len` bytes are held back.
 #[derive(Drop)]
 pub(crate) struct HeldBack {
+    // Only the first `len` mean anything.
     bytes: [u8; BLOCK],
+    // At most the block.
     len: usize,
 }
 

@@ -37,13 +37,21 @@ pub(crate) enum State {
 /// the block where it stands whole in it, and else from a buffer that is used again.
 #[derive(Drop)]
 pub struct LineReader<S> {
+    // Not asked any more behind the end and after a fault.
     source: S,
+    // What the source is called in faults.
     input: Input,
+    // What was read ahead; in the state `Reading` the text of the last line too.
     block: Block,
+    // The text of the last line, in the states `Carried` and `LastLine` alone.
     carried: Vec<u8>,
+    // How the last line ended; it means nothing before the first.
     ending: LineEnd,
+    // How many lines were given.
     lines: u64,
+    // How many bytes were taken from the source, at most the bound.
     taken: u64,
+    // Decides which of the fields above mean something.
     state: State,
     ghost counted: { taken < 2 ^ 63 },
     // Each line given has a byte at least, and those in the block are no line's yet.
@@ -88,6 +96,7 @@ impl<S: Source> LineReader<S> {
     /// the last one given, where the source failed in this call or gave more than 2^63 - 1 bytes, and
     /// with `NoMemory` where the line's buffer can't grow. A fault is answered again, and after it and
     /// after the end nothing is read.
+    #[inline(always)]
     pub fn next(&mut self) -> Result<Option<Line<'_>>, Fault>
         ensures* after { sem 𝓛 (Rests (the_row S.row) self.entry (λ new.
             NextLine S.left S.has_failed S.end_told self.old result new)) }
@@ -138,6 +147,7 @@ impl<S: Source> LineReader<S> {
     }
 
     // Moves on to the next line, if there is one.
+    #[inline(always)]
     fn step(&mut self) -> Result<(), Fault>
         ensures { Stepped S.left S.has_failed S.end_told self.old result self.new }
     {

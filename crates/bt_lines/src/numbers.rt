@@ -30,6 +30,35 @@ pub fn number(text: &[u8]) -> Option<u64>
     Some(value)
 }
 
+// Eight bytes as one number, the first in its lowest byte: the upper halves of all, where those of the
+// digits are `ZEROS`, and what leads from `9` to the end of its sixteen codes.
+const UPPER: u64 = 0xf0f0_f0f0_f0f0_f0f0;
+
+const ZEROS: u64 = 0x3030_3030_3030_3030;
+
+const SIXES: u64 = 0x0606_0606_0606_0606;
+
+/// The number that eight decimal digits denote. A sign or a space isn't allowed. All eight are read at
+/// once.
+#[inline]
+pub fn eight_digits(bytes: &[u8; 8]) -> Option<u64>
+    ensures { result ≡ value_of bytes.now }
+{
+    let word = u64::from_le_bytes(*bytes);
+    if word & UPPER != ZEROS {
+        return None;
+    }
+    if (word + SIXES) & UPPER != ZEROS {
+        return None;
+    }
+    let ones = word - ZEROS;
+    // The bytes 0, 2, 4 and 6 are the values of two digits each.
+    let pairs = ones * 10 + ones / 0x100;
+    let first = pairs % 0x100 * 100 + pairs / 0x1_0000 % 0x100;
+    let last = pairs / 0x1_0000_0000 % 0x100 * 100 + pairs / 0x1_0000_0000_0000 % 0x100;
+    Some(first * 10_000 + last)
+}
+
 // The same for more digits: they are too many but for leading zeros.
 fn long_number(text: &[u8]) -> Option<u64>
     requires { 0 < length text.now }

@@ -18,8 +18,11 @@ use std::marker::Model;
 /// answers that writing failed.
 #[derive(Drop)]
 pub struct Out<K: Sink> {
+    // Not written to any more once it has failed.
     sink: K,
+    // What was put and not yet written; lost once the sink has failed.
     held: HeldBack,
+    // Whether a write or a flush has failed; it stays so.
     has_failed: bool,
 }
 

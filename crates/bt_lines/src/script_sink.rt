@@ -12,9 +12,13 @@ use std::marker::Model;
 /// bytes were taken. Where it can't grow it has failed. Once failed, it takes nothing more.
 #[derive(Drop, Debug)]
 pub struct ScriptSink {
+    // What was taken, also once it has failed.
     taken: Vec<u8>,
+    // At least 1.
     step: usize,
+    // How many bytes go well; `None` where all do.
     good: Option<usize>,
+    // Whether a call has failed; it stays so.
     has_failed: bool,
 }
 

@@ -12,11 +12,17 @@ use std::marker::Model;
 /// given, also where the text has ended.
 #[derive(Drop, Debug)]
 pub struct ScriptSource<'a> {
+    // All that it ever gives.
     bytes: &'a [u8],
+    // At least 1.
     step: usize,
+    // How many bytes go well; `None` where all do.
     good: Option<usize>,
+    // How many bytes were given, at most all.
     given: usize,
+    // Whether a call has failed; it stays so.
     has_failed: bool,
+    // Whether a call was answered with no bytes although it asked for some.
     end_told: bool,
 }
 

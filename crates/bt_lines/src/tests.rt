@@ -1,6 +1,6 @@
 use crate::{
     Fault, Input, Kind, LineEnd, LineReader, Names, Out, Place, ScriptSink, ScriptSource, Sink,
-    Source, columns, fault_line, number,
+    Source, columns, eight_digits, fault_line, number,
 };
 use std::alloc::AllocError;
 use std::test::Fail;
@@ -19,6 +19,23 @@ fn numbers(rt: HostRuntime) {
     ];
     for (text, want) in cases {
         assert_eq!(rt; number(text), want);
+    }
+}
+
+#[test]
+fn eight_digits_at_once(rt: HostRuntime) {
+    let cases: [(&[u8; 8], Option<u64>); 8] = [
+        (b"12345678", Some(12_345_678)),
+        (b"00000000", Some(0)),
+        (b"99999999", Some(99_999_999)),
+        (b"00000010", Some(10)),
+        (b"1234567:", None),
+        (b"/2345678", None),
+        (b"1234\t678", None),
+        (b"p2345678", None),
+    ];
+    for (text, want) in cases {
+        assert_eq!(rt; eight_digits(text), want);
     }
 }
 

@@ -11,8 +11,11 @@ use std::io::Write;
 /// that takes none of a piece with bytes is a failure. Once failed, the writer isn't asked any more.
 #[derive(Drop, Debug)]
 pub struct ToWrite<W> {
+    // Not written to any more once it has failed.
     writer: W,
+    // Whether a call has failed; it stays so.
     has_failed: bool,
+    // Whether nothing was written since the last flush that went well.
     is_flushed: bool,
 }
 

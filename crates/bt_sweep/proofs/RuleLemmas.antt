@@ -3,7 +3,8 @@ use Rattle.std.proofs.Common.{◌≡◌, ℕ, ◌-◌, ◌*◌, ◌<◌, Bool, t
 use Rattle.std.proofs.lemmas.Bool.{false≢true, and_from, and_parts, ltb-true, or_right}
 use Rattle.bt_bed.specs.Feature.{Feature, interval_of}
 use Rattle.bt_bed.specs.Bases.{length_of}
-use Rattle.bt_sweep.specs.Hits.{both_of_nothing, has_fraction, hits, is_enough, is_strand, shared_bases, strands_agree}
+use Rattle.bt_bed.specs.Strands.{is_strand}
+use Rattle.bt_sweep.specs.Hits.{both_of_nothing, has_fraction, hits, is_enough, shared_bases, strands_agree}
 use Rattle.bt_sweep.specs.declared.hit_rule.HitRule.{HitRule}
 
 -- what hits a record shares a base with it

@@ -1,5 +1,5 @@
 -- Lemmas on what a sweep keeps.
-use Rattle.std.proofs.Common.{◌≡◌, ℕ, inl, Bool, true, false, cond, List, [], ◌∷◌, ◌++◌, Option, Some, None, Result, Ok, Err, refl, sym, ap, ◌∙◌, subst, ltb, arith, filter, bytes_eq}
+use Rattle.std.proofs.Common.{◌≡◌, ℕ, inl, Bool, true, false, cond, List, [], ◌∷◌, ◌++◌, length, Option, Some, None, Result, Ok, Err, refl, sym, ap, ◌∙◌, subst, ltb, arith, filter, bytes_eq}
 use Rattle.std.specs.Prelude.{OnOk, OnErr}
 use Rattle.std.specs.Result.{is_err}
 use Rattle.std.proofs.lemmas.Bool.{false≢true, and_parts}
@@ -8,12 +8,15 @@ use Rattle.bt_lines.specs.Names.{told}
 use Rattle.bt_lines.specs.Output.{Output}
 use Rattle.bt_lines.specs.Putting.{Adds, FailsToAdd, Grown}
 use Rattle.bt_lines.specs.declared.fault.Fault.{Fault}
+use Rattle.bt_lines.proofs.PuttingLemmas.{grown_none}
 use Rattle.bt_bed.specs.Feature.{Feature}
 use Rattle.bt_bed.proofs.NameLemmas.{same_name}
 use Rattle.bt_sweep.specs.Held.{AreOn, AreRising, AreWith}
 use Rattle.bt_sweep.specs.Lines.{lines_for}
-use Rattle.bt_sweep.specs.StateSteps.{TakesA, WritesLast, held_with, is_held_by, moved_to}
+use Rattle.bt_sweep.specs.StateSteps.{NeedsHit, TakesA, WritesLast, held_with, is_held_by, moved_to}
 use Rattle.bt_sweep.specs.Sweeping.{Sweeping}
+use Rattle.bt_sweep.specs.declared.hit_rule.HitRule.{HitRule}
+use Rattle.bt_sweep.specs.declared.shape.Shape.{Shape}
 
 same_some : (a x : Feature) → Some a ≡ Some x → a ≡ x
 same_some a x e = cc
@@ -80,3 +83,17 @@ pub takes_now : {A : Type 0} (r : Result A Fault) (now mid new : Sweeping) (a : 
 takes_now r now mid new a out grown e ended rises writes =
     takes_by r now new a out grown (ap (λ (s : Sweeping). s.b_ended) (sym e) ∙ ended)
     (subst (λ (s : Sweeping). WritesLast s a out r new grown) e (writes a (ap (λ (s : Sweeping). s.last) e) (subst (λ (s : Sweeping). AreRising s.held) (sym e) rises)))
+
+none_of : (shape : Shape) (rule : HitRule) (a : Feature) (held : List Feature) → NeedsHit shape → length held ≡ 0 → lines_for shape rule a held ≡ []
+unfolding lines_for
+none_of shape rule a [] needs none = needs a
+none_of shape rule a (b ∷ held) needs none = absurd (omega arith)
+
+-- the last record has no line, since nothing is held
+pub writes_none : (inside now : Sweeping) (a : Feature) (out : Output) → inside ≡ now → NeedsHit inside.shape → length inside.held ≡ 0
+    → (record inside { waits = false } ≡ record now { waits = false }) × Grown out (lines_for now.shape now.rule a now.held) out
+writes_none inside now a out e needs none = (
+  ap (λ (s : Sweeping). record s { waits = false }) e,
+  subst (λ (s : Sweeping). Grown out (lines_for s.shape s.rule a s.held) out) e
+      (subst (λ (l : List ℕ). Grown out l out) (sym (none_of inside.shape inside.rule a inside.held needs none)) (grown_none out)),
+)

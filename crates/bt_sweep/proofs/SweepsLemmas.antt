@@ -12,7 +12,7 @@ use Rattle.bt_bed.proofs.MeetingLemmas.{all_written, met_lines, written_begins}
 use Rattle.bt_sweep.specs.Deciding.{decided}
 use Rattle.bt_sweep.specs.Hits.{hits_among}
 use Rattle.bt_sweep.specs.Lines.{intersect, lines_for, lines_of}
-use Rattle.bt_sweep.specs.Subtract.{left_lines, subtract, subtract_is_met, subtract_shape}
+use Rattle.bt_sweep.specs.Subtract.{left_are_lines, left_lines, subtract, subtract_is_met, subtract_shape}
 use Rattle.bt_sweep.specs.Sweeps.{early_rule, faultless_are_all, sweep_rule, written_are_a_front}
 use Rattle.bt_sweep.specs.declared.hit_rule.HitRule.{HitRule}
 use Rattle.bt_sweep.specs.declared.shape.Shape.{Shape}
@@ -45,7 +45,7 @@ whole_left : (a : Feature) (found : List Feature) → lines_of Whole a found ≡
 whole_left a [] = refl
 whole_left a (b ∷ found) = refl
 
-left_at : (whole : Bool) (rule : HitRule) (a : Feature) (second : List Feature) → lines_for (subtract_shape whole) rule a second ≡ left_lines whole a (hits_among rule a second)
+pub left_at : left_are_lines
 unfolding lines_for
 left_at false rule a second = refl
 left_at true rule a second = whole_left a (hits_among rule a second)

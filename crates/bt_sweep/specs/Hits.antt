@@ -3,8 +3,7 @@
 use Rattle.std.specs.Prelude.{◌≡◌, ℕ, ◌*◌, Bool, true, false, not, ◌&&◌, ◌||◌, List, filter, nat_le, nat_lt}
 use Rattle.bt_bed.specs.Bases.{length_of, shared}
 use Rattle.bt_bed.specs.Feature.{Feature, interval_of}
-use Rattle.bt_bed.specs.declared.strand.Strand.{Strand}
-use Rattle.bt_bed.specs.declared.strand.Strand.TheVariants.{Plus, Minus, Dot}
+use Rattle.bt_bed.specs.Strands.{is_strand}
 use Rattle.bt_sweep.specs.declared.hit_rule.HitRule.{HitRule}
 
 -- how many bases two records have in common
@@ -18,13 +17,6 @@ has_fraction billionths bases r = nat_le (billionths * length_of (interval_of r)
 -- whether so many bases are as much of a as the rule asks for, and of b where it asks for both
 unfoldable pub is_enough : HitRule → ℕ → Feature → Feature → Bool
 is_enough rule bases a b = has_fraction rule.billionths bases a && (not rule.both || has_fraction rule.billionths bases b)
-
--- whether two strands are one; none is one with none
-abbrev pub is_strand : Strand → Strand → Bool
-is_strand Plus Plus = true
-is_strand Minus Minus = true
-is_strand Dot Dot = true
-is_strand _ _ = false
 
 -- whether the strands of a and b are one, where the rule asks for that
 unfoldable pub strands_agree : HitRule → Feature → Feature → Bool

@@ -6,10 +6,11 @@ use Rattle.bt_lines.specs.Output.{Output}
 use Rattle.bt_lines.specs.Putting.{FailsToAdd, Grown}
 use Rattle.bt_lines.specs.declared.fault.Fault.{Fault}
 use Rattle.bt_bed.specs.Feature.{Feature}
-use Rattle.bt_sweep.specs.Lines.{lines_for}
+use Rattle.bt_sweep.specs.Lines.{lines_for, lines_of}
 use Rattle.bt_sweep.specs.Standing.{is_held}
 use Rattle.bt_sweep.specs.Steps.{Fails}
 use Rattle.bt_sweep.specs.Sweeping.{Sweeping, want_in}
+use Rattle.bt_sweep.specs.declared.shape.Shape.{Shape}
 use Rattle.bt_sweep.specs.declared.want.Want.TheVariants.{Nothing}
 
 -- what is held once a is given, behind the one that was given last
@@ -31,6 +32,10 @@ TakesA old a out (Ok done) new grown = (new ≡ record (moved_to old a) { waits 
     × Grown out (cond old.b_ended (lines_for old.shape old.rule a (held_with old.last old.held a)) []) grown
 TakesA old a out (Err fault) new grown = (want_in new ≡ Nothing)
     × Fails out (cond old.b_ended (lines_for old.shape old.rule a (held_with old.last old.held a)) []) (told fault) grown
+
+-- a record that nothing hits has no line in this shape
+abbrev pub NeedsHit : Shape → Type 0
+NeedsHit shape = (a : Feature) → lines_of shape a [] ≡ []
 
 -- writing the lines of a, which was given last
 abbrev pub WritesLast : {A : Type 0} → Sweeping → Feature → Output → Result A Fault → Sweeping → Output → Type 0

@@ -6,7 +6,7 @@ use Rattle.bt_bed.specs.Meeting.{meet}
 use Rattle.bt_bed.specs.Order.{Order}
 use Rattle.bt_bed.specs.Record.{bed_text}
 use Rattle.bt_sweep.specs.Hits.{hits_among}
-use Rattle.bt_sweep.specs.Lines.{line_with, piece_line}
+use Rattle.bt_sweep.specs.Lines.{line_with, lines_for, piece_line}
 use Rattle.bt_sweep.specs.Pieces.{pieces}
 use Rattle.bt_sweep.specs.Sweeps.{sweep_rule}
 use Rattle.bt_sweep.specs.declared.hit_rule.HitRule.{HitRule}
@@ -27,6 +27,11 @@ subtract whole rule first second = flat_map (λ a. left_lines whole a (hits_amon
 abbrev pub subtract_shape : Bool → Shape
 subtract_shape false = Pieces
 subtract_shape true = Whole
+
+-- what is left of one record is what the sweep writes of it in that shape
+abbrev pub left_are_lines : Type 0
+left_are_lines = (whole : Bool) (rule : HitRule) (a : Feature) (second : List Feature)
+    → lines_for (subtract_shape whole) rule a second ≡ left_lines whole a (hits_among rule a second)
 
 -- where the second input has no fault, it is what the meeting of the inputs writes
 abbrev pub subtract_is_met : Type 0

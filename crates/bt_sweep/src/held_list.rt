@@ -7,6 +7,7 @@ use std::alloc::Global;
 /// Held records as a vector of them. Dropping those that ended goes over all of them.
 #[derive(Drop, Debug)]
 pub struct HeldList {
+    // In file order.
     records: Vec<Rec>,
 }
 

@@ -3,7 +3,8 @@
 ghost use Rattle.std.specs.Prelude.{◌≡◌, length, option_copied, option_to_list};
 ghost use Rattle.std.specs.List.{list_any};
 ghost use Rattle.bt_bed.specs.Bed.{feature_lent};
-ghost use Rattle.bt_sweep.specs.Hits.{has_fraction, hits, hits_among, is_enough, is_strand, shared_bases, strands_agree};
+ghost use Rattle.bt_bed.specs.Strands.{is_strand};
+ghost use Rattle.bt_sweep.specs.Hits.{has_fraction, hits, hits_among, is_enough, shared_bases, strands_agree};
 ghost use Rattle.bt_sweep.specs.Held.{AreOn};
 
 use crate::held::Held;

@@ -6,7 +6,7 @@ ghost use Rattle.bt_sweep.specs.Lines.{lines_are_before, lines_stay};
 ghost use Rattle.bt_sweep.specs.Pieces.{pieces_are, pieces_only};
 ghost use Rattle.bt_sweep.specs.Standing.{taken_are_first};
 ghost use Rattle.bt_sweep.specs.Steps.{quiet_are_taken};
-ghost use Rattle.bt_sweep.specs.Subtract.{subtract_is_met};
+ghost use Rattle.bt_sweep.specs.Subtract.{left_are_lines, subtract_is_met};
 ghost use Rattle.bt_sweep.specs.Worked.{fault_behind_undecided, fault_of_first, half_is_taken, parts_are_left, whole_is_left};
 ghost use Rattle.bt_sweep.specs.Sweeps.{faultless_are_all, written_are_a_front};
 
@@ -28,6 +28,12 @@ pub fn no_fraction_is_that_of_both()
 pub fn pieces_are_stretches()
     ensures are { pieces_are }
     ensures only { pieces_only }
+{}
+
+/// What subtract leaves of one record by those that hit it is what the sweep writes of it, in pieces or
+/// whole.
+pub fn lines_of_one_record_are_what_is_left()
+    ensures { left_are_lines }
 {}
 
 /// Where the second input has no fault, what the sweep writes for subtract is what all pairs give.

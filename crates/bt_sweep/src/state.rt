@@ -14,7 +14,7 @@ use crate::held::Held;
 use crate::hit_rule::HitRule;
 use crate::shape::Shape;
 use crate::want::Want;
-use crate::writing::put_lines;
+use crate::writing::{needs_hit, put_lines};
 use bt_bed::{BedRef, ChromOrder, Rec};
 use bt_lines::{Fault, Out, Sink, no_memory};
 use std::alloc::{AllocError, Global};
@@ -25,14 +25,21 @@ use std::marker::Model;
 // the last record.
 #[derive(Drop)]
 pub(crate) struct State<H: Held> {
+    // For the copy of the first record.
     alloc: Global,
+    // What is written of a record and its hits.
     shape: Shape,
+    // What a hit is.
     rule: HitRule,
     // The record of the first input that was given last. Its buffer is used again.
     last: Option<Rec>,
+    // Whether that record isn't written yet.
     waits: bool,
+    // What can still hit that record or a later one; nothing before the first.
     held: H,
+    // Whether nothing is asked for any more: the first input has ended, or there was a fault.
     done: bool,
+    // Whether the end of the second input was given.
     b_ended: bool,
 }
 
@@ -161,6 +168,9 @@ impl<H: Held> State<H> {
         ensures last { self.new.last ≡ self.old.last }
     {
         self.waits = false;
+        if needs_hit(self.shape) && self.held.len() == 0 {
+            return Ok(());
+        }
         let written = put_last(self.shape, self.rule, &self.last, &self.held, out);
         if written.is_err() {
             self.done = true;
@@ -193,8 +203,7 @@ impl<H: Held> State<H> {
         ensures last { OnErr result (self.new.last ≡ self.old.last) }
     {
         self.waits = false;
-        drop_passed(&self.last, &mut self.held, a);
-        replace(self.alloc, &mut self.last, a)
+        move_last(self.alloc, &mut self.last, &mut self.held, a)
     }
 
     // Holds the record.
@@ -211,13 +220,26 @@ impl<H: Held> State<H> {
     }
 }
 
-// Drops the held records that neither the record, which comes next, nor a later one can hit.
-fn drop_passed<H: Held>(last: &Option<Rec>, held: &mut H, a: &BedRef<'_>)
-    ensures { H.records held.new ≡ held_with last.now (H.records held.old) (feature_lent a.now) }
+// Makes the record the last one, and drops the held records that neither it nor a later one can hit.
+fn move_last<H: Held>(
+    alloc: Global,
+    last: &mut Option<Rec>,
+    held: &mut H,
+    a: &BedRef<'_>,
+) -> Result<(), AllocError>
+    ensures held { H.records held.new ≡ held_with last.old (H.records held.old) (feature_lent a.now) }
+    ensures moved { OnOk result (last.new ≡ Some (feature_lent a.now)) }
+    ensures unchanged { OnErr result (last.new ≡ last.old) }
 {
     match last {
-        Some(last) if last.as_bed().chrom == a.chrom => held.drop_ended(a.start),
-        _ => held.clear(),
+        Some(last) if last.as_bed().chrom == a.chrom => {
+            held.drop_ended(a.start);
+            last.copy_rest_from(a)
+        }
+        _ => {
+            held.clear();
+            replace(alloc, last, a)
+        }
     }
 }
 
@@ -262,6 +284,7 @@ fn is_past<O: ChromOrder>(order: &O, a: &BedRef<'_>, b: &BedRef<'_>) -> bool
 }
 
 // Puts the lines of the last record against what is held, if there is one.
+#[inline(never)]
 fn put_last<H: Held, K: Sink>(
     shape: Shape,
     rule: HitRule,

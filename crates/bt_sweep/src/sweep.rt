@@ -20,7 +20,9 @@ use std::alloc::Global;
 /// it: then it asks for nothing.
 #[derive(Drop)]
 pub struct Sweep<'o, H: Held, O: ChromOrder> {
+    // Knows the chromosome of each record given.
     order: &'o O,
+    // Always valid; after a fault it asks for nothing.
     state: State<H>,
     ghost known: { (a : Feature) → state.last ≡ Some a
         → IsTrue ((O.order order.now).knows a.chrom) },

@@ -1,12 +1,13 @@
 //! The lines of one record.
 
-ghost use Rattle.std.specs.Prelude.{◌≡◌, ◌∷◌, [], ◌<◌, cond, decimal, flat_map, option_copied, option_to_list};
+ghost use Rattle.std.specs.Prelude.{◌≡◌, ◌∷◌, [], ◌<◌, IsTrue, cond, decimal, flat_map, option_copied, option_to_list};
 ghost use Rattle.bt_lines.specs.Putting.{Adds, Puts};
 ghost use Rattle.bt_bed.specs.Bed.{feature_lent};
 ghost use Rattle.bt_bed.specs.Record.{bed_text, cut_to};
 ghost use Rattle.bt_sweep.specs.Held.{AreOn, AreRising};
 ghost use Rattle.bt_sweep.specs.Hits.{hits_among, shared_bases};
 ghost use Rattle.bt_sweep.specs.Lines.{hit_line, line_with, lines_for};
+ghost use Rattle.bt_sweep.specs.StateSteps.{NeedsHit};
 
 use crate::held::Held;
 use crate::hit::{count_hits, is_any_hit, is_hit};
@@ -15,6 +16,21 @@ use crate::pieces::put_pieces;
 use crate::shape::Shape;
 use bt_bed::{BedRef, Rec, put_bed, put_cut};
 use bt_lines::{Fault, Out, Sink, put_number};
+
+// Whether a record that nothing hits has no line in this shape.
+pub(crate) fn needs_hit(shape: Shape) -> bool
+    ensures { IsTrue result → NeedsHit shape }
+{
+    match shape {
+        Shape::Cut
+        | Shape::OrigA
+        | Shape::CutAndB
+        | Shape::OrigBoth
+        | Shape::Overlap
+        | Shape::Once => { true }
+        Shape::Missing | Shape::Count | Shape::Pieces | Shape::Whole => false,
+    }
+}
 
 // Puts the lines of a record against these, which lie on its chromosome and come by their starts. It
 // takes no memory.

@@ -550,3 +550,5 @@ fn gives_what_the_plain_program_gives(rt: HostRuntime) -> Result<(), Fail> {
     }
     Ok(())
 }
+
+mod random;

@@ -1,6 +1,6 @@
 use Rattle.std.proofs.Common.{◌∙◌, ◌<◌, ◌≤◌, ◌+◌, ◌-◌, ◌*◌, ◌≡◌, length, get_or, sym, arith}
 use Rattle.bt_lines.proofs.NumberLemmas.{value_more, digits_more, value_below, value_short, digit_small}
-use Rattle.bt_bed.proofs.PlainLemmas.{digit_bound, leads_by}
+use Rattle.bt_bed.proofs.PlainLemmas.{begins_below, digit_bound, leads_by}
 use Rattle.bt_bed.proofs.plain.leading_number.Goals.{else-end-text-via-then-end-text+else-text-end-ne9, else-end-text-via-else-end-text}
 use Rattle.bt_bed.proofs.plain.leading_number.Goals as goal
 
@@ -13,6 +13,18 @@ overflow_add-value c =
     let low = digit_bound (get_or c.args.text.now c.loop-end.end 0) digit in
     let small = c.loop-end.invariant.small in
     omega (arith, c.from.ensures)
+
+pub loop-end-init : goal.loop-end-init
+loop-end-init c =
+    let first = c.first_digits-first.ensures in
+    let below = begins_below c.args.text.now c.first_digits-first.result first in
+    record {
+      value = first.value;
+      digits = first.digits;
+      below = below;
+      small = value_short c.first_digits-first.result.end c.first_digits-first.result.value below first.short;
+      within = let within = first.within in let short = first.short in omega (arith, c.min-most.ensures);
+    }
 
 pub loop-end-preserved : goal.loop-end-preserved
 loop-end-preserved c =

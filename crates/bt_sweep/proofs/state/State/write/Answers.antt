@@ -1,8 +1,12 @@
 use Rattle.std.proofs.Common.{ap, subst, sym, ◌∙◌}
 use Rattle.bt_sweep.specs.Held.{AreRising}
 use Rattle.bt_sweep.specs.Sweeping.{Sweeping}
-use Rattle.bt_sweep.proofs.StateLemmas.{stops_last, writes_last}
+use Rattle.bt_sweep.proofs.StateLemmas.{stops_last, writes_last, writes_none}
 use Rattle.bt_sweep.proofs.state.State.write.Goals as goal
+
+pub returns-then-len-eq0-clause-writes : goal.returns-then-len-eq0-clause-writes
+returns-then-len-eq0-clause-writes g c = λ a is rises.
+    writes_none _ c.args.self.now a c.args.out.now c.self.view_is (c.needs_hit.ensures c.if-needs_hit.true) (sym c.len.ensures ∙ c.if-len-eq0.true)
 
 pub returns-then-is_err-clause-writes : goal.returns-then-is_err-clause-writes
 returns-then-is_err-clause-writes g c = λ a is rises.

@@ -1,0 +1,91 @@
+-- Lemmas on tabs that are looked for in sixteen bytes at once.
+use Rattle.std.proofs.Common.{inl, inr, ◌≡◌, ℕ, zero, suc, ◌+◌, ◌-◌, ◌*◌, ◌/◌, ◌%◌, ◌^◌, ◌<◌, ◌≤◌, Bool, true, false, not, cond, eqb, List, [], ◌∷◌, length, take, drop, map, get_or, refl, sym, ap, ◌∙◌, subst, arith, shr-shr, length-take, length-drop}
+use Rattle.std.proofs.lemmas.Bool.{cases_lt, eqb-true}
+use Rattle.std.proofs.lemmas.List.{drop-drop, drop-take, get_or-drop, get_or-take}
+use Rattle.std.proofs.lemmas.Simd.{length-chunk, run_in_chunk_fails, run_in_chunk_le, run_in_chunk_stops, trailing_mask_l}
+use Rattle.std.proofs.lemmas.List.Sums.{prefix_len-le-length}
+use Rattle.std.specs.List.{prefix_len}
+use Rattle.std.specs.Simd.Lanes.{chunk, mask_l}
+use Rattle.bt_lines.specs.Lines.{pieces}
+use Rattle.bt_bed.proofs.Kept.{IsColumn}
+use Rattle.bt_bed.proofs.PlainLemmas.{cut_at}
+use Rattle.bt_bed.specs.Plain.{CutsTwo, is_tab}
+use lib.Count.{count_trailing_zeros}
+
+-- what is left of a mask without its lowest bits is that of the later bytes
+halved : (b : Bool) (n : ℕ) → (cond b 1 0 + 2 * n) / 2 ^ 1 ≡ n
+halved true n = omega arith
+halved false n = omega arith
+
+mask_behind : (xs : List ℕ) (k : ℕ) → mask_l (map is_tab xs) / 2 ^ k ≡ mask_l (map is_tab (drop k xs))
+mask_behind xs zero = omega arith
+mask_behind [] (suc k) = omega arith
+mask_behind (x ∷ xs) (suc k) =
+    ap (λ n. (cond (is_tab x) 1 0 + 2 * mask_l (map is_tab xs)) / 2 ^ n) (omega arith)
+    ∙ sym (shr-shr (cond (is_tab x) 1 0 + 2 * mask_l (map is_tab xs)) 1 k)
+    ∙ ap (λ n. n / 2 ^ k) (halved (is_tab x) (mask_l (map is_tab xs))) ∙ mask_behind xs k
+
+none_fails : (b : Bool) (n l m : ℕ) → n ≤ l → cond (not b) (1 + n) 0 ≡ 1 + l → (n ≡ l → m ≡ 0) → cond b 1 0 + 2 * m ≡ 0
+none_fails true n l m le e none = absurd (omega arith)
+none_fails false n l m le e none = let z = none (omega arith) in omega arith
+
+no_tabs : (xs : List ℕ) → prefix_len (λ x. not (is_tab x)) xs ≡ length xs → mask_l (map is_tab xs) ≡ 0
+no_tabs [] e = refl
+no_tabs (x ∷ xs) e = none_fails (is_tab x) _ (length xs) _ (prefix_len-le-length (λ y. not (is_tab y)) xs) (omega arith) (no_tabs xs)
+
+-- the first tab of so many bytes stands here
+record IsFirstTab (text : List ℕ) (i n at : ℕ) : Type 0 where
+  inside : at < n
+  tab : get_or text (i + at) 0 ≡ 9
+  none : (k d : ℕ) → i ≤ k → k < i + at → eqb (get_or text k d) 9 ≡ false
+
+first_tab_is : (text : List ℕ) (i n m at : ℕ) → i + n ≤ length text → n ≤ 64 → m ≡ mask_l (map is_tab (chunk i n text)) → 0 < m → at ≡ count_trailing_zeros 64 m → IsFirstTab text i n at
+first_tab_is text i n m at room small e some is =
+    let c = chunk i n text in
+    let size : length c ≡ n = length-chunk i n text room in
+    let counted : at ≡ prefix_len (λ x. not (is_tab x)) c = is ∙ ap (count_trailing_zeros 64) e ∙ trailing_mask_l is_tab 64 c (omega arith) (rw e at some) in
+    let most = run_in_chunk_le is_tab text i n at 0 room counted in
+    let inside : at < n = elim (cases_lt at n) [
+      | inl below ↦ below
+      | inr past ↦ let all : prefix_len (λ x. not (is_tab x)) c ≡ length c = omega arith in let none = no_tabs c all in absurd (omega arith)
+    ] in
+    record {
+      inside = inside;
+      tab = eqb-true _ 9 (run_in_chunk_stops is_tab text i n at 0 room counted inside);
+      none = λ k d. run_in_chunk_fails is_tab text i n at d room counted k;
+    }
+
+-- a tab with none before it parts the first column from the others
+column_by : (text : List ℕ) (n : ℕ) → n ≤ length text → ((k d : ℕ) → k < n → eqb (get_or text k d) 9 ≡ false) → IsColumn (take n text)
+column_by text n within none = λ k d h.
+    let below : k < n = omega (arith, length-take n text) in
+    ap (λ (b : ℕ). eqb b 9) (get_or-take n text k d below) ∙ none k d below
+
+-- the first tab, and the first of those behind it
+pub second_tab_is : (text : List ℕ) (tabs first others second : ℕ) → 16 ≤ length text → tabs ≡ mask_l (map is_tab (chunk 0 16 text)) → 0 < tabs → first ≡ count_trailing_zeros 64 tabs
+    → others ≡ tabs / 2 ^ (first + 1) → 0 < others → second ≡ count_trailing_zeros 64 others → CutsTwo text (first + 1 + second)
+second_tab_is text tabs first others second room is some at rest more next =
+    let one = first_tab_is text 0 16 tabs first room (omega arith) is some at in
+    let within = one.inside in
+    let whole : first + 1 + (16 - (first + 1)) ≡ 16 = omega arith in
+    let left : chunk (first + 1) (16 - (first + 1)) text ≡ drop (first + 1) (chunk 0 16 text) = sym (subst (λ (n : ℕ). drop (first + 1) (take n text) ≡ take (16 - (first + 1)) (drop (first + 1) text)) whole (drop-take (first + 1) (16 - (first + 1)) text)) in
+    let behind : others ≡ mask_l (map is_tab (chunk (first + 1) (16 - (first + 1)) text)) =
+    rest ∙ ap (λ n. n / 2 ^ (first + 1)) is ∙ mask_behind (chunk 0 16 text) (first + 1) ∙ ap (λ l. mask_l (map is_tab l)) (sym left) in
+    let two = first_tab_is text (first + 1) (16 - (first + 1)) others second (omega arith) (omega arith) behind more next in
+    let inside = two.inside in
+    let tail = drop (first + 1) text in
+    let size : length tail ≡ length text - (first + 1) = length-drop (first + 1) text in
+    let cut_first = cut_at text first (omega arith) (ap (λ n. get_or text n 0) (omega arith) ∙ one.tab) (column_by text first (omega arith) (λ k d below. one.none k d (omega arith) (omega arith))) in
+    let cut_second = cut_at tail second (omega arith) (get_or-drop (first + 1) text second 0 ∙ two.tab)
+    (column_by tail second (omega arith) (λ k d below. ap (λ (b : ℕ). eqb b 9) (get_or-drop (first + 1) text k d) ∙ two.none (first + 1 + k) d (omega arith) (omega arith))) in
+    let last : drop (second + 1) tail ≡ drop (first + 1 + second + 1) text = drop-drop (second + 1) (first + 1) text ∙ ap (λ n. drop n text) (omega arith) in
+    record {
+      within = omega arith;
+      first = take first text;
+      second = take second tail;
+      cut = cut_first ∙ ap (λ l. take first text ∷ l) (cut_second ∙ ap (λ l. take second tail ∷ pieces 9 l) last);
+    }
+
+-- it is among so many
+pub first_tab_inside : (text : List ℕ) (tabs : ℕ) → 16 ≤ length text → tabs ≡ mask_l (map is_tab (chunk 0 16 text)) → 0 < tabs → count_trailing_zeros 64 tabs < 16
+first_tab_inside text tabs room is some = (first_tab_is text 0 16 tabs _ room (omega arith) is some refl).inside

@@ -1,0 +1,8 @@
+use Rattle.std.proofs.Common.{arith, length, take, sym, refl, ◌≡◌, ◌∙◌}
+use Rattle.bt_lines.proofs.NumberLemmas.{digits_denoting}
+use Rattle.bt_bed.proofs.plain.first_digits.Goals as goal
+
+pub returns-in-Some : goal.returns-in-Some
+returns-in-Some c =
+    let is = digits_denoting (take 8 c.args.text.now) c.in-Some.value c.in-Some.ensures.1 in
+    record { within = c.in-Some.ensures.0; short = omega arith; digits = is.0; value = is.1 }

@@ -1,0 +1,11 @@
+-- Strands of features (UCSC BED description, field strand).
+use Rattle.std.specs.Prelude.{Bool, true, false}
+use Rattle.bt_bed.specs.declared.strand.Strand.{Strand}
+use Rattle.bt_bed.specs.declared.strand.Strand.TheVariants.{Plus, Minus, Dot}
+
+-- whether two strands are one; none is one with none
+abbrev pub is_strand : Strand → Strand → Bool
+is_strand Plus Plus = true
+is_strand Minus Minus = true
+is_strand Dot Dot = true
+is_strand _ _ = false

@@ -1,0 +1,144 @@
+use super::*;
+
+// Numbers that look random, by a linear congruence.
+#[derive(Drop)]
+struct Numbers {
+    state: u32,
+}
+
+impl Numbers {
+    // The next number below a limit.
+    fn below(&mut self, limit: u64) -> u64 {
+        self.state = self
+            .state
+            .wrapping_mul(1_664_525)
+            .wrapping_add(1_013_904_223);
+        if limit == 0 {
+            return 0;
+        }
+        u64::from(self.state >> 16) % limit
+    }
+}
+
+// Up to four short records on each chromosome, by their starts, all from a place on.
+fn lines_from(alloc: Global, numbers: &mut Numbers, place: u64) -> Result<Vec<String>, Fail> {
+    let mut lines = Vec::new(alloc);
+    for chrom in ["chr1", "chr2"] {
+        let mut start = place;
+        for _ in 0..numbers.below(5) {
+            start = start.saturating_add(numbers.below(6));
+            let stop = start.saturating_add(numbers.below(9)).saturating_add(1);
+            let strand = match numbers.below(3) {
+                0 => "+",
+                1 => "-",
+                _ => ".",
+            };
+            let line = format!(in alloc; "{chrom}\t{start}\t{stop}\tn\t0\t{strand}")?;
+            lines.push(line)?;
+        }
+    }
+    Ok(lines)
+}
+
+// The bytes of these lines.
+fn bytes_of(alloc: Global, lines: &[String]) -> Result<Vec<&[u8]>, AllocError> {
+    let mut views = Vec::new(alloc);
+    for line in lines {
+        views.push(line.as_bytes())?;
+    }
+    Ok(views)
+}
+
+const RULES: [HitRule; 5] = [
+    HitRule {
+        billionths: 0,
+        both: false,
+        same_strand: false,
+    },
+    HitRule {
+        billionths: 500_000_000,
+        both: false,
+        same_strand: false,
+    },
+    HitRule {
+        billionths: 333_333_333,
+        both: true,
+        same_strand: false,
+    },
+    HitRule {
+        billionths: 0,
+        both: false,
+        same_strand: true,
+    },
+    HitRule {
+        billionths: 250_000_000,
+        both: true,
+        same_strand: true,
+    },
+];
+
+// Whether a sweep over two inputs writes what the plain program does.
+fn is_plain<O: ChromOrder>(
+    rt: &HostRuntime,
+    order: &O,
+    how: (Shape, HitRule),
+    first: &[&[u8]],
+    second: &[&[u8]],
+) -> Result<bool, AllocError> {
+    let (shape, rule) = how;
+    let records = records_of(rt.alloc(), first)?;
+    let others = records_of(rt.alloc(), second)?;
+    let want = plain_intersect(
+        rt.alloc(),
+        shape,
+        rule,
+        records.as_slice(),
+        others.as_slice(),
+    )?;
+    let mut sweep = Sweep::new(rt.alloc(), HeldList::new(rt.alloc()), shape, rule, order);
+    let mut out = Out::new(ScriptSink::new(rt.alloc(), 8192, None));
+    let swept = sweep_all(&mut sweep, first, second, &mut out);
+    let ended = swept.is_ok() && out.flush().is_ok();
+    Ok(ended && out.into_sink().taken() == want.as_slice())
+}
+
+// The first shape and rule by which a sweep writes something else.
+fn first_not_plain<O: ChromOrder>(
+    rt: &HostRuntime,
+    order: &O,
+    shapes: &[Shape],
+    first: &[&[u8]],
+    second: &[&[u8]],
+) -> Result<Option<(Shape, HitRule)>, AllocError> {
+    for shape in shapes {
+        for rule in &RULES {
+            if !is_plain(rt, order, (*shape, *rule), first, second)? {
+                return Ok(Some((*shape, *rule)));
+            }
+        }
+    }
+    Ok(None)
+}
+
+// Small inputs in all shapes, by rules of fractions and strands. The plain program goes over all positions
+// up to a record's end for its pieces, so it isn't asked for those at the greatest positions.
+#[test]
+fn small_inputs_give_what_the_plain_program_gives(rt: HostRuntime) -> Result<(), Fail> {
+    let Ok(genome) = read_genome(rt.alloc()) else {
+        assert!(rt; false);
+        return Ok(());
+    };
+    let alloc = rt.alloc();
+    let mut numbers = Numbers { state: 1 };
+    for (place, shapes) in [(0, &SHAPES[..]), (999_999_999_900, &SHAPES[..8])] {
+        for _ in 0..40 {
+            let first = lines_from(alloc, &mut numbers, place)?;
+            let second = lines_from(alloc, &mut numbers, place)?;
+            let first = bytes_of(alloc, first.as_slice())?;
+            let second = bytes_of(alloc, second.as_slice())?;
+            let found = first_not_plain(&rt, &genome, shapes, first.as_slice(), second.as_slice())?;
+            assert_eq!(rt; found, None);
+        }
+    }
+    Ok(())
+}
