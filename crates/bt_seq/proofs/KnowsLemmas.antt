@@ -8,16 +8,16 @@ use Rattle.bt_seq.specs.Owners.{goes_on, left_after, left_by, names_behind}
 use Rattle.bt_seq.specs.declared.matching.Owner.{Owner}
 use Rattle.bt_seq.specs.declared.matching.Owner.TheVariants.{Own, Earlier, Nobody}
 
-last_goes_on : (records : List Feature) (r : Feature) → is_it (last_chrom records) r.chrom ≡ goes_on records r
+pub last_goes_on : (records : List Feature) (r : Feature) → is_it (last_chrom records) r.chrom ≡ goes_on records r
 last_goes_on [] r = refl
 last_goes_on (s ∷ []) r = refl
 last_goes_on (s ∷ t ∷ ss) r = last_goes_on (t ∷ ss) r
 
 -- the owner, once it is known whether the record goes on with the last block
-abbrev found_by : (own goes is_name : Bool) → Owner
+abbrev pub found_by : (own goes is_name : Bool) → Owner
 found_by own goes is_name = cond goes (cond own Own Earlier) (cond (not own && is_name) Own Nobody)
 
-owner_is : (m : Matched) (chrom : List ℕ) (own goes : Bool) → is_it m.last chrom ≡ goes → m.own ≡ own → owner_of m chrom ≡ found_by own goes (is_it m.name chrom)
+pub owner_is : (m : Matched) (chrom : List ℕ) (own goes : Bool) → is_it m.last chrom ≡ goes → m.own ≡ own → owner_of m chrom ≡ found_by own goes (is_it m.name chrom)
 owner_is m chrom own goes e o = rw (e, o) refl
 
 some_left : (front : List (List ℕ)) (name : List ℕ) → Earlier ≡ owner_by (Some (front ++ name ∷ []))

@@ -5,16 +5,16 @@ use Rattle.bt_bed.specs.Feature.{Feature}
 use Rattle.bt_seq.specs.Owners.{Block, block_with, blocks_by, goes_on, left_at_last, left_by, next_goes_on_or_begins, owned_from}
 
 -- whether there is a last chromosome, and it is this one
-abbrev is_last : Option (List ℕ) → List ℕ → Bool
+abbrev pub is_last : Option (List ℕ) → List ℕ → Bool
 is_last None name = false
 is_last (Some last) name = bytes_eq last name
 
 -- what a record leaves behind these names and the last chromosome
-abbrev one_leaves : Option (List (List ℕ)) → Option (List ℕ) → Feature → Option (List (List ℕ))
+abbrev pub one_leaves : Option (List (List ℕ)) → Option (List ℕ) → Feature → Option (List (List ℕ))
 one_leaves left last r = cond (is_last last r.chrom) left (left_by left r.chrom)
 
 -- what records leave, one after another
-abbrev leave : Option (List (List ℕ)) → Option (List ℕ) → List Feature → Option (List (List ℕ))
+abbrev pub leave : Option (List (List ℕ)) → Option (List ℕ) → List Feature → Option (List (List ℕ))
 leave left last [] = left
 leave left last (r ∷ rs) = leave (one_leaves left last r) (Some r.chrom) rs
 

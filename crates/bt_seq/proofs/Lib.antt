@@ -15,3 +15,13 @@ pub mod LeftLemmas
 pub mod QuietLemmas
 pub mod KnowsLemmas
 pub mod HeldLemmas
+pub mod TagLemmas
+pub mod MaskFrontLemmas
+pub mod MaskMetLemmas
+pub mod NextLemmas
+pub mod CountLemmas
+pub mod KnownLemmas
+pub mod StandLemmas
+pub mod LineStepLemmas
+pub mod BedStepLemmas
+pub mod PlainMaskLemmas

@@ -12,58 +12,52 @@ use Rattle.bt_lines.proofs.PuttingLemmas.{cut_off, fails_before, fails_behind, f
 use Rattle.bt_seq.specs.Alignment.{Alignment}
 use Rattle.bt_seq.specs.BedLines.{bed_line, text_if}
 use Rattle.bt_seq.specs.SamBlocks.{span_given}
-use Rattle.bt_seq.specs.LineEnds.{line_tail, name_end, quality_end}
+use Rattle.bt_seq.specs.LineEnds.{bounds_text, line_tail, marks, quality_text}
 
 -- the pieces of a line
-line_parts : (with_cigar : Bool) (a : Alignment) (s : Span)
-    → (a.chrom ++ codes "\t") ++ ((decimal s.start ++ codes "\t") ++ ((decimal s.stop ++ codes "\t") ++ ((a.name ++ name_end a.first a.last) ++ line_tail with_cigar a))) ≡ bed_line with_cigar a s
+line_parts : (with_cigar : Bool) (a : Alignment) (s : Span) → a.chrom ++ (bounds_text s.start s.stop ++ (a.name ++ line_tail with_cigar a)) ≡ bed_line with_cigar a s
 line_parts true a s = simp append_assoc
 line_parts false a s = simp append_assoc
 
 module _ (with_cigar : Bool) (a : Alignment) where
   -- the tail was cut off before the CIGAR
-  pub tail_cut : (end : List ℕ) (old new : Output) (fault : Told) → end ≡ quality_end a.reverse with_cigar → FailsToPut old (decimal a.quality ++ end) fault new → FailsToPut old (line_tail with_cigar a) fault new
-  tail_cut end old new fault e p =
-      fails_before old new (decimal a.quality ++ quality_end a.reverse with_cigar) (text_if with_cigar (a.cigar ++ codes "\n")) fault
-      (subst (λ l. FailsToPut old (decimal a.quality ++ l) fault new) e p)
+  pub tail_cut : (piece : List ℕ) (old new : Output) (fault : Told) → piece ≡ marks a.first a.last ++ quality_text with_cigar a → FailsToPut old piece fault new → FailsToPut old (line_tail with_cigar a) fault new
+  tail_cut piece old new fault e p =
+      fails_before old new (marks a.first a.last ++ quality_text with_cigar a) (text_if with_cigar (a.cigar ++ codes "\n")) fault (subst (λ l. FailsToPut old l fault new) e p)
 
-  pub tail_puts : {A : Type 0} (end : List ℕ) (old mid new : Output) (result : Result A Fault) → end ≡ quality_end a.reverse with_cigar → with_cigar ≡ true
-      → PutsAll old (decimal a.quality ++ end) mid → Puts mid (a.cigar ++ codes "\n") result new → Puts old (line_tail with_cigar a) result new
-  tail_puts end old mid new result e asked p q =
-      puts_more old mid new (decimal a.quality ++ quality_end a.reverse with_cigar) (text_if with_cigar (a.cigar ++ codes "\n")) result
-      (subst (λ l. PutsAll old (decimal a.quality ++ l) mid) e p)
+  pub tail_alone : {A : Type 0} (piece : List ℕ) (old new : Output) (result : Result A Fault) → piece ≡ marks a.first a.last ++ quality_text with_cigar a → with_cigar ≡ false → Puts old piece result new → Puts old (line_tail with_cigar a) result new
+  tail_alone piece old new result e unasked p =
+      subst (λ l. Puts old l result new) (e ∙ sym (append-nil (marks a.first a.last ++ quality_text with_cigar a)) ∙ ap (λ b. (marks a.first a.last ++ quality_text with_cigar a) ++ text_if b (a.cigar ++ codes "\n")) (sym unasked)) p
+
+  pub tail_puts : {A : Type 0} (piece : List ℕ) (old mid new : Output) (result : Result A Fault) → piece ≡ marks a.first a.last ++ quality_text with_cigar a → with_cigar ≡ true
+      → PutsAll old piece mid → Puts mid (a.cigar ++ codes "\n") result new → Puts old (line_tail with_cigar a) result new
+  tail_puts piece old mid new result e asked p q =
+      puts_more old mid new (marks a.first a.last ++ quality_text with_cigar a) (text_if with_cigar (a.cigar ++ codes "\n")) result
+      (subst (λ l. PutsAll old l mid) e p)
       (subst (λ b. Puts mid (text_if b (a.cigar ++ codes "\n")) result new) (sym asked) q)
 
   -- the line was cut off in one of its pieces
   module _ (s : Span) (o : Output) (fault : Told) where
-    whole : (new : Output) → FailsToPut o ((a.chrom ++ codes "\t") ++ ((decimal s.start ++ codes "\t") ++ ((decimal s.stop ++ codes "\t") ++ ((a.name ++ name_end a.first a.last) ++ line_tail with_cigar a)))) fault new
-        → FailsToPut o (bed_line with_cigar a s) fault new
+    whole : (new : Output) → FailsToPut o (a.chrom ++ (bounds_text s.start s.stop ++ (a.name ++ line_tail with_cigar a))) fault new → FailsToPut o (bed_line with_cigar a s) fault new
     whole new p = subst (λ l. FailsToPut o l fault new) (line_parts with_cigar a s) p
 
-    pub cut_first : (p : Output) → FailsToPut o (a.chrom ++ codes "\t") fault p → FailsToPut o (bed_line with_cigar a s) fault p
+    pub cut_first : (p : Output) → FailsToPut o a.chrom fault p → FailsToPut o (bed_line with_cigar a s) fault p
     cut_first p x = whole p (fails_before o p _ _ fault x)
 
-    pub cut_second : (p q : Output) → PutsAll o (a.chrom ++ codes "\t") p → FailsToPut p (decimal s.start ++ codes "\t") fault q → FailsToPut o (bed_line with_cigar a s) fault q
+    pub cut_second : (p q : Output) → PutsAll o a.chrom p → FailsToPut p (bounds_text s.start s.stop) fault q → FailsToPut o (bed_line with_cigar a s) fault q
     cut_second p q x y = whole q (fails_behind o p q _ _ fault x (fails_before p q _ _ fault y))
 
-    pub cut_third : (p q r : Output) → PutsAll o (a.chrom ++ codes "\t") p → PutsAll p (decimal s.start ++ codes "\t") q → FailsToPut q (decimal s.stop ++ codes "\t") fault r → FailsToPut o (bed_line with_cigar a s) fault r
+    pub cut_third : (p q r : Output) → PutsAll o a.chrom p → PutsAll p (bounds_text s.start s.stop) q → FailsToPut q a.name fault r → FailsToPut o (bed_line with_cigar a s) fault r
     cut_third p q r x y z = whole r (fails_behind o p r _ _ fault x (fails_behind p q r _ _ fault y (fails_before q r _ _ fault z)))
 
-    pub cut_fourth : (end : List ℕ) (p q r t : Output) → end ≡ name_end a.first a.last → PutsAll o (a.chrom ++ codes "\t") p → PutsAll p (decimal s.start ++ codes "\t") q → PutsAll q (decimal s.stop ++ codes "\t") r
-        → FailsToPut r (a.name ++ end) fault t → FailsToPut o (bed_line with_cigar a s) fault t
-    cut_fourth end p q r t e x y z w =
-        whole t (fails_behind o p t _ _ fault x (fails_behind p q t _ _ fault y (fails_behind q r t _ _ fault z (fails_before r t _ _ fault (subst (λ l. FailsToPut r (a.name ++ l) fault t) e w)))))
-
-  pub puts_line : {A : Type 0} (s : Span) (end : List ℕ) (o p q r t new : Output) (result : Result A Fault) → end ≡ name_end a.first a.last → PutsAll o (a.chrom ++ codes "\t") p → PutsAll p (decimal s.start ++ codes "\t") q
-      → PutsAll q (decimal s.stop ++ codes "\t") r → PutsAll r (a.name ++ end) t → Puts t (line_tail with_cigar a) result new → Puts o (bed_line with_cigar a s) result new
-  puts_line s end o p q r t new result e x y z w v =
-      subst (λ l. Puts o l result new) (line_parts with_cigar a s)
-      (puts_more o p new _ _ result x (puts_more p q new _ _ result y (puts_more q r new _ _ result z (puts_more r t new _ _ result (subst (λ l. PutsAll r (a.name ++ l) t) e w) v))))
+  pub puts_line : {A : Type 0} (s : Span) (o p q r new : Output) (result : Result A Fault) → PutsAll o a.chrom p → PutsAll p (bounds_text s.start s.stop) q → PutsAll q a.name r → Puts r (line_tail with_cigar a) result new → Puts o (bed_line with_cigar a s) result new
+  puts_line s o p q r new result x y z v =
+      subst (λ l. Puts o l result new) (line_parts with_cigar a s) (puts_more o p new _ _ result x (puts_more p q new _ _ result y (puts_more q r new _ _ result z v)))
 
   pub line_has_bytes : (s : Span) → bed_line with_cigar a s ≡ [] → ⊥
   line_has_bytes s e =
       let size : length (bed_line with_cigar a s) ≡ 0 = ap length e in
-      absurd (omega (arith, ap length (sym (line_parts with_cigar a s)), length-append (a.chrom ++ codes "\t") ((decimal s.start ++ codes "\t") ++ ((decimal s.stop ++ codes "\t") ++ ((a.name ++ name_end a.first a.last) ++ line_tail with_cigar a))), length-append a.chrom (codes "\t")))
+      absurd (omega (arith, ap length (sym (line_parts with_cigar a s)), length-append a.chrom (bounds_text s.start s.stop ++ (a.name ++ line_tail with_cigar a))))
 
   -- the lines of blocks
   abbrev pub lines_of : List Span → List ℕ

@@ -23,3 +23,6 @@ pub mod Window
 pub mod Masking
 pub mod Held
 pub mod Knows
+pub mod MaskStanding
+pub mod MaskFronts
+pub mod MaskSteps

@@ -1,16 +1,24 @@
--- What stands behind the columns of an alignment's line.
+-- The pieces of an alignment's line between and behind its columns of text.
 use Rattle.std.specs.Prelude.{ℕ, Bool, List, ◌++◌, codes, decimal, if◌then◌else◌}
 use Rattle.bt_seq.specs.Alignment.{Alignment}
 use Rattle.bt_seq.specs.BedLines.{strand_sign, text_if}
 
+-- between chromosome and name
+abbrev pub bounds_text : ℕ → ℕ → List ℕ
+bounds_text start stop = codes "\t" ++ (decimal start ++ (codes "\t" ++ (decimal stop ++ codes "\t")))
+
 -- behind the name of the read
-abbrev pub name_end : Bool → Bool → List ℕ
-name_end first last = text_if first (codes "/1") ++ (text_if last (codes "/2") ++ codes "\t")
+abbrev pub marks : Bool → Bool → List ℕ
+marks first last = text_if first (codes "/1") ++ text_if last (codes "/2")
 
--- behind the mapping quality, where the CIGAR isn't asked for, and where it is
-abbrev pub quality_end : Bool → Bool → List ℕ
-quality_end reverse with_cigar = codes "\t" ++ (strand_sign reverse ++ (if with_cigar then codes "\t" else codes "\n"))
+-- behind the strand, where the CIGAR is asked for, and where it isn't
+abbrev pub end_sign : Bool → List ℕ
+end_sign with_cigar = if with_cigar then codes "\t" else codes "\n"
 
--- from the mapping quality on
+-- behind the marks
+abbrev pub quality_text : Bool → Alignment → List ℕ
+quality_text with_cigar a = codes "\t" ++ (decimal a.quality ++ (codes "\t" ++ (strand_sign a.reverse ++ end_sign with_cigar)))
+
+-- from the marks on
 abbrev pub line_tail : Bool → Alignment → List ℕ
-line_tail with_cigar a = (decimal a.quality ++ quality_end a.reverse with_cigar) ++ text_if with_cigar (a.cigar ++ codes "\n")
+line_tail with_cigar a = (marks a.first a.last ++ quality_text with_cigar a) ++ text_if with_cigar (a.cigar ++ codes "\n")

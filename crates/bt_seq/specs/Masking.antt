@@ -150,15 +150,3 @@ ChecksBed old r line (Ok done) new =
     has_owner (owner_of old.matched r.chrom) × (new ≡ with_owner old r.chrom)
 ChecksBed old r line (Err fault) new =
     (owner_of old.matched r.chrom ≡ Nobody) × (told fault ≡ fault_at_line Second line NoSequence) × (new.want ≡ Nothing)
-
--- an answer that is no fault says that the record was taken
-abbrev pub taken_if_ok : Result Taken Fault → Type 0
-taken_if_ok (Ok taken) = taken ≡ Yes
-taken_if_ok (Err fault) = ⊤
-
--- a record that neither decides the line that waits nor has to be held is taken, and nothing is written
-abbrev pub quiet_records_are_taken : Type 0
-quiet_records_are_taken = (old : Masking) (line : Waiting) (r : Feature) (out : Output)
-    (answer : Result Taken Fault) (new : Masking) (grown : Output)
-    → TakesBed old line r out answer new grown → decides old r ≡ false → holds old r ≡ false
-    → (answer ≡ Ok Yes) × (grown ≡ out)

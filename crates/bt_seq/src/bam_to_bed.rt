@@ -18,8 +18,11 @@ use std::marker::Model;
 /// and end are zero-based, and the end isn't included.
 #[derive(Drop, Debug)]
 pub struct BamToBed {
+    // Whether alignments are cut into blocks.
     split: bool,
+    // Whether the CIGAR is a further column.
     with_cigar: bool,
+    // Whether a write has failed; it stays so.
     has_failed: bool,
 }
 

@@ -2,13 +2,14 @@
 
 ghost use Rattle.std.specs.Prelude.{◌≡◌, length, nat_le, option_map};
 ghost use Rattle.bt_lines.specs.Lines.{pieces};
+ghost use Rattle.memchr.specs.Find.{IsFirstByte, is_byte};
 ghost use Rattle.bt_seq.specs.Alignment.{fields_of};
 ghost use Rattle.bt_seq.specs.Sam.{IsCut, fields_lent};
 
 use bstr::ByteSlice;
 
-// How many columns there are at least behind CIGAR: RNEXT, PNEXT, TLEN, SEQ and QUAL.
-const COUNTED: usize = 5;
+// How many columns there are at least between CIGAR and SEQ: RNEXT, PNEXT and TLEN.
+const SHORT: usize = 3;
 
 // QNAME, FLAG, RNAME, POS, MAPQ and CIGAR as they stand (SAM specification, section 1.4).
 #[derive(Clone, Copy, Debug)]
@@ -25,12 +26,12 @@ pub(crate) struct Fields<'a> {
 pub(crate) fn first_fields(text: &[u8]) -> Option<Fields<'_>>
     ensures { option_map fields_lent result ≡ fields_of (pieces 9 text.now) }
 {
-    let (name, rest) = cut_column(text)?;
-    let (flag, rest) = cut_column(rest)?;
-    let (chrom, rest) = cut_column(rest)?;
-    let (position, rest) = cut_column(rest)?;
-    let (quality, rest) = cut_column(rest)?;
-    let (cigar, rest) = cut_column(rest)?;
+    let (name, rest) = cut_short(text)?;
+    let (flag, rest) = cut_short(rest)?;
+    let (chrom, rest) = cut_short(rest)?;
+    let (position, rest) = cut_short(rest)?;
+    let (quality, rest) = cut_short(rest)?;
+    let (cigar, rest) = cut_short(rest)?;
     if !has_counted(rest) {
         return None;
     }
@@ -44,24 +45,47 @@ pub(crate) fn first_fields(text: &[u8]) -> Option<Fields<'_>>
     })
 }
 
-// Whether a text has so many columns at least.
+// Whether a text has five columns at least, of which the first three are short.
 fn has_counted(text: &[u8]) -> bool
     ensures { result ≡ nat_le 5 (length (pieces 9 text.now)) }
 {
     let mut rest = text;
-    for _column in 1..COUNTED {
-        let Some((_, behind)) = cut_column(rest) else {
+    for _column in 0..SHORT {
+        let Some((_, behind)) = cut_short(rest) else {
             return false;
         };
         rest = behind;
     }
-    true
+    has_tab(rest)
+}
+
+// Whether a text has two columns at least. The last tab is looked for: it is mostly nearer to its end
+// than the first is to the start.
+fn has_tab(text: &[u8]) -> bool
+    ensures { result ≡ nat_le 2 (length (pieces 9 text.now)) }
+{
+    text.rfind_byte(b'\t').is_some()
 }
 
 // The first column of a text, and what stands behind its tab, if it has one.
-fn cut_column(text: &[u8]) -> Option<(&[u8], &[u8])>
+fn cut_short(text: &[u8]) -> Option<(&[u8], &[u8])>
     ensures { IsCut text.now result }
 {
-    let end = text.find_byte(b'\t')?;
+    let end = first_tab(text)?;
     Some((&text[..end], &text[end + 1..]))
+}
+
+// Where the first tab of a text stands. It is looked for byte by byte, which for a short column takes
+// less time than `find_byte`.
+fn first_tab(text: &[u8]) -> Option<usize>
+    ensures { IsFirstByte (is_byte 9) text.now result }
+{
+    let mut end = 0;
+    while end < text.len() {
+        if text[end] == b'\t' {
+            return Some(end);
+        }
+        end += 1;
+    }
+    None
 }

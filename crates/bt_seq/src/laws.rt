@@ -8,7 +8,8 @@ ghost use Rattle.bt_seq.specs.Cigar.{division_is_found, division_is_one, length_
 ghost use Rattle.bt_bed.specs.LineKind.{fault_at_line};
 ghost use Rattle.bt_seq.specs.Held.{held_mask_alone};
 ghost use Rattle.bt_seq.specs.Knows.{owners_are_found};
-ghost use Rattle.bt_seq.specs.Masking.{quiet_records_are_taken};
+ghost use Rattle.bt_seq.specs.MaskFronts.{decided_lines_stay, faultless_are_masked, first_unowned_is_told, masked_are_a_front, masked_lines_are_before, masked_lines_stay, owned_lack_none};
+ghost use Rattle.bt_seq.specs.MaskSteps.{quiet_records_are_taken};
 ghost use Rattle.bt_seq.specs.Masked.{mask_texts};
 ghost use Rattle.bt_seq.specs.Owners.{blocks_are_maximal_runs, next_goes_on_or_begins};
 ghost use Rattle.bt_seq.specs.SamKind.{sam_kinds_are_of_lines, wrong_have_sam_kinds};
@@ -103,6 +104,27 @@ pub fn quiet_records_are_taken()
 /// What is known line by line and record by record tells the sequence of a block.
 pub fn owners_of_blocks_are_found()
     ensures { owners_are_found }
+{}
+
+/// A line that is decided stays decided, and masked as it is, whatever comes after in order: the record
+/// that decides it included.
+pub fn decided_lines_stay()
+    ensures decided { decided_lines_stay }
+    ensures masked { masked_lines_stay }
+    ensures before { masked_lines_are_before }
+{}
+
+/// What is written for a front of both inputs begins what is written for the whole of them. Where the
+/// second input has no fault, all lines are written, masked.
+pub fn masked_fronts_begin()
+    ensures front { masked_are_a_front }
+    ensures faultless { faultless_are_masked }
+{}
+
+/// The first record whose block belongs to no sequence is told, if there is one.
+pub fn first_unowned_is_told()
+    ensures none { owned_lack_none }
+    ensures first { first_unowned_is_told }
 {}
 
 /// The records held by a line mask it as all records of the input do.

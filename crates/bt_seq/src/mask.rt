@@ -1,9 +1,11 @@
 //! The engine of `bedtools maskfasta`.
 
-ghost use Rattle.std.specs.Prelude.{◌≡◌, None, Some, [], false, true, cond, length, IsOk};
+ghost use Rattle.std.specs.Prelude.{◌≡◌, Bool, None, OnErr, Some, false, length};
 ghost use Rattle.bt_bed.specs.Bed.{feature_lent};
-ghost use Rattle.bt_seq.specs.Masking.{ChecksBed, TakesBed, TakesLine, Waiting, Writes, taken_if_ok};
-ghost use Rattle.bt_seq.specs.Window.{no_bases};
+ghost use Rattle.bt_lines.specs.Given.{line_seen};
+ghost use Rattle.bt_seq.specs.MaskStanding.{IsNext, MaskStage, MaskStandsAt, first_stage, given, held_by, line_given_last, want_at, with_lines_ended};
+ghost use Rattle.bt_seq.specs.MaskSteps.{ChecksRecord, EndsCheck, EndsRecords, GivesNextLine, GivesBed};
+ghost use Rattle.bt_seq.specs.Sequences.{SequenceLine};
 
 use crate::mask_how::MaskHow;
 use crate::mask_state::MaskState;
@@ -21,6 +23,7 @@ use std::marker::Model;
 /// sequence's block those that reach into it. A first fault ends it: then it asks for nothing.
 #[derive(Drop)]
 pub struct Mask {
+    // After a fault it asks for nothing.
     state: MaskState,
 }
 
@@ -36,15 +39,7 @@ impl Mask {
     /// An engine that was given nothing. With `full` a sequence's name is its whole header, and else
     /// what stands before the first space or tab. It takes no memory.
     pub fn new(alloc: Global, how: MaskHow, full: bool) -> Mask
-        ensures { result ≡ record {
-          how = how;
-          full = full;
-          matched = record { name = None; last = None; own = false };
-          window = no_bases;
-          waiting = None;
-          want = MaskWant.Line;
-          bed_ended = false;
-        } }
+        ensures stands { MaskStandsAt how full first_stage result }
     {
         Mask {
             state: MaskState::new(alloc, how, full),
@@ -53,7 +48,9 @@ impl Mask {
 
     /// What it asks for next.
     pub fn want(&self) -> MaskWant
-        ensures { result ≡ self.now.want }
+        ensures is { result ≡ self.now.want }
+        ensures stage { (how : MaskHow) (full : Bool) (stage : MaskStage)
+            → MaskStandsAt how full stage self.now → result ≡ want_at stage }
     {
         self.state.want()
     }
@@ -61,7 +58,9 @@ impl Mask {
     /// How many records it holds: those of the sequence's block that start before the end of the line
     /// given last and reach past its start.
     pub fn kept_len(&self) -> usize
-        ensures { result ≡ length self.now.window.held }
+        ensures stage { (how : MaskHow) (full : Bool) (stage : MaskStage)
+            → MaskStandsAt how full stage self.now → stage.lines_ended ≡ false
+            → result ≡ length (held_by (line_given_last (given stage)) stage.taken) }
     {
         self.state.kept_len()
     }
@@ -72,8 +71,9 @@ impl Mask {
     /// where it can't be written.
     pub fn give_line<K: Sink>(&mut self, line: &Line<'_>, out: &mut Out<K>) -> Result<(), Fault>
         requires { self.old.want ≡ MaskWant.Line }
-        ensures { TakesLine self.old line.now.number
-            (record { text = line.now.text.now; ending = line.now.ending }) out.old result self.new out.new }
+        ensures gives { (how : MaskHow) (full : Bool) (stage : MaskStage) → MaskStandsAt how full stage self.old
+            → GivesNextLine how full stage (line_seen line.now) out.old result self.new out.new }
+        ensures stops { OnErr result (self.new.want ≡ MaskWant.Nothing) }
     {
         self.state.take_line(line, out)
     }
@@ -82,9 +82,8 @@ impl Mask {
     /// to belong to a sequence.
     pub fn end_lines(&mut self)
         requires { self.old.want ≡ MaskWant.Line }
-        ensures { self.new ≡ record self.old {
-          want = cond self.old.bed_ended MaskWant.Nothing MaskWant.Bed;
-        } }
+        ensures stands { (how : MaskHow) (full : Bool) (stage : MaskStage) → MaskStandsAt how full stage self.old
+            → MaskStandsAt how full (with_lines_ended stage) self.new }
     {
         self.state.end_lines();
     }
@@ -101,11 +100,15 @@ impl Mask {
         out: &mut Out<K>,
     ) -> Result<Taken, Fault>
         requires { self.old.want ≡ MaskWant.Bed }
-        ensures waits { (waiting : Waiting) → self.old.waiting ≡ Some waiting
-            → TakesBed self.old waiting (feature_lent bed.now) out.old result self.new out.new }
-        ensures none_waits { self.old.waiting ≡ None
-            → ChecksBed self.old (feature_lent bed.now) line result self.new
-            × taken_if_ok result × (out.new ≡ out.old) }
+        ensures waits { (how : MaskHow) (full : Bool) (stage : MaskStage) (waiting : SequenceLine)
+            → MaskStandsAt how full stage self.old → stage.waiting ≡ Some waiting
+            → IsNext stage.ahead (feature_lent bed.now)
+            → GivesBed how full stage waiting (feature_lent bed.now) out.old result self.new out.new }
+        ensures none_waits { (how : MaskHow) (full : Bool) (stage : MaskStage)
+            → MaskStandsAt how full stage self.old → stage.waiting ≡ None
+            → IsNext stage.ahead (feature_lent bed.now)
+            → ChecksRecord how full stage (feature_lent bed.now) line out.old result self.new out.new }
+        ensures stops { OnErr result (self.new.want ≡ MaskWant.Nothing) }
     {
         if self.state.waits() {
             return self.state.take_bed(bed, out);
@@ -118,11 +121,13 @@ impl Mask {
     /// that can't be written.
     pub fn end_bed<K: Sink>(&mut self, out: &mut Out<K>) -> Result<(), Fault>
         requires { self.old.want ≡ MaskWant.Bed }
-        ensures waits { (waiting : Waiting) → self.old.waiting ≡ Some waiting
-            → Writes (record self.old { bed_ended = true }) waiting out.old result self.new out.new }
-        ensures none_waits { self.old.waiting ≡ None → IsOk result
-            × (self.new ≡ record self.old { bed_ended = true; want = MaskWant.Nothing })
-            × (out.new ≡ out.old) }
+        ensures waits { (how : MaskHow) (full : Bool) (stage : MaskStage) (waiting : SequenceLine)
+            → MaskStandsAt how full stage self.old → stage.waiting ≡ Some waiting
+            → EndsRecords how full stage waiting out.old result self.new out.new }
+        ensures none_waits { (how : MaskHow) (full : Bool) (stage : MaskStage)
+            → MaskStandsAt how full stage self.old → stage.waiting ≡ None
+            → EndsCheck how full stage out.old result self.new out.new }
+        ensures stops { OnErr result (self.new.want ≡ MaskWant.Nothing) }
     {
         self.state.end_bed(out)
     }

@@ -22,7 +22,7 @@ pub fn mask_slice(bases: &mut [u8], how: MaskHow)
 }
 
 // The byte that stands for a masked base.
-fn mask_byte(base: u8, how: MaskHow) -> u8
+pub(crate) fn mask_byte(base: u8, how: MaskHow) -> u8
     ensures { result ≡ masked_byte how base }
 {
     match how {

@@ -22,14 +22,23 @@ use std::marker::Model;
 // The line that waits stands in a buffer, which is used again.
 #[derive(Drop)]
 pub(crate) struct MaskState {
+    // What stands for a masked base.
     how: MaskHow,
+    // Whether a sequence has its whole header for a name.
     full: bool,
+    // Which sequence and which block came last, until memory runs out.
     matching: Matching,
+    // Where the line given last lies, and what reaches into it.
     window: Window,
+    // The line that waits, while `waits` holds.
     text: Vec<u8>,
+    // How that line ended, while `waits` holds.
     ending: LineEnd,
+    // Whether a line was given that isn't written.
     waits: bool,
+    // What is asked for next; nothing once there was a fault.
     want: MaskWant,
+    // Whether the end of the records was given.
     bed_ended: bool,
 }
 

@@ -22,10 +22,15 @@ pub(crate) enum Owner {
 // belongs to a sequence.
 #[derive(Drop)]
 pub(crate) struct Matching {
+    // The name of the sequence given last, while `is_named` holds.
     name: Vec<u8>,
+    // The chromosome of the last block that belongs to an earlier sequence, while `has_block` holds.
     block: Vec<u8>,
+    // Whether a sequence was given.
     is_named: bool,
+    // Whether a block belonged to an earlier sequence.
     has_block: bool,
+    // Whether the last block belongs to the sequence given last.
     is_own: bool,
 }
 

@@ -16,8 +16,11 @@ const LIMIT: u64 = 1_000_000_000_000;
 // records that start before its end and reach past its start, in file order.
 #[derive(Drop)]
 pub(crate) struct Window {
+    // At most the limit.
     before: u64,
+    // At least `before`, at most the limit.
     bases: u64,
+    // In file order, each reaching into the line.
     held: Vec<Stretch>,
 }
 

@@ -1,8 +1,10 @@
 ghost use Rattle.std.specs.Prelude.{◌≡◌};
 
 use super::*;
-use bt_bed::{Blocks, parse_bed};
+use crate::plain::plain_mask;
+use bt_bed::{Blocks, Rec, parse_bed};
 use bt_lines::{Input, Kind, LineEnd, LineReader, Place, ScriptSink, ScriptSource};
+use std::alloc::AllocError;
 use std::test::Fail;
 
 // The FASTA text, the BED text, what is written, and what is wrong at which line of which input.
@@ -124,6 +126,24 @@ fn give_next_bed(
     Ok(())
 }
 
+// Gives what is asked for, and says whether something was.
+fn give_next(
+    mask: &mut Mask,
+    lines: &mut LineReader<ScriptSource<'_>>,
+    blocks: &mut Blocks<ScriptSource<'_>>,
+    out: &mut Out<ScriptSink>,
+) -> Result<bool, Fault> {
+    match mask.want() {
+        MaskWant::Line => match lines.next()? {
+            Some(line) => mask.give_line(&line, out)?,
+            None => mask.end_lines(),
+        },
+        MaskWant::Bed => give_next_bed(mask, blocks, out)?,
+        MaskWant::Nothing => return Ok(false),
+    }
+    Ok(true)
+}
+
 // Gives what is asked for, so many times at most.
 fn drive(
     mask: &mut Mask,
@@ -132,14 +152,25 @@ fn drive(
     out: &mut Out<ScriptSink>,
 ) -> Result<(), Fault> {
     for _turn in 0..64 {
-        match mask.want() {
-            MaskWant::Line => match lines.next()? {
-                Some(line) => mask.give_line(&line, out)?,
-                None => mask.end_lines(),
-            },
-            MaskWant::Bed => give_next_bed(mask, blocks, out)?,
-            MaskWant::Nothing => return Ok(()),
+        if !give_next(mask, lines, blocks, out)? {
+            return Ok(());
         }
+    }
+    Ok(())
+}
+
+// The same, and flushes the output after each turn.
+fn drive_flushed(
+    mask: &mut Mask,
+    lines: &mut LineReader<ScriptSource<'_>>,
+    blocks: &mut Blocks<ScriptSource<'_>>,
+    out: &mut Out<ScriptSink>,
+) -> Result<(), Fault> {
+    for _turn in 0..64 {
+        if !give_next(mask, lines, blocks, out)? {
+            return out.flush();
+        }
+        let _ = out.flush().is_ok();
     }
     Ok(())
 }
@@ -201,6 +232,38 @@ fn bases_are_masked_as_asked_for(rt: HostRuntime) -> Result<(), Fail> {
     Ok(())
 }
 
+// Whether a sink that fails behind so many bytes has taken the row's first ones, and that is told.
+fn is_cut_at(alloc: Global, row: Row, good: usize) -> bool {
+    let mut lines = LineReader::new(alloc, ScriptSource::new(row.0, 7, None), Input::First);
+    let second = LineReader::new(alloc, ScriptSource::new(row.1, 7, None), Input::Second);
+    let mut blocks = Blocks::new(alloc, second);
+    let mut out = Out::new(ScriptSink::new(alloc, 1, Some(good)));
+    let mut mask = Mask::new(alloc, MaskHow::Hard(b'N'), false);
+    let is_told = match drive_flushed(&mut mask, &mut lines, &mut blocks, &mut out) {
+        Ok(()) => false,
+        Err(fault) => fault.kind == Kind::WriteFailed && fault.place.is_none(),
+    };
+    let has_ended = mask.want() == MaskWant::Nothing;
+    let is_front = good < row.2.len() && out.into_sink().taken() == &row.2[..good];
+    let _ = lines.into_source();
+    let _ = blocks.into_reader().into_source();
+    is_told && has_ended && is_front
+}
+
+#[test]
+fn a_failed_write_is_told_and_ends_it(rt: HostRuntime) -> Result<(), Fail> {
+    let row: Row = (
+        b">s d\nACGTAC\nGTAC\r\n>t\nAA",
+        b"s\t4\t8\nt\t1\t2\n",
+        b">s d\nACGTNN\nNNAC\r\n>t\nAN",
+        None,
+    );
+    for good in 0..23 {
+        assert!(rt; is_cut_at(rt.alloc(), row, good));
+    }
+    Ok(())
+}
+
 fn give_line(mask: &mut Mask, text: &[u8], out: &mut Out<ScriptSink>) -> bool {
     match mask.want() {
         MaskWant::Line => {
@@ -250,5 +313,37 @@ fn records_that_reach_into_the_line_are_held(rt: HostRuntime) -> Result<(), Fail
     assert!(rt; takes(&mut mask, b"t\t0\t1", &mut out));
     assert_eq!(rt; mask.kept_len(), 1);
     let _ = out.into_sink();
+    Ok(())
+}
+
+// The records of these lines.
+fn records_of(alloc: Global, lines: &[&[u8]]) -> Result<Vec<Rec>, AllocError> {
+    let mut records = Vec::new(alloc);
+    for line in lines {
+        if let Ok(Some(bed)) = parse_bed(line) {
+            records.push(bed.to_rec(alloc)?)?;
+        }
+    }
+    Ok(records)
+}
+
+#[test]
+fn plain_masking_agrees(rt: HostRuntime) -> Result<(), Fail> {
+    const BED: [&[u8]; 4] = [b"s\t0\t1", b"s\t3\t6", b"s\t4\t5", b"s\t7\t20"];
+    let records = records_of(rt.alloc(), &BED)?;
+    assert_eq!(rt; records.len(), 4);
+    let mut first = *b"ACGT";
+    plain_mask(&mut first, 0, records.as_slice(), MaskHow::Soft);
+    assert_eq!(rt; first, *b"aCGt");
+    let mut second = *b"ACGT";
+    plain_mask(&mut second, 4, records.as_slice(), MaskHow::Soft);
+    assert_eq!(rt; second, *b"acGt");
+    let row: Row = (
+        b">s\nACGT\nACGT\n",
+        b"s\t0\t1\ns\t3\t6\ns\t4\t5\ns\t7\t20\n",
+        b">s\naCGt\nacGt\n",
+        None,
+    );
+    assert!(rt; agrees(rt.alloc(), row, MaskHow::Soft, false));
     Ok(())
 }

@@ -1,13 +1,42 @@
+use Rattle.std.proofs.Common.{◌≡◌, ◌∙◌, ◌++◌, ◌-◌, List, ℕ, ap, arith, length, take, drop}
+use Rattle.std.proofs.lemmas.List.{length-drop, take_all}
 use Rattle.std.proofs.lemmas.Result.{err_from_is_err_and}
+use Rattle.bt_seq.specs.LineEnds.{marks, quality_text}
 use Rattle.bt_seq.specs.Sam.{alignment_lent}
-use Rattle.bt_seq.proofs.LineLemmas.{tail_cut, tail_puts}
+use Rattle.bt_seq.proofs.LineLemmas.{tail_alone, tail_cut, tail_puts}
 use Rattle.bt_seq.proofs.bed_line.put_tail.Goals as goal
 
-pub returns-in_err-put_number : goal.returns-in_err-put_number
-returns-in_err-put_number g c =
+-- the piece is what was written
+piece_is : (text before : List ℕ) (first from : ℕ) (front tail : List ℕ) → length text ≡ 28 → drop first text ≡ front ++ drop from before → drop from before ≡ tail → take (28 - first) (drop first text) ≡ front ++ tail
+piece_is text before first from front tail size written is =
+    take_all (28 - first) (drop first text) (omega (arith, length-drop first text)) ∙ written ∙ ap (λ l. front ++ l) is
+
+pub returns-then-not-with_cigar : goal.returns-then-not-with_cigar
+returns-then-not-with_cigar g c =
+    let a = alignment_lent c.args.sam.now in
+    let q = c.write_quality-quality in
+    let m = c.write_marks-first in
+    let kept = q.auto.text in
+    let same = m.auto.text in
+    tail_alone c.args.with_cigar a _ _ _ c.put_piece.result (piece_is m.new.text q.new.text m.result q.result (marks a.first a.last) (quality_text c.args.with_cigar a) (omega arith) m.ensures.written q.ensures.written)
+    c.if-not-with_cigar.true c.put_piece.ensures
+
+pub returns-in_err-put_piece : goal.returns-in_err-put_piece
+returns-in_err-put_piece g c =
+    let a = alignment_lent c.args.sam.now in
+    let q = c.write_quality-quality in
+    let m = c.write_marks-first in
+    let kept = q.auto.text in
+    let same = m.auto.text in
     let p = err_from_is_err_and c.from_residual.result c.from_residual.ensures.1 in
-    rw (p.1, p.2) (tail_cut c.args.with_cigar (alignment_lent c.args.sam.now) c.quality_end-end.result.now _ _ _ c.quality_end-end.ensures c.in_err-put_number.ensures)
+    rw (p.1, p.2) (tail_cut c.args.with_cigar a _ _ _ _ (piece_is m.new.text q.new.text m.result q.result (marks a.first a.last) (quality_text c.args.with_cigar a) (omega arith) m.ensures.written q.ensures.written) c.in_err-put_piece.ensures)
 
 pub returns : goal.returns
 returns g c =
-    tail_puts c.args.with_cigar (alignment_lent c.args.sam.now) c.quality_end-end.result.now _ _ _ c.put_column.result c.quality_end-end.ensures c.if-not-with_cigar.false c.in_ok-put_number.ensures c.put_column.ensures
+    let a = alignment_lent c.args.sam.now in
+    let q = c.write_quality-quality in
+    let m = c.write_marks-first in
+    let kept = q.auto.text in
+    let same = m.auto.text in
+    tail_puts c.args.with_cigar a _ _ _ _ c.put_column.result (piece_is m.new.text q.new.text m.result q.result (marks a.first a.last) (quality_text c.args.with_cigar a) (omega arith) m.ensures.written q.ensures.written)
+    c.if-not-with_cigar.false c.in_ok-put_piece.ensures c.put_column.ensures

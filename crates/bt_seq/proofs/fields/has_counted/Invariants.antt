@@ -4,4 +4,4 @@ use Rattle.bt_seq.proofs.fields.has_counted.Given as goal
 
 -- so many columns were passed
 abbrev pub invariant-loop-column : goal.invariant-loop-column
-invariant-loop-column l = length (pieces 9 l.text) + 1 ≡ l._column + length (pieces 9 l.rest)
+invariant-loop-column l = length (pieces 9 l.text) ≡ l._column + length (pieces 9 l.rest)

@@ -1,0 +1,380 @@
+-- Lemmas on a masking engine that is given a line.
+use Rattle.std.proofs.Common.{◌≡◌, ℕ, min, Bool, true, false, cond, not, ◌&&◌, ◌||◌, nat_lt, length, List, [], ◌∷◌, ◌++◌, map, filter, Option, Some, None, Result, Ok, Err, refl, sym, ap, ◌∙◌, subst, append-nil, inl, inr, ◌⊎◌, arith}
+use Rattle.std.specs.List.{AllByRecursion, list_any}
+use Rattle.std.specs.Prelude.{is_none, is_some, option_map, option_to_list}
+use Rattle.std.proofs.lemmas.Bool.Decides.{nat_tests}
+use Rattle.bt_bed.specs.Feature.{Feature}
+use Rattle.bt_lines.specs.Lines.{TextLine, end_bytes}
+use Rattle.bt_lines.specs.Names.{told}
+use Rattle.bt_lines.specs.Output.{Output}
+use Rattle.bt_lines.specs.Putting.{FailsToAdd, Grown}
+use Rattle.bt_lines.specs.declared.fault.Fault.{Fault}
+use Rattle.bt_lines.specs.declared.fault.Kind.TheVariants.{TextBeforeHeader}
+use Rattle.bt_seq.proofs.CountLemmas.{IsLow, held_on, own_low, text_masked}
+use Rattle.bt_seq.proofs.KnownLemmas.{never, with_header, with_plain}
+use Rattle.bt_seq.proofs.MaskFrontLemmas.{decided_by_tags}
+use Rattle.bt_seq.proofs.NextLemmas.{left_grows, named_more, none_own, undecided_header, undecided_next}
+use Rattle.bt_seq.proofs.StandLemmas.{last_more, last_name_more, last_name_none, stands_at, unnamed_are, unnamed_untaken, wants_line}
+use Rattle.bt_seq.proofs.TagLemmas.{own_tagged, tag_decides, tags_of}
+use Rattle.bt_seq.specs.Held.{stretch_of}
+use Rattle.bt_seq.specs.MaskStanding.{AreInRange, Counts, IsOpen, KnowsNext, MaskStage, MaskStandsAt, Waits, given, held_by, is_written_at_once, kept_line, last_name, line_given_last, reached, reached_by, want_of, with_line}
+use Rattle.bt_seq.specs.MaskSteps.{FailsWithLine, GivesNextLine, RefusesLine, TakesNextLine, bytes_with}
+use Rattle.bt_seq.specs.Masked.{decided, held_for, is_unnamed, masked_line}
+use Rattle.bt_seq.specs.Masking.{Masking, TakesLine, Waiting, bytes_at_once, is_stray, line_bytes, moved_to, writes_at_once}
+use Rattle.bt_seq.specs.Matching.{named}
+use Rattle.bt_seq.specs.Owners.{left_after, own_records}
+use Rattle.bt_seq.specs.Sequences.{SequenceLine, bases_in, bases_up_to, header_behind, is_header, line_behind, line_says, may_stand, name_in}
+use Rattle.bt_seq.specs.Stretches.{masked_in}
+use Rattle.bt_seq.specs.Window.{Bounds, gone_on, limit, no_bases}
+use Rattle.bt_seq.specs.declared.mask_how.MaskHow.{MaskHow}
+use Rattle.bt_seq.specs.declared.mask_want.MaskWant.TheVariants.{Line, Bed, Nothing}
+use Rattle.bt_seq.specs.declared.stretch.Stretch.{Stretch}
+
+-- a list that there is
+some_list : (o : Option (List (List ℕ))) → is_some o ≡ true → (l : List (List ℕ)) × (o ≡ Some l)
+some_list None e = absurd (never e)
+some_list (Some l) e = (l, refl)
+
+nothing_masked : (held : List Feature) → held ≡ [] → [] ≡ map stretch_of held
+nothing_masked held e = sym (ap (λ (l : List Feature). map stretch_of l) e)
+
+no_own : (p : Feature → Bool) (own : List Feature) → own ≡ [] → filter p own ≡ []
+no_own p own e = ap (filter p) e
+
+or_second : (a b : Bool) → (a || b) ≡ false → b ≡ false
+or_second true b e = absurd (never (sym e))
+or_second false b e = e
+
+-- what the next line of a sequence goes on to hold
+module _ (taken : List Feature) (range : AreInRange taken) (line : TextLine) (plain : is_header line.text ≡ false) where
+  abbrev next : Option SequenceLine → SequenceLine
+  next last = line_behind (reached_by last) line
+
+  held_untaken : (last : Option SequenceLine) (w : Bounds) → taken ≡ [] → w.held ≡ map stretch_of (held_by last taken)
+      → filter (λ (s : Stretch). nat_lt w.bases s.stop) w.held ≡ map stretch_of (held_for (next last) taken)
+  held_untaken None w none held =
+      ap (λ (l : List Stretch). filter (λ (s : Stretch). nat_lt w.bases s.stop) l) held
+      ∙ sym (ap (λ (rs : List Feature). map stretch_of (held_for (next None) rs)) none)
+  held_untaken (Some l) w none held =
+      ap (λ (l : List Stretch). filter (λ (s : Stretch). nat_lt w.bases s.stop) l) (held ∙ ap (λ (rs : List Feature). map stretch_of (held_for l rs)) none)
+      ∙ sym (ap (λ (rs : List Feature). map stretch_of (held_for (next (Some l)) rs)) none)
+
+  undecided_tags : (l : SequenceLine) → decided l taken ≡ false → list_any (tag_decides (bases_up_to l)) (tags_of l.names taken) ≡ false
+  undecided_tags l e = or_second (is_unnamed l.names) (list_any (tag_decides (bases_up_to l)) (tags_of l.names taken)) (sym (decided_by_tags l taken) ∙ e)
+
+  held_next : (l : SequenceLine) (w : Bounds) → w.bases ≡ min (bases_up_to l) limit → decided l taken ≡ false → w.held ≡ map stretch_of (held_for l taken)
+      → filter (λ (s : Stretch). nat_lt w.bases s.stop) w.held ≡ map stretch_of (held_for (next (Some l)) taken)
+  held_next l w bases open_at held =
+      let low : AllByRecursion (IsLow (bases_up_to l)) (own_records l.names taken) =
+      subst (λ (rs : List Feature). AllByRecursion (IsLow (bases_up_to l)) rs) (sym (own_tagged l.names taken)) (own_low (bases_up_to l) (Some l.names) None taken (undecided_tags l open_at) range) in
+      ap (λ b. filter (λ (s : Stretch). nat_lt b s.stop) w.held) bases
+      ∙ ap (λ (ss : List Stretch). filter (λ (s : Stretch). nat_lt (min (bases_up_to l) limit) s.stop) ss) held
+      ∙ held_on l.before (bases_up_to l) (bases_up_to (next (Some l))) (omega arith) (omega arith) (own_records l.names taken) low
+
+  pub held_further : (last : Option SequenceLine) (w : Bounds) → Counts last w → IsOpen last taken → w.held ≡ map stretch_of (held_by last taken)
+      → filter (λ (s : Stretch). nat_lt w.bases s.stop) w.held ≡ map stretch_of (held_for (next last) taken)
+  held_further None w counts open_at held = held_untaken None w open_at held
+  held_further (Some l) w counts open_at held = elim open_at [
+    | inl none ↦ held_untaken (Some l) w none held
+    | inr undecided ↦ held_next l w counts.bases undecided held
+  ]
+
+  pub open_further : (last : Option SequenceLine) → IsOpen last taken → IsOpen (Some (next last)) taken
+  open_further None open_at = inl open_at
+  open_further (Some l) open_at = elim open_at [
+    | inl none ↦ inl none
+    | inr undecided ↦ inr (undecided_next (bases_up_to l) (bases_up_to (next (Some l))) (omega arith) l (next (Some l)) taken refl refl refl undecided)
+  ]
+
+not_strayed : (names : List (List ℕ)) (text : List ℕ) → may_stand names text ≡ not (is_unnamed names && nat_lt 0 (length text))
+not_strayed [] [] = refl
+not_strayed [] (byte ∷ bytes) = let some : nat_lt 0 (length (byte ∷ bytes)) ≡ true = grind (arith, nat_tests) in sym (ap not some)
+not_strayed (n ∷ ns) text = refl
+
+pub not_true : (b : Bool) → not b ≡ true → b ≡ false
+not_true true e = absurd (never e)
+not_true false e = refl
+
+pub not_false : (b : Bool) → not b ≡ false → b ≡ true
+not_false true e = refl
+not_false false e = absurd (never (sym e))
+
+module _ (how : MaskHow) (full : Bool) (stage : MaskStage) (old : Masking) (s : MaskStandsAt how full stage old) (wants : old.want ≡ Line) where
+  asked : (stage.waiting ≡ None) × (stage.lines_ended ≡ false)
+  asked = wants_line stage.waiting stage.lines_ended stage.bed_ended (sym s.want_is ∙ wants)
+
+  abbrev names : List (List ℕ)
+  names = (reached stage).names
+
+  open_at : IsOpen (line_given_last (given stage)) stage.taken
+  open_at = s.is_open asked.1
+
+  held_is : old.window.held ≡ map stretch_of (held_by (line_given_last (given stage)) stage.taken)
+  held_is = s.holds asked.1
+
+  -- with a line, before it waits or is written
+  record Moved (item : SequenceLine) (moved : Masking) : Type 0 where
+    how_is : moved.how ≡ how
+    full_is : moved.full ≡ full
+    bed_ended_is : moved.bed_ended ≡ stage.bed_ended
+    counts : Counts (Some item) moved.window
+    name_is : moved.matched.name ≡ last_name item.names
+    holds : moved.window.held ≡ map stretch_of (held_for item stage.taken)
+    is_open : IsOpen (Some item) stage.taken
+    owned : is_some (left_after item.names stage.taken) ≡ true
+    header : is_header item.text ≡ true → item.before ≡ 0
+    waits_known : stage.bed_ended ≡ false → is_unnamed item.names ≡ false → KnowsNext true item.names stage.taken stage.ahead moved.matched
+    unnamed_known : stage.bed_ended ≡ false → is_unnamed item.names ≡ true → KnowsNext false item.names stage.taken stage.ahead moved.matched
+
+  going_known : stage.bed_ended ≡ false → KnowsNext false names stage.taken stage.ahead old.matched
+  going_known going = subst (λ (w : Option SequenceLine). KnowsNext (is_some w) names stage.taken stage.ahead old.matched) asked.0 (s.knows going)
+
+  first_by : (u : Bool) → is_unnamed names ≡ u → (u ≡ false → is_some stage.ahead ≡ true) → is_some stage.ahead ≡ false → (names ≡ []) × (stage.taken ≡ [])
+  first_by true e ahead none = (unnamed_are names e, unnamed_untaken (line_given_last (given stage)) stage.taken open_at e)
+  first_by false e ahead none = absurd (never (sym none ∙ ahead refl))
+
+  first_header : stage.bed_ended ≡ false → is_some stage.ahead ≡ false → (names ≡ []) × (stage.taken ≡ [])
+  first_header going none = first_by (is_unnamed names) refl (λ e. s.has_ahead (sym s.want_is ∙ wants) going e) none
+
+  module _ (line : TextLine) where
+    abbrev header_moved : Masking
+    header_moved = record old { matched = named old.matched (name_in old.full line.text); window = no_bases }
+
+    abbrev header_item : SequenceLine
+    header_item = header_behind old.full (reached stage) line
+
+    header_by : is_header line.text ≡ true → Moved header_item header_moved
+    header_by e =
+        let n = name_in old.full line.text in
+        let left = some_list (left_after names stage.taken) s.owned in
+        let none : bases_in line.text ≡ 0 = ap (λ b. cond b 0 (length line.text)) e in
+        record {
+          how_is = s.how_is;
+          full_is = s.full_is;
+          bed_ended_is = s.bed_ended_is;
+          counts = record { before = omega arith; bases = omega arith };
+          name_is = sym (last_name_more names n);
+          holds = nothing_masked (held_for header_item stage.taken) (no_own (λ (r : Feature). nat_lt r.start (bases_up_to header_item) && nat_lt header_item.before r.stop) (own_records header_item.names stage.taken) (none_own n names left.0 stage.taken left.1));
+          is_open = inr (undecided_header n header_item names left.0 stage.taken refl left.1);
+          owned = ap is_some (left_grows n names left.0 stage.taken left.1);
+          header = λ e. refl;
+          waits_known = λ going u. with_header names n stage.taken old.matched stage.ahead (first_header going) (going_known going);
+          unnamed_known = λ going u. absurd (never (sym (named_more n names) ∙ u));
+        }
+
+    abbrev plain_moved : Masking
+    plain_moved = record old { window = gone_on old.window (length line.text) }
+
+    abbrev plain_item : SequenceLine
+    plain_item = line_behind (reached stage) line
+
+    plain_by : is_header line.text ≡ false → Moved plain_item plain_moved
+    plain_by e =
+        let count : bases_in line.text ≡ length line.text = ap (λ b. cond b 0 (length line.text)) e in
+        let bases : old.window.bases ≡ min (reached stage).bases limit = s.counts.bases in
+        record {
+          how_is = s.how_is;
+          full_is = s.full_is;
+          bed_ended_is = s.bed_ended_is;
+          counts = record { before = bases; bases = omega arith };
+          name_is = s.name_is;
+          holds = held_further stage.taken s.in_range line e (line_given_last (given stage)) old.window s.counts open_at held_is;
+          is_open = open_further stage.taken s.in_range line e (line_given_last (given stage)) open_at;
+          owned = s.owned;
+          header = λ h. absurd (never (sym e ∙ h));
+          waits_known = λ going u. with_plain names stage.taken stage.ahead old.matched (going_known going);
+          unnamed_known = λ going u. going_known going;
+        }
+
+    -- what a line says, and where the engine goes
+    record Goes : Type 0 where
+      item : SequenceLine
+      says : line_says full (reached stage) line ≡ Ok (Some item)
+      moved : Moved item (moved_to old line.text)
+      kept : kept_line item ≡ record { text = line.text; ending = line.ending }
+      fine : is_stray old line.text ≡ false
+
+    record Strays : Type 0 where
+      says : line_says full (reached stage) line ≡ Err TextBeforeHeader
+      stray : is_stray old line.text ≡ true
+
+    header_goes : is_header line.text ≡ true → Goes
+    header_goes e =
+        let by : (f : Bool) → old.full ≡ f → (item : SequenceLine) × (header_behind f (reached stage) line ≡ item) × Moved item header_moved × (kept_line item ≡ record { text = line.text; ending = line.ending }) =
+        λ f d. (header_item, sym (ap (λ f. header_behind f (reached stage) line) d), header_by e, refl) in
+        let it = by full s.full_is in
+        record {
+          item = it.0;
+          says = ap (λ b. cond b (Ok (Some (header_behind full (reached stage) line))) (cond (may_stand names line.text) (Ok (Some plain_item)) (Err TextBeforeHeader))) e ∙ ap (λ (i : SequenceLine). Ok (Some i)) it.1;
+          moved = subst (λ b. Moved it.0 (cond b header_moved plain_moved)) (sym e) it.2;
+          kept = it.3;
+          fine = ap (λ b. not b && (is_none old.matched.name && nat_lt 0 (length line.text))) e;
+        }
+
+    stray_is : is_header line.text ≡ false → is_stray old line.text ≡ (is_unnamed names && nat_lt 0 (length line.text))
+    stray_is e =
+        ap (λ b. not b && (is_none old.matched.name && nat_lt 0 (length line.text))) e
+        ∙ ap (λ b. b && nat_lt 0 (length line.text)) (ap is_none s.name_is ∙ last_name_none names)
+
+    plain_says : is_header line.text ≡ false → line_says full (reached stage) line ≡ cond (may_stand names line.text) (Ok (Some plain_item)) (Err TextBeforeHeader)
+    plain_says e = ap (λ b. cond b (Ok (Some (header_behind full (reached stage) line))) (cond (may_stand names line.text) (Ok (Some plain_item)) (Err TextBeforeHeader))) e
+
+    plain_goes : is_header line.text ≡ false → (b : Bool) → may_stand names line.text ≡ b → Goes ⊎ Strays
+    plain_goes e true may = inl (record {
+      item = plain_item;
+      says = plain_says e ∙ ap (λ b. cond b (Ok (Some plain_item)) (Err TextBeforeHeader)) may;
+      moved = subst (λ b. Moved plain_item (cond b header_moved plain_moved)) (sym e) (plain_by e);
+      kept = refl;
+      fine = stray_is e ∙ not_true (is_unnamed names && nat_lt 0 (length line.text)) (sym (not_strayed names line.text) ∙ may);
+    })
+    plain_goes e false may = inr (record {
+      says = plain_says e ∙ ap (λ b. cond b (Ok (Some plain_item)) (Err TextBeforeHeader)) may;
+      stray = stray_is e ∙ not_false (is_unnamed names && nat_lt 0 (length line.text)) (sym (not_strayed names line.text) ∙ may);
+    })
+
+    goes_by : (h : Bool) → is_header line.text ≡ h → Goes ⊎ Strays
+    goes_by true e = inl (header_goes e)
+    goes_by false e = plain_goes e (may_stand names line.text) refl
+
+    goes : Goes ⊎ Strays
+    goes = goes_by (is_header line.text) refl
+
+  module _ (item : SequenceLine) (moved : Masking) (m : Moved item moved) where
+    -- whether it is written at once
+    at_once : writes_at_once moved ≡ is_written_at_once stage item
+    at_once =
+        ap (λ b. b || is_none moved.matched.name) m.bed_ended_is
+        ∙ ap (λ b. stage.bed_ended || b) (ap is_none m.name_is ∙ last_name_none item.names)
+
+    -- its bytes
+    bytes_are : line_bytes moved (kept_line item) ≡ masked_line how stage.taken item
+    bytes_are =
+        ap (λ (t : List ℕ). t ++ end_bytes item.ending)
+        (ap (λ (h : MaskHow). masked_in h moved.window.held moved.window.before item.text) m.how_is
+        ∙ ap (λ (l : List Stretch). masked_in how l moved.window.before item.text) m.holds
+        ∙ ap (λ b. masked_in how (map stretch_of (held_for item stage.taken)) b item.text) m.counts.before
+        ∙ text_masked how item stage.taken s.in_range m.header)
+
+    waiting_stands : stage.bed_ended ≡ false → is_unnamed item.names ≡ false
+        → MaskStandsAt how full (record stage { waiting = Some item }) (record moved { waiting = Some (kept_line item); want = Bed })
+    waiting_stands going is_named =
+        stands_at how full (record stage { waiting = Some item }) (record moved { waiting = Some (kept_line item); want = Bed }) (Some item) (last_more stage.written item) (record {
+          how_is = m.how_is;
+          full_is = m.full_is;
+          waiting_is = refl;
+          want_is = refl;
+          bed_ended_is = m.bed_ended_is;
+          waits = λ l e. let same : item ≡ l = cc in subst (λ (l : SequenceLine). Waits (record stage { waiting = Some item }) l) same
+              (record { lines = asked.1; bed = going; named = is_named; header = m.header });
+          counts = m.counts;
+          name_is = m.name_is;
+          holds = λ e. m.holds;
+          is_open = λ e. m.is_open;
+          owned = m.owned;
+          in_range = s.in_range;
+          knows = λ e. m.waits_known going is_named;
+          has_ahead = λ e. absurd (let apart : Bed ≡ Line = e in cc);
+        })
+
+    abbrev written_stage : MaskStage
+    written_stage = record stage { written = stage.written ++ item ∷ [] }
+
+    written_last : line_given_last (given written_stage) ≡ Some item
+    written_last =
+        ap (λ (w : Option SequenceLine). line_given_last ((stage.written ++ item ∷ []) ++ option_to_list w)) asked.0
+        ∙ ap line_given_last (append-nil (stage.written ++ item ∷ [])) ∙ last_more stage.written item
+
+    or_true : (a b : Bool) → (a || b) ≡ true → a ≡ false → b ≡ true
+    or_true true b e d = absurd (never (sym d))
+    or_true false b e d = e
+
+    written_stands : is_written_at_once stage item ≡ true → MaskStandsAt how full written_stage (record moved { waiting = None; want = Line })
+    written_stands now =
+        stands_at how full written_stage (record moved { waiting = None; want = Line }) (Some item) written_last (record {
+          how_is = m.how_is;
+          full_is = m.full_is;
+          waiting_is = sym (ap (λ (w : Option SequenceLine). option_map kept_line w) asked.0);
+          want_is = sym (ap (λ (w : Option SequenceLine). want_of (is_some w) stage.lines_ended stage.bed_ended) asked.0 ∙ ap (λ b. want_of false b stage.bed_ended) asked.1);
+          bed_ended_is = m.bed_ended_is;
+          waits = λ l e. absurd (let apart : None ≡ Some l = sym asked.0 ∙ e in cc);
+          counts = m.counts;
+          name_is = m.name_is;
+          holds = λ e. m.holds;
+          is_open = λ e. m.is_open;
+          owned = m.owned;
+          in_range = s.in_range;
+          knows = λ going. subst (λ (w : Option SequenceLine). KnowsNext (is_some w) item.names stage.taken stage.ahead moved.matched) (sym asked.0)
+              (m.unnamed_known going (or_true stage.bed_ended (is_unnamed item.names) now going));
+          has_ahead = λ e going u. absurd (never (sym u ∙ or_true stage.bed_ended (is_unnamed item.names) now going));
+        })
+
+    or_both : (a b : Bool) → (a || b) ≡ false → (a ≡ false) × (b ≡ false)
+    or_both true b e = absurd (never (sym e))
+    or_both false b e = (refl, e)
+
+    stands_with : (b : Bool) → is_written_at_once stage item ≡ b
+        → MaskStandsAt how full (cond b written_stage (record stage { waiting = Some item })) (record moved { waiting = cond b None (Some (kept_line item)); want = cond b Line Bed })
+    stands_with true e = written_stands e
+    stands_with false e = let both = or_both stage.bed_ended (is_unnamed item.names) e in waiting_stands both.0 both.1
+
+    with_it : MaskStandsAt how full (with_line stage item) (record moved { waiting = cond (writes_at_once moved) None (Some (kept_line item)); want = cond (writes_at_once moved) Line Bed })
+    with_it =
+        subst (λ b. MaskStandsAt how full (with_line stage item) (record moved { waiting = cond b None (Some (kept_line item)); want = cond b Line Bed })) (sym at_once)
+        (stands_with (is_written_at_once stage item) refl)
+
+    bytes_now : bytes_at_once moved (kept_line item) ≡ bytes_with how stage item
+    bytes_now = ap (λ b. cond b (line_bytes moved (kept_line item)) []) at_once ∙ ap (λ (l : List ℕ). cond (is_written_at_once stage item) l []) bytes_are
+
+  module _ (line : TextLine) (out : Output) (new : Masking) (grown : Output) where
+    abbrev kept : Waiting
+    kept = record { text = line.text; ending = line.ending }
+
+    takes : {A : Type 0} (done : A) → Goes line → TakesLine old line.number kept out (Ok done) new grown → TakesNextLine how full stage line out new grown
+    takes done g t = record {
+      item = g.item;
+      says = g.says;
+      stands = subst (λ (x : Masking). MaskStandsAt how full (with_line stage g.item) x)
+          (ap (λ (k : Waiting). record (moved_to old line.text) { waiting = cond (writes_at_once (moved_to old line.text)) None (Some k); want = cond (writes_at_once (moved_to old line.text)) Line Bed }) g.kept ∙ sym t.1)
+          (with_it g.item (moved_to old line.text) g.moved);
+      puts = subst (λ (l : List ℕ). Grown out l grown)
+          (ap (λ (k : Waiting). bytes_at_once (moved_to old line.text) k) (sym g.kept) ∙ bytes_now g.item (moved_to old line.text) g.moved) t.2;
+    }
+
+    fails : (A : Type 0) (fault : Fault) → Goes line → TakesLine {A = A} old line.number kept out (Err fault) new grown → (new.want ≡ Nothing) × (RefusesLine how full stage line out (told fault) grown ⊎ FailsWithLine how full stage line out (told fault) grown)
+    fails A fault g t = (
+      t.0,
+      elim t.1 [
+        | inl stray ↦ absurd (never (sym g.fine ∙ stray.1))
+        | inr other ↦ inr (record {
+          item = g.item;
+          says = g.says;
+          fails = elim other.1 [
+            | inl add ↦ inl (subst (λ (l : List ℕ). FailsToAdd out l (told fault) grown)
+                (ap (λ (k : Waiting). bytes_at_once (moved_to old line.text) k) (sym g.kept) ∙ bytes_now g.item (moved_to old line.text) g.moved) add)
+            | inr memory ↦ inr memory
+          ];
+        })
+      ],
+    )
+
+    refuses : (A : Type 0) (fault : Fault) → Strays line → TakesLine {A = A} old line.number kept out (Err fault) new grown → (new.want ≡ Nothing) × (RefusesLine how full stage line out (told fault) grown ⊎ FailsWithLine how full stage line out (told fault) grown)
+    refuses A fault g t = (
+      t.0,
+      elim t.1 [
+        | inl stray ↦ inl (record { kind = TextBeforeHeader; says = g.says; is = stray.0; same_output = stray.2 })
+        | inr other ↦ absurd (never (sym other.0 ∙ g.stray))
+      ],
+    )
+
+    gives_by : {A : Type 0} (answer : Result A Fault) → Goes line ⊎ Strays line → TakesLine old line.number kept out answer new grown → GivesNextLine how full stage line out answer new grown
+    gives_by (Ok done) g t = elim g [
+      | inl goes ↦ takes done goes t
+      | inr strays ↦ absurd (never (sym t.0 ∙ strays.stray))
+    ]
+    gives_by {A} (Err fault) g t = elim g [
+      | inl goes ↦ fails A fault goes t
+      | inr strays ↦ refuses A fault strays t
+    ]
+
+    pub gives_line : {A : Type 0} (answer : Result A Fault) → TakesLine old line.number kept out answer new grown → GivesNextLine how full stage line out answer new grown
+    gives_line answer t = gives_by answer (goes line) t
