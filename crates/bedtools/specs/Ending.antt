@@ -11,14 +11,14 @@ use Rattle.bedtools.specs.declared.message.Message.{Message}
 abbrev pub TellsUnopened : PlanSeen → Word → Message → Type 0
 TellsUnopened plan name message = Says (cannot_open_text (tool_name (tool_of plan.command)) name) 1 message
 
--- an input of the plan has this name
-abbrev pub IsInput : PlanSeen → Word → Type 0
-IsInput plan name = (plan.genome ≡ Some name) ⊎ ((plan.first ≡ name) ⊎ (plan.second ≡ Some name))
+-- an input of the plan has this name, or its output
+abbrev pub IsFile : PlanSeen → Word → Type 0
+IsFile plan name = (plan.genome ≡ Some name) ⊎ ((plan.first ≡ name) ⊎ ((plan.second ≡ Some name) ⊎ (plan.output ≡ Some name)))
 
 -- a file of the plan can't be opened
 pub record CannotBegin (plan : PlanSeen) (message : Message) : Type 0 where
   pub name : Word
-  pub is_input : IsInput plan name
+  pub is_file : IsFile plan name
   pub tells : TellsUnopened plan name message
 
 -- a run ended with this fault, or without one: then nothing is said, with status 0

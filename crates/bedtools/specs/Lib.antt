@@ -1,3 +1,4 @@
 pub mod Opened
+pub mod StandIns
 pub mod Message
 pub mod Ending

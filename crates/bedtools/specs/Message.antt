@@ -3,7 +3,7 @@ use Rattle.std.specs.Prelude.{ℕ, List, [], ◌++◌, ◌≡◌, ◌⊎◌, cod
 use Rattle.bt_tool.specs.Plan.{words_seen}
 use Rattle.bt_tool.specs.Usage.{IsTellable, usage_text}
 use Rattle.bedtools.specs.declared.message.Trouble.{Trouble}
-use Rattle.bedtools.specs.declared.message.Trouble.TheVariants.{NotUnicode, Usage, CannotOpen}
+use Rattle.bedtools.specs.declared.message.Trouble.TheVariants.{NotUnicode, Usage, ClosedStream, CannotOpen}
 use Rattle.bedtools.specs.declared.message.Message.{Message}
 use Rattle.bedtools.specs.declared.message.MessageLine.{MessageLine}
 use Rattle.bedtools.specs.declared.message.MessageLine.TheVariants.{Nothing, Text, NoMemory}
@@ -12,6 +12,7 @@ use Rattle.bedtools.specs.declared.message.MessageLine.TheVariants.{Nothing, Tex
 abbrev pub CanBeTold : Trouble → Type 0
 CanBeTold NotUnicode = Unit {0}
 CanBeTold (Usage words usage) = IsTellable usage (length words.now)
+CanBeTold ClosedStream = Unit {0}
 CanBeTold (CannotOpen command name) = Unit {0}
 
 -- the line of a file that a command can't open
@@ -22,12 +23,14 @@ cannot_open_text command name = codes "bedtools " ++ command ++ codes ": " ++ na
 abbrev pub line_of : Trouble → List ℕ
 line_of NotUnicode = codes "bedtools: argument is not UTF-8\n"
 line_of (Usage words usage) = usage_text (words_seen words.now) usage
+line_of ClosedStream = codes "bedtools: standard stream is closed\n"
 line_of (CannotOpen command name) = cannot_open_text command.now name.now
 
 -- the exit status
 abbrev pub status_of : Trouble → ℕ
 status_of NotUnicode = 2
 status_of (Usage words usage) = 2
+status_of ClosedStream = 1
 status_of (CannotOpen command name) = 1
 
 -- what standard error gets

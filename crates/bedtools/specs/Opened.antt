@@ -6,8 +6,8 @@ use Rattle.bedtools.specs.declared.opened.Input.{Input}
 use Rattle.bedtools.specs.declared.opened.Input.TheVariants.{Standard as StandardInput, File as FileInput}
 use Rattle.bedtools.specs.declared.opened.Opened.{Opened}
 use Rattle.bedtools.specs.declared.opened.Opened.TheVariants.{File, Standard}
-use Rattle.bedtools.specs.declared.standard_output.Output.{Output}
-use Rattle.bedtools.specs.declared.standard_output.Output.TheVariants.{Standard as StandardOutput}
+use Rattle.bedtools.specs.declared.output.Output.{Output}
+use Rattle.bedtools.specs.declared.output.Output.TheVariants.{Standard as StandardOutput, File as FileOutput}
 
 abbrev pub opened_has_failed : Opened → Bool
 opened_has_failed (File source) = read_has_failed source
@@ -19,10 +19,12 @@ opened_end_told (Standard source) = read_end_told source
 
 abbrev pub output_has_failed : Output → Bool
 output_has_failed (StandardOutput sink) = write_has_failed sink
+output_has_failed (FileOutput sink) = write_has_failed sink
 
 -- whether it was flushed since the last write
 abbrev pub output_is_flushed : Output → Bool
 output_is_flushed (StandardOutput sink) = write_is_flushed sink
+output_is_flushed (FileOutput sink) = write_is_flushed sink
 
 -- the file that is opened by its name, or none for standard input
 abbrev pub file_named : List ℕ → Option (List ℕ)

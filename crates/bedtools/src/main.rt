@@ -1,4 +1,7 @@
-//! `bedtools`: makes the plan of a command line, opens its files, runs it, and tells what went wrong.
+//! `bedtools`: makes the plan of a command line, opens its files, runs it, and reports what went wrong.
+//!
+//! An example, which is the stored run beside this folder (`args`, `stdin`, `data`, `stdout`):
+//! `bedtools merge -i stdin -g g.txt` over four records, of which the first three touch.
 #![tactic(auto)]
 
 ghost use Rattle.std.specs.Prelude.{◌≡◌, Ok, Err, [], is_some, None, Some, option_map, string_bytes, IfOk, IfErr};
@@ -13,24 +16,36 @@ ghost use Rattle.bedtools.specs.Message.{Says, line_seen};
 
 mod message;
 mod opened;
-mod standard_output;
+mod output;
+mod stand_ins;
 
 use bt_tool::{Outcome, Plan, Refusal, plan, run};
 use message::{Message, MessageLine, Trouble};
 use opened::Opened;
-use standard_output::Output;
+use output::Output;
+use stand_ins::StandIns;
 use std::alloc::Global;
 use std::process::ExitCode;
 use std::{env, io};
 
 fn main(rt: HostRuntime) -> ExitCode {
-    let message = match words(&rt) {
-        Ok(words) => start(&rt, words.as_slice()),
-        Err(error) if error.kind() == io::ErrorKind::OutOfMemory => Message::no_memory(),
-        Err(_) => Message::of(rt.alloc(), &Trouble::NotUnicode),
+    // They are kept to the end, so that no file is ever a standard stream.
+    let stand_ins = StandIns::take(&rt);
+    let message = match &stand_ins {
+        Ok(_) => start_by_words(&rt),
+        Err(_) => Message::of(rt.alloc(), &Trouble::ClosedStream),
     };
     message.print(&rt);
     ExitCode::from(message.status)
+}
+
+// Reads the words of the command line and starts with them.
+fn start_by_words(rt: &HostRuntime) -> Message {
+    match words(rt) {
+        Ok(words) => start(rt, words.as_slice()),
+        Err(error) if error.kind() == io::ErrorKind::OutOfMemory => Message::no_memory(),
+        Err(_) => Message::of(rt.alloc(), &Trouble::NotUnicode),
+    }
 }
 
 // The words after the program's name.
@@ -56,7 +71,7 @@ fn start(rt: &HostRuntime, words: &[String]) -> Message
     }
 }
 
-// Opens the files of a plan, the genome file first, and runs it.
+// Opens the files of a plan, the genome file first and the output last, and runs it.
 fn carry_out(rt: &HostRuntime, plan: &Plan) -> Message
     ensures { Ends (plan_seen plan.now) result }
 {
@@ -73,9 +88,25 @@ fn run_opened(rt: &HostRuntime, plan: &Plan) -> Result<Outcome, Message>
     let genome = open_if_named(rt, plan, &plan.genome)?;
     let first = open(rt, plan, plan.first.as_str())?;
     let second = open_if_named(rt, plan, &plan.second)?;
-    let output = Output::standard(rt);
+    let output = open_output(rt, plan)?;
     let ended = run(rt.alloc(), plan, genome, first, second, output);
     Ok(ended.outcome)
+}
+
+// Creates the output file of a plan, or takes standard output where it has none. `Err` where it can't be
+// created.
+fn open_output(rt: &HostRuntime, plan: &Plan) -> Result<Output, Message>
+    ensures { IfErr result (λ message. (word : Word) × ((plan_seen plan.now).output ≡ Some word)
+        × TellsUnopened (plan_seen plan.now) word message) }
+{
+    let Some(name) = &plan.output else {
+        return Ok(Output::standard(rt));
+    };
+    match Output::create(rt, name.as_str()) {
+        Ok(output) => Ok(output),
+        Err(error) if error.kind() == io::ErrorKind::OutOfMemory => Err(Message::no_memory()),
+        Err(_) => Err(cannot_open(rt.alloc(), plan, name.as_str())),
+    }
 }
 
 // Opens an input that the plan may not have. `Err` where it can't be opened.
@@ -101,11 +132,15 @@ fn open(rt: &HostRuntime, plan: &Plan, name: &str) -> Result<Opened, Message>
     match Opened::open(rt, name) {
         Ok(input) => Ok(input),
         Err(error) if error.kind() == io::ErrorKind::OutOfMemory => Err(Message::no_memory()),
-        Err(_) => {
-            let trouble = Trouble::CannotOpen(plan.command.name(), name);
-            Err(Message::of(rt.alloc(), &trouble))
-        }
+        Err(_) => Err(cannot_open(rt.alloc(), plan, name)),
     }
+}
+
+// Tells that a file can't be opened.
+fn cannot_open(alloc: Global, plan: &Plan, name: &str) -> Message
+    ensures { TellsUnopened (plan_seen plan.now) name.now result }
+{
+    Message::of(alloc, &Trouble::CannotOpen(plan.command.name(), name))
 }
 
 // How a run ended: its fault, if there is one, is told.
@@ -132,7 +167,7 @@ mod tests {
     // With memory for its line, each end has its own line and status.
     #[test]
     fn ends(rt: HostRuntime) -> Result<(), Fail> {
-        let cases: [(&str, &[u8], u8); 14] = [
+        let cases: [(&str, &[u8], u8); 21] = [
             ("", b"bedtools: no or unknown command\n", 2),
             ("sort", b"bedtools: no or unknown command\n", 2),
             ("merge -q", b"bedtools: unknown option: -q\n", 2),
@@ -179,6 +214,33 @@ mod tests {
             ("merge -i /dev/null -g /dev/null", b"", 0),
             ("bamtobed -i /dev/null", b"", 0),
             ("bamtobed -g g.txt", b"bedtools: unknown option: -g\n", 2),
+            ("maskfasta -fi /dev/null -bed /dev/null", b"", 0),
+            ("maskfasta -fi /dev/null -bed /dev/null -fo stdout", b"", 0),
+            (
+                "maskfasta -fi /dev/null -bed /dev/null -fo /dev/null",
+                b"bedtools: options exclude one another\n",
+                2,
+            ),
+            (
+                "maskfasta -fi no/fa -bed no/bed -fo no/out",
+                b"bedtools maskfasta: no/fa: cannot be opened\n",
+                1,
+            ),
+            (
+                "maskfasta -fi /dev/null -bed no/bed -fo no/out",
+                b"bedtools maskfasta: no/bed: cannot be opened\n",
+                1,
+            ),
+            (
+                "maskfasta -fi /dev/null -bed /dev/./null -fo no/out",
+                b"bedtools maskfasta: no/out: cannot be opened\n",
+                1,
+            ),
+            (
+                "maskfasta -fi /dev/null -bed . -fo /dev/./null",
+                b"bedtools maskfasta: .:1: reading failed\n",
+                1,
+            ),
         ];
         for (command, line, status) in &cases {
             let mut words = Vec::new(rt.alloc());

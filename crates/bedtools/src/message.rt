@@ -1,4 +1,4 @@
-//! What the program itself tells: the lines that no run tells.
+//! What the program itself reports: the lines that come of no run.
 
 ghost use Rattle.std.specs.Prelude.{◌≡◌, ◌++◌, codes, IfOk};
 ghost use Rattle.bedtools.specs.Message.{CanBeTold, Says, line_of, line_seen, status_of};
@@ -7,13 +7,15 @@ use bt_tool::{Usage, usage_line};
 use std::alloc::{AllocError, Global};
 use std::io::Write;
 
-/// What kept a run from beginning, or its fault from being told.
+/// What kept a run from beginning, or its fault from being reported.
 #[derive(Clone, Copy)]
 pub enum Trouble<'a> {
     /// A word of the command line isn't UTF-8.
     NotUnicode,
     /// The words ask for nothing that can be done.
     Usage(&'a [String], Usage),
+    /// A standard stream is closed, and nothing could be opened in its place.
+    ClosedStream,
     /// A file of this name, which a run of this command asks for, can't be opened.
     CannotOpen(&'a str, &'a str),
 }
@@ -36,8 +38,8 @@ pub enum MessageLine {
 }
 
 impl Message {
-    /// Tells a trouble. The exit status is 2 for a command line that can't be used, else 1. Where the
-    /// line finds no memory, that is told, with status 1.
+    /// Says what kept a run from beginning. The exit status is 2 for a command line that can't be used,
+    /// else 1. Where the line finds no memory, that is reported, with status 1.
     pub fn of(alloc: Global, trouble: &Trouble<'_>) -> Message
         requires { CanBeTold trouble.now }
         ensures { Says (line_of trouble.now) (status_of trouble.now) result }
@@ -51,7 +53,7 @@ impl Message {
         }
     }
 
-    /// Tells that there was no memory.
+    /// Says that there was no memory.
     pub fn no_memory() -> Message
         ensures line { line_seen result.line ≡ codes "bedtools: no memory\n" }
         ensures status { result.status ≡ 1 }
@@ -81,7 +83,7 @@ impl MessageLine {
     }
 }
 
-// The line that tells a trouble.
+// The line of what kept a run from beginning.
 fn line_of(alloc: Global, trouble: &Trouble<'_>) -> Result<Vec<u8>, AllocError>
     requires { CanBeTold trouble.now }
     ensures { IfOk result (λ line. line.items ≡ line_of trouble.now) }
@@ -89,17 +91,20 @@ fn line_of(alloc: Global, trouble: &Trouble<'_>) -> Result<Vec<u8>, AllocError>
     match trouble {
         Trouble::NotUnicode => Vec::from_slice(alloc, b"bedtools: argument is not UTF-8\n"),
         Trouble::Usage(words, usage) => usage_line(alloc, words, usage),
+        Trouble::ClosedStream => {
+            Vec::from_slice(alloc, b"bedtools: standard stream is closed\n")
+        }
         Trouble::CannotOpen(command, name) => cannot_open(alloc, command, name),
     }
 }
 
-// The exit status of a trouble.
+// The exit status that goes with it.
 fn status_of(trouble: &Trouble<'_>) -> u8
     ensures { result ≡ status_of trouble.now }
 {
     match trouble {
         Trouble::NotUnicode | Trouble::Usage(_, _) => 2,
-        Trouble::CannotOpen(_, _) => 1,
+        Trouble::ClosedStream | Trouble::CannotOpen(_, _) => 1,
     }
 }
 
@@ -129,13 +134,18 @@ mod tests {
             String::from_str(alloc, "-q")?,
         ];
         let usage = Usage { number: 2, word: 1 };
-        let cases: [(Trouble<'_>, &[u8], u8); 3] = [
+        let cases: [(Trouble<'_>, &[u8], u8); 4] = [
             (
                 Trouble::CannotOpen("merge", "g.txt"),
                 b"bedtools merge: g.txt: cannot be opened\n",
                 1,
             ),
             (Trouble::NotUnicode, b"bedtools: argument is not UTF-8\n", 2),
+            (
+                Trouble::ClosedStream,
+                b"bedtools: standard stream is closed\n",
+                1,
+            ),
             (
                 Trouble::Usage(&words, usage),
                 b"bedtools: unknown option: -q\n",

@@ -1,6 +1,6 @@
 -- From the exact step of a coverage to what it writes after the records of the past.
 use Rattle.std.proofs.Common.{◌≡◌, ℕ, ◌+◌, ◌<◌, ◌≤◌, inl, inr, List, [], ◌∷◌, ◌++◌, refl, sym, ap, ◌∙◌, subst, arith, append-nil, length, min, nat_lt, slice_range, ◌&&◌, Bool, true, false, Option, Some, None, Result, Ok, Err}
-use Rattle.std.proofs.lemmas.Bool.{cases_lt, lt-ltb, le-ltb}
+use Rattle.std.proofs.lemmas.Bool.{cases_lt, lt-ltb}
 use Rattle.std.proofs.lemmas.Grind.{flat_map-append}
 use Rattle.bt_lines.specs.Fault.{write_failed}
 use Rattle.bt_lines.specs.Names.{told}
@@ -12,11 +12,11 @@ use Rattle.bt_bed.specs.Feature.{Feature}
 use Rattle.bt_bed.specs.Genome.{Entry, genome_names}
 use Rattle.bt_bed.specs.Rank.{rank_of}
 use Rattle.bt_bed.specs.declared.strand.Strand.{Strand}
-use Rattle.bt_runs.specs.Covering.{AdvanceAnswers, open_by, seen, settled_known}
+use Rattle.bt_runs.specs.Covering.{AdvanceAnswers, seen}
 use Rattle.bt_runs.specs.Depth.{DepthInterval, depth_lines}
-use Rattle.bt_runs.specs.DepthStep.{IsPlaced, Known, Place, bare_of, bares_of, count_step, counting, is_here, known_by, left_before, reached, unknown}
+use Rattle.bt_runs.specs.DepthStep.{IsPlaced, Place, bare_of, bares_of, count_step, counting, is_here, left_before, reached, unknown}
 use Rattle.bt_runs.specs.GapStep.{entry_at}
-use Rattle.bt_runs.specs.declared.depths.OpenSpan.{OpenSpan}
+use Rattle.bt_runs.specs.OpenRecords.{OpenAt, none_open_at}
 use Rattle.bt_runs.specs.declared.depths.Reached.{Reached}
 use Rattle.bt_runs.specs.declared.failure.Failure.{Failure}
 use Rattle.bt_runs.specs.declared.failure.Failure.TheVariants.{Write, Memory}
@@ -25,14 +25,6 @@ use Rattle.bt_runs.proofs.DepthSteps.{count_goes, moving_to}
 use Rattle.bt_runs.proofs.GapLines.{slice_split}
 use Rattle.bt_runs.proofs.GapRanks.{found_entry, found_within, name_at, slice_more, slice_none}
 use Rattle.bt_runs.proofs.Keys.{found}
-
--- what is known and what is held are what the step says
-pub known_parts : (zeros counted : Bool) (size : ℕ) (known : Known) (start stop : ℕ) (k : Known) (held : _) → k ≡ settled_known zeros size known start → held ≡ open_by counted size known.held start stop
-    → (let n : Known = record { to = k.to; begun = k.begun; held = held } in n) ≡ known_by zeros counted size known start stop
-known_parts zeros counted size known start stop k held is same = rw (is, same) (elim (cases_lt size start) [
-  | inl past ↦ rw (lt-ltb size start past) refl
-  | inr within ↦ rw (le-ltb size start within) refl
-])
 
 -- the bare chromosomes of some ranks
 abbrev pub bares_from : Bool → List Entry → ℕ → ℕ → List DepthInterval
@@ -66,12 +58,12 @@ bare_some zeros entries rank size name is named t some = rw (is, named, t, lt-lt
 pub bare_none : (zeros : Bool) (entries : List Entry) (rank size : ℕ) → (entry_at entries rank).length ≡ size → (zeros && nat_lt 0 size) ≡ false → bare_of zeros (entry_at entries rank) ≡ []
 bare_none zeros entries rank size is f = rw (is, f) refl
 
-reached_same : (current : Option Reached) (held : List OpenSpan) → reached (seen current held) ≡ reached (seen current [])
+reached_same : (current : Option Reached) (held : OpenAt) → reached (seen current held) ≡ reached (seen current (none_open_at 0))
 reached_same None held = refl
 reached_same (Some r) held = refl
 
 -- what is left before a chromosome
-pub before_from : (zeros : Bool) (entries : List Entry) (current : Option Reached) (held : List OpenSpan) (first stop : ℕ) → first ≡ min (reached (seen current [])) stop
+pub before_from : (zeros : Bool) (entries : List Entry) (current : Option Reached) (held : OpenAt) (first stop : ℕ) → first ≡ min (reached (seen current (none_open_at 0))) stop
     → bares_of zeros (slice_range entries (reached (seen current held)) stop) ≡ bares_from zeros entries first stop
 before_from zeros entries current held first stop is =
     let same = reached_same current held in
@@ -90,7 +82,7 @@ found_at entries name rank is =
     }
 
 -- lines before those of a step
-pub advances_more : (next : Option Place) (xs ys : List DepthInterval) (entries : List Entry) (result : Result (Option Reached) Failure) (held : List OpenSpan) (old mid new : Output)
+pub advances_more : (next : Option Place) (xs ys : List DepthInterval) (entries : List Entry) (result : Result (Option Reached) Failure) (held : OpenAt) (old mid new : Output)
     → Grown old (depth_lines xs) mid → AdvanceAnswers (next, ys) entries result held mid new → AdvanceAnswers (next, xs ++ ys) entries result held old new
 advances_more next xs ys entries (Ok current) held old mid new p a = record { puts = adds_lines old mid new xs ys {A = Unit {0}} (Ok tt) p a.puts; reached = a.reached; at = a.at }
 advances_more next xs ys entries (Err Write) held old mid new p a = rw (lines-append xs ys) (fails_then old mid new (depth_lines xs) (depth_lines ys) write_failed p a)

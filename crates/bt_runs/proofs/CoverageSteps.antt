@@ -14,7 +14,6 @@ use Rattle.bt_bed.specs.Interval.{Span, last_of}
 use Rattle.bt_bed.specs.Locus.{Locus}
 use Rattle.bt_bed.specs.Rank.{AreDistinct, rank_of}
 use Rattle.bt_bed.specs.declared.strand.Strand.{Strand}
-use Rattle.bt_runs.specs.CountSeen.{spans_open}
 use Rattle.bt_runs.specs.Covering.{AdvanceAnswers, AreReached, Covering, StandsAfter, begun_of, held_of, is_quiet, kept_fault, may_take, place_of, seen, settled_lines, stands_after, whole_output}
 use Rattle.bt_runs.specs.Depth.{begun_across, counted_on, coverage, depth_lines, depth_of, kept_by, kept_records, known_place, open_at, settled_depths, unfinished, unfinished_by}
 use Rattle.bt_runs.specs.DepthStep.{IsPlaced, Known, Place, count_step, left_before}
@@ -23,7 +22,7 @@ use Rattle.bt_runs.specs.Failure.{fault_of}
 use Rattle.bt_runs.specs.Gaps.{AreTaken, length_in}
 use Rattle.bt_runs.specs.GapStep.{entry_at}
 use Rattle.bt_runs.specs.Levels.{Begun, levels_of}
-use Rattle.bt_runs.specs.declared.depths.OpenSpan.{OpenSpan}
+use Rattle.bt_runs.specs.OpenRecords.{OpenAt}
 use Rattle.bt_runs.specs.declared.depths.Reached.{Reached}
 use Rattle.bt_runs.specs.declared.failure.Failure.{Failure}
 use Rattle.bt_runs.specs.declared.failure.Failure.TheVariants.{Write, Memory}
@@ -31,7 +30,7 @@ use Rattle.bt_runs.proofs.AcrossLemmas.{across_known}
 use Rattle.bt_runs.proofs.ByChromosome.{Begun as BegunOn, begun}
 use Rattle.bt_runs.proofs.DepthLemmas.{none_open}
 use Rattle.bt_runs.proofs.DepthLines.{lines-append}
-use Rattle.bt_runs.proofs.DepthStanding.{Own, form, owes}
+use Rattle.bt_runs.proofs.CoverageForm.{Own, form, owes}
 use Rattle.bt_runs.proofs.DepthSteps.{Held, ends, rank_entry, steps}
 use Rattle.bt_runs.proofs.EngineLemmas.{finishes_by}
 use Rattle.bt_runs.proofs.GapRanks.{name_at, size_there}
@@ -57,7 +56,7 @@ abbrev pub IsOf : List Entry → Option Place → Type 0
 IsOf entries None = ⊤
 IsOf entries (Some place) = IsPlaced entries place.rank
 
-seen_of : (entries : List Entry) (current : Option Reached) (held : List OpenSpan) → AreReached entries current → IsOf entries (seen current held)
+seen_of : (entries : List Entry) (current : Option Reached) (held : OpenAt) → AreReached entries current → IsOf entries (seen current held)
 seen_of entries None held at = tt
 seen_of entries (Some r) held at = at
 
@@ -124,13 +123,13 @@ module _ (zeros : Bool) (strand : Option Strand) (entries : List Entry) where
   held_begun (q ∷ qs) b = (Some (record { rank = length b.before; known = b.state }), (b.before, b.key, b.after, b.here, refl))
 
   -- nothing is held where nothing was reached
-  held_seen : (past : List Feature) (current : Option Reached) (held : List OpenSpan) (other : Option Place) → Keeps zeros strand entries past other → place_of entries (seen current held) ≡ known_place entries past → spans_open held ≡ kept_records strand entries past → held_of (seen current held) ≡ held_of other
+  held_seen : (past : List Feature) (current : Option Reached) (held : OpenAt) (other : Option Place) → Keeps zeros strand entries past other → place_of entries (seen current held) ≡ known_place entries past → held.spans ≡ kept_records strand entries past → held_of (seen current held) ≡ held_of other
   held_seen past None held None k p h = refl
   held_seen past None held (Some other) k p h = let e = p ∙ sym k.place in cc
   held_seen past (Some r) held other k p h = h ∙ sym k.held
 
   -- a coverage that keeps what is to be kept has reached the last record's chromosome
-  pub held_is : (past : List Feature) (current : Option Reached) (held : List OpenSpan) → AreTaken entries past → AreReached entries current → place_of entries (seen current held) ≡ known_place entries past → begun_of (seen current held) ≡ unfinished zeros strand entries past → spans_open held ≡ kept_records strand entries past
+  pub held_is : (past : List Feature) (current : Option Reached) (held : OpenAt) → AreTaken entries past → AreReached entries current → place_of entries (seen current held) ≡ known_place entries past → begun_of (seen current held) ≡ unfinished zeros strand entries past → held.spans ≡ kept_records strand entries past
       → Held zeros strand entries past (seen current held)
   held_is past current held t at p g h =
       let other = held_begun past (begun (form zeros strand entries) (Own zeros strand) entries (owes zeros strand entries) t.distinct past (in_order true entries past t)) in
@@ -143,19 +142,19 @@ pushed_some : (past : List Feature) (r : Feature) → past ++ r ∷ [] ≡ [] �
 pushed_some [] r e = cc
 pushed_some (q ∷ qs) r e = cc
 
-open_held : (zeros : Bool) (strand : Option Strand) (entries : List Entry) (past : List Feature) (r : Feature) (next : Option Reached) (held : List OpenSpan) (o : Option Place) → seen next held ≡ o → Held zeros strand entries (past ++ r ∷ []) o → spans_open held ≡ held_of o
+open_held : (zeros : Bool) (strand : Option Strand) (entries : List Entry) (past : List Feature) (r : Feature) (next : Option Reached) (held : OpenAt) (o : Option Place) → seen next held ≡ o → Held zeros strand entries (past ++ r ∷ []) o → held.spans ≡ held_of o
 open_held zeros strand entries past r None held o is h = absurd (pushed_some past r (subst (λ (o : Option Place). Held zeros strand entries (past ++ r ∷ []) o) (sym is) h))
 open_held zeros strand entries past r (Some next) held o is h = ap held_of is
 
 -- a coverage as its fields show it
-abbrev pub shown : List Entry → Bool → Option Strand → Option Reached → List OpenSpan → Option Told → Covering
+abbrev pub shown : List Entry → Bool → Option Strand → Option Reached → OpenAt → Option Told → Covering
 shown table zeros strand current held fault = record {
   entries = table;
   zeros = zeros;
   strand = strand;
   place = place_of table (seen current held);
   begun = begun_of (seen current held);
-  kept = spans_open held;
+  kept = held.spans;
   fault = fault;
 }
 
@@ -163,7 +162,7 @@ shown table zeros strand current held fault = record {
 abbrev lines_so_far : Bool → Option Strand → List Entry → List Feature → List ℕ
 lines_so_far zeros strand entries past = depth_lines (settled_depths zeros strand entries past)
 
-module _ (past : List Feature) (table : List Entry) (zeros : Bool) (strand : Option Strand) (current : Option Reached) (held : List OpenSpan) (at : AreReached table current) where
+module _ (past : List Feature) (table : List Entry) (zeros : Bool) (strand : Option Strand) (current : Option Reached) (held : OpenAt) (at : AreReached table current) where
   -- what is said of the coverage's own table and rules, for all that are the same
   same_words : (P : List Entry → Bool → Option Strand → Type 0) (entries : List Entry) (wanted : Bool) (asked : Option Strand) (fault : Option Told) (now : Covering) → shown table zeros strand current held fault ≡ now → StandsAfter entries wanted asked past now
       → ((AreTaken table past → Held zeros strand table past (seen current held)) → P table zeros strand) → P entries wanted asked
@@ -173,7 +172,7 @@ module _ (past : List Feature) (table : List Entry) (zeros : Bool) (strand : Opt
       let same_strand : strand ≡ asked = ap (λ c. c.strand) is ∙ stands.same_strand in
       let place : place_of table (seen current held) ≡ known_place table past = ap (λ c. c.place) is ∙ stands.place ∙ ap (λ e. known_place e past) (sym same_entries) in
       let begun : begun_of (seen current held) ≡ unfinished zeros strand table past = ap (λ c. c.begun) is ∙ stands.begun ∙ ap (λ z. unfinished z asked entries past) (sym same_zeros) ∙ ap₂ (λ s e. unfinished zeros s e past) (sym same_strand) (sym same_entries) in
-      let kept : spans_open held ≡ kept_records strand table past = ap (λ c. c.kept) is ∙ stands.kept ∙ ap₂ (λ s e. kept_records s e past) (sym same_strand) (sym same_entries) in
+      let kept : held.spans ≡ kept_records strand table past = ap (λ c. c.kept) is ∙ stands.kept ∙ ap₂ (λ s e. kept_records s e past) (sym same_strand) (sym same_entries) in
       subst (λ e. P e wanted asked) same_entries (subst (λ z. P table z asked) same_zeros (subst (λ s. P table zeros s) same_strand (claim (λ t. held_is zeros strand table past current held t at place begun kept))))
 
   -- the lines of the step are those that the record settles
@@ -186,11 +185,11 @@ module _ (past : List Feature) (table : List Entry) (zeros : Bool) (strand : Opt
       ∙ lines-append (settled_depths zeros strand table past) (count_step zeros strand table (seen current held) r).1)
 
   -- the coverage stands after the record too
-  pub stands_next : (r : Feature) (next : Option Reached) (now_held : List OpenSpan) (entries : List Entry) (wanted : Bool) (asked : Option Strand) (fault : Option Told) (now : Covering) → shown table zeros strand current held fault ≡ now → StandsAfter entries wanted asked past now → AreTaken entries (past ++ r ∷ [])
+  pub stands_next : (r : Feature) (next : Option Reached) (now_held : OpenAt) (entries : List Entry) (wanted : Bool) (asked : Option Strand) (fault : Option Told) (now : Covering) → shown table zeros strand current held fault ≡ now → StandsAfter entries wanted asked past now → AreTaken entries (past ++ r ∷ [])
       → seen next now_held ≡ (count_step zeros strand table (seen current held) r).0
       → StandsAfter entries wanted asked (past ++ r ∷ []) (shown table zeros strand next now_held fault)
   stands_next r next now_held entries wanted asked fault now is stands taken step =
-      let k = same_words (λ e z s. AreTaken e (past ++ r ∷ []) → (place_of table (seen next now_held) ≡ known_place e (past ++ r ∷ [])) × (begun_of (seen next now_held) ≡ unfinished z s e (past ++ r ∷ [])) × (spans_open now_held ≡ kept_records s e (past ++ r ∷ []))) entries wanted asked fault now is stands (λ h more.
+      let k = same_words (λ e z s. AreTaken e (past ++ r ∷ []) → (place_of table (seen next now_held) ≡ known_place e (past ++ r ∷ [])) × (begun_of (seen next now_held) ≡ unfinished z s e (past ++ r ∷ [])) × (now_held.spans ≡ kept_records s e (past ++ r ∷ []))) entries wanted asked fault now is stands (λ h more.
       let t = taken_front table past (r ∷ []) more in
       let m = steps zeros strand table past r (seen current held) more (h t) in
       let k = keeps zeros strand table (past ++ r ∷ []) (count_step zeros strand table (seen current held) r).0 more.distinct m.held in
@@ -213,7 +212,7 @@ module _ (past : List Feature) (table : List Entry) (zeros : Bool) (strand : Opt
       ap depth_lines (ends zeros strand table past (seen current held) t.distinct (h t) ∙ ap (λ n. settled_depths zeros strand table past ++ left_before zeros table (seen current held) n) (sym all))
       ∙ lines-append (settled_depths zeros strand table past) (left_before zeros table (seen current held) stop))
 
-module _ (table : List Entry) (zeros : Bool) (strand : Option Strand) (current : Option Reached) (held : List OpenSpan) (at : AreReached table current) (fault : Option Told) (old : Covering) (is : shown table zeros strand current held fault ≡ old) (was_going : kept_fault old ≡ None) (out : Output) where
+module _ (table : List Entry) (zeros : Bool) (strand : Option Strand) (current : Option Reached) (held : OpenAt) (at : AreReached table current) (fault : Option Told) (old : Covering) (is : shown table zeros strand current held fault ≡ old) (was_going : kept_fault old ≡ None) (out : Output) where
   module _ (r : Feature) where
     -- the lines of the step
     abbrev step_lines : List ℕ
@@ -222,7 +221,7 @@ module _ (table : List Entry) (zeros : Bool) (strand : Option Strand) (current :
     next_lines : AfterEach may_take stands_after old r (λ first past. settled_lines first (past ++ r ∷ []) ≡ settled_lines first past ++ step_lines)
     next_lines first past stands taken = lines_next past table zeros strand current held at r first.entries first.zeros first.strand fault old is stands taken
 
-    pub feeds_ok : {A : Type 0} (done : A) (next : Option Reached) (now_held : List OpenSpan) (grown : Output) → AdvanceAnswers (count_step zeros strand table (seen current held) r) table (Ok next) now_held out grown
+    pub feeds_ok : {A : Type 0} (done : A) (next : Option Reached) (now_held : OpenAt) (grown : Output) → AdvanceAnswers (count_step zeros strand table (seen current held) r) table (Ok next) now_held out grown
         → Feeds may_take stands_after kept_fault settled_lines old r out is_quiet (Ok done) (shown table zeros strand next now_held fault) grown
     feeds_ok done next now_held grown p = record {
       going = λ first past stands. stands.going;
@@ -238,7 +237,7 @@ module _ (table : List Entry) (zeros : Bool) (strand : Option Strand) (current :
       after_failure = p.puts.again;
     }
 
-    pub feeds_err : {A : Type 0} (failure : Failure) (e : Fault) (now_held : List OpenSpan) (new : Covering) (grown : Output) → told e ≡ fault_of failure → kept_fault new ≡ Some (fault_of failure) → AdvanceAnswers (count_step zeros strand table (seen current held) r) table (Err failure) now_held out grown
+    pub feeds_err : {A : Type 0} (failure : Failure) (e : Fault) (now_held : OpenAt) (new : Covering) (grown : Output) → told e ≡ fault_of failure → kept_fault new ≡ Some (fault_of failure) → AdvanceAnswers (count_step zeros strand table (seen current held) r) table (Err failure) now_held out grown
         → Feeds may_take stands_after kept_fault settled_lines old r out {A = A} is_quiet (Err e) new grown
     feeds_err Write e now_held new grown is_write kept p = record {
       going = λ first past stands. stands.going;

@@ -102,9 +102,9 @@ open_later size start later (s ∷ ss) h =
     ]
 
 -- the record itself is open, if it starts below the length
-pub open_self : (size : ℕ) (s : Span) → s.start < s.stop → s.start ≤ size → open_at size s.start (s ∷ []) ≡ opened true size s.start s.stop
-open_self size s full within = elim (cases_lt s.start size) [
-  | inl below ↦ rw (lt-ltb s.start size below, le-leb s.start (min s.stop size) (omega arith)) refl
+pub open_self : (size : ℕ) (s : Span) → open_at size s.start (s ∷ []) ≡ opened true size s.start s.stop
+open_self size s = elim (cases_lt s.start size) [
+  | inl below ↦ rw (lt-ltb s.start size below) refl
   | inr past ↦ rw (le-ltb s.start size past) refl
 ]
 

@@ -6,12 +6,12 @@ use Rattle.bt_bed.specs.Rank.{AreDistinct, rank_of}
 use Rattle.bt_bed.specs.declared.strand.Strand.{Strand}
 use Rattle.bt_bed.proofs.NameLemmas.{name_eq}
 use Rattle.bt_runs.specs.Depth.{DepthInterval, coverage, is_counted_by, settled_depths}
-use Rattle.bt_runs.specs.DepthStep.{Place, bares_of, count_step, counting, is_here, known_by, left_before, left_of, levels_by, levels_left, levels_on, moving, moving_at, unknown}
+use Rattle.bt_runs.specs.DepthStep.{Place, bares_of, count_step, counting, is_here, known_with, left_before, left_of, levels_left, levels_on, levels_with, moving, moving_at, unknown}
 use Rattle.bt_runs.specs.Gaps.{AreTaken}
 use Rattle.bt_runs.specs.GapStep.{entry_at}
 use Rattle.bt_runs.specs.Settling.{Settles}
 use Rattle.bt_runs.proofs.ByChromosome.{Moves, Standing, full_last, goes_first, goes_next, goes_on, goes_to, parts_none, settling, whole_left}
-use Rattle.bt_runs.proofs.DepthStanding.{Own, form, ordered, owes, written}
+use Rattle.bt_runs.proofs.CoverageForm.{Own, form, ordered, owes, written}
 use Rattle.bt_runs.proofs.GapRanks.{entry_there, name_at, slice_between}
 use Rattle.bt_runs.proofs.ComplementForm.{in_order, taken_front}
 use Rattle.bt_runs.proofs.Standing.{GoesTo, begins_at, none_at_first}
@@ -32,7 +32,7 @@ pub count_goes : (zeros : Bool) (strand : Option Strand) (entries : List Entry) 
 count_goes zeros strand entries current r place items is = rw is refl
 
 counting_at : (zeros : Bool) (strand : Option Strand) (entries : List Entry) (key : Entry) (place : Place) (r : Feature) → entry_at entries place.rank ≡ key
-    → counting zeros strand entries place r ≡ (record { rank = place.rank; known = known_by zeros (is_counted_by strand r.strand) key.length place.known r.start r.stop }, levels_on key.name (levels_by zeros key.length place.known r.start))
+    → counting zeros strand entries place r ≡ (record { rank = place.rank; known = known_with zeros (is_counted_by strand r.strand) key.length place.known r }, levels_on key.name (levels_with zeros key.length place.known r))
 counting_at zeros strand entries key place r is = rw is refl
 
 left_at : (zeros : Bool) (entries : List Entry) (key : Entry) (place : Place) → entry_at entries place.rank ≡ key → left_of zeros entries (Some place) ≡ levels_on key.name (levels_left zeros key.length place.known)
@@ -55,12 +55,12 @@ module _ (zeros : Bool) (strand : Option Strand) (entries : List Entry) where
   -- once the record's chromosome is reached, the step takes the record as its chromosome does
   arrive : (past : List Feature) (r : Feature) (current : Option Place) (place : Place) (before : List Entry) (key : Entry) (after : List Entry) (first : List DepthInterval) → place.rank ≡ length before
       → moving zeros entries current r.chrom ≡ (Some place, first)
-      → Moves (form zeros strand entries) (Own zeros strand) entries past r (first ++ levels_on key.name (levels_by zeros key.length place.known r.start)) before key after (known_by zeros (is_counted_by strand r.strand) key.length place.known r.start r.stop) → Steps past r current
+      → Moves (form zeros strand entries) (Own zeros strand) entries past r (first ++ levels_on key.name (levels_with zeros key.length place.known r)) before key after (known_with zeros (is_counted_by strand r.strand) key.length place.known r) → Steps past r current
   arrive past r current place before key after first rank goes m =
       let step = count_goes zeros strand entries current r place first goes in
       let counts = counting_at zeros strand entries key place r (rank_entry entries before key after place.rank m.here.stand.split rank) in
-      let items : (count_step zeros strand entries current r).1 ≡ first ++ levels_on key.name (levels_by zeros key.length place.known r.start) = ap (λ s. s.1) step ∙ ap (λ c. first ++ c.1) counts in
-      let next : (count_step zeros strand entries current r).0 ≡ Some (record { rank = place.rank; known = known_by zeros (is_counted_by strand r.strand) key.length place.known r.start r.stop }) = ap (λ s. s.0) step ∙ ap (λ c. Some c.0) counts in
+      let items : (count_step zeros strand entries current r).1 ≡ first ++ levels_on key.name (levels_with zeros key.length place.known r) = ap (λ s. s.1) step ∙ ap (λ c. first ++ c.1) counts in
+      let next : (count_step zeros strand entries current r).0 ≡ Some (record { rank = place.rank; known = known_with zeros (is_counted_by strand r.strand) key.length place.known r }) = ap (λ s. s.0) step ∙ ap (λ c. Some c.0) counts in
       record {
         settles = m.settles (written zeros strand entries past) (written zeros strand entries (past ++ r ∷ [])) ∙ ap (λ l. settled_depths zeros strand entries past ++ l) (sym items);
         held = held_next (past ++ r ∷ []) before key after (count_step zeros strand entries current r).0 _ next m.here rank;

@@ -7,6 +7,7 @@ use Rattle.bt_bed.specs.declared.strand.Strand.{Strand}
 use Rattle.bt_bed.specs.declared.strand.Strand.TheVariants.{Plus, Minus, Dot}
 use Rattle.bt_runs.specs.Merged.{is_bridged, runs_of, merged}
 use Rattle.bt_runs.specs.MergedRuns.{merged_runs, settled_runs, kept_runs}
+use Rattle.bt_runs.specs.StrandRuns.{StrandRun, kept_strand_runs, settled_strand_runs, strand_runs}
 use Rattle.bt_runs.specs.declared.merge_strand.MergeStrand.TheVariants.{All, One}
 
 abbrev span : ℕ → ℕ → Span
@@ -71,3 +72,30 @@ not_settled = refl
 settled_further : settled_runs 1 (One Plus) apart ≡ on 1 0 2 ∷ []
 unfolding merged settled_runs runs_of is_bridged stretches_from with_position
 settled_further = refl
+
+-- each strand by itself: the finished run of the strand - waits behind the open one
+abbrev of : Strand → Interval → StrandRun
+of strand run = record { strand = strand; run = run }
+
+abbrev two_strands : List Feature
+two_strands = feature 1 0 6 Plus ∷ feature 1 1 2 Minus ∷ feature 1 4 5 Minus ∷ feature 1 5 8 Plus ∷ []
+
+by_first_record : strand_runs 0 two_strands ≡ of Plus (on 1 0 8) ∷ of Minus (on 1 1 2) ∷ of Minus (on 1 4 5) ∷ []
+unfolding strand_runs merged runs_of is_bridged stretches_from with_position
+by_first_record = refl
+
+waits : settled_strand_runs 0 two_strands ≡ []
+unfolding settled_strand_runs strand_runs merged runs_of is_bridged stretches_from with_position
+waits = refl
+
+-- a record that has passed the open run settles all before its own
+abbrev passed_all : List Feature
+passed_all = feature 1 0 3 Plus ∷ feature 1 1 2 Minus ∷ feature 1 4 5 Dot ∷ []
+
+two_settled : settled_strand_runs 0 passed_all ≡ of Plus (on 1 0 3) ∷ of Minus (on 1 1 2) ∷ []
+unfolding settled_strand_runs strand_runs merged runs_of is_bridged stretches_from with_position
+two_settled = refl
+
+one_waits : kept_strand_runs 0 passed_all ≡ of Dot (on 1 4 5) ∷ []
+unfolding kept_strand_runs settled_strand_runs strand_runs merged runs_of is_bridged stretches_from with_position
+one_waits = refl

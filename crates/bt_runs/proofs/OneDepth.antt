@@ -3,7 +3,7 @@ use Rattle.std.proofs.Common.{◌≡◌, ℕ, ◌+◌, ◌-◌, ◌<◌, ◌≤�
 use Rattle.std.proofs.lemmas.Bool.{cases_Bool, cases_lt, lt-ltb, le-ltb}
 use Rattle.bt_bed.specs.Interval.{Span}
 use Rattle.bt_runs.specs.Depth.{depth_of, open_at, reported}
-use Rattle.bt_runs.specs.DepthStep.{Known, bare_level, known_by, levels_by, levels_left, opened, still_open, unknown}
+use Rattle.bt_runs.specs.DepthStep.{Known, bare_level, known_by, levels_by, levels_left, opened, start_from, still_open, unknown}
 use Rattle.bt_runs.specs.Levels.{Begun, Level, begun_after, ended_after, ended_at, levels_of, next_begun, next_ended}
 use Rattle.bt_runs.proofs.DepthLemmas.{depth_of-open, depth_of-push, open_append, open_later, open_self}
 use Rattle.bt_runs.proofs.ScanLemmas.{AreSame, StopIn, begun_run, begun_same, begun_split, ended_after-stop, ended_run, ended_same, ended_split, levels_from-stop, stop_wider}
@@ -16,6 +16,13 @@ known_at zeros size spans start = cond (nat_lt size start) (record { to = size; 
 -- the intervals that are settled
 abbrev pub settled_at : Bool → ℕ → List Span → ℕ → List Level
 settled_at zeros size spans start = cond (nat_lt size start) (levels_of (depth_of zeros spans) size) (ended_after (depth_of zeros spans) 0 start None)
+
+-- a record that comes in order is taken to start where it does
+pub start_same : (zeros : Bool) (size : ℕ) (spans : List Span) (start next : ℕ) → start ≤ next → start_from (known_at zeros size spans start) next ≡ next
+start_same zeros size spans start next up = elim (cases_lt size start) [
+  | inl past ↦ rw (lt-ltb size start past) (omega arith)
+  | inr within ↦ rw (le-ltb size start within) (omega arith)
+]
 
 -- the record is one of the counted ones, or not
 abbrev pub with_counted : Bool → List Span → ℕ → ℕ → List Span
@@ -116,7 +123,7 @@ module _ (zeros counted : Bool) (size : ℕ) (spans : List Span) (start : ℕ) (
 
   open_next : r.start ≤ size → open_at size r.start (with_counted counted spans r.start r.stop) ≡ still_open r.start (open_at size start spans) ++ opened counted size r.start r.stop
   open_next within = elim (cases_Bool counted) [
-    | inl t ↦ rw t (open_append size r.start spans (r ∷ []) ∙ ap₂ (λ (xs ys : List Span). xs ++ ys) (open_later size start r.start spans up) (open_self size r full within))
+    | inl t ↦ rw t (open_append size r.start spans (r ∷ []) ∙ ap₂ (λ (xs ys : List Span). xs ++ ys) (open_later size start r.start spans up) (open_self size r))
     | inr f ↦ rw f (open_append size r.start spans [] ∙ ap (λ l. l ++ []) (open_later size start r.start spans up))
   ]
 

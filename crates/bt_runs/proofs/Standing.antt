@@ -15,7 +15,7 @@ pub has_records-push : (name : List ℕ) (past : List Interval) (r : Interval) �
 has_records-push name [] r f = rw f refl
 has_records-push name (q ∷ qs) r f = ap (λ b. bytes_eq q.chrom name || b) (has_records-push name qs r f)
 
-has_records-here : (name : List ℕ) (past : List Interval) (r : Interval) → r.chrom ≡ name → has_records name (past ++ r ∷ []) ≡ true
+pub has_records-here : (name : List ℕ) (past : List Interval) (r : Interval) → r.chrom ≡ name → has_records name (past ++ r ∷ []) ≡ true
 has_records-here name [] r e = or_left (bytes_eq r.chrom name) false (name_eq r.chrom name e)
 has_records-here name (q ∷ qs) r e = or_right (bytes_eq q.chrom name) (has_records name (qs ++ r ∷ [])) (has_records-here name qs r e)
 

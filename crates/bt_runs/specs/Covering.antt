@@ -1,5 +1,5 @@
 -- A count of depths as its callers see it.
-use Rattle.std.specs.Prelude.{◌≡◌, ℕ, ⊤, Bool, List, [], ◌∷◌, length, Option, Some, None, Result, Ok, Err, cond, nat_lt, ◌++◌}
+use Rattle.std.specs.Prelude.{◌≡◌, ℕ, ⊤, Bool, List, [], ◌∷◌, length, Option, Some, None, Result, Ok, Err, cond, nat_lt}
 use Rattle.bt_lines.specs.Fault.{Told, write_failed}
 use Rattle.bt_lines.specs.Output.{Output}
 use Rattle.bt_lines.specs.Putting.{FailsToAdd, Grown}
@@ -10,11 +10,11 @@ use Rattle.bt_bed.specs.Locus.{Locus}
 use Rattle.bt_bed.specs.declared.strand.Strand.{Strand}
 use Rattle.bt_runs.specs.CountSeen.{place_seen}
 use Rattle.bt_runs.specs.Depth.{DepthInterval, coverage, depth_lines, kept_records, known_place, settled_depths, unfinished}
-use Rattle.bt_runs.specs.DepthStep.{IsPlaced, Known, Place, begun_to, opened, still_open}
+use Rattle.bt_runs.specs.DepthStep.{IsPlaced, Known, Place, begun_to, still_open}
 use Rattle.bt_runs.specs.Gaps.{AreTaken}
 use Rattle.bt_runs.specs.GapStep.{entry_at}
 use Rattle.bt_runs.specs.Levels.{Begun}
-use Rattle.bt_runs.specs.declared.depths.OpenSpan.{OpenSpan}
+use Rattle.bt_runs.specs.OpenRecords.{OpenAt}
 use Rattle.bt_runs.specs.declared.depths.Reached.{Reached}
 use Rattle.bt_runs.specs.declared.failure.Failure.{Failure}
 use Rattle.bt_runs.specs.declared.failure.Failure.TheVariants.{Write, Memory}
@@ -69,9 +69,9 @@ abbrev pub is_quiet : Covering → List Feature → Feature → Type 0
 is_quiet first past r = ⊥
 
 -- the chromosome that was reached, if one was
-abbrev pub seen : Option Reached → List OpenSpan → Option Place
-seen None spans = None
-seen (Some reached) spans = Some (place_seen reached spans)
+abbrev pub seen : Option Reached → OpenAt → Option Place
+seen None here = None
+seen (Some reached) here = Some (place_seen reached here)
 
 -- it is one of the table
 abbrev pub AreReached : List Entry → Option Reached → Type 0
@@ -93,20 +93,17 @@ held_of (Some place) = place.known.held
 
 -- what is known once the depths are settled by a record's start, before the record is counted
 abbrev pub settled_known : Bool → ℕ → Known → ℕ → Known
-settled_known zeros size known start = cond (nat_lt size start) (record { to = size; begun = None; held = known.held }) (record { to = start; begun = begun_to zeros known start; held = known.held })
-
--- the records that are open with one more
-abbrev pub open_by : Bool → ℕ → List Span → ℕ → ℕ → List Span
-open_by counted size held start stop = cond (nat_lt size start) [] (still_open start held ++ opened counted size start stop)
+settled_known zeros size known start = cond (nat_lt size start) (record { to = size; begun = None; held = [] })
+    (record { to = start; begun = begun_to zeros known start; held = still_open start known.held })
 
 -- one more record was taken, as the step says
-pub record Advances (step : Option Place × List DepthInterval) (entries : List Entry) (next : Option Reached) (held : List OpenSpan) (out grown : Output) : Type 0 where
+pub record Advances (step : Option Place × List DepthInterval) (entries : List Entry) (next : Option Reached) (held : OpenAt) (out grown : Output) : Type 0 where
   pub puts : Grown out (depth_lines step.1) grown
   pub reached : seen next held ≡ step.0
   pub at : AreReached entries next
 
 -- or its lines couldn't be written, or the record couldn't be kept
-abbrev pub AdvanceAnswers : Option Place × List DepthInterval → List Entry → Result (Option Reached) Failure → List OpenSpan → Output → Output → Type 0
+abbrev pub AdvanceAnswers : Option Place × List DepthInterval → List Entry → Result (Option Reached) Failure → OpenAt → Output → Output → Type 0
 AdvanceAnswers step entries (Ok next) held out grown = Advances step entries next held out grown
 AdvanceAnswers step entries (Err Write) held out grown = FailsToAdd out (depth_lines step.1) write_failed grown
 AdvanceAnswers step entries (Err Memory) held out grown = Grown out (depth_lines step.1) grown

@@ -4,8 +4,15 @@ pub mod Engine
 pub mod Merged
 pub mod Counted
 pub mod MergedRuns
-pub mod Plain
+pub mod StrandRuns
+pub mod StrandStep
+pub mod Waiting
+pub mod Stranding
+pub mod StrandTaking
 pub mod Merging
+pub mod KeptRuns
+pub mod Plain
+pub mod Pooling
 pub mod MergeStep
 pub mod Taking
 pub mod Gaps
@@ -14,6 +21,7 @@ pub mod Complementing
 pub mod Levels
 pub mod Depth
 pub mod DepthStep
+pub mod OpenRecords
 pub mod CountSeen
 pub mod Covering
 pub mod PlainLevels

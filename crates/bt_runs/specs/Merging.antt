@@ -1,27 +1,28 @@
--- What a merge holds after the records of the past.
-use Rattle.std.specs.Prelude.{◌≡◌, ℕ, List, length, Option, None}
+-- What a merge holds after the records of the past: with one set of records one open run, and with each strand by itself the runs that wait.
+use Rattle.std.specs.Prelude.{◌≡◌, ℕ, List, [], Option, None, Result}
 use Rattle.bt_lines.specs.Fault.{Told}
+use Rattle.bt_lines.specs.declared.fault.Fault.{Fault}
 use Rattle.bt_bed.specs.Feature.{Feature}
 use Rattle.bt_bed.specs.Interval.{Interval}
-use Rattle.bt_bed.specs.IntervalLine.{interval_lines}
-use Rattle.bt_runs.specs.Engine.{IsQuiet}
-use Rattle.bt_runs.specs.MergedRuns.{AreTaken, kept_runs, merged_runs, settled_runs}
+use Rattle.bt_runs.specs.MergedRuns.{AreTaken, merged_runs, settled_runs}
+use Rattle.bt_runs.specs.Pooling as pool
+use Rattle.bt_runs.specs.Stranding as strands
+use Rattle.bt_runs.specs.StrandRuns.{places_of, settled_strand_runs, strand_runs}
+use Rattle.bt_runs.specs.StrandTaking as taking
+use Rattle.bt_runs.specs.Taking as pooled_taking
 use Rattle.bt_runs.specs.declared.merge_strand.MergeStrand.{MergeStrand}
+use Rattle.bt_runs.specs.declared.merge_strand.MergeStrand.TheVariants.{All, Each, One}
 
--- a merge as its callers see it: the gap that it bridges, the records that it counts, the run that it
--- keeps, if there is one, and the fault that it answered
-pub record Merging : Type 0 where
-  pub gap : ℕ
-  pub strand : MergeStrand
-  pub kept : List Interval
-  pub fault : Option Told
+-- a merge as its callers see it: of all counted records together, or of each strand apart
+pub data Merging : Type 0 where
+  Together : pool.Pooling → Merging
+  Apart : strands.Stranding → Merging
 
--- the merge has taken the records of the past, and answered no fault
-pub record StandsAfter (gap : ℕ) (strand : MergeStrand) (past : List Feature) (merge : Merging) : Type 0 where
-  pub same_gap : merge.gap ≡ gap
-  pub same_strand : merge.strand ≡ strand
-  pub kept : merge.kept ≡ kept_runs gap strand past
-  pub going : merge.fault ≡ None
+-- one that has taken no record
+abbrev pub merge_begun : ℕ → MergeStrand → Merging
+merge_begun gap Each = Apart (record { gap = gap; kept = []; fault = None })
+merge_begun gap All = Together (record { gap = gap; strand = All; kept = []; fault = None })
+merge_begun gap (One strand) = Together (record { gap = gap; strand = One strand; kept = []; fault = None })
 
 -- the records that may be taken
 abbrev pub may_take : Merging → List Feature → Type 0
@@ -29,24 +30,57 @@ may_take first past = AreTaken past
 
 -- what the merge has become after the records
 abbrev pub stands_after : Merging → List Feature → Merging → Type 0
-stands_after first past now = StandsAfter first.gap first.strand past now
+stands_after (Together first) past (Together now) = pool.stands_after first past now
+stands_after (Apart first) past (Apart now) = strands.stands_after first past now
+stands_after (Together first) past (Apart now) = ⊥
+stands_after (Apart first) past (Together now) = ⊥
+
+-- one that has taken no record stands so
+abbrev pub StandsNew : ℕ → MergeStrand → Merging → Type 0
+StandsNew gap strand merge = stands_after merge [] merge
 
 -- the fault that it answered, if one
 abbrev pub kept_fault : Merging → Option Told
-kept_fault merge = merge.fault
+kept_fault (Together merge) = pool.kept_fault merge
+kept_fault (Apart merge) = strands.kept_fault merge
 
 -- the lines of the settled runs
 abbrev pub settled_lines : Merging → List Feature → List ℕ
-settled_lines first past = interval_lines (settled_runs first.gap first.strand past)
+settled_lines (Together first) past = pool.settled_lines first past
+settled_lines (Apart first) past = strands.settled_lines first past
 
 -- the lines of all runs
 abbrev pub whole_output : Merging → List Feature → List ℕ
-whole_output first past = interval_lines (merged_runs first.gap first.strand past)
+whole_output (Together first) past = pool.whole_output first past
+whole_output (Apart first) past = strands.whole_output first past
 
 -- how many runs are kept
 abbrev pub held_count : Merging → List Feature → ℕ
-held_count first past = length (kept_runs first.gap first.strand past)
+held_count (Together first) past = pool.held_count first past
+held_count (Apart first) past = strands.held_count first past
 
 -- a record that settles no run, with which no more are kept
 abbrev pub is_quiet : Merging → List Feature → Feature → Type 0
-is_quiet first past r = IsQuiet (settled_lines first) (held_count first) past r
+is_quiet (Together first) past r = pool.is_quiet first past r
+is_quiet (Apart first) past r = strands.is_quiet first past r
+
+-- the runs that are kept
+abbrev pub kept_places : Merging → List Interval
+kept_places (Together merge) = merge.kept
+kept_places (Apart merge) = places_of merge.kept
+
+-- where memory ran out for the first time, a run had to be opened
+abbrev pub IsForRun : {A : Type 0} → Merging → Feature → Result A Fault → Type 0
+IsForRun (Together old) r result = pooled_taking.IsForRun old r result
+IsForRun (Apart old) r result = taking.IsForRun old r result
+
+-- the runs of all records, as options -s and -S of `bedtools merge` ask for them, and those that the records settle
+abbrev pub listed_runs : ℕ → MergeStrand → List Feature → List Interval
+listed_runs gap Each records = places_of (strand_runs gap records)
+listed_runs gap All records = merged_runs gap All records
+listed_runs gap (One strand) records = merged_runs gap (One strand) records
+
+abbrev pub listed_settled : ℕ → MergeStrand → List Feature → List Interval
+listed_settled gap Each records = places_of (settled_strand_runs gap records)
+listed_settled gap All records = settled_runs gap All records
+listed_settled gap (One strand) records = settled_runs gap (One strand) records

@@ -8,10 +8,10 @@ use Rattle.bt_bed.specs.Interval.{Interval}
 use Rattle.bt_runs.specs.Counted.{is_counted}
 use Rattle.bt_bed.specs.IntervalLine.{interval_lines}
 use Rattle.bt_runs.specs.MergeStep.{settled_by, left_by, kept_by}
-use Rattle.bt_runs.specs.Merging.{Merging}
+use Rattle.bt_runs.specs.Pooling.{Pooling}
 use Rattle.bt_lines.specs.Putting.{FailsToPut, Grown}
 use Rattle.bt_lines.specs.declared.fault.Fault.{Fault}
-use Rattle.bt_runs.specs.declared.merge.Run.{Run}
+use Rattle.bt_runs.specs.declared.pooled.Run.{Run}
 use Rattle.bt_runs.specs.declared.failure.Failure.{Failure}
 use Rattle.bt_runs.specs.declared.failure.Failure.TheVariants.{Write, Memory}
 
@@ -20,20 +20,20 @@ abbrev pub run_at : List ℕ → Run → Interval
 run_at name run = record { chrom = name; start = run.start; stop = run.stop }
 
 -- the line of each run that the record settles
-abbrev pub lines_by : Merging → Feature → List ℕ
+abbrev pub lines_by : Pooling → Feature → List ℕ
 lines_by merge feature = interval_lines (settled_by merge.gap merge.kept (interval_of feature))
 
 -- a run has to be opened: the record counts, and leaves none to join
-pub record OpensRun (old : Merging) (feature : Feature) : Type 0 where
+pub record OpensRun (old : Pooling) (feature : Feature) : Type 0 where
   pub none : left_by old.gap old.kept (interval_of feature) ≡ []
   pub counted : is_counted old.strand feature.strand ≡ true
 
 -- where memory ran out for the first time, a run had to be opened
-abbrev pub IsForRun : {A : Type 0} → Merging → Feature → Result A Fault → Type 0
+abbrev pub IsForRun : {A : Type 0} → Pooling → Feature → Result A Fault → Type 0
 IsForRun old feature (Ok done) = ⊤
 IsForRun old feature (Err fault) = told fault ≡ no_memory → old.fault ≡ None → OpensRun old feature
 
-module _ (old : Merging) (feature : Feature) (out : Output) (new : Merging) (grown : Output) where
+module _ (old : Pooling) (feature : Feature) (out : Output) (new : Pooling) (grown : Output) where
   -- one more record was taken, as the step says
   pub record Takes : Type 0 where
     pub gap : new.gap ≡ old.gap
@@ -53,17 +53,17 @@ module _ (old : Merging) (feature : Feature) (out : Output) (new : Merging) (gro
     pub puts : Grown out (lines_by old feature) grown
 
 -- what one more record does
-abbrev pub TakesNext : {A : Type 0} → Merging → Feature → Output → Result A Failure → Merging → Output → Type 0
+abbrev pub TakesNext : {A : Type 0} → Pooling → Feature → Output → Result A Failure → Pooling → Output → Type 0
 TakesNext old feature out (Ok done) new grown = Takes old feature out new grown
 TakesNext old feature out (Err Write) new grown = FailsToSettle old feature out new grown
 TakesNext old feature out (Err Memory) new grown = FailsToKeep old feature out new grown
 
 -- the runs that the record has passed were written, and are kept no longer
-pub record ClosesRuns (old : Merging) (feature : Feature) (out : Output) (new : Merging) (grown : Output) : Type 0 where
+pub record ClosesRuns (old : Pooling) (feature : Feature) (out : Output) (new : Pooling) (grown : Output) : Type 0 where
   pub left : new ≡ record old { kept = left_by old.gap old.kept (interval_of feature) }
   pub puts : Grown out (lines_by old feature) grown
 
 -- what the writing of the settled runs does
-abbrev pub SettlesRuns : {A : Type 0} {E : Type 0} → Merging → Feature → Output → Result A E → Merging → Output → Type 0
+abbrev pub SettlesRuns : {A : Type 0} {E : Type 0} → Pooling → Feature → Output → Result A E → Pooling → Output → Type 0
 SettlesRuns old feature out (Ok done) new grown = ClosesRuns old feature out new grown
 SettlesRuns old feature out (Err fault) new grown = FailsToSettle old feature out new grown

@@ -23,7 +23,9 @@ use std::marker::Model;
 // at its length.
 #[derive(Clone, Copy, Debug)]
 struct Reached {
+    // A rank of the genome file.
     rank: usize,
+    // At most the length of that chromosome.
     end: u64,
 }
 
@@ -32,9 +34,13 @@ struct Reached {
 /// on a chromosome that the genome file doesn't have is passed over.
 #[derive(Drop, Debug)]
 pub struct Complement<'g> {
+    // Its chromosomes are those that are written.
     genome: &'g Genome,
+    // Whether chromosomes without a record are left out.
     limit: bool,
+    // `None` before the first record on a chromosome of the genome file.
     current: Option<Reached>,
+    // The first failure, which is answered from then on.
     failure: Option<Failure>,
 }
 

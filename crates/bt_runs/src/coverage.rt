@@ -4,16 +4,19 @@ ghost use Rattle.std.specs.Prelude.{◌≡◌, false, ◌<◌, ◌≤◌, ℕ, L
 ghost use Rattle.bt_bed.specs.Bed.{feature_lent};
 ghost use Rattle.bt_bed.specs.GenomeTable.{entries};
 ghost use Rattle.bt_lines.specs.Putting.{Adds};
-ghost use Rattle.bt_runs.specs.CountSeen.{place_seen, spans_open};
-ghost use Rattle.bt_runs.specs.Covering.{AdvanceAnswers, AreReached, StandsAfter, held_count, is_quiet, kept_fault, may_take, open_by, seen, settled_known, settled_lines, stands_after, whole_output};
+ghost use Rattle.bt_runs.specs.CountSeen.{known_seen, place_seen};
+ghost use Rattle.bt_runs.specs.Covering.{AdvanceAnswers, AreReached, StandsAfter, held_count, is_quiet, kept_fault, may_take, seen, settled_known, settled_lines, stands_after, whole_output};
 ghost use Rattle.bt_runs.specs.Depth.{depth_lines, is_counted_by};
 ghost use Rattle.bt_runs.specs.DepthStep.{IsPlaced, bare_of, bares_of, count_step, counting, is_here, left_before, left_of, levels_by, levels_left, levels_on, reached};
 ghost use Rattle.bt_runs.specs.Engine.{Feeds, KeepsHeld};
 ghost use Rattle.bt_runs.specs.GapStep.{entry_at};
+ghost use Rattle.bt_runs.specs.OpenRecords.{none_open_at, open_with};
 
-use crate::depths::{OpenSpan, Reached, go_on, keep_open, open_at, put_depth, put_ended};
+use crate::depth_line::put_depth;
+use crate::depths::{Reached, Stretch, go_on, put_ended};
 use crate::engine::Engine;
 use crate::failure::Failure;
+use crate::open_records::OpenRecords;
 use bt_bed::{BedRef, Genome, Strand};
 use bt_lines::{Fault, Out, Sink};
 use std::alloc::{AllocError, Global};
@@ -29,14 +32,13 @@ pub struct Coverage<'g> {
     zeros: bool,
     strand: Option<Strand>,
     current: Option<Reached>,
-    held: Vec<OpenSpan>,
+    held: OpenRecords,
     failure: Option<Failure>,
 }
 
 impl<'g> Model for Coverage<'g> {
     ghost use Rattle.std.specs.Prelude.{option_map};
     ghost use Rattle.bt_bed.specs.GenomeTable.{entries};
-    ghost use Rattle.bt_runs.specs.CountSeen.{spans_open};
     ghost use Rattle.bt_runs.specs.Covering.{AreReached, Covering, begun_of, place_of, seen};
     ghost use Rattle.bt_runs.specs.Failure.{fault_of};
 
@@ -46,9 +48,9 @@ impl<'g> Model for Coverage<'g> {
       entries = entries m.genome.now;
       zeros = m.zeros;
       strand = m.strand;
-      place = place_of (entries m.genome.now) (seen m.current m.held.items);
-      begun = begun_of (seen m.current m.held.items);
-      kept = spans_open m.held.items;
+      place = place_of (entries m.genome.now) (seen m.current m.held);
+      begun = begun_of (seen m.current m.held);
+      kept = m.held.spans;
       fault = option_map fault_of m.failure;
     } };
 
@@ -73,7 +75,7 @@ impl<'g> Coverage<'g> {
             zeros,
             strand,
             current: None,
-            held: Vec::new(alloc),
+            held: OpenRecords::new(alloc),
             failure: None,
         }
     }
@@ -118,14 +120,14 @@ impl Engine for Coverage<'_> {
         }
     }
 
-    fn finish<K: Sink>(self, out: &mut Out<K>) -> Result<(), Fault> {
+    fn finish<K: Sink>(mut self, out: &mut Out<K>) -> Result<(), Fault> {
         let count = self.genome.count();
         match self.failure {
             None => put_before(
                 self.genome,
                 self.zeros,
                 self.current,
-                self.held.as_slice(),
+                &mut self.held,
                 count,
                 out,
             ),
@@ -148,12 +150,12 @@ fn advance<K: Sink>(
     zeros: bool,
     strand: Option<Strand>,
     current: Option<Reached>,
-    held: &mut Vec<OpenSpan>,
+    held: &mut OpenRecords,
     bed: &BedRef<'_>,
     out: &mut Out<K>,
 ) -> Result<Option<Reached>, Failure>
     requires { AreReached (entries genome.now) current }
-    ensures { AdvanceAnswers (count_step zeros strand (entries genome.now) (seen current held.old.items) (feature_lent bed.now)) (entries genome.now) result held.new.items out.old out.new }
+    ensures { AdvanceAnswers (count_step zeros strand (entries genome.now) (seen current held.old) (feature_lent bed.now)) (entries genome.now) result held.new out.old out.new }
 {
     if let Some(reached) = current {
         if genome.name(reached.rank) == bed.chrom {
@@ -170,26 +172,22 @@ fn begin<K: Sink>(
     zeros: bool,
     strand: Option<Strand>,
     current: Option<Reached>,
-    held: &mut Vec<OpenSpan>,
+    held: &mut OpenRecords,
     bed: &BedRef<'_>,
     out: &mut Out<K>,
 ) -> Result<Option<Reached>, Failure>
     requires at { AreReached (entries genome.now) current }
-    requires elsewhere { is_here (entries genome.now) (seen current held.now.items) bed.now.chrom.now ≡ false }
-    ensures { AdvanceAnswers (count_step zeros strand (entries genome.now) (seen current held.old.items) (feature_lent bed.now)) (entries genome.now) result held.new.items out.old out.new }
+    requires elsewhere { is_here (entries genome.now) (seen current held.now) bed.now.chrom.now ≡ false }
+    ensures { AdvanceAnswers (count_step zeros strand (entries genome.now) (seen current held.old) (feature_lent bed.now)) (entries genome.now) result held.new out.old out.new }
 {
     let Some(rank) = genome.rank(bed.chrom) else {
         return Ok(current);
     };
-    match put_before(genome, zeros, current, held.as_slice(), rank, out) {
+    match put_before(genome, zeros, current, held, rank, out) {
         Err(_) => Err(Failure::Write),
         Ok(()) => {
-            held.clear();
-            let reached = Reached {
-                rank,
-                known: 0,
-                begun: None,
-            };
+            held.clear(0);
+            let reached = Reached { rank, begun: None };
             count(genome, zeros, strand, reached, held, bed, out)
         }
     }
@@ -202,29 +200,25 @@ fn count<K: Sink>(
     zeros: bool,
     strand: Option<Strand>,
     reached: Reached,
-    held: &mut Vec<OpenSpan>,
+    held: &mut OpenRecords,
     bed: &BedRef<'_>,
     out: &mut Out<K>,
 ) -> Result<Option<Reached>, Failure>
     requires { IsPlaced (entries genome.now) reached.rank }
-    ensures { AdvanceAnswers (Some (counting zeros strand (entries genome.now) (place_seen reached held.old.items) (feature_lent bed.now)).0, (counting zeros strand (entries genome.now) (place_seen reached held.old.items) (feature_lent bed.now)).1) (entries genome.now) result held.new.items out.old out.new }
+    ensures { AdvanceAnswers (Some (counting zeros strand (entries genome.now) (place_seen reached held.old) (feature_lent bed.now)).0, (counting zeros strand (entries genome.now) (place_seen reached held.old) (feature_lent bed.now)).1) (entries genome.now) result held.new out.old out.new }
 {
     let length = genome.length(reached.rank);
     let chrom = genome.name(reached.rank);
-    let Ok(next) = settle(
-        chrom,
-        zeros,
-        held.as_slice(),
-        reached,
-        length,
-        bed.start,
-        out,
-    ) else {
+    let start = bed.start.max(held.at());
+    let Ok(begun) = settle(chrom, zeros, held, reached.begun, length, start, out) else {
         return Err(Failure::Write);
     };
     let counted = counts(strand, bed.strand);
-    match hold(held, counted, length, bed.start, bed.stop) {
-        Ok(()) => Ok(Some(next)),
+    match hold(held, counted, length, bed.stop) {
+        Ok(()) => Ok(Some(Reached {
+            rank: reached.rank,
+            begun,
+        })),
         Err(AllocError) => Err(Failure::Memory),
     }
 }
@@ -239,67 +233,51 @@ fn counts(wanted: Option<Strand>, strand: Strand) -> bool
     }
 }
 
-// Writes the intervals that a record's start settles, and gives what is known then.
+// Goes on to a record's start. It writes the intervals that the start settles, and gives the one that
+// isn't ended there. Past the chromosome's length nothing is open.
 fn settle<K: Sink>(
     chrom: &[u8],
     zeros: bool,
-    held: &[OpenSpan],
-    reached: Reached,
+    held: &mut OpenRecords,
+    begun: Option<Stretch>,
     length: u64,
     start: u64,
     out: &mut Out<K>,
-) -> Result<Reached, Fault>
-    ensures adds { Adds out.old (depth_lines (levels_on chrom.now (levels_by zeros length (place_seen reached held.now).known start))) result out.new }
-    ensures known { IfOk result (λ next. place_seen next held.now ≡ record { rank = reached.rank; known = settled_known zeros length (place_seen reached held.now).known start }) }
+) -> Result<Option<Stretch>, Fault>
+    requires { held.now.at ≤ start }
+    ensures adds { Adds out.old (depth_lines (levels_on chrom.now (levels_by zeros length (known_seen begun held.old) start))) result out.new }
+    ensures known { IfOk result (λ next. known_seen next held.new ≡ settled_known zeros length (known_seen begun held.old) start) }
 {
-    let rank = reached.rank;
     if length < start {
-        put_left(chrom, zeros, held, reached, length, out)?;
-        return Ok(Reached {
-            rank,
-            known: length,
-            begun: None,
-        });
+        put_left(chrom, zeros, held, begun, length, out)?;
+        held.clear(length);
+        return Ok(None);
     }
-    let begun = go_on(chrom, zeros, held, reached, start, out)?;
-    Ok(Reached {
-        rank,
-        known: start,
-        begun,
-    })
+    go_on(chrom, zeros, held, begun, start, out)
 }
 
-// Leaves out the open records that end before a record's start, and adds the record. Past the
-// chromosome's length none is left.
-fn hold(
-    held: &mut Vec<OpenSpan>,
-    counted: bool,
-    length: u64,
-    start: u64,
-    stop: u64,
-) -> Result<(), AllocError>
-    ensures { OnOk result (spans_open held.new.items ≡ open_by counted length (spans_open held.old.items) start stop) }
+// Adds a counted record that starts below the chromosome's length, cut there.
+fn hold(held: &mut OpenRecords, counted: bool, length: u64, stop: u64) -> Result<(), AllocError>
+    ensures { OnOk result (held.new ≡ open_with counted length stop held.old) }
 {
-    if length < start {
-        held.clear();
-        return Ok(());
+    if counted && held.at() < length {
+        return held.push(stop.min(length));
     }
-    keep_open(held, start);
-    open_at(held, counted, length, start, stop)
+    Ok(())
 }
 
 // Writes what is left of a chromosome.
 fn put_left<K: Sink>(
     chrom: &[u8],
     zeros: bool,
-    held: &[OpenSpan],
-    reached: Reached,
+    held: &mut OpenRecords,
+    begun: Option<Stretch>,
     length: u64,
     out: &mut Out<K>,
 ) -> Result<(), Fault>
-    ensures { Adds out.old (depth_lines (levels_on chrom.now (levels_left zeros length (place_seen reached held.now).known))) result out.new }
+    ensures { Adds out.old (depth_lines (levels_on chrom.now (levels_left zeros length (known_seen begun held.old)))) result out.new }
 {
-    let begun = go_on(chrom, zeros, held, reached, length, out)?;
+    let begun = go_on(chrom, zeros, held, begun, length, out)?;
     put_ended(chrom, begun, length, out)
 }
 
@@ -309,13 +287,13 @@ fn put_before<K: Sink>(
     genome: &Genome,
     zeros: bool,
     current: Option<Reached>,
-    held: &[OpenSpan],
+    held: &mut OpenRecords,
     stop: usize,
     out: &mut Out<K>,
 ) -> Result<(), Fault>
     requires at { AreReached (entries genome.now) current }
     requires within { stop ≤ length (entries genome.now) }
-    ensures { Adds out.old (depth_lines (left_before zeros (entries genome.now) (seen current held.now) stop)) result out.new }
+    ensures { Adds out.old (depth_lines (left_before zeros (entries genome.now) (seen current held.old) stop)) result out.new }
 {
     put_current(genome, zeros, current, held, out)?;
     put_bares(genome, zeros, first_rank(current, stop), stop, out)
@@ -323,7 +301,7 @@ fn put_before<K: Sink>(
 
 // The rank of the chromosome after the current one, but no more than `stop`.
 fn first_rank(current: Option<Reached>, stop: usize) -> usize
-    ensures { result ≡ min (reached (seen current [])) stop }
+    ensures { result ≡ min (reached (seen current (none_open_at 0))) stop }
 {
     match current {
         None => 0,
@@ -337,17 +315,18 @@ fn put_current<K: Sink>(
     genome: &Genome,
     zeros: bool,
     current: Option<Reached>,
-    held: &[OpenSpan],
+    held: &mut OpenRecords,
     out: &mut Out<K>,
 ) -> Result<(), Fault>
     requires { AreReached (entries genome.now) current }
-    ensures { Adds out.old (depth_lines (left_of zeros (entries genome.now) (seen current held.now))) result out.new }
+    ensures { Adds out.old (depth_lines (left_of zeros (entries genome.now) (seen current held.old))) result out.new }
 {
     match current {
         None => Ok(()),
         Some(reached) => {
             let length = genome.length(reached.rank);
-            put_left(genome.name(reached.rank), zeros, held, reached, length, out)
+            let chrom = genome.name(reached.rank);
+            put_left(chrom, zeros, held, reached.begun, length, out)
         }
     }
 }

@@ -2,6 +2,7 @@
 
 ghost use Rattle.bt_runs.specs.Merged.{runs_are, runs_only};
 ghost use Rattle.bt_runs.specs.MergedRuns.{one_run_is_kept, runs_come_in_order, settled_runs_begin, settled_runs_stay};
+ghost use Rattle.bt_runs.specs.StrandRuns.{strand_runs_begin, strand_runs_divide, strand_runs_stay, strands_stay_in_order};
 
 /// The merged runs of a chromosome are the stretches of its bridged positions, and no other list is.
 pub fn runs_are_determined()
@@ -19,4 +20,13 @@ pub fn settled_runs_are_a_front()
     ensures stay { settled_runs_stay }
     ensures begin { settled_runs_begin }
     ensures kept { one_run_is_kept }
+{}
+
+/// With each strand by itself no later record changes a settled run either, and the kept runs are the
+/// others. The runs of one strand are listed in their order, each once.
+pub fn settled_strand_runs_are_a_front()
+    ensures stay { strand_runs_stay }
+    ensures begin { strand_runs_begin }
+    ensures kept { strand_runs_divide }
+    ensures order { strands_stay_in_order }
 {}

@@ -1,63 +1,47 @@
-//! The engine of `bedtools merge`: one open run, which each record extends or leaves behind.
+//! The engine of `bedtools merge`: the runs of all records, of those of one strand, or of each strand by
+//! itself.
 
-ghost use Rattle.std.specs.Prelude.{◌≡◌, ◌≤◌, ◌&&◌, ◌||◌, ℕ, List, [], length, None, not, nat_lt, bytes_eq, ◌∷◌, OnOk, OnErr};
+ghost use Rattle.std.specs.Prelude.{◌≡◌, ◌≤◌, length};
 ghost use Rattle.bt_bed.specs.Bed.{feature_lent};
-ghost use Rattle.bt_bed.specs.Feature.{Feature, interval_of};
-ghost use Rattle.bt_runs.specs.Counted.{is_counted};
 ghost use Rattle.bt_lines.specs.Number.{max_number};
 ghost use Rattle.bt_runs.specs.Engine.{Feeds, KeepsHeld};
-ghost use Rattle.bt_bed.specs.IntervalLine.{interval_lines};
-ghost use Rattle.bt_runs.specs.MergedRuns.{AreTaken, is_passed, kept_runs, merged_runs, settled_runs};
-ghost use Rattle.bt_runs.specs.MergeStep.{with_record};
-ghost use Rattle.bt_runs.specs.Merging.{StandsAfter, kept_fault, held_count, is_quiet, may_take, settled_lines, stands_after, whole_output};
-ghost use Rattle.bt_runs.specs.Taking.{IsForRun, SettlesRuns, TakesNext, run_at};
+ghost use Rattle.bt_runs.specs.Merging.{IsForRun, StandsNew, held_count, is_quiet, kept_fault, kept_places, may_take, merge_begun, settled_lines, stands_after, whole_output};
 
 use crate::engine::Engine;
-use crate::failure::Failure;
 use crate::merge_strand::MergeStrand;
-use bt_bed::{BedRef, Strand, put_interval};
+use crate::pooled::Pooled;
+use crate::stranded::Stranded;
+use bt_bed::BedRef;
 use bt_lines::{Fault, Out, Sink};
-use std::alloc::{AllocError, Global};
+use std::alloc::Global;
 use std::marker::Model;
 
-// A run without its chromosome.
-#[derive(Clone, Copy, Debug)]
-struct Run {
-    start: u64,
-    stop: u64,
+#[derive(Drop, Debug)]
+enum Kept {
+    Pooled(Pooled),
+    Stranded(Stranded),
 }
 
-/// Merges records that come in order. It keeps the open run alone, and writes each run once a record
-/// has passed it, which may be one that isn't merged. Starts are zero-based, and ends aren't
-/// included.
+/// Merges records that come in order, and writes each run once a record has passed it, which may be one
+/// that isn't merged. Starts are zero-based, and ends aren't included.
+///
+/// It keeps one open run. With [`MergeStrand::Each`] the runs of all strands are listed by their first
+/// records, so that a run which is finished waits behind an open one whose first record came earlier: it
+/// keeps the runs from the first open one on.
 #[derive(Drop, Debug)]
 pub struct Merge {
-    gap: u64,
-    strand: MergeStrand,
-    // The open run's chromosome, whose buffer is used again.
-    chrom: Vec<u8>,
-    run: Option<Run>,
-    failure: Option<Failure>,
+    // By what the engine was made for; it stays of that kind.
+    kept: Kept,
 }
 
 impl Model for Merge {
-    ghost use Rattle.std.specs.Prelude.{◌≤◌, option_map, option_to_list};
-    ghost use Rattle.std.specs.Option.{ForSome};
-    ghost use Rattle.bt_lines.specs.Number.{max_number};
-    ghost use Rattle.bt_runs.specs.Failure.{fault_of};
     ghost use Rattle.bt_runs.specs.Merging.{Merging};
-    ghost use Rattle.bt_runs.specs.Taking.{run_at};
 
     ghost Value = { Merging };
 
-    ghost view = { λ m. record {
-      gap = m.gap;
-      strand = m.strand;
-      kept = option_to_list (option_map (run_at m.chrom.items) m.run);
-      fault = option_map fault_of m.failure;
-    } };
+    ghost use Rattle.bt_runs.specs.KeptRuns.{merging_seen};
 
-    ghost invariant = { λ m. (m.gap ≤ max_number) × ForSome m.run (λ run. run.stop ≤ max_number) };
+    ghost view = { λ m. merging_seen m.kept };
 }
 
 impl Merge {
@@ -65,80 +49,15 @@ impl Merge {
     /// those that overlap or touch become one.
     pub fn new(alloc: Global, d: u64, strand: MergeStrand) -> Merge
         requires { d ≤ max_number }
-        ensures stands { StandsAfter d strand [] result }
-        ensures rules { (result.gap ≡ d) × (result.strand ≡ strand) }
+        ensures stands { StandsNew d strand result }
+        ensures begun { result ≡ merge_begun d strand }
     {
-        Merge {
-            gap: d,
-            strand,
-            chrom: Vec::new(alloc),
-            run: None,
-            failure: None,
-        }
-    }
-
-    // Takes one more record.
-    fn take<K: Sink>(&mut self, bed: &BedRef<'_>, out: &mut Out<K>) -> Result<(), Failure>
-        ensures { TakesNext self.old (feature_lent bed.now) out.old result self.new out.new }
-    {
-        if self.settle(bed, out).is_err() {
-            return Err(Failure::Write);
-        }
-        if !counts(self.strand, bed.strand) {
-            return Ok(());
-        }
-        match self.add(bed) {
-            Ok(()) => Ok(()),
-            Err(AllocError) => Err(Failure::Memory),
-        }
-    }
-
-    // Writes the open run and closes it, if the record has passed it.
-    fn settle<K: Sink>(&mut self, bed: &BedRef<'_>, out: &mut Out<K>) -> Result<(), Fault>
-        ensures { SettlesRuns self.old (feature_lent bed.now) out.old result self.new out.new }
-    {
-        let Some(run) = self.run else {
-            return Ok(());
+        let kept = match strand {
+            MergeStrand::Each => Kept::Stranded(Stranded::new(alloc, d)),
+            MergeStrand::All => Kept::Pooled(Pooled::new(alloc, d, strand)),
+            MergeStrand::One(_) => Kept::Pooled(Pooled::new(alloc, d, strand)),
         };
-        if has_passed(bed, self.chrom.as_slice(), run, self.gap) {
-            put_interval(self.chrom.as_slice(), run.start, run.stop, out)?;
-            self.run = None;
-        }
-        Ok(())
-    }
-
-    // Joins the record to the open run, or opens one with it.
-    fn add(&mut self, bed: &BedRef<'_>) -> Result<(), AllocError>
-        ensures added { OnOk result (self.new ≡ record self.old {
-          kept = with_record self.old.kept (interval_of (feature_lent bed.now));
-        }) }
-        ensures none_kept { OnErr result (self.old.kept ≡ []) }
-    {
-        let Some(run) = self.run else {
-            return self.open(bed);
-        };
-        self.run = Some(Run {
-            start: run.start,
-            stop: run.stop.max(bed.stop),
-        });
-        Ok(())
-    }
-
-    // Opens a run with the record, where none is open.
-    fn open(&mut self, bed: &BedRef<'_>) -> Result<(), AllocError>
-        ensures { OnOk result (self.new ≡ record self.old {
-          kept = interval_of (feature_lent bed.now) ∷ [];
-        }) }
-    {
-        if self.chrom.as_slice() != bed.chrom {
-            self.chrom.clear();
-            self.chrom.extend_from_slice(bed.chrom)?;
-        }
-        self.run = Some(Run {
-            start: bed.start,
-            stop: bed.stop,
-        });
-        Ok(())
+        Merge { kept }
     }
 }
 
@@ -157,63 +76,37 @@ impl Engine for Merge {
 
     ghost quiet = { is_quiet };
 
-    /// A record that joins the open run, or that isn't merged and leaves that run open, is taken without
-    /// a fault and writes nothing. What no longer can be joined is written first. `NoMemory` is answered
-    /// only where a run has to be opened.
+    /// A record that joins a run that is kept, or that isn't merged, and that passes none that could be
+    /// written, is taken without a fault. What no longer can be joined is written first. `NoMemory` is
+    /// answered only where a run has to be opened.
     fn feed<K: Sink>(&mut self, bed: &BedRef<'_>, out: &mut Out<K>) -> Result<(), Fault>
         ensures feeds { Feeds may_take stands_after kept_fault settled_lines self.old
             (feature_lent bed.now) out.old is_quiet result self.new out.new }
         ensures memory { IsForRun self.old (feature_lent bed.now) result }
     {
-        if let Some(failure) = self.failure {
-            return Err(failure.fault());
-        }
-        match self.take(bed, out) {
-            Ok(()) => Ok(()),
-            Err(failure) => {
-                self.failure = Some(failure);
-                Err(failure.fault())
-            }
+        match &mut self.kept {
+            Kept::Pooled(merge) => merge.feed(bed, out),
+            Kept::Stranded(merge) => merge.feed(bed, out),
         }
     }
 
     fn finish<K: Sink>(self, out: &mut Out<K>) -> Result<(), Fault> {
-        if let Some(before) = self.failure {
-            return Err(before.fault());
-        }
-        match self.run {
-            None => Ok(()),
-            Some(run) => put_interval(self.chrom.as_slice(), run.start, run.stop, out),
+        match self.kept {
+            Kept::Pooled(merge) => merge.finish(out),
+            Kept::Stranded(merge) => merge.finish(out),
         }
     }
 
-    /// How many runs it keeps: 0 or 1.
+    /// How many runs it keeps: 0 or 1, and with each strand by itself as many as wait to be written.
     fn kept_len(&self) -> usize
-        ensures list { result ≡ length self.now.kept }
+        ensures list { result ≡ length (kept_places self.now) }
         ensures held { KeepsHeld may_take stands_after self.now held_count result }
     {
-        usize::from(self.run.is_some())
+        match &self.kept {
+            Kept::Pooled(merge) => merge.kept_len(),
+            Kept::Stranded(merge) => merge.kept_len(),
+        }
     }
-}
-
-// Whether a record of this strand is merged.
-fn counts(wanted: MergeStrand, strand: Strand) -> bool
-    ensures { result ≡ is_counted wanted strand }
-{
-    match wanted {
-        MergeStrand::All => true,
-        MergeStrand::One(wanted) => wanted == strand,
-    }
-}
-
-// Whether the record lies on another chromosome than the run, or starts more than the gap past its
-// end.
-fn has_passed(bed: &BedRef<'_>, chrom: &[u8], run: Run, gap: u64) -> bool
-    requires stop_in_range { run.stop ≤ max_number }
-    requires gap_in_range { gap ≤ max_number }
-    ensures { result ≡ is_passed gap (interval_of (feature_lent bed.now)) (run_at chrom.now run) }
-{
-    chrom != bed.chrom || run.stop + gap < bed.start
 }
 
 #[cfg(test)]

@@ -28,7 +28,7 @@ pub some_of : {A : Type 0} (a : Option A) (value : A) (P : A → Type 0) → a �
 some_of None value P e h = cc
 some_of (Some x) value P e h = let same : x ≡ value = cc in subst P same h
 
-or_else_none : (fault : Option Told) → or_else fault None ≡ fault
+pub or_else_none : (fault : Option Told) → or_else fault None ≡ fault
 or_else_none None = refl
 or_else_none (Some fault) = refl
 

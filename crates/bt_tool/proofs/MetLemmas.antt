@@ -101,18 +101,18 @@ may_come (Some good) seen ended b all = record {
 }
 
 -- the records seen are among those that came before a failed read
-seen_in : (good : Option (Good Feature)) (past seen : List (Member Feature)) (count : ℕ) → IsSome good
+pub seen_in : (good : Option (Good Feature)) (past seen : List (Member Feature)) (count : ℕ) → IsSome good
     → IfSome good (λ good. (rest : List (Member Feature)) × (good.members ≡ past ++ rest) × IsBeyond count (record { members = rest; fault = good.fault }))
     → IfSome good (λ good. (rest : List (Member Feature)) × (good.members ≡ seen ++ rest)) → All (λ m. m.line ≤ count) seen
     → (k : List (Member Feature)) × (past ≡ seen ++ k)
 seen_in None past seen count k f b low = absurd (false≢true k)
 seen_in (Some good) past seen count k f b low = front_in past f.0 seen b.0 count (sym f.1 ∙ b.1) low f.2.members
 
-from_known : {T : Type 0} (o : Option T) (P : Type 0) → IsSome o → IfSome o (λ x. P) → P
+pub from_known : {T : Type 0} (o : Option T) (P : Type 0) → IsSome o → IfSome o (λ x. P) → P
 from_known None P k h = absurd (false≢true k)
 from_known (Some x) P k h = h
 
-puts_kept : (out : Output) (lines : List ℕ) (grown : Output) → PutsLines out lines grown → PutsFront out lines grown
+pub puts_kept : (out : Output) (lines : List ℕ) (grown : Output) → PutsLines out lines grown → PutsFront out lines grown
 puts_kept out lines grown puts = record { front = lines; rest = []; parts = sym (append-nil lines); puts = puts }
 
 module _ {A B O : Type 0} {g : Ghosts O} (a_left : A → Option (List ℕ)) (a_failed a_end : A → Bool) (b_left : B → Option (List ℕ)) (b_failed b_end : B → Bool)

@@ -14,7 +14,7 @@ use Rattle.bt_tool.specs.Usage.{input_named_twice, options_exclusive, required_m
 use Rattle.bt_tool.specs.declared.given.Given.{Given}
 use Rattle.bt_tool.specs.declared.takes.Takes.TheVariants.{FileName}
 use Rattle.bt_tool.specs.declared.tool.Tool.{Tool}
-use Rattle.bt_tool.specs.declared.tool.Tool.TheVariants.{Merge, Complement, Intersect, Subtract, BamToBed}
+use Rattle.bt_tool.specs.declared.tool.Tool.TheVariants.{Merge, Complement, Intersect, Subtract, Coverage, BamToBed, MaskFasta}
 use Rattle.bt_tool.proofs.GivenLemmas.{valued}
 
 -- where nothing is wrong, nothing is lacking
@@ -111,7 +111,9 @@ named-output Merge items copy e = ((λ h. absurd (false≢true h)), λ _. none-o
 named-output Complement items copy e = ((λ h. absurd (false≢true h)), λ _. none-output copy None refl e)
 named-output Intersect items copy e = ((λ h. absurd (false≢true h)), λ _. none-output copy None refl e)
 named-output Subtract items copy e = ((λ h. absurd (false≢true h)), λ _. none-output copy None refl e)
+named-output Coverage items copy e = ((λ h. absurd (false≢true h)), λ _. none-output copy None refl e)
 named-output BamToBed items copy e = ((λ h. absurd (false≢true h)), λ _. none-output copy None refl e)
+named-output MaskFasta items copy e = ((λ h. absurd (false≢true h)), λ none. absurd (false≢true (sym none)))
 
 -- the options that name inputs take the names of files
 is-file : (table : Table) (option word : Word) → takes table option ≡ Some FileName
@@ -124,7 +126,9 @@ genome-file Merge word e = is-file (table_of Merge) (codes "-g") word refl e
 genome-file Complement word e = is-file (table_of Complement) (codes "-g") word refl e
 genome-file Intersect word e = is-file (table_of Intersect) (codes "-g") word refl e
 genome-file Subtract word e = is-file (table_of Subtract) (codes "-g") word refl e
+genome-file Coverage word e = is-file (table_of Coverage) (codes "-g") word refl e
 genome-file BamToBed word e = cc
+genome-file MaskFasta word e = cc
 
 pub second-file : (tool : Tool) (word : Word) → (table_of tool).second ≡ Some word
     → takes (table_of tool) word ≡ Some FileName
@@ -132,11 +136,15 @@ second-file Merge word e = cc
 second-file Complement word e = cc
 second-file Intersect word e = is-file (table_of Intersect) (codes "-b") word refl e
 second-file Subtract word e = is-file (table_of Subtract) (codes "-b") word refl e
+second-file Coverage word e = cc
 second-file BamToBed word e = cc
+second-file MaskFasta word e = is-file (table_of MaskFasta) (codes "-bed") word refl e
 
 pub tool-by : (tool : Tool) (items : List Item) → tool_of (command_by tool items) ≡ tool
 tool-by Merge items = refl
 tool-by Complement items = refl
 tool-by Intersect items = refl
 tool-by Subtract items = refl
+tool-by Coverage items = refl
 tool-by BamToBed items = refl
+tool-by MaskFasta items = refl

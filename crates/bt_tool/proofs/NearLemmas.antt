@@ -60,7 +60,7 @@ module _ {A State : Type 0} (format : Format A State) (input : Input) where
       (found.0, ap (λ l. first ∷ l) found.1 ∙ ap (λ (x : Member A). x ∷ ms ++ found.0) same)
 
   -- members on the first lines are among those that are good of these lines
-  front_from : (more bound number : ℕ) (state : State) (lines : List TextLine) (past rest : List (Member A)) → suc bound ≡ number + more → AreNumbered number lines
+  pub front_from : (more bound number : ℕ) (state : State) (lines : List TextLine) (past rest : List (Member A)) → suc bound ≡ number + more → AreNumbered number lines
       → (good_from format input state lines).members ≡ past ++ rest → All (λ m. m.line ≤ bound) past
       → (extra : List (Member A)) × ((good_from format input state (take more lines)).members ≡ past ++ extra)
   unfolding good_from
@@ -76,14 +76,14 @@ module _ {A State : Type 0} (format : Format A State) (input : Input) where
       (λ now past rest e up. front_from more bound (suc number) now lines past rest (omega arith) n.1 e up) e up
 
 -- the bytes of fewer lines
-take_less : (less more : ℕ) (lines : List TextLine) → less ≤ more → bytes_in (take less lines) ≤ bytes_in (take more lines)
+pub take_less : (less more : ℕ) (lines : List TextLine) → less ≤ more → bytes_in (take less lines) ≤ bytes_in (take more lines)
 take_less zero more lines h = omega arith
 take_less (suc less) zero lines h = absurd (omega arith)
 take_less (suc less) (suc more) [] h = omega arith
 take_less (suc less) (suc more) (x ∷ xs) h =
     omega (arith, bytes_in-append (x ∷ []) (take less xs), bytes_in-append (x ∷ []) (take more xs), take_less less more xs (omega arith))
 
-take_whole : (count : ℕ) (lines : List TextLine) → bytes_in (take count lines) ≤ bytes_in lines
+pub take_whole : (count : ℕ) (lines : List TextLine) → bytes_in (take count lines) ≤ bytes_in lines
 take_whole count lines = omega (arith, bytes_in-append (take count lines) (drop count lines), ap bytes_in (take-append-drop count lines))
 
 and_first : (a b : Bool) → (a && b) ≡ true → a ≡ true
@@ -98,7 +98,7 @@ open_by : (b any all : Bool) → (not b || any) ≡ true → (any ≡ true → a
 open_by true any all e h = h e
 open_by false any all e h = refl
 
-not_all : {X : Type 0} (test : X → Bool) (xs : List X) → list_any (λ x. not (test x)) xs ≡ true → list_all test xs ≡ false
+pub not_all : {X : Type 0} (test : X → Bool) (xs : List X) → list_any (λ x. not (test x)) xs ≡ true → list_all test xs ≡ false
 not_all test [] e = absurd (false≢true e)
 not_all test (x ∷ xs) e = open_by (test x) (list_any (λ x. not (test x)) xs) (list_all test xs) e (not_all test xs)
 

@@ -6,7 +6,7 @@ use Rattle.std.specs.Prelude.{String, option_to_list, string_bytes, get_or, byte
 use Rattle.bt_tool.specs.Items.{Item, IsItem, items_of, words_of, spelled}
 use Rattle.std.specs.Option.{option_or}
 use Rattle.bt_tool.specs.declared.takes.Takes.{Takes}
-use Rattle.bt_tool.specs.declared.takes.Takes.TheVariants.{Nothing, FileName, Number, Fraction, Strand}
+use Rattle.bt_tool.specs.declared.takes.Takes.TheVariants.{Nothing, FileName, Number, Fraction, Strand, Character}
 use Rattle.bt_tool.specs.Options.{last_item, word_fault}
 use Rattle.bt_tool.specs.Plan.{words_seen}
 use Rattle.std.specs.declared.alloc.Global.{Global}
@@ -49,6 +49,7 @@ fits-one FileName value h = refl
 fits-one Number value h = refl
 fits-one Fraction value h = refl
 fits-one Strand value h = refl
+fits-one Character value h = refl
 
 items_of-alone : (table : Table) (kind : Takes) (option : Word) (rest : List Word)
     → takes table option ≡ Some kind → fits kind None ≡ true

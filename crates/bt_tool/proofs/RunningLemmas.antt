@@ -19,6 +19,7 @@ use Rattle.bt_bed.specs.GenomeTable.{entries}
 use Rattle.bt_bed.specs.Good.{good_from}
 use Rattle.bt_bed.specs.LineKind.{is_genome_kind}
 use Rattle.bt_bed.specs.declared.genome.Genome.{Genome}
+use Rattle.bt_runs.specs.Depth.{settled_depths}
 use Rattle.bt_runs.specs.Gaps.{settled_gaps}
 use Rattle.bt_tool.specs.Chromosomes.{KnowsChromosomes, LacksChromosomes, ReadsChromosomes, StopsAtGenome, WritesBy, WritesOutput}
 use Rattle.bt_tool.specs.Driving.{IsOfInput, ReadsNoFurther, TellsDevice, TellsInput, TellsInputIf, TellsLine, TellsRead}
@@ -28,8 +29,9 @@ use Rattle.bt_tool.specs.Inputs.{HandsUpToIf, Inputs}
 use Rattle.bt_tool.specs.RecordReport.{Report}
 use Rattle.bt_tool.specs.Report.{chromosomes_of, command_report, command_reaches, command_settles, first_kinds, reaches_on, report_of, report_on, second_kinds, settles_on}
 use Rattle.bt_tool.specs.declared.plan_type.Command.{Command}
-use Rattle.bt_tool.specs.declared.plan_type.Command.TheVariants.{Merge, Complement, Intersect, Subtract, BamToBed}
+use Rattle.bt_tool.specs.declared.plan_type.Command.TheVariants.{Merge, Complement, Intersect, Subtract, Coverage, BamToBed, MaskFasta}
 use Rattle.bt_tool.proofs.FeedLemmas.{grows_both}
+use Rattle.bt_tool.proofs.WriteLemmas.{merge_settles_none}
 use Rattle.bt_tool.proofs.WritingLemmas.{hands_none}
 use Rattle.bt_tool.proofs.FaultLemmas.{memory_no_write, placed_no_write, some_is, write_no_read}
 
@@ -134,12 +136,14 @@ near_later Beside More adds settles text left before first took more known e f g
 
 -- no line settles nothing
 none_settle : (command : Command) (entries : List Entry) (second : Option Handed) → command_settles command entries second [] ≡ []
-unfolding good_from settled_gaps
-none_settle (Merge d strand) entries second = refl
+unfolding good_from settled_gaps settled_depths
+none_settle (Merge d strand) entries second = merge_settles_none entries d strand
 none_settle (Complement limit) entries second = refl
 none_settle (Intersect shape rule) entries second = refl
 none_settle (Subtract whole rule) entries second = refl
+none_settle (Coverage zeros strand) entries second = refl
 none_settle (BamToBed split cigar) entries second = refl
+none_settle (MaskFasta how full) entries second = refl
 
 none_settle_on : (command : Command) (chromosomes : Result (List Entry) Told) (second : Option Handed) → settles_on command chromosomes second [] ≡ []
 none_settle_on command (Err fault) second = refl

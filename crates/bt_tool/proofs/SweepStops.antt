@@ -1,14 +1,12 @@
 -- Lemmas on how a sweep over two readers stops.
-use Rattle.std.proofs.Common.{◌≡◌, ℕ, ◌≤◌, Bool, true, false, cond, List, [], ◌∷◌, ◌++◌, Option, None, Some, Result, Ok, Err, refl, sym, ap, ◌∙◌, subst, append-nil, append_assoc, option_to_list, arith, inl, inr}
-use Rattle.std.specs.Prelude.{◌⊎◌, All, IfSome, IsSome, IsTrue, is_some, option_map}
+use Rattle.std.proofs.Common.{◌≡◌, ℕ, ◌≤◌, Bool, true, false, cond, List, [], ◌∷◌, ◌++◌, Option, None, Some, Result, Ok, Err, refl, sym, ap, ◌∙◌, subst, append-nil, option_to_list, arith, inl, inr}
+use Rattle.std.specs.Prelude.{◌⊎◌, IfSome, IsSome, IsTrue, is_some, option_map}
 use Rattle.std.specs.List.{list_all}
 use Rattle.std.proofs.KnownBytes.{Appends-nil}
 use Rattle.std.proofs.lemmas.Bool.{false≢true}
 use Rattle.std.proofs.lemmas.List.{map-append}
-use Rattle.std.proofs.lemmas.List.Elements.{All-push}
 use Rattle.bt_lines.specs.Fault.{Told, read_failed}
 use Rattle.bt_lines.specs.Output.{Output, Grows}
-use Rattle.bt_lines.specs.Putting.{FailsToAdd}
 use Rattle.bt_lines.specs.Reader.{Hands, lines_given, source_of}
 use Rattle.bt_lines.specs.declared.fault.Input.{Input}
 use Rattle.bt_bed.specs.Feature.{Feature}
@@ -29,63 +27,24 @@ use Rattle.bt_sweep.specs.declared.hit_rule.HitRule.{HitRule}
 use Rattle.bt_sweep.specs.declared.shape.Shape.{Shape}
 use Rattle.bt_sweep.specs.declared.want.Want.TheVariants.{A as WantA, Nothing}
 use Rattle.bt_sweep.proofs.HitLemmas.{before_lines}
-use Rattle.bt_tool.specs.Feeding.{ComeFirst, CutsLines, PutsFront, PutsLines, member_items}
+use Rattle.bt_tool.specs.Feeding.{ComeFirst, member_items}
 use Rattle.bt_tool.specs.Passing.{AreAll, IsReadFor, IsReadTo, Passes, StopsAfter}
 use Rattle.bt_lines.specs.Names.{told}
 use Rattle.bt_lines.specs.declared.fault.Fault.{Fault}
 use Rattle.bt_tool.specs.Swept.{AsksFor, ChecksAll, ChecksUpTo, Finishes, FinishesBoth, FirstServes, IsOpenAt, ReadsOn, SecondFails, SecondServes, Settles, StaysNear, Sweeps, Why, Wrote}
 use Rattle.bt_tool.specs.Turns.{FailsAtEnd, FailsFirst, FailsSecond, HasStopped, StopsTurn}
-use Rattle.bt_tool.proofs.FeedLemmas.{begins_more, begins_with, front_all, grows_both, line_going, took_later, took_lines, up_to}
+use Rattle.bt_tool.proofs.FeedLemmas.{begins_more, begins_with, grows_both, line_going, took_later, took_lines, up_to}
 use Rattle.bt_tool.proofs.PassedLemmas.{ahead_at, ahead_first, bytes_more, ended_at, no_ahead_at_end, no_ahead_at_stop, passes_all, passes_end, passes_peek, passes_stop, read_ahead, read_at, read_for, stopped_at}
 use Rattle.bt_tool.proofs.RestLemmas.{rises_up}
+use Rattle.bt_tool.proofs.SeenLemmas.{cuts_more, if_known, items_begin, items_first, puts_front, seen_items, seen_low}
 use Rattle.bt_tool.proofs.StopLemmas.{StopsBehind}
 use Rattle.bt_tool.proofs.SweptLemmas.{all_with, all_written, done_by, is_known, ordered, placed_taken, second_goes, settles_end, settles_ended, settles_peeked, settles_with}
-
--- the members before some others, by their items
-items_begin : (good : Option (Good Feature)) (past : List (Member Feature)) (written extra : List Feature) → member_items past ≡ written ++ extra
-    → IfSome good (λ good. (rest : List (Member Feature)) × (good.members ≡ past ++ rest))
-    → IfSome good (λ good. (rest : List Feature) × (items_in good ≡ written ++ (extra ++ rest)))
-items_begin None past written extra e b = tt
-items_begin (Some good) past written extra e b = (
-  member_items b.0,
-  ap member_items b.1 ∙ map-append (λ m. m.item) past b.0 ∙ ap (λ l. l ++ member_items b.0) e ∙ append_assoc written extra (member_items b.0),
-)
-
-items_first : (good : Option (Good Feature)) (written extra : List Feature) → IfSome good (λ good. (rest : List Feature) × (items_in good ≡ written ++ (extra ++ rest)))
-    → IfSome good (λ good. (rest : List Feature) × (items_in good ≡ written ++ rest))
-items_first None written extra b = tt
-items_first (Some good) written extra b = (extra ++ b.0, b.1)
-
--- what holds where a value is known
-if_known : {T : Type 0} (o : Option T) (P : Type 0) → (IsSome o → P) → IfSome o (λ x. P)
-if_known None P h = tt
-if_known (Some x) P h = h refl
-
--- the records seen are those that were passed and the one ahead
-seen_items : (past : List (Member Feature)) (o : Option (Member Feature)) → member_items (past ++ option_to_list o) ≡ member_items past ++ option_to_list (option_map (λ m. m.item) o)
-seen_items past None = map-append (λ m. m.item) past []
-seen_items past (Some m) = map-append (λ m. m.item) past (m ∷ [])
-
-seen_low : (past : List (Member Feature)) (o : Option (Member Feature)) (count : ℕ) → All (λ m. m.line ≤ count) past → IfSome o (λ m. m.line ≤ count) → All (λ m. m.line ≤ count) (past ++ option_to_list o)
-seen_low past None count up low = subst (All (λ (m : Member Feature). m.line ≤ count)) (sym (append-nil past)) up
-seen_low past (Some m) count up low = All-push (λ (m : Member Feature). m.line ≤ count) past m up low
 
 seen_begins : {S O : Type 0} {g : Ghosts O} (left : S → Option (List ℕ)) (old : Option (Good Feature)) (now : Records S O g) (past : List (Member Feature)) (o : Option (Member Feature)) → (view_of now).ahead ≡ o
     → ComeFirst old past (good_coming left (view_of now)) → IfSome old (λ good. (rest : List (Member Feature)) × (good.members ≡ (past ++ option_to_list o) ++ rest))
 seen_begins left old now past None e come =
     subst (λ l. IfSome old (λ good. (rest : List (Member Feature)) × (good.members ≡ l ++ rest))) (sym (append-nil past)) (begins_with old (good_coming left (view_of now)) past come)
 seen_begins left old now past (Some m) e come = begins_more old (good_coming left (view_of now)) past m come (ahead_first left (view_of now) m e)
-
-puts_front : (out : Output) (lines : List ℕ) (grown : Output) → PutsLines out lines grown → PutsFront out lines grown
-puts_front out lines grown puts = record { front = lines; rest = []; parts = sym (append-nil lines); puts = puts }
-
--- the lines that couldn't be added were cut off
-cuts_more : (out old new : Output) (lines more : List ℕ) (fault : Told) → PutsLines out lines old → FailsToAdd old more fault new → CutsLines out (lines ++ more) new
-cuts_more out old new lines more fault puts fails = record {
-  front = λ before e. front_all new.took old.put before lines more (lines ++ more) refl (puts before e) fails.puts.front;
-  failed = fails.puts.failed;
-  sink_failed = fails.puts.sink_failed;
-}
 
 module _ {A B O : Type 0} {g : Ghosts O} (a_left : A → Option (List ℕ)) (a_failed a_end : A → Bool) (b_left : B → Option (List ℕ)) (b_failed b_end : B → Bool)
     (shape : Shape) (rule : HitRule) (old_first : Records A O g) (old_second : Records B O g) (out : Output) (total : IsTotal (order_in old_first)) (same_order : order_in old_second ≡ order_in old_first)

@@ -66,7 +66,7 @@ not_true false h = refl
 pub grown_puts : (out old new : Output) (lines more : List ℕ) → PutsLines out lines old → Grown old more new → PutsLines out (lines ++ more) new
 grown_puts out old new lines more puts grown before e = text_grows old.put new.put before lines more (lines ++ more) refl grown.appends (puts before e)
 
-grown_works : (old new : Output) (more : List ℕ) → Grown old more new → WorksAsBefore old new
+pub grown_works : (old new : Output) (more : List ℕ) → Grown old more new → WorksAsBefore old new
 grown_works old new more grown = record { served = grown.served; sink_served = grown.sink_served; put = (more, grown.appends); block = grown.block }
 
 module _ (order : Order) (shape : Shape) (rule : HitRule) where

@@ -2,6 +2,7 @@
 use Rattle.std.proofs.Common.{◌≡◌, ℕ, ◌+◌, ◌-◌, ◌≤◌, Bool, List, [], ◌++◌, length, take, Option, None, Some, refl, sym, ap, ◌∙◌, subst}
 use Rattle.std.specs.Prelude.{IfSome}
 use Rattle.std.proofs.lemmas.Grind.{flat_map-append}
+use Rattle.std.proofs.lemmas.List.{map-append}
 use Rattle.bt_lines.specs.Fault.{Told}
 use Rattle.bt_lines.specs.Handed.{Handed, whole_text}
 use Rattle.bt_lines.specs.Lines.{TextLine, text_lines}
@@ -22,14 +23,19 @@ use Rattle.bt_bed.specs.RankTotal.{ranks_total}
 use Rattle.bt_bed.specs.Sorting.{sorting_of}
 use Rattle.bt_bed.proofs.GoodBedLemmas.{placed_good, placed_lines}
 use Rattle.bt_runs.specs.Gaps.{settled_gaps}
-use Rattle.bt_runs.specs.MergedRuns.{merged_runs, passed_by, settled_runs}
+use Rattle.bt_runs.specs.MergedRuns.{AreTaken, merged_runs, passed_by, settled_runs}
+use Rattle.bt_runs.specs.Merging.{Merging, Together, Apart, merge_begun, settled_lines, whole_output}
+use Rattle.bt_runs.specs.StrandRuns.{places_of, settled_strand_runs, strand_runs}
 use Rattle.bt_runs.specs.Settling.{SettledBegins, SettledStays}
 use Rattle.bt_runs.specs.declared.merge_strand.MergeStrand.{MergeStrand}
+use Rattle.bt_runs.specs.declared.merge_strand.MergeStrand.TheVariants.{All, Each, One}
 use Rattle.bt_runs.proofs.FileOrder.{in_file_order}
+use Rattle.bt_runs.proofs.SettledRuns.{runs_begin, runs_stay}
+use Rattle.bt_runs.proofs.StrandSettling.{begin, no_strand_settled, stay}
 use Rattle.bt_tool.specs.Driving.{IsReported, WritesInput, WritesRecords}
 use Rattle.bt_tool.specs.RecordReport.{Report, records_report, records_settle, report_by}
 use Rattle.bt_tool.specs.Report.{command_report, command_settles, order_of}
-use Rattle.bt_tool.specs.Written.{Written, complement_written, merge_written}
+use Rattle.bt_tool.specs.Written.{Written, complement_written, merge_written, pooled_written}
 use Rattle.bt_tool.specs.declared.plan_type.Command.{Command}
 use Rattle.bt_tool.specs.declared.plan_type.Command.TheVariants.{Merge, Complement}
 
@@ -46,16 +52,33 @@ lines_begin settled whole Taken begins past more taken =
     (interval_lines s.0, ap interval_lines s.1 ∙ flat_map-append interval_line (settled past) s.0)
 
 -- what a merge writes, chromosomes as they come
-abbrev pub merge_as_they_come : ℕ → MergeStrand → Written Feature
-merge_as_they_come d strand = record {
-  whole = λ records. interval_lines (merged_runs d strand records);
-  settled = λ records. interval_lines (settled_runs d strand records);
-}
+abbrev pub merge_as_they_come : Merging → Written Feature
+merge_as_they_come merge = record { whole = whole_output merge; settled = settled_lines merge }
 
 -- a merge that has taken no record has settled nothing
-pub merge_begins : (gap : ℕ) (strand : MergeStrand) → interval_lines (settled_runs gap strand []) ≡ []
+pub merge_begins : (merge : Merging) → settled_lines merge [] ≡ []
 unfolding settled_runs
-merge_begins gap strand = refl
+merge_begins (Together merge) = refl
+merge_begins (Apart merge) = ap (λ items. interval_lines (places_of items)) (no_strand_settled merge.gap)
+
+-- nor does it write any of no records
+pub merge_settles_none : (entries : List Entry) (d : ℕ) (strand : MergeStrand) → (merge_written entries d strand).settled [] ≡ []
+merge_settles_none entries d All = refl
+merge_settles_none entries d Each = ap (λ items. interval_lines (places_of items)) (no_strand_settled d)
+merge_settles_none entries d (One strand) = refl
+
+-- what it has settled stays, and begins the whole
+pub merge_stays : (merge : Merging) → SettledStays (settled_lines merge) AreTaken
+merge_stays (Together merge) = lines_stay (settled_runs merge.gap merge.strand) AreTaken (runs_stay merge.gap merge.strand)
+merge_stays (Apart merge) = lines_stay (λ records. places_of (settled_strand_runs merge.gap records)) AreTaken (λ past more taken.
+    let s = stay merge.gap past more taken in
+    (places_of s.0, ap places_of s.1 ∙ map-append (λ item. item.run) (settled_strand_runs merge.gap past) s.0))
+
+pub merge_begins_whole : (merge : Merging) → SettledBegins (settled_lines merge) (whole_output merge) AreTaken
+merge_begins_whole (Together merge) = lines_begin (settled_runs merge.gap merge.strand) (merged_runs merge.gap merge.strand) AreTaken (runs_begin merge.gap merge.strand)
+merge_begins_whole (Apart merge) = lines_begin (λ records. places_of (settled_strand_runs merge.gap records)) (λ records. places_of (strand_runs merge.gap records)) AreTaken (λ past more taken.
+    let s = begin merge.gap past more taken in
+    (places_of s.0, ap places_of s.1 ∙ map-append (λ item. item.run) (settled_strand_runs merge.gap past) s.0))
 
 -- a complement that has taken no record has settled nothing
 pub complement_begins : (limit : Bool) (entries : List Entry) → interval_lines (settled_gaps limit entries []) ≡ []
@@ -98,46 +121,56 @@ module _ (entries : List Entry) (distinct : AreDistinct (genome_names entries)) 
   total = ranks_total (genome_names entries)
 
   -- merged runs come in the order of the genome file
-  merged_same : (d : ℕ) (strand : MergeStrand) (records : List Feature) → ArePlaced (order_of entries) (intervals_of records)
-      → interval_lines (merged_runs d strand records) ≡ (merge_written entries d strand).whole records
-  merged_same d strand records placed = ap interval_lines (sym (in_file_order (genome_names entries) d strand records distinct placed))
+  pooled_same : (d : ℕ) (strand : MergeStrand) (records : List Feature) → ArePlaced (order_of entries) (intervals_of records)
+      → interval_lines (merged_runs d strand records) ≡ (pooled_written entries d strand).whole records
+  pooled_same d strand records placed = ap interval_lines (sym (in_file_order (genome_names entries) d strand records distinct placed))
 
-  settled_same : (d : ℕ) (strand : MergeStrand) (records : List Feature) → ArePlaced (order_of entries) (intervals_of records)
-      → interval_lines (settled_runs d strand records) ≡ (merge_written entries d strand).settled records
+  pooled_settled : (d : ℕ) (strand : MergeStrand) (records : List Feature) → ArePlaced (order_of entries) (intervals_of records)
+      → interval_lines (settled_runs d strand records) ≡ (pooled_written entries d strand).settled records
   unfolding settled_runs
-  settled_same d strand records placed =
+  pooled_settled d strand records placed =
       ap (λ runs. interval_lines (passed_by d runs (last_of (intervals_of records)))) (sym (in_file_order (genome_names entries) d strand records distinct placed))
 
+  merged_same : (d : ℕ) (strand : MergeStrand) (records : List Feature) → ArePlaced (order_of entries) (intervals_of records)
+      → whole_output (merge_begun d strand) records ≡ (merge_written entries d strand).whole records
+  merged_same d All records placed = pooled_same d All records placed
+  merged_same d Each records placed = refl
+  merged_same d (One strand) records placed = pooled_same d (One strand) records placed
+
+  settled_same : (d : ℕ) (strand : MergeStrand) (records : List Feature) → ArePlaced (order_of entries) (intervals_of records)
+      → settled_lines (merge_begun d strand) records ≡ (merge_written entries d strand).settled records
+  settled_same d All records placed = pooled_settled d All records placed
+  settled_same d Each records placed = refl
+  settled_same d (One strand) records placed = pooled_settled d (One strand) records placed
+
   report_same : (d : ℕ) (strand : MergeStrand) (records : List Feature) (fault : Option Told) → ArePlaced (order_of entries) (intervals_of records)
-      → report_by (merge_as_they_come d strand) records fault ≡ report_by (merge_written entries d strand) records fault
+      → report_by (merge_as_they_come (merge_begun d strand)) records fault ≡ report_by (merge_written entries d strand) records fault
   report_same d strand records None placed = ap (λ l. record { output = l; fault = None }) (merged_same d strand records placed)
   report_same d strand records (Some fault) placed = ap (λ l. record { output = l; fault = Some fault }) (settled_same d strand records placed)
 
   -- so what a merge writes, chromosomes as they come, is the report
   pub merge_reports : (d : ℕ) (strand : MergeStrand) (handed : Handed)
-      → records_report (merge_as_they_come d strand) (order_of entries) handed ≡ records_report (merge_written entries d strand) (order_of entries) handed
+      → records_report (merge_as_they_come (merge_begun d strand)) (order_of entries) handed ≡ records_report (merge_written entries d strand) (order_of entries) handed
   merge_reports d strand handed =
       let good = bed_good First (order_of entries) handed in
       report_same d strand (items_in good) good.fault (placed_good First (order_of entries) handed total)
 
   pub merge_settles : (d : ℕ) (strand : MergeStrand) (lines : List TextLine)
-      → records_settle (merge_as_they_come d strand) (order_of entries) lines ≡ records_settle (merge_written entries d strand) (order_of entries) lines
+      → records_settle (merge_as_they_come (merge_begun d strand)) (order_of entries) lines ≡ records_settle (merge_written entries d strand) (order_of entries) lines
   merge_settles d strand lines =
       settled_same d strand (items_in (good (bed_format (sorting_of (order_of entries))) First lines)) (placed_lines First (order_of entries) lines total)
 
   -- a merge's records were written as the command asks for
-  pub merge_writes : {A : Type 0} (left : A → Option (List ℕ)) (failed : A → Bool) (command : Command) (d gap : ℕ) (strand counted : MergeStrand) → command ≡ Merge d strand → gap ≡ d → counted ≡ strand
+  pub merge_writes : {A : Type 0} (left : A → Option (List ℕ)) (failed : A → Bool) (command : Command) (d : ℕ) (strand : MergeStrand) (merge : Merging) → command ≡ Merge d strand → merge ≡ merge_begun d strand
       → (first : A) (out : Output) (fault : Option Told) (new : A) (grown : Output)
-      → WritesRecords left failed (merge_as_they_come gap counted) (order_of entries) first out fault new grown
+      → WritesRecords left failed (merge_as_they_come merge) (order_of entries) first out fault new grown
       → WritesInput left failed is_bed_kind (λ handed. command_report command entries handed None) (command_settles command entries None) first out fault new grown
-  merge_writes left failed command d gap strand counted is same_gap same_strand =
-      writes_same left failed is_bed_kind (records_report (merge_as_they_come gap counted) (order_of entries)) (λ handed. command_report command entries handed None)
-      (records_settle (merge_as_they_come gap counted) (order_of entries)) (command_settles command entries None)
-      (λ handed. ap (λ n. records_report (merge_as_they_come n counted) (order_of entries) handed) same_gap
-      ∙ ap (λ s. records_report (merge_as_they_come d s) (order_of entries) handed) same_strand
+  merge_writes left failed command d strand merge is begun =
+      writes_same left failed is_bed_kind (records_report (merge_as_they_come merge) (order_of entries)) (λ handed. command_report command entries handed None)
+      (records_settle (merge_as_they_come merge) (order_of entries)) (command_settles command entries None)
+      (λ handed. ap (λ m. records_report (merge_as_they_come m) (order_of entries) handed) begun
       ∙ merge_reports d strand handed ∙ ap (λ c. command_report c entries handed None) (sym is))
-      (λ lines. ap (λ n. records_settle (merge_as_they_come n counted) (order_of entries) lines) same_gap
-      ∙ ap (λ s. records_settle (merge_as_they_come d s) (order_of entries) lines) same_strand
+      (λ lines. ap (λ m. records_settle (merge_as_they_come m) (order_of entries) lines) begun
       ∙ merge_settles d strand lines ∙ ap (λ c. command_settles c entries None lines) (sym is))
 
 -- and a complement's

@@ -8,7 +8,6 @@ use Rattle.bt_lines.specs.Lines.{TextLine, text_lines}
 use Rattle.bt_lines.specs.Output.{Output, IsFrontOf, block_size}
 use Rattle.bt_lines.specs.declared.fault.Input.TheVariants.{First, Second}
 use Rattle.bt_lines.specs.declared.fault.Kind.{Kind}
-use Rattle.bt_bed.specs.LineKind.{is_bed_kind}
 use Rattle.bt_tool.specs.Both.{WritesBoth}
 use Rattle.bt_tool.specs.Driving.{IsOfInput, IsReported, ReadsNoFurther, TellsDevice, TellsInput, TellsInputIf, WritesInput}
 use Rattle.bt_tool.specs.Inputs.{HandsUpToIf, Holds, HoldsIf, Reads, ReadsIf, ServesIf}
@@ -69,8 +68,8 @@ module _ {A B : Type 0} (a_left : A → Option (List ℕ)) (a_failed a_end : A �
     }
 
   -- a command that looks at both
-  module _ (report : Handed → Handed → Report) (settles : Handed → List TextLine → List ℕ) (reaches : Handed → List TextLine → ℕ)
-      (first : A) (second : B) (out : Output) (fault : Option Told) (first_after : A) (second_after : B) (grown : Output) (w : WritesBoth a_left a_failed a_end b_left b_failed report settles reaches first second out fault first_after second_after grown) where
+  module _ (first_kinds second_kinds : Kind → Bool) (report : Handed → Handed → Report) (settles : Handed → List TextLine → List ℕ) (reaches : Handed → List TextLine → ℕ)
+      (first : A) (second : B) (out : Output) (fault : Option Told) (first_after : A) (second_after : B) (grown : Output) (w : WritesBoth a_left a_failed a_end b_left b_failed first_kinds second_kinds report settles reaches first second out fault first_after second_after grown) where
     whole_of : (one : Handed) (two : Option Handed) (before : List ℕ) → Reads a_left a_failed first first_after one
         → ReadsIf b_left b_failed (Some second) (Some second_after) two → out.put ≡ Some before
         → fault ≢ Some write_failed → fault ≢ Some no_memory → IsReported (report one (or_empty two)) before fault grown
@@ -106,7 +105,7 @@ module _ {A B : Type 0} (a_left : A → Option (List ℕ)) (a_failed a_end : A �
     near_of one (Some two) before taken holds others put known =
         rw (holds.is, others.is) (w.near holds.text others.text before taken holds.known others.known put known)
 
-    pub both_write : WritesInputs a_left a_failed a_end b_left b_failed is_bed_kind is_bed_kind (λ one two. report one (or_empty two)) (λ two. settles (or_empty two)) (λ two. reaches (or_empty two))
+    pub both_write : WritesInputs a_left a_failed a_end b_left b_failed first_kinds second_kinds (λ one two. report one (or_empty two)) (λ two. settles (or_empty two)) (λ two. reaches (or_empty two))
         first (Some second) out fault first_after (Some second_after) grown
     both_write = record {
       whole = whole_of;

@@ -6,6 +6,7 @@ use Rattle.bt_lines.specs.Handed.{Handed, whole_text}
 use Rattle.bt_lines.specs.Lines.{TextLine, bytes_in, text_lines}
 use Rattle.bt_lines.specs.Output.{Output, IsFrontOf, Grows, block_size}
 use Rattle.bt_lines.specs.declared.fault.Input.TheVariants.{First, Second}
+use Rattle.bt_lines.specs.declared.fault.Kind.{Kind}
 use Rattle.bt_bed.specs.Feature.{Feature}
 use Rattle.bt_bed.specs.Good.{Member, good, items_in}
 use Rattle.bt_bed.specs.GoodBed.{bed_format, bed_good}
@@ -71,7 +72,7 @@ intersect_reaches order second lines =
 abbrev pub subtract_reaches : Order → Handed → List TextLine → ℕ
 subtract_reaches = intersect_reaches
 
-module _ {A B : Type 0} (a_left : A → Option (List ℕ)) (a_failed a_end : A → Bool) (b_left : B → Option (List ℕ)) (b_failed : B → Bool) (report : Handed → Handed → Report) (settles : Handed → List TextLine → List ℕ) (reaches : Handed → List TextLine → ℕ) where
+module _ {A B : Type 0} (a_left : A → Option (List ℕ)) (a_failed a_end : A → Bool) (b_left : B → Option (List ℕ)) (b_failed : B → Bool) (first_kinds second_kinds : Kind → Bool) (report : Handed → Handed → Report) (settles : Handed → List TextLine → List ℕ) (reaches : Handed → List TextLine → ℕ) where
   -- two inputs were read, and what they make a command write was written: the report on what they hand over
   pub record WritesBoth (first : A) (second : B) (out : Output) (fault : Option Told) (first_after : A) (second_after : B) (grown : Output) : Type 0 where
     -- no write and no growth failed: the report on what was handed over, also where a read failed
@@ -101,12 +102,12 @@ module _ {A B : Type 0} (a_left : A → Option (List ℕ)) (a_failed a_end : A �
         (settles (whole_text two)) one (a_left first_after) before grown.took
     -- what the fault may be, whatever the devices do
     pub named : (told : Told) → fault ≡ Some told
-        → (TellsInput a_left a_failed is_bed_kind First first first_after told
-        ⊎ TellsInput b_left b_failed is_bed_kind Second second second_after told)
+        → (TellsInput a_left a_failed first_kinds First first first_after told
+        ⊎ TellsInput b_left b_failed second_kinds Second second second_after told)
         ⊎ TellsDevice grown.sink_has_failed told
 
 -- two inputs were swept, in an order of their chromosomes
 abbrev pub Intersects : {A B : Type 0} → (A → Option (List ℕ)) → (A → Bool) → (A → Bool) → (B → Option (List ℕ)) → (B → Bool)
     → Order → Shape → HitRule → A → B → Output → Option Told → A → B → Output → Type 0
 Intersects a_left a_failed a_end b_left b_failed order shape rule =
-    WritesBoth a_left a_failed a_end b_left b_failed (intersect_report order shape rule) (intersect_settles order shape rule) (intersect_reaches order)
+    WritesBoth a_left a_failed a_end b_left b_failed is_bed_kind is_bed_kind (intersect_report order shape rule) (intersect_settles order shape rule) (intersect_reaches order)

@@ -1,4 +1,5 @@
 pub mod Fraction
+pub mod Character
 pub mod Items
 pub mod ItemLent
 pub mod Given
@@ -21,9 +22,13 @@ pub mod Converted
 pub mod Converting
 pub mod Writing
 pub mod Both
+pub mod Masked
 pub mod Turns
 pub mod Passing
+pub mod Passed
 pub mod Swept
+pub mod MaskTurns
+pub mod Masks
 pub mod Coming
 pub mod Report
 pub mod Chromosomes

@@ -1,9 +1,17 @@
 -- The limits of the numbers of a plan.
 use Rattle.std.specs.Prelude.{Bool, true, nat_le}
 use Rattle.bt_lines.specs.Number.{max_number}
+use Rattle.bt_seq.specs.declared.mask_how.MaskHow.{MaskHow}
+use Rattle.bt_seq.specs.declared.mask_how.MaskHow.TheVariants.{Soft, Hard}
+use Rattle.bt_tool.specs.Character.{is_printable}
 use Rattle.bt_tool.specs.Fraction.{one_in_billionths}
 use Rattle.bt_tool.specs.declared.plan_type.Command.{Command}
-use Rattle.bt_tool.specs.declared.plan_type.Command.TheVariants.{Merge, Complement, Intersect, Subtract, BamToBed}
+use Rattle.bt_tool.specs.declared.plan_type.Command.TheVariants.{Merge, Complement, Intersect, Subtract, Coverage, BamToBed, MaskFasta}
+
+-- whether a masked base can be shown so
+abbrev pub is_shown_as : MaskHow → Bool
+is_shown_as Soft = true
+is_shown_as (Hard byte) = is_printable byte
 
 -- whether the numbers of a command are within their limits
 abbrev pub is_within_limits : Command → Bool
@@ -11,4 +19,6 @@ is_within_limits (Merge d strand) = nat_le d max_number
 is_within_limits (Complement limit) = true
 is_within_limits (Intersect shape rule) = nat_le rule.billionths one_in_billionths
 is_within_limits (Subtract whole rule) = nat_le rule.billionths one_in_billionths
+is_within_limits (Coverage zeros strand) = true
 is_within_limits (BamToBed split cigar) = true
+is_within_limits (MaskFasta how full) = is_shown_as how

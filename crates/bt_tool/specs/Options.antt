@@ -1,19 +1,23 @@
 -- What a list of words asks for: the plan, or the fault of its usage.
-use Rattle.std.specs.Prelude.{◌≡◌, ℕ, ◌+◌, Bool, List, [], ◌∷◌, ◌++◌, ◌||◌, ◌&&◌, false, true, not, Option, Some, None, Result, Ok, Err, MatchOption, bytes_eq, codes, count_by, drop, if◌then◌else◌, is_some, length, nat_lt, option_and_then, option_to_list, unwrap_or}
+use Rattle.std.specs.Prelude.{◌≡◌, ℕ, ◌+◌, Bool, List, [], ◌∷◌, ◌++◌, ◌||◌, ◌&&◌, false, true, not, Option, Some, None, Result, Ok, Err, MatchOption, bytes_eq, codes, count_by, drop, if◌then◌else◌, is_some, length, nat_lt, option_and_then, option_map, option_to_list, unwrap_or}
 use Rattle.std.specs.List.{list_any}
 use Rattle.std.specs.Option.{option_map_or, option_or}
 use Rattle.bt_bed.specs.Record.{strand_named}
+use Rattle.bt_bed.specs.declared.strand.Strand.{Strand}
 use Rattle.bt_lines.specs.Number.{value_of as number_of}
 use Rattle.bt_runs.specs.declared.merge_strand.MergeStrand.{MergeStrand}
-use Rattle.bt_runs.specs.declared.merge_strand.MergeStrand.TheVariants.{All, One}
+use Rattle.bt_runs.specs.declared.merge_strand.MergeStrand.TheVariants.{All, Each, One}
+use Rattle.bt_seq.specs.declared.mask_how.MaskHow.{MaskHow}
+use Rattle.bt_seq.specs.declared.mask_how.MaskHow.TheVariants.{Soft, Hard}
 use Rattle.bt_sweep.specs.declared.hit_rule.HitRule.{HitRule}
 use Rattle.bt_sweep.specs.declared.shape.Shape.{Shape}
 use Rattle.bt_sweep.specs.declared.shape.Shape.TheVariants.{Cut, OrigA, CutAndB, OrigBoth, Overlap, Once, Missing, Count}
 use Rattle.bt_tool.specs.declared.plan_type.Command.{Command}
-use Rattle.bt_tool.specs.declared.plan_type.Command.TheVariants.{Merge as MergeWith, Complement as ComplementWith, Intersect as IntersectWith, Subtract as SubtractWith, BamToBed as BamToBedWith}
+use Rattle.bt_tool.specs.declared.plan_type.Command.TheVariants.{Merge as MergeWith, Complement as ComplementWith, Intersect as IntersectWith, Subtract as SubtractWith, Coverage as CoverageWith, BamToBed as BamToBedWith, MaskFasta as MaskFastaWith}
 use Rattle.bt_tool.specs.declared.tool.Tool.{Tool}
-use Rattle.bt_tool.specs.declared.tool.Tool.TheVariants.{Merge, Complement, Intersect, Subtract, BamToBed}
+use Rattle.bt_tool.specs.declared.tool.Tool.TheVariants.{Merge, Complement, Intersect, Subtract, Coverage, BamToBed, MaskFasta}
 use Rattle.bt_tool.specs.declared.usage.Usage.{Usage}
+use Rattle.bt_tool.specs.Character.{character_of}
 use Rattle.bt_tool.specs.Fraction.{fraction_of}
 use Rattle.bt_tool.specs.Items.{Item, IsLongestDivision, items_of, spelled}
 use Rattle.bt_tool.specs.Table.{Word, Table, command_named, table_of, takes}
@@ -75,10 +79,15 @@ abbrev pub output_by : Option Word → Option Word
 output_by None = None
 output_by (Some name) = if is_standard_output name then None else Some name
 
--- the strand whose records are merged, by the value of -S; without one all are
-abbrev pub strand_by : Option Word → MergeStrand
-strand_by None = All
-strand_by (Some word) = One (strand_named word)
+-- the records that are merged: with -s those of each strand by themselves, else those of the strand that is the value of -S, and without one all
+abbrev pub strand_by : Bool → Option Word → MergeStrand
+strand_by true value = Each
+strand_by false None = All
+strand_by false (Some word) = One (strand_named word)
+
+-- the strand whose records are counted, by the value of -strand; without one all are
+abbrev pub counted_strand_by : Option Word → Option Strand
+counted_strand_by value = option_map strand_named value
 
 -- the number that the value of an option denotes, 0 without one
 abbrev pub number_by : Option Word → ℕ
@@ -111,13 +120,24 @@ shape_by items = if is_given items (codes "-u") then Once
     else (if is_given items (codes "-wo") then Overlap
     else hit_shape (is_given items (codes "-wa")) (is_given items (codes "-wb")))))
 
+-- the character that stands for a masked base, by the value of -mc; without one it is `N`
+abbrev pub mask_by : Option Word → ℕ
+mask_by value = unwrap_or (option_and_then character_of value) 78
+
+-- what stands for a masked base: with -soft its lower case
+abbrev pub mask_how_by : List Item → MaskHow
+mask_how_by items = if is_given items (codes "-soft") then Soft else Hard (mask_by (value_of items (codes "-mc")))
+
 -- the command that the items ask for
 abbrev pub command_by : Tool → List Item → Command
-command_by Merge items = MergeWith (number_by (value_of items (codes "-d"))) (strand_by (value_of items (codes "-S")))
+command_by Merge items = MergeWith (number_by (value_of items (codes "-d"))) (strand_by (is_given items (codes "-s")) (value_of items (codes "-S")))
 command_by Complement items = ComplementWith (is_given items (codes "-L"))
 command_by Intersect items = IntersectWith (shape_by items) (rule_by items (is_given items (codes "-r")))
 command_by Subtract items = SubtractWith (is_given items (codes "-A")) (rule_by items false)
+command_by Coverage items =
+    CoverageWith (is_given items (codes "-bga")) (counted_strand_by (value_of items (codes "-strand")))
 command_by BamToBed items = BamToBedWith (is_given items (codes "-split")) (is_given items (codes "-cigar"))
+command_by MaskFasta items = MaskFastaWith (mask_how_by items) (is_given items (codes "-fullHeader"))
 
 -- the names of the inputs and of the output, as the items give them
 pub record Named : Type 0 where

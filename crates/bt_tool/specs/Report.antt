@@ -16,10 +16,11 @@ use Rattle.bt_tool.specs.Options.{PlanSeen, options}
 use Rattle.bt_tool.specs.Table.{Word, tool_name, tool_of}
 use Rattle.bt_tool.specs.Usage.{usage_text}
 use Rattle.bt_tool.specs.Both.{intersect_reaches, intersect_report, intersect_settles, subtract_reaches, subtract_report, subtract_settles}
+use Rattle.bt_tool.specs.Masked.{is_fasta_kind, is_mask_kind, mask_reaches, mask_report, mask_settles}
 use Rattle.bt_tool.specs.RecordReport.{Report, records_report, records_settle}
-use Rattle.bt_tool.specs.Written.{complement_written, merge_written}
+use Rattle.bt_tool.specs.Written.{complement_written, coverage_written, merge_written}
 use Rattle.bt_tool.specs.declared.plan_type.Command.{Command}
-use Rattle.bt_tool.specs.declared.plan_type.Command.TheVariants.{Merge, Complement, Intersect, Subtract, BamToBed}
+use Rattle.bt_tool.specs.declared.plan_type.Command.TheVariants.{Merge, Complement, Intersect, Subtract, Coverage, BamToBed, MaskFasta}
 use Rattle.bt_tool.specs.declared.usage.Usage.{Usage}
 use Rattle.bt_tool.specs.declared.usage.Refusal.{Refusal}
 use Rattle.bt_tool.specs.declared.usage.Refusal.TheVariants.{Usage as InWords, NoMemory}
@@ -42,7 +43,10 @@ command_report (Intersect shape rule) entries first second =
     intersect_report (order_of entries) shape rule first (or_empty second)
 command_report (Subtract whole rule) entries first second =
     subtract_report (order_of entries) whole rule first (or_empty second)
+command_report (Coverage zeros strand) entries first second =
+    records_report (coverage_written entries zeros strand) (order_of entries) first
 command_report (BamToBed split cigar) entries first second = bamtobed_report split cigar first
+command_report (MaskFasta how full) entries first second = mask_report how full first (or_empty second)
 
 -- what the first lines of the first input settle
 abbrev pub command_settles : Command → List Entry → Option Handed → List TextLine → List ℕ
@@ -54,7 +58,10 @@ command_settles (Intersect shape rule) entries second lines =
     intersect_settles (order_of entries) shape rule (or_empty second) lines
 command_settles (Subtract whole rule) entries second lines =
     subtract_settles (order_of entries) whole rule (or_empty second) lines
+command_settles (Coverage zeros strand) entries second lines =
+    records_settle (coverage_written entries zeros strand) (order_of entries) lines
 command_settles (BamToBed split cigar) entries second lines = bamtobed_settles split cigar lines
+command_settles (MaskFasta how full) entries second lines = mask_settles how full (or_empty second) lines
 
 -- the kinds of fault that a line of a command's first input can have
 abbrev pub first_kinds : Command → Kind → Bool
@@ -62,7 +69,9 @@ first_kinds (Merge d strand) kind = is_bed_kind kind
 first_kinds (Complement limit) kind = is_bed_kind kind
 first_kinds (Intersect shape rule) kind = is_bed_kind kind
 first_kinds (Subtract whole rule) kind = is_bed_kind kind
+first_kinds (Coverage zeros strand) kind = is_bed_kind kind
 first_kinds (BamToBed split cigar) kind = is_sam_kind kind
+first_kinds (MaskFasta how full) kind = is_fasta_kind kind
 
 -- and one of its second input
 abbrev pub second_kinds : Command → Kind → Bool
@@ -70,7 +79,9 @@ second_kinds (Merge d strand) kind = false
 second_kinds (Complement limit) kind = false
 second_kinds (Intersect shape rule) kind = is_bed_kind kind
 second_kinds (Subtract whole rule) kind = is_bed_kind kind
+second_kinds (Coverage zeros strand) kind = false
 second_kinds (BamToBed split cigar) kind = false
+second_kinds (MaskFasta how full) kind = is_mask_kind kind
 
 -- the chromosomes of the genome file, or its fault; without a genome file no chromosome is known
 abbrev pub chromosomes_of : Option Handed → Result (List Entry) Told
@@ -100,7 +111,9 @@ command_reaches (Intersect shape rule) entries second lines =
     intersect_reaches (order_of entries) (or_empty second) lines
 command_reaches (Subtract whole rule) entries second lines =
     subtract_reaches (order_of entries) (or_empty second) lines
+command_reaches (Coverage zeros strand) entries second lines = 0
 command_reaches (BamToBed split cigar) entries second lines = 0
+command_reaches (MaskFasta how full) entries second lines = mask_reaches full (or_empty second) lines
 
 -- the same by the genome file: after its fault nothing is asked for
 abbrev pub reaches_on : Command → Result (List Entry) Told → Option Handed → List TextLine → ℕ

@@ -5,19 +5,20 @@ use Rattle.std.specs.Prelude.{ℕ, Bool, false, true, ◌||◌, List, [], ◌∷
 use Rattle.std.specs.List.{list_any}
 use Rattle.std.specs.Option.{option_map_or}
 use Rattle.bt_lines.specs.Number.{value_of as number_of}
+use Rattle.bt_tool.specs.Character.{character_of}
 use Rattle.bt_tool.specs.Fraction.{fraction_of}
 use Rattle.bt_tool.specs.declared.plan_type.Command.{Command}
-use Rattle.bt_tool.specs.declared.plan_type.Command.TheVariants.{Merge as MergeWith, Complement as ComplementWith, Intersect as IntersectWith, Subtract as SubtractWith, BamToBed as BamToBedWith}
+use Rattle.bt_tool.specs.declared.plan_type.Command.TheVariants.{Merge as MergeWith, Complement as ComplementWith, Intersect as IntersectWith, Subtract as SubtractWith, Coverage as CoverageWith, BamToBed as BamToBedWith, MaskFasta as MaskFastaWith}
 use Rattle.bt_tool.specs.declared.takes.Takes.{Takes}
-use Rattle.bt_tool.specs.declared.takes.Takes.TheVariants.{Nothing, FileName, Number, Fraction, Strand}
+use Rattle.bt_tool.specs.declared.takes.Takes.TheVariants.{Nothing, FileName, Number, Fraction, Strand, Character}
 use Rattle.bt_tool.specs.declared.tool.Tool.{Tool}
-use Rattle.bt_tool.specs.declared.tool.Tool.TheVariants.{Merge, Complement, Intersect, Subtract, BamToBed}
+use Rattle.bt_tool.specs.declared.tool.Tool.TheVariants.{Merge, Complement, Intersect, Subtract, Coverage, BamToBed, MaskFasta}
 
 -- a word of the command line, as its bytes
 abbrev pub Word : Type 0
 Word = List ℕ
 
--- whether an option may stand with this value, or without one: a file name isn't empty, a number is one of bt_lines, a fraction is at most 1, and a strand is `+` or `-`
+-- whether an option may stand with this value, or without one: a file name isn't empty, a number is one of bt_lines, a fraction is at most 1, a strand is `+` or `-`, and a character is a printable one of ASCII
 abbrev pub fits : Takes → Option Word → Bool
 fits Nothing None = true
 fits Nothing (Some value) = false
@@ -26,6 +27,7 @@ fits FileName (Some value) = nat_lt 0 (length value)
 fits Number (Some value) = is_some (number_of value)
 fits Fraction (Some value) = is_some (fraction_of value)
 fits Strand (Some value) = bytes_eq value (codes "+") || bytes_eq value (codes "-")
+fits Character (Some value) = is_some (character_of value)
 
 -- an option of a command
 pub record Row : Type 0 where
@@ -67,11 +69,12 @@ merge_table = record {
   options = record { option = codes "-i"; takes = FileName }
       ∷ record { option = codes "-g"; takes = FileName }
       ∷ record { option = codes "-d"; takes = Number }
+      ∷ record { option = codes "-s"; takes = Nothing }
       ∷ record { option = codes "-S"; takes = Strand }
       ∷ [];
   required = codes "-g" ∷ [];
   one_of = [];
-  exclusive = [];
+  exclusive = (codes "-s", codes "-S") ∷ [];
   genome = Some (codes "-g");
   first = codes "-i";
   second = None;
@@ -141,6 +144,24 @@ subtract_table = record {
   output = None;
 }
 
+-- One of -bg and -bga has to be given, and both together are -bga.
+abbrev pub coverage_table : Table
+coverage_table = record {
+  options = record { option = codes "-i"; takes = FileName }
+      ∷ record { option = codes "-g"; takes = FileName }
+      ∷ record { option = codes "-bg"; takes = Nothing }
+      ∷ record { option = codes "-bga"; takes = Nothing }
+      ∷ record { option = codes "-strand"; takes = Strand }
+      ∷ [];
+  required = codes "-g" ∷ [];
+  one_of = codes "-bg" ∷ codes "-bga" ∷ [];
+  exclusive = [];
+  genome = Some (codes "-g");
+  first = codes "-i";
+  second = None;
+  output = None;
+}
+
 abbrev pub bamtobed_table : Table
 bamtobed_table = record {
   options = record { option = codes "-i"; takes = FileName }
@@ -156,17 +177,38 @@ bamtobed_table = record {
   output = None;
 }
 
+abbrev pub maskfasta_table : Table
+maskfasta_table = record {
+  options = record { option = codes "-fi"; takes = FileName }
+      ∷ record { option = codes "-bed"; takes = FileName }
+      ∷ record { option = codes "-fo"; takes = FileName }
+      ∷ record { option = codes "-soft"; takes = Nothing }
+      ∷ record { option = codes "-mc"; takes = Character }
+      ∷ record { option = codes "-fullHeader"; takes = Nothing }
+      ∷ [];
+  required = codes "-fi" ∷ codes "-bed" ∷ [];
+  one_of = [];
+  exclusive = (codes "-soft", codes "-mc") ∷ [];
+  genome = None;
+  first = codes "-fi";
+  second = Some (codes "-bed");
+  output = Some (codes "-fo");
+}
+
 abbrev pub table_of : Tool → Table
 table_of Merge = merge_table
 table_of Complement = complement_table
 table_of Intersect = intersect_table
 table_of Subtract = subtract_table
+table_of Coverage = coverage_table
 table_of BamToBed = bamtobed_table
+table_of MaskFasta = maskfasta_table
 
 -- the tools by their names
 abbrev pub commands : List (Word × Tool)
 commands = (codes "merge", Merge) ∷ (codes "complement", Complement) ∷ (codes "intersect", Intersect)
-    ∷ (codes "subtract", Subtract) ∷ (codes "bamtobed", BamToBed) ∷ []
+    ∷ (codes "subtract", Subtract) ∷ (codes "genomecov", Coverage) ∷ (codes "bamtobed", BamToBed)
+    ∷ (codes "maskfasta", MaskFasta) ∷ []
 
 abbrev pub command_named : Word → Option Tool
 command_named word = option_map (λ row. row.1) (find (λ row. bytes_eq word row.0) commands)
@@ -177,7 +219,9 @@ tool_name Merge = codes "merge"
 tool_name Complement = codes "complement"
 tool_name Intersect = codes "intersect"
 tool_name Subtract = codes "subtract"
+tool_name Coverage = codes "genomecov"
 tool_name BamToBed = codes "bamtobed"
+tool_name MaskFasta = codes "maskfasta"
 
 -- the tool of a command
 abbrev pub tool_of : Command → Tool
@@ -185,4 +229,6 @@ tool_of (MergeWith d strand) = Merge
 tool_of (ComplementWith limit) = Complement
 tool_of (IntersectWith shape rule) = Intersect
 tool_of (SubtractWith whole rule) = Subtract
+tool_of (CoverageWith zeros strand) = Coverage
 tool_of (BamToBedWith split cigar) = BamToBed
+tool_of (MaskFastaWith how full) = MaskFasta

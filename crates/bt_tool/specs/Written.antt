@@ -1,14 +1,18 @@
 -- What a command of one input writes, by the members of that input.
-use Rattle.std.specs.Prelude.{ℕ, Bool, List}
+use Rattle.std.specs.Prelude.{ℕ, Bool, List, Option}
 use Rattle.bt_bed.specs.Feature.{Feature, intervals_of}
 use Rattle.bt_bed.specs.Genome.{Entry, genome_names}
 use Rattle.bt_bed.specs.Interval.{last_of}
 use Rattle.bt_bed.specs.IntervalLine.{interval_lines}
+use Rattle.bt_bed.specs.declared.strand.Strand.{Strand}
 use Rattle.bt_runs.specs.Counted.{counted}
+use Rattle.bt_runs.specs.Depth.{coverage, depth_lines, settled_depths}
 use Rattle.bt_runs.specs.Gaps.{complement, settled_gaps}
 use Rattle.bt_runs.specs.Merged.{merged}
 use Rattle.bt_runs.specs.MergedRuns.{passed_by}
+use Rattle.bt_runs.specs.StrandRuns.{places_of, settled_strand_runs, strand_runs}
 use Rattle.bt_runs.specs.declared.merge_strand.MergeStrand.{MergeStrand}
+use Rattle.bt_runs.specs.declared.merge_strand.MergeStrand.TheVariants.{All, Each, One}
 
 -- the lines of the output where these are all members, and those that they settle, which no later
 -- member can change
@@ -18,16 +22,37 @@ pub record Written (A : Type 0) : Type 0 where
 
 -- the merged runs, chromosomes in the order of the genome file, and those that the last record has
 -- passed
-abbrev pub merge_written : List Entry → ℕ → MergeStrand → Written Feature
-merge_written entries d strand = record {
+abbrev pub pooled_written : List Entry → ℕ → MergeStrand → Written Feature
+pooled_written entries d strand = record {
   whole = λ records. interval_lines (merged (genome_names entries) d (counted strand records));
   settled = λ records. interval_lines
       (passed_by d (merged (genome_names entries) d (counted strand records)) (last_of (intervals_of records)));
 }
+
+-- the runs of each strand, all listed by their first records, and the longest front of them that the last
+-- record has passed
+abbrev pub strands_written : ℕ → Written Feature
+strands_written d = record {
+  whole = λ records. interval_lines (places_of (strand_runs d records));
+  settled = λ records. interval_lines (places_of (settled_strand_runs d records));
+}
+
+-- what merge writes, by the records that it merges
+abbrev pub merge_written : List Entry → ℕ → MergeStrand → Written Feature
+merge_written entries d Each = strands_written d
+merge_written entries d All = pooled_written entries d All
+merge_written entries d (One strand) = pooled_written entries d (One strand)
 
 -- the gaps between the records
 abbrev pub complement_written : List Entry → Bool → Written Feature
 complement_written entries limit = record {
   whole = λ records. interval_lines (complement limit entries records);
   settled = λ records. interval_lines (settled_gaps limit entries records);
+}
+
+-- the intervals of equal depth of the counted records
+abbrev pub coverage_written : List Entry → Bool → Option Strand → Written Feature
+coverage_written entries zeros strand = record {
+  whole = λ records. depth_lines (coverage zeros strand entries records);
+  settled = λ records. depth_lines (settled_depths zeros strand entries records);
 }

@@ -153,7 +153,7 @@ const EDGES: [Edge; 18] = [
 ];
 
 // The text of a row.
-fn text(alloc: Global, row: &str) -> Result<Vec<u8>, Fail> {
+pub(crate) fn text(alloc: Global, row: &str) -> Result<Vec<u8>, Fail> {
     let mut text = Vec::new(alloc);
     if row.is_empty() {
         return Ok(text);
@@ -217,6 +217,7 @@ fn check_edge(rt: &impl Abort, alloc: Global, edge: Edge) -> Result<(), Fail> {
     let output = text(alloc, output)?;
     let answer = bamtobed(alloc, options, (first.as_slice(), whole(7)), whole(7))?;
     assert_eq!(rt; answer.output.as_slice(), output.as_slice(), "{columns}");
+    assert_eq!(rt; answer.status, u8::from(!told.is_empty()), "{columns}");
     if told.is_empty() {
         assert_eq!(rt; line_of(&answer), b"".as_slice(), "{columns}");
         return Ok(());
@@ -230,6 +231,62 @@ fn check_edge(rt: &impl Abort, alloc: Global, edge: Edge) -> Result<(), Fail> {
 fn single_lines(rt: HostRuntime) -> Result<(), Fail> {
     for edge in EDGES {
         check_edge(&rt, rt.alloc(), edge)?;
+    }
+    Ok(())
+}
+
+// Inputs with the line ends as they stand: a name, the input, and its BED lines.
+type Ends = (&'static str, &'static [u8], &'static [u8]);
+
+const LINE_ENDS: [Ends; 6] = [
+    (
+        "carriage returns before the line feeds",
+        b"@CO x\r\na\t0\ts\t1\t9\t5M\t*\t0\t0\t*\t*\r\nb\t16\ts\t4\t8\t3M\t*\t0\t0\t*\t*\r\n",
+        b"s\t0\t5\ta\t9\t+\ns\t3\t6\tb\t8\t-\n",
+    ),
+    (
+        "a blank line between alignments",
+        b"a\t0\ts\t1\t9\t5M\t*\t0\t0\t*\t*\n\nb\t16\ts\t4\t8\t3M\t*\t0\t0\t*\t*\n",
+        b"s\t0\t5\ta\t9\t+\ns\t3\t6\tb\t8\t-\n",
+    ),
+    (
+        "a blank line that ends in a carriage return",
+        b"a\t0\ts\t1\t9\t5M\t*\t0\t0\t*\t*\n\r\nb\t16\ts\t4\t8\t3M\t*\t0\t0\t*\t*\n",
+        b"s\t0\t5\ta\t9\t+\ns\t3\t6\tb\t8\t-\n",
+    ),
+    (
+        "positions that fall, and a reference that returns",
+        b"a\t0\ts\t7\t9\t5M\t*\t0\t0\t*\t*\nb\t0\tr\t4\t8\t3M\t*\t0\t0\t*\t*\nc\t0\ts\t2\t8\t3M\t*\t0\t0\t*\t*\n",
+        b"s\t6\t11\ta\t9\t+\nr\t3\t6\tb\t8\t+\ns\t1\t4\tc\t8\t+\n",
+    ),
+    (
+        "a last line without a line feed",
+        b"a\t0\ts\t1\t9\t5M\t*\t0\t0\t*\t*\nb\t16\ts\t4\t8\t3M\t*\t0\t0\t*\t*",
+        b"s\t0\t5\ta\t9\t+\ns\t3\t6\tb\t8\t-\n",
+    ),
+    (
+        "a last line that ends in a carriage return",
+        b"a\t0\ts\t1\t9\t5M\t*\t0\t0\t*\t*\r",
+        b"s\t0\t5\ta\t9\t+\n",
+    ),
+];
+
+fn check_ends(rt: &impl Abort, alloc: Global, ends: Ends, step: usize) -> Result<(), Fail> {
+    let (name, first, output) = ends;
+    let script = whole(step.max(1));
+    let answer = bamtobed(alloc, &[], (first, script), script)?;
+    assert_eq!(rt; answer.output.as_slice(), output, "{name}");
+    assert_eq!(rt; line_of(&answer), b"".as_slice(), "{name}");
+    assert_eq!(rt; answer.status, 0, "{name}");
+    Ok(())
+}
+
+#[test]
+fn line_ends_and_order(rt: HostRuntime) -> Result<(), Fail> {
+    for step in [1, 7, 8192] {
+        for ends in LINE_ENDS {
+            check_ends(&rt, rt.alloc(), ends, step)?;
+        }
     }
     Ok(())
 }

@@ -20,7 +20,7 @@ const BACK: &[u8] = b"chr1\t0\t10\ta\t0\t+\nchr1\t20\t30\tb\t0\t-\nchr1\t5\t8\tc
 
 const ENDS: &[u8] = b"chr1\t0\t10\nchr1\t900\t1200\n";
 
-const MERGE: [Row; 11] = [
+const MERGE: [Row; 20] = [
     (
         &["merge", "-g", "g.txt"],
         TOUCHING,
@@ -77,6 +77,55 @@ const MERGE: [Row; 11] = [
         b"",
     ),
     (&["merge", "-g", "g.txt", "-S", "+"], b"", b"", b""),
+    (
+        &["merge", "-g", "g.txt", "-s"],
+        STRANDS,
+        b"chr1\t0\t120\nchr1\t10\t20\nchr1\t60\t70\n",
+        b"",
+    ),
+    (
+        &["merge", "-s", "-g", "g.txt"],
+        b"chr1\t0\t10\ta\t0\t-\nchr1\t5\t20\tb\t0\t+\n",
+        b"chr1\t0\t10\nchr1\t5\t20\n",
+        b"",
+    ),
+    (
+        &["merge", "-g", "g.txt", "-s"],
+        b"chr1\t0\t100\ta\t0\t+\nchr1\t10\t20\tb\t0\t-\nchr1\t60\t70\tc\t0\t-\nchr1\t50\t55\n",
+        b"",
+        b"bedtools merge: stdin:4: record is out of order\n",
+    ),
+    (
+        &["merge", "-g", "g.txt", "-s"],
+        b"chr1\t0\t100\ta\t0\t+\nchr1\t10\t20\tb\t0\t-\nchr1\t60\t70\tc\t0\t-\nchr1\t150\t160\td\t0\t+\nchr1\t1\t2\n",
+        b"chr1\t0\t100\nchr1\t10\t20\nchr1\t60\t70\n",
+        b"bedtools merge: stdin:5: record is out of order\n",
+    ),
+    (
+        &["merge", "-g", "g.txt", "-s"],
+        b"chr1\t0\t50\nchr1\t10\t40\tb\t0\t-\nchr1\t20\t30\tc\t0\t+\nchr1\t40\t60\td\t0\tx\n",
+        b"chr1\t0\t60\nchr1\t10\t40\nchr1\t20\t30\n",
+        b"",
+    ),
+    (
+        &["merge", "-g", "g.txt", "-s", "-d", "40"],
+        STRANDS,
+        b"chr1\t0\t120\nchr1\t10\t70\n",
+        b"",
+    ),
+    (
+        &["merge", "-g", "g.txt", "-s"],
+        b"chr1\t0\t100\ta\t0\t+\nchr1\t10\t20\tb\t0\t-\nchr2\t1\t2\tc\t0\t-\nchr2\t1\t9\td\t0\t+\nchr1\t1\t2\n",
+        b"chr1\t0\t100\nchr1\t10\t20\n",
+        b"bedtools merge: stdin:5: record is out of order\n",
+    ),
+    (
+        &["merge", "-g", "g.txt", "-s"],
+        b"chr1\t0\t100\ta\t0\t+\nchr1\t10\t20\tb\t0\t-\nchr2\t1\t2\tc\t0\t-\n",
+        b"chr1\t0\t100\nchr1\t10\t20\nchr2\t1\t2\n",
+        b"",
+    ),
+    (&["merge", "-g", "g.txt", "-s"], b"", b"", b""),
 ];
 
 const COMPLEMENT: [Row; 15] = [

@@ -13,6 +13,7 @@ use crate::usage::Usage;
 #[derive(Clone, Copy)]
 pub(crate) struct Given<'a> {
     pub(crate) table: &'a Table,
+    // All of them divide: `no_fault` says so.
     words: &'a [String],
     ghost no_fault: { word_fault (table_lent table.now) 1 (drop 1 (words_seen words.now)) ≡ None },
 }

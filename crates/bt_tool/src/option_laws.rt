@@ -8,6 +8,7 @@ ghost use Rattle.bt_tool.specs.Options.{options};
 ghost use Rattle.bt_tool.specs.Usage.{no_command, unknown_option, value_missing, bad_value, required_missing, input_named_twice};
 
 use crate::plan_type::Command;
+use bt_bed::Strand;
 use bt_runs::MergeStrand;
 use bt_sweep::Shape;
 
@@ -92,6 +93,16 @@ pub fn worked_cases()
           second = Some (codes "y");
           output = None;
         }) }
+    ensures neither_depths { options (codes "genomecov" ∷ codes "-g" ∷ codes "g" ∷ []) ≡ Err required_missing }
+    ensures all_depths_of_one_strand { options (codes "genomecov" ∷ codes "-bg" ∷ codes "-g" ∷ codes "g"
+        ∷ codes "-strand" ∷ codes "-" ∷ codes "-bga" ∷ [])
+        ≡ Ok (record {
+          command = Command.Coverage true (Some Strand.Minus);
+          genome = Some (codes "g");
+          first = codes "stdin";
+          second = None;
+          output = None;
+        }) }
     ensures subtract_of_both { options (codes "subtract" ∷ codes "-r" ∷ []) ≡ Err (unknown_option 1) }
     ensures value_like_an_option { options (codes "merge" ∷ codes "-g" ∷ codes "-i" ∷ [])
         ≡ Ok (record {
@@ -103,6 +114,36 @@ pub fn worked_cases()
         }) }
     ensures first_fault { options (codes "merge" ∷ codes "-i" ∷ codes "a" ∷ codes "-q"
         ∷ codes "-g" ∷ []) ≡ Err (unknown_option 3) }
+{}
+
+/// Some command lines of bamtobed, which has no genome, and what they ask for.
+#[tactic(auto, unfolding(crate::specs::Items::items_of, crate::specs::Options::word_fault, crate::specs::Options::options))]
+pub fn worked_conversions()
+    ensures no_words { options (codes "bamtobed" ∷ []) ≡ Ok (record {
+      command = Command.BamToBed false false;
+      genome = None;
+      first = codes "stdin";
+      second = None;
+      output = None;
+    }) }
+    ensures cut_and_with_cigars { options (codes "bamtobed" ∷ codes "-split" ∷ codes "-cigar" ∷ [])
+        ≡ Ok (record {
+          command = Command.BamToBed true true;
+          genome = None;
+          first = codes "stdin";
+          second = None;
+          output = None;
+        }) }
+    ensures cigars_alone { options (codes "bamtobed" ∷ codes "-cigar" ∷ codes "-i" ∷ codes "a.sam" ∷ [])
+        ≡ Ok (record {
+          command = Command.BamToBed false true;
+          genome = None;
+          first = codes "a.sam";
+          second = None;
+          output = None;
+        }) }
+    ensures no_genome { options (codes "bamtobed" ∷ codes "-g" ∷ codes "g" ∷ [])
+        ≡ Err (unknown_option 1) }
 {}
 
 /// Some words, and the fractions that they denote, in billionths.

@@ -1,10 +1,11 @@
 //! The plan of a command line: the last value of every option counts.
 
 ghost use Rattle.std.specs.Prelude.{◌≡◌, ◌≤◌, Ok, Err, Some, None, string_bytes, IsTrue, MatchResult, IfOk, IfErr, length, option_map};
-ghost use Rattle.bt_tool.specs.Limits.{is_within_limits};
+ghost use Rattle.bt_tool.specs.Character.{is_printable};
+ghost use Rattle.bt_tool.specs.Limits.{is_shown_as, is_within_limits};
 ghost use Rattle.bt_tool.specs.Fraction.{one_in_billionths};
 ghost use Rattle.bt_tool.specs.Given.{items_in};
-ghost use Rattle.bt_tool.specs.Options.{billionths_by, command_by, command_of, fault_together, hit_shape, number_by, options, plan_of, rule_by, shape_by, strand_by};
+ghost use Rattle.bt_tool.specs.Options.{billionths_by, command_by, command_of, counted_strand_by, fault_together, hit_shape, mask_by, mask_how_by, number_by, options, plan_of, rule_by, shape_by, strand_by};
 ghost use Rattle.bt_tool.specs.Plan.{plan_seen, words_seen};
 ghost use Rattle.bt_tool.specs.Refusal.{CanBeTold, IsRefusalOf};
 ghost use Rattle.bt_tool.specs.Report.{ReportsPlan, ReportsRefusal};
@@ -13,6 +14,7 @@ ghost use Rattle.bt_tool.specs.TableLent.{table_lent};
 ghost use Rattle.bt_tool.specs.Usage.{no_command};
 ghost use Rattle.bt_lines.specs.Number.{max_number};
 
+use crate::character::character;
 use crate::checking::check;
 use crate::fraction::fraction;
 use crate::given::Given;
@@ -23,6 +25,7 @@ use crate::usage::{Refusal, Usage, UsageKind};
 use bt_bed::Strand;
 use bt_lines::number;
 use bt_runs::MergeStrand;
+use bt_seq::MaskHow;
 use bt_sweep::{HitRule, Shape};
 use std::alloc::{AllocError, Global};
 
@@ -45,7 +48,7 @@ fn command(tool: Tool, given: Given<'_>) -> Command
     match tool {
         Tool::Merge => Command::Merge {
             d: number_of(given.value_of("-d")),
-            strand: strand_of(given.value_of("-S")),
+            strand: strand_of(given.has("-s"), given.value_of("-S")),
         },
         Tool::Complement => Command::Complement {
             limit: given.has("-L"),
@@ -58,9 +61,17 @@ fn command(tool: Tool, given: Given<'_>) -> Command
             whole: given.has("-A"),
             rule: rule_of(given, false),
         },
+        Tool::Coverage => Command::Coverage {
+            zeros: given.has("-bga"),
+            strand: counted_strand(given.value_of("-strand")),
+        },
         Tool::BamToBed => Command::BamToBed {
             split: given.has("-split"),
             cigar: given.has("-cigar"),
+        },
+        Tool::MaskFasta => Command::MaskFasta {
+            how: mask_how_of(given),
+            full: given.has("-fullHeader"),
         },
     }
 }
@@ -99,15 +110,52 @@ fn billionths_of(value: Option<&str>) -> u64
     }
 }
 
-// The strand whose records are merged: without a value all are.
-fn strand_of(value: Option<&str>) -> MergeStrand
-    ensures { result ≡ strand_by (option_map (λ value. value.now) value.entry) }
+// Which records are merged: each strand by itself, those of the strand of a value, or all.
+fn strand_of(each: bool, value: Option<&str>) -> MergeStrand
+    ensures { result ≡ strand_by each (option_map (λ value. value.now) value.entry) }
 {
+    if each {
+        return MergeStrand::Each;
+    }
     match value {
         None => MergeStrand::All,
         Some("+") => MergeStrand::One(Strand::Plus),
         Some("-") => MergeStrand::One(Strand::Minus),
         Some(_) => MergeStrand::One(Strand::Dot),
+    }
+}
+
+// The strand whose records are counted: without a value all are.
+fn counted_strand(value: Option<&str>) -> Option<Strand>
+    ensures { result ≡ counted_strand_by (option_map (λ value. value.now) value.entry) }
+{
+    match value {
+        None => None,
+        Some("+") => Some(Strand::Plus),
+        Some("-") => Some(Strand::Minus),
+        Some(_) => Some(Strand::Dot),
+    }
+}
+
+// What stands for a masked base.
+fn mask_how_of(given: Given<'_>) -> MaskHow
+    ensures how { result ≡ mask_how_by (items_in given.entry) }
+    ensures limit { IsTrue (is_shown_as result) }
+{
+    if given.has("-soft") {
+        return MaskHow::Soft;
+    }
+    MaskHow::Hard(character_of(given.value_of("-mc")))
+}
+
+// The character of a value, `N` without one.
+fn character_of(value: Option<&str>) -> u8
+    ensures value { result ≡ mask_by (option_map (λ value. value.now) value.entry) }
+    ensures limit { IsTrue (is_printable result) }
+{
+    match value {
+        Some(value) => character(value).unwrap_or(b'N'),
+        None => b'N',
     }
 }
 

@@ -5,7 +5,9 @@ ghost use Rattle.bt_tool.specs.Table.{table_of, tool_of, IsNamedBy};
 ghost use Rattle.std.specs.Prelude.{IsTrue};
 
 use crate::tool::Tool;
+use bt_bed::Strand;
 use bt_runs::MergeStrand;
+use bt_seq::MaskHow;
 use bt_sweep::{HitRule, Shape};
 
 /// A tool, with what its options ask for.
@@ -22,9 +24,15 @@ pub enum Command {
     /// What is left of the records of the first input by those of the second that hit them: pieces, or
     /// with `whole` the records that none hits.
     Subtract { whole: bool, rule: HitRule },
+    /// The intervals of equal depth, with their depths: those above 0, and with `zeros` also those of
+    /// depth 0. With a strand the records of that strand alone are counted.
+    Coverage { zeros: bool, strand: Option<Strand> },
     /// The alignments of SAM text as BED lines: with `split` a line for each block, and with `cigar` the
     /// CIGAR as a seventh column.
     BamToBed { split: bool, cigar: bool },
+    /// The lines of a FASTA text with the bases masked that records cover; with `full` a sequence's name is
+    /// its whole header.
+    MaskFasta { how: MaskHow, full: bool },
 }
 
 impl Command {
@@ -40,7 +48,9 @@ impl Command {
             Command::Complement { .. } => Tool::Complement,
             Command::Intersect { .. } => Tool::Intersect,
             Command::Subtract { .. } => Tool::Subtract,
+            Command::Coverage { .. } => Tool::Coverage,
             Command::BamToBed { .. } => Tool::BamToBed,
+            Command::MaskFasta { .. } => Tool::MaskFasta,
         }
     }
 

@@ -1,6 +1,6 @@
 //! Running a plan over its devices.
 
-ghost use Rattle.std.specs.Prelude.{IsSome, IsTrue, MatchResult, ◌≡◌, ◌⊎◌, ⊤, None, true, Some, is_some, option_map};
+ghost use Rattle.std.specs.Prelude.{IsSome, IsTrue, MatchResult, ◌≡◌, ◌⊎◌, ⊤, [], None, true, Some, is_some, option_map};
 ghost use Rattle.bt_lines.specs.Fault.{write_failed};
 ghost use Rattle.bt_lines.specs.Names.{told};
 ghost use Rattle.bt_lines.specs.Output.{HoldsBlock};
@@ -15,12 +15,14 @@ ghost use Rattle.bt_tool.specs.Table.{IsNamedBy, table_of, tool_of};
 use crate::converting::convert;
 use crate::driving::drive;
 use crate::flushing::flushed;
+use crate::masking::mask;
 use crate::outcome::Outcome;
 use crate::plan_type::{Command, Plan};
 use crate::sweeping::sweep;
 use bt_bed::Genome;
 use bt_lines::{Fault, Input, LineReader, Out, Sink, Source};
-use bt_runs::{Complement, Merge};
+use bt_runs::{Complement, Coverage, Merge};
+use bt_seq::MaskHow;
 use bt_sweep::{HitRule, Shape};
 use std::alloc::Global;
 
@@ -142,6 +144,11 @@ fn write_records<A: Source, B: Source, K: Sink>(
             let (fault, first) = drive(alloc, genome, engine, first, out);
             (fault, first, second)
         }
+        Command::Coverage { zeros, strand } => {
+            let engine = Coverage::new(alloc, genome, zeros, strand);
+            let (fault, first) = drive(alloc, genome, engine, first, out);
+            (fault, first, second)
+        }
         Command::Intersect { shape, rule } => {
             sweep_both(alloc, genome, shape, rule, first, second, out)
         }
@@ -153,6 +160,7 @@ fn write_records<A: Source, B: Source, K: Sink>(
             let (fault, first) = convert(alloc, split, cigar, first, out);
             (fault, first, second)
         }
+        Command::MaskFasta { how, full } => { mask_both(alloc, how, full, first, second, out) }
     }
 }
 
@@ -182,5 +190,25 @@ fn sweep_both<A: Source, B: Source, K: Sink>(
 {
     let Some(second) = second else { unreachable!() };
     let (fault, first, second) = sweep(alloc, genome, shape, rule, first, second, out);
+    (fault, first, Some(second))
+}
+
+// Masks the lines of the first input by the records of the second.
+fn mask_both<A: Source, B: Source, K: Sink>(
+    alloc: Global,
+    how: MaskHow,
+    full: bool,
+    first: A,
+    second: Option<B>,
+    out: &mut Out<K>,
+) -> (Option<Fault>, A, Option<B>)
+    requires second { IsSome second }
+    requires block { HoldsBlock out.old.took out.old.put }
+    ensures written { WritesBy A.left A.has_failed A.end_told B.left B.has_failed (Command.MaskFasta how full) []
+        first second out.old (option_map told result.0) result.1 result.2 out.new }
+    ensures second { is_some result.2 ≡ is_some second }
+{
+    let Some(second) = second else { unreachable!() };
+    let (fault, first, second) = mask(alloc, how, full, first, second, out);
     (fault, first, Some(second))
 }

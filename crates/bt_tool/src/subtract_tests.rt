@@ -3,7 +3,7 @@ use crate::tests::{Answer, Script, failed_line, failing, failing_by, line_of, wh
 use std::alloc::Global;
 use std::test::Fail;
 
-const CASES: [Case; 21] = [
+const CASES: [Case; 23] = [
     Case {
         name: "pieces between those that hit",
         options: &[],
@@ -18,6 +18,22 @@ const CASES: [Case; 21] = [
         first: b"chr1\t0\t100\tn\t5\t+\n",
         second: b"chr1\t10\t20\nchr1\t15\t30\nchr1\t90\t200\n",
         output: b"",
+        line: b"",
+    },
+    Case {
+        name: "past the chromosome's length, at which nothing is cut",
+        options: &[],
+        first: b"chr2\t40\t90\ta\n",
+        second: b"chr2\t60\t70\nchr2\t80\t200\n",
+        output: b"chr2\t40\t60\ta\nchr2\t70\t80\ta\n",
+        line: b"",
+    },
+    Case {
+        name: "past the chromosome's length, whole",
+        options: &["-A"],
+        first: b"chr2\t40\t60\ta\nchr2\t70\t90\tb\n",
+        second: b"chr2\t60\t70\nchr2\t80\t200\n",
+        output: b"chr2\t40\t60\ta\n",
         line: b"",
     },
     Case {

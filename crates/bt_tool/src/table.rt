@@ -42,13 +42,17 @@ pub(crate) const MERGE: Table = Table {
             takes: Takes::Number,
         },
         Row {
+            option: "-s",
+            takes: Takes::Nothing,
+        },
+        Row {
             option: "-S",
             takes: Takes::Strand,
         },
     ],
     required: &["-g"],
     one_of: &[],
-    exclusive: &[],
+    exclusive: &[("-s", "-S")],
     genome: Some("-g"),
     first: "-i",
     second: None,
@@ -195,6 +199,39 @@ pub(crate) const SUBTRACT: Table = Table {
     output: None,
 };
 
+/// `bedtools genomecov`. `-bga` reports all that `-bg` does.
+pub(crate) const COVERAGE: Table = Table {
+    options: &[
+        Row {
+            option: "-i",
+            takes: Takes::FileName,
+        },
+        Row {
+            option: "-g",
+            takes: Takes::FileName,
+        },
+        Row {
+            option: "-bg",
+            takes: Takes::Nothing,
+        },
+        Row {
+            option: "-bga",
+            takes: Takes::Nothing,
+        },
+        Row {
+            option: "-strand",
+            takes: Takes::Strand,
+        },
+    ],
+    required: &["-g"],
+    one_of: &["-bg", "-bga"],
+    exclusive: &[],
+    genome: Some("-g"),
+    first: "-i",
+    second: None,
+    output: None,
+};
+
 /// `bedtools bamtobed`.
 pub(crate) const BAM_TO_BED: Table = Table {
     options: &[
@@ -218,6 +255,43 @@ pub(crate) const BAM_TO_BED: Table = Table {
     first: "-i",
     second: None,
     output: None,
+};
+
+/// `bedtools maskfasta`.
+pub(crate) const MASK_FASTA: Table = Table {
+    options: &[
+        Row {
+            option: "-fi",
+            takes: Takes::FileName,
+        },
+        Row {
+            option: "-bed",
+            takes: Takes::FileName,
+        },
+        Row {
+            option: "-fo",
+            takes: Takes::FileName,
+        },
+        Row {
+            option: "-soft",
+            takes: Takes::Nothing,
+        },
+        Row {
+            option: "-mc",
+            takes: Takes::Character,
+        },
+        Row {
+            option: "-fullHeader",
+            takes: Takes::Nothing,
+        },
+    ],
+    required: &["-fi", "-bed"],
+    one_of: &[],
+    exclusive: &[("-soft", "-mc")],
+    genome: None,
+    first: "-fi",
+    second: Some("-bed"),
+    output: Some("-fo"),
 };
 
 impl Table {

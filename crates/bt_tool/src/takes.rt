@@ -3,6 +3,7 @@
 ghost use Rattle.std.specs.Prelude.{◌≡◌, None, Some};
 ghost use Rattle.bt_tool.specs.Table.{fits};
 
+use crate::character::character;
 use crate::fraction::fraction;
 use bt_lines::number;
 
@@ -17,6 +18,8 @@ pub(crate) enum Takes {
     Fraction,
     /// `+` or `-`.
     Strand,
+    /// One printable character of ASCII, no space.
+    Character,
 }
 
 impl Takes {
@@ -37,6 +40,7 @@ impl Takes {
             Takes::Number => number(value.as_bytes()).is_some(),
             Takes::Fraction => fraction(value).is_some(),
             Takes::Strand => value == "+" || value == "-",
+            Takes::Character => character(value).is_some(),
         }
     }
 }

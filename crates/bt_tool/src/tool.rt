@@ -4,7 +4,9 @@ ghost use Rattle.bt_tool.specs.Table.{command_named, tool_name, table_of};
 ghost use Rattle.bt_tool.specs.TableLent.{table_lent};
 ghost use Rattle.std.specs.Prelude.{◌≡◌};
 
-use crate::table::{BAM_TO_BED, COMPLEMENT, INTERSECT, MERGE, SUBTRACT, Table};
+use crate::table::{
+    BAM_TO_BED, COMPLEMENT, COVERAGE, INTERSECT, MASK_FASTA, MERGE, SUBTRACT, Table,
+};
 
 /// A tool, apart from what its options ask for.
 #[derive(Clone, Copy, Debug, PartialEq, Eq)]
@@ -13,7 +15,9 @@ pub enum Tool {
     Complement,
     Intersect,
     Subtract,
+    Coverage,
     BamToBed,
+    MaskFasta,
 }
 
 impl Tool {
@@ -26,7 +30,9 @@ impl Tool {
             "complement" => Some(Tool::Complement),
             "intersect" => Some(Tool::Intersect),
             "subtract" => Some(Tool::Subtract),
+            "genomecov" => Some(Tool::Coverage),
             "bamtobed" => Some(Tool::BamToBed),
+            "maskfasta" => Some(Tool::MaskFasta),
             _ => None,
         }
     }
@@ -40,7 +46,9 @@ impl Tool {
             Tool::Complement => "complement",
             Tool::Intersect => "intersect",
             Tool::Subtract => "subtract",
+            Tool::Coverage => "genomecov",
             Tool::BamToBed => "bamtobed",
+            Tool::MaskFasta => "maskfasta",
         }
     }
 
@@ -53,7 +61,9 @@ impl Tool {
             Tool::Complement => COMPLEMENT,
             Tool::Intersect => INTERSECT,
             Tool::Subtract => SUBTRACT,
+            Tool::Coverage => COVERAGE,
             Tool::BamToBed => BAM_TO_BED,
+            Tool::MaskFasta => MASK_FASTA,
         }
     }
 }

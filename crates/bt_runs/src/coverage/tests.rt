@@ -205,22 +205,107 @@ fn worked_rows(rt: HostRuntime) {
     }
 }
 
+// Records whose ends come in another order than their starts, some at one position. Beside each stands
+// how many are kept with it: those that end at its start or past it.
+const OUT_OF_ORDER: [(&[u8], usize); 9] = [
+    (b"chr1\t0\t12", 1),
+    (b"chr1\t0\t3", 2),
+    (b"chr1\t1\t12", 3),
+    (b"chr1\t2\t5", 4),
+    (b"chr1\t4\t6", 4),
+    (b"chr1\t5\t8", 5),
+    (b"chr1\t8\t30", 4),
+    (b"chr1\t12\t13", 4),
+    (b"chr1\t13\t14", 3),
+];
+
+#[test]
+fn records_are_kept_until_one_starts_past_their_end(rt: HostRuntime) {
+    let Ok(genome) = genome(rt.alloc(), GENOME) else {
+        return assert!(rt; false, "the genome");
+    };
+    let mut coverage = Coverage::new(rt.alloc(), &genome, false, None);
+    let mut out = Out::new(ScriptSink::new(rt.alloc(), 3, None));
+    for (line, kept) in OUT_OF_ORDER {
+        assert_eq!(rt; feed_line(&mut coverage, line, &mut out), Ok(()));
+        assert_eq!(rt; coverage.kept_len(), kept, "{line:?}");
+    }
+    assert_eq!(rt; end(coverage, &mut out), Ok(()));
+    let want: &[u8] = b"chr1\t0\t1\t2\nchr1\t1\t2\t3\nchr1\t2\t3\t4\nchr1\t3\t4\t3\n\
+        chr1\t4\t6\t4\nchr1\t6\t12\t3\nchr1\t12\t14\t2\nchr1\t14\t20\t1\n";
+    assert_eq!(rt; out.into_sink().taken(), want);
+}
+
+// Feeds one record of the first chromosome, and tells how many are kept then.
+fn kept_with<K: Sink>(
+    alloc: Global,
+    coverage: &mut Coverage<'_>,
+    start: u64,
+    stop: u64,
+    out: &mut Out<K>,
+) -> Result<usize, AllocError> {
+    let line = format!(in alloc; "chr1\t{start}\t{stop}")?;
+    let _ = feed_line(coverage, line.as_bytes(), out).is_ok();
+    Ok(coverage.kept_len())
+}
+
+#[test]
+fn short_records_beside_long_ones(rt: HostRuntime) -> Result<(), Fail> {
+    let Ok(genome) = genome(rt.alloc(), b"chr1\t5000\n") else {
+        assert!(rt; false, "the genome");
+        return Ok(());
+    };
+    let mut coverage = Coverage::new(rt.alloc(), &genome, false, None);
+    let mut out = Out::new(ScriptSink::new(rt.alloc(), 512, None));
+    for long in 0..100u64 {
+        let kept = kept_with(rt.alloc(), &mut coverage, long, 4000 - long, &mut out)?;
+        assert_eq!(rt; kept as u64, long + 1);
+    }
+    for short in 0..500u64 {
+        let start = 100 + 3 * short;
+        let kept = kept_with(rt.alloc(), &mut coverage, start, start + 2, &mut out)?;
+        assert_eq!(rt; kept, 101);
+    }
+    for late in 0..100u64 {
+        let kept = kept_with(rt.alloc(), &mut coverage, 3901 + late, 4900, &mut out)?;
+        assert_eq!(rt; kept, 101);
+    }
+    Ok(())
+}
+
+// Feeds records to a sink that takes so many bytes. It tells whether the failure is answered from then
+// on, and the sink took the front of the lines.
+fn fails_at(
+    alloc: Global,
+    genome: &Genome,
+    lines: &[&'static [u8]],
+    want: &[u8],
+    good: usize,
+) -> bool {
+    let mut coverage = Coverage::new(alloc, genome, false, None);
+    let mut out = Out::new(ScriptSink::new(alloc, 7, Some(good)));
+    feed_until_refused(&mut coverage, lines, &mut out)
+        && end(coverage, &mut out) == Err(write_failed())
+        && out.into_sink().taken() == &want[..good.min(want.len())]
+}
+
 #[test]
 fn a_sink_that_fails(rt: HostRuntime) {
     let Ok(genome) = genome(rt.alloc(), GENOME) else {
         return assert!(rt; false, "the genome");
     };
-    let lines: [&[u8]; 3] = [b"chr1\t0\t10", b"chr1\t5\t10", b"chr2\t0\t1"];
+    let nested: [&[u8]; 3] = [b"chr1\t0\t10", b"chr1\t5\t10", b"chr2\t0\t1"];
     let want = b"chr1\t0\t5\t1\nchr1\t5\t10\t2\n";
     for good in 0..want.len() {
-        let mut coverage = Coverage::new(rt.alloc(), &genome, false, None);
-        let mut out = Out::new(ScriptSink::new(rt.alloc(), 7, Some(good)));
         assert!(rt;
-            feed_until_refused(&mut coverage, &lines, &mut out),
+            fails_at(rt.alloc(), &genome, &nested, want, good),
             "{good}"
         );
-        assert_eq!(rt; end(coverage, &mut out), Err(write_failed()), "{good}");
-        assert_eq!(rt; out.into_sink().taken(), &want[..good], "{good}");
+    }
+    let ends: [&[u8]; 4] = [b"chr1\t0\t9", b"chr1\t0\t3", b"chr1\t2\t9", b"chr2\t0\t1"];
+    let want = b"chr1\t0\t2\t2\nchr1\t2\t3\t3\nchr1\t3\t9\t2\n";
+    for good in 0..want.len() {
+        assert!(rt; fails_at(rt.alloc(), &genome, &ends, want, good), "{good}");
     }
 }
 
@@ -254,28 +339,92 @@ fn span(start: u64, stop: u64) -> PlainSpan {
     PlainSpan { start, stop }
 }
 
+// Whether the engine writes the lines of what the plain program gives.
+fn is_as_plain(
+    alloc: Global,
+    genome: &Genome,
+    spans: &[PlainSpan],
+    length: u64,
+    zeros: bool,
+) -> Result<bool, AllocError> {
+    let depths = plain_depths(alloc, spans, length, zeros)?;
+    let want = lines_of(alloc, depths.as_slice())?;
+    let mut coverage = Coverage::new(alloc, genome, zeros, None);
+    let mut out = Out::new(ScriptSink::new(alloc, 3, None));
+    Ok(
+        feed_spans(alloc, &mut coverage, spans, &mut out)?
+            && end(coverage, &mut out) == Ok(())
+            && out.into_sink().taken() == want.as_slice(),
+    )
+}
+
 #[test]
 fn gives_what_the_plain_program_gives(rt: HostRuntime) -> Result<(), Fail> {
     let Ok(genome) = genome(rt.alloc(), b"chr1\t20\n") else {
         assert!(rt; false, "the genome");
         return Ok(());
     };
-    let cases: [&[PlainSpan]; 5] = [
+    let cases: [&[PlainSpan]; 7] = [
         &[span(0, 1), span(0, 7), span(3, 5), span(9, 10)],
         &[span(1, 2), span(2, 3), span(4, 18), span(10, 15)],
         &[span(3, 9), span(3, 9), span(9, 12), span(12, 30)],
         &[span(5, 6), span(20, 21), span(22, 23)],
         &[span(0, 20)],
+        &[
+            span(0, 9),
+            span(1, 8),
+            span(2, 7),
+            span(3, 6),
+            span(4, 5),
+            span(6, 7),
+            span(8, 9),
+        ],
+        &[
+            span(0, 5),
+            span(0, 3),
+            span(0, 4),
+            span(2, 3),
+            span(3, 5),
+            span(5, 9),
+            span(5, 7),
+        ],
     ];
     for zeros in [false, true] {
         for spans in cases {
-            let depths = plain_depths(rt.alloc(), spans, 20, zeros)?;
-            let want = lines_of(rt.alloc(), depths.as_slice())?;
-            let mut coverage = Coverage::new(rt.alloc(), &genome, zeros, None);
-            let mut out = Out::new(ScriptSink::new(rt.alloc(), 3, None));
-            assert!(rt; feed_spans(rt.alloc(), &mut coverage, spans, &mut out)?);
-            assert_eq!(rt; end(coverage, &mut out), Ok(()));
-            assert_eq!(rt; out.into_sink().taken(), want.as_slice());
+            assert!(rt; is_as_plain(rt.alloc(), &genome, spans, 20, zeros)?);
+        }
+    }
+    Ok(())
+}
+
+// All spans below 4, in order.
+const SHORT: [PlainSpan; 10] = [
+    PlainSpan { start: 0, stop: 1 },
+    PlainSpan { start: 0, stop: 2 },
+    PlainSpan { start: 0, stop: 3 },
+    PlainSpan { start: 0, stop: 4 },
+    PlainSpan { start: 1, stop: 2 },
+    PlainSpan { start: 1, stop: 3 },
+    PlainSpan { start: 1, stop: 4 },
+    PlainSpan { start: 2, stop: 3 },
+    PlainSpan { start: 2, stop: 4 },
+    PlainSpan { start: 3, stop: 4 },
+];
+
+#[test]
+fn all_small_cases(rt: HostRuntime) -> Result<(), Fail> {
+    let Ok(genome) = genome(rt.alloc(), b"chr1\t4\n") else {
+        assert!(rt; false, "the genome");
+        return Ok(());
+    };
+    for first in SHORT {
+        for second in SHORT {
+            for third in SHORT {
+                if first.start <= second.start && second.start <= third.start {
+                    let spans = [first, second, third];
+                    assert!(rt; is_as_plain(rt.alloc(), &genome, &spans, 4, false)?);
+                }
+            }
         }
     }
     Ok(())

@@ -2,8 +2,9 @@ ghost use Rattle.std.specs.Prelude.{◌≤◌};
 
 use super::*;
 use crate::plain::{PlainSpan, plain_runs};
-use bt_bed::parse_bed;
+use bt_bed::{Strand, parse_bed};
 use bt_lines::{Kind, ScriptSink};
+use std::alloc::AllocError;
 use std::process::Abort;
 use std::test::Fail;
 
@@ -32,7 +33,7 @@ const FOUR: &[(&[u8], usize)] = &[
     (b"chr1\t501\t1000", 1),
 ];
 
-const CASES: [Case; 15] = [
+const CASES: [Case; 26] = [
     Case {
         name: "no record",
         d: 0,
@@ -184,6 +185,142 @@ const CASES: [Case; 15] = [
         ],
         settled: b"chr2\t0\t10\n",
         whole: b"chr2\t0\t10\nchr1\t6\t31\n",
+    },
+    Case {
+        name: "each strand",
+        d: 0,
+        strand: MergeStrand::Each,
+        lines: &[
+            (b"chr1\t0\t100\ta\t0\t+", 1),
+            (b"chr1\t10\t20\tb\t0\t-", 2),
+            (b"chr1\t50\t120\tc\t0\t+", 2),
+            (b"chr1\t60\t70\td\t0\t-", 3),
+        ],
+        settled: b"",
+        whole: b"chr1\t0\t120\nchr1\t10\t20\nchr1\t60\t70\n",
+    },
+    Case {
+        name: "each strand, the strand - first",
+        d: 0,
+        strand: MergeStrand::Each,
+        lines: &[(b"chr1\t0\t10\ta\t0\t-", 1), (b"chr1\t5\t20\tb\t0\t+", 2)],
+        settled: b"",
+        whole: b"chr1\t0\t10\nchr1\t5\t20\n",
+    },
+    Case {
+        name: "finished runs behind an open one",
+        d: 0,
+        strand: MergeStrand::Each,
+        lines: &[
+            (b"chr1\t0\t100\ta\t0\t+", 1),
+            (b"chr1\t10\t20\tb\t0\t-", 2),
+            (b"chr1\t60\t70\tc\t0\t-", 3),
+        ],
+        settled: b"",
+        whole: b"chr1\t0\t100\nchr1\t10\t20\nchr1\t60\t70\n",
+    },
+    Case {
+        name: "settled once the open one is",
+        d: 0,
+        strand: MergeStrand::Each,
+        lines: &[
+            (b"chr1\t0\t100\ta\t0\t+", 1),
+            (b"chr1\t10\t20\tb\t0\t-", 2),
+            (b"chr1\t60\t70\tc\t0\t-", 3),
+            (b"chr1\t150\t160\td\t0\t+", 1),
+        ],
+        settled: b"chr1\t0\t100\nchr1\t10\t20\nchr1\t60\t70\n",
+        whole: b"chr1\t0\t100\nchr1\t10\t20\nchr1\t60\t70\nchr1\t150\t160\n",
+    },
+    Case {
+        name: "three strands open at once",
+        d: 0,
+        strand: MergeStrand::Each,
+        lines: &[
+            (b"chr1\t0\t50\ta\t0\t.", 1),
+            (b"chr1\t10\t40\tb\t0\t-", 2),
+            (b"chr1\t20\t30\tc\t0\t+", 3),
+            (b"chr1\t25\t60\td\t0\t-", 3),
+            (b"chr1\t30\t35\te\t0\t+", 3),
+            (b"chr1\t45\t48\tf\t0\t.", 3),
+        ],
+        settled: b"",
+        whole: b"chr1\t0\t50\nchr1\t10\t60\nchr1\t20\t35\n",
+    },
+    Case {
+        name: "any other strand and none are one",
+        d: 0,
+        strand: MergeStrand::Each,
+        lines: &[
+            (b"chr1\t0\t10", 1),
+            (b"chr1\t5\t15\ta\t0\t.", 1),
+            (b"chr1\t15\t20\tb\t0\tx", 1),
+            (b"chr1\t18\t30\tc\t0\t+", 2),
+        ],
+        settled: b"",
+        whole: b"chr1\t0\t20\nchr1\t18\t30\n",
+    },
+    Case {
+        name: "each strand across gaps",
+        d: 10,
+        strand: MergeStrand::Each,
+        lines: &[
+            (b"chr1\t0\t10\ta\t0\t+", 1),
+            (b"chr1\t5\t8\tb\t0\t-", 2),
+            (b"chr1\t19\t25\tc\t0\t-", 3),
+            (b"chr1\t20\t30\td\t0\t+", 3),
+        ],
+        settled: b"",
+        whole: b"chr1\t0\t30\nchr1\t5\t8\nchr1\t19\t25\n",
+    },
+    Case {
+        name: "a new chromosome while runs wait",
+        d: 999_999_999_999,
+        strand: MergeStrand::Each,
+        lines: &[
+            (b"chr2\t0\t100\ta\t0\t+", 1),
+            (b"chr2\t10\t20\tb\t0\t-", 2),
+            (b"chr1\t5\t6\tc\t0\t-", 1),
+            (b"chr1\t7\t9\td\t0\t+", 2),
+        ],
+        settled: b"chr2\t0\t100\nchr2\t10\t20\n",
+        whole: b"chr2\t0\t100\nchr2\t10\t20\nchr1\t5\t6\nchr1\t7\t9\n",
+    },
+    Case {
+        name: "the runs behind the first are settled one by one",
+        d: 0,
+        strand: MergeStrand::Each,
+        lines: &[
+            (b"chr1\t0\t10\ta\t0\t+", 1),
+            (b"chr1\t5\t30\tb\t0\t-", 2),
+            (b"chr1\t20\t25\tc\t0\t+", 2),
+            (b"chr1\t28\t29\td\t0\t.", 3),
+            (b"chr1\t31\t32\te\t0\t+", 1),
+        ],
+        settled: b"chr1\t0\t10\nchr1\t5\t30\nchr1\t20\t25\nchr1\t28\t29\n",
+        whole: b"chr1\t0\t10\nchr1\t5\t30\nchr1\t20\t25\nchr1\t28\t29\nchr1\t31\t32\n",
+    },
+    Case {
+        name: "joined behind a run of another strand",
+        d: 0,
+        strand: MergeStrand::Each,
+        lines: &[
+            (b"chr1\t0\t10\ta\t0\t+", 1),
+            (b"chr1\t5\t12\tb\t0\t-", 2),
+            (b"chr1\t10\t20\tc\t0\t+", 2),
+            (b"chr1\t20\t21\td\t0\t-", 3),
+            (b"chr1\t21\t30\te\t0\t-", 1),
+        ],
+        settled: b"chr1\t0\t20\nchr1\t5\t12\n",
+        whole: b"chr1\t0\t20\nchr1\t5\t12\nchr1\t20\t30\n",
+    },
+    Case {
+        name: "no record, each strand",
+        d: 0,
+        strand: MergeStrand::Each,
+        lines: &[],
+        settled: b"",
+        whole: b"",
     },
 ];
 
@@ -363,5 +500,29 @@ fn gives_what_the_plain_program_gives(rt: HostRuntime) -> Result<(), Fail> {
             assert_eq!(rt; out.into_sink().taken(), want.as_slice());
         }
     }
+    Ok(())
+}
+
+#[test]
+fn many_runs_behind_an_open_one(rt: HostRuntime) -> Result<(), Fail> {
+    let mut merge = Merge::new(rt.alloc(), 0, MergeStrand::Each);
+    let mut out = Out::new(ScriptSink::new(rt.alloc(), 100, None));
+    let mut whole = Vec::new(rt.alloc());
+    assert_eq!(rt;
+        feed(&mut merge, b"chr1\t0\t99999\ta\t0\t+", &mut out),
+        Ok(())
+    );
+    whole.extend_from_slice(b"chr1\t0\t99999\n")?;
+    for place in 0u32..1_000 {
+        let start = 2 * place + 1;
+        let line = format!(in rt.alloc(); "chr1\t{start}\t{}\tb\t0\t-", start + 1)?;
+        assert_eq!(rt; feed(&mut merge, line.as_bytes(), &mut out), Ok(()));
+        assert_eq!(rt; kept_len(&merge), place as usize + 2);
+        let run = format!(in rt.alloc(); "chr1\t{start}\t{}\n", start + 1)?;
+        whole.extend_from_slice(run.as_bytes())?;
+    }
+    assert_eq!(rt; finish(merge, &mut out), Ok(()));
+    assert_eq!(rt; out.flush(), Ok(()));
+    assert_eq!(rt; out.into_sink().taken(), whole.as_slice());
     Ok(())
 }

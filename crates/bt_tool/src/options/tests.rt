@@ -5,14 +5,26 @@ use std::process::Abort;
 use std::test::Fail;
 
 /// The words, and the plan or the line on standard error that they give.
-const CASES: [(&[&str], &str); 39] = [
+const CASES: [(&[&str], &str); 42] = [
     (&[], "bedtools: no or unknown command\n"),
     (&["", "-g", "g"], "bedtools: no or unknown command\n"),
     (&["-g", "g", "merge"], "bedtools: no or unknown command\n"),
     (&["merge", "-q"], "bedtools: unknown option: -q\n"),
     (
         &["merge", "-s", "-g", "g"],
-        "bedtools: unknown option: -s\n",
+        "Merge { d: 0, strand: Each } Some(\"g\") stdin None None",
+    ),
+    (
+        &["merge", "-g", "g", "-s", "-d", "5", "-s"],
+        "Merge { d: 5, strand: Each } Some(\"g\") stdin None None",
+    ),
+    (
+        &["merge", "-g", "g", "-s", "-S", "+"],
+        "bedtools: options exclude one another\n",
+    ),
+    (
+        &["merge", "-S", "-", "-s", "-g", "g"],
+        "bedtools: options exclude one another\n",
     ),
     (
         &["complement", "-g", "g", "-d", "5"],
@@ -326,6 +338,53 @@ const SUBTRACT: [(&[&str], &str); 16] = [
     ),
 ];
 
+/// The same for genomecov.
+const COVERAGE: [(&[&str], &str); 19] = [
+    (&["-g", "g"], "bedtools: required option missing\n"),
+    (
+        &["-g", "g", "-strand", "+"],
+        "bedtools: required option missing\n",
+    ),
+    (&["-bg"], "bedtools: required option missing\n"),
+    (
+        &["-bg", "-bga", "-i", "a"],
+        "bedtools: required option missing\n",
+    ),
+    (&["-g", "-"], "bedtools: required option missing\n"),
+    (
+        &["-bg", "-g", "-"],
+        "bedtools: standard input named twice\n",
+    ),
+    (&["-bg", "-strand"], "bedtools: value missing: -strand\n"),
+    (&["-strand", "."], "bedtools: bad value: -strand\n"),
+    (&["-strand", ""], "bedtools: bad value: -strand\n"),
+    (&["-strand", "+-"], "bedtools: bad value: -strand\n"),
+    (&["-d"], "bedtools: unknown option: -d\n"),
+    (&["-dz"], "bedtools: unknown option: -dz\n"),
+    (&["-split"], "bedtools: unknown option: -split\n"),
+    (&["-S", "+"], "bedtools: unknown option: -S\n"),
+    (
+        &["-g", "g", "-bg"],
+        "Coverage { zeros: false, strand: None } Some(\"g\") stdin None None",
+    ),
+    (
+        &["-bga", "-g", "g", "-i", "a.bed"],
+        "Coverage { zeros: true, strand: None } Some(\"g\") a.bed None None",
+    ),
+    (
+        &["-bga", "-g", "g", "-bg"],
+        "Coverage { zeros: true, strand: None } Some(\"g\") stdin None None",
+    ),
+    (
+        &["-strand", "-", "-g", "-", "-i", "a", "-bg", "-bg"],
+        "Coverage { zeros: false, strand: Some(Minus) } Some(\"-\") a None None",
+    ),
+    (
+        &["-strand", "-", "-bga", "-g", "g", "-strand", "+"],
+        "Coverage { zeros: true, strand: Some(Plus) } Some(\"g\") stdin None None",
+    ),
+];
+
 /// The same for bamtobed.
 const BAM_TO_BED: [(&[&str], &str); 9] = [
     (
@@ -349,6 +408,93 @@ const BAM_TO_BED: [(&[&str], &str); 9] = [
     (&["-splitD"], "bedtools: unknown option: -splitD\n"),
     (&["-i"], "bedtools: value missing: -i\n"),
     (&["-cigar", "-i", ""], "bedtools: bad value: -i\n"),
+];
+
+/// The same for maskfasta.
+const MASK_FASTA: [(&[&str], &str); 23] = [
+    (&[], "bedtools: required option missing\n"),
+    (&["-fi", "a"], "bedtools: required option missing\n"),
+    (&["-bed", "b"], "bedtools: required option missing\n"),
+    (
+        &["-fi", "a", "-bed", "b"],
+        "MaskFasta { how: Hard(78), full: false } None a Some(\"b\") None",
+    ),
+    (
+        &["-fi", "a", "-bed", "b", "-soft"],
+        "MaskFasta { how: Soft, full: false } None a Some(\"b\") None",
+    ),
+    (
+        &["-fullHeader", "-fi", "a", "-bed", "b", "-mc", "x"],
+        "MaskFasta { how: Hard(120), full: true } None a Some(\"b\") None",
+    ),
+    (
+        &["-fi", "a", "-bed", "b", "-mc", "!", "-mc", "~"],
+        "MaskFasta { how: Hard(126), full: false } None a Some(\"b\") None",
+    ),
+    (
+        &["-fi", "a", "-bed", "b", "-mc", "-"],
+        "MaskFasta { how: Hard(45), full: false } None a Some(\"b\") None",
+    ),
+    (
+        &["-fi", "-", "-bed", "b", "-fo", "c"],
+        "MaskFasta { how: Hard(78), full: false } None - Some(\"b\") Some(\"c\")",
+    ),
+    (
+        &["-fi", "a", "-bed", "b", "-fo", "-"],
+        "MaskFasta { how: Hard(78), full: false } None a Some(\"b\") None",
+    ),
+    (
+        &["-fi", "a", "-bed", "b", "-fo", "stdout"],
+        "MaskFasta { how: Hard(78), full: false } None a Some(\"b\") None",
+    ),
+    (
+        &["-fi", "-", "-bed", "b", "-fo", "-"],
+        "MaskFasta { how: Hard(78), full: false } None - Some(\"b\") None",
+    ),
+    (
+        &["-fi", "a", "-bed", "b", "-fo", "a", "-fo", "stdin"],
+        "MaskFasta { how: Hard(78), full: false } None a Some(\"b\") Some(\"stdin\")",
+    ),
+    (
+        &["-fi", "a", "-bed", "b", "-soft", "-mc", "x"],
+        "bedtools: options exclude one another\n",
+    ),
+    (
+        &["-fi", "a", "-bed", "b", "-fo", "a"],
+        "bedtools: options exclude one another\n",
+    ),
+    (
+        &["-fi", "a", "-bed", "b", "-fo", "b"],
+        "bedtools: options exclude one another\n",
+    ),
+    (
+        &["-fi", "-", "-bed", "stdin"],
+        "bedtools: standard input named twice\n",
+    ),
+    (
+        &["-fi", "a", "-bed", "b", "-mc", "xy"],
+        "bedtools: bad value: -mc\n",
+    ),
+    (
+        &["-fi", "a", "-bed", "b", "-mc", " "],
+        "bedtools: bad value: -mc\n",
+    ),
+    (
+        &["-fi", "a", "-bed", "b", "-mc", ""],
+        "bedtools: bad value: -mc\n",
+    ),
+    (
+        &["-fi", "a", "-bed", "b", "-mc", "é"],
+        "bedtools: bad value: -mc\n",
+    ),
+    (
+        &["-fi", "a", "-bed", "b", "-fo"],
+        "bedtools: value missing: -fo\n",
+    ),
+    (
+        &["-fi", "a", "-bed", "b", "-g", "g"],
+        "bedtools: unknown option: -g\n",
+    ),
 ];
 
 fn shown(alloc: Global, plan: &Plan) -> Result<String, AllocError> {
@@ -423,8 +569,18 @@ fn words_of_subtract(rt: HostRuntime) -> Result<(), Fail> {
 }
 
 #[test]
+fn words_of_genomecov(rt: HostRuntime) -> Result<(), Fail> {
+    check_all(&rt, rt.alloc(), "genomecov", &COVERAGE)
+}
+
+#[test]
 fn words_of_bamtobed(rt: HostRuntime) -> Result<(), Fail> {
     check_all(&rt, rt.alloc(), "bamtobed", &BAM_TO_BED)
+}
+
+#[test]
+fn words_of_maskfasta(rt: HostRuntime) -> Result<(), Fail> {
+    check_all(&rt, rt.alloc(), "maskfasta", &MASK_FASTA)
 }
 
 #[test]

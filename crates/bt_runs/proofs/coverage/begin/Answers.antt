@@ -1,10 +1,10 @@
-use Rattle.std.proofs.Common.{List, Some, None, subst, sym, arith}
+use Rattle.std.proofs.Common.{Some, None, subst, sym, arith}
 use Rattle.bt_bed.specs.Bed.{feature_lent}
 use Rattle.bt_bed.specs.GenomeTable.{entries}
 use Rattle.bt_runs.specs.CountSeen.{place_seen}
 use Rattle.bt_runs.specs.Covering.{AdvanceAnswers, seen}
 use Rattle.bt_runs.specs.DepthStep.{Place, counting, left_before, unknown}
-use Rattle.bt_runs.specs.declared.depths.OpenSpan.{OpenSpan}
+use Rattle.bt_runs.specs.OpenRecords.{OpenAt}
 use Rattle.bt_runs.specs.declared.depths.Reached.{Reached}
 use Rattle.bt_runs.proofs.CoverageLemmas.{advances_more, begins_cut, count_begins, found_at}
 use Rattle.bt_runs.proofs.coverage.begin.Goals as goal
@@ -18,10 +18,10 @@ put_before-requires-clause-within g c =
 pub returns-in-Err : goal.returns-in-Err
 returns-in-Err g c =
     let table = entries c.args.genome.now in
-    let place = seen c.args.current c.args.held.now.items in
+    let place = seen c.args.current c.args.held.now in
     let r = feature_lent c.args.bed.now in
     let start : Place = record { rank = c.in-Some.rank; known = unknown } in
-    rw (count_begins c.args.zeros c.args.strand table place r c.in-Some.rank c.requires.elsewhere c.in-Some.ensures) (begins_cut (left_before c.args.zeros table place c.in-Some.rank) (counting c.args.zeros c.args.strand table start r).1 c.args.out.now c.put_before.new.out c.in-Err.field-0 (rw (← c.as_slice.ensures.value) c.in-Err.ensures))
+    rw (count_begins c.args.zeros c.args.strand table place r c.in-Some.rank c.requires.elsewhere c.in-Some.ensures) (begins_cut (left_before c.args.zeros table place c.in-Some.rank) (counting c.args.zeros c.args.strand table start r).1 c.args.out.now c.put_before.new.out c.in-Err.field-0 (c.in-Err.ensures))
 
 pub count-requires : goal.count-requires
 count-requires g c = found_at (entries c.args.genome.now) c.args.bed.now.chrom.now c.in-Some.rank (sym c.in-Some.ensures)
@@ -29,10 +29,10 @@ count-requires g c = found_at (entries c.args.genome.now) c.args.bed.now.chrom.n
 pub returns-in-Ok : goal.returns-in-Ok
 returns-in-Ok g c =
     let table = entries c.args.genome.now in
-    let place = seen c.args.current c.args.held.now.items in
+    let place = seen c.args.current c.args.held.now in
     let r = feature_lent c.args.bed.now in
     let start : Place = record { rank = c.in-Some.rank; known = unknown } in
-    let reached : Reached = record { rank = c.in-Some.rank; known = 0; begun = None } in
+    let reached : Reached = record { rank = c.in-Some.rank; begun = None } in
     let step = counting c.args.zeros c.args.strand table start r in
     rw (count_begins c.args.zeros c.args.strand table place r c.in-Some.rank c.requires.elsewhere c.in-Some.ensures)
-    (advances_more _ (left_before c.args.zeros table place c.in-Some.rank) step.1 table c.count.result c.count.new.held.items c.args.out.now c.put_before.new.out c.count.new.out (rw (← c.as_slice.ensures.value) c.in-Ok.ensures) (subst (λ (l : List OpenSpan). AdvanceAnswers (Some (counting c.args.zeros c.args.strand table (place_seen reached l) r).0, (counting c.args.zeros c.args.strand table (place_seen reached l) r).1) table c.count.result c.count.new.held.items c.put_before.new.out c.count.new.out) c.clear.ensures.items c.count.ensures))
+    (advances_more _ (left_before c.args.zeros table place c.in-Some.rank) step.1 table c.count.result c.count.new.held c.args.out.now c.put_before.new.out c.count.new.out c.in-Ok.ensures (subst (λ (l : OpenAt). AdvanceAnswers (Some (counting c.args.zeros c.args.strand table (place_seen reached l) r).0, (counting c.args.zeros c.args.strand table (place_seen reached l) r).1) table c.count.result c.count.new.held c.put_before.new.out c.count.new.out) c.clear.ensures c.count.ensures))

@@ -1,70 +1,107 @@
-use Rattle.std.proofs.Common.{◌≡◌, ◌-◌, ◌++◌, Ok, arith, sym, ap, ◌∙◌}
+use Rattle.std.proofs.Common.{refl, ◌≡◌, ◌-◌, ◌+◌, ◌<◌, ◌≤◌, ◌++◌, List, Ok, All, arith, length, max, sym, subst, ap, ◌∙◌}
 use Rattle.std.proofs.lemmas.Result.{err_from_is_err_and}
 use Rattle.bt_lines.proofs.PuttingLemmas.{grown_none}
-use Rattle.bt_runs.specs.CountSeen.{begun_seen, spans_open}
-use Rattle.bt_runs.specs.Depth.{depth_of}
+use Rattle.bt_bed.specs.Interval.{Span}
+use Rattle.bt_runs.specs.CountSeen.{begun_seen}
+use Rattle.bt_runs.specs.Depth.{depth_of, reported}
+use Rattle.bt_runs.specs.DepthStep.{still_open}
 use Rattle.bt_runs.specs.Levels.{ended_after, next_begun, next_ended}
-use Rattle.bt_runs.proofs.DepthLines.{adds_levels, cut_levels, depth_here, no_begun, no_ended, turn_begun, turn_ended, turn_more}
+use Rattle.bt_runs.specs.OpenRecords.{OpenAt, open_from}
+use Rattle.bt_runs.proofs.DepthLines.{adds_levels, cut_levels}
+use Rattle.bt_runs.proofs.DepthWalk.{here_depth, no_begun, no_ended, run_depth, turn_begun, turn_ended, turn_more}
+use Rattle.bt_runs.proofs.OpenLemmas.{walk_same}
 use Rattle.bt_runs.proofs.depths.go_on.Goals as goal
 
 pub loop-position-init : goal.loop-position-init
 loop-position-init g c =
-    let u = depth_of c.args.zeros (spans_open c.args.held.now) in
-    let known = c.args.reached.known in
-    let begun = begun_seen c.args.reached.begun in
-    record {
+    let u = depth_of c.args.zeros c.args.held.now.spans in
+    let known = c.args.held.now.at in
+    let begun = begun_seen c.args.begun in
+    let at : c.at-position.result ≡ known = c.at-position.ensures in
+    rw at (record {
       from = omega arith;
       to = omega arith;
+      here = omega arith;
+      open_here = refl;
       puts = rw (no_ended u known (known - known) begun (omega arith)) (grown_none c.args.out.now);
       begun = sym (no_begun u known (known - known) begun (omega arith));
-    }
+    })
 
 pub returns-in_err-begun-clause-adds : goal.returns-in_err-begun-clause-adds
 returns-in_err-begun-clause-adds g c =
     let p = err_from_is_err_and c.from_residual.result c.from_residual.ensures.1 in
-    let u = depth_of c.args.zeros (spans_open c.args.held.now) in
-    let known = c.args.reached.known in
+    let i = c.loop-position.invariant in
+    let held = c.args.held.now in
+    let u = depth_of c.args.zeros held.spans in
     let at = c.loop-position.position in
-    let first = begun_seen c.args.reached.begun in
+    let first = begun_seen c.args.begun in
     let begun = begun_seen c.loop-position.begun in
     let value = c.reported-depth.result in
-    let is = depth_here c.args.zeros c.args.held.now at _ value c.reported-depth.ensures c.depth_at.ensures in
-    let more = turn_more u known at c.args.stop first begun value c.loop-position.invariant.from (omega arith) is c.loop-position.invariant.begun in
-    rw (p.1, p.2) (cut_levels c.args.chrom.now c.args.out.now c.loop-position.out c.put_next.new.out (ended_after u known (at - known) first) (next_ended at value begun) (ended_after u known (c.args.stop - known) first) more.0 c.in_err-begun.field-0.0 more.1 c.loop-position.invariant.puts c.in_err-begun.ensures.adds)
+    let test = c.loop-position-test.true in
+    let next : max c.loop-position.held.at (at + 1) ≡ at + 1 = omega (arith, i.here) in
+    let now : c.go_on.new.self.spans ≡ still_open (at + 1) c.loop-position.held.spans = ap (λ h. h.spans) c.go_on.ensures.left ∙ ap (λ n. still_open n c.loop-position.held.spans) next in
+    let is : value ≡ reported c.args.zeros (length (still_open (at + 1) c.loop-position.held.spans)) = c.reported-depth.ensures ∙ ap (reported c.args.zeros) (c.len.ensures ∙ ap length now) in
+    let here = here_depth c.args.zeros c.loop-position.held.at at held.spans c.loop-position.held.spans i.here i.open_here c.go_on.ensures.started value is in
+    let more = turn_more u held.at at c.args.stop first begun value i.from (omega arith) here i.begun in
+    rw (p.1, p.2) (cut_levels c.args.chrom.now c.args.out.now c.loop-position.out c.put_next.new.out (ended_after u held.at (at - held.at) first) (next_ended at value begun) (ended_after u held.at (c.args.stop - held.at) first) more.0 c.in_err-begun.field-0.0 more.1 i.puts c.in_err-begun.ensures.adds)
 
 pub loop-position-preserved : goal.loop-position-preserved
 loop-position-preserved g c =
-    let u = depth_of c.args.zeros (spans_open c.args.held.now) in
-    let known = c.args.reached.known in
+    let i = c.loop-position.invariant in
+    let held = c.args.held.now in
+    let u = depth_of c.args.zeros held.spans in
     let at = c.loop-position.position in
-    let next = c.next_change-position.result in
-    let first = begun_seen c.args.reached.begun in
+    let next = c.first_end-position.result in
+    let first = begun_seen c.args.begun in
     let begun = begun_seen c.loop-position.begun in
     let value = c.reported-depth.result in
-    let is = depth_here c.args.zeros c.args.held.now at _ value c.reported-depth.ensures c.depth_at.ensures in
-    let low = c.loop-position.invariant.from in
-    let up = c.next_change-position.ensures.behind in
-    let within = c.next_change-position.ensures.within in
-    let alike = c.next_change-position.ensures.alike in
-    let same = c.loop-position.invariant.begun in
-    let ended = turn_ended c.args.zeros c.args.held.now known at next first value low up alike is ∙ ap (λ b. ended_after u known (at - known) first ++ next_ended at value b) (sym same) in
+    let spans = c.loop-position.held.spans in
+    let test = c.loop-position-test.true in
+    let later : max c.loop-position.held.at (at + 1) ≡ at + 1 = omega (arith, i.here) in
+    let here : c.go_on.new.self.at ≡ at + 1 = ap (λ h. h.at) c.go_on.ensures.left ∙ later in
+    let now : c.go_on.new.self.spans ≡ still_open (at + 1) spans = ap (λ h. h.spans) c.go_on.ensures.left ∙ ap (λ n. still_open n spans) later in
+    let is : value ≡ reported c.args.zeros (length (still_open (at + 1) spans)) = c.reported-depth.ensures ∙ ap (reported c.args.zeros) (c.len.ensures ∙ ap length now) in
+    let within = c.first_end-position.ensures.within in
+    let up : c.go_on.new.self.at ≤ next = c.first_end-position.ensures.behind (omega arith) in
+    let ends : All (λ s. next ≤ s.stop) (still_open (at + 1) spans) = subst (λ (l : List Span). All (λ s. next ≤ s.stop) l) now c.first_end-position.ensures.ends in
+    let run = run_depth c.args.zeros c.loop-position.held.at at held.spans spans i.here i.open_here c.go_on.ensures.started value is next ends in
+    let low = i.from in
+    let behind : at < next = omega arith in
+    let ended = turn_ended u held.at at next first value low behind run ∙ ap (λ b. ended_after u held.at (at - held.at) first ++ next_ended at value b) (sym i.begun) in
     record {
       from = omega arith;
       to = omega arith;
-      puts = adds_levels c.args.chrom.now c.args.out.now c.loop-position.out c.put_next.new.out (ended_after u known (at - known) first) (next_ended at value begun) (ended_after u known (next - known) first) {A = Unit {0}} (Ok tt) ended c.loop-position.invariant.puts c.in_ok-begun.ensures.adds;
-      begun = c.in_ok-begun.ensures.begun ∙ ap (next_begun at value) same ∙ sym (turn_begun c.args.zeros c.args.held.now known at next first value low up alike is);
+      here = omega arith;
+      open_here = ap (still_open next) now ∙ walk_same c.loop-position.held.at at held.spans spans i.here i.open_here next behind;
+      puts = adds_levels c.args.chrom.now c.args.out.now c.loop-position.out c.put_next.new.out (ended_after u held.at (at - held.at) first) (next_ended at value begun) (ended_after u held.at (next - held.at) first) {A = Unit {0}} (Ok tt) ended i.puts c.in_ok-begun.ensures.adds;
+      begun = c.in_ok-begun.ensures.begun ∙ ap (next_begun at value) i.begun ∙ sym (turn_begun u held.at at next first value low behind run);
     }
 
 pub returns-clause-adds : goal.returns-clause-adds
 returns-clause-adds g c =
-    let to = c.loop-position.invariant.to in
-    let from = c.loop-position.invariant.from in
-    let all : c.loop-position.position - c.args.reached.known ≡ c.args.stop - c.args.reached.known = omega arith in
-    rw (← all) c.loop-position.invariant.puts
+    let i = c.loop-position.invariant in
+    let to = i.to in
+    let from = i.from in
+    let all : c.loop-position.position - c.args.held.now.at ≡ c.args.stop - c.args.held.now.at = omega arith in
+    rw (← all) i.puts
 
 pub returns-clause-begun : goal.returns-clause-begun
 returns-clause-begun g c =
-    let to = c.loop-position.invariant.to in
-    let from = c.loop-position.invariant.from in
-    let all : c.loop-position.position - c.args.reached.known ≡ c.args.stop - c.args.reached.known = omega arith in
-    rw (← all) c.loop-position.invariant.begun
+    let i = c.loop-position.invariant in
+    let to = i.to in
+    let from = i.from in
+    let all : c.loop-position.position - c.args.held.now.at ≡ c.args.stop - c.args.held.now.at = omega arith in
+    rw (← all) i.begun
+
+pub returns-clause-held : goal.returns-clause-held
+returns-clause-held g c = λ up.
+    let i = c.loop-position.invariant in
+    let now = c.loop-position.held in
+    let held = c.args.held.now in
+    let from = i.from in
+    let to = i.to in
+    let there : c.loop-position.position ≡ c.args.stop = omega arith in
+    let all : max now.at c.args.stop ≡ c.args.stop = omega (arith, i.here) in
+    let same : still_open c.args.stop now.spans ≡ still_open c.args.stop held.spans = rw (← there) i.open_here in
+    let make : List Span → OpenAt = λ l. record { at = c.args.stop; spans = l } in
+    c.go_on-2.ensures.left ∙ ap (λ n. open_from n now) all ∙ ap make same

@@ -49,6 +49,19 @@ returns-in_err-check-clause-refused c =
     (together_at (items_in c.in_ok-given.given) c.in_ok-given.given.table.now (table_of c.in_ok-tool.tool) _
     (same_table c.in_ok-given.given.table.now c.table-table.result (table_of c.in_ok-tool.tool) c.in_ok-given.ensures.0 c.table-table.ensures) c.in_err-check.ensures))
 
+pub returns-in_err-check-clause-tellable : goal.returns-in_err-check-clause-tellable
+returns-in_err-check-clause-tellable c =
+    let exit = c.from_residual-in_err-check in
+    let told = err_from_is_err_and exit.result exit.ensures.1 in
+    let words = words_seen c.args.words.now in
+    let usage = c.in_err-check.field-0.0 in
+    let same = same_table c.in_ok-given.given.table.now c.table-table.result (table_of c.in_ok-tool.tool) c.in_ok-given.ensures.0 c.table-table.ensures in
+    let given = options-given c.args.words.now c.in_ok-given.given c.in_ok-tool.tool same c.in_ok-given.ensures.1 c.in_ok-tool.ensures in
+    let fault = given ∙ checked-fault c.in_ok-tool.tool (items_in c.in_ok-given.given) usage
+    (together_at (items_in c.in_ok-given.given) c.in_ok-given.given.table.now (table_of c.in_ok-tool.tool) _ same c.in_err-check.ensures) in
+    let tellable = options-tellable words usage fault in
+    rw (told.1, told.2) (rw (length-map c.args.words.now string_bytes) at tellable)
+
 pub made-requires : goal.made-requires
 made-requires c =
     let same = same_table c.in_ok-given.given.table.now c.table-table.result (table_of c.in_ok-tool.tool) c.in_ok-given.ensures.0 c.table-table.ensures in

@@ -8,9 +8,9 @@ use Rattle.bt_runs.proofs.coverage.CoverageEngine.feed.Goals as goal
 pub returns-in-Ok : goal.returns-in-Ok
 returns-in-Ok g c =
     let going = ap (λ m. m.fault) (sym c.self.view_is) ∙ ap (option_map fault_of) c.in_default.is in
-    feeds_ok (entries c.self.inside.genome.now) c.self.inside.zeros c.self.inside.strand c.self.inside.current c.self.inside.held.items c.self.invariant _ c.args.self.now c.self.view_is going c.args.out.now (feature_lent c.args.bed.now) _ c.in-Ok.current c.advance.new.held.items c.advance.new.out c.in-Ok.ensures
+    feeds_ok (entries c.self.inside.genome.now) c.self.inside.zeros c.self.inside.strand c.self.inside.current c.self.inside.held c.self.invariant _ c.args.self.now c.self.view_is going c.args.out.now (feature_lent c.args.bed.now) _ c.in-Ok.current c.advance.new.held c.advance.new.out c.in-Ok.ensures
 
 pub returns-in-Err : goal.returns-in-Err
 returns-in-Err g c =
     let going = ap (λ m. m.fault) (sym c.self.view_is) ∙ ap (option_map fault_of) c.in_default.is in
-    feeds_err (entries c.self.inside.genome.now) c.self.inside.zeros c.self.inside.strand c.self.inside.current c.self.inside.held.items c.self.invariant _ c.args.self.now c.self.view_is going c.args.out.now (feature_lent c.args.bed.now) c.in-Err.failure c.fault-in-Err.result c.advance.new.held.items _ c.advance.new.out c.fault-in-Err.ensures refl c.in-Err.ensures
+    feeds_err (entries c.self.inside.genome.now) c.self.inside.zeros c.self.inside.strand c.self.inside.current c.self.inside.held c.self.invariant _ c.args.self.now c.self.view_is going c.args.out.now (feature_lent c.args.bed.now) c.in-Err.failure c.fault-in-Err.result c.advance.new.held _ c.advance.new.out c.fault-in-Err.ensures refl c.in-Err.ensures

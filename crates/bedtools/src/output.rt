@@ -1,0 +1,57 @@
+//! Where the program writes to: standard output or a file.
+
+ghost use Rattle.std.specs.Prelude.{None};
+ghost use Rattle.bedtools.specs.Opened.{output_has_failed, output_is_flushed};
+
+use bt_lines::{DeviceFailed, Sink, ToWrite};
+use std::fs::File;
+use std::io;
+use std::io::Stdout;
+
+/// An output. `run` writes to it in blocks.
+#[derive(Drop)]
+pub enum Output {
+    Standard(ToWrite<Stdout>),
+    File(ToWrite<File>),
+}
+
+impl Output {
+    /// Standard output.
+    pub fn standard(rt: &HostRuntime) -> Output {
+        Output::Standard(ToWrite::new(rt.stdout()))
+    }
+
+    /// Creates the file of this name, or empties it where it is there.
+    pub fn create(rt: &HostRuntime, name: &str) -> io::Result<Output> {
+        Ok(Output::File(ToWrite::new(File::create(rt, name)?)))
+    }
+}
+
+impl Sink for Output {
+    ghost took = { λ _. None };
+
+    ghost has_failed = { output_has_failed };
+
+    ghost is_flushed = { output_is_flushed };
+
+    fn write(&mut self, bytes: &[u8]) -> Result<usize, DeviceFailed> {
+        match self {
+            Output::Standard(sink) => sink.write(bytes),
+            Output::File(sink) => sink.write(bytes),
+        }
+    }
+
+    fn flush(&mut self) -> Result<(), DeviceFailed> {
+        match self {
+            Output::Standard(sink) => sink.flush(),
+            Output::File(sink) => sink.flush(),
+        }
+    }
+
+    fn failed(&self) -> bool {
+        match self {
+            Output::Standard(sink) => sink.failed(),
+            Output::File(sink) => sink.failed(),
+        }
+    }
+}

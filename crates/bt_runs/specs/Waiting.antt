@@ -1,0 +1,57 @@
+-- The runs that wait, without their chromosome: where the last one of each strand stands, and how one more record is joined to it.
+use Rattle.std.specs.Prelude.{◌≡◌, ℕ, zero, suc, Bool, true, false, not, cond, ◌||◌, List, [], ◌∷◌, drop, length, map, max, set, Option, Some, None, nat_lt}
+use Rattle.std.specs.List.{slice_get, take_while}
+use Rattle.bt_bed.specs.Feature.{Feature}
+use Rattle.bt_bed.specs.declared.strand.Strand.{Strand}
+use Rattle.bt_bed.specs.declared.strand.Strand.TheVariants.{Plus, Minus, Dot}
+use Rattle.bt_bed.specs.Strands.{is_strand}
+use Rattle.bt_runs.specs.StrandRuns.{StrandRun}
+use Rattle.bt_runs.specs.StrandStep.{last_place}
+use Rattle.bt_runs.specs.declared.waiting.Waiting.{Waiting}
+
+-- where the last run of a strand stands
+abbrev pub place_of : Strand → List Waiting → Option ℕ
+place_of strand runs = last_place (λ (w : Waiting). is_strand w.strand strand) runs
+
+pub record ArePlaces (runs : List Waiting) (plus minus dot : Option ℕ) : Type 0 where
+  pub plus_is : plus ≡ place_of Plus runs
+  pub minus_is : minus ≡ place_of Minus runs
+  pub dot_is : dot ≡ place_of Dot runs
+
+-- where it stands once the first one was taken off
+abbrev pub place_behind : Option ℕ → Option ℕ
+place_behind None = None
+place_behind (Some zero) = None
+place_behind (Some (suc place)) = Some place
+
+-- the run that is lengthened up to `stop`
+abbrev pub lengthened : ℕ → Waiting → Waiting
+lengthened stop run = record { strand = run.strand; start = run.start; stop = max run.stop stop }
+
+-- whether a record is joined to the run at a place, which must not end below `reach`, and the runs with it
+abbrev pub joined_here : ℕ → ℕ → List Waiting → ℕ → Option Waiting → Bool × List Waiting
+joined_here reach stop runs place None = (false, runs)
+joined_here reach stop runs place (Some run) = cond (nat_lt run.stop reach) (false, runs) (true, set runs place (lengthened stop run))
+
+abbrev pub with_joined : ℕ → ℕ → List Waiting → Option ℕ → Bool × List Waiting
+with_joined reach stop runs None = (false, runs)
+with_joined reach stop runs (Some place) = joined_here reach stop runs place (slice_get runs place)
+
+-- a run on the chromosome of this name
+abbrev pub placed_run : List ℕ → Waiting → StrandRun
+placed_run chrom run = record { strand = run.strand; run = record { chrom = chrom; start = run.start; stop = run.stop } }
+
+abbrev pub placed_runs : List ℕ → List Waiting → List StrandRun
+placed_runs chrom runs = map (placed_run chrom) runs
+
+-- the first runs that are passed: all, where the record lies elsewhere, and else those that end below `reach`
+abbrev pub passed_runs : Bool → ℕ → List Waiting → List Waiting
+passed_runs here reach runs = take_while (λ (w : Waiting). not here || nat_lt w.stop reach) runs
+
+-- and those behind them
+abbrev pub left_runs : Bool → ℕ → List Waiting → List Waiting
+left_runs here reach runs = drop (length (passed_runs here reach runs)) runs
+
+-- a record as a run
+abbrev pub waiting_from : Feature → Waiting
+waiting_from r = record { strand = r.strand; start = r.start; stop = r.stop }

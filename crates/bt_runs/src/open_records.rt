@@ -1,0 +1,147 @@
+//! The counted records that are open at a position of a chromosome.
+
+ghost use Rattle.std.specs.Prelude.{◌≡◌, ◌≤◌, ℕ, List, [], ◌∷◌, ◌++◌, All, MatchBool, OnOk, length, max};
+ghost use Rattle.std.specs.BinaryHeap.{heap_items};
+ghost use Rattle.bt_runs.specs.DepthStep.{still_open};
+ghost use Rattle.bt_runs.specs.OpenRecords.{CountsFrom, IsLeastFirst, StartsBelow, ends_of, none_open_at, open_from};
+
+use std::alloc::{AllocError, Global};
+use std::cmp::Reverse;
+use std::collections::BinaryHeap;
+use std::marker::Model;
+
+// A counted record that is open: it may cover positions to come.
+#[derive(Clone, Copy, Debug)]
+pub(crate) struct OpenSpan {
+    pub(crate) start: u64,
+    pub(crate) stop: u64,
+}
+
+// The counted records of a chromosome that end at a position or past it, in file order. Their ends are
+// kept beside them, the least first, so that a record that ends costs the log of how many are open. The
+// records that have ended leave the list in one pass, once they are more than those that are open.
+#[derive(Drop, Debug)]
+pub(crate) struct OpenRecords {
+    at: u64,
+    spans: Vec<OpenSpan>,
+    ends: BinaryHeap<Reverse<u64>>,
+}
+
+impl Model for OpenRecords {
+    ghost use Rattle.std.specs.BinaryHeap.{heap_items};
+    ghost use Rattle.bt_runs.specs.DepthStep.{still_open};
+    ghost use Rattle.bt_runs.specs.OpenRecords.{IsLeastFirst, KeepsOpen, OpenAt, ends_of, spans_open};
+
+    ghost Value = { OpenAt };
+
+    ghost view = { λ m. record { at = m.at; spans = still_open m.at (spans_open m.spans.items) } };
+
+    ghost invariant = { λ m. IsLeastFirst (heap_items m.ends) × KeepsOpen m.at (spans_open m.spans.items) (ends_of (heap_items m.ends)) };
+}
+
+impl OpenRecords {
+    // None is open at the first position.
+    pub(crate) fn new(alloc: Global) -> OpenRecords
+        ensures { result ≡ none_open_at 0 }
+    {
+        OpenRecords {
+            at: 0,
+            spans: Vec::new(alloc),
+            ends: BinaryHeap::new(alloc),
+        }
+    }
+
+    // The position.
+    pub(crate) fn at(&self) -> u64
+        ensures { result ≡ self.now.at }
+    {
+        self.at
+    }
+
+    // How many are open.
+    pub(crate) fn len(&self) -> usize
+        ensures { result ≡ length self.now.spans }
+    {
+        self.ends.len()
+    }
+
+    // Goes to a position at which none is open.
+    pub(crate) fn clear(&mut self, at: u64)
+        ensures { self.new ≡ none_open_at at }
+    {
+        self.at = at;
+        self.spans.clear();
+        self.ends.clear();
+    }
+
+    // Goes on to a position. The records that end before it are open no more.
+    pub(crate) fn go_on(&mut self, position: u64)
+        ensures left { self.new ≡ open_from (max self.old.at position) self.old }
+        ensures started { All (λ s. s.start ≤ self.old.at) self.old.spans }
+    {
+        self.at = self.at.max(position);
+        drop_ended(&mut self.ends, self.at);
+    }
+
+    // The first position at which one ends, but no more than `stop`.
+    pub(crate) fn first_end(&self, stop: u64) -> u64
+        ensures within { result ≤ stop }
+        ensures ends { All (λ s. result ≤ s.stop) self.now.spans }
+        ensures behind { self.now.at ≤ stop → self.now.at ≤ result }
+    {
+        match self.ends.peek() {
+            Some(Reverse(end)) => stop.min(*end),
+            None => stop,
+        }
+    }
+
+    // Adds a record that starts at the position, if it is open there.
+    pub(crate) fn push(&mut self, stop: u64) -> Result<(), AllocError>
+        ensures { OnOk result (self.new ≡ record { at = self.old.at; spans = self.old.spans ++ still_open self.old.at (record { start = self.old.at; stop = stop } ∷ []) }) }
+    {
+        self.forget_ended();
+        if stop < self.at {
+            return Ok(());
+        }
+        self.ends.reserve(1)?;
+        self.spans.push(OpenSpan {
+            start: self.at,
+            stop,
+        })?;
+        self.ends.push(Reverse(stop))?;
+        Ok(())
+    }
+
+    // Takes the records that have ended out of the list, once they are more than those that are open.
+    fn forget_ended(&mut self)
+        ensures { self.new ≡ self.old }
+    {
+        if self.ends.len() < self.spans.len() / 2 {
+            let at = self.at;
+            self.spans.retain(|span| at <= span.stop);
+        }
+    }
+}
+
+// Takes out the ends that lie before a position.
+fn drop_ended(ends: &mut BinaryHeap<Reverse<u64>>, position: u64)
+    requires { IsLeastFirst (heap_items ends.old) }
+    ensures order { IsLeastFirst (heap_items ends.new) }
+    ensures counts { CountsFrom position (ends_of (heap_items ends.old)) (ends_of (heap_items ends.new)) }
+    ensures left { All (λ end. position ≤ end) (ends_of (heap_items ends.new)) }
+{
+    while begins_before(ends, position) {
+        ends.pop();
+    }
+}
+
+// Whether the least end lies before a position.
+fn begins_before(ends: &BinaryHeap<Reverse<u64>>, position: u64) -> bool
+    requires { IsLeastFirst (heap_items ends.now) }
+    ensures { MatchBool result (StartsBelow position (ends_of (heap_items ends.now))) (All (λ end. position ≤ end) (ends_of (heap_items ends.now))) }
+{
+    match ends.peek() {
+        Some(Reverse(end)) => *end < position,
+        None => false,
+    }
+}

@@ -1,0 +1,168 @@
+//! The engine of `bedtools merge -s`: the runs of several strands, each written once those listed before
+//! it are.
+
+ghost use Rattle.std.specs.Prelude.{◌≡◌, ◌++◌, ◌∷◌, [], length, None, OnOk};
+ghost use Rattle.bt_bed.specs.Bed.{feature_lent};
+ghost use Rattle.bt_lines.specs.Putting.{Adds};
+ghost use Rattle.bt_runs.specs.Engine.{Feeds, KeepsHeld};
+ghost use Rattle.bt_runs.specs.Stranding.{StandsAfter, held_count, is_quiet, kept_fault, may_take, settled_lines, stands_after, strand_lines, whole_output};
+ghost use Rattle.bt_runs.specs.StrandTaking.{IsForRun, TakesNext};
+ghost use Rattle.bt_runs.specs.Waiting.{left_runs, passed_runs, placed_runs, waiting_from};
+
+use crate::engine::Engine;
+use crate::failure::Failure;
+use crate::waiting::{Waiting, WaitingRuns};
+use bt_bed::{BedRef, put_interval};
+use bt_lines::{Fault, Out, Sink};
+use std::alloc::{AllocError, Global};
+use std::marker::Model;
+
+// Merges the records of each strand by themselves. It keeps the runs of one chromosome from the first
+// one on that a later record may still join, in the order of their first records.
+#[derive(Drop, Debug)]
+pub struct Stranded {
+    // How many bases apart records are still joined.
+    gap: u64,
+    // The chromosome of the runs, whose buffer is used again.
+    chrom: Vec<u8>,
+    // In the order of their first records; all of them lie on that chromosome.
+    runs: WaitingRuns,
+    // The first failure, which is answered from then on.
+    failure: Option<Failure>,
+}
+
+impl Model for Stranded {
+    ghost use Rattle.std.specs.Prelude.{option_map};
+    ghost use Rattle.bt_runs.specs.Failure.{fault_of};
+    ghost use Rattle.bt_runs.specs.Stranding.{Stranding};
+    ghost use Rattle.bt_runs.specs.Waiting.{placed_runs};
+
+    ghost Value = { Stranding };
+
+    ghost view = { λ m. record {
+      gap = m.gap;
+      kept = placed_runs m.chrom.items m.runs;
+      fault = option_map fault_of m.failure;
+    } };
+}
+
+impl Stranded {
+    // A merge that has taken no record.
+    pub fn new(alloc: Global, d: u64) -> Stranded
+        ensures stands { StandsAfter d [] result }
+        ensures is { result ≡ record { gap = d; kept = []; fault = None } }
+    {
+        Stranded {
+            gap: d,
+            chrom: Vec::new(alloc),
+            runs: WaitingRuns::new(alloc),
+            failure: None,
+        }
+    }
+
+    // Takes one more record.
+    fn take<K: Sink>(&mut self, bed: &BedRef<'_>, out: &mut Out<K>) -> Result<(), Failure>
+        ensures { TakesNext self.old (feature_lent bed.now) out.old result self.new out.new }
+    {
+        let here = self.chrom.as_slice() == bed.chrom;
+        let reach = bed.start.saturating_sub(self.gap);
+        match put_passed(self.chrom.as_slice(), here, reach, &mut self.runs, out) {
+            Err(_) => return Err(Failure::Write),
+            Ok(()) => (),
+        }
+        if self.runs.join(bed.strand, bed.stop, reach) {
+            return Ok(());
+        }
+        match open(bed, &mut self.chrom, &mut self.runs) {
+            Ok(()) => Ok(()),
+            Err(AllocError) => Err(Failure::Memory),
+        }
+    }
+}
+
+impl Engine for Stranded {
+    ghost takes = { may_take };
+
+    ghost settled = { settled_lines };
+
+    ghost whole = { whole_output };
+
+    ghost held = { held_count };
+
+    ghost stands = { stands_after };
+
+    ghost fault = { kept_fault };
+
+    ghost quiet = { is_quiet };
+
+    fn feed<K: Sink>(&mut self, bed: &BedRef<'_>, out: &mut Out<K>) -> Result<(), Fault>
+        ensures feeds { Feeds may_take stands_after kept_fault settled_lines self.old
+            (feature_lent bed.now) out.old is_quiet result self.new out.new }
+        ensures memory { IsForRun self.old (feature_lent bed.now) result }
+    {
+        if let Some(failure) = self.failure {
+            return Err(failure.fault());
+        }
+        match self.take(bed, out) {
+            Ok(()) => Ok(()),
+            Err(failure) => {
+                self.failure = Some(failure);
+                Err(failure.fault())
+            }
+        }
+    }
+
+    fn finish<K: Sink>(mut self, out: &mut Out<K>) -> Result<(), Fault> {
+        if let Some(before) = self.failure {
+            return Err(before.fault());
+        }
+        put_passed(self.chrom.as_slice(), false, 0, &mut self.runs, out)
+    }
+
+    fn kept_len(&self) -> usize
+        ensures list { result ≡ length self.now.kept }
+        ensures held { KeepsHeld may_take stands_after self.now held_count result }
+    {
+        self.runs.len()
+    }
+}
+
+// Writes the first runs that a record has passed, and takes them off: all, where the record lies on
+// another chromosome, and else those up to the first that doesn't end below `reach`.
+#[inline]
+fn put_passed<K: Sink>(
+    chrom: &[u8],
+    here: bool,
+    reach: u64,
+    runs: &mut WaitingRuns,
+    out: &mut Out<K>,
+) -> Result<(), Fault>
+    ensures adds { Adds out.old (strand_lines (placed_runs chrom.now (passed_runs here reach runs.old)))
+        result out.new }
+    ensures left { OnOk result (runs.new ≡ left_runs here reach runs.old) }
+{
+    while let Some(run) = runs.first() {
+        if here && reach <= run.stop {
+            return Ok(());
+        }
+        put_interval(chrom, run.start, run.stop, out)?;
+        runs.drop_first();
+    }
+    Ok(())
+}
+
+// Adds a run with the record, where none is kept of another chromosome.
+fn open(bed: &BedRef<'_>, chrom: &mut Vec<u8>, runs: &mut WaitingRuns) -> Result<(), AllocError>
+    ensures { OnOk result ((chrom.new.items ≡ bed.now.chrom.now)
+        × (runs.new ≡ runs.old ++ waiting_from (feature_lent bed.now) ∷ [])) }
+{
+    if chrom.as_slice() != bed.chrom {
+        chrom.clear();
+        chrom.extend_from_slice(bed.chrom)?;
+    }
+    runs.push(Waiting {
+        strand: bed.strand,
+        start: bed.start,
+        stop: bed.stop,
+    })
+}

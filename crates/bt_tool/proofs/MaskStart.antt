@@ -1,0 +1,136 @@
+-- Lemmas on the beginning of masking over two readers.
+use Rattle.std.proofs.Common.{◌≡◌, ℕ, Bool, false, List, [], ◌++◌, Option, None, Some, refl, sym, ap, ◌∙◌, subst, append-nil, inl, inr}
+use Rattle.std.specs.Prelude.{option_map}
+use Rattle.std.specs.Option.{option_to_list}
+use Rattle.std.proofs.lemmas.Bool.{false≢true}
+use Rattle.std.proofs.KnownBytes.{Appends-nil}
+use Rattle.bt_lines.specs.Lines.{text_lines}
+use Rattle.bt_lines.specs.Output.{Output, HoldsBlock}
+use Rattle.bt_lines.specs.Reader.{IsSound, bytes_taken, fault_kept as line_fault, feeds_taken, input_of, lines_given, lines_left, source_of}
+use Rattle.bt_lines.specs.declared.fault.Input.{Input}
+use Rattle.bt_lines.specs.declared.line_reader.LineReader.{LineReader}
+use Rattle.bt_bed.specs.Blocks.{below, fault_kept, good_left, line_ahead, view_of}
+use Rattle.bt_bed.specs.Cursor.{view_with}
+use Rattle.bt_bed.specs.Feature.{Feature}
+use Rattle.bt_bed.specs.Good.{good}
+use Rattle.bt_bed.specs.GoodBlocks.{block_format}
+use Rattle.bt_bed.specs.Locus.{Locus}
+use Rattle.bt_bed.specs.Reading.{MemberReader}
+use Rattle.bt_bed.specs.declared.blocks.Blocks.{Blocks}
+use Rattle.bt_bed.proofs.ReadingLemmas.{good_at_first}
+use Rattle.bt_seq.specs.MaskStanding.{MaskStandsAt, first_stage}
+use Rattle.bt_seq.specs.Masking.{Masking}
+use Rattle.bt_seq.specs.Sequences.{Reached, SequenceLine, sequence_format}
+use Rattle.bt_seq.specs.declared.mask_how.MaskHow.{MaskHow}
+use Rattle.bt_tool.specs.Feeding.{IsFresh}
+use Rattle.bt_lines.specs.Fault.{Told}
+use Rattle.bt_tool.specs.Masks.{Finishes, Masks, item_ahead, line_members}
+use Rattle.bt_tool.proofs.CameMembers.{BeginsAt}
+use Rattle.bt_tool.proofs.LineMembers.{blocks_going}
+use Rattle.bt_tool.proofs.MaskedLemmas.{settles_nothing}
+use Rattle.bt_tool.proofs.MemberLemmas.{passes_start, read_start}
+
+-- before the first header
+abbrev pub nothing_reached : Reached
+nothing_reached = record { names = []; bases = 0 }
+
+-- a reader of lines that has given nothing
+module _ {S : Type 0} (left : S → Option (List ℕ)) (end : S → Bool) (full : Bool) (first : S) (input : Input) (reader : LineReader S) (source : source_of reader ≡ first) (same : input_of reader ≡ input)
+    (taken : bytes_taken reader ≡ 0) (fed : feeds_taken reader ≡ 0) (given : lines_given reader ≡ 0) (going : line_fault reader ≡ None) (lines : lines_left left reader ≡ option_map text_lines (left first)) where
+  pub fresh_lines : IsSound left end reader → IsFresh left end (line_members full nothing_reached reader)
+  fresh_lines sound = record { none_given = (given, taken, fed); none_ahead = refl; going = going; sound = sound }
+
+  pub begin_lines : BeginsAt left (sequence_format full) input first (line_members full nothing_reached reader)
+  begin_lines = record {
+    source = source;
+    input_is = same;
+    bytes = taken;
+    feeds = fed;
+    lines = lines;
+    good = good_at_first left (λ s. false) end (line_members full nothing_reached reader) refl going refl
+        ∙ ap (λ i. option_map (good (sequence_format full) i) (lines_left left reader)) same ∙ ap (option_map (good (sequence_format full) input)) lines;
+  }
+
+none_of : {A B : Type 0} (f : A → B) (o : Option A) → option_map f o ≡ None → o ≡ None
+none_of f None e = refl
+none_of f (Some x) e = cc
+
+pub blocks_format : {S : Type 0} (records : Blocks S) → (view_of records).format ≡ block_format
+unfolding view_of view_with
+blocks_format records = refl
+
+-- a reader of records that has given nothing
+module _ {S : Type 0} (left : S → Option (List ℕ)) (end : S → Bool) (first : S) (input : Input) (reader : LineReader S) (records : Blocks S) (is : below records ≡ reader) (source : source_of reader ≡ first) (same : input_of reader ≡ input)
+    (taken : bytes_taken reader ≡ 0) (fed : feeds_taken reader ≡ 0) (given : lines_given reader ≡ 0) (going : line_fault reader ≡ None) (lines : lines_left left reader ≡ option_map text_lines (left first)) where
+  pub fresh_blocks : fault_kept records ≡ line_fault reader → line_ahead records ≡ None → IsSound left end reader → IsFresh left end (view_of records)
+  fresh_blocks kept ahead sound = record {
+    none_given = (ap lines_given is ∙ given, ap bytes_taken is ∙ taken, ap feeds_taken is ∙ fed);
+    none_ahead = none_of (λ m. m.line) (view_of records).ahead ahead;
+    going = kept ∙ going;
+    sound = subst (IsSound left end) (sym is) sound;
+  }
+
+  pub begin_blocks : (line_fault reader ≡ None → good_left left records ≡ option_map (good block_format (input_of reader)) (lines_left left reader)) → BeginsAt left block_format input first (view_of records)
+  begin_blocks known = record {
+    source = ap source_of is ∙ source;
+    input_is = ap input_of is ∙ same;
+    bytes = ap bytes_taken is ∙ taken;
+    feeds = ap feeds_taken is ∙ fed;
+    lines = ap (lines_left left) is ∙ lines;
+    good = known going ∙ ap (λ i. option_map (good block_format i) (lines_left left reader)) same ∙ ap (option_map (good block_format input)) lines;
+  }
+
+module _ {A B : Type 0} (a_left : A → Option (List ℕ)) (a_failed a_end : A → Bool) (b_left : B → Option (List ℕ)) (b_failed b_end : B → Bool)
+    (how : MaskHow) (full : Bool) (lines : LineReader A) (records : Blocks B) (out : Output) where
+  -- nothing was given yet
+  pub masks_start : IsFresh a_left a_end (line_members full nothing_reached lines) → line_fault lines ≡ None → IsFresh b_left b_end (view_of records) → fault_kept records ≡ None
+      → HoldsBlock out.took out.put → (mask : Masking) → MaskStandsAt how full first_stage mask
+      → Masks a_left a_failed a_end b_left b_failed b_end how full (line_members full nothing_reached lines) (view_of records) out (line_members full nothing_reached lines) (view_of records) mask out
+  masks_start fresh going fresh_second kept block mask stands = record {
+    past_first = [];
+    past_second = [];
+    first_passes = passes_start a_left a_failed a_end (line_members full nothing_reached lines) fresh going;
+    none_ahead = refl;
+    second_passes = passes_start b_left b_failed b_end (view_of records) fresh_second (blocks_going records kept);
+    stage = first_stage;
+    stands = stands;
+    all_given = refl;
+    all_taken = refl;
+    kept_ahead = λ r open_bed e. absurd (let apart : None ≡ Some r = e in cc);
+    bytes = [];
+    settles = λ known. settles_nothing how ([] ++ option_to_list (item_ahead (view_of records))) false;
+    is_open = λ open_lines. inr (inr refl);
+    first_all = λ e. absurd (false≢true e);
+    second_all = λ e. absurd (false≢true e);
+    puts = λ before e. e ∙ ap Some (sym (append-nil before));
+    works = record { served = refl; sink_served = refl; put = ([], Appends-nil out.put); block = λ h. h };
+    block = block;
+    grows = ([], Appends-nil out.took);
+    near_first = λ asked. elim asked [
+      | inl some ↦ absurd (false≢true some)
+      | inr ended ↦ absurd (false≢true ended)
+    ];
+    near_second = λ known. read_start b_left b_failed b_end (view_of records) fresh_second (blocks_going records kept);
+  }
+
+module _ {A B : Type 0} (a_left : A → Option (List ℕ)) (a_failed a_end : A → Bool) (b_left : B → Option (List ℕ)) (b_failed b_end : B → Bool) where
+  -- the same by what the engine itself says that it was asked for
+  pub masks_as_new : (how : MaskHow) (full : Bool) (lines : LineReader A) (records : Blocks B) (out : Output) (own : Bool)
+      → IsFresh a_left a_end (line_members own nothing_reached lines) → line_fault lines ≡ None → IsFresh b_left b_end (view_of records) → fault_kept records ≡ None
+      → HoldsBlock out.took out.put → (mask : Masking) → MaskStandsAt how full first_stage mask
+      → Masks a_left a_failed a_end b_left b_failed b_end mask.how mask.full (line_members mask.full nothing_reached lines) (view_of records) out (line_members mask.full nothing_reached lines) (view_of records) mask out
+  masks_as_new how full lines records out own fresh going fresh_second kept block mask stands =
+      masks_start a_left a_failed a_end b_left b_failed b_end mask.how mask.full lines records out (record { none_given = fresh.none_given; none_ahead = refl; going = going; sound = fresh.sound }) going fresh_second kept block mask
+      (subst (λ (h : MaskHow). MaskStandsAt h mask.full first_stage mask) (sym stands.how_is) (subst (λ (f : Bool). MaskStandsAt how f first_stage mask) (sym stands.full_is) stands))
+
+  -- and how it ends
+  pub as_asked : (lines : LineReader A) (second : MemberReader B Feature (Option Locus)) (out : Output) (fault : Option Told) (new : LineReader A) (second_now : MemberReader B Feature (Option Locus)) (grown : Output)
+      (own : MaskHow) (own_full : Bool) (how : MaskHow) (full : Bool) → own ≡ how → own_full ≡ full
+      → (members : MemberReader A SequenceLine Reached) × (members.below ≡ new) × Finishes a_left a_failed a_end b_left b_failed b_end own own_full (line_members own_full nothing_reached lines) second out fault members second_now grown
+      → (members : MemberReader A SequenceLine Reached) × (members.below ≡ new) × Finishes a_left a_failed a_end b_left b_failed b_end how full (line_members full nothing_reached lines) second out fault members second_now grown
+  as_asked lines second out fault new second_now grown own own_full how full same same_full ends = (
+    ends.0,
+    ends.1,
+    subst (λ (h : MaskHow). Finishes a_left a_failed a_end b_left b_failed b_end h full (line_members full nothing_reached lines) second out fault ends.0 second_now grown) same
+        (subst (λ (f : Bool). Finishes a_left a_failed a_end b_left b_failed b_end own f (line_members f nothing_reached lines) second out fault ends.0 second_now grown) same_full ends.2),
+  )

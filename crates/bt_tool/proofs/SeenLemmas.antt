@@ -1,0 +1,51 @@
+-- Lemmas on the members that were seen and on the lines that were put, where a run stops.
+use Rattle.std.proofs.Common.{◌≡◌, ℕ, ◌≤◌, List, [], ◌∷◌, ◌++◌, Option, None, Some, refl, sym, ap, ◌∙◌, subst, append-nil, append_assoc, option_to_list}
+use Rattle.std.specs.Prelude.{All, IfSome, IsSome, option_map}
+use Rattle.std.proofs.lemmas.List.{map-append}
+use Rattle.std.proofs.lemmas.List.Elements.{All-push}
+use Rattle.bt_lines.specs.Fault.{Told}
+use Rattle.bt_lines.specs.Output.{Output}
+use Rattle.bt_lines.specs.Putting.{FailsToAdd}
+use Rattle.bt_bed.specs.Good.{Good, Member, items_in}
+use Rattle.bt_tool.specs.Feeding.{CutsLines, PutsFront, PutsLines, member_items}
+use Rattle.bt_tool.proofs.FeedLemmas.{front_all}
+
+-- the members before some others, by their items
+pub items_begin : {A : Type 0} (good : Option (Good A)) (past : List (Member A)) (written extra : List A) → member_items past ≡ written ++ extra
+    → IfSome good (λ good. (rest : List (Member A)) × (good.members ≡ past ++ rest))
+    → IfSome good (λ good. (rest : List A) × (items_in good ≡ written ++ (extra ++ rest)))
+items_begin None past written extra e b = tt
+items_begin (Some good) past written extra e b = (
+  member_items b.0,
+  ap member_items b.1 ∙ map-append (λ m. m.item) past b.0 ∙ ap (λ l. l ++ member_items b.0) e ∙ append_assoc written extra (member_items b.0),
+)
+
+pub items_first : {A : Type 0} (good : Option (Good A)) (written extra : List A) → IfSome good (λ good. (rest : List A) × (items_in good ≡ written ++ (extra ++ rest)))
+    → IfSome good (λ good. (rest : List A) × (items_in good ≡ written ++ rest))
+items_first None written extra b = tt
+items_first (Some good) written extra b = (extra ++ b.0, b.1)
+
+-- what holds where a value is known
+pub if_known : {T : Type 0} (o : Option T) (P : Type 0) → (IsSome o → P) → IfSome o (λ x. P)
+if_known None P h = tt
+if_known (Some x) P h = h refl
+
+-- the records seen are those that were passed and the one ahead
+pub seen_items : {A : Type 0} (past : List (Member A)) (o : Option (Member A)) → member_items (past ++ option_to_list o) ≡ member_items past ++ option_to_list (option_map (λ m. m.item) o)
+seen_items past None = map-append (λ m. m.item) past []
+seen_items past (Some m) = map-append (λ m. m.item) past (m ∷ [])
+
+pub seen_low : {A : Type 0} (past : List (Member A)) (o : Option (Member A)) (count : ℕ) → All (λ m. m.line ≤ count) past → IfSome o (λ m. m.line ≤ count) → All (λ m. m.line ≤ count) (past ++ option_to_list o)
+seen_low {A} past None count up low = subst (All (λ (m : Member A). m.line ≤ count)) (sym (append-nil past)) up
+seen_low {A} past (Some m) count up low = All-push (λ (m : Member A). m.line ≤ count) past m up low
+
+pub puts_front : (out : Output) (lines : List ℕ) (grown : Output) → PutsLines out lines grown → PutsFront out lines grown
+puts_front out lines grown puts = record { front = lines; rest = []; parts = sym (append-nil lines); puts = puts }
+
+-- the lines that couldn't be added were cut off
+pub cuts_more : (out old new : Output) (lines more : List ℕ) (fault : Told) → PutsLines out lines old → FailsToAdd old more fault new → CutsLines out (lines ++ more) new
+cuts_more out old new lines more fault puts fails = record {
+  front = λ before e. front_all new.took old.put before lines more (lines ++ more) refl (puts before e) fails.puts.front;
+  failed = fails.puts.failed;
+  sink_failed = fails.puts.sink_failed;
+}

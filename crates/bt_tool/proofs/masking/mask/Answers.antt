@@ -1,0 +1,59 @@
+use Rattle.std.proofs.Common.{sym, ◌∙◌, ap, None, Some}
+use Rattle.bt_lines.specs.Names.{told}
+use Rattle.bt_lines.specs.Reader.{source_of}
+use Rattle.bt_lines.specs.declared.fault.Input.TheVariants.{First, Second}
+use Rattle.bt_bed.specs.Blocks.{view_of}
+use Rattle.bt_tool.specs.Masks.{line_members}
+use Rattle.bt_tool.proofs.MaskMet.{writes_both}
+use Rattle.bt_tool.proofs.MaskNear.{near_both}
+use Rattle.bt_tool.proofs.MaskStart.{as_asked, begin_blocks, begin_lines, blocks_format, fresh_blocks, fresh_lines, masks_as_new, nothing_reached}
+use Rattle.bt_tool.proofs.masking.mask.Goals as goal
+
+pub mask_all-masked-requires-clause-blocks : goal.mask_all-masked-requires-clause-blocks
+mask_all-masked-requires-clause-blocks g c = blocks_format c.new-records.result
+
+pub mask_all-masked-requires-clause-starts : goal.mask_all-masked-requires-clause-starts
+mask_all-masked-requires-clause-starts g c =
+    let reader = c.new-lines.ensures in
+    let reader_2 = c.new.ensures in
+    let records = c.new-records.ensures in
+    masks_as_new g.A.Source.left g.A.Source.has_failed g.A.Source.end_told g.B.Source.left g.B.Source.has_failed g.B.Source.end_told c.args.how c.args.full c.new-lines.result c.new-records.result c.args.out.now c.new-mask.result.full
+    (fresh_lines g.A.Source.left g.A.Source.end_told c.new-mask.result.full c.args.first First c.new-lines.result reader.source reader.input reader.none_taken.0 reader.none_fed reader.none_given reader.going.0 reader.lines reader.sound) reader.going.0
+    (fresh_blocks g.B.Source.left g.B.Source.end_told c.args.second Second c.new.result c.new-records.result records.below reader_2.source reader_2.input reader_2.none_taken.0 reader_2.none_fed reader_2.none_given reader_2.going.0 reader_2.lines records.fault records.none_ahead reader_2.sound)
+    (records.fault ∙ reader_2.going.0) c.requires c.new-mask.result c.new-mask.ensures.stands
+
+pub returns-in-Ok : goal.returns-in-Ok
+returns-in-Ok g c =
+    let reader = c.new-lines.ensures in
+    let reader_2 = c.new.ensures in
+    let records = c.new-records.ensures in
+    let stands = c.new-mask.ensures.stands in
+    let fault = None in
+    let ends = as_asked g.A.Source.left g.A.Source.has_failed g.A.Source.end_told g.B.Source.left g.B.Source.has_failed g.B.Source.end_told c.new-lines.result (view_of c.new-records.result) c.args.out.now fault c.mask_all-masked.new.lines (view_of c.mask_all-masked.new.records) c.mask_all-masked.new.out
+    c.new-mask.result.how c.new-mask.result.full c.args.how c.args.full stands.how_is stands.full_is c.in-Ok.ensures in
+    let begins = begin_lines g.A.Source.left g.A.Source.end_told c.args.full c.args.first First c.new-lines.result reader.source reader.input reader.none_taken.0 reader.none_fed reader.none_given reader.going.0 reader.lines in
+    let begins_second = begin_blocks g.B.Source.left g.B.Source.end_told c.args.second Second c.new.result c.new-records.result records.below reader_2.source reader_2.input reader_2.none_taken.0 reader_2.none_fed reader_2.none_given reader_2.going.0 reader_2.lines records.good in
+    let ended = ap source_of ends.1 ∙ sym c.into_source-first.ensures in
+    let ended_second = sym (c.into_source-second.ensures ∙ ap source_of c.into_reader.ensures) in
+    writes_both g.A.Source.left g.A.Source.has_failed g.A.Source.end_told g.B.Source.left g.B.Source.has_failed g.B.Source.end_told c.args.how c.args.full (line_members c.args.full nothing_reached c.new-lines.result) (view_of c.new-records.result) c.args.out.now c.args.first c.args.second begins begins_second
+    ends.0 (view_of c.mask_all-masked.new.records) c.into_source-first.result c.into_source-second.result ended ended_second fault c.mask_all-masked.new.out ends.2
+    (near_both g.A.Source.left g.A.Source.has_failed g.A.Source.end_told g.B.Source.left g.B.Source.has_failed g.B.Source.end_told c.args.how c.args.full (line_members c.args.full nothing_reached c.new-lines.result) (view_of c.new-records.result) c.args.out.now c.args.first c.args.second begins begins_second
+    ends.0 (view_of c.mask_all-masked.new.records) c.into_source-first.result c.into_source-second.result ended ended_second c.mask_all-masked.new.out ends.2.near)
+
+pub returns : goal.returns
+returns g c =
+    let reader = c.new-lines.ensures in
+    let reader_2 = c.new.ensures in
+    let records = c.new-records.ensures in
+    let stands = c.new-mask.ensures.stands in
+    let fault = Some (told c.in-Err.fault) in
+    let ends = as_asked g.A.Source.left g.A.Source.has_failed g.A.Source.end_told g.B.Source.left g.B.Source.has_failed g.B.Source.end_told c.new-lines.result (view_of c.new-records.result) c.args.out.now fault c.mask_all-masked.new.lines (view_of c.mask_all-masked.new.records) c.mask_all-masked.new.out
+    c.new-mask.result.how c.new-mask.result.full c.args.how c.args.full stands.how_is stands.full_is c.in-Err.ensures in
+    let begins = begin_lines g.A.Source.left g.A.Source.end_told c.args.full c.args.first First c.new-lines.result reader.source reader.input reader.none_taken.0 reader.none_fed reader.none_given reader.going.0 reader.lines in
+    let begins_second = begin_blocks g.B.Source.left g.B.Source.end_told c.args.second Second c.new.result c.new-records.result records.below reader_2.source reader_2.input reader_2.none_taken.0 reader_2.none_fed reader_2.none_given reader_2.going.0 reader_2.lines records.good in
+    let ended = ap source_of ends.1 ∙ sym c.into_source-first.ensures in
+    let ended_second = sym (c.into_source-second.ensures ∙ ap source_of c.into_reader.ensures) in
+    writes_both g.A.Source.left g.A.Source.has_failed g.A.Source.end_told g.B.Source.left g.B.Source.has_failed g.B.Source.end_told c.args.how c.args.full (line_members c.args.full nothing_reached c.new-lines.result) (view_of c.new-records.result) c.args.out.now c.args.first c.args.second begins begins_second
+    ends.0 (view_of c.mask_all-masked.new.records) c.into_source-first.result c.into_source-second.result ended ended_second fault c.mask_all-masked.new.out ends.2
+    (near_both g.A.Source.left g.A.Source.has_failed g.A.Source.end_told g.B.Source.left g.B.Source.has_failed g.B.Source.end_told c.args.how c.args.full (line_members c.args.full nothing_reached c.new-lines.result) (view_of c.new-records.result) c.args.out.now c.args.first c.args.second begins begins_second
+    ends.0 (view_of c.mask_all-masked.new.records) c.into_source-first.result c.into_source-second.result ended ended_second c.mask_all-masked.new.out ends.2.near)

@@ -1,0 +1,616 @@
+use crate::intersect_tests::Case;
+use crate::tests::{Answer, Script, failed_line, failing, failing_by, line_of, run_both, whole};
+use std::alloc::Global;
+use std::process::Abort;
+use std::test::Fail;
+
+// What stands for the bases that records cover.
+const BASES: [Case; 9] = [
+    Case {
+        name: "records over a line's end",
+        options: &[],
+        first: b">s d\nACGTAC\nGTAC",
+        second: b"s\t4\t8\n",
+        output: b">s d\nACGTNN\nNNAC",
+        line: b"",
+    },
+    Case {
+        name: "lower case",
+        options: &["-soft"],
+        first: b">s d\nACGTAC\nGTAC",
+        second: b"s\t4\t8\n",
+        output: b">s d\nACGTac\ngtAC",
+        line: b"",
+    },
+    Case {
+        name: "another character",
+        options: &["-mc", "x"],
+        first: b">s d\nACGTAC\nGTAC",
+        second: b"s\t4\t8\n",
+        output: b">s d\nACGTxx\nxxAC",
+        line: b"",
+    },
+    Case {
+        name: "the last of two characters",
+        options: &["-mc", "-", "-mc", "~"],
+        first: b">s\nACGT\n",
+        second: b"s\t1\t3\n",
+        output: b">s\nA~~T\n",
+        line: b"",
+    },
+    Case {
+        name: "lower case of letters alone",
+        options: &["-soft"],
+        first: b">s\nAcN*-zZ\n",
+        second: b"s\t0\t7\n",
+        output: b">s\nacn*-zz\n",
+        line: b"",
+    },
+    Case {
+        name: "no such sequence",
+        options: &[],
+        first: b">s\nACGT\n",
+        second: b"t\t0\t2\n",
+        output: b">s\nACGT\n",
+        line: b"bedtools maskfasta: b.bed:1: no such sequence from here on\n",
+    },
+    Case {
+        name: "a record past the end of the sequence",
+        options: &[],
+        first: b">s\nACGT\n",
+        second: b"s\t10\t20\n",
+        output: b">s\nACGT\n",
+        line: b"",
+    },
+    Case {
+        name: "a record over the end of the sequence",
+        options: &[],
+        first: b">s\nACGT\n",
+        second: b"s\t2\t20\n",
+        output: b">s\nACNN\n",
+        line: b"",
+    },
+    Case {
+        name: "a record over all positions",
+        options: &[],
+        first: b">s\nAC\nGT\n",
+        second: b"s\t0\t999999999999\n",
+        output: b">s\nNN\nNN\n",
+        line: b"",
+    },
+];
+
+// Which block masks which sequence.
+const BLOCKS: [Case; 8] = [
+    Case {
+        name: "two blocks and two sequences of one name",
+        options: &[],
+        first: b">s\nAAAA\n>t\nCCCC\n>s\nGGGG\n",
+        second: b"s\t0\t1\nt\t0\t1\ns\t0\t1\n",
+        output: b">s\nNAAA\n>t\nNCCC\n>s\nNGGG\n",
+        line: b"",
+    },
+    Case {
+        name: "a block behind that of the sequence between",
+        options: &[],
+        first: b">s\nAAAA\n>t\nCCCC\n>s\nGGGG\n",
+        second: b"t\t0\t1\ns\t0\t1\n",
+        output: b">s\nAAAA\n>t\nNCCC\n>s\nNGGG\n",
+        line: b"",
+    },
+    Case {
+        name: "one block and two sequences of one name",
+        options: &[],
+        first: b">s\nAA\n>s\nCC\n",
+        second: b"s\t0\t1\ns\t1\t2\n",
+        output: b">s\nNN\n>s\nCC\n",
+        line: b"",
+    },
+    Case {
+        name: "a block whose sequence came earlier",
+        options: &[],
+        first: b">s\nAA\n>t\nCC\n",
+        second: b"t\t0\t1\ns\t0\t1\n",
+        output: b">s\nAA\n>t\nNC\n",
+        line: b"bedtools maskfasta: b.bed:2: no such sequence from here on\n",
+    },
+    Case {
+        name: "blocks behind one without a sequence",
+        options: &[],
+        first: b">s\nAA\n>t\nCC\n",
+        second: b"u\t0\t1\nt\t0\t1\n",
+        output: b">s\nAA\n>t\nCC\n",
+        line: b"bedtools maskfasta: b.bed:1: no such sequence from here on\n",
+    },
+    Case {
+        name: "a sequence without records between others",
+        options: &[],
+        first: b">a\nAA\n>b\nCC\n>c\nGG\n",
+        second: b"a\t0\t1\nc\t1\t2\n",
+        output: b">a\nNA\n>b\nCC\n>c\nGN\n",
+        line: b"",
+    },
+    Case {
+        name: "no sequence, told before a later fault",
+        options: &[],
+        first: b">s\nAAAA\n",
+        second: b"t\t0\t2\nt\tx\t5\n",
+        output: b">s\nAAAA\n",
+        line: b"bedtools maskfasta: b.bed:1: no such sequence from here on\n",
+    },
+    Case {
+        name: "no sequence behind a block that has one, told before a later fault",
+        options: &[],
+        first: b">s\nAA\n",
+        second: b"s\t0\t1\nt\t0\t1\ns\tx\t2\n",
+        output: b">s\nNA\n",
+        line: b"bedtools maskfasta: b.bed:2: no such sequence from here on\n",
+    },
+];
+
+// Which fault is told, and which lines before it.
+const FAULTS: [Case; 10] = [
+    Case {
+        name: "text before the first header",
+        options: &[],
+        first: b"ACGT\n>s\n",
+        second: b"s\t0\t1\n",
+        output: b"",
+        line: b"bedtools maskfasta: a.fa:1: text before the first header\n",
+    },
+    Case {
+        name: "text behind a blank line, before the first header",
+        options: &[],
+        first: b"\nACGT\n>s\n",
+        second: b"s\t0\t1\n",
+        output: b"\n",
+        line: b"bedtools maskfasta: a.fa:2: text before the first header\n",
+    },
+    Case {
+        name: "a first input at fault before the second",
+        options: &[],
+        first: b"ACGT\n>s\n",
+        second: b"s\tx\t1\n",
+        output: b"",
+        line: b"bedtools maskfasta: a.fa:1: text before the first header\n",
+    },
+    Case {
+        name: "a second input at fault that no line asks for",
+        options: &[],
+        first: b"\nACGT\n",
+        second: b"s\tx\t1\n",
+        output: b"\n",
+        line: b"bedtools maskfasta: a.fa:2: text before the first header\n",
+    },
+    Case {
+        name: "records out of order in a block",
+        options: &[],
+        first: b">s\nAAAA\n",
+        second: b"s\t3\t4\ns\t1\t2\n",
+        output: b">s\n",
+        line: b"bedtools maskfasta: b.bed:2: record is out of order\n",
+    },
+    Case {
+        name: "a fault before the first record",
+        options: &[],
+        first: b">s\nAAAA\n",
+        second: b"s\tx\t2\n",
+        output: b"",
+        line: b"bedtools maskfasta: b.bed:1: start is not a number\n",
+    },
+    Case {
+        name: "a fault decides no line",
+        options: &[],
+        first: b">s\nAAAA\nCCCC\n",
+        second: b"s\t0\t1\ns\tx\t2\n",
+        output: b">s\n",
+        line: b"bedtools maskfasta: b.bed:2: start is not a number\n",
+    },
+    Case {
+        name: "a fault behind what decides all lines",
+        options: &[],
+        first: b">s\nAA\n",
+        second: b"s\t0\t1\ns\t5\t6\ns\tx\t1\n",
+        output: b">s\nNA\n",
+        line: b"bedtools maskfasta: b.bed:3: start is not a number\n",
+    },
+    Case {
+        name: "a line decided by a record at its end",
+        options: &[],
+        first: b">s\nAA\n",
+        second: b"s\t2\t6\ns\tx\t1\n",
+        output: b">s\nAA\n",
+        line: b"bedtools maskfasta: b.bed:2: start is not a number\n",
+    },
+    Case {
+        name: "a line that a record before its end leaves open",
+        options: &[],
+        first: b">s\nAA\n",
+        second: b"s\t1\t6\ns\tx\t1\n",
+        output: b">s\n",
+        line: b"bedtools maskfasta: b.bed:2: start is not a number\n",
+    },
+];
+
+// Names of sequences, and records over several lines.
+const NAMES: [Case; 8] = [
+    Case {
+        name: "the whole header as a name",
+        options: &["-fullHeader"],
+        first: b">s d\nACGT\n",
+        second: b"s d\t0\t1\n",
+        output: b">s d\nNCGT\n",
+        line: b"",
+    },
+    Case {
+        name: "a part of the whole header",
+        options: &["-fullHeader"],
+        first: b">s d\nACGT\n",
+        second: b"s\t0\t1\n",
+        output: b">s d\nACGT\n",
+        line: b"bedtools maskfasta: b.bed:1: no such sequence from here on\n",
+    },
+    Case {
+        name: "a name before a tab",
+        options: &[],
+        first: b">s\td\nACGT\n",
+        second: b"s\t0\t1\n",
+        output: b">s\td\nNCGT\n",
+        line: b"",
+    },
+    Case {
+        name: "a record over the end of a line, and the next sequence",
+        options: &[],
+        first: b">s\nAC\nGT\n>t\nTTTT\n",
+        second: b"s\t1\t3\nt\t0\t1\n",
+        output: b">s\nAN\nNT\n>t\nNTTT\n",
+        line: b"",
+    },
+    Case {
+        name: "a record over several lines",
+        options: &[],
+        first: b">s\nAC\nGT\nAC\nGT\n",
+        second: b"s\t1\t7\n",
+        output: b">s\nAN\nNN\nNN\nNT\n",
+        line: b"",
+    },
+    Case {
+        name: "a record from a line's end on",
+        options: &[],
+        first: b">s\nAC\nGT\n",
+        second: b"s\t2\t3\n",
+        output: b">s\nAC\nNT\n",
+        line: b"",
+    },
+    Case {
+        name: "a record up to a line's end",
+        options: &[],
+        first: b">s\nAC\nGT\n",
+        second: b"s\t0\t2\n",
+        output: b">s\nNN\nGT\n",
+        line: b"",
+    },
+    Case {
+        name: "records one over another",
+        options: &[],
+        first: b">s\nACGTAC\n",
+        second: b"s\t0\t3\ns\t1\t2\ns\t2\t4\n",
+        output: b">s\nNNNNAC\n",
+        line: b"",
+    },
+];
+
+// Line ends, blank lines and empty inputs.
+const LINES: [Case; 14] = [
+    Case {
+        name: "lines that end in CR LF",
+        options: &[],
+        first: b">s\r\nACGT\r\nAC\r\n",
+        second: b"s\t3\t5\n",
+        output: b">s\r\nACGN\r\nNC\r\n",
+        line: b"",
+    },
+    Case {
+        name: "a last line that ends in CR",
+        options: &[],
+        first: b">s\r\nAC\r",
+        second: b"s\t1\t9\n",
+        output: b">s\r\nAN\r",
+        line: b"",
+    },
+    Case {
+        name: "blank lines before the first header",
+        options: &[],
+        first: b"\n\r\n>s\nAC\n",
+        second: b"s\t0\t1\n",
+        output: b"\n\r\n>s\nNC\n",
+        line: b"",
+    },
+    Case {
+        name: "blank lines between bases",
+        options: &[],
+        first: b">s\nAC\n\n\r\nGT\n",
+        second: b"s\t1\t3\n",
+        output: b">s\nAN\n\n\r\nNT\n",
+        line: b"",
+    },
+    Case {
+        name: "a header as the last line",
+        options: &[],
+        first: b">s\nAC\n>t\n",
+        second: b"s\t0\t2\nt\t0\t5\n",
+        output: b">s\nNN\n>t\n",
+        line: b"",
+    },
+    Case {
+        name: "a header without a line end",
+        options: &[],
+        first: b">s",
+        second: b"s\t0\t2\n",
+        output: b">s",
+        line: b"",
+    },
+    Case {
+        name: "an empty name",
+        options: &[],
+        first: b">\nACGT\n> s\nACGT\n",
+        second: b"s\t0\t1\n",
+        output: b">\nACGT\n> s\nACGT\n",
+        line: b"bedtools maskfasta: b.bed:1: no such sequence from here on\n",
+    },
+    Case {
+        name: "an empty name without records",
+        options: &[],
+        first: b">\nACGT\n",
+        second: b"",
+        output: b">\nACGT\n",
+        line: b"",
+    },
+    Case {
+        name: "header lines and further columns of the second input",
+        options: &[],
+        first: b">s\nACGT\n",
+        second: b"# a\ntrack x\n\ns\t0\t1\tname\t0\t-\nbrowser y\ns\t2\t3\n",
+        output: b">s\nNCNT\n",
+        line: b"",
+    },
+    Case {
+        name: "no records",
+        options: &[],
+        first: b">s\nACGT\n",
+        second: b"",
+        output: b">s\nACGT\n",
+        line: b"",
+    },
+    Case {
+        name: "nothing in either input",
+        options: &[],
+        first: b"",
+        second: b"",
+        output: b"",
+        line: b"",
+    },
+    Case {
+        name: "records without a line",
+        options: &[],
+        first: b"",
+        second: b"s\t0\t1\n",
+        output: b"",
+        line: b"bedtools maskfasta: b.bed:1: no such sequence from here on\n",
+    },
+    Case {
+        name: "blank lines alone",
+        options: &[],
+        first: b"\n\n",
+        second: b"s\t0\t1\n",
+        output: b"\n\n",
+        line: b"bedtools maskfasta: b.bed:1: no such sequence from here on\n",
+    },
+    Case {
+        name: "a fault without a line",
+        options: &[],
+        first: b"",
+        second: b"s\t0\n",
+        output: b"",
+        line: b"bedtools maskfasta: b.bed:1: too few columns\n",
+    },
+];
+
+// Runs maskfasta with these options.
+fn maskfasta(
+    alloc: Global,
+    options: &[&'static str],
+    first: (&[u8], Script),
+    second: (&[u8], Script),
+    out: Script,
+) -> Result<Answer, Fail> {
+    let mut words = vec![in alloc; "maskfasta", "-fi", "a.fa", "-bed", "b.bed"]?;
+    words.extend_from_slice(options)?;
+    run_both(alloc, words.as_slice(), (b"", whole(1)), first, second, out)
+}
+
+fn check(rt: &impl Abort, alloc: Global, case: &Case, step: usize) -> Result<(), Fail> {
+    let script = whole(step.max(1));
+    let first = (case.first, script);
+    let second = (case.second, script);
+    let answer = maskfasta(alloc, case.options, first, second, script)?;
+    assert_eq!(rt; answer.output.as_slice(), case.output, "{}", case.name);
+    assert_eq!(rt; line_of(&answer), case.line, "{}", case.name);
+    assert_eq!(rt;
+        answer.status,
+        u8::from(!case.line.is_empty()),
+        "{}",
+        case.name
+    );
+    Ok(())
+}
+
+fn check_all(rt: &impl Abort, alloc: Global, cases: &[Case]) -> Result<(), Fail> {
+    for step in [1, 7, 8192] {
+        for case in cases {
+            check(rt, alloc, case, step)?;
+        }
+    }
+    Ok(())
+}
+
+#[test]
+fn masked_bases(rt: HostRuntime) -> Result<(), Fail> {
+    check_all(&rt, rt.alloc(), &BASES)
+}
+
+#[test]
+fn blocks_of_records(rt: HostRuntime) -> Result<(), Fail> {
+    check_all(&rt, rt.alloc(), &BLOCKS)
+}
+
+#[test]
+fn faults_of_both_inputs(rt: HostRuntime) -> Result<(), Fail> {
+    check_all(&rt, rt.alloc(), &FAULTS)
+}
+
+#[test]
+fn names_and_long_records(rt: HostRuntime) -> Result<(), Fail> {
+    check_all(&rt, rt.alloc(), &NAMES)
+}
+
+#[test]
+fn lines_stay_as_they_are(rt: HostRuntime) -> Result<(), Fail> {
+    check_all(&rt, rt.alloc(), &LINES)
+}
+
+// One sequence whose last line has no line feed.
+const ONE: &[u8] = b">s d\nACGTAC\nGTAC";
+
+const ONE_RECORD: &[u8] = b"s\t4\t8\n";
+
+const ONE_MASKED: &[u8] = b">s d\nACGTNN\nNNAC";
+
+// Three sequences, and what becomes of their lines.
+const THREE: &[u8] = b">s\nAAAA\n>t\nCCCC\n>s\nGGGG\n";
+
+const THREE_RECORDS: &[u8] = b"s\t0\t1\nt\t0\t1\ns\t0\t1\n";
+
+const THREE_MASKED: &[u8] = b">s\nNAAA\n>t\nNCCC\n>s\nNGGG\n";
+
+// Whatever byte of the lines fails to come: the whole lines are written, and the failed read is told
+// behind them.
+#[test]
+fn lines_that_fail_at_each_byte(rt: HostRuntime) -> Result<(), Fail> {
+    for step in [1, 7] {
+        for good in 0..=ONE.len() {
+            let first = (ONE, failing_by(step, good));
+            let second = (ONE_RECORD, whole(step));
+            let answer = maskfasta(rt.alloc(), &[], first, second, whole(step))?;
+            let (output, line): (&[u8], &[u8]) = match failed_line(ONE, good) {
+                1 => (b"", b"bedtools maskfasta: a.fa:1: reading failed\n"),
+                2 => (b">s d\n", b"bedtools maskfasta: a.fa:2: reading failed\n"),
+                _ => (
+                    b">s d\nACGTNN\n",
+                    b"bedtools maskfasta: a.fa:3: reading failed\n",
+                ),
+            };
+            assert_eq!(rt; answer.output.as_slice(), output);
+            assert_eq!(rt; line_of(&answer), line);
+        }
+    }
+    Ok(())
+}
+
+#[test]
+fn sequences_that_fail_at_each_byte(rt: HostRuntime) -> Result<(), Fail> {
+    for step in [1, 7] {
+        for good in 0..=THREE.len() {
+            let first = (THREE, failing_by(step, good));
+            let second = (THREE_RECORDS, whole(step));
+            let answer = maskfasta(rt.alloc(), &[], first, second, whole(step))?;
+            let line = failed_line(THREE, good);
+            let output: &[u8] = match line {
+                1 => b"",
+                2 => b">s\n",
+                3 => b">s\nNAAA\n",
+                4 => b">s\nNAAA\n>t\n",
+                5 => b">s\nNAAA\n>t\nNCCC\n",
+                6 => b">s\nNAAA\n>t\nNCCC\n>s\n",
+                _ => THREE_MASKED,
+            };
+            let told = format!(in rt.alloc(); "bedtools maskfasta: a.fa:{line}: reading failed\n")?;
+            assert_eq!(rt; answer.output.as_slice(), output);
+            assert_eq!(rt; line_of(&answer), told.as_bytes());
+        }
+    }
+    Ok(())
+}
+
+// Whatever byte of the records fails to come: a line is written once a whole record decides it.
+#[test]
+fn a_record_that_fails_at_each_byte(rt: HostRuntime) -> Result<(), Fail> {
+    for step in [1, 7] {
+        for good in 0..=ONE_RECORD.len() {
+            let first = (ONE, whole(step));
+            let second = (ONE_RECORD, failing_by(step, good));
+            let answer = maskfasta(rt.alloc(), &[], first, second, whole(step))?;
+            let (output, line): (&[u8], &[u8]) = match failed_line(ONE_RECORD, good) {
+                1 => (b"", b"bedtools maskfasta: b.bed:1: reading failed\n"),
+                _ => (b">s d\n", b"bedtools maskfasta: b.bed:2: reading failed\n"),
+            };
+            assert_eq!(rt; answer.output.as_slice(), output);
+            assert_eq!(rt; line_of(&answer), line);
+        }
+    }
+    Ok(())
+}
+
+#[test]
+fn records_that_fail_at_each_byte(rt: HostRuntime) -> Result<(), Fail> {
+    for step in [1, 7] {
+        for good in 0..=THREE_RECORDS.len() {
+            let first = (THREE, whole(step));
+            let second = (THREE_RECORDS, failing_by(step, good));
+            let answer = maskfasta(rt.alloc(), &[], first, second, whole(step))?;
+            let line = failed_line(THREE_RECORDS, good);
+            let output: &[u8] = match line {
+                1 => b"",
+                2 => b">s\n",
+                3 => b">s\nNAAA\n>t\n",
+                _ => b">s\nNAAA\n>t\nNCCC\n>s\n",
+            };
+            let told = format!(in rt.alloc();
+                "bedtools maskfasta: b.bed:{line}: reading failed\n"
+            )?;
+            assert_eq!(rt; answer.output.as_slice(), output);
+            assert_eq!(rt; line_of(&answer), told.as_bytes());
+        }
+    }
+    Ok(())
+}
+
+// A sink that takes so many bytes takes the first of the output.
+fn check_output(
+    rt: &impl Abort,
+    alloc: Global,
+    first: &'static [u8],
+    second: &'static [u8],
+    output: &'static [u8],
+) -> Result<(), Fail> {
+    for good in 0..output.len() {
+        let inputs = ((first, whole(7)), (second, whole(7)));
+        let answer = maskfasta(alloc, &[], inputs.0, inputs.1, failing(good))?;
+        assert_eq!(rt; answer.output.as_slice(), &output[..good]);
+        assert_eq!(rt;
+            line_of(&answer),
+            b"bedtools maskfasta: writing failed\n".as_slice()
+        );
+    }
+    let inputs = ((first, whole(7)), (second, whole(7)));
+    let answer = maskfasta(alloc, &[], inputs.0, inputs.1, failing(output.len()))?;
+    assert_eq!(rt; answer.output.as_slice(), output);
+    assert_eq!(rt; answer.status, 0);
+    Ok(())
+}
+
+#[test]
+fn an_output_that_fails_at_each_byte(rt: HostRuntime) -> Result<(), Fail> {
+    check_output(&rt, rt.alloc(), ONE, ONE_RECORD, ONE_MASKED)?;
+    check_output(&rt, rt.alloc(), THREE, THREE_RECORDS, THREE_MASKED)
+}

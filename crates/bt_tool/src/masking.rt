@@ -1,0 +1,119 @@
+//! The loop over a FASTA input and a BED input: a masking engine is given the lines and the records.
+
+ghost use Rattle.std.specs.Prelude.{◌≡◌, [], option_map};
+ghost use Rattle.bt_lines.specs.Names.{told};
+ghost use Rattle.bt_lines.specs.Output.{HoldsBlock};
+ghost use Rattle.bt_lines.specs.Reader.{input_of};
+ghost use Rattle.bt_bed.specs.Blocks.{view_of};
+ghost use Rattle.bt_bed.specs.GoodBlocks.{block_format};
+ghost use Rattle.bt_tool.specs.Masked.{MasksBoth};
+ghost use Rattle.bt_tool.specs.Masks.{FinishesMask, Masks, line_members};
+ghost use Rattle.bt_tool.specs.MaskTurns.{AsksLine, TurnsBed, TurnsLine};
+
+use bt_bed::Blocks;
+use bt_lines::{Fault, Input, LineReader, Out, Sink, Source};
+use bt_seq::{Mask, MaskHow, MaskWant, Taken};
+use std::alloc::Global;
+
+// Gives an engine the next line, or their end.
+fn turn_line<A: Source, K: Sink>(
+    lines: &mut LineReader<A>,
+    mask: &mut Mask,
+    out: &mut Out<K>,
+) -> Result<(), Fault>
+    requires { mask.old.want ≡ MaskWant.Line }
+    ensures { TurnsLine A.left A.has_failed A.end_told lines.old mask.old out.old result lines.new mask.new out.new }
+{
+    match lines.next()? {
+        Some(line) => mask.give_line(&line, out),
+        None => {
+            mask.end_lines();
+            Ok(())
+        }
+    }
+}
+
+// The line of the next record, if there is one.
+fn line_ahead<B: Source>(records: &mut Blocks<B>) -> Result<Option<u64>, Fault>
+    ensures { AsksLine B.left B.has_failed B.end_told (view_of records.old) result (view_of records.new) }
+{
+    if records.peek()?.is_none() {
+        return Ok(None);
+    }
+    Ok(Some(records.line()))
+}
+
+// Gives an engine the next record, or their end. A record that isn't taken stays ahead.
+fn turn_bed<B: Source, K: Sink>(
+    records: &mut Blocks<B>,
+    mask: &mut Mask,
+    out: &mut Out<K>,
+) -> Result<(), Fault>
+    requires { mask.old.want ≡ MaskWant.Bed }
+    ensures { TurnsBed B.left B.has_failed B.end_told (view_of records.old) mask.old out.old result
+        (view_of records.new) mask.new out.new }
+{
+    let Some(line) = line_ahead(records)? else {
+        return mask.end_bed(out);
+    };
+    match records.peek()? {
+        Some(record) => match mask.give_bed(&record, line, out)? {
+            Taken::Yes => records.advance(),
+            Taken::No => {}
+        },
+        // The record ahead is given again, so this isn't met.
+        None => mask.end_bed(out)?,
+    }
+    Ok(())
+}
+
+// Gives an engine what it asks for, until it asks for nothing more.
+fn mask_all<A: Source, B: Source, K: Sink>(
+    lines: &mut LineReader<A>,
+    records: &mut Blocks<B>,
+    mask: &mut Mask,
+    out: &mut Out<K>,
+) -> Result<(), Fault>
+    requires first { input_of lines.old ≡ Input.First }
+    requires blocks { (view_of records.old).format ≡ block_format }
+    requires starts { Masks A.left A.has_failed A.end_told B.left B.has_failed B.end_told mask.old.how mask.old.full
+        (line_members mask.old.full (record { names = []; bases = 0 }) lines.old) (view_of records.old) out.old
+        (line_members mask.old.full (record { names = []; bases = 0 }) lines.old) (view_of records.old) mask.old out.old }
+    ensures { FinishesMask A.left A.has_failed A.end_told B.left B.has_failed B.end_told mask.old.how mask.old.full
+        lines.old (view_of records.old) out.old result lines.new (view_of records.new) out.new }
+{
+    loop {
+        match mask.want() {
+            MaskWant::Line => turn_line(lines, mask, out)?,
+            MaskWant::Bed => turn_bed(records, mask, out)?,
+            MaskWant::Nothing => return Ok(()),
+        }
+    }
+}
+
+/// Masks the bases of a FASTA input that the records of a BED input cover, and writes its lines. It gives
+/// the sources back, and the fault that the run ends with, if there is one. The records are read no further
+/// than the lines ask for, and where those are all written, to their end.
+pub(crate) fn mask<A: Source, B: Source, K: Sink>(
+    alloc: Global,
+    how: MaskHow,
+    full: bool,
+    first: A,
+    second: B,
+    out: &mut Out<K>,
+) -> (Option<Fault>, A, B)
+    requires { HoldsBlock out.old.took out.old.put }
+    ensures { MasksBoth A.left A.has_failed A.end_told B.left B.has_failed how full first second out.old
+        (option_map told result.0) result.1 result.2 out.new }
+{
+    let mut lines = LineReader::new(alloc, first, Input::First);
+    let mut records = Blocks::new(alloc, LineReader::new(alloc, second, Input::Second));
+    let mut mask = Mask::new(alloc, how, full);
+    let masked = mask_all(&mut lines, &mut records, &mut mask, out);
+    let first = lines.into_source();
+    let second = records.into_reader().into_source();
+    match masked {
+        Ok(()) => (None, first, second),
+        Err(fault) => (Some(fault), first, second),
+    }
+}
