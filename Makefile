@@ -1,25 +1,30 @@
-# make builds bin/bedtools, make example runs it, make test is the gate, make mutants tries further wrong bodies, make check-docs runs the examples of the docs, make install PREFIX=.. copies it.
+# make builds bin/bedtools, make example runs it, make test is the gate, make mutants tries further wrong bodies.
+# make check-docs checks the docs, make check-program the program at its edges, make check-differences compares it
+# with bedtools 2.30.0. make install PREFIX=.. NAME=.. copies the program and its manual page.
 PREFIX ?= /usr/local
+# The name of the installed program: not `bedtools`, which it would hide.
+NAME ?= dunekettle-bedtools
 
 PROGRAM := bin/bedtools
+# What the prover and the compiler say.
+LOG := bin/build.log
 SOURCES := crates.txt $(shell find crates -name out -prune -o -type f \( -name '*.rt' -o -name '*.antt' \) -print)
 
-.PHONY: all example test mutants check-docs install clean
+.PHONY: all example test mutants check-docs check-program check-differences pictures install clean
 
 all: $(PROGRAM)
 
 # The run builds what it runs, and merges nothing.
 $(PROGRAM): $(SOURCES)
-	cd crates/bedtools && rt run -- merge -i /dev/null -g /dev/null
-	mkdir -p bin
-	cp crates/bedtools/out/bedtools $@
+	@mkdir -p bin
+	@echo "Proving what changed and building $@; the prover's output goes to $(LOG)."
+	@cd crates/bedtools && rt run -- merge -i /dev/null -g /dev/null > ../../$(LOG) 2>&1 || \
+	{ tail -n 20 ../../$(LOG); echo "Not built: see $(LOG)."; exit 1; }
+	@cp crates/bedtools/out/bedtools $@
+	@echo "Built $@."
 
 example: $(PROGRAM)
-	$(PROGRAM) merge -i examples/exons.bed -g examples/genome.txt -d 1000
-	$(PROGRAM) complement -i examples/exons.bed -g examples/genome.txt -L
-	$(PROGRAM) intersect -a examples/exons.bed -b examples/exons.bed -g examples/genome.txt -u
-	$(PROGRAM) subtract -a examples/exons.bed -b examples/exons.bed -g examples/genome.txt -A
-	$(PROGRAM) bamtobed -i examples/alignments.sam -split
+	@examples/run.sh $(PROGRAM)
 
 test:
 	rt ci
@@ -32,12 +37,25 @@ mutants:
 	for mutants in crates/*/mutants; do mv $$mutants $$(dirname $$mutants)/must-fail; done && \
 	rt must-fail; status=$$?; rm -rf $$copy; exit $$status
 
-# The shell examples of README.md and docs/ write what stands below them.
+# The shell examples of the pages write what stands below them, and each link leads somewhere.
 check-docs: $(PROGRAM)
 	docs/examples.py
+	docs/links.py
+
+# Closed standard streams, full disks, directories: what no proof says of real files.
+check-program: $(PROGRAM)
+	docs/edges.py
+
+# The rows of docs/DIFFERENCES.md, tried with the program and with the bedtools 2.30.0 on PATH.
+check-differences: $(PROGRAM)
+	docs/differences.py
+
+pictures:
+	docs/pictures.py
 
 install: $(PROGRAM)
-	install -D $(PROGRAM) $(DESTDIR)$(PREFIX)/bin/bedtools
+	install -D $(PROGRAM) $(DESTDIR)$(PREFIX)/bin/$(NAME)
+	install -D -m 644 man/bedtools.1 $(DESTDIR)$(PREFIX)/share/man/man1/$(NAME).1
 
 clean:
 	rm -rf bin crates/*/out

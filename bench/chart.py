@@ -2,7 +2,7 @@
 
 from html import escape
 
-COLOURS = {"dunekettle": "#c2571a", "bedtools": "#5b7c99", "bedops": "#a9b8c4"}
+COLOURS = {"dunekettle": "#c2571a", "bedtools": "#5b7c99", "bedops": "#a9b8c4", "convert2bed": "#d3dbe2"}
 WIDTH = 760
 LEFT = 190
 BAR = 14

@@ -6,8 +6,8 @@
 Prints, for each command and kind of record, for RECORDS records (5,000,000 where it is missing) and
 for a tenth of them, the processor time and the peak memory; beside them those of the bedtools and the
 bedops on PATH, where they are there and do the same job; and the instructions a record, where valgrind
-is there. For `bamtobed` samtools makes the BAM file that bedtools reads. With `--only` it takes the
-workloads alone whose names have these words in them; with `--chart` it draws the larger runs as an SVG.
+is there. For `bamtobed` samtools makes the BAM file that bedtools reads, and bedops' convert2bed, which
+writes further columns, isn't compared. With `--only` it takes the workloads alone whose names have these words in them; with `--chart` it draws the larger runs as an SVG.
 It fails where a program fails, where two outputs differ, or where this program's memory grows with its
 input.
 """
@@ -68,6 +68,21 @@ class Features:
 
 
 @dataclass
+class Behind:
+    """200,000 short records of one strand behind a long one of the other, whatever the size asked for."""
+
+    def name(self):
+        return "200,000 behind one of the other strand"
+
+    def inputs(self, folder):
+        return ["-i", str(folder / "records.bed")]
+
+    def write(self, folder, count):
+        lines = (f"chr1\t{at * 1000}\t{at * 1000 + 500}\tx\t1\t-\n" for at in range(1, 200_001))
+        (folder / "records.bed").write_text("chr1\t0\t240000000\tx\t1\t+\n" + "".join(lines), encoding="ascii")
+
+
+@dataclass
 class Pair:
     """Records of two kinds, as two inputs."""
 
@@ -83,6 +98,28 @@ class Pair:
     def write(self, folder, count):
         self.first.write(folder / "records.bed", count, 1)
         self.second.write(folder / "second.bed", count, 2)
+
+
+@dataclass
+class Alone:
+    """Records of one kind, as one input: at random places on whole chromosomes, or with a depth on so much of each
+    chromosome's begin that they cover it so many times."""
+
+    features: Features
+    depth: int = 0
+
+    def name(self):
+        return f"{self.features.word} at {self.depth}x" if self.depth else self.features.word
+
+    def inputs(self, folder):
+        return ["-i", str(folder / "records.bed")]
+
+    def write(self, folder, count):
+        part = 1.0
+        if self.depth:
+            bases = count // self.features.each * (self.features.shortest + self.features.longest) // 2
+            part = min(part, bases / self.depth / (sum(LENGTHS) * 1_000_000))
+        write_features(folder / "records.bed", count // self.features.each, self.features, 1, part)
 
 
 @dataclass
@@ -123,9 +160,31 @@ class Alignments:
             subprocess.run(["samtools", "view", "-b", str(folder / "records.bed")], stdout=bam, check=True)
 
 
+@dataclass
+class Sequences:
+    """24 sequences in lines of 60 bases, about 30 bytes for each record asked for, and records that mask them:
+    one for so many bases."""
+
+    word: str
+    apart: int
+
+    def name(self):
+        return f"{self.word} records"
+
+    def inputs(self, folder):
+        return ["-fi", str(folder / "records.bed"), "-bed", str(folder / "second.bed")]
+
+    def inputs_of_bedtools(self, folder):
+        return [*self.inputs(folder), "-fo", "/dev/stdout"]
+
+    def write(self, folder, count):
+        write_sequences(folder, count // 106, self.apart, 1)
+
+
 READS = Features("reads", 1, 149, 151, 6)
 EXONS = Features("exons", 10, 50, 400, 6)
 PEAKS = Features("peaks", 25, 200, 2000, 3)
+REPEATS = Features("repeats", 1, 10, 600, 6)
 
 
 @dataclass
@@ -145,6 +204,14 @@ class Workload:
     is_drawn: bool = True
     # The words of bedtools, where they are others.
     words_of_bedtools: list = None
+    # The programs whose instructions are counted, where these aren't all of what is drawn and none of what isn't.
+    counted: tuple = None
+
+    # The words by which convert2bed of bedops does a job like it, from standard input.
+    convert2bed: list = None
+
+    def counts(self, program):
+        return self.is_drawn if self.counted is None else program in self.counted
 
     def name(self):
         return f"{' '.join(self.words)}, {self.data.name()}"
@@ -158,6 +225,8 @@ WORKLOADS = [
     Workload(["merge"], Touching(3), OURS, ["--merge"], 450, 0.2),
     Workload(["merge"], Touching(6), OURS, ["--merge"], 600, 0.3),
     Workload(["merge", "-S", "+", "-d", "100"], Touching(6), OURS, None, 600, 0.3),
+    Workload(["merge", "-s"], Alone(EXONS), OURS, None, None, 0.35),
+    Workload(["merge", "-s"], Behind(), OURS, None, None, 0.35, False),
     Workload(["complement"], Touching(3), BOTH, None, 450, 0.2),
     Workload(["complement"], Touching(6), BOTH, None, 600, 0.3),
     *(
@@ -169,11 +238,23 @@ WORKLOADS = [
     Workload(["intersect", "-sorted", "-f", "0.1", "-s"], Pair(READS, EXONS), BOTH, None, None, 0.35, False),
     *(
         Workload(["subtract", *shape], data, BOTH, None, None, 0.3, not shape, ["subtract", "-sorted", *shape])
-        for data in (Pair(READS, EXONS), Pair(EXONS, PEAKS))
+        for data in (Pair(READS, EXONS), Pair(EXONS, PEAKS), Pair(PEAKS, REPEATS))
         for shape in ([], ["-A"], ["-f", "0.5"])
     ),
-    Workload(["bamtobed"], Alignments(), (), None, None, 0.15),
+    # bedtools goes over each base of the genome: in the chart it would leave no room for the others.
+    *(
+        Workload(["genomecov", *options], data, BOTH, None, None, part, False, counted=OURS)
+        for data, part in ((Alone(READS, 30), 0.1), (Alone(PEAKS), 0.02))
+        for options in (["-bg"], ["-bga"], ["-bg", "-strand", "+"])
+        if data.features.columns > 3 or "-strand" not in options
+    ),
+    Workload(["bamtobed"], Alignments(), (), None, None, 0.15, convert2bed=["--input=sam", "--do-not-sort"]),
     Workload(["bamtobed", "-split"], Alignments(), (), None, None, 0.15, False),
+    *(
+        Workload(["maskfasta", *how], Sequences(word, apart), (), None, None, 0.3, not how)
+        for word, apart in (("few", 100_000), ("many", 400))
+        for how in ([], ["-soft"])
+    ),
 ]
 
 
@@ -183,6 +264,9 @@ class Run:
 
     program: str
     words: list
+    # What it reads from standard input, if anything, and whether its output is to be that of this program.
+    source: Path = None
+    is_same: bool = True
     seconds: float = 0.0
     kilobytes: int = 0
 
@@ -217,13 +301,13 @@ def write_records(path, count, columns, seed):
                 stop = start + numbers.randrange(1, mean)
 
 
-def write_features(path, count, features, seed):
-    """Writes about `count` records at random places, in order."""
+def write_features(path, count, features, seed, part=1.0):
+    """Writes about `count` records at random places in the first part of each chromosome, in order."""
     numbers = random.Random(seed)
     total = sum(LENGTHS)
     with open(path, "w", encoding="ascii") as records:
         for name, length in zip(NAMES, LENGTHS):
-            last = length * 1_000_000 - features.longest
+            last = int(length * 1_000_000 * part) - features.longest
             for start in sorted(numbers.randrange(last) for _ in range(count * length // total)):
                 stop = start + numbers.randrange(features.shortest, features.longest)
                 records.write(f"{name}\t{start}\t{stop}{further_columns(numbers, features.columns)}\n")
@@ -247,10 +331,27 @@ def write_alignments(path, count, seed):
                 reads.write(f"read{start}\t{flag}\t{place}\t{bases[at : at + 100]}\t{'F' * 100}\tNM:i:0\n")
 
 
+def write_sequences(folder, count, apart, seed):
+    """Writes 24 sequences, each of about `count` times as many bases as its chromosome has million, and records in order."""
+    numbers = random.Random(seed)
+    text = "".join(numbers.choice("ACGTacgtN") for _ in range(60_000))
+    with open(folder / "records.bed", "w", encoding="ascii") as lines, open(folder / "second.bed", "w", encoding="ascii") as records:
+        for name, length in zip(NAMES, LENGTHS):
+            bases = count * length
+            lines.write(f">{name}\n")
+            for at in range(0, bases, 60):
+                first = at * 7 % 59_940
+                lines.write(f"{text[first : first + min(60, bases - at)]}\n")
+            start = numbers.randrange(2 * apart)
+            while start < bases:
+                records.write(f"{name}\t{start}\t{min(start + numbers.randrange(1, 300), bases)}\n")
+                start += numbers.randrange(1, 2 * apart)
+
+
 def time_run(run, output):
     """Runs a program, and keeps its processor time in seconds and its peak memory in kilobytes."""
-    with open(output, "wb") as out:
-        process = subprocess.Popen(run.words, stdout=out)
+    with open(run.source or os.devnull, "rb") as source, open(output, "wb") as out:
+        process = subprocess.Popen(run.words, stdin=source, stdout=out)
         peak = 0
         ended = 0
         while ended == 0:
@@ -278,12 +379,14 @@ def runs_of(workload, others, folder):
     genome = {program: ["-g", str(folder / "genome.txt")] for program in workload.genome_of}
     inputs = workload.data.inputs(folder)
     runs = [Run("dunekettle", [str(PROGRAM), *workload.words, *inputs, *genome.get("dunekettle", [])])]
-    if others["bedtools"] and (workload.genome_of or shutil.which("samtools")):
+    if others["bedtools"] and (not isinstance(workload.data, Alignments) or shutil.which("samtools")):
         inputs = getattr(workload.data, "inputs_of_bedtools", workload.data.inputs)(folder)
         words = workload.words_of_bedtools or workload.words
         runs.append(Run("bedtools", [others["bedtools"], *words, *inputs, *genome.get("bedtools", [])]))
     if others["bedops"] and workload.bedops:
         runs.append(Run("bedops", [others["bedops"], *workload.bedops, str(folder / "records.bed")]))
+    if others["convert2bed"] and workload.convert2bed:
+        runs.append(Run("convert2bed", [others["convert2bed"], *workload.convert2bed], folder / "records.bed", False))
     return runs
 
 
@@ -307,7 +410,7 @@ def compare(workload, others, folder, size):
         time_run(run, folder / f"{run.program}.bed")
         part = "" if run is runs[0] else f", of which ours is {runs[0].seconds / run.seconds:.2f}"
         print(f"  {run.program:10} {run.seconds:6.2f} s{part}; {run.kilobytes} kB", flush=True)
-    for run in runs[1:]:
+    for run in (run for run in runs[1:] if run.is_same):
         if not filecmp.cmp(folder / f"{runs[0].program}.bed", folder / f"{run.program}.bed", shallow=False):
             sys.exit(f"the output of {run.program} differs")
     return runs
@@ -316,13 +419,17 @@ def compare(workload, others, folder, size):
 def count_instructions(valgrind, workload, others, folder):
     """Prints the instructions a record of each program."""
     place = prepared(workload, folder, COUNTED)
+    runs = [run for run in runs_of(workload, others, place) if workload.counts(run.program)]
+    if not runs:
+        return
     with open(place / "records.bed", "rb") as records:
         lines = sum(1 for _ in records)
     aim = f", at most {workload.instructions} aimed at" if workload.instructions else ""
     print(f"{workload.name()}: instructions a record{aim}")
-    for run in runs_of(workload, others, place):
+    for run in runs:
         words = [valgrind, "--tool=callgrind", "--callgrind-out-file=/dev/null", *run.words]
-        told = subprocess.run(words, stdout=subprocess.DEVNULL, stderr=subprocess.PIPE, check=True, text=True)
+        with open(run.source or os.devnull, "rb") as source:
+            told = subprocess.run(words, stdin=source, stdout=subprocess.DEVNULL, stderr=subprocess.PIPE, check=True, text=True)
         count = int(re.search(r"Collected : (\d+)", told.stderr).group(1))
         print(f"  {run.program:10} {count / lines:6.0f}", flush=True)
 
@@ -333,7 +440,7 @@ def main():
     parser.add_argument("--only", metavar="WORDS", default="")
     parser.add_argument("--chart", metavar="FILE")
     asked = parser.parse_args()
-    others = {name: shutil.which(name) for name in ("bedtools", "bedops")}
+    others = {name: shutil.which(name) for name in ("bedtools", "bedops", "convert2bed")}
     if others["bedtools"] and Path(others["bedtools"]).resolve() == PROGRAM:
         others["bedtools"] = None
     valgrind = shutil.which("valgrind")
@@ -342,11 +449,12 @@ def main():
         folder = Path(folder)
         for workload in (it for it in WORKLOADS if asked.only in it.name()):
             small, large = (compare(workload, others, folder, size) for size in (asked.records // 10, asked.records))
-            if large[0].kilobytes > small[0].kilobytes + SLACK:
+            # A run that ends at once may be gone before its memory is read.
+            if small[0].kilobytes and large[0].kilobytes > small[0].kilobytes + SLACK:
                 sys.exit("the memory grows with the input")
             if others["bedtools"]:
                 print(f"  at most {workload.part} of bedtools' time aimed at")
-            if valgrind and workload.is_drawn:
+            if valgrind:
                 count_instructions(valgrind, workload, others, folder)
             if workload.is_drawn:
                 rows.append((workload.name(), large))

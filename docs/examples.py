@@ -3,33 +3,35 @@
 
     docs/examples.py [PAGE..]
 
-An example is an indented block that begins with `$ `: each command is run by sh, in one folder for a page,
-and what it writes, standard error behind standard output, has to be what stands below it. Commands of
-blocks that begin with anything else aren't run. Ends with 1 where one differs.
+An example is a block, indented by four spaces or more, that begins with `$ `: each command is run by sh, in one
+folder for a page, and what it writes, standard error behind standard output, has to be what stands below it.
+Commands of blocks that begin with anything else aren't run. Ends with 1 where one differs.
 """
 
 import os
+import re
 import subprocess
 import sys
 import tempfile
 from pathlib import Path
 
 TOP = Path(__file__).resolve().parent.parent
-MARGIN = "    "
+COMMAND = re.compile(r"( {4,})\$ (.*)")
 
 
 def examples_of(text):
     """The commands of a page in order, each with its line and what it shall write."""
     found = []
-    runs_on = False
+    margin = None
     for number, line in enumerate(text.splitlines(), 1):
-        if line.startswith(MARGIN + "$ "):
-            found.append((number, line[len(MARGIN) + 2 :], []))
-            runs_on = True
-        elif line.startswith(MARGIN) and runs_on:
-            found[-1][2].append(line[len(MARGIN) :])
+        command = COMMAND.fullmatch(line)
+        if command:
+            margin = command[1]
+            found.append((number, command[2], []))
+        elif margin is not None and line.startswith(margin):
+            found[-1][2].append(line[len(margin) :])
         else:
-            runs_on = False
+            margin = None
     return found
 
 

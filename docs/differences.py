@@ -1,0 +1,294 @@
+#!/usr/bin/env python3
+"""Tries each row of DIFFERENCES.md with the program in bin/ and with the bedtools 2.30.0 on PATH.
+
+    docs/differences.py
+
+A trial is one command line for each program, in a folder with the files below, and what each has to answer:
+standard output and exit status, and for ours standard error too. A row of a table has a trial of its name, and
+each trial has a row. Ends with 1 where one differs, and with 0 and a word where there is no such bedtools.
+"""
+
+import base64
+import gzip
+import shutil
+import subprocess
+import sys
+import tempfile
+from pathlib import Path
+
+HERE = Path(__file__).resolve().parent
+OURS = HERE.parent / "bin" / "bedtools"
+
+FILES = {
+    "g.txt": "chr1\t20\nchr2\t8\n",
+    "twice.txt": "chr1\t20\nchr1\t30\n",
+    "comment.txt": "# chromosome\tlength\nchr1\t20\n",
+    "f.bed": "chr1\t2\t6\nchr1\t4\t9\nchr1\t14\t17\n",
+    "swapped.bed": "chr2\t0\t6\nchr1\t2\t6\n",
+    "unsorted.bed": "chr1\t10\t12\nchr1\t2\t6\n",
+    "unknown.bed": "chrX\t1\t5\n",
+    "heading.bed": "chrom\tstart\tend\nchr1\t2\t6\n",
+    "varying.bed": "chr1\t2\t6\ta\nchr1\t4\t9\n",
+    "empty_feature.bed": "chr1\t5\t5\nchr1\t7\t9\n",
+    "crlf.bed": "chr1\t2\t6\r\n\r\nchr1\t8\t9\r\n",
+    "large.bed": "chr1\t1\t9999999999999\n",
+    "back.bed": "chr1\t2\t6\nchr2\t2\t6\nchr1\t3\t9\n",
+    "large.txt": "chr1\t248956422\n",
+    "at_five.bed": "chr1\t5\t5\n",
+    "two.fa": ">chr1\nACGTACGT\n>chr2\nACGTACGT\n",
+    "header.fa": ">chr1 a first\nACGT\n",
+    "blank.fa": ">chr1\nACGT\n\nAC\n",
+    "past.bed": "chr1\t25\t30\n",
+    "gff.gff": "chr1\tx\texon\t3\t6\t.\t+\t.\tid\n",
+    "three.bed": "chr1\t0\t3\n",
+    "one.bed": "chr1\t0\t1\n",
+    "across.bed": "chr2\t6\t12\n",
+    "spaced.fa": ">s d e\nACGT\n",
+    "s.bed": "s\t0\t1\n",
+    "again.fa": ">s\nAAAA\n>t\nCCCC\n>s\nGGGG\n",
+    "crlf.fa": ">s\r\nACGT\r\n",
+    "stray.fa": "ACGT\n>s\nAC\n",
+    "s.fa": ">s\nACGT\n",
+    "strands.bed": "chr9\t0\t50\ta\t0\t+\nchr9\t20\t30\tb\t0\t-\nchr10\t0\t6\tc\t0\t-\nchr10\t5\t8\td\t0\t-\n",
+    "natural.txt": "chr9\t100\nchr10\t100\n",
+    "no_strand.bed": "chr1\t2\t6\ta\t0\t.\n",
+    "reads.sam": "@SQ\tSN:ref\tLN:45\nr004\t0\tref\t16\t30\t6M14N5M\t*\t0\t0\tATAGCTTCAGC\t*\n",
+    "no_header.sam": "r004\t0\tref\t16\t30\t6M14N5M\t*\t0\t0\tATAGCTTCAGC\t*\n",
+    "at_zero.sam": "r1\t0\tref\t0\t30\t4M\t*\t0\t0\tACGT\t*\n",
+    "soft.sam": "@SQ\tSN:ref\tLN:45\nr1\t0\tref\t5\t30\t4S\t*\t0\t0\tACGT\t*\n",
+}
+
+# A BAM file of three mapped reads: 4M at POS 0, 4S at POS 5, * at POS 5. As SAM, samtools takes the first for unmapped.
+AT_ZERO = """
+H4sIBAAAAAAA/wYAQkMCAGoAc3L0ZRRkYGBwCA7kDPazKkpN4/TxszIx5WIECrIAMVCEQRdIgzAI/AcCZjkPIZj8fygAyRUZ
+MjgAKSEPkABMA0gRHg0ucA2aaBoYsGuAKAYAOM0PibgAAAAfiwgEAAAAAAD/BgBCQwIAGwADAAAAAAAAAAAA
+"""
+
+MERGED = "chr1\t2\t9\nchr1\t14\t17\n"
+GAPS = "chr1\t0\t2\nchr1\t9\t14\nchr1\t17\t20\n"
+SPLIT = ["ref\t15\t21\tr004\t30\t+", "ref\t35\t40\tr004\t30\t+"]
+
+
+class Trial:
+    """One row: the words for both programs, and what each answers."""
+
+    def __init__(self, row, theirs, their_output, their_status, ours, our_output, our_error, our_status):
+        self.row = row
+        self.commands = (theirs, ours)
+        self.wanted = ((their_output, their_status), (our_output, our_error, our_status))
+
+
+# The row, their command, its output and status; our command, its output, error and status.
+TRIALS = [
+    Trial("full disk", "merge -i f.bed > /dev/full", "", 0,
+          "merge -i f.bed -g g.txt > /dev/full", "", "bedtools merge: writing failed\n", 1),
+    Trial("reader goes away", "intersect -a many.bed -b f.bed -u | head -n 1; exit ${PIPESTATUS[0]}", "chr1\t2\t6\n", 141,
+          "intersect -a many.bed -b f.bed -g g.txt -u | head -n 1; exit ${PIPESTATUS[0]}", "chr1\t2\t6\n",
+          "bedtools intersect: writing failed\n", 1),
+    Trial("directory as input", "merge -i .", "", 134,
+          "merge -i . -g g.txt", "", "bedtools merge: .:1: reading failed\n", 1),
+    Trial("closed standard input", "complement -i - -g g.txt <&-", "chr1\t0\t20\nchr2\t0\t8\n", 0,
+          "complement -i - -g g.txt <&-", "", "bedtools complement: -:1: reading failed\n", 1),
+    Trial("standard input named twice", "intersect -a - -b - < f.bed", "", 0,
+          "intersect -a - -b - -g g.txt < f.bed", "", "bedtools: standard input named twice\n", 2),
+    Trial("order of chromosomes", "merge -i swapped.bed", "chr2\t0\t6\nchr1\t2\t6\n", 0,
+          "merge -i swapped.bed -g g.txt", "", "bedtools merge: swapped.bed:2: record is out of order\n", 1),
+    Trial("genome file", "merge -i f.bed", MERGED, 0,
+          "merge -i f.bed", "", "bedtools: required option missing\n", 2),
+    Trial("unknown chromosome", "intersect -a unknown.bed -b f.bed", "", 0,
+          "intersect -a unknown.bed -b f.bed -g g.txt", "",
+          "bedtools intersect: unknown.bed:1: chromosome is not in the genome file\n", 1),
+    Trial("chromosome repeated in the genome file", "complement -i f.bed -g twice.txt",
+          "chr1\t0\t2\nchr1\t9\t14\nchr1\t17\t30\nchr1\t0\t30\n", 0,
+          "complement -i f.bed -g twice.txt", "", "bedtools complement: twice.txt:2: chromosome is repeated\n", 1),
+    Trial("comment with a tab in the genome file", "complement -i f.bed -g comment.txt", "", 1,
+          "complement -i f.bed -g comment.txt", GAPS, "", 0),
+    Trial("compressed input", "merge -i f.bed.gz", MERGED, 0,
+          "merge -i f.bed.gz -g g.txt", "", "bedtools merge: f.bed.gz:1: too few columns\n", 1),
+    Trial("GFF, VCF and BAM as input", "merge -i gff.gff", "chr1\t2\t6\n", 0,
+          "merge -i gff.gff -g g.txt", "", "bedtools merge: gff.gff:1: start is not a number\n", 1),
+    Trial("first line that begins with `chrom`", "merge -i heading.bed", "chr1\t2\t6\n", 0,
+          "merge -i heading.bed -g g.txt", "", "bedtools merge: heading.bed:1: start is not a number\n", 1),
+    Trial("numbers of columns that vary", "intersect -a varying.bed -b varying.bed -u", "", 1,
+          "intersect -a varying.bed -b varying.bed -g g.txt -u", FILES["varying.bed"], "", 0),
+    Trial("feature without a base", "merge -i empty_feature.bed", "chr1\t5\t5\nchr1\t7\t9\n", 0,
+          "merge -i empty_feature.bed -g g.txt", "", "bedtools merge: empty_feature.bed:1: start is not below end\n", 1),
+    Trial("blank line that ends with CR", "merge -i crlf.bed", "", 1,
+          "merge -i crlf.bed -g g.txt", "chr1\t2\t6\nchr1\t8\t9\n", "", 0),
+    Trial("numbers above 999,999,999,999", "merge -i large.bed", "chr1\t1\t9999999999999\n", 0,
+          "merge -i large.bed -g g.txt", "", "bedtools merge: large.bed:1: end is not a number\n", 1),
+    Trial("exit statuses", "merge -q > /dev/null", "", 1, "merge -q", "", "bedtools: unknown option: -q\n", 2),
+    Trial("help", "--help > /dev/null", "", 0, "--help", "", "bedtools: no or unknown command\n", 2),
+    Trial("`-s` without a strand in merge", "merge -i no_strand.bed -s", "", 0,
+          "merge -i no_strand.bed -g g.txt -s", "chr1\t2\t6\n", "", 0),
+    Trial("`-s` behind a change of chromosome", "merge -i strands.bed -s",
+          "chr9\t0\t50\nchr10\t0\t6\nchr9\t20\t30\nchr10\t5\t8\n", 0,
+          "merge -i strands.bed -g natural.txt -s", "chr9\t0\t50\nchr9\t20\t30\nchr10\t0\t8\n", "", 0),
+    Trial("negative `-d`", "merge -i f.bed -d -3", "chr1\t2\t6\nchr1\t4\t9\nchr1\t14\t17\n", 0,
+          "merge -i f.bed -g g.txt -d -3", "", "bedtools: bad value: -d\n", 2),
+    Trial("gap past the chromosome's length", "complement -i past.bed -g g.txt", "chr1\t0\t25\nchr2\t0\t8\n", 0,
+          "complement -i past.bed -g g.txt", "chr1\t0\t20\nchr2\t0\t8\n", "", 0),
+    Trial("features in the wrong order", "complement -i unsorted.bed -g g.txt", "", 1,
+          "complement -i unsorted.bed -g g.txt", "chr1\t0\t10\n",
+          "bedtools complement: unsorted.bed:2: record is out of order\n", 1),
+    Trial("fraction", "intersect -a three.bed -b one.bed -f 0.333333334", "chr1\t0\t1\n", 0,
+          "intersect -a three.bed -b one.bed -g g.txt -f 0.333333334", "", "", 0),
+    Trial("fraction of 0", "intersect -a three.bed -b one.bed -f 0 > /dev/null", "", 1,
+          "intersect -a three.bed -b one.bed -g g.txt -f 0", "chr1\t0\t1\n", "", 0),
+    Trial("fraction with an exponent", "intersect -a three.bed -b one.bed -f 1e-9", "chr1\t0\t1\n", 0,
+          "intersect -a three.bed -b one.bed -g g.txt -f 1e-9", "", "bedtools: bad value: -f\n", 2),
+    Trial("`-s` without a strand", "intersect -a no_strand.bed -b no_strand.bed -s", "", 0,
+          "intersect -a no_strand.bed -b no_strand.bed -g g.txt -s", FILES["no_strand.bed"], "", 0),
+    Trial("fraction in subtract", "subtract -a three.bed -b one.bed -f 0.333333334", "chr1\t1\t3\n", 0,
+          "subtract -a three.bed -b one.bed -g g.txt -f 0.333333334", "chr1\t0\t3\n", "", 0),
+    Trial("`-s` without a strand in subtract", "subtract -a no_strand.bed -b no_strand.bed -s", FILES["no_strand.bed"], 0,
+          "subtract -a no_strand.bed -b no_strand.bed -g g.txt -s", "", "", 0),
+    Trial("histogram", "genomecov -i f.bed -g g.txt | sed -n 1p; exit ${PIPESTATUS[0]}", "chr1\t0\t10\t20\t0.5\n", 0,
+          "genomecov -i f.bed -g g.txt", "", "bedtools: required option missing\n", 2),
+    Trial("order within a chromosome", "genomecov -bg -i unsorted.bed -g g.txt", "chr1\t2\t6\t1\nchr1\t10\t12\t1\n", 0,
+          "genomecov -bg -i unsorted.bed -g g.txt", "", "bedtools genomecov: unsorted.bed:2: record is out of order\n", 1),
+    Trial("order of chromosomes in genomecov", "genomecov -bg -i swapped.bed -g g.txt", "chr2\t0\t6\t1\nchr1\t2\t6\t1\n", 0,
+          "genomecov -bg -i swapped.bed -g g.txt", "", "bedtools genomecov: swapped.bed:2: record is out of order\n", 1),
+    Trial("chromosome that comes back", "genomecov -bg -i back.bed -g g.txt",
+          "chr1\t2\t6\t1\nchr2\t2\t6\t1\nchr1\t3\t9\t1\n", 0,
+          "genomecov -bg -i back.bed -g g.txt", "chr1\t2\t6\t1\n",
+          "bedtools genomecov: back.bed:3: record is out of order\n", 1),
+    Trial("unknown chromosome in genomecov", "(ulimit -v 500000; {} genomecov -bg -i unknown.bed -g g.txt)", "", 134,
+          "genomecov -bg -i unknown.bed -g g.txt", "",
+          "bedtools genomecov: unknown.bed:1: chromosome is not in the genome file\n", 1),
+    Trial("feature without a base in genomecov", "genomecov -bg -i empty_feature.bed -g g.txt",
+          "chr1\t4\t6\t1\nchr1\t7\t9\t1\n", 0,
+          "genomecov -bg -i empty_feature.bed -g g.txt", "",
+          "bedtools genomecov: empty_feature.bed:1: start is not below end\n", 1),
+    Trial("`-strand` without a strand", "genomecov -bg -i f.bed -g g.txt -strand +", "", 1,
+          "genomecov -bg -i f.bed -g g.txt -strand +", "", "", 0),
+    Trial("depth of 1,000,000 and more", "genomecov -bg -i pile.bed -g g.txt", "chr1\t2\t6\t1.00001e+06\n", 0,
+          "genomecov -bg -i some.bed -g g.txt", "chr1\t2\t6\t10000\n", "", 0),
+    Trial("memory", "(ulimit -v 500000; {} genomecov -bg -i f.bed -g large.txt)", "", 134,
+          "(ulimit -v 500000; {} genomecov -bg -i f.bed -g large.txt)",
+          "chr1\t2\t4\t1\nchr1\t4\t6\t2\nchr1\t6\t9\t1\nchr1\t14\t17\t1\n", "", 0),
+    Trial("BAM", "bamtobed -i reads.sam", "ref\t15\t40\tr004\t30\t+\n", 0,
+          "bamtobed -i reads.sam", "ref\t15\t40\tr004\t30\t+\n", "", 0),
+    Trial("SAM without header lines", "bamtobed -i no_header.sam", "", 1,
+          "bamtobed -i no_header.sam", "ref\t15\t40\tr004\t30\t+\n", "", 0),
+    Trial("`-cigar` with `-split`", "bamtobed -i reads.sam -cigar -split", "".join(f"{line}\n" for line in SPLIT), 0,
+          "bamtobed -i reads.sam -cigar -split", "".join(f"{line}\t6M14N5M\n" for line in SPLIT), "", 0),
+    Trial("mapped read at POS 0", "bamtobed -i at_zero.bam | head -n 1", "ref\t-1\t3\tr1\t30\t+\n", 0,
+          "bamtobed -i at_zero.sam", "", "", 0),
+    Trial("CIGAR without a base of the reference", "bamtobed -i soft.sam", "ref\t4\t4\tr1\t30\t+\n", 0,
+          "bamtobed -i soft.sam", "", "", 0),
+]
+
+TRIALS += [
+    Trial("order of blocks", "maskfasta -fi two.fa -bed swapped.bed -fo /dev/stdout", ">chr1\nACNNNNGT\n>chr2\nNNNNNNGT\n", 0,
+          "maskfasta -fi two.fa -bed swapped.bed", ">chr1\nACGTACGT\n>chr2\nNNNNNNGT\n",
+          "bedtools maskfasta: swapped.bed:2: no such sequence from here on\n", 1),
+    Trial("unknown sequence", "maskfasta -fi two.fa -bed unknown.bed -fo /dev/stdout", FILES["two.fa"], 0,
+          "maskfasta -fi two.fa -bed unknown.bed", FILES["two.fa"],
+          "bedtools maskfasta: unknown.bed:1: no such sequence from here on\n", 1),
+    Trial("record past the sequence's end", "maskfasta -fi two.fa -bed past.bed -fo /dev/stdout > /dev/null", "", 134,
+          "maskfasta -fi two.fa -bed past.bed", FILES["two.fa"], "", 0),
+    Trial("record across the sequence's end", "maskfasta -fi two.fa -bed across.bed -fo /dev/stdout",
+          ">chr1\nACGTACGT\n>chr2\nACGTACNN\nNNNN\n", 0,
+          "maskfasta -fi two.fa -bed across.bed", ">chr1\nACGTACGT\n>chr2\nACGTACNN\n", "", 0),
+    Trial("`-fullHeader`", "maskfasta -fi spaced.fa -bed s.bed -fullHeader -fo /dev/stdout", ">s d e\nNCGT\n", 0,
+          "maskfasta -fi spaced.fa -bed s.bed -fullHeader", ">s d e\nACGT\n",
+          "bedtools maskfasta: s.bed:1: no such sequence from here on\n", 1),
+    Trial("two sequences of one name", "maskfasta -fi again.fa -bed s.bed -fo /dev/stdout",
+          ">s\nNAAA\n>t\nCCCC\n>s\nNGGG\n", 0,
+          "maskfasta -fi again.fa -bed s.bed", ">s\nNAAA\n>t\nCCCC\n>s\nGGGG\n", "", 0),
+    Trial("FASTA with CR LF", "maskfasta -fi crlf.fa -bed s.bed -fo /dev/stdout", ">s\nACGT\n", 0,
+          "maskfasta -fi crlf.fa -bed s.bed", ">s\nNCGT\n", "", 0),
+    Trial("text before the first header", "maskfasta -fi stray.fa -bed s.bed -fo /dev/stdout", ">\nACGT\n>s\nNC\n", 0,
+          "maskfasta -fi stray.fa -bed s.bed", "",
+          "bedtools maskfasta: stray.fa:1: text before the first header\n", 1),
+    Trial("`-soft` with `-mc`", "maskfasta -fi s.fa -bed s.bed -soft -mc x -fo /dev/stdout", ">s\naCGT\n", 0,
+          "maskfasta -fi s.fa -bed s.bed -soft -mc x", "", "bedtools: options exclude one another\n", 2),
+    Trial("headers", "maskfasta -fi header.fa -bed /dev/null -fo /dev/stdout", ">chr1\nACGT\n", 0,
+          "maskfasta -fi header.fa -bed /dev/null", FILES["header.fa"], "", 0),
+    Trial("blank lines in a sequence", "maskfasta -fi blank.fa -bed /dev/null -fo /dev/stdout", ">chr1\nACGT\nAC\n", 0,
+          "maskfasta -fi blank.fa -bed /dev/null", FILES["blank.fa"], "", 0),
+    Trial("FASTA that is a directory", "maskfasta -fi . -bed one.bed -fo /dev/stdout", "", 0,
+          "maskfasta -fi . -bed one.bed", "", "bedtools maskfasta: .:1: reading failed\n", 1),
+    Trial("`-fo`", "maskfasta -fi two.fa -bed one.bed > /dev/null", "", 1,
+          "maskfasta -fi two.fa -bed one.bed", ">chr1\nNCGTACGT\n>chr2\nACGTACGT\n", "", 0),
+    Trial("feature without a base in maskfasta", "maskfasta -fi two.fa -bed at_five.bed -fo /dev/stdout",
+          ">chr1\nACGTNNGT\n>chr2\nACGTACGT\n", 0,
+          "maskfasta -fi two.fa -bed at_five.bed", "", "bedtools maskfasta: at_five.bed:1: start is not below end\n", 1),
+]
+
+# The options that aren't there, each with words that bedtools takes or knows.
+ABSENT = {
+    "merge": ["-c", "-o", "-header"],
+    "complement": ["-header"],
+    "intersect": ["-S", "-F", "-e", "-loj", "-wao", "-split", "-names", "-filenames", "-header"],
+    "subtract": ["-S", "-F", "-e", "-N", "-wb", "-wo", "-r", "-split", "-header"],
+    "genomecov": ["-d", "-dz", "-split", "-scale", "-max", "-5", "-3", "-trackline", "-ibam", "-pc", "-fs", "-du"],
+    "bamtobed": ["-bedpe", "-bed12", "-splitD", "-tag", "-ed", "-color"],
+}
+
+
+def ran(program, command, folder):
+    """What a program answers to a command line, in which `{}` may stand for its name."""
+    line = command.replace("{}", str(program)) if "{}" in command else f"{program} {command}"
+    done = subprocess.run(["bash", "-c", f"{line}\nexit $?"], cwd=folder, stdin=subprocess.DEVNULL,
+                          stdout=subprocess.PIPE, stderr=subprocess.PIPE, text=True, check=False)
+    return done.stdout, done.stderr, done.returncode
+
+
+def fill(folder):
+    """Writes the files of the trials."""
+    for name, text in FILES.items():
+        Path(folder, name).write_bytes(text.encode())
+    Path(folder, "f.bed.gz").write_bytes(gzip.compress(FILES["f.bed"].encode()))
+    Path(folder, "at_zero.bam").write_bytes(base64.b64decode(AT_ZERO))
+    Path(folder, "many.bed").write_text("chr1\t2\t6\n" * 100_000, encoding="utf-8")
+    Path(folder, "some.bed").write_text("chr1\t2\t6\n" * 10_000, encoding="utf-8")
+    Path(folder, "pile.bed").write_text("chr1\t2\t6\n" * 1_000_010, encoding="utf-8")
+
+
+def differs(trial, theirs, folder):
+    """Tries a row, and answers whether either program did something else."""
+    output, _, status = ran(theirs, trial.commands[0], folder)
+    found = ((output, status), ran(OURS, trial.commands[1], folder))
+    for command, wanted, got in zip(trial.commands, trial.wanted, found):
+        if wanted != got:
+            print(f"{trial.row}: {command}\n  wanted {wanted}\n  found  {got}")
+    return found != trial.wanted
+
+
+def rows_of(page):
+    """The rows of the tables of differences, by their first column."""
+    rows, inside = [], False
+    for line in page.splitlines():
+        inside = line.startswith("| difference |") or (inside and line.startswith("|"))
+        if inside and not line.startswith(("| difference |", "|---")):
+            rows.append(line.split("|")[1].strip())
+    return rows
+
+
+def main():
+    theirs = shutil.which("bedtools")
+    if not theirs or "v2.30.0" not in ran(theirs, "--version", ".")[0]:
+        print("no bedtools 2.30.0 on PATH: nothing was tried")
+        return 0
+    wrong = 0
+    with tempfile.TemporaryDirectory() as folder:
+        fill(folder)
+        wrong += sum(differs(trial, theirs, folder) for trial in TRIALS)
+        for command, options in ABSENT.items():
+            for option in options:
+                answer = ran(OURS, f"{command} {option}", folder)
+                if answer != ("", f"bedtools: unknown option: {option}\n", 2):
+                    wrong += 1
+                    print(f"{command} {option}: {answer}")
+    rows = rows_of((HERE / "DIFFERENCES.md").read_text(encoding="utf-8"))
+    untried = sorted(set(rows) ^ {trial.row for trial in TRIALS})
+    for row in untried:
+        print(f"a row without a trial, or a trial without a row: {row}")
+    print(f"{len(TRIALS)} rows tried, {wrong} of them differ")
+    return 1 if wrong or untried else 0
+
+
+if __name__ == "__main__":
+    sys.exit(main())
