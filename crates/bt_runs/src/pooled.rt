@@ -1,4 +1,4 @@
-//! The engine of `bedtools merge`: one open run, which each record extends or leaves behind.
+//! The engine of `bedtools merge` without `-s`: one open run, which each record extends or leaves behind.
 
 ghost use Rattle.std.specs.Prelude.{◌≡◌, ◌≤◌, ◌&&◌, ◌||◌, ℕ, List, [], length, None, not, nat_lt, bytes_eq, ◌∷◌, OnOk, OnErr};
 ghost use Rattle.bt_bed.specs.Bed.{feature_lent};

@@ -16,6 +16,6 @@ pub enum MaskWant {
 pub enum Taken {
     /// It was: the caller goes on to the next one.
     Yes,
-    /// It wasn't: it decides the line that waits, which is written, and is given again.
+    /// It wasn't: it decides the line that waits, and that is written. The record is given again.
     No,
 }

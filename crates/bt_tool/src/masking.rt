@@ -93,7 +93,7 @@ fn mask_all<A: Source, B: Source, K: Sink>(
 
 /// Masks the bases of a FASTA input that the records of a BED input cover, and writes its lines. It gives
 /// the sources back, and the fault that the run ends with, if there is one. The records are read no further
-/// than the lines ask for, and where those are all written, to their end.
+/// than the lines ask for, and once those have ended without a fault, to their end or their first fault.
 pub(crate) fn mask<A: Source, B: Source, K: Sink>(
     alloc: Global,
     how: MaskHow,
