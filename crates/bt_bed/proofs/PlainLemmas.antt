@@ -6,7 +6,7 @@ use Rattle.std.specs.List.{list_all}
 use Rattle.std.specs.Str.Parse.{digits_value}
 use Rattle.std.proofs.lemmas.Bool.{eqb-true}
 use Rattle.std.proofs.lemmas.Bool.Decides.{nat_tests}
-use Rattle.std.proofs.lemmas.List.{take-append-drop, drop_more, drop_all, take_all, take_more}
+use Rattle.std.proofs.lemmas.List.{take-append-drop, drop-drop, drop_more, drop_all, take_all, take_more}
 use Rattle.std.proofs.lemmas.List.Elements.{All-nil, All-cons, All-push}
 use Rattle.std.proofs.lemmas.List.Splits.{slice_split_at, slice_split_none, length-slice_split}
 use Rattle.bt_lines.proofs.NumberLemmas.{digits_below, value_of_digits}
@@ -128,3 +128,14 @@ begins_below text lead begins =
     let size : length (take lead.end text) ≡ lead.end = omega (arith, length-take lead.end text) in
     let below : digits_value 10 (take lead.end text) < 10 ^ length (take lead.end text) = digits_below (take lead.end text) begins.digits in
     rw begins.value (subst (λ (n : ℕ). digits_value 10 (take lead.end text) < 10 ^ n) size below)
+
+-- what stands behind three columns stands behind so many bytes
+pub rest_stands : (text first second kept : List ℕ) (a b c : ℕ) → first ≡ drop (a + 1) text
+    → second ≡ drop (b + 1) first
+    → kept ≡ drop c second → drop (a + b + c + 2) text ≡ kept
+rest_stands text first second kept a b c f s k =
+    let whole : a + b + c + 2 ≡ a + 1 + (b + 1) + c = omega arith in
+    let behind : drop (a + 1 + (b + 1)) text ≡ second =
+    sym (drop-drop (b + 1) (a + 1) text) ∙ ap (drop (b + 1)) (sym f) ∙ sym s in
+    ap (λ (m : ℕ). drop m text) whole ∙ sym (drop-drop c (a + 1 + (b + 1)) text)
+    ∙ ap (drop c) behind ∙ sym k

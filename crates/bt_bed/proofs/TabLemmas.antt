@@ -1,5 +1,5 @@
 -- Lemmas on tabs that are looked for in sixteen bytes at once.
-use Rattle.std.proofs.Common.{inl, inr, ◌≡◌, ℕ, zero, suc, ◌+◌, ◌-◌, ◌*◌, ◌/◌, ◌%◌, ◌^◌, ◌<◌, ◌≤◌, Bool, true, false, not, cond, eqb, List, [], ◌∷◌, length, take, drop, map, get_or, refl, sym, ap, ◌∙◌, subst, arith, shr-shr, length-take, length-drop}
+use Rattle.std.proofs.Common.{inl, inr, ◌≡◌, ℕ, zero, suc, ◌+◌, ◌-◌, ◌*◌, ◌/◌, ◌^◌, ◌<◌, ◌≤◌, Bool, true, false, not, cond, eqb, List, [], ◌∷◌, length, take, drop, map, get_or, refl, sym, ap, ◌∙◌, subst, arith, shr-shr, length-take, length-drop}
 use Rattle.std.proofs.lemmas.Bool.{cases_lt, eqb-true}
 use Rattle.std.proofs.lemmas.List.{drop-drop, drop-take, get_or-drop, get_or-take}
 use Rattle.std.proofs.lemmas.Simd.{length-chunk, run_in_chunk_fails, run_in_chunk_le, run_in_chunk_stops, trailing_mask_l}
@@ -9,7 +9,7 @@ use Rattle.std.specs.Simd.Lanes.{chunk, mask_l}
 use Rattle.bt_lines.specs.Lines.{pieces}
 use Rattle.bt_bed.proofs.Kept.{IsColumn}
 use Rattle.bt_bed.proofs.PlainLemmas.{cut_at}
-use Rattle.bt_bed.specs.Plain.{CutsTwo, is_tab}
+use Rattle.bt_bed.specs.Plain.{CutsTwo, IsFirstTab, is_tab}
 use lib.Count.{count_trailing_zeros}
 
 -- what is left of a mask without its lowest bits is that of the later bytes
@@ -34,12 +34,14 @@ no_tabs [] e = refl
 no_tabs (x ∷ xs) e = none_fails (is_tab x) _ (length xs) _ (prefix_len-le-length (λ y. not (is_tab y)) xs) (omega arith) (no_tabs xs)
 
 -- the first tab of so many bytes stands here
-record IsFirstTab (text : List ℕ) (i n at : ℕ) : Type 0 where
+record IsTabAmong (text : List ℕ) (i n at : ℕ) : Type 0 where
   inside : at < n
   tab : get_or text (i + at) 0 ≡ 9
   none : (k d : ℕ) → i ≤ k → k < i + at → eqb (get_or text k d) 9 ≡ false
 
-first_tab_is : (text : List ℕ) (i n m at : ℕ) → i + n ≤ length text → n ≤ 64 → m ≡ mask_l (map is_tab (chunk i n text)) → 0 < m → at ≡ count_trailing_zeros 64 m → IsFirstTab text i n at
+first_tab_is : (text : List ℕ) (i n m at : ℕ) → i + n ≤ length text → n ≤ 64
+    → m ≡ mask_l (map is_tab (chunk i n text)) → 0 < m → at ≡ count_trailing_zeros 64 m
+    → IsTabAmong text i n at
 first_tab_is text i n m at room small e some is =
     let c = chunk i n text in
     let size : length c ≡ n = length-chunk i n text room in
@@ -62,23 +64,33 @@ column_by text n within none = λ k d h.
     ap (λ (b : ℕ). eqb b 9) (get_or-take n text k d below) ∙ none k d below
 
 -- the first tab, and the first of those behind it
-pub second_tab_is : (text : List ℕ) (tabs first others second : ℕ) → 16 ≤ length text → tabs ≡ mask_l (map is_tab (chunk 0 16 text)) → 0 < tabs → first ≡ count_trailing_zeros 64 tabs
+pub second_tab_is : (text : List ℕ) (n tabs first others second : ℕ) → n ≤ length text → n ≤ 16
+    → tabs ≡ mask_l (map is_tab (chunk 0 n text)) → 0 < tabs
+    → first ≡ count_trailing_zeros 64 tabs
     → others ≡ tabs / 2 ^ (first + 1) → 0 < others → second ≡ count_trailing_zeros 64 others → CutsTwo text (first + 1 + second)
-second_tab_is text tabs first others second room is some at rest more next =
-    let one = first_tab_is text 0 16 tabs first room (omega arith) is some at in
+second_tab_is text n tabs first others second room short is some at rest more next =
+    let one = first_tab_is text 0 n tabs first (omega arith) (omega arith) is some at in
     let within = one.inside in
-    let whole : first + 1 + (16 - (first + 1)) ≡ 16 = omega arith in
-    let left : chunk (first + 1) (16 - (first + 1)) text ≡ drop (first + 1) (chunk 0 16 text) = sym (subst (λ (n : ℕ). drop (first + 1) (take n text) ≡ take (16 - (first + 1)) (drop (first + 1) text)) whole (drop-take (first + 1) (16 - (first + 1)) text)) in
-    let behind : others ≡ mask_l (map is_tab (chunk (first + 1) (16 - (first + 1)) text)) =
-    rest ∙ ap (λ n. n / 2 ^ (first + 1)) is ∙ mask_behind (chunk 0 16 text) (first + 1) ∙ ap (λ l. mask_l (map is_tab l)) (sym left) in
-    let two = first_tab_is text (first + 1) (16 - (first + 1)) others second (omega arith) (omega arith) behind more next in
+    let whole : first + 1 + (n - (first + 1)) ≡ n = omega arith in
+    let left : chunk (first + 1) (n - (first + 1)) text ≡ drop (first + 1) (chunk 0 n text) =
+    sym (subst (λ (m : ℕ). drop (first + 1) (take m text) ≡ take (n - (first + 1))
+    (drop (first + 1) text)) whole (drop-take (first + 1) (n - (first + 1)) text)) in
+    let behind : others ≡ mask_l (map is_tab (chunk (first + 1) (n - (first + 1)) text)) =
+    rest ∙ ap (λ m. m / 2 ^ (first + 1)) is ∙ mask_behind (chunk 0 n text) (first + 1)
+    ∙ ap (λ l. mask_l (map is_tab l)) (sym left) in
+    let two = first_tab_is text (first + 1) (n - (first + 1)) others second (omega arith)
+    (omega arith) behind more next in
     let inside = two.inside in
     let tail = drop (first + 1) text in
     let size : length tail ≡ length text - (first + 1) = length-drop (first + 1) text in
-    let cut_first = cut_at text first (omega arith) (ap (λ n. get_or text n 0) (omega arith) ∙ one.tab) (column_by text first (omega arith) (λ k d below. one.none k d (omega arith) (omega arith))) in
+    let cut_first = cut_at text first (omega arith)
+    (ap (λ m. get_or text m 0) (omega arith) ∙ one.tab)
+    (column_by text first (omega arith) (λ k d below. one.none k d (omega arith)
+    (omega arith))) in
     let cut_second = cut_at tail second (omega arith) (get_or-drop (first + 1) text second 0 ∙ two.tab)
     (column_by tail second (omega arith) (λ k d below. ap (λ (b : ℕ). eqb b 9) (get_or-drop (first + 1) text k d) ∙ two.none (first + 1 + k) d (omega arith) (omega arith))) in
-    let last : drop (second + 1) tail ≡ drop (first + 1 + second + 1) text = drop-drop (second + 1) (first + 1) text ∙ ap (λ n. drop n text) (omega arith) in
+    let last : drop (second + 1) tail ≡ drop (first + 1 + second + 1) text =
+    drop-drop (second + 1) (first + 1) text ∙ ap (λ m. drop m text) (omega arith) in
     record {
       within = omega arith;
       first = take first text;
@@ -87,5 +99,40 @@ second_tab_is text tabs first others second room is some at rest more next =
     }
 
 -- it is among so many
-pub first_tab_inside : (text : List ℕ) (tabs : ℕ) → 16 ≤ length text → tabs ≡ mask_l (map is_tab (chunk 0 16 text)) → 0 < tabs → count_trailing_zeros 64 tabs < 16
-first_tab_inside text tabs room is some = (first_tab_is text 0 16 tabs _ room (omega arith) is some refl).inside
+pub first_tab_inside : (text : List ℕ) (n tabs : ℕ) → n ≤ length text → n ≤ 16
+    → tabs ≡ mask_l (map is_tab (chunk 0 n text)) → 0 < tabs → count_trailing_zeros 64 tabs < n
+first_tab_inside text n tabs room short is some =
+    (first_tab_is text 0 n tabs _ (omega arith) (omega arith) is some refl).inside
+
+-- the tabs of sixteen bytes without those before an index, which is one of them or stands behind
+-- them
+pub tabs_from : (text : List ℕ) (begin from tabs : ℕ) → begin ≤ from → from ≤ begin + 16
+    → tabs ≡ mask_l (map is_tab (take 16 (drop begin text))) / 2 ^ (from - begin)
+    → tabs ≡ mask_l (map is_tab (chunk 0 (begin + 16 - from) (drop from text)))
+tabs_from text begin from tabs low high is =
+    let k = from - begin in
+    let whole : k + (begin + 16 - from) ≡ 16 = omega arith in
+    let place : begin + k ≡ from = omega arith in
+    let front : drop k (take 16 (drop begin text)) ≡ take (begin + 16 - from)
+    (drop k (drop begin text)) =
+    subst (λ (m : ℕ). drop k (take m (drop begin text)) ≡ take (begin + 16 - from)
+    (drop k (drop begin text))) whole (drop-take k (begin + 16 - from) (drop begin text)) in
+    let behind : drop k (drop begin text) ≡ drop from text =
+    drop-drop k begin text ∙ ap (λ (m : ℕ). drop m text) place in
+    is ∙ mask_behind (take 16 (drop begin text)) k
+    ∙ ap (λ (l : List ℕ). mask_l (map is_tab l))
+    (front ∙ ap (take (begin + 16 - from)) behind)
+
+-- the first of all tabs of sixteen bytes is the first of the text
+pub early_tab_is : (text : List ℕ) (tabs : ℕ) → 16 ≤ length text
+    → tabs ≡ mask_l (map is_tab (chunk 0 16 text)) → 0 < tabs
+    → IsFirstTab text (count_trailing_zeros 64 tabs)
+early_tab_is text tabs room is some =
+    let one = first_tab_is text 0 16 tabs _ room (omega arith) is some refl in
+    let inside = one.inside in
+    record {
+      within = omega arith;
+      tab = ap (λ (m : ℕ). get_or text m 0) (omega arith) ∙ one.tab;
+      column = column_by text _ (omega arith) (λ k d below. one.none k d (omega arith)
+          (omega arith));
+    }

@@ -1,6 +1,7 @@
 -- Words on the record ahead, which is held apart from its chromosome's name and from the columns
 -- that are kept.
-use Rattle.std.specs.Prelude.{ℕ, ◌≤◌, Bool, List, [], drop, length, Option, Some, None, option_map, if◌then◌else◌}
+use Rattle.std.specs.Prelude.{ℕ, ◌≤◌, Bool, List, [], drop, length, Option, Some, None, option_map}
+use Rattle.std.specs.Prelude.{if◌then◌else◌}
 use Rattle.std.specs.Option.{ForSome}
 use Rattle.bt_lines.specs.Lines.{TextLine}
 use Rattle.bt_bed.specs.Feature.{Feature}

@@ -22,8 +22,8 @@ abbrev pub fault_in : {T : Type 0} → Result T Fault → Option Told
 fault_in (Ok done) = None
 fault_in (Err fault) = Some (told fault)
 
--- the chromosome of the last record is known, and the line that the reader is at says the record
--- ahead
+-- the chromosome of the last record is known,
+-- and the line that the reader is at says the record ahead
 pub record IsPlaced {S : Type 0} (sorting : Sorting)
     (reader : MemberReader S Feature (Option Locus)) : Type 0 where
   pub last : ForSome reader.state (λ place. IsTrue (sorting.knows place.chrom))

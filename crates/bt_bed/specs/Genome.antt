@@ -1,14 +1,16 @@
 -- The chromosomes of a genome file, in its order: a name, a tab and a length on each line, further
 -- columns ignored, so that an index of samtools faidx is one too. Blank lines and lines that begin
 -- with `#` are skipped (bedtools manual, genome file format).
-use Rattle.std.specs.Prelude.{◌≡◌, ℕ, Bool, true, ◌==◌, IfErr, List, [], ◌∷◌, ◌++◌, map, take, Option, Some, None, Result, Ok, Err, if◌then◌else◌}
+use Rattle.std.specs.Prelude.{◌≡◌, ℕ, Bool, true, ◌==◌, IfErr, List, [], ◌∷◌, ◌++◌, map, take}
+use Rattle.std.specs.Prelude.{Option, Some, None, Result, Ok, Err, if◌then◌else◌}
 use Rattle.bt_lines.specs.Fault.{Told}
 use Rattle.bt_lines.specs.Handed.{Handed, cut_fault, lines_handed}
 use Rattle.bt_lines.specs.Lines.{TextLine, pieces, text_lines}
 use Rattle.bt_lines.specs.Number.{value_of}
 use Rattle.bt_lines.specs.declared.fault.Input.{Input}
 use Rattle.bt_lines.specs.declared.fault.Kind.{Kind}
-use Rattle.bt_lines.specs.declared.fault.Kind.TheVariants.{TooFewColumns, EmptyName, BadLength, RepeatedChrom}
+use Rattle.bt_lines.specs.declared.fault.Kind.TheVariants.{TooFewColumns, EmptyName, BadLength}
+use Rattle.bt_lines.specs.declared.fault.Kind.TheVariants.{RepeatedChrom}
 use Rattle.bt_bed.specs.GoodLines.{IsFaultBeyond}
 use Rattle.bt_bed.specs.LineKind.{fault_at_line}
 use Rattle.bt_bed.specs.Rank.{is_among, AreDistinct}
@@ -82,8 +84,7 @@ genome_cut (Some fault) (Ok entries) = Err fault
 genome_cut (Some fault) (Err first) = Err first
 
 -- The entries of a genome file that may have been cut off: those of the lines handed over, or the
--- fault of
--- the first line at fault, or else the failed read behind them.
+-- fault of the first line at fault, or else the failed read behind them.
 abbrev pub genome_handed : Input → Handed → Result (List Entry) Told
 genome_handed input handed = genome_cut (cut_fault input handed)
     (genome_of input (lines_handed handed))

@@ -1,11 +1,13 @@
 -- What a table of chromosomes holds, and what reading one does.
-use Rattle.std.specs.Prelude.{◌≡◌, ℕ, ◌-◌, ◌⊎◌, Bool, true, List, ◌++◌, take, map, Option, Some, None, Result, Ok, Err, IfSome, Vec, option_map}
+use Rattle.std.specs.Prelude.{◌≡◌, ℕ, ◌-◌, ◌⊎◌, Bool, true, List, ◌++◌, take, map, Option, Some}
+use Rattle.std.specs.Prelude.{None, Result, Ok, Err, IfSome, Vec, option_map}
 use Rattle.std.specs.Option.{option_to_list}
 use Rattle.std.specs.declared.alloc.Global.{Global}
 use Rattle.bt_lines.specs.Fault.{Told, no_memory}
 use Rattle.bt_lines.specs.Lines.{TextLine}
 use Rattle.bt_lines.specs.Names.{told}
-use Rattle.bt_lines.specs.Reader.{Hands, IsNear, IsSound, end_told, source_of, input_of, lines_given, fault_kept, has_ended, lines_left}
+use Rattle.bt_lines.specs.Reader.{Hands, IsNear, IsSound, end_told, source_of, input_of}
+use Rattle.bt_lines.specs.Reader.{lines_given, fault_kept, has_ended, lines_left}
 use Rattle.bt_lines.specs.declared.fault.Fault.{Fault}
 use Rattle.bt_lines.specs.declared.fault.Input.{Input}
 use Rattle.bt_lines.specs.declared.fault.Kind.{Kind}
@@ -118,8 +120,8 @@ module _ {S : Type 0} where
     pub checked : IsToldFirst (input_of old) (lines_left left old)
         (lines_given new - lines_given old) fault
     pub bytes : (bytes : List ℕ) × Hands left old bytes new
-    -- of known bytes, those behind the lines given and one line more are left, but for a block at
-    -- most
+    -- of known bytes, those behind the lines given and one line more are left,
+    -- but for a block at most
     pub near : fault_kept old ≡ None → IsSound left end old → IsNear left old new
 
   -- what an answer says

@@ -1,7 +1,8 @@
 -- The good records of a BED input. Sorted input has its chromosomes in an order, as that of the
--- genome
--- file, and on each of them the starts don't fall (bedtools manual, sorted input and genome files).
-use Rattle.std.specs.Prelude.{◌≡◌, ℕ, ◌≤◌, All, List, ◌++◌, length, take, Option, Some, None, Result, Ok, Err, if◌then◌else◌}
+-- genome file, and on each of them the starts don't fall (bedtools manual, sorted input and genome
+-- files).
+use Rattle.std.specs.Prelude.{◌≡◌, ℕ, ◌≤◌, All, List, ◌++◌, length, take, Option, Some, None}
+use Rattle.std.specs.Prelude.{Result, Ok, Err, if◌then◌else◌}
 use Rattle.bt_lines.specs.Handed.{Handed}
 use Rattle.bt_lines.specs.Fault.{Told}
 use Rattle.bt_lines.specs.Lines.{text_lines}
@@ -69,8 +70,7 @@ good_stand_on_lines = (input : Input) (order : Order) (text : List ℕ)
     (good (bed_format (sorting_of order)) input (text_lines text)).members
 
 -- Where the members of a text up to some line are these, and what else it has lies behind that
--- line, they
--- are what is good of its first lines.
+-- line, they are what is good of its first lines.
 abbrev pub first_lines_have_the_first : Type 0
 first_lines_have_the_first = (input : Input) (order : Order) (count : ℕ) (text : List ℕ)
     (past rest : List (Member Feature)) (fault : Option Told)

@@ -26,7 +26,8 @@ block_good input handed = good_handed block_format input handed
 abbrev pub IsBlockUpTo : Locus → Locus → Type 0
 IsBlockUpTo place next = place.chrom ≡ next.chrom → place.start ≤ next.start
 
--- no record of a chromosome starts before the one right before it, if that is of the same chromosome
+-- no record of a chromosome starts before the one right before it,
+-- if that is of the same chromosome
 abbrev pub AreInBlocks : List Feature → Type 0
 AreInBlocks [] = ⊤
 AreInBlocks (r ∷ []) = ⊤

@@ -1,4 +1,5 @@
--- Lines of a BED file that aren't features: comments, and the lines that speak to a genome browser (UCSC custom tracks description, browser lines and track lines). They may stand anywhere.
+-- Lines of a BED file that aren't features: comments, and the lines that speak to a genome browser
+-- (UCSC custom tracks description, browser lines and track lines). They may stand anywhere.
 use Rattle.std.specs.Prelude.{ℕ, Bool, true, ◌==◌, ◌||◌, not, List, [], ◌∷◌, codes, bytes_eq}
 use Rattle.std.specs.List.{take_while}
 
@@ -14,7 +15,8 @@ first_word text = take_while (λ byte. not (ends_word byte)) text
 abbrev pub is_header_word : List ℕ → Bool
 is_header_word word = bytes_eq word (codes "track") || bytes_eq word (codes "browser")
 
--- whether a text says nothing: it is empty, or a header line, which begins with `#` or has `track` or `browser` as its first word
+-- whether a text says nothing: it is empty, or a header line, which begins with `#` or has `track`
+-- or `browser` as its first word
 abbrev pub is_header : List ℕ → Bool
 is_header [] = true
 is_header (byte ∷ bytes) = (byte == 35) || is_header_word (first_word (byte ∷ bytes))

@@ -1,7 +1,9 @@
--- Stretches of a chromosome. Positions count from zero, and the stop isn't included (UCSC BED description, fields chrom, chromStart and chromEnd).
+-- Stretches of a chromosome. Positions count from zero, and the stop isn't included (UCSC BED
+-- description, fields chrom, chromStart and chromEnd).
 use Rattle.std.specs.Prelude.{ℕ, ◌<◌, List, [], ◌∷◌, All, cond, bytes_eq, Option, Some, None}
 
--- a stretch of a chromosome, which is named by its bytes: the first three columns of a BED record, or a merged run
+-- a stretch of a chromosome, which is named by its bytes: the first three columns of a BED record,
+-- or a merged run
 pub record Interval : Type 0 where
   pub chrom : List ℕ
   pub start : ℕ
@@ -27,7 +29,8 @@ placed_on name s = record { chrom = name; start = s.start; stop = s.stop }
 -- the records of one chromosome, in their order
 abbrev pub spans_on : List ℕ → List Interval → List Span
 spans_on name [] = []
-spans_on name (r ∷ rs) = cond (bytes_eq r.chrom name) (span_of r ∷ spans_on name rs) (spans_on name rs)
+spans_on name (r ∷ rs) =
+    cond (bytes_eq r.chrom name) (span_of r ∷ spans_on name rs) (spans_on name rs)
 
 -- the last of the record and those after it
 abbrev pub last_from : Interval → List Interval → Interval

@@ -14,7 +14,8 @@ span_text start stop =
 
 -- chromosome, start and stop
 abbrev pub interval_line : Interval → List ℕ
-interval_line r = r.chrom ++ codes "\t" ++ decimal r.start ++ codes "\t" ++ decimal r.stop ++ codes "\n"
+interval_line r =
+    r.chrom ++ codes "\t" ++ decimal r.start ++ codes "\t" ++ decimal r.stop ++ codes "\n"
 
 -- the lines of intervals, one after another
 abbrev pub interval_lines : List Interval → List ℕ

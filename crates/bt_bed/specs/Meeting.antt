@@ -1,7 +1,8 @@
 -- How two inputs meet: which lines are written, and which fault is told.
 --
 -- A member of the first input (a record, or a line of a sequence) is decided once nothing that may
--- still come of the second input changes its lines. A faulty line of the second input decides nothing.
+-- still come of the second input changes its lines.
+-- A faulty line of the second input decides nothing.
 use Rattle.std.specs.Prelude.{Bool, IsTrue, ◌≡◌, All, List, ◌++◌, Option, flat_map, if◌then◌else◌}
 use Rattle.std.specs.List.{list_all, take_while}
 use Rattle.std.specs.Option.{option_or}
@@ -28,8 +29,8 @@ module _ {A L F : Type 0} where
   written rule members = flat_map rule.lines (take_while rule.decided members)
 
   -- The good members of the first input, and its fault, meet the second input. Where a member isn't
-  -- decided, the lines of those before it are written and the second input's fault is told. Else all
-  -- lines are written, and the first input's fault is told, or what is told at last.
+  -- decided, the lines of those before it are written and the second input's fault is told. Else
+  -- all lines are written, and the first input's fault is told, or what is told at last.
   abbrev pub meet : Rule A L F → List A → Option F → Met L F
   meet rule members fault = if list_all rule.decided members
       then record { lines = flat_map rule.lines members; fault = option_or fault rule.last }

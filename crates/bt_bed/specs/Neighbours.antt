@@ -1,5 +1,6 @@
 -- The last record and the one ahead, sorted by some rule.
-use Rattle.std.specs.Prelude.{◌≡◌, ℕ, ◌⊎◌, Bool, false, ◌&&◌, IsTrue, IfSome, List, bytes_eq, Option, Some, Result, Ok, Err, option_map, is_some}
+use Rattle.std.specs.Prelude.{◌≡◌, ℕ, ◌⊎◌, Bool, false, ◌&&◌, IsTrue, IfSome, List, bytes_eq}
+use Rattle.std.specs.Prelude.{Option, Some, Result, Ok, Err, option_map, is_some}
 use Rattle.bt_lines.specs.Fault.{Told, no_memory}
 use Rattle.bt_lines.specs.Names.{told}
 use Rattle.bt_lines.specs.declared.fault.Fault.{Fault}
@@ -35,7 +36,8 @@ module _ {Q : Type 0} where
 
   -- the name of the chromosome of the record ahead
   abbrev pub name_of : Neighbours Q → List ℕ
-  name_of neighbours = name_ahead neighbours.is_elsewhere neighbours.ahead_name.items neighbours.last_name.items
+  name_of neighbours =
+      name_ahead neighbours.is_elsewhere neighbours.ahead_name.items neighbours.last_name.items
 
   -- the record ahead, if there is one, in the line of this text
   unfoldable pub ahead_in : List ℕ → Neighbours Q → Option (Member Feature)

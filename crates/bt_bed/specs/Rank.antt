@@ -1,5 +1,7 @@
--- The order of a list of names: a name's rank is how many come before it. So the order of a genome file is that of its lines (bedtools manual, genome file format).
-use Rattle.std.specs.Prelude.{ℕ, suc, Bool, false, cond, ◌||◌, ⊤, IsFalse, List, [], ◌∷◌, Option, Some, None, option_map, is_some, bytes_eq}
+-- The order of a list of names: a name's rank is how many come before it. So the order of a genome
+-- file is that of its lines (bedtools manual, genome file format).
+use Rattle.std.specs.Prelude.{ℕ, suc, Bool, false, cond, ◌||◌, ⊤, IsFalse, List, [], ◌∷◌, Option}
+use Rattle.std.specs.Prelude.{Some, None, option_map, is_some, bytes_eq}
 use Rattle.std.specs.Ordering.{nat_cmp}
 use Rattle.std.specs.declared.cmp.Ordering.{Ordering}
 use Rattle.std.specs.declared.cmp.Ordering.TheVariants.{Equal}
@@ -18,7 +20,8 @@ AreDistinct (n ∷ ns) = IsFalse (is_among ns n) × AreDistinct ns
 -- the rank of a chromosome: how many names come before its own
 abbrev pub rank_of : List (List ℕ) → List ℕ → Option ℕ
 rank_of [] name = None
-rank_of (n ∷ ns) name = cond (bytes_eq n name) (Some 0) (option_map (λ rank. suc rank) (rank_of ns name))
+rank_of (n ∷ ns) name =
+    cond (bytes_eq n name) (Some 0) (option_map (λ rank. suc rank) (rank_of ns name))
 
 -- ranks compared; where a name has none, nothing is asked
 abbrev pub compare_ranks : Option ℕ → Option ℕ → Ordering

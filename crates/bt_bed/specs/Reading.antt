@@ -1,10 +1,14 @@
 -- What a reader of the members of an input holds, and what its calls do.
-use Rattle.std.specs.Prelude.{◌≡◌, ℕ, suc, ◌+◌, ◌-◌, ◌^◌, ◌<◌, ◌≤◌, ◌⊎◌, Bool, true, false, List, [], ◌∷◌, drop, length, Option, Some, None, option_map, Result, Ok, Err, IsSome, IfSome, ⊤}
+use Rattle.std.specs.Prelude.{◌≡◌, ℕ, suc, ◌+◌, ◌-◌, ◌^◌, ◌<◌, ◌≤◌, ◌⊎◌, Bool, true, false, List}
+use Rattle.std.specs.Prelude.{[], ◌∷◌, drop, length, Option, Some, None, option_map, Result, Ok}
+use Rattle.std.specs.Prelude.{Err, IsSome, IfSome, ⊤}
 use Rattle.std.specs.Option.{option_to_list}
 use Rattle.bt_lines.specs.Fault.{Told, read_failed, no_memory}
 use Rattle.bt_lines.specs.Lines.{TextLine}
 use Rattle.bt_lines.specs.Names.{told}
-use Rattle.bt_lines.specs.Reader.{CutsOff, Hands, IsNear, IsSound, end_told, source_of, input_of, lines_given, bytes_taken, has_ended, lines_left, room as line_room, fault_kept as line_fault}
+use Rattle.bt_lines.specs.Reader.{CutsOff, Hands, IsNear, IsSound, end_told, source_of, input_of}
+use Rattle.bt_lines.specs.Reader.{lines_given, bytes_taken, has_ended, lines_left}
+use Rattle.bt_lines.specs.Reader.{room as line_room, fault_kept as line_fault}
 use Rattle.bt_lines.specs.declared.fault.Fault.{Fault}
 use Rattle.bt_lines.specs.declared.fault.Input.{Input}
 use Rattle.bt_lines.specs.declared.fault.Kind.{Kind}
@@ -159,18 +163,20 @@ module _ {S A State : Type 0} where
     pub passed : SaidNothing left old new
 
   -- the last line given has the first member of what was still to come, which couldn't be kept
-  pub record LastUnkept (left : S → Option (List ℕ)) (old new : MemberReader S A State) : Type 0 where
+  pub record LastUnkept (left : S → Option (List ℕ))
+      (old new : MemberReader S A State) : Type 0 where
     pub first : IfSome (good_coming left old) (λ good. (item : A) × (rest : List (Member A))
         × (good.members ≡ record { line = lines_given new.below; item = item } ∷ rest))
     pub rises : lines_given old.below < lines_given new.below
     pub going : line_fault new.below ≡ None
 
-  -- memory ran out: for a line that couldn't be read, once those before it were checked, or for the member
-  -- of the last line given, once it was
+  -- memory ran out: for a line that couldn't be read, once those before it were checked, or for the
+  -- member of the last line given, once it was
   pub record RunsOut (left : S → Option (List ℕ)) (failed : S → Bool)
       (old : MemberReader S A State) (fault : Told) (new : MemberReader S A State) : Type 0 where
     pub is : fault ≡ no_memory
-    pub checked : ((line_fault new.below ≡ Some no_memory) × SaidNothing left old new) ⊎ LastUnkept left old new
+    pub checked : ((line_fault new.below ≡ Some no_memory) × SaidNothing left old new)
+        ⊎ LastUnkept left old new
     pub served : failed (source_of new.below) ≡ failed (source_of old.below)
 
   -- why a fault came
@@ -193,7 +199,8 @@ module _ {S A State : Type 0} where
     -- the lines that were given are no longer left, where the line read last could be read
     pub rises : lines_given old.below ≤ lines_given new.below
     pub lines : line_fault new.below ≡ None → LinesPass left old.below new.below
-    -- of known bytes, those behind the lines given and one line more are left, but for a block at most
+    -- of known bytes, those behind the lines given and one line more are left,
+    -- but for a block at most
     pub near : old.fault ≡ None → IsSound left end old.below → IsNear left old.below new.below
 
   -- what a step to the next member gives, or to the end where there is none

@@ -4,7 +4,8 @@ use Rattle.bt_bed.specs.Feature.{Feature}
 use Rattle.bt_bed.specs.Record.{IsFeature}
 use Rattle.bt_bed.specs.declared.strand.Strand.{Strand}
 
--- the feature whose name is the first bytes of a text, so many, and whose kept columns are the others
+-- the feature whose name is the first bytes of a text, so many,
+-- and whose kept columns are the others
 abbrev pub feature_in : List ℕ → ℕ → ℕ → ℕ → Strand → Feature
 feature_in text name_len start stop strand = record {
   chrom = take name_len text;

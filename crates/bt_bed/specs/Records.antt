@@ -1,5 +1,6 @@
 -- What a reader of records holds, and what its calls do.
-use Rattle.std.specs.Prelude.{◌≡◌, ℕ, Bool, IsTrue, List, Option, Some, None, option_map, Result, Ok, Err, IfSome}
+use Rattle.std.specs.Prelude.{◌≡◌, ℕ, Bool, IsTrue, List, Option, Some, None, option_map, Result}
+use Rattle.std.specs.Prelude.{Ok, Err, IfSome}
 use Rattle.bt_lines.specs.Fault.{Told}
 use Rattle.bt_lines.specs.Names.{told}
 use Rattle.bt_lines.specs.Reader.{IsSound}
@@ -12,7 +13,8 @@ use Rattle.bt_bed.specs.Good.{Good, Member}
 use Rattle.bt_bed.specs.GoodBed.{locus_at}
 use Rattle.bt_bed.specs.Order.{Order}
 use Rattle.bt_bed.specs.Locus.{Locus, IsUpTo}
-use Rattle.bt_bed.specs.Reading.{Advances, AnswersFault, EndsMembers, GivesMember, MemberReader, good_coming, line_of_ahead, room as room_in}
+use Rattle.bt_bed.specs.Reading.{Advances, AnswersFault, EndsMembers, GivesMember, MemberReader}
+use Rattle.bt_bed.specs.Reading.{good_coming, line_of_ahead, room as room_in}
 use Rattle.bt_bed.specs.Record.{IsFeature}
 use Rattle.bt_bed.specs.Sorting.{sorting_of}
 use Rattle.bt_bed.specs.declared.bed.BedRef.{BedRef}

@@ -1,5 +1,6 @@
 -- How the records of an input are sorted: by chromosome, and on each of them by start.
-use Rattle.std.specs.Prelude.{◌≡◌, ℕ, Bool, true, false, IsTrue, List, Option, Some, None, bytes_eq, nat_lt, if◌then◌else◌}
+use Rattle.std.specs.Prelude.{◌≡◌, ℕ, Bool, true, false, IsTrue, List, Option, Some, None, bytes_eq}
+use Rattle.std.specs.Prelude.{nat_lt, if◌then◌else◌}
 use Rattle.std.specs.declared.cmp.Ordering.{Ordering}
 use Rattle.std.specs.declared.cmp.Ordering.TheVariants.{Less, Equal, Greater}
 use Rattle.bt_bed.specs.Order.{Order, IsTotal}
@@ -27,8 +28,7 @@ abbrev pub block_sorting : Sorting
 block_sorting = record { knows = λ name. true; comes_before = λ name other. false }
 
 -- Whether a place falls below the last one, if there is one: it is on its chromosome and has a
--- smaller
--- start, or is on a chromosome that comes before it.
+-- smaller start, or is on a chromosome that comes before it.
 abbrev pub falls_in : Sorting → Option Locus → Locus → Bool
 falls_in sorting None place = false
 falls_in sorting (Some last) place =

@@ -9,7 +9,7 @@ use crate::sorted::InBlocks;
 use bt_lines::{Fault, LineReader, Source};
 use std::alloc::Global;
 
-/// Reads the records of a BED input in blocks, and tells the first line at fault: one that isn't a
+/// Reads the records of a BED input in blocks, and reports the first line at fault: one that isn't a
 /// feature, or starts before the record before it on the same chromosome. A block is a maximal run of
 /// records of one chromosome; the blocks come in any order, and a chromosome may have several. Header
 /// lines and blank lines are skipped. The record ahead is lent until the next call.
@@ -46,7 +46,7 @@ impl<S: Source> Blocks<S> {
     }
 
     /// The record ahead, or none at the end of the input. It reads on only where no record is ahead,
-    /// and after a fault and after the end nothing is read. A line that couldn't be read is told
+    /// and after a fault and after the end nothing is read. A line that couldn't be read is reported
     /// before what is wrong with it, and want of memory for its chromosome's name after. Memory is
     /// taken for the line, and where the chromosome is another than that of the record before.
     #[inline]

@@ -41,7 +41,7 @@ impl Genome {
     /// are ignored, so that an index of `samtools faidx` serves too. Blank lines and lines that begin
     /// with `#` are skipped (bedtools manual, genome file format).
     ///
-    /// The first line at fault is told, and nothing behind it is read: `TooFewColumns` where it has no
+    /// The first line at fault is reported, and nothing behind it is read: `TooFewColumns` where it has no
     /// second column, else `EmptyName`, else `BadLength` where the length is 0 or no number, else
     /// `RepeatedChrom` where a line before it has the name. Want of memory for the table comes after
     /// these, and the reader's own faults, `ReadFailed` and `NoMemory`, before. A fault that the reader

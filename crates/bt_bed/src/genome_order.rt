@@ -6,6 +6,7 @@ ghost use Rattle.bt_bed.specs.GenomeTable.{names_of};
 ghost use Rattle.bt_bed.specs.Rank.{rank_order};
 
 use crate::genome::Genome;
+use crate::names::is_same_name;
 use crate::order::ChromOrder;
 use std::cmp::Ordering;
 
@@ -20,7 +21,7 @@ impl ChromOrder for Genome {
     }
 
     fn compare(&self, left: &[u8], right: &[u8]) -> Ordering {
-        if left == right {
+        if is_same_name(left, right) {
             return Ordering::Equal;
         }
         self.compare_ranks(left, right)

@@ -6,14 +6,25 @@
 //! ([`ChromOrder`]), as that of a [`Genome`], and [`Blocks`] those of input in which only the records
 //! of a chromosome that stand together are sorted.
 //!
-//! An example, which the test `answers_a_fault_again` runs: the text `chr2 0 5`, `chr1 0 5`,
-//! `chr2 6 8`, with tabs and line feeds, in the order of a genome file that has `chr1` first.
+//! An example, which is the test in `example.rt`: the records of a source, in the order of a genome
+//! file that has `chr1` first.
 //!
 //! ```text
-//! let mut records = Records::new(rt.alloc(), lines, &genome);
-//! records.peek()       // Ok(Some(bed)): chr2, from 0 to 5, lent until the next call
-//! records.advance();
-//! records.peek()       // Err(fault): record is out of order, at line 2; and so from then on
+//! fn records_in_order(rt: HostRuntime) -> Result<(), Fail> {
+//!     let lengths = ScriptSource::new(b"chr1\t90\nchr2\t50\n", 7, None);
+//!     let mut lengths = LineReader::new(rt.alloc(), lengths, Input::Genome);
+//!     let genome = Genome::read(rt.alloc(), &mut lengths)?;
+//!     let source = ScriptSource::new(b"chr2\t5\t9\tname\nchr1\t6\t8\n", 7, None);
+//!     let lines = LineReader::new(rt.alloc(), source, Input::First);
+//!     let mut records = Records::new(rt.alloc(), lines, &genome);
+//!     let bed = records.peek()?.ok_or("a record")?;
+//!     assert_eq!(rt; (bed.start, bed.stop), (5, 9));
+//!     assert_eq!(rt; bed.rest, b"\tname".as_slice());
+//!     records.advance();
+//!     let fault = records.peek().err().ok_or("chr1 comes behind chr2")?;
+//!     assert_eq!(rt; fault.kind, Kind::OutOfOrder);
+//!     Ok(())
+//! }
 //! ```
 #![tactic(auto)]
 
@@ -21,6 +32,8 @@ mod bed;
 mod blocks;
 mod cursor;
 mod entry;
+#[cfg(test)]
+mod example;
 mod faults;
 mod genome;
 mod genome_line;
@@ -29,6 +42,7 @@ mod header;
 mod interval_line;
 pub mod laws;
 mod leading;
+mod names;
 mod neighbours;
 mod order;
 mod parsing;
@@ -47,6 +61,7 @@ pub use blocks::Blocks;
 pub use faults::at_line;
 pub use genome::Genome;
 pub use interval_line::put_interval;
+pub use names::is_same_name;
 pub use order::ChromOrder;
 pub use parsing::parse_bed;
 pub use putting::{put_bed, put_cut};

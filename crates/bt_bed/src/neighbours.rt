@@ -2,6 +2,7 @@
 
 use crate::bed::BedRef;
 use crate::faults::at_line;
+use crate::names::is_same_name;
 use crate::parsing::parse_bed;
 use crate::sorted::Sorted;
 use crate::spot::Spot;
@@ -99,7 +100,7 @@ impl<Q: Sorted> Neighbours<Q> {
         self.ahead = None;
     }
 
-    // Takes a line behind the last record, and tells whether it has one. No record is ahead then, but
+    // Takes a line behind the last record, and answers whether it has one. No record is ahead then, but
     // for that.
     pub(crate) fn take_line(&mut self, place: Place, text: &[u8]) -> Result<bool, Fault>
         requires none_ahead { has_ahead self.old ≡ false }
@@ -143,7 +144,7 @@ impl<Q: Sorted> Neighbours<Q> {
     fn goes_on(&self, chrom: &[u8]) -> bool
         ensures { result ≡ goes_on self.now chrom.now }
     {
-        self.last.is_some() && self.last_name.as_slice() == chrom
+        self.last.is_some() && is_same_name(self.last_name.as_slice(), chrom)
     }
 
     // Whether a record fits behind the last one, or what is wrong with it. Its chromosome isn't looked

@@ -13,10 +13,11 @@ use crate::strand::Strand;
 use bt_lines::{Kind, columns, number};
 
 /// The feature of a line's text, or none where the line is blank or a header (UCSC BED description:
-/// columns stand between tabs, the first base is numbered 0, and the end isn't included). `Err` tells
+/// columns stand between tabs, the first base is numbered 0, and the end isn't included). `Err` has
 /// the first that applies: fewer than three columns, an empty name of a chromosome, a start or an end
 /// that isn't a number of at most twelve digits, a start that isn't below the end. No memory is taken,
 /// and the feature borrows from the text.
+#[inline(always)]
 pub fn parse_bed(text: &[u8]) -> Result<Option<BedRef<'_>>, Kind>
     ensures said { record_seen result ≡ record_of text.now }
     ensures suffix { EndsWithRest text.now result }
@@ -33,6 +34,8 @@ pub fn parse_bed(text: &[u8]) -> Result<Option<BedRef<'_>>, Kind>
 
 // The feature of a text's columns. What it keeps isn't copied: it begins at the tab behind the third
 // column.
+#[cold]
+#[inline(never)]
 fn first_columns(text: &[u8]) -> Result<BedRef<'_>, Kind>
     ensures { feature_seen result ≡ columns_say (pieces 9 text.now) }
 {
@@ -49,7 +52,7 @@ fn first_columns(text: &[u8]) -> Result<BedRef<'_>, Kind>
     let end = chrom.len() + start.len() + stop.len() + 2;
     let rest = behind(text, end);
     let (start, stop) = bounds(chrom, start, stop)?;
-    let strand = kept_strand(rest);
+    let strand = kept_strand(text, end);
     Ok(BedRef {
         chrom,
         start,

@@ -1,8 +1,8 @@
 //! Lines of which the first three columns are in order, read in one pass.
 
-ghost use Rattle.std.specs.Prelude.{◌≡◌, ◌≤◌, ◌∷◌, [], List, ℕ, Ok, Some, IfSome, length, take};
+ghost use Rattle.std.specs.Prelude.{◌≡◌, ◌<◌, ◌≤◌, ◌∷◌, [], List, ℕ, Ok, Some, IfSome, IsTrue, drop, get_or, length, take};
 ghost use Rattle.bt_bed.specs.Bed.{feature_lent};
-ghost use Rattle.bt_bed.specs.Plain.{BeginsWith, CutAt, EndsName, Leads};
+ghost use Rattle.bt_bed.specs.Plain.{BeginsWith, CutAt, EndsName, IsFirstTab, Leads};
 ghost use Rattle.bt_bed.specs.Record.{columns_in, columns_say, strand_named, strand_of};
 ghost use Rattle.bt_lines.specs.Lines.{pieces};
 ghost use Rattle.bt_lines.specs.Number.{value_of};
@@ -11,7 +11,7 @@ use crate::bed::BedRef;
 use crate::leading::Leading;
 use crate::parsing::behind;
 use crate::strand::Strand;
-use crate::tabs::second_tab;
+use crate::tabs::{early_tab, second_tab};
 use bt_lines::eight_digits;
 
 // So many digits are within the greatest number, whatever they are.
@@ -19,6 +19,7 @@ const SHORT: usize = 12;
 
 // The feature of a text of which the first three columns are in order. There is none where something is
 // wrong with them, and for numbers with more than twelve digits.
+#[inline(always)]
 pub(crate) fn plain_feature(text: &[u8]) -> Option<BedRef<'_>>
     ensures { IfSome result (λ bed. Ok (feature_lent bed) ≡ columns_say (pieces 9 text.now)) }
 {
@@ -38,7 +39,7 @@ pub(crate) fn plain_feature(text: &[u8]) -> Option<BedRef<'_>>
         chrom: &text[..name],
         start: start.value,
         stop: stop.value,
-        strand: kept_strand(rest),
+        strand: kept_strand(text, name + start.end + stop.end + 2),
         rest,
     })
 }
@@ -47,10 +48,23 @@ pub(crate) fn plain_feature(text: &[u8]) -> Option<BedRef<'_>>
 fn name_end(text: &[u8]) -> Option<usize>
     ensures { IfSome result (EndsName text.now) }
 {
+    let end = match early_tab(text) {
+        Some(end) => end,
+        None => late_tab(text)?,
+    };
+    if end == 0 { None } else { Some(end) }
+}
+
+// Where the first tab of a text stands, wherever that is.
+#[cold]
+#[inline(never)]
+fn late_tab(text: &[u8]) -> Option<usize>
+    ensures { IfSome result (IsFirstTab text.now) }
+{
     let mut end = 0;
     while end < text.len() {
         if text[end] == b'\t' {
-            return if end == 0 { None } else { Some(end) };
+            return Some(end);
         }
         end += 1;
     }
@@ -58,12 +72,34 @@ fn name_end(text: &[u8]) -> Option<usize>
 }
 
 // The number that the first column denotes, and where that ends.
-#[inline(never)]
+#[inline(always)]
 fn leading_number(text: &[u8]) -> Option<Leading>
     ensures { IfSome result (Leads text.now) }
 {
-    let most = text.len().min(SHORT);
     let first = first_digits(text);
+    if first.end > 0 && ends_column(text, first.end) {
+        return Some(first);
+    }
+    more_digits(text, first)
+}
+
+// Whether a column that reaches so far ends there.
+fn ends_column(text: &[u8], end: usize) -> bool
+    ensures { IsTrue result → end < length text.now → get_or text.now end 0 ≡ 9 }
+{
+    match text.get(end) {
+        None => true,
+        Some(byte) => *byte == b'\t',
+    }
+}
+
+// The number that the first column denotes, and where that ends, from the digits that come first.
+#[inline(always)]
+fn more_digits(text: &[u8], first: Leading) -> Option<Leading>
+    requires { BeginsWith text.now first }
+    ensures { IfSome result (Leads text.now) }
+{
+    let most = text.len().min(SHORT);
     let mut value = first.value;
     let mut end = first.end;
     while end < most && text[end].is_ascii_digit() {
@@ -96,24 +132,35 @@ fn first_eight(text: &[u8]) -> Option<u64>
     eight_digits(text.first_chunk::<8>()?)
 }
 
-// The strand of the columns that are kept, each with the tab before it.
-#[inline(never)]
-pub(crate) fn kept_strand(rest: &[u8]) -> Strand
-    ensures { result ≡ strand_of (columns_in rest.now) }
+// The strand of the columns that are kept, each with the tab before it: those from an index on.
+#[inline(always)]
+pub(crate) fn kept_strand(text: &[u8], from: usize) -> Strand
+    requires { from ≤ length text.now }
+    ensures { result ≡ strand_of (columns_in (drop from text.now)) }
 {
-    match rest {
-        [] => Strand::Dot,
-        [_tab, columns @ ..] => third_column(columns),
+    if from == text.len() {
+        return Strand::Dot;
+    }
+    third_column(text, from + 1)
+}
+
+// The strand that the third column of a text behind an index names.
+fn third_column(text: &[u8], from: usize) -> Strand
+    requires { from ≤ length text.now }
+    ensures { result ≡ strand_of (pieces 9 (drop from text.now)) }
+{
+    match second_tab(text, from) {
+        Some(second) => first_column(behind(text, from + second + 1)),
+        None => late_column(behind(text, from)),
     }
 }
 
-// The strand that the third column of a text names.
-fn third_column(text: &[u8]) -> Strand
+// The strand that the third column of a text names, wherever it stands.
+#[cold]
+#[inline(never)]
+fn late_column(text: &[u8]) -> Strand
     ensures { result ≡ strand_of (pieces 9 text.now) }
 {
-    if let Some(second) = second_tab(text) {
-        return first_column(behind(text, second + 1));
-    }
     let Some(first) = first_tab(text) else {
         return Strand::Dot;
     };

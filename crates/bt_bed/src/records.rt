@@ -10,7 +10,7 @@ use crate::sorted::ByOrder;
 use bt_lines::{Fault, LineReader, Source};
 use std::alloc::Global;
 
-/// Reads the records of a BED input, and tells the first line at fault: one that isn't a feature, has
+/// Reads the records of a BED input, and reports the first line at fault: one that isn't a feature, has
 /// a chromosome that the order doesn't know, or lies below the record before it, by chromosome and
 /// then by start. Header lines and blank lines are skipped. The record ahead is lent until the next
 /// call.
@@ -53,7 +53,7 @@ impl<'o, S: Source, O: ChromOrder> Records<'o, S, O> {
     }
 
     /// The record ahead, or none at the end of the input. It reads on only where no record is ahead,
-    /// and after a fault and after the end nothing is read. A line that couldn't be read is told
+    /// and after a fault and after the end nothing is read. A line that couldn't be read is reported
     /// before what is wrong with it, and want of memory for its chromosome's name after. Memory is
     /// taken for the line, and where the chromosome is another than that of the record before.
     #[inline]

@@ -1,22 +1,42 @@
 //! Tabs, looked for in sixteen bytes at once.
 
-ghost use Rattle.std.specs.Prelude.{◌≡◌, IfSome, map};
+ghost use Rattle.std.specs.Prelude.{◌≡◌, ◌≤◌, IfSome, drop, length, map};
 ghost use Rattle.std.specs.Simd.Lanes.{mask_l};
-ghost use Rattle.bt_bed.specs.Plain.{CutsTwo, is_tab};
+ghost use Rattle.bt_bed.specs.Plain.{CutsTwo, IsFirstTab, is_tab};
 
 use std::simd::prelude::*;
 
 // How many bytes are looked at at once.
 const WIDTH: usize = 16;
 
-// Where the second tab of a text stands, if that is one of its first sixteen bytes.
-pub(crate) fn second_tab(text: &[u8]) -> Option<usize>
-    ensures { IfSome result (CutsTwo text.now) }
+// Where the first tab of a text stands, if that is one of its first sixteen bytes.
+#[inline]
+pub(crate) fn early_tab(text: &[u8]) -> Option<usize>
+    ensures { IfSome result (IsFirstTab text.now) }
 {
     if text.len() < WIDTH {
         return None;
     }
     let tabs = tab_bits(u8x16::from_slice(text));
+    if tabs == 0 {
+        return None;
+    }
+    Some(tabs.trailing_zeros() as usize)
+}
+
+// Where the second tab of a text behind an index stands, counted from there, if that is one of the
+// sixteen bytes from there on. Where fewer follow, the last sixteen of the text are looked at, so that
+// short and long columns take one way.
+#[inline]
+pub(crate) fn second_tab(text: &[u8], from: usize) -> Option<usize>
+    requires { from ≤ length text.now }
+    ensures { IfSome result (CutsTwo (drop from text.now)) }
+{
+    if text.len() < WIDTH {
+        return None;
+    }
+    let begin = from.min(text.len() - WIDTH);
+    let tabs = tab_bits(u8x16::from_slice(&text[begin..])) >> (from - begin);
     if tabs == 0 {
         return None;
     }

@@ -1,6 +1,7 @@
--- Which records hit one another: all pairs are compared (bedtools manual, intersect, options -f, -r and
--- -s).
-use Rattle.std.specs.Prelude.{◌≡◌, ℕ, ◌*◌, Bool, true, false, not, ◌&&◌, ◌||◌, List, filter, nat_le, nat_lt}
+-- Which records hit one another: all pairs are compared
+-- (bedtools manual, intersect, options -f, -r and -s).
+use Rattle.std.specs.Prelude.{◌≡◌, ℕ, ◌*◌, Bool, true, false, not, ◌&&◌, ◌||◌, List, filter, nat_le}
+use Rattle.std.specs.Prelude.{nat_lt}
 use Rattle.bt_bed.specs.Bases.{length_of, shared}
 use Rattle.bt_bed.specs.Feature.{Feature, interval_of}
 use Rattle.bt_bed.specs.Strands.{is_strand}
@@ -12,11 +13,13 @@ shared_bases a b = shared (interval_of a) (interval_of b)
 
 -- whether so many bases are at least so many billionths of a record's
 unfoldable pub has_fraction : ℕ → ℕ → Feature → Bool
-has_fraction billionths bases r = nat_le (billionths * length_of (interval_of r)) (bases * 1000000000)
+has_fraction billionths bases r =
+    nat_le (billionths * length_of (interval_of r)) (bases * 1000000000)
 
 -- whether so many bases are as much of a as the rule asks for, and of b where it asks for both
 unfoldable pub is_enough : HitRule → ℕ → Feature → Feature → Bool
-is_enough rule bases a b = has_fraction rule.billionths bases a && (not rule.both || has_fraction rule.billionths bases b)
+is_enough rule bases a b =
+    has_fraction rule.billionths bases a && (not rule.both || has_fraction rule.billionths bases b)
 
 -- whether the strands of a and b are one, where the rule asks for that
 unfoldable pub strands_agree : HitRule → Feature → Feature → Bool
@@ -24,7 +27,8 @@ strands_agree rule a b = not rule.same_strand || is_strand a.strand b.strand
 
 -- whether b hits a: they have a base in common, and what the rule asks for
 unfoldable pub hits : HitRule → Feature → Feature → Bool
-hits rule a b = nat_lt 0 (shared_bases a b) && (strands_agree rule a b && is_enough rule (shared_bases a b) a b)
+hits rule a b =
+    nat_lt 0 (shared_bases a b) && (strands_agree rule a b && is_enough rule (shared_bases a b) a b)
 
 -- the rule that one common base satisfies
 abbrev pub any_overlap : HitRule

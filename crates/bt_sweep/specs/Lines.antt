@@ -1,6 +1,8 @@
--- What intersect and subtract write of a record and of those that hit it (bedtools manual, intersect:
--- default behaviour and the options -wa, -wb, -wo, -u, -v and -c; subtract: default behaviour and -A).
-use Rattle.std.specs.Prelude.{◌≡◌, ℕ, IsTrue, List, [], ◌∷◌, ◌++◌, codes, decimal, flat_map, length, max, min}
+-- What intersect and subtract write of a record and of those that hit it (bedtools manual,
+-- intersect: default behaviour and the options -wa, -wb, -wo, -u,
+-- -v and -c; subtract: default behaviour and -A).
+use Rattle.std.specs.Prelude.{◌≡◌, ℕ, IsTrue, List, [], ◌∷◌, ◌++◌, codes, decimal, flat_map, length}
+use Rattle.std.specs.Prelude.{max, min}
 use Rattle.bt_bed.specs.Feature.{Feature, intervals_of}
 use Rattle.bt_bed.specs.Interval.{Span}
 use Rattle.bt_bed.specs.Locus.{ArePlaced}
@@ -11,7 +13,8 @@ use Rattle.bt_sweep.specs.Hits.{hits_among, shared_bases}
 use Rattle.bt_sweep.specs.Pieces.{pieces}
 use Rattle.bt_sweep.specs.declared.hit_rule.HitRule.{HitRule}
 use Rattle.bt_sweep.specs.declared.shape.Shape.{Shape}
-use Rattle.bt_sweep.specs.declared.shape.Shape.TheVariants.{Cut, OrigA, CutAndB, OrigBoth, Overlap, Once, Missing, Count, Pieces, Whole}
+use Rattle.bt_sweep.specs.declared.shape.Shape.TheVariants.{Cut, OrigA, CutAndB, OrigBoth, Overlap}
+use Rattle.bt_sweep.specs.declared.shape.Shape.TheVariants.{Once, Missing, Count, Pieces, Whole}
 
 -- a line of these texts, with tabs between them
 abbrev pub line_with : List (List ℕ) → List ℕ
@@ -40,9 +43,9 @@ hit_line Count a b = []
 hit_line Pieces a b = []
 hit_line Whole a b = []
 
--- what is written of a and all that hit it: a line for each of them; or a, where there are some; or a,
--- where there is none; or a and how many there are; or the pieces of a that they leave; or a, where
--- there is none
+-- what is written of a and all that hit it: a line for each of them; or a, where there are some; or
+-- a, where there is none; or a and how many there are; or the pieces of a that they leave; or a,
+-- where there is none
 abbrev pub lines_of : Shape → Feature → List Feature → List ℕ
 lines_of Cut a found = flat_map (hit_line Cut a) found
 lines_of OrigA a found = flat_map (hit_line OrigA a) found
@@ -68,15 +71,21 @@ intersect shape rule first second = flat_map (λ a. lines_for shape rule a secon
 
 -- once a is decided, what follows in order changes none of its lines
 abbrev pub lines_stay : Type 0
-lines_stay = (order : Order) (shape : Shape) (rule : HitRule) (a : Feature) (bs more : List Feature) → IsTotal order
+lines_stay =
+    (order : Order) (shape : Shape) (rule : HitRule) (a : Feature) (bs more : List Feature)
+    → IsTotal order
     → IsTrue (order.knows a.chrom) → ArePlaced order (intervals_of (bs ++ more))
     → IsTrue (decided order a bs) → lines_for shape rule a (bs ++ more) ≡ lines_for shape rule a bs
 
 -- the record that decides a, and what follows it in order, change none of its lines
 abbrev pub LinesBefore : Order → Shape → HitRule → Feature → List Feature → Feature → Type 0
-LinesBefore order shape rule a bs b = (more : List Feature) → ArePlaced order (intervals_of (bs ++ b ∷ more))
+LinesBefore order shape rule a bs b =
+    (more : List Feature) → ArePlaced order (intervals_of (bs ++ b ∷ more))
     → lines_for shape rule a (bs ++ b ∷ more) ≡ lines_for shape rule a bs
 
 abbrev pub lines_are_before : Type 0
-lines_are_before = (order : Order) (shape : Shape) (rule : HitRule) (a b : Feature) (bs : List Feature) → IsTotal order
-    → IsTrue (order.knows a.chrom) → IsTrue (decides order a b) → LinesBefore order shape rule a bs b
+lines_are_before =
+    (order : Order) (shape : Shape) (rule : HitRule) (a b : Feature) (bs : List Feature)
+    → IsTotal order
+    → IsTrue (order.knows a.chrom) → IsTrue (decides order a b)
+    → LinesBefore order shape rule a bs b

@@ -29,7 +29,8 @@ pieces a others = stretches_from (is_left a others) 0 a.stop
 
 -- so they are
 abbrev pub pieces_are : Type 0
-pieces_are = (a : Feature) (others : List Feature) → AreStretchesOf (IsLeft a others) (pieces a others)
+pieces_are =
+    (a : Feature) (others : List Feature) → AreStretchesOf (IsLeft a others) (pieces a others)
 
 -- no other list is
 abbrev pub pieces_only : Type 0

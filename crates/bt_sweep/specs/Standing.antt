@@ -1,5 +1,6 @@
 -- Where a sweep stands: after which records of both inputs.
-use Rattle.std.specs.Prelude.{◌≡◌, Bool, true, false, not, ◌&&◌, IsTrue, cond, List, [], ◌∷◌, ◌++◌, filter, nat_lt, bytes_eq, Option, Some, None, is_some, option_to_list}
+use Rattle.std.specs.Prelude.{◌≡◌, Bool, true, false, not, ◌&&◌, IsTrue, cond, List, [], ◌∷◌, ◌++◌}
+use Rattle.std.specs.Prelude.{filter, nat_lt, bytes_eq, Option, Some, None, is_some, option_to_list}
 use Rattle.std.specs.List.{list_any, list_all, take_while}
 use Rattle.bt_bed.specs.Feature.{Feature, intervals_of}
 use Rattle.bt_bed.specs.Locus.{ArePlaced}
@@ -60,14 +61,15 @@ held_for (Some a) taken = filter (is_held a) taken
 abbrev pub leaves_some : Order → List Feature → Feature → Bool
 leaves_some order as_given b = list_any (λ a. not (decides order a b)) as_given
 
--- What is held after these records of both inputs. Each of those that were taken left one of the given
--- undecided.
+-- What is held after these records of both inputs. Each of those that were taken left one of the
+-- given undecided.
 pub record HoldsFor (order : Order) (as_given taken held : List Feature) : Type 0 where
   pub held_is : held ≡ held_for (last_given as_given) taken
   pub reached : IsTrue (list_all (leaves_some order as_given) taken)
 
 -- the sweep stands there
-pub record StandsAt (order : Order) (shape : Shape) (rule : HitRule) (stage : Stage) (sweep : Sweeping) : Type 0 where
+pub record StandsAt (order : Order) (shape : Shape) (rule : HitRule) (stage : Stage)
+    (sweep : Sweeping) : Type 0 where
   pub shape_is : sweep.shape ≡ shape
   pub rule_is : sweep.rule ≡ rule
   pub last_is : sweep.last ≡ last_given (given stage)
@@ -99,11 +101,13 @@ with_a_ended stage = record stage { a_ended = true }
 abbrev pub with_b_ended : Stage → Stage
 with_b_ended stage = record (with_lines stage) { b_ended = true }
 
--- Where each record taken leaves one of the given undecided, and the next one with those decides all,
--- the records taken are those before the first that decides all.
+-- Where each record taken leaves one of the given undecided, and the next one with those decides
+-- all, the records taken are those before the first that decides all.
 abbrev pub taken_are_first : Type 0
-taken_are_first = (order : Order) (as_given taken more : List Feature) (next : Feature) → IsTotal order
-    → ArePlaced order (intervals_of as_given) → ArePlaced order (intervals_of (taken ++ next ∷ more))
+taken_are_first =
+    (order : Order) (as_given taken more : List Feature) (next : Feature) → IsTotal order
+    → ArePlaced order (intervals_of as_given)
+    → ArePlaced order (intervals_of (taken ++ next ∷ more))
     → IsTrue (list_all (leaves_some order as_given) taken)
     → IsTrue (list_all (λ a. decided order a (taken ++ next ∷ [])) as_given)
     → take_while (leaves_some order as_given) (taken ++ next ∷ more) ≡ taken

@@ -1,5 +1,6 @@
 -- What the steps of a sweep do to what it keeps. Callers know them by `Steps`.
-use Rattle.std.specs.Prelude.{◌≡◌, ◌⊎◌, ℕ, Bool, true, false, cond, List, [], ◌∷◌, ◌++◌, Option, Some, None, Result, Ok, Err, filter, nat_lt, bytes_eq}
+use Rattle.std.specs.Prelude.{◌≡◌, ◌⊎◌, ℕ, Bool, true, false, cond, List, [], ◌∷◌, ◌++◌, Option}
+use Rattle.std.specs.Prelude.{Some, None, Result, Ok, Err, filter, nat_lt, bytes_eq}
 use Rattle.bt_lines.specs.Fault.{no_memory}
 use Rattle.bt_lines.specs.Names.{told}
 use Rattle.bt_lines.specs.Output.{Output}
@@ -16,31 +17,49 @@ use Rattle.bt_sweep.specs.declared.want.Want.TheVariants.{Nothing}
 -- what is held once a is given, behind the one that was given last
 abbrev pub held_with : Option Feature → List Feature → Feature → List Feature
 held_with None held a = []
-held_with (Some last) held a = cond (bytes_eq last.chrom a.chrom) (filter (λ b. nat_lt a.start b.stop) held) []
+held_with (Some last) held a =
+    cond (bytes_eq last.chrom a.chrom) (filter (λ b. nat_lt a.start b.stop) held) []
 
 -- the sweep with a given, before it waits or is written
 abbrev pub moved_to : Sweeping → Feature → Sweeping
-moved_to old a = record { shape = old.shape; rule = old.rule; last = Some a; waits = false; held = held_with old.last old.held a; done = old.done; b_ended = old.b_ended }
+moved_to old a =
+    record {
+      shape = old.shape;
+      rule = old.rule;
+      last = Some a;
+      waits = false;
+      held = held_with old.last old.held a;
+      done = old.done;
+      b_ended = old.b_ended;
+    }
 
 -- no record of the first input became the last one but this
 abbrev pub KeepsLast : Sweeping → Feature → Sweeping → Type 0
 KeepsLast old a new = (new.last ≡ old.last) ⊎ (new.last ≡ Some a)
 
 -- taking a: it waits, or its lines against what is held are written
-abbrev pub TakesA : {A : Type 0} → Sweeping → Feature → Output → Result A Fault → Sweeping → Output → Type 0
-TakesA old a out (Ok done) new grown = (new ≡ record (moved_to old a) { waits = cond old.b_ended false true })
-    × Grown out (cond old.b_ended (lines_for old.shape old.rule a (held_with old.last old.held a)) []) grown
+abbrev pub TakesA : {A : Type 0} → Sweeping → Feature → Output → Result A Fault → Sweeping → Output
+    → Type 0
+TakesA old a out (Ok done) new grown =
+    (new ≡ record (moved_to old a) { waits = cond old.b_ended false true })
+    × Grown out (cond old.b_ended (lines_for old.shape old.rule a (held_with old.last old.held a))
+    []) grown
 TakesA old a out (Err fault) new grown = (want_in new ≡ Nothing)
-    × Fails out (cond old.b_ended (lines_for old.shape old.rule a (held_with old.last old.held a)) []) (told fault) grown
+    × Fails out (cond old.b_ended (lines_for old.shape old.rule a (held_with old.last old.held a))
+    []) (told fault) grown
 
 -- a record that nothing hits has no line in this shape
 abbrev pub NeedsHit : Shape → Type 0
 NeedsHit shape = (a : Feature) → lines_of shape a [] ≡ []
 
 -- writing the lines of a, which was given last
-abbrev pub WritesLast : {A : Type 0} → Sweeping → Feature → Output → Result A Fault → Sweeping → Output → Type 0
-WritesLast old a out (Ok done) new grown = (new ≡ record old { waits = false }) × Grown out (lines_for old.shape old.rule a old.held) grown
-WritesLast old a out (Err fault) new grown = (want_in new ≡ Nothing) × FailsToAdd out (lines_for old.shape old.rule a old.held) (told fault) grown
+abbrev pub WritesLast : {A : Type 0} → Sweeping → Feature → Output → Result A Fault → Sweeping
+    → Output → Type 0
+WritesLast old a out (Ok done) new grown =
+    (new ≡ record old { waits = false }) × Grown out (lines_for old.shape old.rule a old.held) grown
+WritesLast old a out (Err fault) new grown =
+    (want_in new ≡ Nothing) × FailsToAdd out (lines_for old.shape old.rule a old.held) (told fault)
+    grown
 
 -- whether b has to be held, by the record that was given last
 abbrev pub is_held_by : Option Feature → Feature → Bool
@@ -54,4 +73,5 @@ holding old b = record old { held = old.held ++ filter (is_held_by old.last) (b 
 -- holding b
 abbrev pub Holds : {A : Type 0} → Sweeping → Feature → Result A Fault → Sweeping → Type 0
 Holds old b (Ok done) new = new ≡ holding old b
-Holds old b (Err fault) new = (want_in new ≡ Nothing) × (told fault ≡ no_memory) × (is_held_by old.last b ≡ true)
+Holds old b (Err fault) new =
+    (want_in new ≡ Nothing) × (told fault ≡ no_memory) × (is_held_by old.last b ≡ true)

@@ -9,7 +9,8 @@ use Rattle.bt_bed.specs.Feature.{Feature}
 use Rattle.bt_bed.specs.Order.{Order}
 use Rattle.bt_sweep.specs.Deciding.{decides}
 use Rattle.bt_sweep.specs.Lines.{LinesBefore, lines_for}
-use Rattle.bt_sweep.specs.Standing.{Stage, StandsAt, is_held, with_a, with_b, with_b_ended, with_lines}
+use Rattle.bt_sweep.specs.Standing.{Stage, StandsAt, is_held, with_a, with_b, with_b_ended}
+use Rattle.bt_sweep.specs.Standing.{with_lines}
 use Rattle.bt_sweep.specs.Sweeping.{Sweeping, want_in}
 use Rattle.bt_sweep.specs.declared.hit_rule.HitRule.{HitRule}
 use Rattle.bt_sweep.specs.declared.shape.Shape.{Shape}
@@ -17,27 +18,37 @@ use Rattle.bt_sweep.specs.declared.want.Taken.{Taken}
 use Rattle.bt_sweep.specs.declared.want.Taken.TheVariants.{Yes, No}
 use Rattle.bt_sweep.specs.declared.want.Want.TheVariants.{Nothing}
 
--- why a call didn't put its lines: they couldn't be written, only where the sink failed, and a front of
--- them was; or memory ran out before any of them was put
+-- why a call didn't put its lines: they couldn't be written, only where the sink failed, and a
+-- front of them was; or memory ran out before any of them was put
 abbrev pub Fails : Output → List ℕ → Told → Output → Type 0
-Fails out lines fault grown = FailsToAdd out lines fault grown ⊎ ((fault ≡ no_memory) × (grown ≡ out))
+Fails out lines fault grown =
+    FailsToAdd out lines fault grown ⊎ ((fault ≡ no_memory) × (grown ≡ out))
 
--- the lines that are written when a is given: its own where the second input has ended, and else none
+-- the lines that are written when a is given: its own where the second input has ended,
+-- and else none
 abbrev pub lines_with : Shape → HitRule → Stage → Feature → List ℕ
 lines_with shape rule stage a = cond stage.b_ended (lines_for shape rule a stage.taken) []
 
 -- what a call with the next record of the first input does; after a fault nothing is asked for
-abbrev pub GivesA : {A : Type 0} → Order → Shape → HitRule → Stage → Feature → Output → Result A Fault → Sweeping → Output → Type 0
-GivesA order shape rule stage a out (Ok done) new grown = StandsAt order shape rule (with_a stage a) new × Grown out (lines_with shape rule stage a) grown
-GivesA order shape rule stage a out (Err fault) new grown = (want_in new ≡ Nothing) × Fails out (lines_with shape rule stage a) (told fault) grown
+abbrev pub GivesA : {A : Type 0} → Order → Shape → HitRule → Stage → Feature → Output
+    → Result A Fault → Sweeping → Output → Type 0
+GivesA order shape rule stage a out (Ok done) new grown =
+    StandsAt order shape rule (with_a stage a) new × Grown out (lines_with shape rule stage a) grown
+GivesA order shape rule stage a out (Err fault) new grown =
+    (want_in new ≡ Nothing) × Fails out (lines_with shape rule stage a) (told fault) grown
 
 -- what the end of the second input does, while a waits
-abbrev pub EndsB : {A : Type 0} → Order → Shape → HitRule → Stage → Feature → Output → Result A Fault → Sweeping → Output → Type 0
-EndsB order shape rule stage a out (Ok done) new grown = StandsAt order shape rule (with_b_ended stage) new × Grown out (lines_for shape rule a stage.taken) grown
-EndsB order shape rule stage a out (Err fault) new grown = (want_in new ≡ Nothing) × FailsToAdd out (lines_for shape rule a stage.taken) (told fault) grown
+abbrev pub EndsB : {A : Type 0} → Order → Shape → HitRule → Stage → Feature → Output
+    → Result A Fault → Sweeping → Output → Type 0
+EndsB order shape rule stage a out (Ok done) new grown =
+    StandsAt order shape rule (with_b_ended stage) new
+    × Grown out (lines_for shape rule a stage.taken) grown
+EndsB order shape rule stage a out (Err fault) new grown =
+    (want_in new ≡ Nothing) × FailsToAdd out (lines_for shape rule a stage.taken) (told fault) grown
 
 -- one more record of the second input, while a waits
-module _ (order : Order) (shape : Shape) (rule : HitRule) (stage : Stage) (a b : Feature) (out : Output) where
+module _ (order : Order) (shape : Shape) (rule : HitRule) (stage : Stage) (a b : Feature)
+    (out : Output) where
   -- it leaves a undecided, and is taken
   pub record TakesB (new : Sweeping) (grown : Output) : Type 0 where
     pub undecided : decides order a b ≡ false
@@ -67,11 +78,15 @@ module _ (order : Order) (shape : Shape) (rule : HitRule) (stage : Stage) (a b :
   abbrev pub GivesB : Result Taken Fault → Sweeping → Output → Type 0
   GivesB (Ok Yes) new grown = TakesB new grown
   GivesB (Ok No) new grown = WritesA new grown
-  GivesB (Err fault) new grown = (want_in new ≡ Nothing) × (FailsToWriteA (told fault) grown ⊎ FailsToHold (told fault) grown)
+  GivesB (Err fault) new grown =
+      (want_in new ≡ Nothing) × (FailsToWriteA (told fault) grown ⊎ FailsToHold (told fault) grown)
 
--- a record that leaves the waiting one undecided and hasn't to be held is taken, and nothing is written
+-- a record that leaves the waiting one undecided and hasn't to be held is taken,
+-- and nothing is written
 abbrev pub quiet_are_taken : Type 0
-quiet_are_taken = (order : Order) (shape : Shape) (rule : HitRule) (stage : Stage) (a b : Feature) (out : Output)
+quiet_are_taken =
+    (order : Order) (shape : Shape) (rule : HitRule) (stage : Stage) (a b : Feature) (out : Output)
     (answer : Result Taken Fault) (new : Sweeping) (grown : Output)
-    → GivesB order shape rule stage a b out answer new grown → decides order a b ≡ false → is_held a b ≡ false
+    → GivesB order shape rule stage a b out answer new grown → decides order a b ≡ false
+    → is_held a b ≡ false
     → (answer ≡ Ok Yes) × (grown ≡ out)

@@ -21,7 +21,8 @@ left_lines true a (b ∷ more) = []
 
 -- what is left of the records of the first input by those of the second, in pieces or whole
 abbrev pub subtract : Bool → HitRule → List Feature → List Feature → List ℕ
-subtract whole rule first second = flat_map (λ a. left_lines whole a (hits_among rule a second)) first
+subtract whole rule first second =
+    flat_map (λ a. left_lines whole a (hits_among rule a second)) first
 
 -- the shape that writes it
 abbrev pub subtract_shape : Bool → Shape
@@ -35,6 +36,8 @@ left_are_lines = (whole : Bool) (rule : HitRule) (a : Feature) (second : List Fe
 
 -- where the second input has no fault, it is what the meeting of the inputs writes
 abbrev pub subtract_is_met : Type 0
-subtract_is_met = (order : Order) (whole : Bool) (rule : HitRule) (first second : List Feature) (fault : Option Told)
+subtract_is_met =
+    (order : Order) (whole : Bool) (rule : HitRule) (first second : List Feature)
+    (fault : Option Told)
     → (meet (sweep_rule order (subtract_shape whole) rule second None) first fault).lines
     ≡ subtract whole rule first second

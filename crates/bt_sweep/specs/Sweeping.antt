@@ -6,9 +6,9 @@ use Rattle.bt_sweep.specs.declared.shape.Shape.{Shape}
 use Rattle.bt_sweep.specs.declared.want.Want.{Want}
 use Rattle.bt_sweep.specs.declared.want.Want.TheVariants.{A, B, Nothing}
 
--- the shape of what it writes, the rule of what hits a record, the record of the first input that was
--- given last, whether its lines are still to be written, the records of the second input that are
--- held, whether it is done with the first input, and whether the second has ended
+-- the shape of what it writes, the rule of what hits a record, the record of the first input that
+-- was given last, whether its lines are still to be written, the records of the second input that
+-- are held, whether it is done with the first input, and whether the second has ended
 pub record Sweeping : Type 0 where
   pub shape : Shape
   pub rule : HitRule

@@ -32,16 +32,22 @@ intersect_met order shape rule first second =
 
 -- without a fault the lines are those of all pairs
 abbrev pub faultless_are_all : Type 0
-faultless_are_all = (order : Order) (shape : Shape) (rule : HitRule) (first second : List Feature) (fault : Option Told)
-    → (meet (sweep_rule order shape rule second None) first fault).lines ≡ intersect shape rule first second
+faultless_are_all =
+    (order : Order) (shape : Shape) (rule : HitRule) (first second : List Feature)
+    (fault : Option Told)
+    → (meet (sweep_rule order shape rule second None) first fault).lines
+    ≡ intersect shape rule first second
 
 -- what a front of both inputs decides, and is written, begins what is written for the whole inputs,
 -- whatever their faults
 abbrev pub written_are_a_front : Type 0
-written_are_a_front = (order : Order) (shape : Shape) (rule : HitRule) (first more_first second more_second : List Feature)
+written_are_a_front =
+    (order : Order) (shape : Shape) (rule : HitRule)
+    (first more_first second more_second : List Feature)
     (first_fault second_fault : Option Told)
     → IsTotal order → ArePlaced order (intervals_of first)
     → ArePlaced order (intervals_of (second ++ more_second))
     → (rest : List ℕ)
-    × ((meet (sweep_rule order shape rule (second ++ more_second) second_fault) (first ++ more_first)
+    × ((meet (sweep_rule order shape rule (second ++ more_second) second_fault)
+    (first ++ more_first)
     first_fault).lines ≡ written (early_rule order shape rule second) first ++ rest)

@@ -5,7 +5,8 @@ use Rattle.bt_sweep.specs.Lines.{piece_line}
 
 -- the piece of a between two positions, if it has a base
 abbrev pub gap_lines : Feature → ℕ → ℕ → List ℕ
-gap_lines a start stop = cond (nat_lt start stop) (piece_line a (record { start = start; stop = stop })) []
+gap_lines a start stop =
+    cond (nat_lt start stop) (piece_line a (record { start = start; stop = stop })) []
 
 -- the first position from this one on that none of these covers
 abbrev pub free_after : ℕ → List Feature → ℕ

@@ -34,26 +34,33 @@ only_chr1 = rank_order (codes "chr1" ∷ [])
 -- first, whose lines are written, and then its fault is told.
 abbrev pub fault_behind_undecided : Type 0
 fault_behind_undecided = (fault : Told)
-    → intersect_met only_chr1 Cut any_overlap (two (at 0 10) (at 100 110) None) (two (at 2 4) (at 50 60) (Some fault))
+    → intersect_met only_chr1 Cut any_overlap (two (at 0 10) (at 100 110) None)
+    (two (at 2 4) (at 50 60) (Some fault))
     ≡ record { lines = codes "chr1\t2\t4\n"; fault = Some fault }
 
 -- where both have one and all records of the first are decided, that of the first is told
 abbrev pub fault_of_first : Type 0
 fault_of_first = (fault other : Told)
-    → intersect_met only_chr1 Cut any_overlap (one (at 0 10) (Some fault)) (two (at 2 4) (at 50 60) (Some other))
+    → intersect_met only_chr1 Cut any_overlap (one (at 0 10) (Some fault))
+    (two (at 2 4) (at 50 60) (Some other))
     ≡ record { lines = codes "chr1\t2\t4\n"; fault = Some fault }
 
 -- half of a record of ten bases is five
 abbrev pub half : HitRule
 half = record { billionths = 500000000; both = false; same_strand = false }
 
--- records that overlap leave the parts beside them, and one that isn't half of the record takes nothing
+-- records that overlap leave the parts beside them,
+-- and one that isn't half of the record takes nothing
 abbrev pub parts_are_left : Type 0
-parts_are_left = subtract false any_overlap (at 0 20 ∷ []) (at 3 6 ∷ at 5 8 ∷ at 18 30 ∷ []) ≡ codes "chr1\t0\t3\nchr1\t8\t18\n"
+parts_are_left =
+    subtract false any_overlap (at 0 20 ∷ []) (at 3 6 ∷ at 5 8 ∷ at 18 30 ∷ [])
+    ≡ codes "chr1\t0\t3\nchr1\t8\t18\n"
 
 abbrev pub half_is_taken : Type 0
-half_is_taken = subtract false half (at 0 10 ∷ []) (at 0 4 ∷ at 4 9 ∷ []) ≡ codes "chr1\t0\t4\nchr1\t9\t10\n"
+half_is_taken =
+    subtract false half (at 0 10 ∷ []) (at 0 4 ∷ at 4 9 ∷ []) ≡ codes "chr1\t0\t4\nchr1\t9\t10\n"
 
 -- with -A nothing is left of a record that is hit, and all of one that isn't
 abbrev pub whole_is_left : Type 0
-whole_is_left = subtract true any_overlap (at 0 10 ∷ at 20 30 ∷ []) (at 5 20 ∷ []) ≡ codes "chr1\t20\t30\n"
+whole_is_left =
+    subtract true any_overlap (at 0 10 ∷ at 20 30 ∷ []) (at 5 20 ∷ []) ≡ codes "chr1\t20\t30\n"

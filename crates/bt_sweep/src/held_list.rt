@@ -38,6 +38,9 @@ impl Held for HeldList {
     }
 
     fn drop_ended(&mut self, place: u64) {
+        if self.records.is_empty() {
+            return;
+        }
         self.records.retain(|record| place < record.as_bed().stop);
     }
 

@@ -62,7 +62,7 @@ pub fn quiet_records_are_taken()
     ensures { quiet_are_taken }
 {}
 
-/// What is written and told of small inputs.
+/// What is written and reported of small inputs.
 pub fn small_inputs_meet()
     ensures undecided { fault_behind_undecided }
     ensures first { fault_of_first }

@@ -1,17 +1,30 @@
 //! The sweep over two sorted inputs: intersect and subtract.
 //!
-//! An example, which the test `decided_lines_are_written_before_the_end` runs: the record
-//! `chr1 0 10` of the first input, against `chr1 2 4` and `chr1 50 60` of the second.
+//! An example, which the test in `example.rt` runs: what one record of the first input shares with one
+//! of the second.
 //!
 //! ```text
-//! sweep.want()                             // Want::A: a record of the first input
-//! sweep.give_a(&a, &mut out)               // it waits
-//! sweep.give_b(&from_2_to_4, &mut out)     // Ok(Taken::Yes): held, since it hits
-//! sweep.give_b(&from_50_to_60, &mut out)   // Ok(Taken::No): decides it; `chr1 2 4` is put
-//! sweep.want()                             // Want::A again; the decider is given once more later
+//! fn sweep_two(rt: &impl Abort, alloc: Global, order: &impl ChromOrder) -> Result<(), Fail> {
+//!     let (held, rule) = (HeldList::new(alloc), HitRule::any_overlap());
+//!     let mut sweep = Sweep::new(alloc, held, Shape::Cut, rule, order);
+//!     let mut out = Out::new(ScriptSink::new(alloc, 7, None));
+//!     let a = parse_bed(b"chr1\t0\t10")?.ok_or("a record")?;
+//!     let b = parse_bed(b"chr1\t8\t14")?.ok_or("a record")?;
+//!     assert!(rt; sweep.want() == Want::A && order.knows(a.chrom));
+//!     sweep.give_a(&a, &mut out)?;
+//!     assert!(rt; sweep.want() == Want::B && order.knows(b.chrom));
+//!     sweep.give_b(&b, &mut out)?;
+//!     assert!(rt; sweep.want() == Want::B);
+//!     sweep.end_b(&mut out)?;
+//!     out.flush()?;
+//!     assert_eq!(rt; out.into_sink().taken(), b"chr1\t8\t10\n".as_slice());
+//!     Ok(())
+//! }
 //! ```
 #![tactic(auto)]
 
+#[cfg(test)]
+mod example;
 mod held;
 mod held_list;
 mod hit;

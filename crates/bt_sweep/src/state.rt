@@ -15,7 +15,7 @@ use crate::hit_rule::HitRule;
 use crate::shape::Shape;
 use crate::want::Want;
 use crate::writing::{needs_hit, put_lines};
-use bt_bed::{BedRef, ChromOrder, Rec};
+use bt_bed::{BedRef, ChromOrder, Rec, is_same_name};
 use bt_lines::{Fault, Out, Sink, no_memory};
 use std::alloc::{AllocError, Global};
 use std::cmp::Ordering;
@@ -232,7 +232,7 @@ fn move_last<H: Held>(
     ensures unchanged { OnErr result (last.new ≡ last.old) }
 {
     match last {
-        Some(last) if last.as_bed().chrom == a.chrom => {
+        Some(last) if is_same_name(last.as_bed().chrom, a.chrom) => {
             held.drop_ended(a.start);
             last.copy_rest_from(a)
         }
@@ -265,7 +265,7 @@ fn is_to_be_held(last: &Option<Rec>, b: &BedRef<'_>) -> bool
         None => false,
         Some(last) => {
             let a = last.as_bed();
-            a.chrom == b.chrom && a.start < b.stop
+            is_same_name(a.chrom, b.chrom) && a.start < b.stop
         }
     }
 }

@@ -204,7 +204,7 @@ fn give_second<H: Held, O: ChromOrder, K: Sink>(
     }
 }
 
-// Tells the end of the second input. None: it isn't asked for.
+// Gives the end of the second input. None: it isn't asked for.
 fn end_second<H: Held, O: ChromOrder, K: Sink>(
     sweep: &mut Sweep<'_, H, O>,
     out: &mut Out<K>,
@@ -215,7 +215,7 @@ fn end_second<H: Held, O: ChromOrder, K: Sink>(
     }
 }
 
-// Tells the end of the first input, where it is asked for.
+// Gives the end of the first input, where it is asked for.
 fn end_first<H: Held, O: ChromOrder>(sweep: &mut Sweep<'_, H, O>) {
     match sweep.want() {
         Want::A => sweep.end_a(),
@@ -223,7 +223,7 @@ fn end_first<H: Held, O: ChromOrder>(sweep: &mut Sweep<'_, H, O>) {
     }
 }
 
-// Gives the line that comes next of the first input, or tells its end, and answers how many lines it
+// Gives the line that comes next of the first input, or gives its end, and answers how many lines it
 // took. An error is a fault, or none where the record isn't asked for.
 fn go_on_first<H: Held, O: ChromOrder, K: Sink>(
     sweep: &mut Sweep<'_, H, O>,

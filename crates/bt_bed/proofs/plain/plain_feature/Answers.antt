@@ -1,5 +1,6 @@
-use Rattle.std.proofs.Common.{◌<◌, length, arith}
-use Rattle.bt_bed.proofs.PlainLemmas.{plain_feature_is, plain_say}
+use Rattle.std.proofs.Common.{ℕ, List, ◌∙◌, ◌<◌, length, ap, arith}
+use Rattle.bt_bed.proofs.PlainLemmas.{plain_feature_is, plain_say, rest_stands}
+use Rattle.bt_bed.specs.Record.{columns_in, strand_of}
 use Rattle.bt_bed.proofs.plain.plain_feature.Goals as goal
 
 pub behind-first-requires : goal.behind-first-requires
@@ -15,11 +16,26 @@ pub invariant_of-result : goal.invariant_of-result
 invariant_of-result c =
     let inside : c.in_ok-start.start.end < length c.behind-first.result.now = let within = c.in_ok-start.ensures.within in omega arith in
     let below : c.in_ok-start.start.value < c.in_ok-stop.stop.value = omega arith in
-    let said = plain_feature_is c.args.text.now _ (plain_say c.args.text.now c.behind-first.result.now c.behind-second.result.now c.behind-rest.result.now c.in_ok-name.name c.in_ok-start.start c.in_ok-stop.stop _ c.behind-first.ensures c.behind-second.ensures c.behind-rest.ensures c.kept_strand.ensures c.in_ok-name.ensures c.in_ok-start.ensures inside c.in_ok-stop.ensures below) in
+    let said = plain_feature_is c.args.text.now _
+    (plain_say c.args.text.now c.behind-first.result.now c.behind-second.result.now
+    c.behind-rest.result.now c.in_ok-name.name c.in_ok-start.start c.in_ok-stop.stop _
+    c.behind-first.ensures c.behind-second.ensures c.behind-rest.ensures
+    (c.kept_strand.ensures ∙ ap (λ (l : List ℕ). strand_of (columns_in l))
+    (rest_stands c.args.text.now c.behind-first.result.now c.behind-second.result.now
+    c.behind-rest.result.now c.in_ok-name.name c.in_ok-start.start.end c.in_ok-stop.stop.end
+    c.behind-first.ensures c.behind-second.ensures c.behind-rest.ensures))
+    c.in_ok-name.ensures c.in_ok-start.ensures inside c.in_ok-stop.ensures below) in
     record { named = said.named; non_empty = said.non_empty; in_range = said.in_range; kept = said.kept; stranded = said.stranded }
 
 pub returns : goal.returns
 returns c =
     let inside : c.in_ok-start.start.end < length c.behind-first.result.now = let within = c.in_ok-start.ensures.within in omega arith in
     let below : c.in_ok-start.start.value < c.in_ok-stop.stop.value = omega arith in
-    plain_say c.args.text.now c.behind-first.result.now c.behind-second.result.now c.behind-rest.result.now c.in_ok-name.name c.in_ok-start.start c.in_ok-stop.stop _ c.behind-first.ensures c.behind-second.ensures c.behind-rest.ensures c.kept_strand.ensures c.in_ok-name.ensures c.in_ok-start.ensures inside c.in_ok-stop.ensures below
+    plain_say c.args.text.now c.behind-first.result.now c.behind-second.result.now
+    c.behind-rest.result.now c.in_ok-name.name c.in_ok-start.start c.in_ok-stop.stop _
+    c.behind-first.ensures c.behind-second.ensures c.behind-rest.ensures
+    (c.kept_strand.ensures ∙ ap (λ (l : List ℕ). strand_of (columns_in l))
+    (rest_stands c.args.text.now c.behind-first.result.now c.behind-second.result.now
+    c.behind-rest.result.now c.in_ok-name.name c.in_ok-start.start.end c.in_ok-stop.stop.end
+    c.behind-first.ensures c.behind-second.ensures c.behind-rest.ensures))
+    c.in_ok-name.ensures c.in_ok-start.ensures inside c.in_ok-stop.ensures below

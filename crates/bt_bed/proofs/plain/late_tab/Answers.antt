@@ -1,7 +1,7 @@
 use Rattle.std.proofs.Common.{◌≡◌, get_or, eqb, false, arith}
 use Rattle.std.proofs.lemmas.Bool.Decides.{nat_tests}
 use Rattle.bt_bed.proofs.PlainLemmas.{column_more}
-use Rattle.bt_bed.proofs.plain.name_end.Goals as goal
+use Rattle.bt_bed.proofs.plain.late_tab.Goals as goal
 
 pub loop-end-preserved : goal.loop-end-preserved
 loop-end-preserved c =

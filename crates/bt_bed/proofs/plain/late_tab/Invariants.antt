@@ -1,6 +1,6 @@
 use Rattle.std.proofs.Common.{length, take, ◌-◌, ◌≤◌}
 use Rattle.bt_bed.proofs.Kept.{IsColumn}
-use Rattle.bt_bed.proofs.plain.name_end.Given as goal
+use Rattle.bt_bed.proofs.plain.late_tab.Given as goal
 
 -- no tab has come yet
 abbrev pub invariant-loop-end : goal.invariant-loop-end
