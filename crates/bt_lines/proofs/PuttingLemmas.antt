@@ -1,12 +1,13 @@
 -- What one put after another does to an output.
-use Rattle.std.proofs.Common.{◌≡◌, ℕ, List, [], ◌∷◌, ◌++◌, Option, None, Some, Result, Ok, Err, true, false, refl, sym, ap, ◌∙◌, append_assoc}
+use Rattle.std.proofs.Common.{◌≡◌, ◌≤◌, ℕ, Bool, length, subst, List, [], ◌∷◌, ◌++◌, Option, None, Some, Result, Ok, Err, true, false, refl, sym, ap, ◌∙◌, append_assoc}
 use Rattle.std.specs.Prelude.{OnOk, OnErr, IfErr, IsErr}
 use Rattle.std.proofs.KnownBytes.{Appends-trans, Appends-nil}
 use Rattle.std.proofs.lemmas.Bool.{false≢true}
-use Rattle.std.specs.Io.KnownBytes.{Appends}
+use Rattle.std.specs.Io.KnownBytes.{Appends, append_known}
+use Rattle.bt_lines.proofs.OutputLemmas.{holds_held}
 use Rattle.bt_lines.specs.Fault.{Told, write_failed}
 use Rattle.bt_lines.specs.Names.{told}
-use Rattle.bt_lines.specs.Output.{Output, HoldsBlock, IsFrontOf, Grows}
+use Rattle.bt_lines.specs.Output.{Output, HoldsBlock, IsFrontOf, Grows, block_size}
 use Rattle.bt_lines.specs.Putting.{WorksAsBefore, PutsAll, FailsToPut, Puts, Grown, FailsToAdd, Adds}
 use Rattle.bt_lines.specs.declared.fault.Fault.{Fault}
 
@@ -83,6 +84,37 @@ puts_from old new bytes (Ok done) p b f g s w c a =
     record { appends = p; block = b; grows = g; was_served = s.1; served = s.0; sink_served = s.2 }
 puts_from old new bytes (Err fault) p b f g s w c a =
     record { is = w; front = f; grows = g; failed = c.0; sink_failed = c.1; again = λ e. (a e).1 }
+
+held_further : (took : Option (List ℕ)) (held more : List ℕ)
+    → Appends (append_known took held) (append_known took (held ++ more)) more
+held_further None held more = tt
+held_further (Some took) held more = sym (append_assoc took held more)
+
+-- a piece is held back, and what ends it
+module _ (took : Option (List ℕ)) (failed sink_failed flushed : Bool) where
+  abbrev holding : List ℕ → Output
+  holding held = record {
+    put = append_known took held;
+    took = took;
+    has_failed = failed;
+    sink_has_failed = sink_failed;
+    sink_is_flushed = flushed;
+  }
+
+  pub puts_held : (held piece end with_piece all : List ℕ) → failed ≡ false → with_piece ≡ held ++ piece
+      → all ≡ with_piece ++ end → length all ≤ block_size → PutsAll (holding held) (piece ++ end) (holding all)
+  puts_held held piece end with_piece all works first then short =
+      let is : held ++ (piece ++ end) ≡ all =
+      sym (then ∙ ap (λ l. l ++ end) first ∙ append_assoc held piece end) in
+      record {
+        appends = subst (λ l. Appends (append_known took held) (append_known took l) (piece ++ end)) is
+            (held_further took held (piece ++ end));
+        block = holds_held took all short;
+        grows = grows_nothing took;
+        was_served = works;
+        served = works;
+        sink_served = refl;
+      }
 
 -- bytes that were put, or none
 pub grown_all : (old new : Output) (bytes : List ℕ) → (bytes ≡ [] → ⊥) → PutsAll old bytes new → Grown old bytes new

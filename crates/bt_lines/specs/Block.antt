@@ -1,5 +1,6 @@
 -- What a reader's block of bytes holds.
-use Rattle.std.specs.Prelude.{◌≡◌, ◌<◌, ◌+◌, length, take, drop, ℕ, List, ◌∷◌, ◌++◌, Option, Some, None, slice_range, if◌then◌else◌}
+use Rattle.std.specs.Prelude.{◌≡◌, ◌<◌, ◌+◌, length, take, drop, ℕ, List, ◌∷◌, ◌++◌, Option, Some}
+use Rattle.std.specs.Prelude.{None, slice_range, if◌then◌else◌}
 use Rattle.std.specs.Io.BufRead.{ends_with_byte, strip_last}
 use Rattle.bt_lines.specs.Given.{NoLineFeed}
 use Rattle.bt_lines.specs.declared.block.Block.{Block}

@@ -1,5 +1,6 @@
 -- What calls of a device do.
-use Rattle.std.specs.Prelude.{◌≡◌, ℕ, Bool, ◌||◌, ◌&&◌, List, length, ◌==◌, nat_lt, Result, MatchResult}
+use Rattle.std.specs.Prelude.{◌≡◌, ℕ, Bool, ◌||◌, ◌&&◌, List, length, ◌==◌, nat_lt, Result}
+use Rattle.std.specs.Prelude.{MatchResult}
 
 -- a read tells the end by an answer of 0 to a block with room; once told, it stays told
 abbrev pub TellsEnd : {E : Type 0} → Bool → Bool → Result ℕ E → List ℕ → Type 0

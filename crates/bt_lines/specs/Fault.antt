@@ -1,7 +1,14 @@
 -- The texts of faults, and the line that tells one.
-use Rattle.std.specs.Prelude.{ℕ, List, [], ◌++◌, Bool, true, false, Option, Some, None, codes, decimal}
+use Rattle.std.specs.Prelude.{ℕ, List, [], ◌++◌, Bool, true, false, Option, Some, None, codes}
+use Rattle.std.specs.Prelude.{decimal}
 use Rattle.bt_lines.specs.declared.fault.Kind.{Kind}
-use Rattle.bt_lines.specs.declared.fault.Kind.TheVariants.{TooFewColumns, EmptyName, BadStart, BadStop, EmptyFeature, UnknownChrom, OutOfOrder, BadLength, RepeatedChrom, BadFlag, BadPosition, BadQuality, BadCigar, StopTooLarge, TextBeforeHeader, NoSequence, ReadFailed, WriteFailed, NoMemory}
+use Rattle.bt_lines.specs.declared.fault.Kind.TheVariants.{TooFewColumns, EmptyName, BadStart}
+use Rattle.bt_lines.specs.declared.fault.Kind.TheVariants.{BadStop, EmptyFeature, UnknownChrom}
+use Rattle.bt_lines.specs.declared.fault.Kind.TheVariants.{OutOfOrder, BadLength, RepeatedChrom}
+use Rattle.bt_lines.specs.declared.fault.Kind.TheVariants.{BadFlag, BadPosition, BadQuality}
+use Rattle.bt_lines.specs.declared.fault.Kind.TheVariants.{BadCigar, StopTooLarge, TextBeforeHeader}
+use Rattle.bt_lines.specs.declared.fault.Kind.TheVariants.{NoSequence, ReadFailed, WriteFailed}
+use Rattle.bt_lines.specs.declared.fault.Kind.TheVariants.{NoMemory}
 use Rattle.bt_lines.specs.declared.fault.Input.{Input}
 use Rattle.bt_lines.specs.declared.fault.Input.TheVariants.{Genome, First, Second}
 use Rattle.bt_lines.specs.declared.fault.Place.{Place}
@@ -53,12 +60,14 @@ name_of names Second = names.second
 -- `NAME:LINE: `, or nothing for a fault without a place
 abbrev pub place_text : InputNames → Option Place → List ℕ
 place_text names None = []
-place_text names (Some place) = name_of names place.input ++ codes ":" ++ decimal place.line ++ codes ": "
+place_text names (Some place) =
+    name_of names place.input ++ codes ":" ++ decimal place.line ++ codes ": "
 
 -- `bedtools CMD: NAME:LINE: TEXT` and a line feed
 abbrev pub line_of : List ℕ → InputNames → Told → List ℕ
 line_of command names fault =
-    codes "bedtools " ++ command ++ codes ": " ++ place_text names fault.place ++ text_of fault.kind ++ codes "\n"
+    codes "bedtools " ++ command ++ codes ": " ++ place_text names fault.place ++ text_of fault.kind
+    ++ codes "\n"
 
 -- the fault of a failed write
 abbrev pub write_failed : Told
@@ -70,4 +79,5 @@ no_memory = record { kind = NoMemory; place = None }
 
 -- the fault of a failed read, at a line of an input
 abbrev pub read_failed : Input → ℕ → Told
-read_failed input line = record { kind = ReadFailed; place = Some (record { input = input; line = line }) }
+read_failed input line =
+    record { kind = ReadFailed; place = Some (record { input = input; line = line }) }

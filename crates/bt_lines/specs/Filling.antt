@@ -1,11 +1,13 @@
 -- What reading up to a line feed does to a source, a block, a line and the count of bytes.
-use Rattle.std.specs.Prelude.{◌≡◌, ℕ, ◌+◌, ◌-◌, ◌^◌, ◌<◌, Bool, true, false, List, [], ◌∷◌, ◌++◌, length, Option, Result, Ok, Err}
+use Rattle.std.specs.Prelude.{◌≡◌, ℕ, ◌+◌, ◌-◌, ◌^◌, ◌<◌, Bool, true, false, List, [], ◌∷◌, ◌++◌}
+use Rattle.std.specs.Prelude.{length, Option, Result, Ok, Err}
 use Rattle.std.specs.Io.KnownBytes.{Consumes, IsAtEnd}
 use Rattle.bt_lines.specs.Given.{NoLineFeed}
 use Rattle.bt_lines.specs.declared.filling.More.{More}
 use Rattle.bt_lines.specs.declared.filling.More.TheVariants.{Bytes, NoBytes, BadRead, PastBound}
 use Rattle.bt_lines.specs.declared.filling.Stop.{Stop}
-use Rattle.bt_lines.specs.declared.filling.Stop.TheVariants.{LineFeed, End, Failed, TooLong, NoMemory}
+use Rattle.bt_lines.specs.declared.filling.Stop.TheVariants.{LineFeed, End, Failed, TooLong}
+use Rattle.bt_lines.specs.declared.filling.Stop.TheVariants.{NoMemory}
 
 -- the bytes up to the first line feed, or else all, were added to a line
 abbrev pub MovesPiece : {E : Type 0} → List ℕ → List ℕ → Result Bool E → List ℕ → List ℕ → Type 0

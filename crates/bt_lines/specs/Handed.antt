@@ -13,11 +13,14 @@ pub record Handed : Type 0 where
 abbrev pub whole_text : List ℕ → Handed
 whole_text text = record { text = text; is_cut = false }
 
--- its lines; of a text that was cut off the whole ones alone, since a piece that was cut off is no line
+-- its lines; of a text that was cut off the whole ones alone,
+-- since a piece that was cut off is no line
 abbrev pub lines_handed : Handed → List TextLine
 lines_handed handed = if handed.is_cut then whole_lines handed.text else text_lines handed.text
 
--- the fault behind them, where the text was cut off: the failed read, at the line after the last whole one
+-- the fault behind them, where the text was cut off: the failed read,
+-- at the line after the last whole one
 abbrev pub cut_fault : Input → Handed → Option Told
 cut_fault input handed =
-    if handed.is_cut then Some (read_failed input (suc (length (whole_lines handed.text)))) else None
+    if handed.is_cut then Some (read_failed input (suc (length (whole_lines handed.text))))
+    else None

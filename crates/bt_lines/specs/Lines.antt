@@ -1,6 +1,7 @@
 -- The lines of a text, as the UCSC BED description and the SAM specification have them: one a line
 -- feed. A carriage return before the line feed, or at the very end, belongs to the line end.
-use Rattle.std.specs.Prelude.{◌≡◌, ℕ, suc, ⊤, List, [], ◌∷◌, ◌++◌, ◌==◌, count_by, flat_map, length, if◌then◌else◌}
+use Rattle.std.specs.Prelude.{◌≡◌, ℕ, suc, ⊤, List, [], ◌∷◌, ◌++◌, ◌==◌, count_by, flat_map, length}
+use Rattle.std.specs.Prelude.{if◌then◌else◌}
 use Rattle.std.specs.List.{slice_split}
 use Rattle.std.specs.Io.BufRead.{ends_with_byte, strip_last}
 use Rattle.bt_lines.specs.declared.line.LineEnd.{LineEnd}
@@ -19,13 +20,21 @@ pieces separator bytes = slice_split (λ byte. byte == separator) bytes
 -- the line of a piece with a line feed behind it
 abbrev pub fed_line : ℕ → List ℕ → TextLine
 fed_line number piece =
-    record { number = number; text = strip_last 13 piece; ending = if ends_with_byte 13 piece then CrLf else Lf }
+    record {
+      number = number;
+      text = strip_last 13 piece;
+      ending = if ends_with_byte 13 piece then CrLf else Lf;
+    }
 
 -- the line of the last piece, which has no line feed behind it; an empty one is no line
 abbrev pub last_line : ℕ → List ℕ → List TextLine
 last_line number [] = []
 last_line number (byte ∷ bytes) =
-    record { number = number; text = strip_last 13 (byte ∷ bytes); ending = if ends_with_byte 13 (byte ∷ bytes) then Cr else Absent } ∷ []
+    record {
+      number = number;
+      text = strip_last 13 (byte ∷ bytes);
+      ending = if ends_with_byte 13 (byte ∷ bytes) then Cr else Absent;
+    } ∷ []
 
 -- the lines of the pieces between line feeds, numbered from the number given
 abbrev pub numbered : ℕ → List (List ℕ) → List TextLine
@@ -45,9 +54,11 @@ text_lines bytes = lines_from 1 bytes
 abbrev pub numbered_whole : ℕ → List (List ℕ) → List TextLine
 numbered_whole number [] = []
 numbered_whole number (piece ∷ []) = []
-numbered_whole number (piece ∷ next ∷ rest) = fed_line number piece ∷ numbered_whole (suc number) (next ∷ rest)
+numbered_whole number (piece ∷ next ∷ rest) =
+    fed_line number piece ∷ numbered_whole (suc number) (next ∷ rest)
 
--- the whole lines of a text that was cut off, all pieces but the last; the first has the number given
+-- the whole lines of a text that was cut off,
+-- all pieces but the last; the first has the number given
 unfoldable pub whole_lines_from : ℕ → List ℕ → List TextLine
 whole_lines_from number bytes = numbered_whole number (pieces 10 bytes)
 

@@ -4,7 +4,8 @@ use Rattle.bt_lines.specs.declared.fault.Fault.{Fault}
 use Rattle.bt_lines.specs.declared.report.Names.{Names}
 
 abbrev pub names_seen : Names → InputNames
-names_seen names = record { genome = names.genome.now; first = names.first.now; second = names.second.now }
+names_seen names =
+    record { genome = names.genome.now; first = names.first.now; second = names.second.now }
 
 abbrev pub told : Fault → Told
 told fault = record { kind = fault.kind; place = fault.place }

@@ -6,7 +6,8 @@ use Rattle.bt_lines.specs.Names.{told}
 use Rattle.bt_lines.specs.Output.{Output, HoldsBlock, IsFrontOf, Grows}
 use Rattle.bt_lines.specs.declared.fault.Fault.{Fault}
 
--- the output works as it did before: what was put is known as before, and at most a block of it is held back
+-- the output works as it did before: what was put is known as before,
+-- and at most a block of it is held back
 pub record WorksAsBefore (old new : Output) : Type 0 where
   pub served : new.has_failed ≡ old.has_failed
   pub sink_served : new.sink_has_failed ≡ old.sink_has_failed

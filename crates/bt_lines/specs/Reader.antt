@@ -1,5 +1,7 @@
 -- What a reader of lines holds, and what one call of `next` does.
-use Rattle.std.specs.Prelude.{◌≡◌, ℕ, suc, ◌+◌, ◌-◌, ◌^◌, ◌<◌, ◌≤◌, ◌⊎◌, Bool, true, false, List, [], ◌++◌, length, Option, Some, None, option_map, Result, Ok, Err, IfSome, nat_lt, if◌then◌else◌, take, drop}
+use Rattle.std.specs.Prelude.{◌≡◌, ℕ, suc, ◌+◌, ◌-◌, ◌^◌, ◌<◌, ◌≤◌, ◌⊎◌, Bool, true, false, List}
+use Rattle.std.specs.Prelude.{[], ◌++◌, length, Option, Some, None, option_map, Result, Ok, Err}
+use Rattle.std.specs.Prelude.{IfSome, nat_lt, if◌then◌else◌, take, drop}
 use Rattle.std.specs.Io.KnownBytes.{Consumes, IsAtEnd, prepend_known}
 use Rattle.bt_lines.specs.Block.{unread, text_in}
 use Rattle.bt_lines.specs.Lines.{TextLine, lines_from, line_feeds, bytes_in, spelled}
@@ -12,7 +14,8 @@ use Rattle.bt_lines.specs.declared.fault.Fault.{Fault}
 use Rattle.bt_lines.specs.declared.line.Line.{Line}
 use Rattle.bt_lines.specs.declared.line_reader.LineReader.{LineReader}
 use Rattle.bt_lines.specs.declared.line_reader.State.{State}
-use Rattle.bt_lines.specs.declared.line_reader.State.TheVariants.{Reading, Carried, LastLine, Ended, ReadFailed, TooLong, NoMemory}
+use Rattle.bt_lines.specs.declared.line_reader.State.TheVariants.{Reading, Carried, LastLine, Ended}
+use Rattle.bt_lines.specs.declared.line_reader.State.TheVariants.{ReadFailed, TooLong, NoMemory}
 
 -- the bytes that were taken from the source and not given as lines: those of the block, and where
 -- there is a fault the piece before them that was cut off
@@ -139,7 +142,8 @@ module _ {S : Type 0} where
 
   -- the lines that come after those given, where they are known
   abbrev pub lines_left : (S → Option (List ℕ)) → LineReader S → Option (List TextLine)
-  lines_left left reader = option_map (lines_from (suc (lines_given reader))) (bytes_left left reader)
+  lines_left left reader =
+      option_map (lines_from (suc (lines_given reader))) (bytes_left left reader)
 
   -- how many line feeds were taken: each ended a line that was given, or is held
   unfoldable pub feeds_taken : LineReader S → ℕ
@@ -175,11 +179,13 @@ module _ {S : Type 0} where
     pub told_stays : end_told old ≡ true → end_told new ≡ true
 
   -- a line was given
-  pub record GivesLine (left : S → Option (List ℕ)) (failed : S → Bool) (old : LineReader S) (line : TextLine) (new : LineReader S) : Type 0 where
+  pub record GivesLine (left : S → Option (List ℕ)) (failed : S → Bool) (old : LineReader S)
+      (line : TextLine) (new : LineReader S) : Type 0 where
     -- it is the first of the lines left, where these are known
     pub first : GivesFirst (lines_left left old) line (lines_left left new)
     -- the bytes taken are the line's and at most a block more, known or not
-    pub bytes : (bytes : List ℕ) × Hands left old bytes new × (held old ++ bytes ≡ spelled line ++ held new)
+    pub bytes : (bytes : List ℕ) × Hands left old bytes new
+        × (held old ++ bytes ≡ spelled line ++ held new)
     pub ahead : length (held new) ≤ block_size
     -- nothing is read while a whole line is held
     pub ready : 0 < line_feeds (held old) → source_of new ≡ source_of old
@@ -194,7 +200,8 @@ module _ {S : Type 0} where
     pub goes : fault_kept new ≡ None
 
   -- the end was reached
-  pub record GivesEnd (left : S → Option (List ℕ)) (failed : S → Bool) (old new : LineReader S) : Type 0 where
+  pub record GivesEnd (left : S → Option (List ℕ)) (failed : S → Bool)
+      (old new : LineReader S) : Type 0 where
     -- no line was left, where they are known, and none is
     pub none_left : IfSome (lines_left left old) (λ lines. lines ≡ [])
     pub none_comes : IfSome (lines_left left new) (λ lines. lines ≡ [])
@@ -209,8 +216,10 @@ module _ {S : Type 0} where
     -- once it is reached, nothing more is read
     pub again : has_ended old ≡ true → new ≡ old
 
-  -- why the first fault came: the source failed in this call, the text is too long, or memory ran out
-  pub record FailsToRead (left : S → Option (List ℕ)) (failed : S → Bool) (old : LineReader S) (fault : Told) (new : LineReader S) : Type 0 where
+  -- why the first fault came: the source failed in this call, the text is too long,
+  -- or memory ran out
+  pub record FailsToRead (left : S → Option (List ℕ)) (failed : S → Bool) (old : LineReader S)
+      (fault : Told) (new : LineReader S) : Type 0 where
     pub is : fault ≡ read_failed (input_of old) (suc (lines_given old))
     pub cause : (failed (source_of new) ≡ true) ⊎ (2 ^ 63 ≤ bytes_taken new)
 
@@ -222,14 +231,16 @@ module _ {S : Type 0} where
     pub given : lines_given new
         ≡ feeds_taken old + line_feeds (take (2 ^ 63 - 1 - bytes_taken old) bytes)
 
-  -- of known bytes, those behind the lines given and one line more are left, but for at most a block
+  -- of known bytes, those behind the lines given and one line more are left,
+  -- but for at most a block
   abbrev pub IsNear : (S → Option (List ℕ)) → LineReader S → LineReader S → Type 0
   IsNear left old new =
       IfSome (lines_left left old) (λ lines. IfSome (left (source_of new)) (λ rest.
       bytes_in (drop (suc (lines_given new) - lines_given old) lines) ≤ length rest + block_size))
 
   -- a fault was answered
-  pub record GivesFault (left : S → Option (List ℕ)) (failed : S → Bool) (old : LineReader S) (fault : Told) (new : LineReader S) : Type 0 where
+  pub record GivesFault (left : S → Option (List ℕ)) (failed : S → Bool) (old : LineReader S)
+      (fault : Told) (new : LineReader S) : Type 0 where
     pub kept : fault_kept new ≡ Some fault
     pub bytes : (bytes : List ℕ) × Hands left old bytes new
     pub counted : lines_given new ≡ lines_given old
@@ -243,31 +254,37 @@ module _ {S : Type 0} where
     pub first : fault_kept old ≡ None → FailsToRead left failed old fault new ⊎ (fault ≡ no_memory)
     pub cut_off : fault_kept old ≡ None → fault ≡ read_failed (input_of old) (suc (lines_given old))
         → CutsOff left old new
-    -- of known bytes, those behind the line that couldn't be given are left, but for at most a block
+    -- of known bytes, those behind the line that couldn't be given are left,
+    -- but for at most a block
     pub near : fault_kept old ≡ None → IsNear left old new
     pub served : fault ≡ no_memory → failed (source_of new) ≡ failed (source_of old)
 
   -- what an answer says
-  abbrev pub Answers : (S → Option (List ℕ)) → (S → Bool) → LineReader S → Result (Option Line) Fault → LineReader S → Type 0
+  abbrev pub Answers : (S → Option (List ℕ)) → (S → Bool) → LineReader S
+      → Result (Option Line) Fault → LineReader S → Type 0
   Answers left failed old (Ok (Some line)) new = GivesLine left failed old (line_seen line) new
   Answers left failed old (Ok None) new = GivesEnd left failed old new
   Answers left failed old (Err fault) new = GivesFault left failed old (told fault) new
 
   -- one call of `next`
-  pub record NextLine (left : S → Option (List ℕ)) (failed : S → Bool) (end : S → Bool) (old : LineReader S) (answer : Result (Option Line) Fault) (new : LineReader S) : Type 0 where
+  pub record NextLine (left : S → Option (List ℕ)) (failed : S → Bool) (end : S → Bool)
+      (old : LineReader S) (answer : Result (Option Line) Fault) (new : LineReader S) : Type 0 where
     pub answers : Answers left failed old answer new
     pub sound : IsSound left end old → IsSound left end new
 
   -- what a step to the next line gives, or to the end where there is none
-  abbrev pub StepsTo : (S → Option (List ℕ)) → (S → Bool) → LineReader S → Option TextLine → LineReader S → Type 0
+  abbrev pub StepsTo : (S → Option (List ℕ)) → (S → Bool) → LineReader S → Option TextLine
+      → LineReader S → Type 0
   StepsTo left failed old (Some line) new = GivesLine left failed old line new
   StepsTo left failed old None new = GivesEnd left failed old new
 
-  abbrev pub StepAnswers : {A : Type 0} → (S → Option (List ℕ)) → (S → Bool) → LineReader S → Result A Fault → LineReader S → Type 0
+  abbrev pub StepAnswers : {A : Type 0} → (S → Option (List ℕ)) → (S → Bool) → LineReader S
+      → Result A Fault → LineReader S → Type 0
   StepAnswers left failed old (Ok done) new = StepsTo left failed old (line_at new) new
   StepAnswers left failed old (Err fault) new = GivesFault left failed old (told fault) new
 
   -- the same call of `next`, with the line held in place of lent
-  pub record Stepped {A : Type 0} (left : S → Option (List ℕ)) (failed : S → Bool) (end : S → Bool) (old : LineReader S) (answer : Result A Fault) (new : LineReader S) : Type 0 where
+  pub record Stepped {A : Type 0} (left : S → Option (List ℕ)) (failed : S → Bool) (end : S → Bool)
+      (old : LineReader S) (answer : Result A Fault) (new : LineReader S) : Type 0 where
     pub answers : StepAnswers left failed old answer new
     pub sound : IsSound left end old → IsSound left end new

@@ -1,7 +1,8 @@
 -- What scripted devices hold: they stand for a file or a terminal in tests.
 use Rattle.std.specs.Prelude.{ℕ, ◌-◌, Bool, List, min, length, Option, Some, None, nat_le, false}
 
--- a source that hands over its bytes in order, at most step of them a call, and fails once good bytes were given
+-- a source that hands over its bytes in order, at most step of them a call,
+-- and fails once good bytes were given
 pub record Reading : Type 0 where
   pub bytes : List ℕ
   pub step : ℕ

@@ -17,7 +17,7 @@ pub trait Source {
     // Whether a read has failed.
     ghost has_failed: { Self → Bool };
 
-    // Whether the end was told, by an answer of 0 to a block with room.
+    // Whether a read has answered the end, by 0 to a block with room.
     ghost end_told: { Self → Bool };
 
     /// Hands over the next bytes, as many as it likes of those that fit the block, and 0 for a block
@@ -45,7 +45,7 @@ pub trait Sink {
     // Whether it has passed on all that it took, by a flush at the latest.
     ghost is_flushed: { Self → Bool };
 
-    /// Takes a front of the bytes, at least one byte where there is one, and tells how many. An error
+    /// Takes a front of the bytes, at least one byte where there is one, and answers how many. An error
     /// takes none of them, and isn't tried again.
     fn write(&mut self, bytes: &[u8]) -> Result<usize, DeviceFailed>
         ensures within { IfOk result (λ n. n ≤ length bytes.now) }

@@ -67,7 +67,7 @@ pub(crate) fn fill<S: Source>(
     }
 }
 
-// Moves the bytes of the block up to its first line feed, or else all, behind a line. Tells whether
+// Moves the bytes of the block up to its first line feed, or else all, behind a line. Answers whether
 // there was a line feed, which isn't kept.
 fn move_piece(block: &mut Block, text: &mut Vec<u8>) -> Result<bool, AllocError>
     ensures { MovesPiece (unread block.old) text.old.items result

@@ -1,6 +1,6 @@
 //! The bytes that an output holds back.
 
-ghost use Rattle.std.specs.Prelude.{◌≡◌, ◌+◌, ◌-◌, ◌≤◌, ◌++◌, [], length};
+ghost use Rattle.std.specs.Prelude.{◌≡◌, ◌+◌, ◌-◌, ◌≤◌, ◌<◌, ◌++◌, [], ◌∷◌, length};
 ghost use Rattle.bt_lines.specs.Output.{block_size};
 
 use crate::block::BLOCK;
@@ -59,6 +59,26 @@ impl HeldBack {
         let len = self.len;
         self.bytes[len..len + piece.len()].copy_from_slice(piece);
         self.len = len + piece.len();
+    }
+
+    // Holds back a short piece too, which mostly is one byte.
+    pub(crate) fn append_short(&mut self, piece: &[u8])
+        requires { length self.old + length piece.now ≤ block_size }
+        ensures { self.new ≡ self.old ++ piece.now }
+    {
+        match piece {
+            [byte] => self.push(*byte),
+            _ => self.append(piece),
+        }
+    }
+
+    // Holds back a byte too.
+    fn push(&mut self, byte: u8)
+        requires { length self.old < block_size }
+        ensures { self.new ≡ self.old ++ byte ∷ [] }
+    {
+        self.bytes[self.len] = byte;
+        self.len += 1;
     }
 
     // Lets go of all.

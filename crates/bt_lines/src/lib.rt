@@ -1,17 +1,22 @@
 //! Lines in, bytes out, and faults with a name and a place.
 //!
-//! The lowest layer: it reads lines from any [`Source`], hands bytes to any [`Sink`], and tells
+//! The lowest layer: it reads lines from any [`Source`], hands bytes to any [`Sink`], and reports
 //! what went wrong where. It knows nothing of BED.
 //!
-//! An example, which the test `lines_of_texts` runs: the lines of the text `a\nb`, whatever the pieces
-//! in which the source hands it over.
+//! An example, which is the test in `example.rt`: the lines of a source.
 //!
 //! ```text
-//! let source = ScriptSource::new(b"a\nb", 1, None);
-//! let mut reader = LineReader::new(rt.alloc(), source, Input::First);
-//! reader.next()    // Ok(Some(Line { number: 1, text: b"a", ending: LineEnd::Lf }))
-//! reader.next()    // Ok(Some(Line { number: 2, text: b"b", ending: LineEnd::Absent }))
-//! reader.next()    // Ok(None), and so from then on
+//! fn lines_of_a_source(rt: HostRuntime) -> Result<(), Fail> {
+//!     // Three bytes a call, with no failure.
+//!     let source = ScriptSource::new(b"chr1\t5\t9\nchr2", 3, None);
+//!     let mut reader = LineReader::new(rt.alloc(), source, Input::First);
+//!     let line = reader.next()?.ok_or("a line")?;
+//!     assert_eq!(rt; line.text, b"chr1\t5\t9".as_slice());
+//!     let last = reader.next()?.ok_or("a line")?;
+//!     assert_eq!(rt; (last.number, last.ending), (2, LineEnd::Absent));
+//!     assert!(rt; reader.next()?.is_none());
+//!     Ok(())
+//! }
 //! ```
 #![tactic(auto)]
 
@@ -45,7 +50,7 @@ pub use line::{Line, LineEnd};
 pub use line_reader::LineReader;
 pub use numbers::{MAX_NUMBER, eight_digits, number};
 pub use output::Out;
-pub use putting::{put_column, put_number};
+pub use putting::{put_column, put_line, put_number};
 pub use report::{Names, fault_line};
 pub use script_sink::ScriptSink;
 pub use script_source::ScriptSource;
@@ -56,5 +61,7 @@ pub use to_write::ToWrite;
 mod block_tests;
 #[cfg(test)]
 mod device_tests;
+#[cfg(test)]
+mod example;
 #[cfg(test)]
 mod tests;

@@ -241,7 +241,7 @@ impl<S: Source> LineReader<S> {
     }
 }
 
-// Drops a carriage return at the end, and tells how the line ends with it or without one.
+// Drops a carriage return at the end, and answers how the line ends with it or without one.
 fn split_ending(text: &mut Vec<u8>, with: LineEnd, without: LineEnd) -> LineEnd
     ensures ending { result ≡ (if ends_with_byte 13 text.old.items then with else without) }
     ensures dropped { text.new.items ≡ strip_last 13 text.old.items }

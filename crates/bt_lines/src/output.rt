@@ -1,10 +1,11 @@
 //! Bytes out, in order, to a sink.
 
-ghost use Rattle.std.specs.Prelude.{◌≡◌, ℕ, ◌≤◌, false, true, [], length, OnOk, OnErr, IfErr, IsErr, Some, None};
+ghost use Rattle.std.specs.Prelude.{◌≡◌, ◌++◌, ℕ, ◌≤◌, false, true, [], length, OnOk, OnErr, IfErr, IsErr, Some, None};
 ghost use Rattle.std.specs.Io.KnownBytes.{Appends, Keeps, append_known};
 ghost use Rattle.bt_lines.specs.Output.{HoldsBlock, IsFrontOf, Grows, block_size};
 ghost use Rattle.bt_lines.specs.Fault.{write_failed};
 ghost use Rattle.bt_lines.specs.Names.{told};
+ghost use Rattle.bt_lines.specs.Putting.{PutsAll};
 
 use crate::block::BLOCK;
 use crate::device::{DeviceFailed, Sink};
@@ -89,6 +90,19 @@ impl<K: Sink> Out<K> {
             return Err(write_failed());
         }
         Ok(())
+    }
+
+    // Holds back a piece and the short one that ends it, where there is room for both.
+    pub(crate) fn hold_both(&mut self, piece: &[u8], end: &[u8]) -> bool
+        ensures held { result ≡ true → PutsAll self.old (piece.now ++ end.now) self.new }
+        ensures unchanged { result ≡ false → self.new ≡ self.old }
+    {
+        if self.has_failed || self.held.room() < piece.len() + end.len() {
+            return false;
+        }
+        self.held.append(piece);
+        self.held.append_short(end);
+        true
     }
 
     /// Hands on all that is held back. After an `Ok` the sink has taken all bytes put.

@@ -16,6 +16,17 @@ pub fn put_column<K: Sink>(column: &[u8], end: &[u8], out: &mut Out<K>) -> Resul
     out.put(end)
 }
 
+/// Puts a text and its line end, by one test of the room where there is room for both.
+#[inline]
+pub fn put_line<K: Sink>(text: &[u8], end: &[u8], out: &mut Out<K>) -> Result<(), Fault>
+    ensures { Puts out.old (text.now ++ end.now) result out.new }
+{
+    if out.hold_both(text, end) {
+        return Ok(());
+    }
+    put_column(text, end, out)
+}
+
 /// Puts a number in decimal, without leading zeros, and what ends it. It takes no memory.
 pub fn put_number<K: Sink>(number: u64, end: &[u8], out: &mut Out<K>) -> Result<(), Fault>
     ensures { Puts out.old (decimal number ++ end.now) result out.new }
@@ -31,14 +42,15 @@ mod tests {
     use std::test::Fail;
 
     #[test]
-    fn columns_and_numbers_are_put_with_what_ends_them(rt: HostRuntime) -> Result<(), Fail> {
+    fn columns_numbers_and_lines_are_put_with_what_ends_them(rt: HostRuntime) -> Result<(), Fail> {
         let mut out = Out::new(ScriptSink::new(rt.alloc(), 2, None));
         let put = put_column(b"chr1", b"\t", &mut out).is_ok()
             && put_number(0, b"\t", &mut out).is_ok()
             && put_number(999999999999, b"\n", &mut out).is_ok()
+            && put_line(b"ACGT", b"\r\n", &mut out).is_ok()
             && out.flush().is_ok();
         assert!(rt; put);
-        let want: &[u8] = b"chr1\t0\t999999999999\n";
+        let want: &[u8] = b"chr1\t0\t999999999999\nACGT\r\n";
         assert_eq!(rt; out.into_sink().taken(), want);
         Ok(())
     }

@@ -1,4 +1,4 @@
-//! The line that tells a fault to the user.
+//! The line that reports a fault to the user.
 
 ghost use Rattle.std.specs.Prelude.{◌≡◌, ◌++◌, IfOk};
 ghost use Rattle.bt_lines.specs.Fault.{line_of, name_of, place_text};

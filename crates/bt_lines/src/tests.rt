@@ -102,7 +102,7 @@ fn lines_of_texts(rt: HostRuntime) -> Result<(), Fail> {
 }
 
 #[test]
-fn the_line_given_is_told_once_more(rt: HostRuntime) -> Result<(), Fail> {
+fn the_line_given_is_lent_once_more(rt: HostRuntime) -> Result<(), Fail> {
     let source = ScriptSource::new(b"a\r\nb", 1, None);
     let mut reader = LineReader::new(rt.alloc(), source, Input::First);
     assert!(rt; reader.line().is_none());
@@ -183,6 +183,62 @@ fn a_sink_that_fails_at_each_byte(rt: HostRuntime) {
     }
 }
 
+// The kinds of faults with their places, and the lines that report them.
+const FAULT_LINES: [(Kind, Option<(Input, u64)>, &[u8]); 12] = [
+    (
+        Kind::OutOfOrder,
+        Some((Input::First, 3)),
+        b"bedtools merge: a.bed:3: record is out of order\n",
+    ),
+    (
+        Kind::RepeatedChrom,
+        Some((Input::Genome, 2)),
+        b"bedtools merge: g.txt:2: chromosome is repeated\n",
+    ),
+    (
+        Kind::BadStart,
+        Some((Input::Second, 12)),
+        b"bedtools merge: b.bed:12: start is not a number\n",
+    ),
+    (
+        Kind::BadFlag,
+        Some((Input::First, 1)),
+        b"bedtools merge: a.bed:1: flag is not a number\n",
+    ),
+    (
+        Kind::BadPosition,
+        Some((Input::First, 2)),
+        b"bedtools merge: a.bed:2: position is not a number\n",
+    ),
+    (
+        Kind::BadQuality,
+        Some((Input::First, 3)),
+        b"bedtools merge: a.bed:3: mapping quality is not a number\n",
+    ),
+    (
+        Kind::BadCigar,
+        Some((Input::First, 4)),
+        b"bedtools merge: a.bed:4: CIGAR is malformed\n",
+    ),
+    (
+        Kind::StopTooLarge,
+        Some((Input::First, 5)),
+        b"bedtools merge: a.bed:5: end is too large\n",
+    ),
+    (
+        Kind::TextBeforeHeader,
+        Some((Input::First, 1)),
+        b"bedtools merge: a.bed:1: text before the first header\n",
+    ),
+    (
+        Kind::NoSequence,
+        Some((Input::Second, 1)),
+        b"bedtools merge: b.bed:1: no such sequence from here on\n",
+    ),
+    (Kind::WriteFailed, None, b"bedtools merge: writing failed\n"),
+    (Kind::NoMemory, None, b"bedtools merge: no memory\n"),
+];
+
 #[test]
 fn fault_lines(rt: HostRuntime) -> Result<(), AllocError> {
     let names = Names {
@@ -190,61 +246,7 @@ fn fault_lines(rt: HostRuntime) -> Result<(), AllocError> {
         first: b"a.bed",
         second: b"b.bed",
     };
-    let cases: [(Kind, Option<(Input, u64)>, &[u8]); 12] = [
-        (
-            Kind::OutOfOrder,
-            Some((Input::First, 3)),
-            b"bedtools merge: a.bed:3: record is out of order\n",
-        ),
-        (
-            Kind::RepeatedChrom,
-            Some((Input::Genome, 2)),
-            b"bedtools merge: g.txt:2: chromosome is repeated\n",
-        ),
-        (
-            Kind::BadStart,
-            Some((Input::Second, 12)),
-            b"bedtools merge: b.bed:12: start is not a number\n",
-        ),
-        (
-            Kind::BadFlag,
-            Some((Input::First, 1)),
-            b"bedtools merge: a.bed:1: flag is not a number\n",
-        ),
-        (
-            Kind::BadPosition,
-            Some((Input::First, 2)),
-            b"bedtools merge: a.bed:2: position is not a number\n",
-        ),
-        (
-            Kind::BadQuality,
-            Some((Input::First, 3)),
-            b"bedtools merge: a.bed:3: mapping quality is not a number\n",
-        ),
-        (
-            Kind::BadCigar,
-            Some((Input::First, 4)),
-            b"bedtools merge: a.bed:4: CIGAR is malformed\n",
-        ),
-        (
-            Kind::StopTooLarge,
-            Some((Input::First, 5)),
-            b"bedtools merge: a.bed:5: end is too large\n",
-        ),
-        (
-            Kind::TextBeforeHeader,
-            Some((Input::First, 1)),
-            b"bedtools merge: a.bed:1: text before the first header\n",
-        ),
-        (
-            Kind::NoSequence,
-            Some((Input::Second, 1)),
-            b"bedtools merge: b.bed:1: no such sequence from here on\n",
-        ),
-        (Kind::WriteFailed, None, b"bedtools merge: writing failed\n"),
-        (Kind::NoMemory, None, b"bedtools merge: no memory\n"),
-    ];
-    for (kind, place, want) in cases {
+    for (kind, place, want) in FAULT_LINES {
         let place = place.map(|(input, line)| Place { input, line });
         let Some(fault) = fault_of(kind, place) else {
             assert!(rt; false, "a fault has a place by its kind");

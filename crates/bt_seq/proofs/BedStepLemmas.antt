@@ -5,6 +5,7 @@ use Rattle.std.proofs.lemmas.Bool.Decides.{nat_tests}
 use Rattle.std.proofs.lemmas.List.{map-append}
 use Rattle.std.proofs.lemmas.List.Elements.{filter-append}
 use Rattle.bt_bed.specs.Feature.{Feature}
+use Rattle.bt_bed.specs.GoodBlocks.{AreInBlocks}
 use Rattle.bt_bed.specs.LineKind.{fault_at_line}
 use Rattle.bt_lines.specs.Lines.{end_bytes}
 use Rattle.bt_lines.specs.Names.{told}
@@ -16,15 +17,15 @@ use Rattle.bt_lines.specs.declared.fault.Input.TheVariants.{Second}
 use Rattle.bt_lines.specs.declared.fault.Kind.TheVariants.{NoSequence}
 use Rattle.bt_seq.proofs.CountLemmas.{decides_alike, range_more, text_masked}
 use Rattle.bt_seq.proofs.KnownLemmas.{MayTake, never, next_can_be, nobody_left, none_ahead, own_ahead, owner_next, take_next}
-use Rattle.bt_seq.proofs.MaskFrontLemmas.{masked_before}
+use Rattle.bt_seq.proofs.MaskFrontLemmas.{blocks_front, decided_stays, held_before, masked_before}
 use Rattle.bt_seq.proofs.NextLemmas.{decided_more, own_more}
 use Rattle.bt_seq.proofs.StandLemmas.{StandsBy, last_waits, stands_at, stands_by, wants_bed}
 use Rattle.bt_seq.specs.Held.{stretch_of}
 use Rattle.bt_seq.specs.Knows.{owner_by}
-use Rattle.bt_seq.specs.MaskStanding.{Counts, IsNext, KnowsLast, KnowsNone, MaskStage, MaskStandsAt, Waits, kept_line, line_given_last, reached, want_of, with_bed_ended, with_decided, with_record}
+use Rattle.bt_seq.specs.MaskStanding.{Counts, IsDecided, IsNext, KnowsLast, KnowsNone, MaskStage, MaskStandsAt, Waits, decided_up_to, given, held_by, kept_line, line_given_last, reached, want_of, with_bed_ended, with_decided, with_record}
 use Rattle.bt_seq.specs.MaskSteps.{EndsRecords, GivesBed, HasSequence, LacksSequence, WritesLine}
 use Rattle.bt_seq.specs.Masked.{decided, held_for, masked_line}
-use Rattle.bt_seq.specs.Masking.{Masking, TakesBed, Waiting, Writes, decides, decides_by, has_owner, holding, holds, holds_by, line_bytes, with_owner, with_stretch}
+use Rattle.bt_seq.specs.Masking.{Masking, TakesBed, Waiting, Writes, decides, decides_by, decides_up_to, has_owner, holding, holds, holds_by, line_bytes, with_owner, with_stretch}
 use Rattle.bt_seq.specs.Matching.{Matched, begins_own, is_it, matched_with, owner_of}
 use Rattle.bt_seq.specs.Owners.{block_decides, items_if_last, left_after, own_records}
 use Rattle.bt_seq.specs.Sequences.{SequenceLine, bases_up_to}
@@ -90,6 +91,12 @@ owner_some : (left : Option (List (List ℕ))) → has_owner (owner_by left) →
 owner_some None h = absurd h
 owner_some (Some l) h = refl
 
+-- how far a record decides lines
+up_to_by : (left : Option (List (List ℕ))) (r : Feature) → decides_up_to (owner_by left) r.start ≡ decided_up_to left r
+up_to_by None r = refl
+up_to_by (Some []) r = refl
+up_to_by (Some (n ∷ ns)) r = refl
+
 -- the block of a record that decides a line belongs to the last sequence or to none
 decides_left : (bases : ℕ) (left : Option (List (List ℕ))) (r : Feature) → block_decides bases left (r ∷ []) ≡ true → (left ≡ None) ⊎ (left ≡ Some [])
 decides_left bases None r e = inl refl
@@ -117,7 +124,8 @@ module _ (how : MaskHow) (full : Bool) (stage : MaskStage) (line : SequenceLine)
   bytes_are =
       ap (λ (t : List ℕ). t ++ end_bytes line.ending)
       (ap (λ (h : MaskHow). masked_in h old.window.held old.window.before line.text) at_last.how_is
-      ∙ ap (λ (l : List Stretch). masked_in how l old.window.before line.text) (at_last.holds as_waits.lines)
+      ∙ ap (λ (l : List Stretch). masked_in how l old.window.before line.text)
+      (at_last.holds (inl as_waits.lines))
       ∙ ap (λ b. masked_in how (map stretch_of (held_for line stage.taken)) b line.text) at_last.counts.before
       ∙ text_masked how line stage.taken at_last.in_range as_waits.header)
 
@@ -127,6 +135,9 @@ module _ (how : MaskHow) (full : Bool) (stage : MaskStage) (line : SequenceLine)
   module _ (r : Feature) (some : r.start < r.stop) (range : r.stop ≤ max_number) (next : IsNext stage.ahead r) where
     abbrev left : Option (List (List ℕ))
     left = left_after line.names (stage.taken ++ r ∷ [])
+
+    low : r.start < limit
+    low = omega arith
 
     can : KnowsNone line.names stage.taken old.matched ⊎ (MayTake line.names stage.taken r old.matched ⊎ KnowsLast line.names (stage.taken ++ r ∷ []) old.matched)
     can = next_can_be line.names stage.taken r old.matched (is_some stage.waiting) stage.ahead (at_last.knows as_waits.bed) next
@@ -150,7 +161,8 @@ module _ (how : MaskHow) (full : Bool) (stage : MaskStage) (line : SequenceLine)
     taken_stands e =
         let undecided : block_decides (bases_up_to line) left (r ∷ []) ≡ false = sym decides_is ∙ e in
         let owned : is_some left ≡ true = left_some (bases_up_to line) left r undecided in
-        let held : old.window.held ≡ map stretch_of (held_for line stage.taken) = at_last.holds as_waits.lines in
+        let held : old.window.held ≡ map stretch_of (held_for line stage.taken) =
+        at_last.holds (inl as_waits.lines) in
         stands_at how full (with_record stage r) (holding old r) (Some line) (last_waits stage line waits) (record {
           how_is = at_last.how_is;
           full_is = at_last.full_is;
@@ -167,15 +179,25 @@ module _ (how : MaskHow) (full : Bool) (stage : MaskStage) (line : SequenceLine)
               ∙ sym (map-append stretch_of (held_for line stage.taken) (filter (reaches line r range) (items_if_last left (r ∷ []))))
               ∙ sym (ap (map stretch_of) (held_more line r range stage.taken));
           is_open = λ d. inr (decided_is ∙ e);
+          is_decided = λ n. absurd (let apart : Some line ≡ None = sym waits ∙ n in cc);
           owned = owned;
           in_range = range_more stage.taken r at_last.in_range range;
           knows = λ d. inr (take_next line.names stage.taken r old.matched can owned);
           has_ahead = λ d. absurd (let apart : Bed ≡ Line = sym (ap (λ (w : Option SequenceLine). want_of (is_some w) stage.lines_ended stage.bed_ended) waits) ∙ d in cc);
+          ahead_in_range = λ a d. absurd (let apart : None ≡ Some a = d in cc);
+          decided_to_is = λ n going a d. absurd (let apart : None ≡ Some a = d in cc);
         })
 
-    decided_stands : decides old r ≡ true → MaskStandsAt how full (with_decided stage r) (record (with_owner old r.chrom) { waiting = None; want = Line })
+    abbrev after_decided : Masking
+    after_decided = record (with_owner old r.chrom) {
+      waiting = None;
+      want = Line;
+      decided_to = decides_up_to (owner_of old.matched r.chrom) r.start;
+    }
+
+    decided_stands : decides old r ≡ true → MaskStandsAt how full (with_decided stage r) after_decided
     decided_stands e =
-        stands_at how full (with_decided stage r) (record (with_owner old r.chrom) { waiting = None; want = Line }) (Some line) given_last (record {
+        stands_at how full (with_decided stage r) after_decided (Some line) given_last (record {
           how_is = at_last.how_is;
           full_is = at_last.full_is;
           waiting_is = refl;
@@ -186,6 +208,7 @@ module _ (how : MaskHow) (full : Bool) (stage : MaskStage) (line : SequenceLine)
           name_is = name_same old.matched r.chrom ∙ at_last.name_is;
           holds = at_last.holds;
           is_open = at_last.is_open;
+          is_decided = λ n going. decided_is ∙ e;
           owned = at_last.owned;
           in_range = at_last.in_range;
           knows = λ d. elim (decides_left (bases_up_to line) left r (sym decides_is ∙ e)) [
@@ -193,10 +216,15 @@ module _ (how : MaskHow) (full : Bool) (stage : MaskStage) (line : SequenceLine)
             | inr own ↦ own_ahead line.names stage.taken r old.matched can own
           ];
           has_ahead = λ d going u. refl;
+          ahead_in_range = λ a d. let same : r ≡ a = cc in subst (λ (a : Feature). a.start < limit) same low;
+          decided_to_is = λ n going a d.
+              let same : r ≡ a = cc in
+              ap (λ o. decides_up_to o r.start) owner_is ∙ up_to_by left r
+              ∙ ap (λ (a : Feature). decided_up_to (left_after line.names (stage.taken ++ a ∷ [])) a) same;
         })
 
     module _ (out : Output) (new : Masking) (grown : Output) where
-      writes_line : (decides old r ≡ true) → Grown out (line_bytes old (kept_line line)) grown → new ≡ record (with_owner old r.chrom) { waiting = None; want = Line } → WritesLine how full stage line r out new grown
+      writes_line : (decides old r ≡ true) → Grown out (line_bytes old (kept_line line)) grown → new ≡ after_decided → WritesLine how full stage line r out new grown
       writes_line e puts is = record {
         decides = decided_is ∙ e;
         stands = subst (λ (x : Masking). MaskStandsAt how full (with_decided stage r) x) (sym is) (decided_stands e);
@@ -243,10 +271,13 @@ module _ (how : MaskHow) (full : Bool) (stage : MaskStage) (line : SequenceLine)
         name_is = at_last.name_is;
         holds = at_last.holds;
         is_open = at_last.is_open;
+        is_decided = λ n going. absurd (never (sym going));
         owned = at_last.owned;
         in_range = at_last.in_range;
         knows = λ d. absurd (never (sym d));
         has_ahead = λ d e u. absurd (never (sym e));
+        ahead_in_range = at_last.ahead_in_range;
+        decided_to_is = λ n going. absurd (never (sym going));
       })
 
   pub ends_bed : {A : Type 0} (answer : Result A Fault) (out : Output) (new : Masking) (grown : Output) → Writes (record old { bed_ended = true }) (kept_line line) out answer new grown → EndsRecords how full stage line out answer new grown
@@ -255,6 +286,25 @@ module _ (how : MaskHow) (full : Bool) (stage : MaskStage) (line : SequenceLine)
     subst (λ (l : List ℕ). Grown out l grown) bytes_are w.1,
   )
   ends_bed (Err fault) out new grown w = (w.0, subst (λ (l : List ℕ). FailsToAdd out l (told fault) grown) bytes_are w.1)
+
+-- what is decided by the records taken and the one ahead is decided by those taken, once it is
+-- taken too
+decided_next : (last : Option SequenceLine) (taken : List Feature) (ahead : Option Feature)
+    (r : Feature) → IsNext ahead r → IsDecided last (taken ++ option_to_list ahead)
+    → IsDecided last (taken ++ r ∷ [])
+decided_next None taken ahead r next e = tt
+decided_next (Some line) taken None r next e =
+    decided_stays line taken (r ∷ [])
+    (sym (ap (λ (rs : List Feature). decided line rs) (append-nil taken)) ∙ e)
+decided_next (Some line) taken (Some a) r next e =
+    ap (λ (a : Feature). decided line (taken ++ a ∷ [])) (sym next) ∙ e
+
+-- and it isn't held
+held_next : (last : Option SequenceLine) (taken : List Feature) (r : Feature)
+    → IsDecided last (taken ++ r ∷ []) → AreInBlocks (taken ++ r ∷ [])
+    → held_by last (taken ++ r ∷ []) ≡ held_by last taken
+held_next None taken r e placed = refl
+held_next (Some line) taken r e placed = held_before line taken r placed e
 
 -- behind the last line
 module _ (how : MaskHow) (full : Bool) (stage : MaskStage) (none : stage.waiting ≡ None) (old : Masking) (stands : MaskStandsAt how full stage old) (wants : old.want ≡ Bed) where
@@ -274,6 +324,12 @@ module _ (how : MaskHow) (full : Bool) (stage : MaskStage) (none : stage.waiting
     owner_now : owner_of old.matched r.chrom ≡ owner_by left_now
     owner_now = owner_next names stage.taken r old.matched can_now stands.name_is
 
+    abbrev last : Option SequenceLine
+    last = line_given_last (given stage)
+
+    decided_now : IsDecided last (stage.taken ++ r ∷ [])
+    decided_now = decided_next last stage.taken stage.ahead r next (stands.is_decided none ended.1)
+
     checked_stands : is_some left_now ≡ true → MaskStandsAt how full (with_record stage r) (with_owner old r.chrom)
     checked_stands owned = record {
       how_is = stands.how_is;
@@ -284,12 +340,21 @@ module _ (how : MaskHow) (full : Bool) (stage : MaskStage) (none : stage.waiting
       waits = λ l d. absurd (let apart : None ≡ Some l = sym none ∙ d in cc);
       counts = stands.counts;
       name_is = name_same old.matched r.chrom ∙ stands.name_is;
-      holds = λ d. absurd (never (sym d ∙ ended.0));
+      holds = λ d. elim d [
+        | inl lasts ↦ absurd (never (sym lasts ∙ ended.0))
+        | inr placed ↦ stands.holds (inr (blocks_front stage.taken (r ∷ []) placed))
+            ∙ sym (ap (λ (rs : List Feature). map stretch_of rs)
+            (held_next last stage.taken r decided_now placed))
+      ];
       is_open = λ d. absurd (never (sym d ∙ ended.0));
+      is_decided = λ n going. subst (λ (rs : List Feature). IsDecided last rs)
+          (sym (append-nil (stage.taken ++ r ∷ []))) decided_now;
       owned = owned;
       in_range = range_more stage.taken r stands.in_range range;
       knows = λ d. inr (take_next names stage.taken r old.matched can_now owned);
       has_ahead = λ d. absurd (let apart : Bed ≡ Line = sym wants ∙ stands.want_is ∙ d in cc);
+      ahead_in_range = λ a d. absurd (let apart : None ≡ Some a = d in cc);
+      decided_to_is = λ n going a d. absurd (let apart : None ≡ Some a = d in cc);
     }
 
     pub checks_bed : (number : ℕ) (out : Output) (new : Masking) → has_owner (owner_of old.matched r.chrom) → new ≡ with_owner old r.chrom → HasSequence how full stage r number out new out

@@ -1,8 +1,9 @@
 -- Lemmas on a masking engine that is given a line.
-use Rattle.std.proofs.Common.{◌≡◌, ℕ, min, Bool, true, false, cond, not, ◌&&◌, ◌||◌, nat_lt, length, List, [], ◌∷◌, ◌++◌, map, filter, Option, Some, None, Result, Ok, Err, refl, sym, ap, ◌∙◌, subst, append-nil, inl, inr, ◌⊎◌, arith}
+use Rattle.std.proofs.Common.{◌≡◌, ℕ, ◌<◌, min, nat_le, Bool, true, false, cond, not, ◌&&◌, ◌||◌, nat_lt, length, List, [], ◌∷◌, ◌++◌, map, filter, Option, Some, None, Result, Ok, Err, refl, sym, ap, ◌∙◌, subst, append-nil, inl, inr, ◌⊎◌, arith}
 use Rattle.std.specs.List.{AllByRecursion, list_any}
 use Rattle.std.specs.Prelude.{is_none, is_some, option_map, option_to_list}
 use Rattle.std.proofs.lemmas.Bool.Decides.{nat_tests}
+use Rattle.std.proofs.lemmas.List.{length-map}
 use Rattle.bt_bed.specs.Feature.{Feature}
 use Rattle.bt_lines.specs.Lines.{TextLine, end_bytes}
 use Rattle.bt_lines.specs.Names.{told}
@@ -10,19 +11,19 @@ use Rattle.bt_lines.specs.Output.{Output}
 use Rattle.bt_lines.specs.Putting.{FailsToAdd, Grown}
 use Rattle.bt_lines.specs.declared.fault.Fault.{Fault}
 use Rattle.bt_lines.specs.declared.fault.Kind.TheVariants.{TextBeforeHeader}
-use Rattle.bt_seq.proofs.CountLemmas.{IsLow, held_on, own_low, text_masked}
+use Rattle.bt_seq.proofs.CountLemmas.{IsLow, decides_alike, held_on, own_low, text_masked}
 use Rattle.bt_seq.proofs.KnownLemmas.{never, with_header, with_plain}
-use Rattle.bt_seq.proofs.MaskFrontLemmas.{decided_by_tags}
-use Rattle.bt_seq.proofs.NextLemmas.{left_grows, named_more, none_own, undecided_header, undecided_next}
+use Rattle.bt_seq.proofs.MaskFrontLemmas.{decided_by_tags, masked_before}
+use Rattle.bt_seq.proofs.NextLemmas.{decided_more, left_grows, named_more, none_own, undecided_header, undecided_next}
 use Rattle.bt_seq.proofs.StandLemmas.{last_more, last_name_more, last_name_none, stands_at, unnamed_are, unnamed_untaken, wants_line}
 use Rattle.bt_seq.proofs.TagLemmas.{own_tagged, tag_decides, tags_of}
 use Rattle.bt_seq.specs.Held.{stretch_of}
-use Rattle.bt_seq.specs.MaskStanding.{AreInRange, Counts, IsOpen, KnowsNext, MaskStage, MaskStandsAt, Waits, given, held_by, is_written_at_once, kept_line, last_name, line_given_last, reached, reached_by, want_of, with_line}
-use Rattle.bt_seq.specs.MaskSteps.{FailsWithLine, GivesNextLine, RefusesLine, TakesNextLine, bytes_with}
+use Rattle.bt_seq.specs.MaskStanding.{AreInRange, Counts, IsOpen, KnowsNext, MaskStage, MaskStandsAt, Waits, decided_up_to, given, held_by, is_written_ahead, is_written_at_once, kept_line, last_name, line_given_last, reached, reached_by, want_of, with_line}
+use Rattle.bt_seq.specs.MaskSteps.{FailsWithLine, GivesNextLine, IsSettled, RefusesLine, TakesNextLine, bytes_with, may_need_memory}
 use Rattle.bt_seq.specs.Masked.{decided, held_for, is_unnamed, masked_line}
-use Rattle.bt_seq.specs.Masking.{Masking, TakesLine, Waiting, bytes_at_once, is_stray, line_bytes, moved_to, writes_at_once}
-use Rattle.bt_seq.specs.Matching.{named}
-use Rattle.bt_seq.specs.Owners.{left_after, own_records}
+use Rattle.bt_seq.specs.Masking.{Masking, TakesLine, Waiting, bytes_at_once, is_stray, line_bytes, may_grow, moved_to, writes_at_once}
+use Rattle.bt_seq.specs.Matching.{Matched, named}
+use Rattle.bt_seq.specs.Owners.{block_decides, left_after, own_records}
 use Rattle.bt_seq.specs.Sequences.{SequenceLine, bases_in, bases_up_to, header_behind, is_header, line_behind, line_says, may_stand, name_in}
 use Rattle.bt_seq.specs.Stretches.{masked_in}
 use Rattle.bt_seq.specs.Window.{Bounds, gone_on, limit, no_bases}
@@ -86,6 +87,77 @@ module _ (taken : List Feature) (range : AreInRange taken) (line : TextLine) (pl
     | inr undecided ↦ inr (undecided_next (bases_up_to l) (bases_up_to (next (Some l))) (omega arith) l (next (Some l)) taken refl refl refl undecided)
   ]
 
+or_third : (a b c d : Bool) → (a ≡ false → b ≡ false → c ≡ d) → (a || (b || c)) ≡ (a || (b || d))
+or_third true b c d e = refl
+or_third false true c d e = refl
+or_third false false c d e = e refl refl
+
+no_and : (a b : Bool) → a ≡ true → (not a && b) ≡ false
+no_and true b e = refl
+no_and false b e = absurd (never e)
+
+yes_and : (a b : Bool) → a ≡ false → (not a && b) ≡ b
+yes_and true b e = absurd (never (sym e))
+yes_and false b e = refl
+
+-- the record ahead doesn't decide a header, and where it decides a line there is one
+header_ahead : (o : Option Feature) (taken : List Feature) (item : SequenceLine) → is_header item.text ≡ true
+    → is_written_ahead o taken item ≡ false
+header_ahead None taken item e = refl
+header_ahead (Some r) taken item e = no_and (is_header item.text) (decided item (taken ++ r ∷ [])) e
+
+decided_some : (o : Option Feature) (taken : List Feature) (item : SequenceLine) → is_written_ahead o taken item ≡ true
+    → is_some o ≡ true
+decided_some None taken item e = e
+decided_some (Some r) taken item e = refl
+
+and_second : (a b : Bool) → (not a && b) ≡ true → b ≡ true
+and_second true b e = absurd (never e)
+and_second false b e = e
+
+-- a line that is written at once while records may come is decided
+decided_at_once : (u : Bool) (o : Option Feature) (taken : List Feature) (item : SequenceLine)
+    → is_unnamed item.names ≡ u → (u || is_written_ahead o taken item) ≡ true
+    → decided item (taken ++ option_to_list o) ≡ true
+decided_at_once true o taken item unnamed e =
+    let records = taken ++ option_to_list o in
+    let decides = list_any (tag_decides (bases_up_to item)) (tags_of item.names records) in
+    decided_by_tags item records ∙ ap (λ b. b || decides) unnamed
+decided_at_once false None taken item is_named e = absurd (never e)
+decided_at_once false (Some r) taken item is_named e =
+    and_second (is_header item.text) (decided item (taken ++ r ∷ [])) e
+
+or_rest : (a b : Bool) → (a || b) ≡ true → a ≡ false → b ≡ true
+or_rest true b e d = absurd (never (sym d))
+or_rest false b e d = e
+
+-- whether it decides a further line of the sequence, by how far it decides them
+ahead_decides : (bases : ℕ) (left : Option (List (List ℕ))) (r : Feature) → r.start < limit
+    → (left ≡ Some []) ⊎ (left ≡ None)
+    → nat_le (min bases limit) (decided_up_to left r) ≡ block_decides bases left (r ∷ [])
+ahead_decides bases None r low which = grind (arith, nat_tests)
+ahead_decides bases (Some []) r low which = decides_alike bases (Some []) r low
+ahead_decides bases (Some (n ∷ ns)) r low which = elim which [
+  | inl own ↦ absurd (let apart : Some (n ∷ ns) ≡ Some [] = own in cc)
+  | inr none ↦ absurd (let apart : Some (n ∷ ns) ≡ None = none in cc)
+]
+
+-- its block belongs to the last sequence, or to none
+ahead_left : (names : List (List ℕ)) (taken : List Feature) (r : Feature) (m : Matched) → KnowsNext false names taken (Some r) m
+    → (left_after names (taken ++ r ∷ []) ≡ Some []) ⊎ (left_after names (taken ++ r ∷ []) ≡ None)
+ahead_left names taken r m known = elim known [
+  | inl last ↦ inl (last.1 refl)
+  | inr ahead ↦ inr (ahead.1 refl)
+]
+
+-- a line of a sequence that is open is undecided
+open_undecided : (item : SequenceLine) (taken : List Feature) → is_unnamed item.names ≡ false → IsOpen (Some item) taken
+    → decided item taken ≡ false
+open_undecided item taken is_named open_at = elim open_at [
+  | inl none ↦ ap (λ (rs : List Feature). decided item rs) none ∙ ap (λ b. b || false) is_named
+  | inr undecided ↦ undecided
+]
+
 not_strayed : (names : List (List ℕ)) (text : List ℕ) → may_stand names text ≡ not (is_unnamed names && nat_lt 0 (length text))
 not_strayed [] [] = refl
 not_strayed [] (byte ∷ bytes) = let some : nat_lt 0 (length (byte ∷ bytes)) ≡ true = grind (arith, nat_tests) in sym (ap not some)
@@ -110,7 +182,7 @@ module _ (how : MaskHow) (full : Bool) (stage : MaskStage) (old : Masking) (s : 
   open_at = s.is_open asked.1
 
   held_is : old.window.held ≡ map stretch_of (held_by (line_given_last (given stage)) stage.taken)
-  held_is = s.holds asked.1
+  held_is = s.holds (inl asked.1)
 
   -- with a line, before it waits or is written
   record Moved (item : SequenceLine) (moved : Masking) : Type 0 where
@@ -124,7 +196,10 @@ module _ (how : MaskHow) (full : Bool) (stage : MaskStage) (old : Masking) (s : 
     owned : is_some (left_after item.names stage.taken) ≡ true
     header : is_header item.text ≡ true → item.before ≡ 0
     waits_known : stage.bed_ended ≡ false → is_unnamed item.names ≡ false → KnowsNext true item.names stage.taken stage.ahead moved.matched
-    unnamed_known : stage.bed_ended ≡ false → is_unnamed item.names ≡ true → KnowsNext false item.names stage.taken stage.ahead moved.matched
+    at_once : writes_at_once moved item.text ≡ is_written_at_once stage item
+    written_known : stage.bed_ended ≡ false → is_written_at_once stage item ≡ true → KnowsNext false item.names stage.taken stage.ahead moved.matched
+    written_to : stage.bed_ended ≡ false → is_written_at_once stage item ≡ true → (r : Feature) → stage.ahead ≡ Some r
+        → moved.decided_to ≡ decided_up_to (left_after item.names (stage.taken ++ r ∷ [])) r
 
   going_known : stage.bed_ended ≡ false → KnowsNext false names stage.taken stage.ahead old.matched
   going_known going = subst (λ (w : Option SequenceLine). KnowsNext (is_some w) names stage.taken stage.ahead old.matched) asked.0 (s.knows going)
@@ -135,6 +210,25 @@ module _ (how : MaskHow) (full : Bool) (stage : MaskStage) (old : Masking) (s : 
 
   first_header : stage.bed_ended ≡ false → is_some stage.ahead ≡ false → (names ≡ []) × (stage.taken ≡ [])
   first_header going none = first_by (is_unnamed names) refl (λ e. s.has_ahead (sym s.want_is ∙ wants) going e) none
+
+  -- whether a line to which it has moved is written at once
+  once_by : (item : SequenceLine) (moved : Masking) → moved.bed_ended ≡ stage.bed_ended → moved.matched.name ≡ last_name item.names
+      → (stage.bed_ended ≡ false → is_unnamed item.names ≡ false
+      → (not (is_header item.text) && nat_le moved.window.bases moved.decided_to) ≡ is_written_ahead stage.ahead stage.taken item)
+      → writes_at_once moved item.text ≡ is_written_at_once stage item
+  once_by item moved ended name alike =
+      let known = not (is_header item.text) && nat_le moved.window.bases moved.decided_to in
+      ap (λ b. b || (is_none moved.matched.name || known)) ended
+      ∙ ap (λ b. stage.bed_ended || (b || known)) (ap is_none name ∙ last_name_none item.names)
+      ∙ or_third stage.bed_ended (is_unnamed item.names) known (is_written_ahead stage.ahead stage.taken item) alike
+
+  -- a header isn't, while records may come
+  header_later : (item : SequenceLine) → is_unnamed item.names ≡ false → is_header item.text ≡ true → stage.bed_ended ≡ false
+      → is_written_at_once stage item ≡ true → ⊥
+  header_later item is_named e going now =
+      never (sym (ap (λ b. b || (is_unnamed item.names || is_written_ahead stage.ahead stage.taken item)) going
+      ∙ ap (λ b. b || is_written_ahead stage.ahead stage.taken item) is_named
+      ∙ header_ahead stage.ahead stage.taken item e) ∙ now)
 
   module _ (line : TextLine) where
     abbrev header_moved : Masking
@@ -159,7 +253,11 @@ module _ (how : MaskHow) (full : Bool) (stage : MaskStage) (old : Masking) (s : 
           owned = ap is_some (left_grows n names left.0 stage.taken left.1);
           header = λ e. refl;
           waits_known = λ going u. with_header names n stage.taken old.matched stage.ahead (first_header going) (going_known going);
-          unnamed_known = λ going u. absurd (never (sym (named_more n names) ∙ u));
+          at_once = once_by header_item header_moved s.bed_ended_is (sym (last_name_more names n)) (λ going u.
+              no_and (is_header line.text) (nat_le header_moved.window.bases header_moved.decided_to) e
+              ∙ sym (header_ahead stage.ahead stage.taken header_item e));
+          written_known = λ going now. absurd (header_later header_item (named_more n names) e going now);
+          written_to = λ going now. absurd (header_later header_item (named_more n names) e going now);
         }
 
     abbrev plain_moved : Masking
@@ -168,22 +266,44 @@ module _ (how : MaskHow) (full : Bool) (stage : MaskStage) (old : Masking) (s : 
     abbrev plain_item : SequenceLine
     plain_item = line_behind (reached stage) line
 
-    plain_by : is_header line.text ≡ false → Moved plain_item plain_moved
-    plain_by e =
+    plain_counts : is_header line.text ≡ false → Counts (Some plain_item) plain_moved.window
+    plain_counts e =
         let count : bases_in line.text ≡ length line.text = ap (λ b. cond b 0 (length line.text)) e in
         let bases : old.window.bases ≡ min (reached stage).bases limit = s.counts.bases in
+        record { before = bases; bases = omega arith }
+
+    -- whether the record ahead decides it is what is known
+    plain_alike : is_header line.text ≡ false → stage.bed_ended ≡ false → is_unnamed names ≡ false → (o : Option Feature) → stage.ahead ≡ o
+        → (not (is_header line.text) && nat_le plain_moved.window.bases old.decided_to) ≡ is_written_ahead o stage.taken plain_item
+    plain_alike e going is_named None ahead =
+        absurd (never (sym (ap is_some ahead) ∙ s.has_ahead (sym s.want_is ∙ wants) going is_named))
+    plain_alike e going is_named (Some r) ahead =
+        let known = subst (λ (o : Option Feature). KnowsNext false names stage.taken o old.matched) ahead (going_known going) in
+        let left = left_after names (stage.taken ++ r ∷ []) in
+        let undecided = open_undecided plain_item stage.taken is_named (open_further stage.taken s.in_range line e (line_given_last (given stage)) open_at) in
+        let decides : nat_le plain_moved.window.bases old.decided_to ≡ decided plain_item (stage.taken ++ r ∷ []) =
+        ap (λ (n : ℕ). nat_le n old.decided_to) (plain_counts e).bases
+        ∙ ap (λ (n : ℕ). nat_le (min (bases_up_to plain_item) limit) n) (s.decided_to_is asked.0 going r ahead)
+        ∙ ahead_decides (bases_up_to plain_item) left r (s.ahead_in_range r ahead) (ahead_left names stage.taken r old.matched known)
+        ∙ sym (decided_more plain_item stage.taken r ∙ ap (λ b. b || block_decides (bases_up_to plain_item) left (r ∷ [])) undecided) in
+        ap (λ b. not (is_header line.text) && b) decides
+
+    plain_by : is_header line.text ≡ false → Moved plain_item plain_moved
+    plain_by e =
         record {
           how_is = s.how_is;
           full_is = s.full_is;
           bed_ended_is = s.bed_ended_is;
-          counts = record { before = bases; bases = omega arith };
+          counts = plain_counts e;
           name_is = s.name_is;
           holds = held_further stage.taken s.in_range line e (line_given_last (given stage)) old.window s.counts open_at held_is;
           is_open = open_further stage.taken s.in_range line e (line_given_last (given stage)) open_at;
           owned = s.owned;
           header = λ h. absurd (never (sym e ∙ h));
           waits_known = λ going u. with_plain names stage.taken stage.ahead old.matched (going_known going);
-          unnamed_known = λ going u. going_known going;
+          at_once = once_by plain_item plain_moved s.bed_ended_is s.name_is (λ going u. plain_alike e going u stage.ahead refl);
+          written_known = λ going now. going_known going;
+          written_to = λ going now. s.decided_to_is asked.0 going;
         }
 
     -- what a line says, and where the engine goes
@@ -240,11 +360,15 @@ module _ (how : MaskHow) (full : Bool) (stage : MaskStage) (old : Masking) (s : 
     goes = goes_by (is_header line.text) refl
 
   module _ (item : SequenceLine) (moved : Masking) (m : Moved item moved) where
-    -- whether it is written at once
-    at_once : writes_at_once moved ≡ is_written_at_once stage item
-    at_once =
-        ap (λ b. b || is_none moved.matched.name) m.bed_ended_is
-        ∙ ap (λ b. stage.bed_ended || b) (ap is_none m.name_is ∙ last_name_none item.names)
+    -- whether it may need memory
+    memory_is : may_grow moved item.text ≡ may_need_memory stage item
+    memory_is =
+        ap (λ b. is_header item.text || (not b || nat_lt 0 (length moved.window.held))) m.at_once
+        ∙ ap (λ (n : ℕ). is_header item.text || (not (is_written_at_once stage item) || nat_lt 0 n))
+        (ap length m.holds ∙ length-map (held_for item stage.taken) stretch_of)
+
+    settled : IsSettled how stage item
+    settled r d = masked_before how item stage.taken r d
 
     -- its bytes
     bytes_are : line_bytes moved (kept_line item) ≡ masked_line how stage.taken item
@@ -270,10 +394,13 @@ module _ (how : MaskHow) (full : Bool) (stage : MaskStage) (old : Masking) (s : 
           name_is = m.name_is;
           holds = λ e. m.holds;
           is_open = λ e. m.is_open;
+          is_decided = λ e. absurd (let apart : Some item ≡ None = e in cc);
           owned = m.owned;
           in_range = s.in_range;
           knows = λ e. m.waits_known going is_named;
           has_ahead = λ e. absurd (let apart : Bed ≡ Line = e in cc);
+          ahead_in_range = s.ahead_in_range;
+          decided_to_is = λ e. absurd (let apart : Some item ≡ None = e in cc);
         })
 
     abbrev written_stage : MaskStage
@@ -284,9 +411,10 @@ module _ (how : MaskHow) (full : Bool) (stage : MaskStage) (old : Masking) (s : 
         ap (λ (w : Option SequenceLine). line_given_last ((stage.written ++ item ∷ []) ++ option_to_list w)) asked.0
         ∙ ap line_given_last (append-nil (stage.written ++ item ∷ [])) ∙ last_more stage.written item
 
-    or_true : (a b : Bool) → (a || b) ≡ true → a ≡ false → b ≡ true
-    or_true true b e d = absurd (never (sym d))
-    or_true false b e d = e
+    or_true : (a b c : Bool) → (a || (b || c)) ≡ true → a ≡ false → b ≡ false → c ≡ true
+    or_true true b c e d f = absurd (never (sym d))
+    or_true false true c e d f = absurd (never (sym f))
+    or_true false false c e d f = e
 
     written_stands : is_written_at_once stage item ≡ true → MaskStandsAt how full written_stage (record moved { waiting = None; want = Line })
     written_stands now =
@@ -301,29 +429,37 @@ module _ (how : MaskHow) (full : Bool) (stage : MaskStage) (old : Masking) (s : 
           name_is = m.name_is;
           holds = λ e. m.holds;
           is_open = λ e. m.is_open;
+          is_decided = λ n going.
+              let ahead = is_written_ahead stage.ahead stage.taken item in
+              decided_at_once (is_unnamed item.names) stage.ahead stage.taken item refl
+              (or_rest stage.bed_ended (is_unnamed item.names || ahead) now going);
           owned = m.owned;
           in_range = s.in_range;
           knows = λ going. subst (λ (w : Option SequenceLine). KnowsNext (is_some w) item.names stage.taken stage.ahead moved.matched) (sym asked.0)
-              (m.unnamed_known going (or_true stage.bed_ended (is_unnamed item.names) now going));
-          has_ahead = λ e going u. absurd (never (sym u ∙ or_true stage.bed_ended (is_unnamed item.names) now going));
+              (m.written_known going now);
+          has_ahead = λ e going u. decided_some stage.ahead stage.taken item
+              (or_true stage.bed_ended (is_unnamed item.names) (is_written_ahead stage.ahead stage.taken item) now going u);
+          ahead_in_range = s.ahead_in_range;
+          decided_to_is = λ e going. m.written_to going now;
         })
 
-    or_both : (a b : Bool) → (a || b) ≡ false → (a ≡ false) × (b ≡ false)
-    or_both true b e = absurd (never (sym e))
-    or_both false b e = (refl, e)
+    or_both : (a b c : Bool) → (a || (b || c)) ≡ false → (a ≡ false) × (b ≡ false)
+    or_both true b c e = absurd (never (sym e))
+    or_both false true c e = absurd (never (sym e))
+    or_both false false c e = (refl, refl)
 
     stands_with : (b : Bool) → is_written_at_once stage item ≡ b
         → MaskStandsAt how full (cond b written_stage (record stage { waiting = Some item })) (record moved { waiting = cond b None (Some (kept_line item)); want = cond b Line Bed })
     stands_with true e = written_stands e
-    stands_with false e = let both = or_both stage.bed_ended (is_unnamed item.names) e in waiting_stands both.0 both.1
+    stands_with false e = let both = or_both stage.bed_ended (is_unnamed item.names) (is_written_ahead stage.ahead stage.taken item) e in waiting_stands both.0 both.1
 
-    with_it : MaskStandsAt how full (with_line stage item) (record moved { waiting = cond (writes_at_once moved) None (Some (kept_line item)); want = cond (writes_at_once moved) Line Bed })
+    with_it : MaskStandsAt how full (with_line stage item) (record moved { waiting = cond (writes_at_once moved item.text) None (Some (kept_line item)); want = cond (writes_at_once moved item.text) Line Bed })
     with_it =
-        subst (λ b. MaskStandsAt how full (with_line stage item) (record moved { waiting = cond b None (Some (kept_line item)); want = cond b Line Bed })) (sym at_once)
+        subst (λ b. MaskStandsAt how full (with_line stage item) (record moved { waiting = cond b None (Some (kept_line item)); want = cond b Line Bed })) (sym m.at_once)
         (stands_with (is_written_at_once stage item) refl)
 
     bytes_now : bytes_at_once moved (kept_line item) ≡ bytes_with how stage item
-    bytes_now = ap (λ b. cond b (line_bytes moved (kept_line item)) []) at_once ∙ ap (λ (l : List ℕ). cond (is_written_at_once stage item) l []) bytes_are
+    bytes_now = ap (λ b. cond b (line_bytes moved (kept_line item)) []) m.at_once ∙ ap (λ (l : List ℕ). cond (is_written_at_once stage item) l []) bytes_are
 
   module _ (line : TextLine) (out : Output) (new : Masking) (grown : Output) where
     abbrev kept : Waiting
@@ -334,10 +470,11 @@ module _ (how : MaskHow) (full : Bool) (stage : MaskStage) (old : Masking) (s : 
       item = g.item;
       says = g.says;
       stands = subst (λ (x : Masking). MaskStandsAt how full (with_line stage g.item) x)
-          (ap (λ (k : Waiting). record (moved_to old line.text) { waiting = cond (writes_at_once (moved_to old line.text)) None (Some k); want = cond (writes_at_once (moved_to old line.text)) Line Bed }) g.kept ∙ sym t.1)
+          (ap (λ (k : Waiting). record (moved_to old line.text) { waiting = cond (writes_at_once (moved_to old line.text) k.text) None (Some k); want = cond (writes_at_once (moved_to old line.text) k.text) Line Bed }) g.kept ∙ sym t.1)
           (with_it g.item (moved_to old line.text) g.moved);
       puts = subst (λ (l : List ℕ). Grown out l grown)
           (ap (λ (k : Waiting). bytes_at_once (moved_to old line.text) k) (sym g.kept) ∙ bytes_now g.item (moved_to old line.text) g.moved) t.2;
+      settled = settled g.item (moved_to old line.text) g.moved;
     }
 
     fails : (A : Type 0) (fault : Fault) → Goes line → TakesLine {A = A} old line.number kept out (Err fault) new grown → (new.want ≡ Nothing) × (RefusesLine how full stage line out (told fault) grown ⊎ FailsWithLine how full stage line out (told fault) grown)
@@ -351,8 +488,14 @@ module _ (how : MaskHow) (full : Bool) (stage : MaskStage) (old : Masking) (s : 
           fails = elim other.1 [
             | inl add ↦ inl (subst (λ (l : List ℕ). FailsToAdd out l (told fault) grown)
                 (ap (λ (k : Waiting). bytes_at_once (moved_to old line.text) k) (sym g.kept) ∙ bytes_now g.item (moved_to old line.text) g.moved) add)
-            | inr memory ↦ inr memory
+            | inr memory ↦ inr (
+              memory.0,
+              memory.1,
+              sym (memory_is g.item (moved_to old line.text) g.moved)
+                  ∙ ap (λ (k : Waiting). may_grow (moved_to old line.text) k.text) g.kept ∙ memory.2,
+            )
           ];
+          settled = settled g.item (moved_to old line.text) g.moved;
         })
       ],
     )

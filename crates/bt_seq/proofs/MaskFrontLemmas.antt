@@ -1,10 +1,11 @@
 -- Lemmas on lines that are decided early.
-use Rattle.std.proofs.Common.{◌≡◌, ℕ, suc, ◌+◌, ◌<◌, ◌≤◌, Bool, true, false, cond, ◌||◌, nat_le, length, List, [], ◌∷◌, ◌++◌, Option, Some, None, refl, sym, ap, ◌∙◌, subst, bytes_eq, arith}
+use Rattle.std.proofs.Common.{◌≡◌, ℕ, suc, ◌+◌, ◌<◌, ◌≤◌, Bool, true, false, cond, ◌&&◌, ◌||◌, nat_le, nat_lt, length, List, [], ◌∷◌, ◌++◌, filter, Option, Some, None, refl, sym, ap, ◌∙◌, subst, append-nil, bytes_eq, arith}
 use Rattle.std.specs.Prelude.{⊤}
 use Rattle.std.specs.Cmp.Lexicographic.{bytes_decides}
 use Rattle.std.specs.List.{AllByRecursion, list_any}
 use Rattle.std.proofs.lemmas.Bool.Decides.{nat_tests}
 use Rattle.std.proofs.lemmas.Grind.{flat_map-append}
+use Rattle.std.proofs.lemmas.List.Elements.{filter-append}
 use Rattle.std.proofs.lemmas.List.Folds.{list_any-append}
 use Rattle.bt_bed.specs.Feature.{Feature}
 use Rattle.bt_bed.specs.GoodBed.{locus_at}
@@ -13,7 +14,7 @@ use Rattle.bt_lines.specs.Lines.{end_bytes}
 use Rattle.bt_seq.proofs.LeftLemmas.{is_last, leave}
 use Rattle.bt_seq.proofs.TagLemmas.{Tagged, decided_tagged, last_from, next_left, own_in, own_tagged, tag_decides, tags, tags_append, tags_of}
 use Rattle.bt_seq.specs.MaskFronts.{decided_lines_stay, masked_lines_are_before, masked_lines_stay}
-use Rattle.bt_seq.specs.Masked.{covers, decided, is_unnamed, masked_from, masked_text}
+use Rattle.bt_seq.specs.Masked.{covers, decided, held_for, is_unnamed, masked_from, masked_text}
 use Rattle.bt_seq.specs.MaskHow.{masked_byte}
 use Rattle.bt_seq.specs.Owners.{block_decides, items_if_last, left_by, own_records}
 use Rattle.bt_seq.specs.Sequences.{SequenceLine, bases_in, bases_up_to, is_header}
@@ -61,6 +62,11 @@ blocks_rest r (s ∷ ss) h = h.1
 blocks_drop : (rs more : List Feature) → AreInBlocks (rs ++ more) → AreInBlocks more
 blocks_drop [] more h = h
 blocks_drop (r ∷ rs) more h = blocks_drop rs more (blocks_rest r (rs ++ more) h)
+
+pub blocks_front : (rs more : List Feature) → AreInBlocks (rs ++ more) → AreInBlocks rs
+blocks_front [] more h = tt
+blocks_front (r ∷ []) more h = tt
+blocks_front (r ∷ s ∷ rs) more h = (h.0, blocks_front (s ∷ rs) more h.1)
 
 -- once a record has decided a line: the block belongs to none, or to the last sequence, and the record starts behind the line
 module _ (bases : ℕ) where
@@ -221,6 +227,44 @@ module _ (how : MaskHow) (line : SequenceLine) where
   before_text rs r more placed false u e =
       ap text_by (own_split line.names rs (r ∷ more))
       ∙ text_same how line (own_records line.names rs) (own_in (tags chrom_of (leave (Some line.names) None rs) (last_from None rs) (r ∷ more))) (before_all (bases_up_to line) (Some line.names) None rs r more e placed) (is_header line.text) refl
+
+-- a record that decides a line isn't held by it
+module _ (line : SequenceLine) where
+  abbrev reaches : Feature → Bool
+  reaches r = nat_lt r.start (bases_up_to line) && nat_lt line.before r.stop
+
+  none_reaches : (rs : List Feature) → AreBehind (bases_up_to line) rs → filter reaches rs ≡ []
+  none_reaches [] h = refl
+  none_reaches (r ∷ rs) h =
+      let start : bases_up_to line ≤ r.start = h.0 in
+      let past : reaches r ≡ false = grind (arith, nat_tests) in
+      ap (λ b. cond b (r ∷ filter reaches rs) (filter reaches rs)) past ∙ none_reaches rs h.1
+
+  held_same : (rs extra : List Feature) → AreBehind (bases_up_to line) extra
+      → filter reaches (rs ++ extra) ≡ filter reaches rs
+  held_same rs extra h =
+      filter-append reaches rs extra
+      ∙ ap (λ (l : List Feature). filter reaches rs ++ l) (none_reaches extra h)
+      ∙ append-nil (filter reaches rs)
+
+  held_by_tags : (rs : List Feature) (r : Feature) → AreInBlocks (rs ++ r ∷ []) → (u : Bool)
+      → is_unnamed line.names ≡ u
+      → (u || list_any (tag_decides (bases_up_to line)) (tags_of line.names (rs ++ r ∷ []))) ≡ true
+      → held_for line (rs ++ r ∷ []) ≡ held_for line rs
+  held_by_tags rs r placed true u e =
+      ap (filter reaches) (unnamed_alike line.names u (rs ++ r ∷ []) rs)
+  held_by_tags rs r placed false u e =
+      let left = leave (Some line.names) None rs in
+      let next = own_in (tags chrom_of left (last_from None rs) (r ∷ [])) in
+      ap (filter reaches) (own_split line.names rs (r ∷ []))
+      ∙ held_same (own_records line.names rs) next
+      (before_all (bases_up_to line) (Some line.names) None rs r [] e placed)
+
+  pub held_before : (rs : List Feature) (r : Feature) → AreInBlocks (rs ++ r ∷ [])
+      → decided line (rs ++ r ∷ []) ≡ true → held_for line (rs ++ r ∷ []) ≡ held_for line rs
+  held_before rs r placed e =
+      held_by_tags rs r placed (is_unnamed line.names) refl
+      (sym (decided_by_tags line (rs ++ r ∷ [])) ∙ e)
 
 pub masked_stay : masked_lines_stay
 masked_stay how line rs more placed e =

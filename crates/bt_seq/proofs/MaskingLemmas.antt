@@ -1,21 +1,76 @@
 -- Lemmas on the steps of a masking engine.
-use Rattle.std.proofs.Common.{◌≡◌, ℕ, true, false, cond, [], Some, None, Result, Ok, Err, sym, ap, ◌∙◌, subst, inl, inr}
+use Rattle.std.proofs.Common.{◌≡◌, ℕ, nat_eq, Bool, true, false, cond, not, ◌||◌, nat_lt, length, List, [], ◌∷◌, ◌++◌, arith, Some, None, Result, Ok, Err, refl, sym, ap, ◌∙◌, subst, inl, inr}
+use Rattle.std.proofs.lemmas.Bool.Decides.{nat_tests}
+use Rattle.std.specs.Prelude.{IsErr, IsOk}
 use Rattle.bt_bed.specs.Feature.{Feature}
 use Rattle.bt_lines.specs.Names.{told}
 use Rattle.bt_lines.specs.Output.{Output}
-use Rattle.bt_lines.specs.Putting.{FailsToAdd, Grown}
+use Rattle.bt_lines.proofs.PuttingLemmas.{grown_none}
+use Rattle.bt_lines.specs.Lines.{end_bytes}
+use Rattle.bt_lines.specs.Putting.{Adds, FailsToAdd, Grown}
 use Rattle.bt_lines.specs.declared.fault.Fault.{Fault}
-use Rattle.bt_seq.specs.Masking.{Masking, TakesLine, Waiting, Writes, decides, decides_by, is_stray, line_bytes, moved_to, with_owner, writes_at_once}
+use Rattle.bt_seq.proofs.StretchLemmas.{none_masked}
+use Rattle.bt_seq.specs.Masking.{Keeps, Masking, TakesLine, Waiting, Writes, WritesGiven, decides, decides_by, decides_up_to, is_stray, line_bytes, may_grow, moved_to, with_owner, writes_at_once}
 use Rattle.bt_seq.specs.Matching.{Matched, matched_with, owner_of}
-use Rattle.bt_seq.specs.declared.mask_want.MaskWant.TheVariants.{Line, Bed}
+use Rattle.bt_seq.specs.Sequences.{is_header}
+use Rattle.bt_seq.specs.Stretches.{masked_in}
+use Rattle.bt_seq.specs.declared.mask_want.MaskWant.TheVariants.{Line, Bed, Nothing}
 use Rattle.bt_seq.specs.declared.matching.Owner.{Owner}
+use Rattle.bt_seq.specs.declared.stretch.Stretch.{Stretch}
 
--- with a line that waits
-abbrev pub kept_line : Masking → Waiting → Masking
-kept_line moved line = record moved { waiting = Some line; want = Bed }
+-- what is put of a line into which nothing reaches
+plain_bytes : (old : Masking) (line : Waiting) → old.window.held ≡ []
+    → line.text ++ end_bytes line.ending ≡ line_bytes old line
+plain_bytes old line none =
+    ap (λ (t : List ℕ). t ++ end_bytes line.ending)
+    (none_masked old.how old.window.before line.text
+    ∙ ap (λ (ss : List Stretch). masked_in old.how ss old.window.before line.text) (sym none))
 
-written_now : {A : Type 0} (r : Result A Fault) (old new : Masking) (number : ℕ) (line : Waiting) (out grown : Output) → is_stray old line.text ≡ false → writes_at_once (moved_to old line.text) ≡ true
-    → Writes (kept_line (moved_to old line.text) line) line out r new grown → TakesLine old number line out r new grown
+pub none_held : (held : List Stretch) → nat_eq (length held) 0 ≡ true → held ≡ []
+none_held [] e = refl
+none_held (s ∷ ss) e =
+    let some : nat_eq (length (s ∷ ss)) 0 ≡ false = grind (arith, nat_tests) in
+    absurd (let apart : false ≡ true = sym some ∙ e in cc)
+
+-- it was written as it was given
+pub wrote_given : {A : Type 0} (r : Result A Fault) (old new : Masking) (line : Waiting) (out grown : Output)
+    → old.window.held ≡ [] → Adds out (line.text ++ end_bytes line.ending) r grown
+    → (IsOk r → new ≡ record old { waiting = None; want = Line }) → (IsErr r → new.want ≡ Nothing)
+    → WritesGiven old line out r new grown
+wrote_given (Ok done) old new line out grown none adds next stops =
+    (next refl, subst (λ (l : List ℕ). Grown out l grown) (plain_bytes old line none) adds)
+wrote_given (Err fault) old new line out grown none adds next stops =
+    (stops refl, inl (subst (λ (l : List ℕ). FailsToAdd out l (told fault) grown) (plain_bytes old line none) adds))
+
+-- it was kept and then written
+pub wrote_kept : {A : Type 0} (r : Result A Fault) (old kept new : Masking) (line : Waiting) (out grown : Output)
+    → kept ≡ record old { waiting = Some line; want = Bed }
+    → ((l : Waiting) → kept.waiting ≡ Some l → Writes kept l out r new grown) → WritesGiven old line out r new grown
+wrote_kept {A} r old kept new line out grown is writes =
+    kept_by r (subst (λ (s : Masking). Writes s line out r new grown) is (writes line (ap (λ (s : Masking). s.waiting) is)))
+  where
+    kept_by : (r : Result A Fault) → Writes (record old { waiting = Some line; want = Bed }) line out r new grown
+        → WritesGiven old line out r new grown
+    kept_by (Ok done) w = w
+    kept_by (Err fault) w = (w.0, inl w.1)
+
+or_last : (a b c : Bool) → c ≡ true → (a || (b || c)) ≡ true
+or_last true b c e = refl
+or_last false true c e = refl
+or_last false false c e = e
+
+or_middle : (a b c : Bool) → b ≡ false → (a || (not b || c)) ≡ true
+or_middle true b c e = refl
+or_middle false false c e = refl
+or_middle false true c e = absurd (let apart : true ≡ false = e in cc)
+
+or_first : (a b : Bool) → a ≡ true → (a || b) ≡ true
+or_first true b e = refl
+or_first false b e = absurd (let apart : false ≡ true = e in cc)
+
+written_now : {A : Type 0} (r : Result A Fault) (old new : Masking) (number : ℕ) (line : Waiting) (out grown : Output)
+    → is_stray old line.text ≡ false → writes_at_once (moved_to old line.text) line.text ≡ true
+    → WritesGiven (moved_to old line.text) line out r new grown → TakesLine old number line out r new grown
 written_now (Ok done) old new number line out grown fine now w =
     let moved = moved_to old line.text in (
       fine,
@@ -23,23 +78,77 @@ written_now (Ok done) old new number line out grown fine now w =
       subst (λ b. Grown out (cond b (line_bytes moved line) []) grown) (sym now) w.1,
     )
 written_now (Err fault) old new number line out grown fine now w =
-    let moved = moved_to old line.text in
-    (w.0, inr (fine, inl (subst (λ b. FailsToAdd out (cond b (line_bytes moved line) []) (told fault) grown) (sym now) w.1)))
+    let moved = moved_to old line.text in (
+      w.0,
+      inr (
+        fine,
+        elim w.1 [
+          | inl adds ↦ inl (subst (λ b. FailsToAdd out (cond b (line_bytes moved line) []) (told fault) grown) (sym now) adds)
+          | inr memory ↦ inr (
+            memory.0,
+            memory.1,
+            or_last (is_header line.text) (not (writes_at_once moved line.text)) (nat_lt 0 (length moved.window.held)) memory.2,
+          )
+        ],
+      ),
+    )
 
--- a line was kept and then written
-pub writes_line : {A : Type 0} (r : Result A Fault) (old moved kept new : Masking) (number : ℕ) (line : Waiting) (out grown : Output) → (moved ≡ moved_to old line.text) × (is_stray old line.text ≡ false)
-    → kept ≡ kept_line moved line → writes_at_once kept ≡ true → ((l : Waiting) → kept.waiting ≡ Some l → Writes kept l out r new grown) → TakesLine old number line out r new grown
-writes_line r old moved kept new number line out grown m k now writes =
-    let is : kept ≡ kept_line (moved_to old line.text) line = k ∙ ap (λ (s : Masking). kept_line s line) m.0 in
-    written_now r old new number line out grown m.1 (sym (ap writes_at_once is) ∙ now)
-    (subst (λ (s : Masking). Writes s line out r new grown) is (writes line (ap (λ (s : Masking). s.waiting) is)))
+-- a line was written as soon as it was given
+pub writes_line : {A : Type 0} (r : Result A Fault) (old moved new : Masking) (number : ℕ) (line : Waiting) (out grown : Output)
+    → (moved ≡ moved_to old line.text) × (is_stray old line.text ≡ false) → writes_at_once moved line.text ≡ true
+    → WritesGiven moved line out r new grown → TakesLine old number line out r new grown
+writes_line r old moved new number line out grown m now writes =
+    written_now r old new number line out grown m.1 (sym (ap (λ (s : Masking). writes_at_once s line.text) m.0) ∙ now)
+    (subst (λ (s : Masking). WritesGiven s line out r new grown) m.0 writes)
+
+waits_now : {A : Type 0} (r : Result A Fault) (old new : Masking) (number : ℕ) (line : Waiting) (out : Output)
+    → is_stray old line.text ≡ false → writes_at_once (moved_to old line.text) line.text ≡ false
+    → Keeps (moved_to old line.text) line r new → TakesLine old number line out r new out
+waits_now (Ok done) old new number line out fine later k =
+    let moved = moved_to old line.text in (
+      fine,
+      k ∙ ap (λ b. record moved { waiting = cond b None (Some line); want = cond b Line Bed }) (sym later),
+      subst (λ b. Grown out (cond b (line_bytes moved line) []) out) (sym later) (grown_none out),
+    )
+waits_now (Err fault) old new number line out fine later k =
+    let moved = moved_to old line.text in (
+      k.0,
+      inr (
+        fine,
+        inr (
+          k.1,
+          refl,
+          or_middle (is_header line.text) (writes_at_once moved line.text) (nat_lt 0 (length moved.window.held)) later,
+        ),
+      ),
+    )
+
+-- a line was kept until it is decided
+pub keeps_line : {A : Type 0} (r : Result A Fault) (old moved new : Masking) (number : ℕ) (line : Waiting) (out : Output)
+    → (moved ≡ moved_to old line.text) × (is_stray old line.text ≡ false) → writes_at_once moved line.text ≡ false
+    → Keeps moved line r new → TakesLine old number line out r new out
+keeps_line r old moved new number line out m later keeps =
+    waits_now r old new number line out m.1 (sym (ap (λ (s : Masking). writes_at_once s line.text) m.0) ∙ later)
+    (subst (λ (s : Masking). Keeps s line r new) m.0 keeps)
+
+-- there was no memory for the name of a header
+pub header_may_grow : (m : Masking) (text : List ℕ) → is_header text ≡ true → may_grow m text ≡ true
+header_may_grow m text e = or_first (is_header text) (not (writes_at_once m text) || nat_lt 0 (length m.window.held)) e
 
 -- a record decided the line that waits, which was written
-pub wrote_line : (old inside new : Masking) (r : Feature) (owner : Owner) (matched : Matched) (line : Waiting) (out grown : Output) → inside ≡ old → owner ≡ owner_of inside.matched r.chrom → matched ≡ matched_with inside.matched r.chrom
-    → decides_by owner inside.window.bases r.start ≡ true → (new ≡ record inside { matched = matched; waiting = None; want = Line }) × Grown out (line_bytes inside line) grown
-    → (decides old r ≡ true) × (new ≡ record (with_owner old r.chrom) { waiting = None; want = Line }) × Grown out (line_bytes old line) grown
-wrote_line old inside new r owner matched line out grown e o m d w = (
+pub wrote_line : (old inside known new : Masking) (r : Feature) (owner : Owner) (matched : Matched) (line : Waiting) (out grown : Output)
+    → known ≡ record inside { matched = matched; decided_to = decides_up_to owner r.start } → inside ≡ old
+    → owner ≡ owner_of inside.matched r.chrom → matched ≡ matched_with inside.matched r.chrom
+    → decides_by owner inside.window.bases r.start ≡ true
+    → (new ≡ record known { waiting = None; want = Line }) × Grown out (line_bytes known line) grown
+    → (decides old r ≡ true)
+    × (new ≡ record (with_owner old r.chrom) { waiting = None; want = Line; decided_to = decides_up_to (owner_of old.matched r.chrom) r.start })
+    × Grown out (line_bytes old line) grown
+wrote_line old inside known new r owner matched line out grown k e o m d w = (
   sym (ap (λ (s : Masking). decides s r) e) ∙ sym (ap (λ o. decides_by o inside.window.bases r.start) o) ∙ d,
-  w.0 ∙ ap (λ m. record inside { matched = m; waiting = None; want = Line }) m ∙ ap (λ (s : Masking). record (with_owner s r.chrom) { waiting = None; want = Line }) e,
-  subst (λ (s : Masking). Grown out (line_bytes s line) grown) e w.1,
+  w.0 ∙ ap (λ (s : Masking). record s { waiting = None; want = Line }) k
+      ∙ ap (λ o. record inside { matched = matched; waiting = None; want = Line; decided_to = decides_up_to o r.start }) o
+      ∙ ap (λ m. record inside { matched = m; waiting = None; want = Line; decided_to = decides_up_to (owner_of inside.matched r.chrom) r.start }) m
+      ∙ ap (λ (s : Masking). record (with_owner s r.chrom) { waiting = None; want = Line; decided_to = decides_up_to (owner_of s.matched r.chrom) r.start }) e,
+  subst (λ (s : Masking). Grown out (line_bytes s line) grown) (k ∙ ap (λ (s : Masking). record s { matched = matched; decided_to = decides_up_to owner r.start }) e) w.1,
 )

@@ -1,15 +1,17 @@
 -- Lemmas on where a masking engine stands, by the line given last.
-use Rattle.std.proofs.Common.{◌≡◌, ℕ, Bool, true, false, ◌||◌, List, [], ◌∷◌, ◌++◌, map, Option, Some, None, refl, sym, ap, ◌∙◌, subst, append-nil, inl, inr}
+use Rattle.std.proofs.Common.{◌≡◌, ℕ, ◌<◌, Bool, true, false, ◌||◌, List, [], ◌∷◌, ◌++◌, map, Option, Some, None, refl, sym, ap, ◌∙◌, subst, append-nil, inl, inr, ◌⊎◌}
 use Rattle.std.specs.List.{list_any}
 use Rattle.std.specs.Prelude.{is_none, is_some, option_map, option_to_list}
 use Rattle.bt_bed.specs.Feature.{Feature}
+use Rattle.bt_bed.specs.GoodBlocks.{AreInBlocks}
 use Rattle.bt_seq.proofs.KnownLemmas.{never}
 use Rattle.bt_seq.specs.Held.{stretch_of}
-use Rattle.bt_seq.specs.MaskStanding.{AreInRange, Counts, IsOpen, KnowsNext, MaskStage, MaskStandsAt, Waits, given, held_by, kept_line, last_name, line_given_last, reached_by, want_at, want_of}
+use Rattle.bt_seq.specs.MaskStanding.{AreInRange, Counts, IsDecided, IsOpen, KnowsNext, MaskStage, MaskStandsAt, Waits, decided_up_to, given, held_by, kept_line, last_name, line_given_last, reached_by, want_at, want_of}
 use Rattle.bt_seq.specs.Masked.{is_unnamed}
 use Rattle.bt_seq.specs.Masking.{Masking}
 use Rattle.bt_seq.specs.Owners.{Owned, block_decides, left_after, owned}
 use Rattle.bt_seq.specs.Sequences.{SequenceLine, bases_up_to}
+use Rattle.bt_seq.specs.Window.{limit}
 use Rattle.bt_seq.specs.declared.mask_how.MaskHow.{MaskHow}
 use Rattle.bt_seq.specs.declared.mask_want.MaskWant.TheVariants.{Line, Bed, Nothing}
 
@@ -23,12 +25,18 @@ pub record StandsBy (how : MaskHow) (full : Bool) (stage : MaskStage) (last : Op
   pub waits : (line : SequenceLine) → stage.waiting ≡ Some line → Waits stage line
   pub counts : Counts last m.window
   pub name_is : m.matched.name ≡ last_name (reached_by last).names
-  pub holds : stage.lines_ended ≡ false → m.window.held ≡ map stretch_of (held_by last stage.taken)
+  pub holds : (stage.lines_ended ≡ false) ⊎ AreInBlocks stage.taken
+      → m.window.held ≡ map stretch_of (held_by last stage.taken)
   pub is_open : stage.lines_ended ≡ false → IsOpen last stage.taken
+  pub is_decided : stage.waiting ≡ None → stage.bed_ended ≡ false
+      → IsDecided last (stage.taken ++ option_to_list stage.ahead)
   pub owned : is_some (left_after (reached_by last).names stage.taken) ≡ true
   pub in_range : AreInRange stage.taken
   pub knows : stage.bed_ended ≡ false → KnowsNext (is_some stage.waiting) (reached_by last).names stage.taken stage.ahead m.matched
   pub has_ahead : want_at stage ≡ Line → stage.bed_ended ≡ false → is_unnamed (reached_by last).names ≡ false → is_some stage.ahead ≡ true
+  pub ahead_in_range : (r : Feature) → stage.ahead ≡ Some r → r.start < limit
+  pub decided_to_is : stage.waiting ≡ None → stage.bed_ended ≡ false → (r : Feature) → stage.ahead ≡ Some r
+      → m.decided_to ≡ decided_up_to (left_after (reached_by last).names (stage.taken ++ r ∷ [])) r
 
 module _ (how : MaskHow) (full : Bool) (stage : MaskStage) (m : Masking) where
   pub stands_by : MaskStandsAt how full stage m → StandsBy how full stage (line_given_last (given stage)) m
@@ -43,10 +51,13 @@ module _ (how : MaskHow) (full : Bool) (stage : MaskStage) (m : Masking) where
     name_is = s.name_is;
     holds = s.holds;
     is_open = s.is_open;
+    is_decided = s.is_decided;
     owned = s.owned;
     in_range = s.in_range;
     knows = s.knows;
     has_ahead = s.has_ahead;
+    ahead_in_range = s.ahead_in_range;
+    decided_to_is = s.decided_to_is;
   }
 
   pub stands_at : (last : Option SequenceLine) → line_given_last (given stage) ≡ last → StandsBy how full stage last m → MaskStandsAt how full stage m
@@ -63,10 +74,13 @@ module _ (how : MaskHow) (full : Bool) (stage : MaskStage) (m : Masking) where
         name_is = s.name_is;
         holds = s.holds;
         is_open = s.is_open;
+        is_decided = s.is_decided;
         owned = s.owned;
         in_range = s.in_range;
         knows = s.knows;
         has_ahead = s.has_ahead;
+        ahead_in_range = s.ahead_in_range;
+        decided_to_is = s.decided_to_is;
       }
 
 pub last_more : (lines : List SequenceLine) (line : SequenceLine) → line_given_last (lines ++ line ∷ []) ≡ Some line

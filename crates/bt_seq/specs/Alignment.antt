@@ -1,10 +1,14 @@
 -- What a line of a SAM file says: nothing, an alignment, or what is wrong with the line (Sequence
 -- Alignment/Map Format Specification, section 1.3 for header lines, 1.4 for the mandatory fields).
-use Rattle.std.specs.Prelude.{ℕ, ◌+◌, ◌-◌, ◌==◌, ◌||◌, Bool, true, List, [], ◌∷◌, codes, length, bytes_eq, nat_le, nat_lt, Option, Some, None, Result, Ok, Err, if◌then◌else◌}
+use Rattle.std.specs.Prelude.{ℕ, ◌+◌, ◌-◌, ◌==◌, ◌||◌, Bool, true, List, [], ◌∷◌, codes, length}
+use Rattle.std.specs.Prelude.{bytes_eq, nat_le, nat_lt, Option, Some, None, Result, Ok, Err}
+use Rattle.std.specs.Prelude.{if◌then◌else◌}
 use Rattle.bt_lines.specs.Lines.{pieces}
 use Rattle.bt_lines.specs.Number.{max_number, value_of}
 use Rattle.bt_lines.specs.declared.fault.Kind.{Kind}
-use Rattle.bt_lines.specs.declared.fault.Kind.TheVariants.{TooFewColumns, EmptyName, BadFlag, BadPosition, BadQuality, BadCigar, StopTooLarge}
+use Rattle.bt_lines.specs.declared.fault.Kind.TheVariants.{TooFewColumns, EmptyName, BadFlag}
+use Rattle.bt_lines.specs.declared.fault.Kind.TheVariants.{BadPosition, BadQuality, BadCigar}
+use Rattle.bt_lines.specs.declared.fault.Kind.TheVariants.{StopTooLarge}
 use Rattle.bt_seq.specs.Cigar.{length_of}
 use Rattle.bt_seq.specs.Flag.{is_first, is_last, is_reverse, is_unmapped}
 
@@ -32,11 +36,19 @@ pub record Fields : Type 0 where
   pub quality : List ℕ
   pub cigar : List ℕ
 
--- The columns are QNAME, FLAG, RNAME, POS, MAPQ and CIGAR, and five at least behind them, which are only
--- counted: RNEXT, PNEXT, TLEN, SEQ and QUAL.
+-- The columns are QNAME, FLAG, RNAME, POS, MAPQ and CIGAR, and five at least behind them, which are
+-- only counted: RNEXT, PNEXT, TLEN, SEQ and QUAL.
 abbrev pub fields_of : List (List ℕ) → Option Fields
 fields_of (name ∷ flag ∷ chrom ∷ position ∷ quality ∷ cigar ∷ rest) =
-    if nat_le 5 (length rest) then Some (record { name = name; flag = flag; chrom = chrom; position = position; quality = quality; cigar = cigar }) else None
+    if nat_le 5 (length rest)
+    then Some (record {
+      name = name;
+      flag = flag;
+      chrom = chrom;
+      position = position;
+      quality = quality;
+      cigar = cigar;
+    }) else None
 fields_of _ = None
 
 -- a number of at most the limit
@@ -48,9 +60,11 @@ up_to limit (Some number) = if nat_le number limit then Some number else None
 abbrev pub value_up_to : ℕ → List ℕ → Option ℕ
 value_up_to limit text = up_to limit (value_of text)
 
--- an alignment that gives no BED line: the read is unmapped, has no reference name or no position, or covers no reference base
+-- an alignment that gives no BED line: the read is unmapped, has no reference name or no position,
+-- or covers no reference base
 abbrev pub gives_nothing : ℕ → List ℕ → ℕ → ℕ → Bool
-gives_nothing flag chrom position span = is_unmapped flag || bytes_eq chrom (codes "*") || (position == 0) || (span == 0)
+gives_nothing flag chrom position span =
+    is_unmapped flag || bytes_eq chrom (codes "*") || (position == 0) || (span == 0)
 
 -- the alignment of these values; the position is counted from 1
 abbrev pub alignment_at : Fields → ℕ → ℕ → ℕ → ℕ → Alignment
@@ -70,17 +84,20 @@ alignment_at fields flag position quality span = record {
 abbrev pub values_say : Fields → ℕ → ℕ → ℕ → ℕ → Result (Option Alignment) Kind
 values_say fields flag position quality span =
     if gives_nothing flag fields.chrom position span then Ok None
-    else (if nat_lt max_number (position - 1 + span) then Err StopTooLarge else Ok (Some (alignment_at fields flag position quality span)))
+    else (if nat_lt max_number (position - 1 + span) then Err StopTooLarge
+    else Ok (Some (alignment_at fields flag position quality span)))
 
--- the first of the columns that is at fault, or what their values say: flag, reference name, position,
--- mapping quality, and the reference length of the CIGAR
-abbrev pub columns_say : Fields → Option ℕ → List ℕ → Option ℕ → Option ℕ → Option ℕ → Result (Option Alignment) Kind
+-- the first of the columns that is at fault, or what their values say: flag, reference name,
+-- position, mapping quality, and the reference length of the CIGAR
+abbrev pub columns_say : Fields → Option ℕ → List ℕ → Option ℕ → Option ℕ → Option ℕ
+    → Result (Option Alignment) Kind
 columns_say fields None chrom position quality span = Err BadFlag
 columns_say fields (Some flag) [] position quality span = Err EmptyName
 columns_say fields (Some flag) (byte ∷ bytes) None quality span = Err BadPosition
 columns_say fields (Some flag) (byte ∷ bytes) (Some position) None span = Err BadQuality
 columns_say fields (Some flag) (byte ∷ bytes) (Some position) (Some quality) None = Err BadCigar
-columns_say fields (Some flag) (byte ∷ bytes) (Some position) (Some quality) (Some span) = values_say fields flag position quality span
+columns_say fields (Some flag) (byte ∷ bytes) (Some position) (Some quality) (Some span) =
+    values_say fields flag position quality span
 
 -- the limits of FLAG, POS and MAPQ
 abbrev pub max_flag : ℕ
@@ -96,9 +113,12 @@ max_quality = 255
 unfoldable pub fields_say : Option Fields → Result (Option Alignment) Kind
 fields_say None = Err TooFewColumns
 fields_say (Some fields) =
-    columns_say fields (value_up_to max_flag fields.flag) fields.chrom (value_up_to max_position fields.position) (value_up_to max_quality fields.quality) (length_of fields.cigar)
+    columns_say fields (value_up_to max_flag fields.flag) fields.chrom
+    (value_up_to max_position fields.position) (value_up_to max_quality fields.quality)
+    (length_of fields.cigar)
 
--- whether a line says nothing: it is blank, or a header line, which begins with `@`; both may stand anywhere
+-- whether a line says nothing: it is blank, or a header line,
+-- which begins with `@`; both may stand anywhere
 abbrev pub is_skipped : List ℕ → Bool
 is_skipped [] = true
 is_skipped (byte ∷ bytes) = byte == 64

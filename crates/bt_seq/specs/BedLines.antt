@@ -1,5 +1,5 @@
--- The BED lines of an alignment (UCSC BED description, fields chrom to strand; bedtools manual, bamtobed,
--- options -split and -cigar).
+-- The BED lines of an alignment (UCSC BED description, fields chrom to strand; bedtools manual,
+-- bamtobed, options -split and -cigar).
 use Rattle.std.specs.Prelude.{ℕ, Bool, List, [], ◌∷◌, ◌++◌, codes, decimal, flat_map, if◌then◌else◌}
 use Rattle.std.specs.List.{join_with_byte}
 use Rattle.bt_bed.specs.Interval.{Span}
@@ -17,11 +17,12 @@ read_name a = a.name ++ (text_if a.first (codes "/1") ++ text_if a.last (codes "
 abbrev pub strand_sign : Bool → List ℕ
 strand_sign reverse = if reverse then codes "-" else codes "+"
 
--- the columns of a block of an alignment: chromosome, start, end, name, mapping quality and strand, and
--- the whole CIGAR where it is asked for
+-- the columns of a block of an alignment: chromosome, start, end, name, mapping quality and strand,
+-- and the whole CIGAR where it is asked for
 abbrev pub bed_columns : Bool → Alignment → Span → List (List ℕ)
 bed_columns with_cigar a block =
-    a.chrom ∷ decimal block.start ∷ decimal block.stop ∷ read_name a ∷ decimal a.quality ∷ strand_sign a.reverse ∷ (if with_cigar then a.cigar ∷ [] else [])
+    a.chrom ∷ decimal block.start ∷ decimal block.stop ∷ read_name a ∷ decimal a.quality
+    ∷ strand_sign a.reverse ∷ (if with_cigar then a.cigar ∷ [] else [])
 
 -- its line: the columns with tabs between them, and a line feed
 abbrev pub bed_line : Bool → Alignment → Span → List ℕ

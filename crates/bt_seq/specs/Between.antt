@@ -8,8 +8,11 @@ use Rattle.bt_seq.specs.Blocks.{alignment_blocks}
 -- these blocks lie one behind another from one place up to the other, each with a base
 abbrev pub AreBetween : ℕ → ℕ → List Span → Type 0
 AreBetween start stop [] = start ≤ stop
-AreBetween start stop (block ∷ blocks) = (start ≤ block.start) × (block.start < block.stop) × AreBetween block.stop stop blocks
+AreBetween start stop (block ∷ blocks) =
+    (start ≤ block.start) × (block.start < block.stop) × AreBetween block.stop stop blocks
 
 -- so do those of an alignment, from its start to its end
 abbrev pub blocks_are_within : Type 0
-blocks_are_within = (split : Bool) (a : Alignment) → a.start < a.stop → EndsAt a.cigar a.start a.stop → AreBetween a.start a.stop (alignment_blocks split a)
+blocks_are_within =
+    (split : Bool) (a : Alignment) → a.start < a.stop → EndsAt a.cigar a.start a.stop
+    → AreBetween a.start a.stop (alignment_blocks split a)

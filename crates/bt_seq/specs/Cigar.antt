@@ -1,17 +1,22 @@
 -- CIGAR strings (Sequence Alignment/Map Format Specification, section 1.4, field 6): `*`, or one or
 -- more operations, each a number and a letter.
-use Rattle.std.specs.Prelude.{◌≡◌, ℕ, ◌==◌, ◌&&◌, ◌||◌, Bool, IsTrue, List, [], ◌∷◌, ◌++◌, codes, bytes_eq, flat_map, sum_by, Option, Some, None, option_map, if◌then◌else◌}
+use Rattle.std.specs.Prelude.{◌≡◌, ℕ, ◌==◌, ◌&&◌, ◌||◌, Bool, IsTrue, List, [], ◌∷◌, ◌++◌, codes}
+use Rattle.std.specs.Prelude.{bytes_eq, flat_map, sum_by, Option, Some, None, option_map}
+use Rattle.std.specs.Prelude.{if◌then◌else◌}
 use Rattle.std.specs.List.{list_all}
 use Rattle.bt_lines.specs.Number.{is_number, value_of}
 use Rattle.bt_seq.specs.declared.operation.Operation.{Operation}
 
 -- the letters of operations: M, I, D, N, S, H, P, = and X
 abbrev pub is_letter : ℕ → Bool
-is_letter byte = (byte == 77) || (byte == 73) || (byte == 68) || (byte == 78) || (byte == 83) || (byte == 72) || (byte == 80) || (byte == 61) || (byte == 88)
+is_letter byte =
+    (byte == 77) || (byte == 73) || (byte == 68) || (byte == 78) || (byte == 83) || (byte == 72)
+    || (byte == 80) || (byte == 61) || (byte == 88)
 
 -- the letters of the operations that consume reference bases: M, D, N, = and X
 abbrev pub consumes_reference : ℕ → Bool
-consumes_reference letter = (letter == 77) || (letter == 68) || (letter == 78) || (letter == 61) || (letter == 88)
+consumes_reference letter =
+    (letter == 77) || (letter == 68) || (letter == 78) || (letter == 61) || (letter == 88)
 
 -- how many reference bases an operation covers
 abbrev pub covered_by : Operation → ℕ
@@ -47,17 +52,21 @@ with_part part parts = option_map (λ others. part ∷ others) parts
 abbrev pub onto_part : ℕ → Option (List Part) → Option (List Part)
 onto_part byte None = None
 onto_part byte (Some []) = None
-onto_part byte (Some (part ∷ parts)) = Some (record { digits = byte ∷ part.digits; letter = part.letter } ∷ parts)
+onto_part byte (Some (part ∷ parts)) =
+    Some (record { digits = byte ∷ part.digits; letter = part.letter } ∷ parts)
 
--- the parts of a text that is cut behind each letter; there are none where bytes are left behind the
--- last letter
+-- the parts of a text that is cut behind each letter; there are none where bytes are left behind
+-- the last letter
 abbrev pub parts_of : List ℕ → Option (List Part)
 parts_of [] = Some []
-parts_of (byte ∷ bytes) = if is_letter byte then with_part (record { digits = []; letter = byte }) (parts_of bytes) else onto_part byte (parts_of bytes)
+parts_of (byte ∷ bytes) =
+    if is_letter byte then with_part (record { digits = []; letter = byte }) (parts_of bytes)
+    else onto_part byte (parts_of bytes)
 
 -- the operation of a part whose digits denote a number
 abbrev pub operation_of : Part → Option Operation
-operation_of part = option_map (λ length. record { length = length; letter = part.letter }) (value_of part.digits)
+operation_of part =
+    option_map (λ length. record { length = length; letter = part.letter }) (value_of part.digits)
 
 -- an operation before others, where all are there
 abbrev pub with_operation : Option Operation → Option (List Operation) → Option (List Operation)
@@ -81,7 +90,8 @@ operations_in text = operations_of_parts (parts_of text)
 -- information, and else at least one.
 abbrev pub operations_of : List ℕ → Option (List Operation)
 operations_of [] = None
-operations_of (byte ∷ bytes) = if bytes_eq (byte ∷ bytes) (codes "*") then Some [] else operations_in (byte ∷ bytes)
+operations_of (byte ∷ bytes) =
+    if bytes_eq (byte ∷ bytes) (codes "*") then Some [] else operations_in (byte ∷ bytes)
 
 -- the reference length of a CIGAR, where it is well formed
 abbrev pub length_of : List ℕ → Option ℕ
@@ -89,12 +99,18 @@ length_of cigar = option_map reference_length (operations_of cigar)
 
 -- a text can be divided in one way only
 abbrev pub division_is_one : Type 0
-division_is_one = (text : List ℕ) (parts others : List Part) → Divides text parts → Divides text others → parts ≡ others
+division_is_one =
+    (text : List ℕ) (parts others : List Part) → Divides text parts → Divides text others
+    → parts ≡ others
 
 -- the operations are those of that division
 abbrev pub division_is_found : Type 0
-division_is_found = (text : List ℕ) (parts : List Part) → Divides text parts → operations_in text ≡ each_operation parts
+division_is_found =
+    (text : List ℕ) (parts : List Part) → Divides text parts
+    → operations_in text ≡ each_operation parts
 
 -- and where there are operations, there is a division
 abbrev pub operations_are_divided : Type 0
-operations_are_divided = (text : List ℕ) (operations : List Operation) → operations_in text ≡ Some operations → (parts : List Part) × (Divides text parts × (each_operation parts ≡ Some operations))
+operations_are_divided =
+    (text : List ℕ) (operations : List Operation) → operations_in text ≡ Some operations
+    → (parts : List Part) × (Divides text parts × (each_operation parts ≡ Some operations))

@@ -1,10 +1,12 @@
--- A converter of alignments as its callers see it. It keeps nothing of the alignments that it has taken.
+-- A converter of alignments as its callers see it.
+-- It keeps nothing of the alignments that it has taken.
 use Rattle.std.specs.Prelude.{ℕ, Bool, List, Option}
 use Rattle.bt_lines.specs.Fault.{Told}
 use Rattle.bt_seq.specs.Alignment.{Alignment}
 use Rattle.bt_seq.specs.BedLines.{bed_lines}
 
--- whether alignments are cut at each N, whether the CIGAR is written, and the fault that was answered
+-- whether alignments are cut at each N, whether the CIGAR is written,
+-- and the fault that was answered
 pub record Converting : Type 0 where
   pub split : Bool
   pub with_cigar : Bool

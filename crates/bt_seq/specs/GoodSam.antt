@@ -5,7 +5,8 @@ use Rattle.bt_lines.specs.declared.fault.Input.{Input}
 use Rattle.bt_bed.specs.Good.{Format, Good, good_handed}
 use Rattle.bt_seq.specs.Alignment.{Alignment, alignment_of}
 
--- each line says its alignment by itself: the alignments come in any order, and nothing is known of those before
+-- each line says its alignment by itself: the alignments come in any order,
+-- and nothing is known of those before
 abbrev pub sam_format : Format Alignment ⊤
 sam_format = record {
   begin = tt;
@@ -13,6 +14,7 @@ sam_format = record {
   after = λ known a. known;
 }
 
--- what is good of a SAM input: the alignments before the first line at fault, and the fault of that line
+-- what is good of a SAM input: the alignments before the first line at fault,
+-- and the fault of that line
 abbrev pub sam_good : Input → Handed → Good Alignment
 sam_good input handed = good_handed sam_format input handed

@@ -12,5 +12,7 @@ abbrev pub stretch_of : Feature → Stretch
 stretch_of r = record { start = r.start; stop = r.stop }
 
 abbrev pub held_mask_alone : Type 0
-held_mask_alone = (how : MaskHow) (line : SequenceLine) (records : List Feature) → is_header line.text ≡ false
-    → masked_in how (map stretch_of (held_for line records)) line.before line.text ≡ masked_text how records line
+held_mask_alone =
+    (how : MaskHow) (line : SequenceLine) (records : List Feature) → is_header line.text ≡ false
+    → masked_in how (map stretch_of (held_for line records)) line.before line.text
+    ≡ masked_text how records line

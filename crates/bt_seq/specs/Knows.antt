@@ -18,7 +18,8 @@ pub record KnowsOwn (names : List (List ℕ)) (records : List Feature) (m : Matc
   pub own : m.own ≡ true
 
 -- names are left behind the sequence of the last block, and the last of them is the last of all
-pub record KnowsEarlier (names : List (List ℕ)) (records : List Feature) (m : Matched) : Type 0 where
+pub record KnowsEarlier (names : List (List ℕ)) (records : List Feature)
+    (m : Matched) : Type 0 where
   pub front : List (List ℕ)
   pub name : List ℕ
   pub left : left_after names records ≡ Some (front ++ name ∷ [])
@@ -36,9 +37,11 @@ owner_by (Some []) = Own
 owner_by (Some (name ∷ names)) = Earlier
 
 -- a record that begins a block has none of the names that are left before the last
-abbrev pub HasNoneBefore : (names : List (List ℕ)) (records : List Feature) (m : Matched) → Feature → Knows names records m → Type 0
+abbrev pub HasNoneBefore : (names : List (List ℕ)) (records : List Feature) (m : Matched) → Feature
+    → Knows names records m → Type 0
 HasNoneBefore names records m r knows =
-    goes_on records r ≡ false → (e : KnowsEarlier names records m) → names_behind r.chrom e.front ≡ None
+    goes_on records r ≡ false → (e : KnowsEarlier names records m)
+    → names_behind r.chrom e.front ≡ None
 
 abbrev pub owners_are_found : Type 0
 owners_are_found = (names : List (List ℕ)) (records : List Feature) (m : Matched) (r : Feature)

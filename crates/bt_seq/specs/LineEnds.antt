@@ -5,7 +5,8 @@ use Rattle.bt_seq.specs.BedLines.{strand_sign, text_if}
 
 -- between chromosome and name
 abbrev pub bounds_text : ℕ → ℕ → List ℕ
-bounds_text start stop = codes "\t" ++ (decimal start ++ (codes "\t" ++ (decimal stop ++ codes "\t")))
+bounds_text start stop =
+    codes "\t" ++ (decimal start ++ (codes "\t" ++ (decimal stop ++ codes "\t")))
 
 -- behind the name of the read
 abbrev pub marks : Bool → Bool → List ℕ
@@ -17,8 +18,12 @@ end_sign with_cigar = if with_cigar then codes "\t" else codes "\n"
 
 -- behind the marks
 abbrev pub quality_text : Bool → Alignment → List ℕ
-quality_text with_cigar a = codes "\t" ++ (decimal a.quality ++ (codes "\t" ++ (strand_sign a.reverse ++ end_sign with_cigar)))
+quality_text with_cigar a =
+    codes "\t" ++ (decimal a.quality
+    ++ (codes "\t" ++ (strand_sign a.reverse ++ end_sign with_cigar)))
 
 -- from the marks on
 abbrev pub line_tail : Bool → Alignment → List ℕ
-line_tail with_cigar a = (marks a.first a.last ++ quality_text with_cigar a) ++ text_if with_cigar (a.cigar ++ codes "\n")
+line_tail with_cigar a =
+    (marks a.first a.last ++ quality_text with_cigar a)
+    ++ text_if with_cigar (a.cigar ++ codes "\n")

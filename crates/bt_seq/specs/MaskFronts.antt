@@ -1,5 +1,6 @@
 -- What lines that are decided early are in the end.
-use Rattle.std.specs.Prelude.{◌≡◌, ℕ, true, List, [], ◌∷◌, ◌++◌, flat_map, Option, None, Some, is_some, map}
+use Rattle.std.specs.Prelude.{◌≡◌, ℕ, true, List, [], ◌∷◌, ◌++◌, flat_map, Option, None, Some}
+use Rattle.std.specs.Prelude.{is_some, map}
 use Rattle.bt_bed.specs.Feature.{Feature}
 use Rattle.bt_bed.specs.Good.{Good, Member, items_in}
 use Rattle.bt_bed.specs.GoodBlocks.{AreInBlocks}
@@ -44,25 +45,34 @@ early_mask_rule how records = record {
 
 -- what a front of both inputs decides, and is written, begins what is written for the whole inputs
 abbrev pub masked_are_a_front : Type 0
-masked_are_a_front = (how : MaskHow) (names : List (List ℕ)) (first more_first : List SequenceLine) (fault : Option Told)
-    (second : Good Feature) (seen more : List Feature) → items_in second ≡ seen ++ more → AreInBlocks (seen ++ more)
+masked_are_a_front =
+    (how : MaskHow) (names : List (List ℕ)) (first more_first : List SequenceLine)
+    (fault : Option Told)
+    (second : Good Feature) (seen more : List Feature) → items_in second ≡ seen ++ more
+    → AreInBlocks (seen ++ more)
     → (rest : List ℕ)
-    × ((meet (mask_rule how names second) (first ++ more_first) fault).lines ≡ written (early_mask_rule how seen) first ++ rest)
+    × ((meet (mask_rule how names second) (first ++ more_first) fault).lines
+    ≡ written (early_mask_rule how seen) first ++ rest)
 
 -- where the second input has no fault, all lines are written, masked
 abbrev pub faultless_are_masked : Type 0
-faultless_are_masked = (how : MaskHow) (names : List (List ℕ)) (first : List SequenceLine) (fault : Option Told) (second : Good Feature)
+faultless_are_masked =
+    (how : MaskHow) (names : List (List ℕ)) (first : List SequenceLine) (fault : Option Told)
+    (second : Good Feature)
     → second.fault ≡ None
-    → (meet (mask_rule how names second) first fault).lines ≡ flat_map (masked_line how (items_in second)) first
+    → (meet (mask_rule how names second) first fault).lines
+    ≡ flat_map (masked_line how (items_in second)) first
 
 -- where the block of each record belongs to a sequence, none lacks one
 abbrev pub owned_lack_none : Type 0
 owned_lack_none = (names : List (List ℕ)) (members : List (Member Feature))
-    → is_some (left_after names (map (λ (m : Member Feature). m.item) members)) ≡ true → no_sequence names members ≡ None
+    → is_some (left_after names (map (λ (m : Member Feature). m.item) members)) ≡ true
+    → no_sequence names members ≡ None
 
 -- the first record whose block belongs to none is told
 abbrev pub first_unowned_is_told : Type 0
-first_unowned_is_told = (names : List (List ℕ)) (past more : List (Member Feature)) (m : Member Feature)
+first_unowned_is_told =
+    (names : List (List ℕ)) (past more : List (Member Feature)) (m : Member Feature)
     → is_some (left_after names (map (λ (m : Member Feature). m.item) past)) ≡ true
     → left_after names (map (λ (m : Member Feature). m.item) (past ++ m ∷ [])) ≡ None
     → no_sequence names (past ++ m ∷ more) ≡ Some (fault_at_line Second m.line NoSequence)

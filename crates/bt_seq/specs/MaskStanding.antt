@@ -1,7 +1,11 @@
--- Where a masking engine stands: after which lines of the FASTA input and which records of the BED input.
-use Rattle.std.specs.Prelude.{◌≡◌, ◌⊎◌, ⊤, ℕ, ◌≤◌, ◌||◌, Bool, true, false, cond, List, [], ◌∷◌, ◌++◌, map, min, Option, Some, None, is_some, option_map, option_to_list}
+-- Where a masking engine stands: after which lines of the FASTA
+-- input and which records of the BED input.
+use Rattle.std.specs.Prelude.{◌≡◌, ◌⊎◌, ⊤, ℕ, ◌≤◌, ◌<◌, ◌||◌, ◌&&◌, not, Bool, true, false, cond}
+use Rattle.std.specs.Prelude.{List, [], ◌∷◌, ◌++◌, map, min, Option, Some, None, is_some}
+use Rattle.std.specs.Prelude.{option_map, option_to_list}
 use Rattle.std.specs.List.{AllByRecursion}
 use Rattle.bt_bed.specs.Feature.{Feature}
+use Rattle.bt_bed.specs.GoodBlocks.{AreInBlocks}
 use Rattle.bt_lines.specs.Number.{max_number}
 use Rattle.bt_seq.specs.Held.{stretch_of}
 use Rattle.bt_seq.specs.Knows.{Knows, KnowsEarlier}
@@ -15,8 +19,9 @@ use Rattle.bt_seq.specs.declared.mask_how.MaskHow.{MaskHow}
 use Rattle.bt_seq.specs.declared.mask_want.MaskWant.{MaskWant}
 use Rattle.bt_seq.specs.declared.mask_want.MaskWant.TheVariants.{Line, Bed, Nothing}
 
--- how far it has come: the lines that are written, the one that isn't, the records that were taken, the
--- one that decided the line written last and wasn't taken since, and whether each input has ended
+-- how far it has come: the lines that are written, the one that isn't, the records that were taken,
+-- the one that decided the line written last and wasn't taken since,
+-- and whether each input has ended
 pub record MaskStage : Type 0 where
   pub written : List SequenceLine
   pub waiting : Option SequenceLine
@@ -27,7 +32,15 @@ pub record MaskStage : Type 0 where
 
 -- at the start
 abbrev pub first_stage : MaskStage
-first_stage = record { written = []; waiting = None; taken = []; ahead = None; lines_ended = false; bed_ended = false }
+first_stage =
+    record {
+      written = [];
+      waiting = None;
+      taken = [];
+      ahead = None;
+      lines_ended = false;
+      bed_ended = false;
+    }
 
 -- all lines that were given
 abbrev pub given : MaskStage → List SequenceLine
@@ -48,8 +61,8 @@ reached_by (Some line) = record { names = line.names; bases = bases_up_to line }
 abbrev pub reached : MaskStage → Reached
 reached stage = reached_by (line_given_last (given stage))
 
--- what is asked for: a record while a line waits, then a line; behind the last line the records that are
--- left; and nothing once both inputs have ended
+-- what is asked for: a record while a line waits, then a line; behind the last line the records
+-- that are left; and nothing once both inputs have ended
 abbrev pub want_of : Bool → Bool → Bool → MaskWant
 want_of true lines_ended bed_ended = Bed
 want_of false false bed_ended = Line
@@ -69,10 +82,16 @@ abbrev pub held_by : Option SequenceLine → List Feature → List Feature
 held_by None taken = []
 held_by (Some line) taken = held_for line taken
 
--- no more records were taken than the lines given ask for: none, or the last line isn't decided by them
+-- no more records were taken than the lines given ask for: none,
+-- or the last line isn't decided by them
 abbrev pub IsOpen : Option SequenceLine → List Feature → Type 0
 IsOpen None taken = taken ≡ []
 IsOpen (Some line) taken = (taken ≡ []) ⊎ (decided line taken ≡ false)
+
+-- the last line is decided by these records, if there is one
+abbrev pub IsDecided : Option SequenceLine → List Feature → Type 0
+IsDecided None records = ⊤
+IsDecided (Some line) records = decided line records ≡ true
 
 -- how many bases of its sequence stand before the line, and up to its end
 abbrev pub bases_before : Option SequenceLine → ℕ
@@ -104,23 +123,33 @@ module _ (names : List (List ℕ)) (taken : List Feature) (m : Matched) where
     pub near : (e : KnowsEarlier names taken m) → e.front ≡ []
 
 -- the record ahead, which begins a block, belongs to no sequence before the last one
-pub record KnowsAhead (names : List (List ℕ)) (taken : List Feature) (r : Feature) (m : Matched) : Type 0 where
+pub record KnowsAhead (names : List (List ℕ)) (taken : List Feature) (r : Feature)
+    (m : Matched) : Type 0 where
   pub knows : Knows names taken m
   pub begins : goes_on taken r ≡ false
   pub none : (e : KnowsEarlier names taken m) → names_behind r.chrom e.front ≡ None
 
--- What is known of the sequences and the blocks of records, where one may be ahead. If no line waits, the
--- one ahead has decided the last line: its block belongs to the last sequence, or to none.
+-- What is known of the sequences and the blocks of records, where one may be ahead. If no line
+-- waits, the one ahead has decided the last line: its block belongs to the last sequence,
+-- or to none.
 abbrev pub KnowsNext : Bool → List (List ℕ) → List Feature → Option Feature → Matched → Type 0
 KnowsNext waits names taken None m = KnowsNone names taken m ⊎ KnowsLast names taken m
 KnowsNext waits names taken (Some r) m =
-    (KnowsLast names (taken ++ r ∷ []) m × (waits ≡ false → left_after names (taken ++ r ∷ []) ≡ Some []))
+    (KnowsLast names (taken ++ r ∷ []) m
+    × (waits ≡ false → left_after names (taken ++ r ∷ []) ≡ Some []))
     ⊎ (KnowsAhead names taken r m × (waits ≡ false → left_after names (taken ++ r ∷ []) ≡ None))
 
 -- while lines are asked for behind the first header, and records may come, one is ahead
 abbrev pub HasAhead : MaskStage → Type 0
 HasAhead stage = want_at stage ≡ Line → stage.bed_ended ≡ false
     → is_unnamed (reached stage).names ≡ false → is_some stage.ahead ≡ true
+
+-- up to which base of the last sequence a record decides lines, where these names are left behind
+-- the sequence of its block: up to its start, or all where its block belongs to none (it is asked
+-- for where that sequence is the last)
+abbrev pub decided_up_to : Option (List (List ℕ)) → Feature → ℕ
+decided_up_to None r = limit
+decided_up_to (Some names) r = r.start
 
 -- a line as it is kept
 abbrev pub kept_line : SequenceLine → Waiting
@@ -139,7 +168,8 @@ abbrev pub AreInRange : List Feature → Type 0
 AreInRange records = AllByRecursion (λ r. r.stop ≤ max_number) records
 
 -- the engine stands there
-pub record MaskStandsAt (how : MaskHow) (full : Bool) (stage : MaskStage) (m : Masking) : Type 0 where
+pub record MaskStandsAt (how : MaskHow) (full : Bool) (stage : MaskStage)
+    (m : Masking) : Type 0 where
   pub how_is : m.how ≡ how
   pub full_is : m.full ≡ full
   pub waiting_is : m.waiting ≡ option_map kept_line stage.waiting
@@ -148,19 +178,38 @@ pub record MaskStandsAt (how : MaskHow) (full : Bool) (stage : MaskStage) (m : M
   pub waits : (line : SequenceLine) → stage.waiting ≡ Some line → Waits stage line
   pub counts : Counts (line_given_last (given stage)) m.window
   pub name_is : m.matched.name ≡ last_name (reached stage).names
-  -- what is held is what the line given last needs
-  pub holds : stage.lines_ended ≡ false → m.window.held ≡ map stretch_of (held_by (line_given_last (given stage)) stage.taken)
+  -- what is held is what the line given last needs: behind the last line too,
+  -- where the records of each block rise
+  pub holds : (stage.lines_ended ≡ false) ⊎ AreInBlocks stage.taken
+      → m.window.held ≡ map stretch_of (held_by (line_given_last (given stage)) stage.taken)
   -- no record was taken but those that left the last line undecided
   pub is_open : stage.lines_ended ≡ false → IsOpen (line_given_last (given stage)) stage.taken
+  -- where no line waits and records may come, those taken and the one ahead decide the last line
+  pub is_decided : stage.waiting ≡ None → stage.bed_ended ≡ false
+      → IsDecided (line_given_last (given stage)) (stage.taken ++ option_to_list stage.ahead)
   -- each block taken belongs to a sequence
   pub owned : is_some (left_after (reached stage).names stage.taken) ≡ true
   pub in_range : AreInRange stage.taken
-  pub knows : stage.bed_ended ≡ false → KnowsNext (is_some stage.waiting) (reached stage).names stage.taken stage.ahead m.matched
+  pub knows : stage.bed_ended ≡ false
+      → KnowsNext (is_some stage.waiting) (reached stage).names stage.taken stage.ahead m.matched
   pub has_ahead : HasAhead stage
+  pub ahead_in_range : (r : Feature) → stage.ahead ≡ Some r → r.start < limit
+  -- where no line waits, it is known how far the record ahead decides lines
+  pub decided_to_is : stage.waiting ≡ None → stage.bed_ended ≡ false → (r : Feature)
+      → stage.ahead ≡ Some r
+      → m.decided_to ≡ decided_up_to (left_after (reached stage).names (stage.taken ++ r ∷ [])) r
 
--- whether a line is written as soon as it is given: the records have ended, or no header has come
+-- whether a line is written because of the record ahead. A header isn't: the record is given again
+-- first, since its block may belong to the sequence that the header begins
+abbrev pub is_written_ahead : Option Feature → List Feature → SequenceLine → Bool
+is_written_ahead None taken line = false
+is_written_ahead (Some r) taken line = not (is_header line.text) && decided line (taken ++ r ∷ [])
+
+-- whether a line is written as soon as it is given: the records have ended, or no header has come,
+-- or it is no header and the record ahead decides it
 abbrev pub is_written_at_once : MaskStage → SequenceLine → Bool
-is_written_at_once stage line = stage.bed_ended || is_unnamed line.names
+is_written_at_once stage line =
+    stage.bed_ended || (is_unnamed line.names || is_written_ahead stage.ahead stage.taken line)
 
 -- the stage with one more line
 abbrev pub with_line : MaskStage → SequenceLine → MaskStage

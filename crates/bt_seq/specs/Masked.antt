@@ -1,5 +1,6 @@
 -- The masked lines of a FASTA input, and how it meets a BED input (bedtools manual, maskfasta).
-use Rattle.std.specs.Prelude.{ℕ, suc, ◌&&◌, ◌||◌, Bool, true, false, List, [], ◌∷◌, ◌++◌, filter, nat_le, nat_lt, Option, Some, None, is_none, if◌then◌else◌}
+use Rattle.std.specs.Prelude.{ℕ, suc, ◌&&◌, ◌||◌, Bool, true, false, List, [], ◌∷◌, ◌++◌, filter}
+use Rattle.std.specs.Prelude.{nat_le, nat_lt, Option, Some, None, is_none, if◌then◌else◌}
 use Rattle.std.specs.List.{list_any}
 use Rattle.bt_bed.specs.Feature.{Feature}
 use Rattle.bt_bed.specs.Good.{Good, Member, items_in, or_else}
@@ -12,7 +13,8 @@ use Rattle.bt_lines.specs.Lines.{end_bytes}
 use Rattle.bt_lines.specs.declared.fault.Input.TheVariants.{First, Second}
 use Rattle.bt_lines.specs.declared.fault.Kind.TheVariants.{NoSequence}
 use Rattle.bt_seq.specs.MaskHow.{masked_byte}
-use Rattle.bt_seq.specs.Owners.{Block, block_decides, blocks_by, first_unowned, own_records, owned, owned_from}
+use Rattle.bt_seq.specs.Owners.{Block, block_decides, blocks_by, first_unowned, own_records, owned}
+use Rattle.bt_seq.specs.Owners.{owned_from}
 use Rattle.bt_seq.specs.Sequences.{SequenceLine, bases_up_to, is_header, sequence_good}
 use Rattle.bt_seq.specs.declared.mask_how.MaskHow.{MaskHow}
 
@@ -37,11 +39,12 @@ masked_text how records line =
 abbrev pub masked_line : MaskHow → List Feature → SequenceLine → List ℕ
 masked_line how records line = masked_text how records line ++ end_bytes line.ending
 
--- what is held by a line: of the records of its sequence's block those that start before its end and
--- reach past its start
+-- what is held by a line: of the records of its sequence's block those that start before its end
+-- and reach past its start
 abbrev pub held_for : SequenceLine → List Feature → List Feature
 held_for line records =
-    filter (λ r. nat_lt r.start (bases_up_to line) && nat_lt line.before r.stop) (own_records line.names records)
+    filter (λ r. nat_lt r.start (bases_up_to line) && nat_lt line.before r.stop)
+    (own_records line.names records)
 
 -- whether there is no name: a line stands before the first header, where it is decided at once
 abbrev pub is_unnamed : List (List ℕ) → Bool
@@ -52,7 +55,8 @@ is_unnamed (name ∷ names) = false
 abbrev pub decided : SequenceLine → List Feature → Bool
 decided line records =
     is_unnamed line.names
-    || list_any (λ o. block_decides (bases_up_to line) o.left o.block.items) (owned line.names records)
+    || list_any (λ o. block_decides (bases_up_to line) o.left o.block.items)
+    (owned line.names records)
 
 -- the names of all sequences that have a line among these
 abbrev pub names_of : List SequenceLine → List (List ℕ)
@@ -73,10 +77,11 @@ no_sequence_for (Some block) = told_at_first block.items
 -- the fault of the first block that belongs to no sequence of these names, if there is one
 abbrev pub no_sequence : List (List ℕ) → List (Member Feature) → Option Told
 no_sequence names members =
-    no_sequence_for (first_unowned (owned_from (Some names) (blocks_by (λ m. m.item.chrom) members)))
+    no_sequence_for (first_unowned
+    (owned_from (Some names) (blocks_by (λ m. m.item.chrom) members)))
 
--- What the good records of the second input, and its fault, make of the lines of the first. At last its
--- first block without a sequence is told, which stands before its fault.
+-- What the good records of the second input, and its fault, make of the lines of the first. At last
+-- its first block without a sequence is told, which stands before its fault.
 abbrev pub mask_rule : MaskHow → List (List ℕ) → Good Feature → Rule SequenceLine ℕ Told
 mask_rule how names second = record {
   decided = λ line. is_none second.fault || decided line (items_in second);

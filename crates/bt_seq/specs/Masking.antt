@@ -3,7 +3,9 @@ use Rattle.bt_seq.specs.declared.matching.Owner.TheVariants.{Own, Earlier, Nobod
 use Rattle.bt_seq.specs.declared.matching.Owner.{Owner}
 use Rattle.bt_seq.specs.declared.mask_want.Taken.TheVariants.{Yes, No}
 use Rattle.bt_seq.specs.declared.mask_want.Taken.{Taken}
-use Rattle.std.specs.Prelude.{◌≡◌, ◌⊎◌, ℕ, ◌&&◌, ◌||◌, not, Bool, true, false, List, ◌++◌, length, nat_lt, Option, Some, None, is_none, ⊤, nat_le, Result, Ok, Err, if◌then◌else◌, cond, [], ◌∷◌}
+use Rattle.std.specs.Prelude.{◌≡◌, ◌⊎◌, ℕ, ◌&&◌, ◌||◌, not, Bool, true, false, List, ◌++◌, length}
+use Rattle.std.specs.Prelude.{nat_lt, Option, Some, None, is_none, ⊤, nat_le, Result, Ok, Err}
+use Rattle.std.specs.Prelude.{if◌then◌else◌, cond, [], ◌∷◌}
 use Rattle.bt_bed.specs.Feature.{Feature}
 use Rattle.bt_bed.specs.LineKind.{fault_at_line}
 use Rattle.bt_lines.specs.Fault.{no_memory}
@@ -18,7 +20,7 @@ use Rattle.bt_lines.specs.declared.line.LineEnd.{LineEnd}
 use Rattle.bt_seq.specs.Matching.{Matched, named, matched_with, owner_of}
 use Rattle.bt_seq.specs.Sequences.{is_header, name_in}
 use Rattle.bt_seq.specs.Stretches.{masked_in}
-use Rattle.bt_seq.specs.Window.{Bounds, gone_on, no_bases}
+use Rattle.bt_seq.specs.Window.{Bounds, gone_on, limit, no_bases}
 use Rattle.bt_seq.specs.declared.mask_how.MaskHow.{MaskHow}
 use Rattle.bt_seq.specs.declared.mask_want.MaskWant.{MaskWant}
 use Rattle.bt_seq.specs.declared.mask_want.MaskWant.TheVariants.{Line, Bed, Nothing}
@@ -36,6 +38,9 @@ pub record Masking : Type 0 where
   pub waiting : Option Waiting
   pub want : MaskWant
   pub bed_ended : Bool
+  -- up to which base of the sequence the record ahead decides lines; it means something while a
+  -- line is asked for behind the first header and the records haven't ended
+  pub decided_to : ℕ
 
 -- whether a line of this text is at fault: there is text, and no header yet
 abbrev pub is_stray : Masking → List ℕ → Bool
@@ -52,19 +57,28 @@ moved_to m text =
 abbrev pub line_bytes : Masking → Waiting → List ℕ
 line_bytes m line = masked_in m.how m.window.held m.window.before line.text ++ end_bytes line.ending
 
--- whether lines are written at once
-abbrev pub writes_at_once : Masking → Bool
-writes_at_once m = m.bed_ended || is_none m.matched.name
+-- whether a line of this text, to which it has moved, is written at once: the records have ended,
+-- or no header has come, or it is no header and lies where the record ahead decides it
+abbrev pub writes_at_once : Masking → List ℕ → Bool
+writes_at_once m text =
+    m.bed_ended || (is_none m.matched.name
+    || (not (is_header text) && nat_le m.window.bases m.decided_to))
+
+-- whether a line may need memory: a header for its name, and what waits or is masked for its text
+abbrev pub may_grow : Masking → List ℕ → Bool
+may_grow m text =
+    is_header text || (not (writes_at_once m text) || nat_lt 0 (length m.window.held))
 
 -- moving to a line
 abbrev pub Moves : {A : Type 0} → Masking → ℕ → List ℕ → Result A Fault → Masking → Type 0
 Moves old number text (Ok done) new = (new ≡ moved_to old text) × (is_stray old text ≡ false)
 Moves old number text (Err fault) new =
     ((told fault ≡ fault_at_line First number TextBeforeHeader) × (is_stray old text ≡ true))
-    ⊎ ((told fault ≡ no_memory) × (is_stray old text ≡ false))
+    ⊎ ((told fault ≡ no_memory) × (is_stray old text ≡ false) × (is_header text ≡ true))
 
 -- writing the line that waits
-abbrev pub Writes : {A : Type 0} → Masking → Waiting → Output → Result A Fault → Masking → Output → Type 0
+abbrev pub Writes : {A : Type 0} → Masking → Waiting → Output → Result A Fault → Masking → Output
+    → Type 0
 Writes old line out (Ok done) new grown =
     (new ≡ record old { waiting = None; want = Line }) × Grown out (line_bytes old line) grown
 Writes old line out (Err fault) new grown =
@@ -75,25 +89,39 @@ abbrev pub Keeps : {A : Type 0} → Masking → Waiting → Result A Fault → M
 Keeps old line (Ok done) new = new ≡ record old { waiting = Some line; want = Bed }
 Keeps old line (Err fault) new = (new.want ≡ Nothing) × (told fault ≡ no_memory)
 
--- the lines that are written once a line is given: itself where it is written at once, and else none
+-- writing a line when it is given: it is kept only where something is held
+abbrev pub WritesGiven : {A : Type 0} → Masking → Waiting → Output → Result A Fault → Masking
+    → Output → Type 0
+WritesGiven old line out (Ok done) new grown =
+    (new ≡ record old { waiting = None; want = Line }) × Grown out (line_bytes old line) grown
+WritesGiven old line out (Err fault) new grown =
+    (new.want ≡ Nothing)
+    × (FailsToAdd out (line_bytes old line) (told fault) grown
+    ⊎ ((told fault ≡ no_memory) × (grown ≡ out) × (nat_lt 0 (length old.window.held) ≡ true)))
+
+-- the lines that are written once a line is given: itself where it is written at once,
+-- and else none
 abbrev pub bytes_at_once : Masking → Waiting → List ℕ
-bytes_at_once moved line = cond (writes_at_once moved) (line_bytes moved line) []
+bytes_at_once moved line = cond (writes_at_once moved line.text) (line_bytes moved line) []
 
 -- taking a line: it is written, or waits
-abbrev pub TakesLine : {A : Type 0} → Masking → ℕ → Waiting → Output → Result A Fault → Masking → Output → Type 0
+abbrev pub TakesLine : {A : Type 0} → Masking → ℕ → Waiting → Output → Result A Fault → Masking
+    → Output → Type 0
 TakesLine old number line out (Ok done) new grown =
     (is_stray old line.text ≡ false)
     × (new ≡ record (moved_to old line.text) {
-      waiting = cond (writes_at_once (moved_to old line.text)) None (Some line);
-      want = cond (writes_at_once (moved_to old line.text)) Line Bed;
+      waiting = cond (writes_at_once (moved_to old line.text) line.text) None (Some line);
+      want = cond (writes_at_once (moved_to old line.text) line.text) Line Bed;
     })
     × Grown out (bytes_at_once (moved_to old line.text) line) grown
 TakesLine old number line out (Err fault) new grown =
     (new.want ≡ Nothing)
-    × (((told fault ≡ fault_at_line First number TextBeforeHeader) × (is_stray old line.text ≡ true) × (grown ≡ out))
+    × (((told fault ≡ fault_at_line First number TextBeforeHeader) × (is_stray old line.text ≡ true)
+    × (grown ≡ out))
     ⊎ ((is_stray old line.text ≡ false)
     × (FailsToAdd out (bytes_at_once (moved_to old line.text) line) (told fault) grown
-    ⊎ ((told fault ≡ no_memory) × (grown ≡ out)))))
+    ⊎ ((told fault ≡ no_memory) × (grown ≡ out)
+    × (may_grow (moved_to old line.text) line.text ≡ true)))))
 
 -- with the sequence of the block of a record on this chromosome
 abbrev pub with_owner : Masking → List ℕ → Masking
@@ -107,6 +135,13 @@ decides_by Nobody bases start = true
 
 abbrev pub decides : Masking → Feature → Bool
 decides m r = decides_by (owner_of m.matched r.chrom) m.window.bases r.start
+
+-- up to which base of the sequence given last a record decides lines, where it decides one: up to
+-- its start, or all where its block belongs to nobody
+abbrev pub decides_up_to : Owner → ℕ → ℕ
+decides_up_to Own start = start
+decides_up_to Earlier start = start
+decides_up_to Nobody start = limit
 
 -- whether a record that doesn't decide it has to be held
 abbrev pub holds_by : Owner → Bounds → Feature → Bool
@@ -123,15 +158,21 @@ with_stretch to_hold w start stop =
     if to_hold then record w { held = w.held ++ record { start = start; stop = stop } ∷ [] } else w
 
 abbrev pub holding : Masking → Feature → Masking
-holding m r = record (with_owner m r.chrom) { window = with_stretch (holds m r) m.window r.start r.stop }
+holding m r =
+    record (with_owner m r.chrom) { window = with_stretch (holds m r) m.window r.start r.stop }
 
 -- taking a record while a line waits
-abbrev pub TakesBed : Masking → Waiting → Feature → Output → Result Taken Fault → Masking → Output → Type 0
+abbrev pub TakesBed : Masking → Waiting → Feature → Output → Result Taken Fault → Masking → Output
+    → Type 0
 TakesBed old line r out (Ok Yes) new grown =
     (decides old r ≡ false) × (new ≡ holding old r) × (grown ≡ out)
 TakesBed old line r out (Ok No) new grown =
     (decides old r ≡ true)
-    × (new ≡ record (with_owner old r.chrom) { waiting = None; want = Line })
+    × (new ≡ record (with_owner old r.chrom) {
+      waiting = None;
+      want = Line;
+      decided_to = decides_up_to (owner_of old.matched r.chrom) r.start;
+    })
     × Grown out (line_bytes old line) grown
 TakesBed old line r out (Err fault) new grown =
     (new.want ≡ Nothing)
@@ -149,4 +190,5 @@ abbrev pub ChecksBed : {A : Type 0} → Masking → Feature → ℕ → Result A
 ChecksBed old r line (Ok done) new =
     has_owner (owner_of old.matched r.chrom) × (new ≡ with_owner old r.chrom)
 ChecksBed old r line (Err fault) new =
-    (owner_of old.matched r.chrom ≡ Nobody) × (told fault ≡ fault_at_line Second line NoSequence) × (new.want ≡ Nothing)
+    (owner_of old.matched r.chrom ≡ Nobody) × (told fault ≡ fault_at_line Second line NoSequence)
+    × (new.want ≡ Nothing)

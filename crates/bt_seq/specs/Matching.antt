@@ -1,10 +1,11 @@
 -- Which sequence the block of a record belongs to, as an engine comes to know it line by line.
-use Rattle.std.specs.Prelude.{ℕ, ◌&&◌, not, Bool, true, false, List, Option, Some, None, bytes_eq, if◌then◌else◌}
+use Rattle.std.specs.Prelude.{ℕ, ◌&&◌, not, Bool, true, false, List, Option, Some, None, bytes_eq}
+use Rattle.std.specs.Prelude.{if◌then◌else◌}
 use Rattle.bt_seq.specs.declared.matching.Owner.{Owner}
 use Rattle.bt_seq.specs.declared.matching.Owner.TheVariants.{Own, Earlier, Nobody}
 
--- the name of the sequence given last, if there is one; the chromosome of the last block that belongs to
--- a sequence, if there is one; and whether that is the sequence given last
+-- the name of the sequence given last, if there is one; the chromosome of the last block that
+-- belongs to a sequence, if there is one; and whether that is the sequence given last
 pub record Matched : Type 0 where
   pub name : Option (List ℕ)
   pub last : Option (List ℕ)

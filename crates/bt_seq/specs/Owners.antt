@@ -1,7 +1,8 @@
--- Which records mask which sequence. A block is a maximal run of records of one chromosome. It belongs
--- to the first sequence of its name behind that of the block before it; it belongs to none where there
--- is no such sequence, or where the block before it belongs to none.
-use Rattle.std.specs.Prelude.{◌++◌, ◌≡◌, ℕ, ◌<◌, All, length, Bool, true, false, ⊤, List, [], ◌∷◌, Option, Some, None, bytes_eq, flat_map, nat_le, if◌then◌else◌}
+-- Which records mask which sequence. A block is a maximal run of records of one chromosome. It
+-- belongs to the first sequence of its name behind that of the block before it; it belongs to none
+-- where there is no such sequence, or where the block before it belongs to none.
+use Rattle.std.specs.Prelude.{◌++◌, ◌≡◌, ℕ, ◌<◌, All, length, Bool, true, false, ⊤, List, [], ◌∷◌}
+use Rattle.std.specs.Prelude.{Option, Some, None, bytes_eq, flat_map, nat_le, if◌then◌else◌}
 use Rattle.std.specs.List.{AllByRecursion, list_any}
 use Rattle.bt_bed.specs.Feature.{Feature}
 
@@ -37,8 +38,8 @@ abbrev pub names_behind : List ℕ → List (List ℕ) → Option (List (List �
 names_behind name [] = None
 names_behind name (n ∷ ns) = if bytes_eq n name then Some ns else names_behind name ns
 
--- the names behind the sequence to which a block belongs, where so many names were left by the block
--- before it; none where it belongs to no sequence
+-- the names behind the sequence to which a block belongs, where so many names were left by the
+-- block before it; none where it belongs to no sequence
 abbrev pub left_by : Option (List (List ℕ)) → List ℕ → Option (List (List ℕ))
 left_by None name = None
 left_by (Some names) name = names_behind name names
@@ -50,13 +51,15 @@ pub record Owned (A : Type 0) : Type 0 where
 
 abbrev pub owned_from : {A : Type 0} → Option (List (List ℕ)) → List (Block A) → List (Owned A)
 owned_from left [] = []
-owned_from left (b ∷ bs) = record { block = b; left = left_by left b.chrom } ∷ owned_from (left_by left b.chrom) bs
+owned_from left (b ∷ bs) =
+    record { block = b; left = left_by left b.chrom } ∷ owned_from (left_by left b.chrom) bs
 
 -- the blocks of records, each with its sequence among those of these names
 abbrev pub owned : List (List ℕ) → List Feature → List (Owned Feature)
 owned names records = owned_from (Some names) (blocks_by (λ r. r.chrom) records)
 
--- the things of a block behind which these names are left, where it belongs to the last of all names
+-- the things of a block behind which these names are left,
+-- where it belongs to the last of all names
 abbrev pub items_if_last : {A : Type 0} → Option (List (List ℕ)) → List A → List A
 items_if_last None xs = []
 items_if_last (Some []) xs = xs
@@ -66,16 +69,17 @@ items_if_last (Some (name ∷ names)) xs = []
 abbrev pub own_records : List (List ℕ) → List Feature → List Feature
 own_records names records = flat_map (λ o. items_if_last o.left o.block.items) (owned names records)
 
--- whether a block behind which these names are left decides a line of the last sequence, up to whose end
--- there are so many bases: a record of it starts there or later, or the block belongs to no sequence up
--- to that one
+-- whether a block behind which these names are left decides a line of the last sequence, up to
+-- whose end there are so many bases: a record of it starts there or later, or the block belongs to
+-- no sequence up to that one
 abbrev pub block_decides : ℕ → Option (List (List ℕ)) → List Feature → Bool
 block_decides bases None records = true
 block_decides bases (Some []) records = list_any (λ r. nat_le bases r.start) records
 block_decides bases (Some (name ∷ names)) records = false
 
 -- the block, where it belongs to no sequence
-abbrev pub unowned_or : {A : Type 0} → Option (List (List ℕ)) → Block A → Option (Block A) → Option (Block A)
+abbrev pub unowned_or : {A : Type 0} → Option (List (List ℕ)) → Block A → Option (Block A)
+    → Option (Block A)
 unowned_or None block later = Some block
 unowned_or (Some names) block later = later
 
@@ -97,7 +101,8 @@ blocks_are_maximal_runs = (records : List Feature)
     × AllByRecursion AreOfChrom (blocks_by (λ r. r.chrom) records)
 
 -- the names behind the sequence of the last block: these, where there is none
-abbrev pub left_at_last : {A : Type 0} → Option (List (List ℕ)) → List (Owned A) → Option (List (List ℕ))
+abbrev pub left_at_last : {A : Type 0} → Option (List (List ℕ)) → List (Owned A)
+    → Option (List (List ℕ))
 left_at_last left [] = left
 left_at_last left (o ∷ os) = left_at_last o.left os
 
@@ -110,9 +115,10 @@ goes_on [] r = false
 goes_on (s ∷ []) r = bytes_eq s.chrom r.chrom
 goes_on (s ∷ t ∷ ss) r = goes_on (t ∷ ss) r
 
--- a further record goes on with the last block, or begins one, whose sequence comes behind that of the
--- last one
+-- a further record goes on with the last block, or begins one, whose sequence comes behind that of
+-- the last one
 abbrev pub next_goes_on_or_begins : Type 0
 next_goes_on_or_begins = (names : List (List ℕ)) (records : List Feature) (r : Feature)
     → left_after names (records ++ r ∷ [])
-    ≡ (if goes_on records r then left_after names records else left_by (left_after names records) r.chrom)
+    ≡ (if goes_on records r then left_after names records
+    else left_by (left_after names records) r.chrom)

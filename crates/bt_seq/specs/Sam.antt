@@ -1,5 +1,6 @@
 -- Alignments and columns that are borrowed, as the definitions see them.
-use Rattle.std.specs.Prelude.{◌≡◌, ℕ, List, [], ◌∷◌, Option, Some, None, Result, Ok, Err, option_map}
+use Rattle.std.specs.Prelude.{◌≡◌, ℕ, List, [], ◌∷◌, Option, Some, None, Result, Ok, Err}
+use Rattle.std.specs.Prelude.{option_map}
 use Rattle.bt_lines.specs.Lines.{pieces}
 use Rattle.bt_lines.specs.declared.fault.Kind.{Kind}
 use Rattle.bt_seq.specs.Alignment.{Alignment, Fields}

@@ -2,7 +2,9 @@
 use Rattle.std.specs.Prelude.{◌≡◌, ℕ, Bool, true, false, List, Err}
 use Rattle.bt_bed.specs.LineKind.{is_of_line}
 use Rattle.bt_lines.specs.declared.fault.Kind.{Kind}
-use Rattle.bt_lines.specs.declared.fault.Kind.TheVariants.{TooFewColumns, EmptyName, BadFlag, BadPosition, BadQuality, BadCigar, StopTooLarge}
+use Rattle.bt_lines.specs.declared.fault.Kind.TheVariants.{TooFewColumns, EmptyName, BadFlag}
+use Rattle.bt_lines.specs.declared.fault.Kind.TheVariants.{BadPosition, BadQuality, BadCigar}
+use Rattle.bt_lines.specs.declared.fault.Kind.TheVariants.{StopTooLarge}
 use Rattle.bt_seq.specs.Alignment.{alignment_of}
 
 -- whether a line of a SAM file can be at fault so
@@ -18,7 +20,8 @@ is_sam_kind _ = false
 
 -- what is wrong with a line is such a kind
 abbrev pub wrong_have_sam_kinds : Type 0
-wrong_have_sam_kinds = (text : List ℕ) (kind : Kind) → alignment_of text ≡ Err kind → is_sam_kind kind ≡ true
+wrong_have_sam_kinds =
+    (text : List ℕ) (kind : Kind) → alignment_of text ≡ Err kind → is_sam_kind kind ≡ true
 
 -- and lies at a line
 abbrev pub sam_kinds_are_of_lines : Type 0

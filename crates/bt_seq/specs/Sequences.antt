@@ -1,7 +1,8 @@
--- The lines of a FASTA input (bedtools manual, maskfasta; getfasta for names). A line that begins with
--- `>` is a header, and begins a sequence. Every other line after a header holds bases, one for each byte
--- of its text. Before the first header lines are blank.
-use Rattle.std.specs.Prelude.{ℕ, ◌+◌, ◌==◌, ◌||◌, not, Bool, true, false, List, [], ◌∷◌, ◌++◌, drop, length, Option, Some, Result, Ok, Err, if◌then◌else◌}
+-- The lines of a FASTA input (bedtools manual, maskfasta; getfasta for names). A line that begins
+-- with `>` is a header, and begins a sequence. Every other line after a header holds bases, one for
+-- each byte of its text. Before the first header lines are blank.
+use Rattle.std.specs.Prelude.{ℕ, ◌+◌, ◌==◌, ◌||◌, not, Bool, true, false, List, [], ◌∷◌, ◌++◌, drop}
+use Rattle.std.specs.Prelude.{length, Option, Some, Result, Ok, Err, if◌then◌else◌}
 use Rattle.std.specs.List.{take_while}
 use Rattle.bt_bed.specs.Good.{Format, Good, good_handed}
 use Rattle.bt_lines.specs.Handed.{Handed}
@@ -13,7 +14,8 @@ use Rattle.bt_lines.specs.declared.line.LineEnd.{LineEnd}
 
 -- a line of a sequence, and where it stands
 pub record SequenceLine : Type 0 where
-  -- the names of the sequences up to its own, which is the last; before the first header there is none
+  -- the names of the sequences up to its own,
+  -- which is the last; before the first header there is none
   pub names : List (List ℕ)
   -- how many bases of its sequence stand before it
   pub before : ℕ
@@ -29,10 +31,11 @@ is_header (byte ∷ bytes) = byte == 62
 abbrev pub ends_name : ℕ → Bool
 ends_name byte = (byte == 32) || (byte == 9)
 
--- the name that a header gives: the text behind `>` up to the first space or tab, or all of it where
--- the full header is asked for
+-- the name that a header gives: the text behind `>` up to the first space or tab, or all of it
+-- where the full header is asked for
 abbrev pub name_in : Bool → List ℕ → List ℕ
-name_in full text = if full then drop 1 text else take_while (λ byte. not (ends_name byte)) (drop 1 text)
+name_in full text =
+    if full then drop 1 text else take_while (λ byte. not (ends_name byte)) (drop 1 text)
 
 -- how many bases a text holds
 abbrev pub bases_in : List ℕ → ℕ
@@ -42,21 +45,29 @@ bases_in text = if is_header text then 0 else length text
 abbrev pub bases_up_to : SequenceLine → ℕ
 bases_up_to line = line.before + bases_in line.text
 
--- how far the lines before have come: the names of the sequences, and how many bases the last one has
+-- how far the lines before have come: the names of the sequences,
+-- and how many bases the last one has
 pub record Reached : Type 0 where
   pub names : List (List ℕ)
   pub bases : ℕ
 
 -- a line of the last sequence
 abbrev pub line_behind : Reached → TextLine → SequenceLine
-line_behind reached line = record { names = reached.names; before = reached.bases; text = line.text; ending = line.ending }
+line_behind reached line =
+    record { names = reached.names; before = reached.bases; text = line.text; ending = line.ending }
 
 -- the header of a new sequence
 abbrev pub header_behind : Bool → Reached → TextLine → SequenceLine
 header_behind full reached line =
-    record { names = reached.names ++ name_in full line.text ∷ []; before = 0; text = line.text; ending = line.ending }
+    record {
+      names = reached.names ++ name_in full line.text ∷ [];
+      before = 0;
+      text = line.text;
+      ending = line.ending;
+    }
 
--- whether a text may stand behind sequences of these names without being a header: behind none it is blank
+-- whether a text may stand behind sequences of these names without being a header:
+-- behind none it is blank
 abbrev pub may_stand : List (List ℕ) → List ℕ → Bool
 may_stand [] [] = true
 may_stand [] (byte ∷ bytes) = false
@@ -66,7 +77,8 @@ may_stand (name ∷ names) text = true
 abbrev pub line_says : Bool → Reached → TextLine → Result (Option SequenceLine) Kind
 line_says full reached line =
     if is_header line.text then Ok (Some (header_behind full reached line))
-    else (if may_stand reached.names line.text then Ok (Some (line_behind reached line)) else Err TextBeforeHeader)
+    else (if may_stand reached.names line.text then Ok (Some (line_behind reached line))
+    else Err TextBeforeHeader)
 
 -- every line is a member, as long as text stands in sequences
 abbrev pub sequence_format : Bool → Format SequenceLine Reached

@@ -6,8 +6,8 @@ use Rattle.bt_seq.specs.declared.stretch.Stretch.{Stretch}
 abbrev pub limit : ℕ
 limit = 1000000000000
 
--- how many bases of the sequence stand before the line and up to its end, as far as they are counted,
--- and the stretches that are held
+-- how many bases of the sequence stand before the line and up to its end, as far as they are
+-- counted, and the stretches that are held
 pub record Bounds : Type 0 where
   pub before : ℕ
   pub bases : ℕ

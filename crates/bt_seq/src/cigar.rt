@@ -7,7 +7,7 @@ ghost use Rattle.bt_seq.specs.CigarSteps.{IsFirst, IsWithin, span_with};
 use crate::operation::Operation;
 use bt_lines::MAX_NUMBER;
 
-/// A reference length is told up to here.
+/// A reference length is exact up to here.
 const SPAN_LIMIT: u64 = 1_000_000_000_000;
 
 /// How many reference bases a CIGAR covers: the sum of the numbers of its M, D, N, `=` and X operations

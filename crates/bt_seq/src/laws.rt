@@ -101,7 +101,7 @@ pub fn quiet_records_are_taken()
     ensures { quiet_records_are_taken }
 {}
 
-/// What is known line by line and record by record tells the sequence of a block.
+/// What is known line by line and record by record gives the sequence of a block.
 pub fn owners_of_blocks_are_found()
     ensures { owners_are_found }
 {}
@@ -121,7 +121,7 @@ pub fn masked_fronts_begin()
     ensures faultless { faultless_are_masked }
 {}
 
-/// The first record whose block belongs to no sequence is told, if there is one.
+/// The first record whose block belongs to no sequence is reported, if there is one.
 pub fn first_unowned_is_told()
     ensures none { owned_lack_none }
     ensures first { first_unowned_is_told }

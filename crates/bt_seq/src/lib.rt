@@ -3,14 +3,23 @@
 //! An alignment is what a line of a SAM file says ([`sam_line`]). [`Mask`] masks
 //! the bases of a FASTA input that records of a BED input cover, and [`mask_slice`] bases in place.
 //!
-//! An example, as the test `alignments_are_written` runs many: the line
-//! `r 0 ref 1 255 5N5M * 0 0 * *`, with tabs, is an alignment from 0 to 10, and with its skipped part
-//! left out one block from 5 to 10.
+//! An example, which is the test in `example.rt`: the BED line of an alignment. The two bases that it
+//! deletes count.
 //!
 //! ```text
-//! let sam = sam_line(line);                // Ok(Some(sam)): start 0, stop 10
-//! BamToBed::new(false, false).feed(..)     // puts `ref 0 10 r 255 +`
-//! BamToBed::new(true, false).feed(..)      // puts `ref 5 10 r 255 +`
+//! fn bed_line_of_an_alignment(rt: HostRuntime) -> Result<(), Fail> {
+//!     let text = b"r\t16\tchr1\t8\t60\t3M2D4M\t*\t0\t0\tACGTACG\t*";
+//!     let sam = sam_line(text)?.ok_or("an alignment")?;
+//!     assert_eq!(rt; (sam.start, sam.stop), (7, 16));
+//!     // Neither cut at its N operations nor with its CIGAR.
+//!     let mut engine = BamToBed::new(false, false);
+//!     let mut out = Out::new(ScriptSink::new(rt.alloc(), 7, None));
+//!     engine.feed(&sam, &mut out)?;
+//!     out.flush()?;
+//!     let line = b"chr1\t7\t16\tr\t60\t-\n".as_slice();
+//!     assert_eq!(rt; out.into_sink().taken(), line);
+//!     Ok(())
+//! }
 //! ```
 #![tactic(auto)]
 
@@ -18,6 +27,8 @@ mod bam_to_bed;
 mod bed_line;
 mod block_iter;
 mod cigar;
+#[cfg(test)]
+mod example;
 mod fields;
 mod first_block;
 mod header_name;

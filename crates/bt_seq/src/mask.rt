@@ -1,7 +1,8 @@
 //! The engine of `bedtools maskfasta`.
 
-ghost use Rattle.std.specs.Prelude.{◌≡◌, Bool, None, OnErr, Some, false, length};
+ghost use Rattle.std.specs.Prelude.{◌≡◌, ◌⊎◌, Bool, None, OnErr, Some, false, length};
 ghost use Rattle.bt_bed.specs.Bed.{feature_lent};
+ghost use Rattle.bt_bed.specs.GoodBlocks.{AreInBlocks};
 ghost use Rattle.bt_lines.specs.Given.{line_seen};
 ghost use Rattle.bt_seq.specs.MaskStanding.{IsNext, MaskStage, MaskStandsAt, first_stage, given, held_by, line_given_last, want_at, with_lines_ended};
 ghost use Rattle.bt_seq.specs.MaskSteps.{ChecksRecord, EndsCheck, EndsRecords, GivesNextLine, GivesBed};
@@ -56,19 +57,22 @@ impl Mask {
     }
 
     /// How many records it holds: those of the sequence's block that start before the end of the line
-    /// given last and reach past its start.
+    /// given last and reach past its start. Behind the last line none is added, since the records of
+    /// a block rise.
     pub fn kept_len(&self) -> usize
         ensures stage { (how : MaskHow) (full : Bool) (stage : MaskStage)
-            → MaskStandsAt how full stage self.now → stage.lines_ended ≡ false
+            → MaskStandsAt how full stage self.now
+            → (stage.lines_ended ≡ false) ⊎ AreInBlocks stage.taken
             → result ≡ length (held_by (line_given_last (given stage)) stage.taken) }
     {
         self.state.kept_len()
     }
 
-    /// Takes the next line. It is written at once where the records have ended, or where it is a blank
-    /// line before the first header, and else it waits. It fails with `TextBeforeHeader` where it has
-    /// text before the first header, with `NoMemory` where it can't be kept, and with `WriteFailed`
-    /// where it can't be written.
+    /// Takes the next line. It is written at once where the records have ended, where it is a blank line
+    /// before the first header, or where it is no header and the record ahead, which wasn't taken,
+    /// decides it; and else it waits. It fails with `TextBeforeHeader` where it has text before the first
+    /// header, with `NoMemory` where a header can't be named or a line that waits or is to be masked
+    /// can't be kept, and with `WriteFailed` where it can't be written.
     pub fn give_line<K: Sink>(&mut self, line: &Line<'_>, out: &mut Out<K>) -> Result<(), Fault>
         requires { self.old.want ≡ MaskWant.Line }
         ensures gives { (how : MaskHow) (full : Bool) (stage : MaskStage) → MaskStandsAt how full stage self.old

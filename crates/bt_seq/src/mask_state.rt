@@ -1,11 +1,12 @@
 //! What a masking engine keeps, and its steps.
 
-ghost use Rattle.std.specs.Prelude.{◌≡◌, None, Some, [], OnOk, IfErr, IsOk, cond, false, true, is_some, length, nat_lt};
+ghost use Rattle.std.specs.Prelude.{◌≡◌, ◌&&◌, None, Some, [], OnOk, IfErr, IsErr, IsOk, cond, false, not, true, is_some, length, nat_le, nat_lt};
 ghost use Rattle.bt_lines.specs.Fault.{no_memory};
 ghost use Rattle.bt_lines.specs.Names.{told};
 ghost use Rattle.bt_bed.specs.Bed.{feature_lent};
 ghost use Rattle.bt_bed.specs.LineKind.{fault_at_line};
-ghost use Rattle.bt_seq.specs.Masking.{ChecksBed, Keeps, Moves, TakesBed, TakesLine, Waiting, Writes, decides_by, with_stretch, writes_at_once};
+ghost use Rattle.bt_seq.specs.Masking.{ChecksBed, Keeps, Moves, TakesBed, TakesLine, Waiting, Writes, WritesGiven, decides_by, decides_up_to, with_stretch, writes_at_once};
+ghost use Rattle.bt_seq.specs.Sequences.{is_header};
 ghost use Rattle.bt_seq.specs.Window.{no_bases};
 
 use crate::header_name::{is_header, name_in};
@@ -13,7 +14,7 @@ use crate::mask_how::MaskHow;
 use crate::mask_want::{MaskWant, Taken};
 use crate::matching::{Matching, Owner};
 use crate::put_text::put_text;
-use crate::window::Window;
+use crate::window::{LIMIT, Window};
 use bt_bed::BedRef;
 use bt_lines::{Fault, Input, Kind, Line, LineEnd, Out, Place, Sink};
 use std::alloc::Global;
@@ -40,6 +41,9 @@ pub(crate) struct MaskState {
     want: MaskWant,
     // Whether the end of the records was given.
     bed_ended: bool,
+    // Up to which base of the sequence the record ahead decides lines. Valid while a line is asked for
+    // behind the first header and the records haven't ended.
+    decided_to: u64,
 }
 
 impl Model for MaskState {
@@ -56,6 +60,7 @@ impl Model for MaskState {
       waiting = if m.waits then Some (record { text = m.text.items; ending = m.ending }) else None;
       want = m.want;
       bed_ended = m.bed_ended;
+      decided_to = m.decided_to;
     } };
 }
 
@@ -70,6 +75,7 @@ impl MaskState {
           waiting = None;
           want = MaskWant.Line;
           bed_ended = false;
+          decided_to = 0;
         } }
     {
         MaskState {
@@ -82,6 +88,7 @@ impl MaskState {
             waits: false,
             want: MaskWant::Line,
             bed_ended: false,
+            decided_to: 0,
         }
     }
 
@@ -106,7 +113,7 @@ impl MaskState {
         self.waits
     }
 
-    // Takes the next line, which is kept until it is decided.
+    // Takes the next line, which is written at once or kept until it is decided.
     pub(crate) fn take_line<K: Sink>(
         &mut self,
         line: &Line<'_>,
@@ -119,11 +126,10 @@ impl MaskState {
             self.want = MaskWant::Nothing;
             return Err(fault);
         }
-        self.keep(line.text, line.ending)?;
-        if self.writes_at_once() {
-            return self.write(out);
+        if self.writes_at_once(line.text) {
+            return self.write_at_once(line.text, line.ending, out);
         }
-        Ok(())
+        self.keep(line.text, line.ending)
     }
 
     // Takes a record while a line waits, unless it decides the line.
@@ -137,6 +143,7 @@ impl MaskState {
     {
         let owner = self.matching.owner(bed.chrom);
         if self.is_decided(owner, bed.start) {
+            self.know(owner, bed.start);
             self.write(out)?;
             return Ok(Taken::No);
         }
@@ -188,11 +195,20 @@ impl MaskState {
         Ok(())
     }
 
-    // Whether lines are written at once: the records have ended, or no header has come.
-    fn writes_at_once(&self) -> bool
-        ensures { result ≡ writes_at_once self.now }
+    // Whether a line of this text is written at once: the records have ended, no header has come, or it is
+    // known to be decided.
+    fn writes_at_once(&self, text: &[u8]) -> bool
+        ensures { result ≡ writes_at_once self.now text.now }
     {
-        self.bed_ended || !self.matching.is_named()
+        self.bed_ended || !self.matching.is_named() || self.is_known(text)
+    }
+
+    // Whether the record ahead is known to decide a line of this text. A header is never known: its name
+    // may be that of the record.
+    fn is_known(&self, text: &[u8]) -> bool
+        ensures { result ≡ (not (is_header text.now) && nat_le self.now.window.bases self.now.decided_to) }
+    {
+        !is_header(text) && !self.window.reaches(self.decided_to)
     }
 
     // Whether a record of a block with this owner decides the line that waits.
@@ -204,6 +220,17 @@ impl MaskState {
             Owner::Own => !self.window.reaches(start),
             Owner::Nobody => true,
         }
+    }
+
+    // Keeps up to which base a record decides lines, since it decides the one that waits: up to its start,
+    // or all where its block belongs to nobody.
+    fn know(&mut self, owner: Owner, start: u64)
+        ensures { self.new ≡ record self.old { decided_to = decides_up_to owner start } }
+    {
+        self.decided_to = match owner {
+            Owner::Own | Owner::Earlier => start,
+            Owner::Nobody => LIMIT,
+        };
     }
 
     // Holds the part of a record that reaches past the start of the line.
@@ -254,6 +281,23 @@ impl MaskState {
         Ok(())
     }
 
+    // Writes a line as it was given, unless something that is held masks it: then it is kept first.
+    fn write_at_once<K: Sink>(
+        &mut self,
+        text: &[u8],
+        ending: LineEnd,
+        out: &mut Out<K>,
+    ) -> Result<(), Fault>
+        ensures { WritesGiven self.old (record { text = text.now; ending = ending }) out.old result self.new out.new }
+    {
+        if self.window.is_empty() {
+            let written = put_text(text, ending, out);
+            return self.has_written(written);
+        }
+        self.keep(text, ending)?;
+        self.write(out)
+    }
+
     // Writes the line that waits.
     fn write<K: Sink>(&mut self, out: &mut Out<K>) -> Result<(), Fault>
         ensures { (line : Waiting) → self.old.waiting ≡ Some line
@@ -261,13 +305,23 @@ impl MaskState {
     {
         self.window.mask(self.text.as_mut_slice(), self.how);
         let written = put_text(self.text.as_slice(), self.ending, out);
+        self.has_written(written)
+    }
+
+    // Asks for the next line, where the last one was written.
+    fn has_written(&mut self, written: Result<(), Fault>) -> Result<(), Fault>
+        ensures same { result ≡ written }
+        ensures next { IsOk written → self.new ≡ record self.old { waiting = None; want = MaskWant.Line } }
+        ensures stops { IsErr written → self.new.want ≡ MaskWant.Nothing }
+    {
         self.waits = false;
         self.want = if written.is_ok() {
             MaskWant::Line
         } else {
             MaskWant::Nothing
         };
-        written
+        written?;
+        Ok(())
     }
 }
 

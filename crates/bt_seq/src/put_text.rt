@@ -4,17 +4,30 @@ ghost use Rattle.std.specs.Prelude.{◌≡◌, ◌++◌};
 ghost use Rattle.bt_lines.specs.Lines.{end_bytes};
 ghost use Rattle.bt_lines.specs.Putting.{Adds};
 
-use bt_lines::{Fault, LineEnd, Out, Sink, put_column};
+use bt_lines::{Fault, LineEnd, Out, Sink, put_line};
 
-// Puts a text and its line end. It takes no memory.
+// Puts a text and its line end, which mostly is a line feed. It takes no memory.
+#[inline(always)]
 pub(crate) fn put_text<K: Sink>(text: &[u8], ending: LineEnd, out: &mut Out<K>) -> Result<(), Fault>
+    ensures { Adds out.old (text.now ++ end_bytes ending) result out.new }
+{
+    if ending == LineEnd::Lf {
+        return put_line(text, b"\n", out);
+    }
+    put_ended(text, ending, out)
+}
+
+// The same for any line end.
+#[cold]
+#[inline(never)]
+fn put_ended<K: Sink>(text: &[u8], ending: LineEnd, out: &mut Out<K>) -> Result<(), Fault>
     ensures { Adds out.old (text.now ++ end_bytes ending) result out.new }
 {
     let end = bytes_of(ending);
     if text.len().max(end.len()) == 0 {
         return Ok(());
     }
-    put_column(text, end, out)
+    put_line(text, end, out)
 }
 
 // The bytes of a line end.

@@ -24,44 +24,46 @@ mod tests {
     use std::fmt::Write;
     use std::test::Fail;
 
+    // Lines, and the blocks of their alignments: uncut, and cut at each N.
+    const ALIGNMENTS: [(&[u8], &str, &str); 9] = [
+        (
+            b"r\t0\tref\t16\t30\t6M14N5M\t*\t0\t0\t*\t*",
+            "15-40 ",
+            "15-21 35-40 ",
+        ),
+        (b"r\t0\tref\t1\t30\t5N5M\t*\t0\t0\t*\t*", "0-10 ", "5-10 "),
+        (b"r\t0\tref\t1\t30\t5M5N\t*\t0\t0\t*\t*", "0-10 ", "0-5 "),
+        (
+            b"r\t0\tref\t1\t30\t5M0N5M\t*\t0\t0\t*\t*",
+            "0-10 ",
+            "0-5 5-10 ",
+        ),
+        (b"r\t0\tref\t1\t30\t5N\t*\t0\t0\t*\t*", "0-5 ", ""),
+        (
+            b"r\t0\tref\t1\t30\t2M3N4S3N5M\t*\t0\t0\t*\t*",
+            "0-13 ",
+            "0-2 8-13 ",
+        ),
+        (
+            b"r\t0\tref\t1\t30\t2M3N3N5M\t*\t0\t0\t*\t*",
+            "0-13 ",
+            "0-2 8-13 ",
+        ),
+        (
+            b"r\t0\tref\t1\t30\t3H2S1M2I3D4=5X2P1S\t*\t0\t0\t*\t*",
+            "0-13 ",
+            "0-13 ",
+        ),
+        (
+            b"r\t0\tref\t1\t30\t1M999999999997N1M\t*\t0\t0\t*\t*",
+            "0-999999999999 ",
+            "0-1 999999999998-999999999999 ",
+        ),
+    ];
+
     #[test]
     fn alignments_are_cut_at_each_skip(rt: HostRuntime) -> Result<(), Fail> {
-        let cases: [(&[u8], &str, &str); 9] = [
-            (
-                b"r\t0\tref\t16\t30\t6M14N5M\t*\t0\t0\t*\t*",
-                "15-40 ",
-                "15-21 35-40 ",
-            ),
-            (b"r\t0\tref\t1\t30\t5N5M\t*\t0\t0\t*\t*", "0-10 ", "5-10 "),
-            (b"r\t0\tref\t1\t30\t5M5N\t*\t0\t0\t*\t*", "0-10 ", "0-5 "),
-            (
-                b"r\t0\tref\t1\t30\t5M0N5M\t*\t0\t0\t*\t*",
-                "0-10 ",
-                "0-5 5-10 ",
-            ),
-            (b"r\t0\tref\t1\t30\t5N\t*\t0\t0\t*\t*", "0-5 ", ""),
-            (
-                b"r\t0\tref\t1\t30\t2M3N4S3N5M\t*\t0\t0\t*\t*",
-                "0-13 ",
-                "0-2 8-13 ",
-            ),
-            (
-                b"r\t0\tref\t1\t30\t2M3N3N5M\t*\t0\t0\t*\t*",
-                "0-13 ",
-                "0-2 8-13 ",
-            ),
-            (
-                b"r\t0\tref\t1\t30\t3H2S1M2I3D4=5X2P1S\t*\t0\t0\t*\t*",
-                "0-13 ",
-                "0-13 ",
-            ),
-            (
-                b"r\t0\tref\t1\t30\t1M999999999997N1M\t*\t0\t0\t*\t*",
-                "0-999999999999 ",
-                "0-1 999999999998-999999999999 ",
-            ),
-        ];
-        for (text, whole, cut) in cases {
+        for (text, whole, cut) in ALIGNMENTS {
             let Ok(Some(sam)) = sam_line(text) else {
                 assert!(rt; false, "no alignment at {text:?}");
                 return Ok(());

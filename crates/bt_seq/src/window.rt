@@ -1,6 +1,6 @@
 //! The bases of the line given last, and the records that reach into them.
 
-ghost use Rattle.std.specs.Prelude.{◌≡◌, ◌+◌, ◌≤◌, [], ◌∷◌, ◌++◌, OnOk, OnErr, filter, length, min, nat_lt, true, if◌then◌else◌};
+ghost use Rattle.std.specs.Prelude.{◌≡◌, ◌+◌, ◌≤◌, [], ◌∷◌, ◌++◌, OnOk, OnErr, filter, length, min, nat_eq, nat_lt, true, if◌then◌else◌};
 ghost use Rattle.bt_seq.specs.Stretches.{masked_in};
 ghost use Rattle.bt_seq.specs.Window.{gone_on, no_bases, limit};
 
@@ -10,7 +10,7 @@ use std::alloc::{AllocError, Global};
 use std::marker::Model;
 
 // How far the bases of a sequence are counted. No record reaches further.
-const LIMIT: u64 = 1_000_000_000_000;
+pub(crate) const LIMIT: u64 = 1_000_000_000_000;
 
 // How many bases of its sequence stand before the line, and up to its end, and the stretches of the
 // records that start before its end and reach past its start, in file order.
@@ -62,7 +62,9 @@ impl Window {
     {
         self.before = self.bases;
         self.bases = up_to_limit(self.bases, count);
-        drop_passed(&mut self.held, self.before);
+        if !self.is_empty() {
+            drop_passed(&mut self.held, self.before);
+        }
     }
 
     // Whether a place lies before the end of the line.
@@ -86,11 +88,18 @@ impl Window {
         Ok(())
     }
 
-    // Whether nothing is held.
+    // How many stretches are held.
     pub(crate) fn len(&self) -> usize
         ensures { result ≡ length self.now.held }
     {
         self.held.len()
+    }
+
+    // Whether nothing is held.
+    pub(crate) fn is_empty(&self) -> bool
+        ensures { result ≡ nat_eq (length self.now.held) 0 }
+    {
+        self.held.is_empty()
     }
 
     // Masks the bases of the line.

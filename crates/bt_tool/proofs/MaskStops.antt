@@ -16,6 +16,7 @@ use Rattle.bt_bed.specs.Good.{Format, Good, Member, items_in}
 use Rattle.bt_bed.specs.GoodBlocks.{block_format}
 use Rattle.bt_bed.specs.Locus.{Locus}
 use Rattle.bt_bed.specs.Reading.{MemberReader, good_coming}
+use Rattle.bt_seq.specs.MaskSteps.{IsSettled}
 use Rattle.bt_seq.specs.MaskStanding.{IsOpen, MaskStage, given, is_written_at_once, line_given_last, reached, reached_by}
 use Rattle.bt_seq.specs.MaskSteps.{FailsToWriteLine, LacksSequence}
 use Rattle.bt_seq.specs.Masked.{decided, is_unnamed, masked_line, names_of}
@@ -258,9 +259,9 @@ module _ {A B : Type 0} (a_left : A → Option (List ℕ)) (a_failed a_end : A �
         }
 
         -- its line wasn't written
-        pub fails_first : (b : Bool) → is_written_at_once stage m.item ≡ b → (fault : Told) (now : Output) → FailsToAdd grown (cond b (masked_line how stage.taken m.item) []) fault now → Ends (Some fault) first_now second now
-        fails_first false once fault now adds = absurd (adds.some refl)
-        fails_first true once fault now adds =
+        pub fails_first : IsSettled how stage m.item → (b : Bool) → is_written_at_once stage m.item ≡ b → (fault : Told) (now : Output) → FailsToAdd grown (cond b (masked_line how stage.taken m.item) []) fault now → Ends (Some fault) first_now second now
+        fails_first settled false once fault now adds = absurd (adds.some refl)
+        fails_first settled true once fault now adds =
             let more = masked_line how stage.taken m.item in
             let items : member_items (s.past_first ++ m ∷ []) ≡ (stage.written ++ m.item ∷ []) ++ [] =
             map-append (λ m. m.item) s.past_first (m ∷ []) ∙ ap (λ l. l ++ m.item ∷ []) (sym every_line) ∙ sym (append-nil (stage.written ++ m.item ∷ [])) in
@@ -269,7 +270,7 @@ module _ {A B : Type 0} (a_left : A → Option (List ℕ)) (a_failed a_end : A �
               bytes = s.bytes ++ more;
               wrote = wrote_by s.past_second second second s.second_passes (omega arith) s.second_passes.bytes first_now handed_now (stage.written ++ m.item ∷ []) (s.bytes ++ more) stage.bed_ended now
                   (λ known. subst (λ (l : List Feature). Settles how (stage.written ++ m.item ∷ []) (s.bytes ++ more) (l ++ option_to_list (item_ahead second)) stage.bed_ended) s.all_taken
-                  (settles_at_once a_left a_failed a_end b_left b_failed b_end how full old_lines old_second out first second mask grown s m stage.bed_ended (is_unnamed m.item.names) refl refl once known))
+                  (settles_at_once a_left a_failed a_end b_left b_failed b_end how full old_lines old_second out first second mask grown s m settled stage.bed_ended (is_unnamed m.item.names) refl refl once known))
                   (items_first (good_coming a_left old_first) (stage.written ++ m.item ∷ []) []
                   (items_begin (good_coming a_left old_first) (s.past_first ++ m ∷ []) (stage.written ++ m.item ∷ []) [] items
                   (begins_more (good_coming a_left old_first) (good_coming a_left first) s.past_first m s.first_passes.come ahead.read.first)))

@@ -154,7 +154,7 @@ module _ {A B : Type 0} (a_left : A → Option (List ℕ)) (a_failed a_end : A �
               gave_by a_left a_failed a_end b_left b_failed b_end how full old_lines old_second out first second mask grown s wants
                   (member_given a_left a_failed a_end full r lines new turn.has.sound turn.line takes.item turn.has.gives says)
                   (line_ahead a_left a_failed a_end full r lines new turn.has.sound turn.line takes.item turn.has.gives says)
-                  (line_members full ((sequence_format full).after r takes.item) new) ahead passes
+                  (line_members full ((sequence_format full).after r takes.item) new) ahead passes takes.settled
                   (is_written_at_once stage takes.item) refl masked later takes.stands takes.puts,
             ),
             omega (arith, turn.has.gives.shrinks, asks_line (is_some mask.waiting) mask.want wants, asks_most (is_some masked.waiting) masked.want),
@@ -212,7 +212,7 @@ module _ {A B : Type 0} (a_left : A → Option (List ℕ)) (a_failed a_end : A �
                 let m = member_given a_left a_failed a_end full r lines new turn.has.sound turn.line fails.item turn.has.gives says in
                 let peeked = line_ahead a_left a_failed a_end full r lines new turn.has.sound turn.line fails.item turn.has.gives says in
                 elim fails.fails [
-                  | inl adds ↦ (peeked, refl, fails_first a_left a_failed a_end b_left b_failed b_end how full old_lines old_second out is_blocks first second mask grown s wants m peeked ahead (is_written_at_once stage fails.item) refl fault later adds)
+                  | inl adds ↦ (peeked, refl, fails_first a_left a_failed a_end b_left b_failed b_end how full old_lines old_second out is_blocks first second mask grown s wants m peeked ahead fails.settled (is_written_at_once stage fails.item) refl fault later adds)
                   | inr ran ↦ (
                     peeked,
                     refl,

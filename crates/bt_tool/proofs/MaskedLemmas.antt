@@ -1,5 +1,5 @@
 -- Lemmas on the turns of a masking engine over two readers.
-use Rattle.std.proofs.Common.{◌≡◌, ℕ, Bool, true, false, cond, ◌&&◌, ◌||◌, List, [], ◌∷◌, ◌++◌, Option, None, Some, refl, sym, ap, ◌∙◌, subst, append-nil, append_assoc, flat_map, option_to_list, inl, inr}
+use Rattle.std.proofs.Common.{◌≡◌, ℕ, Bool, true, false, cond, not, ◌&&◌, ◌||◌, List, [], ◌∷◌, ◌++◌, Option, None, Some, refl, sym, ap, ◌∙◌, subst, append-nil, append_assoc, flat_map, option_to_list, inl, inr}
 use Rattle.std.specs.Prelude.{IsSome, is_none, is_some, option_map}
 use Rattle.std.specs.List.{list_all}
 use Rattle.std.proofs.lemmas.Bool.{false≢true, and_from, or_left, or_right}
@@ -15,10 +15,11 @@ use Rattle.bt_bed.specs.Locus.{Locus}
 use Rattle.bt_bed.specs.Reading.{Advances, GivesMember, MemberReader, good_coming}
 use Rattle.bt_seq.specs.MaskFronts.{LineBefore}
 use Rattle.bt_seq.proofs.MaskFrontLemmas.{decided_stays, masked_stay}
-use Rattle.bt_seq.specs.MaskStanding.{IsNext, MaskStage, MaskStandsAt, given, is_written_at_once, line_given_last, reached, reached_by, want_of, with_bed_ended, with_decided, with_lines_ended, with_record}
+use Rattle.bt_seq.specs.MaskStanding.{IsNext, MaskStage, MaskStandsAt, given, is_written_ahead, is_written_at_once, line_given_last, reached, reached_by, want_of, with_bed_ended, with_decided, with_lines_ended, with_record}
+use Rattle.bt_seq.specs.MaskSteps.{IsSettled}
 use Rattle.bt_seq.specs.Masked.{decided, is_unnamed, masked_line}
 use Rattle.bt_seq.specs.Masking.{Masking}
-use Rattle.bt_seq.specs.Sequences.{Reached, SequenceLine, sequence_format}
+use Rattle.bt_seq.specs.Sequences.{Reached, SequenceLine, is_header, sequence_format}
 use Rattle.bt_seq.specs.declared.mask_how.MaskHow.{MaskHow}
 use Rattle.bt_seq.specs.declared.mask_want.MaskWant.TheVariants.{Line as WantLine, Bed as WantBed, Nothing}
 use Rattle.bt_tool.specs.Feeding.{PutsLines, member_items}
@@ -148,9 +149,14 @@ module _ (how : MaskHow) where
       let eq : x ≡ m = cc in
       subst (λ (y : Member Feature). Settles how written bytes (taken ++ y.item ∷ []) false) eq s
 
-neither : (a b : Bool) → (a || b) ≡ false → (a ≡ false) × (b ≡ false)
-neither true b e = absurd (false≢true (sym e))
-neither false b e = (refl, e)
+neither : (a b c : Bool) → (a || (b || c)) ≡ false → (a ≡ false) × (b ≡ false)
+neither true b c e = absurd (false≢true (sym e))
+neither false true c e = absurd (false≢true (sym e))
+neither false false c e = (refl, refl)
+
+and_second : (a b : Bool) → (a && b) ≡ true → b ≡ true
+and_second true b e = e
+and_second false b e = absurd (false≢true e)
 
 some_ahead : (o : Option (Member Feature)) (r : Feature) → option_map (λ m. m.item) o ≡ Some r → IsSome o
 some_ahead None r e = cc
@@ -190,8 +196,26 @@ module _ {A B : Type 0} (a_left : A → Option (List ℕ)) (a_failed a_end : A �
         s.first_passes.state ∙ reached_behind full (member_items s.past_first) ∙ ap (λ (l : List SequenceLine). reached_by (line_given_last l)) (sym s.all_given)
 
     -- a line that is written at once
-    module _ (m : Member SequenceLine) where
-      pub settles_at_once : (bed unnamed : Bool) → stage.bed_ended ≡ bed → is_unnamed m.item.names ≡ unnamed → (bed || unnamed) ≡ true → IsSome (good_coming b_left old_second)
+    module _ (m : Member SequenceLine) (settled : IsSettled how stage m.item) where
+      -- the record ahead decides it
+      settles_ahead : (o : Option Feature) → stage.ahead ≡ o → is_written_ahead o stage.taken m.item ≡ true → stage.bed_ended ≡ false
+          → IsSome (good_coming b_left old_second)
+          → Settles how (stage.written ++ m.item ∷ []) (s.bytes ++ masked_line how stage.taken m.item) (stage.taken ++ option_to_list (item_ahead second)) false
+      settles_ahead None is decides goes known = absurd (false≢true decides)
+      settles_ahead (Some r) is decides goes known =
+          let decided_by : decided m.item (stage.taken ++ r ∷ []) ≡ true =
+          and_second (not (is_header m.item.text)) (decided m.item (stage.taken ++ r ∷ [])) decides in
+          let ahead : item_ahead second ≡ Some r = s.kept_ahead r goes is in
+          let seen : stage.taken ++ option_to_list (item_ahead second) ≡ stage.taken ++ r ∷ [] =
+          ap (λ (o : Option Feature). stage.taken ++ option_to_list o) ahead in
+          let before : Settles how stage.written s.bytes (stage.taken ++ option_to_list (item_ahead second)) false =
+          subst (λ (b : Bool). Settles how stage.written s.bytes (stage.taken ++ option_to_list (item_ahead second)) b) goes (s.settles known) in
+          subst (λ (l : List Feature). Settles how (stage.written ++ m.item ∷ []) (s.bytes ++ masked_line how stage.taken m.item) l false) (sym seen)
+          (settles_with how stage.written s.bytes stage.taken m.item r
+          (subst (λ (l : List Feature). Settles how stage.written s.bytes l false) seen before) decided_by (settled r decided_by))
+
+      pub settles_at_once : (bed unnamed : Bool) → stage.bed_ended ≡ bed → is_unnamed m.item.names ≡ unnamed
+          → (bed || (unnamed || is_written_ahead stage.ahead stage.taken m.item)) ≡ true → IsSome (good_coming b_left old_second)
           → Settles how (stage.written ++ m.item ∷ []) (s.bytes ++ masked_line how stage.taken m.item) (stage.taken ++ option_to_list (item_ahead second)) stage.bed_ended
       settles_at_once true unnamed e u once known =
           let end = s.second_all e in
@@ -202,7 +226,9 @@ module _ {A B : Type 0} (a_left : A → Option (List ℕ)) (a_failed a_end : A �
           (settles_end how stage.written s.bytes stage.taken stage.bed_ended m.item (subst (λ (l : List Feature). Settles how stage.written s.bytes l stage.bed_ended) seen (s.settles known))))
       settles_at_once false true e u once known =
           settles_unnamed how stage.written s.bytes stage.taken (option_to_list (item_ahead second)) stage.bed_ended m.item (s.settles known) u
-      settles_at_once false false e u once known = absurd (false≢true once)
+      settles_at_once false false e u once known =
+          subst (λ (b : Bool). Settles how (stage.written ++ m.item ∷ []) (s.bytes ++ masked_line how stage.taken m.item) (stage.taken ++ option_to_list (item_ahead second)) b) (sym e)
+          (settles_ahead stage.ahead refl once e known)
 
     module _ (wants : mask.want ≡ WantLine) where
       no_line : (is_some stage.waiting ≡ false) × (stage.lines_ended ≡ false)
@@ -239,10 +265,10 @@ module _ {A B : Type 0} (a_left : A → Option (List ℕ)) (a_failed a_end : A �
           ]
         ]
 
-        pub gave_by : (b : Bool) → is_written_at_once stage m.item ≡ b → (masked : Masking) (now : Output)
+        pub gave_by : IsSettled how stage m.item → (b : Bool) → is_written_at_once stage m.item ≡ b → (masked : Masking) (now : Output)
             → MaskStandsAt how full (cond b (record stage { written = stage.written ++ m.item ∷ [] }) (record stage { waiting = Some m.item })) masked
             → Grown grown (cond b (masked_line how stage.taken m.item) []) now → Going first_now second masked now
-        gave_by true once masked now stands adds = record {
+        gave_by settled true once masked now stands adds = record {
           past_first = s.past_first ++ m ∷ [];
           past_second = s.past_second;
           first_passes = passes_more a_left a_failed a_end old_first s.past_first first s.first_passes m peeked ahead first_now passes;
@@ -254,7 +280,7 @@ module _ {A B : Type 0} (a_left : A → Option (List ℕ)) (a_failed a_end : A �
           all_taken = s.all_taken;
           kept_ahead = s.kept_ahead;
           bytes = s.bytes ++ masked_line how stage.taken m.item;
-          settles = settles_at_once m stage.bed_ended (is_unnamed m.item.names) refl refl once;
+          settles = settles_at_once m settled stage.bed_ended (is_unnamed m.item.names) refl refl once;
           is_open = s.is_open;
           first_all = λ e. never_ended e;
           second_all = s.second_all;
@@ -268,8 +294,8 @@ module _ {A B : Type 0} (a_left : A → Option (List ℕ)) (a_failed a_end : A �
           ];
           near_second = s.near_second;
         }
-        gave_by false later masked now stands adds =
-            let apart = neither stage.bed_ended (is_unnamed m.item.names) later in
+        gave_by settled false later masked now stands adds =
+            let apart = neither stage.bed_ended (is_unnamed m.item.names) (is_written_ahead stage.ahead stage.taken m.item) later in
             record {
               past_first = s.past_first ++ m ∷ [];
               past_second = s.past_second;

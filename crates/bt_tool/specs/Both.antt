@@ -1,5 +1,6 @@
 -- What a command of two inputs does, by what the inputs hand over.
-use Rattle.std.specs.Prelude.{◌≡◌, ◌≢◌, ℕ, ◌+◌, ◌⊎◌, Bool, false, List, [], ◌∷◌, ◌++◌, take, Option, Some, None, if◌then◌else◌}
+use Rattle.std.specs.Prelude.{◌≡◌, ◌≢◌, ℕ, ◌+◌, ◌⊎◌, Bool, false, List, [], ◌∷◌, ◌++◌, take, Option}
+use Rattle.std.specs.Prelude.{Some, None, if◌then◌else◌}
 use Rattle.std.specs.List.{list_all}
 use Rattle.bt_lines.specs.Fault.{Told, no_memory, write_failed}
 use Rattle.bt_lines.specs.Handed.{Handed, whole_text}
@@ -31,7 +32,8 @@ met_report met = record { output = met.lines; fault = met.fault }
 -- the report of intersect on its inputs, in an order of their chromosomes
 abbrev pub intersect_report : Order → Shape → HitRule → Handed → Handed → Report
 intersect_report order shape rule first second =
-    met_report (intersect_met order shape rule (bed_good First order first) (bed_good Second order second))
+    met_report (intersect_met order shape rule (bed_good First order first)
+    (bed_good Second order second))
 
 -- the good records on these lines of the first input
 abbrev pub records_on : Order → List TextLine → List Feature
@@ -55,7 +57,8 @@ subtract_settles order whole rule second lines =
 abbrev pub decider : Order → List Feature → List (Member Feature) → Option (Member Feature)
 decider order as_given [] = None
 decider order as_given (member ∷ members) =
-    if list_all (λ a. decides order a member.item) as_given then Some member else decider order as_given members
+    if list_all (λ a. decides order a member.item) as_given then Some member
+    else decider order as_given members
 
 -- the bytes of the lines up to that of a member, or of all
 abbrev pub bytes_up_to : List TextLine → Option (Member Feature) → ℕ
@@ -66,36 +69,50 @@ bytes_up_to lines (Some member) = bytes_in (take member.line lines)
 -- first record that decides all of them
 abbrev pub intersect_reaches : Order → Handed → List TextLine → ℕ
 intersect_reaches order second lines =
-    bytes_up_to (text_lines second.text) (decider order (records_on order lines) (bed_good Second order second).members)
+    bytes_up_to (text_lines second.text)
+    (decider order (records_on order lines) (bed_good Second order second).members)
 
 -- subtract asks for as much of it
 abbrev pub subtract_reaches : Order → Handed → List TextLine → ℕ
 subtract_reaches = intersect_reaches
 
-module _ {A B : Type 0} (a_left : A → Option (List ℕ)) (a_failed a_end : A → Bool) (b_left : B → Option (List ℕ)) (b_failed : B → Bool) (first_kinds second_kinds : Kind → Bool) (report : Handed → Handed → Report) (settles : Handed → List TextLine → List ℕ) (reaches : Handed → List TextLine → ℕ) where
-  -- two inputs were read, and what they make a command write was written: the report on what they hand over
-  pub record WritesBoth (first : A) (second : B) (out : Output) (fault : Option Told) (first_after : A) (second_after : B) (grown : Output) : Type 0 where
+module _ {A B : Type 0} (a_left : A → Option (List ℕ)) (a_failed a_end : A → Bool)
+    (b_left : B → Option (List ℕ)) (b_failed : B → Bool) (first_kinds second_kinds : Kind → Bool)
+    (report : Handed → Handed → Report) (settles : Handed → List TextLine → List ℕ)
+    (reaches : Handed → List TextLine → ℕ) where
+  -- two inputs were read, and what they make a command write was written:
+  -- the report on what they hand over
+  pub record WritesBoth (first : A) (second : B) (out : Output) (fault : Option Told)
+      (first_after : A) (second_after : B) (grown : Output) : Type 0 where
     -- no write and no growth failed: the report on what was handed over, also where a read failed
     pub whole : (one two : Handed) (before : List ℕ) → Reads a_left a_failed first first_after one
         → Reads b_left b_failed second second_after two → out.put ≡ Some before
-        → fault ≢ Some write_failed → fault ≢ Some no_memory → IsReported (report one two) before fault grown
+        → fault ≢ Some write_failed → fault ≢ Some no_memory
+        → IsReported (report one two) before fault grown
     -- no device's fault is told: the report on the whole texts
-    pub told : (one two before : List ℕ) → a_left first ≡ Some one → b_left second ≡ Some two → out.put ≡ Some before
+    pub told : (one two before : List ℕ) → a_left first ≡ Some one → b_left second ≡ Some two
+        → out.put ≡ Some before
         → IsOfInput fault → IsReported (report (whole_text one) (whole_text two)) before fault grown
     -- where a write failed: the sink took a front of the report's output
-    pub cut : fault ≡ Some write_failed → (one two before : List ℕ) → a_left first ≡ Some one → b_left second ≡ Some two
+    pub cut : fault ≡ Some write_failed → (one two before : List ℕ) → a_left first ≡ Some one
+        → b_left second ≡ Some two
         → out.put ≡ Some before → (front : List ℕ) × (rest : List ℕ)
-        × ((report (whole_text one) (whole_text two)).output ≡ front ++ rest) × IsFrontOf grown.took (Some (before ++ front)) []
+        × ((report (whole_text one) (whole_text two)).output ≡ front ++ rest)
+        × IsFrontOf grown.took (Some (before ++ front)) []
     -- whatever else fails: a front of the report's output was put
-    pub kept : fault ≢ Some write_failed → (one two before : List ℕ) → a_left first ≡ Some one → b_left second ≡ Some two
+    pub kept : fault ≢ Some write_failed → (one two before : List ℕ) → a_left first ≡ Some one
+        → b_left second ≡ Some two
         → out.put ≡ Some before → (front : List ℕ) × (rest : List ℕ)
-        × ((report (whole_text one) (whole_text two)).output ≡ front ++ rest) × (grown.put ≡ Some (before ++ front))
+        × ((report (whole_text one) (whole_text two)).output ≡ front ++ rest)
+        × (grown.put ≡ Some (before ++ front))
     pub grows : Grows out.took grown.took
     -- without a fault no device failed, known or not
-    pub served : fault ≡ None → ((a_failed first_after ≡ a_failed first) × (b_failed second_after ≡ b_failed second))
+    pub served : fault ≡ None
+        → ((a_failed first_after ≡ a_failed first) × (b_failed second_after ≡ b_failed second))
         × (grown.sink_has_failed ≡ out.sink_has_failed)
     -- how far the inputs were read, whatever happened
-    pub near : (one two before taken : List ℕ) → a_left first ≡ Some one → b_left second ≡ Some two → out.put ≡ Some before
+    pub near : (one two before taken : List ℕ) → a_left first ≡ Some one → b_left second ≡ Some two
+        → out.put ≡ Some before
         → out.took ≡ Some taken
         → ReadsNoFurther (λ lines. a_end first_after ≡ false
         → HandsUpTo b_left (reaches (whole_text two) lines + block_size) second second_after)
@@ -107,7 +124,10 @@ module _ {A B : Type 0} (a_left : A → Option (List ℕ)) (a_failed a_end : A �
         ⊎ TellsDevice grown.sink_has_failed told
 
 -- two inputs were swept, in an order of their chromosomes
-abbrev pub Intersects : {A B : Type 0} → (A → Option (List ℕ)) → (A → Bool) → (A → Bool) → (B → Option (List ℕ)) → (B → Bool)
+abbrev pub Intersects : {A B : Type 0} → (A → Option (List ℕ)) → (A → Bool) → (A → Bool)
+    → (B → Option (List ℕ)) → (B → Bool)
     → Order → Shape → HitRule → A → B → Output → Option Told → A → B → Output → Type 0
 Intersects a_left a_failed a_end b_left b_failed order shape rule =
-    WritesBoth a_left a_failed a_end b_left b_failed is_bed_kind is_bed_kind (intersect_report order shape rule) (intersect_settles order shape rule) (intersect_reaches order)
+    WritesBoth a_left a_failed a_end b_left b_failed is_bed_kind is_bed_kind
+    (intersect_report order shape rule) (intersect_settles order shape rule)
+    (intersect_reaches order)

@@ -1,5 +1,6 @@
 -- The characters that may stand for masked bases: the printable ones of ASCII, no space.
-use Rattle.std.specs.Prelude.{ℕ, ◌&&◌, Bool, List, [], ◌∷◌, Option, Some, None, nat_le, if◌then◌else◌}
+use Rattle.std.specs.Prelude.{ℕ, ◌&&◌, Bool, List, [], ◌∷◌, Option, Some, None, nat_le}
+use Rattle.std.specs.Prelude.{if◌then◌else◌}
 
 abbrev pub is_printable : ℕ → Bool
 is_printable byte = nat_le 33 byte && nat_le byte 126

@@ -13,25 +13,30 @@ use Rattle.bt_bed.specs.Rank.{AreDistinct}
 use Rattle.bt_bed.specs.declared.genome.Genome.{Genome}
 use Rattle.bt_tool.specs.Driving.{IsOfInput, TellsInputIf}
 use Rattle.bt_tool.specs.Inputs.{HoldsIf, ReadsIf, ServesIf}
-use Rattle.bt_tool.specs.Report.{chromosomes_of, command_reaches, command_report, command_settles, first_kinds, second_kinds}
+use Rattle.bt_tool.specs.Report.{chromosomes_of, command_reaches, command_report, command_settles}
+use Rattle.bt_tool.specs.Report.{first_kinds, second_kinds}
 use Rattle.bt_tool.specs.Writing.{WritesInputs}
 use Rattle.bt_tool.specs.declared.plan_type.Command.{Command}
 
 module _ {G : Type 0} (left : G → Option (List ℕ)) (failed : G → Bool) where
   -- the chromosomes were read
   pub record KnowsChromosomes (before after : Option G) (table : Genome) : Type 0 where
-    pub whole : (handed : Option Handed) → ReadsIf left failed before after handed → chromosomes_of handed ≡ Ok (entries table)
-    pub told : (handed : Option Handed) → HoldsIf left before handed → chromosomes_of handed ≡ Ok (entries table)
+    pub whole : (handed : Option Handed) → ReadsIf left failed before after handed
+        → chromosomes_of handed ≡ Ok (entries table)
+    pub told : (handed : Option Handed) → HoldsIf left before handed
+        → chromosomes_of handed ≡ Ok (entries table)
     pub distinct : AreDistinct (names_of table)
     pub served : ServesIf failed before after
 
   -- the genome file is at fault, or couldn't be read
   pub record LacksChromosomes (before after : Option G) (fault : Told) : Type 0 where
-    pub whole : (handed : Option Handed) → ReadsIf left failed before after handed → fault ≢ no_memory
+    pub whole : (handed : Option Handed) → ReadsIf left failed before after handed
+        → fault ≢ no_memory
         → chromosomes_of handed ≡ Err fault
     pub told : (handed : Option Handed) → HoldsIf left before handed → IsOfInput (Some fault)
         → chromosomes_of handed ≡ Err fault
-    pub named : TellsInputIf left failed is_genome_kind FromGenome before after fault ⊎ (fault ≡ no_memory)
+    pub named : TellsInputIf left failed is_genome_kind FromGenome before after fault
+        ⊎ (fault ≡ no_memory)
     pub no_write : fault ≢ write_failed
 
   abbrev pub ReadsChromosomes : Option G → Result Genome Fault → Option G → Type 0
@@ -39,20 +44,28 @@ module _ {G : Type 0} (left : G → Option (List ℕ)) (failed : G → Bool) whe
   ReadsChromosomes before (Err fault) after = LacksChromosomes before after (told fault)
 
 -- the run ended with the genome file's fault, and nothing else was touched
-pub record StopsAtGenome {A B : Type 0} (first : A) (second : Option B) (out : Output) (genome_fault : Told) (fault : Option Told) (first_after : A) (second_after : Option B) (grown : Output) : Type 0 where
+pub record StopsAtGenome {A B : Type 0} (first : A) (second : Option B) (out : Output)
+    (genome_fault : Told) (fault : Option Told) (first_after : A) (second_after : Option B)
+    (grown : Output) : Type 0 where
   pub is : fault ≡ Some genome_fault
   pub untouched : first_after ≡ first
   pub other_untouched : second_after ≡ second
   pub unchanged : grown ≡ out
 
-module _ {A B : Type 0} (a_left : A → Option (List ℕ)) (a_failed a_end : A → Bool) (b_left : B → Option (List ℕ)) (b_failed : B → Bool) where
+module _ {A B : Type 0} (a_left : A → Option (List ℕ)) (a_failed a_end : A → Bool)
+    (b_left : B → Option (List ℕ)) (b_failed : B → Bool) where
   -- the output of a command was written, by the chromosomes of the genome file
-  abbrev pub WritesBy : Command → List Entry → A → Option B → Output → Option Told → A → Option B → Output → Type 0
-  WritesBy command entries = WritesInputs a_left a_failed a_end b_left b_failed (first_kinds command) (second_kinds command)
-      (command_report command entries) (command_settles command entries) (command_reaches command entries)
+  abbrev pub WritesBy : Command → List Entry → A → Option B → Output → Option Told → A → Option B
+      → Output → Type 0
+  WritesBy command entries =
+      WritesInputs a_left a_failed a_end b_left b_failed (first_kinds command)
+      (second_kinds command)
+      (command_report command entries) (command_settles command entries)
+      (command_reaches command entries)
 
   -- it was written by the chromosomes that were read, or the run ended with their fault
-  abbrev pub WritesOutput : Command → Result Genome Fault → A → Option B → Output → Option Told → A → Option B → Output → Type 0
+  abbrev pub WritesOutput : Command → Result Genome Fault → A → Option B → Output → Option Told → A
+      → Option B → Output → Type 0
   WritesOutput command (Ok table) first second out fault first_after second_after grown =
       WritesBy command (entries table) first second out fault first_after second_after grown
   WritesOutput command (Err genome_fault) first second out fault first_after second_after grown =

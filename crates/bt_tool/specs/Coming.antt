@@ -5,7 +5,8 @@ use Rattle.bt_lines.specs.Handed.{Handed, whole_text}
 use Rattle.bt_lines.specs.declared.fault.Input.{Input}
 use Rattle.bt_tool.specs.Inputs.{Reads}
 
-module _ {S : Type 0} (left : S → Option (List ℕ)) (failed : S → Bool) (first last : S) (fault : Option Told) where
+module _ {S : Type 0} (left : S → Option (List ℕ)) (failed : S → Bool) (first last : S)
+    (fault : Option Told) where
   -- it is the whole text, and no failed read is told
   pub record IsWhole (handed : Handed) : Type 0 where
     pub text : List ℕ

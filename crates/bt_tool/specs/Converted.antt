@@ -13,8 +13,8 @@ use Rattle.bt_tool.specs.RecordReport.{Report}
 abbrev pub alignment_lines : Bool → Bool → List Alignment → List ℕ
 alignment_lines split cigar alignments = flat_map (bed_lines split cigar) alignments
 
--- the report of bamtobed: the lines of all alignments before the first line at fault, and the fault of that
--- line, if there is one
+-- the report of bamtobed: the lines of all alignments before the first line at fault, and the fault
+-- of that line, if there is one
 abbrev pub bamtobed_report : Bool → Bool → Handed → Report
 bamtobed_report split cigar first = record {
   output = alignment_lines split cigar (items_in (sam_good First first));
@@ -23,4 +23,5 @@ bamtobed_report split cigar first = record {
 
 -- the lines of the alignments on these lines of the input
 abbrev pub bamtobed_settles : Bool → Bool → List TextLine → List ℕ
-bamtobed_settles split cigar lines = alignment_lines split cigar (items_in (good sam_format First lines))
+bamtobed_settles split cigar lines =
+    alignment_lines split cigar (items_in (good sam_format First lines))

@@ -25,36 +25,43 @@ lines_if split cigar None = []
 lines_if split cigar (Some a) = bed_lines split cigar a
 
 -- what the line says was written
-pub record LineWritten (old : Converting) (line : TextLine) (out : Output) (new : Converting) (grown : Output) : Type 0 where
+pub record LineWritten (old : Converting) (line : TextLine) (out : Output) (new : Converting)
+    (grown : Output) : Type 0 where
   pub said : Option Alignment
   pub says : alignment_of line.text ≡ Ok said
   pub writes : Grown out (lines_if old.split old.with_cigar said) grown
   pub unchanged : new ≡ old
 
 -- the line is at fault
-pub record LineRefused (input : Input) (line : TextLine) (out : Output) (fault : Told) (grown : Output) : Type 0 where
+pub record LineRefused (input : Input) (line : TextLine) (out : Output) (fault : Told)
+    (grown : Output) : Type 0 where
   pub kind : Kind
   pub says : alignment_of line.text ≡ Err kind
   pub is : fault ≡ fault_at_line input line.number kind
   pub unchanged : grown ≡ out
 
 -- the lines of its alignment couldn't be written
-pub record LineUnwritten (old : Converting) (line : TextLine) (out : Output) (fault : Told) (grown : Output) : Type 0 where
+pub record LineUnwritten (old : Converting) (line : TextLine) (out : Output) (fault : Told)
+    (grown : Output) : Type 0 where
   pub said : Alignment
   pub says : alignment_of line.text ≡ Ok (Some said)
   pub fails : FailsToAdd out (bed_lines old.split old.with_cigar said) fault grown
 
 -- what a line of the input does
-abbrev pub ConvertsLine : {T : Type 0} → Input → Converting → TextLine → Output → Result T Fault → Converting → Output → Type 0
+abbrev pub ConvertsLine : {T : Type 0} → Input → Converting → TextLine → Output → Result T Fault
+    → Converting → Output → Type 0
 ConvertsLine input old line out (Ok done) new grown = LineWritten old line out new grown
 ConvertsLine input old line out (Err fault) new grown =
     LineRefused input line out (told fault) grown ⊎ LineUnwritten old line out (told fault) grown
 
 -- a reader of lines as one of the alignments on them
 abbrev pub sam_reader : {S : Type 0} → LineReader S → MemberReader S Alignment ⊤
-sam_reader reader = record { format = sam_format; below = reader; state = tt; ahead = None; fault = None }
+sam_reader reader =
+    record { format = sam_format; below = reader; state = tt; ahead = None; fault = None }
 
 -- what writing the alignments of all lines does
-abbrev pub ConvertsAll : {S T : Type 0} → (S → Option (List ℕ)) → (S → Bool) → Converting → LineReader S → Output → Result T Fault → LineReader S → Output → Type 0
+abbrev pub ConvertsAll : {S T : Type 0} → (S → Option (List ℕ)) → (S → Bool) → Converting
+    → LineReader S → Output → Result T Fault → LineReader S → Output → Type 0
 ConvertsAll left failed converting old out answer new grown =
-    FeedsMembers (alignment_lines converting.split converting.with_cigar) is_sam_kind (λ past. ⊤) left failed (λ past. ⊤) (sam_reader old) out answer new grown
+    FeedsMembers (alignment_lines converting.split converting.with_cigar) is_sam_kind (λ past. ⊤)
+    left failed (λ past. ⊤) (sam_reader old) out answer new grown

@@ -1,6 +1,7 @@
--- Fractions in decimal (bedtools manual, intersect, option -f). How many decimals one may have is this
--- program's own rule.
-use Rattle.std.specs.Prelude.{ℕ, ◌+◌, ◌-◌, ◌*◌, ◌==◌, Bool, ◌&&◌, List, ◌++◌, length, replicate, nat_lt, nat_le, Option, Some, None, if◌then◌else◌}
+-- Fractions in decimal (bedtools manual, intersect, option -f). How many decimals one may have is
+-- this program's own rule.
+use Rattle.std.specs.Prelude.{ℕ, ◌+◌, ◌-◌, ◌*◌, ◌==◌, Bool, ◌&&◌, List, ◌++◌, length, replicate}
+use Rattle.std.specs.Prelude.{nat_lt, nat_le, Option, Some, None, if◌then◌else◌}
 use Rattle.std.specs.Char.{is_ascii_digit}
 use Rattle.std.specs.List.{after_first, before_first, list_all}
 use Rattle.std.specs.Str.Parse.{digits_value}
@@ -21,8 +22,8 @@ abbrev pub billionths_in : List ℕ → List ℕ → ℕ
 billionths_in whole decimals =
     digits_value 10 whole * one_in_billionths + digits_value 10 (nine_decimals decimals)
 
--- whether these stand before the point and behind it: digits, one at least and at most nine behind the
--- point, of a number of at most one
+-- whether these stand before the point and behind it: digits, one at least and at most nine behind
+-- the point, of a number of at most one
 abbrev pub are_digits_of_fraction : List ℕ → List ℕ → Bool
 are_digits_of_fraction whole decimals =
     nat_lt 0 (length whole + length decimals)
@@ -36,6 +37,7 @@ unfoldable pub fraction_in : List ℕ → List ℕ → Option ℕ
 fraction_in whole decimals =
     if are_digits_of_fraction whole decimals then Some (billionths_in whole decimals) else None
 
--- the fraction that a word denotes, if it denotes one, in billionths; a word without a point is all before it
+-- the fraction that a word denotes, if it denotes one,
+-- in billionths; a word without a point is all before it
 abbrev pub fraction_of : List ℕ → Option ℕ
 fraction_of word = fraction_in (before_first is_point word) (after_first is_point word)

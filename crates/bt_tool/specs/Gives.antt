@@ -1,5 +1,6 @@
 -- What a run gives, by what its inputs hand over.
-use Rattle.std.specs.Prelude.{◌≡◌, ◌≢◌, ℕ, ◌+◌, ◌⊎◌, Bool, true, false, List, ◌++◌, Option, Some, None, Err}
+use Rattle.std.specs.Prelude.{◌≡◌, ◌≢◌, ℕ, ◌+◌, ◌⊎◌, Bool, true, false, List, ◌++◌, Option, Some}
+use Rattle.std.specs.Prelude.{None, Err}
 use Rattle.bt_lines.specs.Fault.{Told, no_memory}
 use Rattle.bt_lines.specs.Output.{block_size}
 use Rattle.bt_lines.specs.Handed.{Handed}
@@ -9,7 +10,8 @@ use Rattle.bt_lines.specs.declared.fault.Place.{Place}
 use Rattle.bt_bed.specs.LineKind.{is_genome_kind}
 use Rattle.bt_tool.specs.Driving.{IsOfInput, ReadsNoFurther, TellsDevice, TellsInput, TellsInputIf}
 use Rattle.bt_tool.specs.Inputs.{HandsUpToIf, HoldsIf, Holds, Inputs, Reads, ReadsIf, ServesIf}
-use Rattle.bt_tool.specs.Report.{chromosomes_of, first_kinds, reaches_on, report_of, second_kinds, settles_on}
+use Rattle.bt_tool.specs.Report.{chromosomes_of, first_kinds, reaches_on, report_of, second_kinds}
+use Rattle.bt_tool.specs.Report.{settles_on}
 use Rattle.bt_tool.specs.declared.plan_type.Command.{Command}
 
 -- whether a fault lies in the genome file
@@ -22,55 +24,75 @@ abbrev pub lies_in_genome : Option Place → Bool
 lies_in_genome None = false
 lies_in_genome (Some place) = is_of_genome place.input
 
-module _ {G A B K : Type 0} (g_left : G → Option (List ℕ)) (g_failed : G → Bool) (a_left : A → Option (List ℕ)) (a_failed a_end : A → Bool) (b_left : B → Option (List ℕ)) (b_failed : B → Bool) (k_took : K → Option (List ℕ)) (k_failed : K → Bool) where
+module _ {G A B K : Type 0} (g_left : G → Option (List ℕ)) (g_failed : G → Bool)
+    (a_left : A → Option (List ℕ)) (a_failed a_end : A → Bool) (b_left : B → Option (List ℕ))
+    (b_failed : B → Bool) (k_took : K → Option (List ℕ)) (k_failed : K → Bool) where
   -- this came of the inputs, all of which worked before the run
-  pub record ReadsInputs (genome : Option G) (first : A) (second : Option B) (genome_after : Option G) (first_after : A) (second_after : Option B) (inputs : Inputs) : Type 0 where
+  pub record ReadsInputs (genome : Option G) (first : A) (second : Option B)
+      (genome_after : Option G) (first_after : A) (second_after : Option B)
+      (inputs : Inputs) : Type 0 where
     pub genome_file : ReadsIf g_left g_failed genome genome_after inputs.genome
     pub first_input : Reads a_left a_failed first first_after inputs.first
     pub second_input : ReadsIf b_left b_failed second second_after inputs.second
 
   -- these are the whole texts of the inputs, what they never hand over included
-  pub record HoldInputs (genome : Option G) (first : A) (second : Option B) (inputs : Inputs) : Type 0 where
+  pub record HoldInputs (genome : Option G) (first : A) (second : Option B)
+      (inputs : Inputs) : Type 0 where
     pub genome_file : HoldsIf g_left genome inputs.genome
     pub first_input : Holds a_left first inputs.first
     pub second_input : HoldsIf b_left second inputs.second
 
   -- a run of a command
-  pub record Runs (command : Command) (genome : Option G) (first : A) (second : Option B) (out : K) (fault : Option Told) (genome_after : Option G) (first_after : A) (second_after : Option B) (out_after : K) : Type 0 where
-    -- Where the devices tell their bytes, the sink serves and no growth is refused: the fault told and the bytes
-    -- written are those of the report on what the inputs handed over, also where a read failed or an input
-    -- passes 2^63 - 1 bytes.
-    pub whole : (inputs : Inputs) (before : List ℕ) → ReadsInputs genome first second genome_after first_after second_after inputs
+  pub record Runs (command : Command) (genome : Option G) (first : A) (second : Option B) (out : K)
+      (fault : Option Told) (genome_after : Option G) (first_after : A) (second_after : Option B)
+      (out_after : K) : Type 0 where
+    -- Where the devices tell their bytes, the sink serves and no growth is refused: the fault told
+    -- and the bytes written are those of the report on what the inputs handed over, also where a
+    -- read failed or an input passes 2^63 - 1 bytes.
+    pub whole : (inputs : Inputs) (before : List ℕ)
+        → ReadsInputs genome first second genome_after first_after second_after inputs
         → k_took out ≡ Some before → k_failed out_after ≡ false → fault ≢ Some no_memory
-        → (fault ≡ (report_of command inputs).fault) × (k_took out_after ≡ Some (before ++ (report_of command inputs).output))
-    -- Where the devices tell their bytes, whether they fail or not: where the run ends without a fault, or tells a line's, that fault and the bytes
-    -- written are those of the report on the whole texts.
+        → (fault ≡ (report_of command inputs).fault)
+        × (k_took out_after ≡ Some (before ++ (report_of command inputs).output))
+    -- Where the devices tell their bytes, whether they fail or not: where the run ends without a
+    -- fault, or tells a line's, that fault and the bytes written are
+    -- those of the report on the whole texts.
     pub told : (inputs : Inputs) (before : List ℕ) → HoldInputs genome first second inputs
         → k_took out ≡ Some before → IsOfInput fault
-        → (fault ≡ (report_of command inputs).fault) × (k_took out_after ≡ Some (before ++ (report_of command inputs).output))
-    -- Whatever read, write or growth fails of such devices, what was written is a front of the report's output for the whole texts,
-    -- what wasn't handed over of them included.
-    pub front : (inputs : Inputs) (before : List ℕ) → HoldInputs genome first second inputs → k_took out ≡ Some before
-        → (front : List ℕ) × (rest : List ℕ) × (k_took out_after ≡ Some (before ++ front)) × ((report_of command inputs).output ≡ front ++ rest)
-    -- However the run ends, where the devices tell their bytes: for some n, the first input handed over its first n
-    -- lines and a block at most, and what its first n - 1 lines settle was written but for a block. Where the first
-    -- input's end wasn't told, the second handed over what those n lines ask for and a block at most.
-    pub near : (inputs : Inputs) (before : List ℕ) → HoldInputs genome first second inputs → k_took out ≡ Some before
+        → (fault ≡ (report_of command inputs).fault)
+        × (k_took out_after ≡ Some (before ++ (report_of command inputs).output))
+    -- Whatever read, write or growth fails of such devices, what was written is a front of the
+    -- report's output for the whole texts, what wasn't handed over of them included.
+    pub front : (inputs : Inputs) (before : List ℕ) → HoldInputs genome first second inputs
+        → k_took out ≡ Some before
+        → (front : List ℕ) × (rest : List ℕ) × (k_took out_after ≡ Some (before ++ front))
+        × ((report_of command inputs).output ≡ front ++ rest)
+    -- However the run ends, where the devices tell their bytes: for some n, the first input handed
+    -- over its first n lines and a block at most, and what its first n - 1 lines settle was written
+    -- but for a block. Where the first input's end wasn't told, the second handed over what those n
+    -- lines ask for and a block at most.
+    pub near : (inputs : Inputs) (before : List ℕ) → HoldInputs genome first second inputs
+        → k_took out ≡ Some before
         → ReadsNoFurther (λ lines. a_end first_after ≡ false
-        → HandsUpToIf b_left (reaches_on command (chromosomes_of inputs.genome) inputs.second lines + block_size) second second_after)
-        (settles_on command (chromosomes_of inputs.genome) inputs.second) inputs.first.text (a_left first_after) before (k_took out_after)
-    -- Whatever the devices do, known or not: a run that ends without a fault has met no failure of a device that it
-    -- used. So a failed read or write never ends with status 0.
-    pub served : fault ≡ None → (ServesIf g_failed genome genome_after × ServesIf b_failed second second_after)
+        → HandsUpToIf b_left (reaches_on command (chromosomes_of inputs.genome) inputs.second lines
+        + block_size) second second_after)
+        (settles_on command (chromosomes_of inputs.genome) inputs.second) inputs.first.text
+        (a_left first_after) before (k_took out_after)
+    -- Whatever the devices do, known or not: a run that ends without a fault has met no failure of
+    -- a device that it used. So a failed read or write never ends with status 0.
+    pub served : fault ≡ None
+        → (ServesIf g_failed genome genome_after × ServesIf b_failed second second_after)
         × ((a_failed first_after ≡ a_failed first) × (k_failed out_after ≡ k_failed out))
     -- Where the genome file's text is at fault no other input was touched, whatever else failed.
-    pub after_genome : (file : Option Handed) → HoldsIf g_left genome file → (wrong : Told) → chromosomes_of file ≡ Err wrong
+    pub after_genome : (file : Option Handed) → HoldsIf g_left genome file → (wrong : Told)
+        → chromosomes_of file ≡ Err wrong
         → (first_after ≡ first) × (second_after ≡ second)
     -- Nor was it after a fault that is told of the genome file, whatever the devices do.
     pub untouched : (told : Told) → fault ≡ Some told → lies_in_genome told.place ≡ true
         → (first_after ≡ first) × (second_after ≡ second)
-    -- What the fault may be, whatever the devices do: one that a line of an input can have, a failed read only
-    -- where its source failed or may have passed the bound, a failed write only where the sink failed, or want of memory.
+    -- What the fault may be, whatever the devices do: one that a line of an input can have, a
+    -- failed read only where its source failed or may have passed the bound, a failed write only
+    -- where the sink failed, or want of memory.
     pub named : (told : Told) → fault ≡ Some told
         → (TellsInputIf g_left g_failed is_genome_kind Genome genome genome_after told
         ⊎ (TellsInput a_left a_failed (first_kinds command) First first first_after told

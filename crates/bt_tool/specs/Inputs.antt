@@ -1,5 +1,6 @@
 -- What the inputs of a run hand over to it.
-use Rattle.std.specs.Prelude.{◌≡◌, ℕ, ◌-◌, ◌^◌, ◌≤◌, Bool, true, false, ⊤, List, length, nat_le, take, Option, Some, None}
+use Rattle.std.specs.Prelude.{◌≡◌, ℕ, ◌-◌, ◌^◌, ◌≤◌, Bool, true, false, ⊤, List, length, nat_le}
+use Rattle.std.specs.Prelude.{take, Option, Some, None}
 use Rattle.std.specs.Io.KnownBytes.{Consumes}
 use Rattle.bt_lines.specs.Handed.{Handed, whole_text}
 
@@ -10,7 +11,8 @@ pub record Inputs : Type 0 where
   pub second : Option Handed
 
 -- a source handed over no more than so many bytes
-pub record HandsUpTo {S : Type 0} (left : S → Option (List ℕ)) (most : ℕ) (before after : S) : Type 0 where
+pub record HandsUpTo {S : Type 0} (left : S → Option (List ℕ)) (most : ℕ)
+    (before after : S) : Type 0 where
   pub handed : List ℕ
   pub consumed : Consumes (left before) (left after) handed
   pub read : length handed ≤ most

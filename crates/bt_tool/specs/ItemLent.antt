@@ -4,4 +4,5 @@ use Rattle.bt_tool.specs.declared.item.Item.{Item as Lent}
 use Rattle.bt_tool.specs.Items.{Item}
 
 abbrev pub item_lent : Lent → Item
-item_lent item = record { option = item.option.now; value = option_map (λ value. value.now) item.value }
+item_lent item =
+    record { option = item.option.now; value = option_map (λ value. value.now) item.value }

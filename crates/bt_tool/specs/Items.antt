@@ -1,5 +1,6 @@
 -- How the words after the command are divided into items.
-use Rattle.std.specs.Prelude.{◌≡◌, ◌≤◌, false, true, List, [], ◌∷◌, ◌++◌, Option, Some, None, All, IsTrue, flat_map, length, option_to_list}
+use Rattle.std.specs.Prelude.{◌≡◌, ◌≤◌, false, true, List, [], ◌∷◌, ◌++◌, Option, Some, None, All}
+use Rattle.std.specs.Prelude.{IsTrue, flat_map, length, option_to_list}
 use Rattle.bt_tool.specs.Table.{Word, Table, fits, takes}
 use Rattle.bt_tool.specs.declared.takes.Takes.{Takes}
 

@@ -6,7 +6,9 @@ use Rattle.bt_seq.specs.declared.mask_how.MaskHow.TheVariants.{Soft, Hard}
 use Rattle.bt_tool.specs.Character.{is_printable}
 use Rattle.bt_tool.specs.Fraction.{one_in_billionths}
 use Rattle.bt_tool.specs.declared.plan_type.Command.{Command}
-use Rattle.bt_tool.specs.declared.plan_type.Command.TheVariants.{Merge, Complement, Intersect, Subtract, Coverage, BamToBed, MaskFasta}
+use Rattle.bt_tool.specs.declared.plan_type.Command.TheVariants.{Merge, Complement, Intersect}
+use Rattle.bt_tool.specs.declared.plan_type.Command.TheVariants.{Subtract, Coverage, BamToBed}
+use Rattle.bt_tool.specs.declared.plan_type.Command.TheVariants.{MaskFasta}
 
 -- whether a masked base can be shown so
 abbrev pub is_shown_as : MaskHow → Bool

@@ -1,4 +1,5 @@
--- What one turn of a masking engine over two readers does: a line, a record or the end of an input is given to it.
+-- What one turn of a masking engine over two readers does: a line,
+-- a record or the end of an input is given to it.
 use Rattle.std.specs.Prelude.{◌≡◌, ◌⊎◌, ℕ, Bool, List, Option, Some, None, Result, Ok, Err}
 use Rattle.bt_lines.specs.Fault.{Told}
 use Rattle.bt_lines.specs.Lines.{TextLine}
@@ -12,15 +13,19 @@ use Rattle.bt_bed.specs.Feature.{Feature}
 use Rattle.bt_bed.specs.Good.{Member}
 use Rattle.bt_bed.specs.Locus.{Locus}
 use Rattle.bt_bed.specs.Reading.{Advances, MemberReader}
-use Rattle.bt_seq.specs.MaskStanding.{IsNext, MaskStage, MaskStandsAt, with_bed_ended, with_lines_ended}
-use Rattle.bt_seq.specs.MaskSteps.{FailsToHoldRecord, FailsToWriteLine, FailsWithLine, HasSequence, LacksSequence, RefusesLine, TakesNextLine, TakesRecord, WritesLine}
+use Rattle.bt_seq.specs.MaskStanding.{IsNext, MaskStage, MaskStandsAt, with_bed_ended}
+use Rattle.bt_seq.specs.MaskStanding.{with_lines_ended}
+use Rattle.bt_seq.specs.MaskSteps.{FailsToHoldRecord, FailsToWriteLine, FailsWithLine, HasSequence}
+use Rattle.bt_seq.specs.MaskSteps.{LacksSequence, RefusesLine, TakesNextLine, TakesRecord}
+use Rattle.bt_seq.specs.MaskSteps.{WritesLine}
 use Rattle.bt_seq.specs.Masked.{masked_line}
 use Rattle.bt_seq.specs.Masking.{Masking}
 use Rattle.bt_seq.specs.Sequences.{SequenceLine}
 use Rattle.bt_seq.specs.declared.mask_how.MaskHow.{MaskHow}
 use Rattle.bt_tool.specs.Passed.{IsAhead, IsOver, IsStopped}
 
-module _ {S : Type 0} (left : S → Option (List ℕ)) (failed end : S → Bool) (old : LineReader S) (mask : Masking) (out : Output) where
+module _ {S : Type 0} (left : S → Option (List ℕ)) (failed end : S → Bool) (old : LineReader S)
+    (mask : Masking) (out : Output) where
   -- a line was read
   pub record HasLine (line : TextLine) (new : LineReader S) : Type 0 where
     pub gives : GivesLine left failed old line new
@@ -46,7 +51,8 @@ module _ {S : Type 0} (left : S → Option (List ℕ)) (failed end : S → Bool)
     pub line : TextLine
     pub has : HasLine line new
     pub fails : (how : MaskHow) (full : Bool) (stage : MaskStage) → MaskStandsAt how full stage mask
-        → RefusesLine how full stage line out fault grown ⊎ FailsWithLine how full stage line out fault grown
+        → RefusesLine how full stage line out fault grown
+        ⊎ FailsWithLine how full stage line out fault grown
 
   -- a line couldn't be read
   pub record LacksLine (fault : Told) (new : LineReader S) (grown : Output) : Type 0 where
@@ -57,78 +63,110 @@ module _ {S : Type 0} (left : S → Option (List ℕ)) (failed end : S → Bool)
   -- a turn of the lines
   abbrev pub TurnsLine : {T : Type 0} → Result T Fault → LineReader S → Masking → Output → Type 0
   TurnsLine (Ok done) new masked grown = GivesLines new masked grown ⊎ EndsLines new masked grown
-  TurnsLine (Err fault) new masked grown = LacksLine (told fault) new grown ⊎ FailsLine (told fault) new grown
+  TurnsLine (Err fault) new masked grown =
+      LacksLine (told fault) new grown ⊎ FailsLine (told fault) new grown
 
-module _ {S : Type 0} (left : S → Option (List ℕ)) (failed end : S → Bool) (old : MemberReader S Feature (Option Locus)) where
+module _ {S : Type 0} (left : S → Option (List ℕ)) (failed end : S → Bool)
+    (old : MemberReader S Feature (Option Locus)) where
   -- the reader stands as it did, or has asked for the member ahead
   abbrev pub HasAsked : MemberReader S Feature (Option Locus) → Type 0
   HasAsked now = (now ≡ old) ⊎ ((m : Member Feature) × IsAhead left failed end old m now)
 
   -- what was asked for is the line of the member ahead, or the end
   abbrev pub AsksLine : Result (Option ℕ) Fault → MemberReader S Feature (Option Locus) → Type 0
-  AsksLine (Ok (Some line)) new = (item : Feature) × IsAhead left failed end old (record { line = line; item = item }) new
+  AsksLine (Ok (Some line)) new =
+      (item : Feature) × IsAhead left failed end old (record { line = line; item = item }) new
   AsksLine (Ok None) new = IsOver left failed end old new
   AsksLine (Err fault) new = IsStopped left failed end old (told fault) new
 
   module _ (mask : Masking) (out : Output) where
     -- a record was taken and passed
-    pub record TakesBed (new : MemberReader S Feature (Option Locus)) (masked : Masking) (grown : Output) : Type 0 where
+    pub record TakesBed (new : MemberReader S Feature (Option Locus)) (masked : Masking)
+        (grown : Output) : Type 0 where
       pub m : Member Feature
       pub peeked : MemberReader S Feature (Option Locus)
       pub ahead : IsAhead left failed end old m peeked
       pub passes : Advances left peeked new
-      pub waits : (how : MaskHow) (full : Bool) (stage : MaskStage) (line : SequenceLine) → MaskStandsAt how full stage mask
-          → stage.waiting ≡ Some line → IsNext stage.ahead m.item → TakesRecord how full stage line m.item out masked grown
-      pub none_waits : (how : MaskHow) (full : Bool) (stage : MaskStage) → MaskStandsAt how full stage mask
-          → stage.waiting ≡ None → IsNext stage.ahead m.item → HasSequence how full stage m.item m.line out masked grown
+      pub waits : (how : MaskHow) (full : Bool) (stage : MaskStage) (line : SequenceLine)
+          → MaskStandsAt how full stage mask
+          → stage.waiting ≡ Some line → IsNext stage.ahead m.item
+          → TakesRecord how full stage line m.item out masked grown
+      pub none_waits : (how : MaskHow) (full : Bool) (stage : MaskStage)
+          → MaskStandsAt how full stage mask
+          → stage.waiting ≡ None → IsNext stage.ahead m.item
+          → HasSequence how full stage m.item m.line out masked grown
 
     -- it made the waiting line be written, and stays ahead
-    pub record LeavesBed (new : MemberReader S Feature (Option Locus)) (masked : Masking) (grown : Output) : Type 0 where
+    pub record LeavesBed (new : MemberReader S Feature (Option Locus)) (masked : Masking)
+        (grown : Output) : Type 0 where
       pub m : Member Feature
       pub ahead : IsAhead left failed end old m new
-      pub waits : (how : MaskHow) (full : Bool) (stage : MaskStage) (line : SequenceLine) → MaskStandsAt how full stage mask
-          → stage.waiting ≡ Some line → IsNext stage.ahead m.item → WritesLine how full stage line m.item out masked grown
-      pub none_waits : (how : MaskHow) (full : Bool) (stage : MaskStage) → MaskStandsAt how full stage mask
+      pub waits : (how : MaskHow) (full : Bool) (stage : MaskStage) (line : SequenceLine)
+          → MaskStandsAt how full stage mask
+          → stage.waiting ≡ Some line → IsNext stage.ahead m.item
+          → WritesLine how full stage line m.item out masked grown
+      pub none_waits : (how : MaskHow) (full : Bool) (stage : MaskStage)
+          → MaskStandsAt how full stage mask
           → stage.waiting ≡ None → IsNext stage.ahead m.item → ⊥
 
     -- the end of the records was given
-    pub record EndsBed (new : MemberReader S Feature (Option Locus)) (masked : Masking) (grown : Output) : Type 0 where
+    pub record EndsBed (new : MemberReader S Feature (Option Locus)) (masked : Masking)
+        (grown : Output) : Type 0 where
       pub asked : MemberReader S Feature (Option Locus)
       pub has_asked : HasAsked asked
       pub over : IsOver left failed end asked new
-      pub waits : (how : MaskHow) (full : Bool) (stage : MaskStage) (line : SequenceLine) → MaskStandsAt how full stage mask
-          → stage.waiting ≡ Some line → MaskStandsAt how full (with_bed_ended stage) masked × Grown out (masked_line how stage.taken line) grown
-      pub none_waits : (how : MaskHow) (full : Bool) (stage : MaskStage) → MaskStandsAt how full stage mask
-          → stage.waiting ≡ None → MaskStandsAt how full (with_bed_ended stage) masked × (grown ≡ out)
+      pub waits : (how : MaskHow) (full : Bool) (stage : MaskStage) (line : SequenceLine)
+          → MaskStandsAt how full stage mask
+          → stage.waiting ≡ Some line
+          → MaskStandsAt how full (with_bed_ended stage) masked
+          × Grown out (masked_line how stage.taken line) grown
+      pub none_waits : (how : MaskHow) (full : Bool) (stage : MaskStage)
+          → MaskStandsAt how full stage mask
+          → stage.waiting ≡ None → MaskStandsAt how full (with_bed_ended stage) masked
+          × (grown ≡ out)
 
     -- a record has no sequence, or wasn't held, or the waiting line wasn't written
-    pub record FailsBed (fault : Told) (new : MemberReader S Feature (Option Locus)) (grown : Output) : Type 0 where
+    pub record FailsBed (fault : Told) (new : MemberReader S Feature (Option Locus))
+        (grown : Output) : Type 0 where
       pub m : Member Feature
       pub ahead : IsAhead left failed end old m new
-      pub waits : (how : MaskHow) (full : Bool) (stage : MaskStage) (line : SequenceLine) → MaskStandsAt how full stage mask
+      pub waits : (how : MaskHow) (full : Bool) (stage : MaskStage) (line : SequenceLine)
+          → MaskStandsAt how full stage mask
           → stage.waiting ≡ Some line → IsNext stage.ahead m.item
-          → FailsToWriteLine how full stage line m.item out fault grown ⊎ FailsToHoldRecord how full stage line m.item out fault grown
-      pub none_waits : (how : MaskHow) (full : Bool) (stage : MaskStage) → MaskStandsAt how full stage mask
-          → stage.waiting ≡ None → IsNext stage.ahead m.item → LacksSequence how full stage m.item m.line out fault grown
+          → FailsToWriteLine how full stage line m.item out fault grown
+          ⊎ FailsToHoldRecord how full stage line m.item out fault grown
+      pub none_waits : (how : MaskHow) (full : Bool) (stage : MaskStage)
+          → MaskStandsAt how full stage mask
+          → stage.waiting ≡ None → IsNext stage.ahead m.item
+          → LacksSequence how full stage m.item m.line out fault grown
 
     -- at their end the waiting line wasn't written
-    pub record FailsAtEnd (fault : Told) (new : MemberReader S Feature (Option Locus)) (grown : Output) : Type 0 where
+    pub record FailsAtEnd (fault : Told) (new : MemberReader S Feature (Option Locus))
+        (grown : Output) : Type 0 where
       pub asked : MemberReader S Feature (Option Locus)
       pub has_asked : HasAsked asked
       pub over : IsOver left failed end asked new
-      pub waits : (how : MaskHow) (full : Bool) (stage : MaskStage) (line : SequenceLine) → MaskStandsAt how full stage mask
-          → stage.waiting ≡ Some line → FailsToAdd out (masked_line how stage.taken line) fault grown
-      pub none_waits : (how : MaskHow) (full : Bool) (stage : MaskStage) → MaskStandsAt how full stage mask
+      pub waits : (how : MaskHow) (full : Bool) (stage : MaskStage) (line : SequenceLine)
+          → MaskStandsAt how full stage mask
+          → stage.waiting ≡ Some line
+          → FailsToAdd out (masked_line how stage.taken line) fault grown
+      pub none_waits : (how : MaskHow) (full : Bool) (stage : MaskStage)
+          → MaskStandsAt how full stage mask
           → stage.waiting ≡ None → ⊥
 
     -- a record couldn't be read
-    pub record LacksBed (fault : Told) (new : MemberReader S Feature (Option Locus)) (grown : Output) : Type 0 where
+    pub record LacksBed (fault : Told) (new : MemberReader S Feature (Option Locus))
+        (grown : Output) : Type 0 where
       pub asked : MemberReader S Feature (Option Locus)
       pub has_asked : HasAsked asked
       pub stopped : IsStopped left failed end asked fault new
       pub same_output : grown ≡ out
 
     -- a turn of the records
-    abbrev pub TurnsBed : {T : Type 0} → Result T Fault → MemberReader S Feature (Option Locus) → Masking → Output → Type 0
-    TurnsBed (Ok done) new masked grown = TakesBed new masked grown ⊎ (LeavesBed new masked grown ⊎ EndsBed new masked grown)
-    TurnsBed (Err fault) new masked grown = LacksBed (told fault) new grown ⊎ (FailsBed (told fault) new grown ⊎ FailsAtEnd (told fault) new grown)
+    abbrev pub TurnsBed : {T : Type 0} → Result T Fault → MemberReader S Feature (Option Locus)
+        → Masking → Output → Type 0
+    TurnsBed (Ok done) new masked grown =
+        TakesBed new masked grown ⊎ (LeavesBed new masked grown ⊎ EndsBed new masked grown)
+    TurnsBed (Err fault) new masked grown =
+        LacksBed (told fault) new grown
+        ⊎ (FailsBed (told fault) new grown ⊎ FailsAtEnd (told fault) new grown)

@@ -1,5 +1,6 @@
 -- The report of maskfasta: the lines of a FASTA input, masked by the records of a BED input.
-use Rattle.std.specs.Prelude.{ℕ, Bool, true, false, List, [], ◌∷◌, ◌++◌, Option, Some, None, flat_map, if◌then◌else◌}
+use Rattle.std.specs.Prelude.{ℕ, Bool, true, false, List, [], ◌∷◌, ◌++◌, Option, Some, None}
+use Rattle.std.specs.Prelude.{flat_map, if◌then◌else◌}
 use Rattle.std.specs.List.{list_all}
 use Rattle.bt_lines.specs.Fault.{Told}
 use Rattle.bt_lines.specs.Handed.{Handed}
@@ -7,7 +8,9 @@ use Rattle.bt_lines.specs.Lines.{TextLine, text_lines}
 use Rattle.bt_lines.specs.Output.{Output}
 use Rattle.bt_lines.specs.declared.fault.Input.TheVariants.{First, Second}
 use Rattle.bt_lines.specs.declared.fault.Kind.{Kind}
-use Rattle.bt_lines.specs.declared.fault.Kind.TheVariants.{TextBeforeHeader, TooFewColumns, EmptyName, BadStart, BadStop, EmptyFeature, OutOfOrder, NoSequence}
+use Rattle.bt_lines.specs.declared.fault.Kind.TheVariants.{TextBeforeHeader, TooFewColumns}
+use Rattle.bt_lines.specs.declared.fault.Kind.TheVariants.{EmptyName, BadStart, BadStop}
+use Rattle.bt_lines.specs.declared.fault.Kind.TheVariants.{EmptyFeature, OutOfOrder, NoSequence}
 use Rattle.bt_bed.specs.Feature.{Feature}
 use Rattle.bt_bed.specs.Good.{Member, good, items_in}
 use Rattle.bt_bed.specs.GoodBlocks.{block_good}
@@ -28,27 +31,31 @@ lines_on full lines = items_in (good (sequence_format full) First lines)
 
 -- the first lines, masked by all records of the second input
 abbrev pub mask_settles : MaskHow → Bool → Handed → List TextLine → List ℕ
-mask_settles how full second lines = flat_map (masked_line how (items_in (block_good Second second))) (lines_on full lines)
+mask_settles how full second lines =
+    flat_map (masked_line how (items_in (block_good Second second))) (lines_on full lines)
 
 -- the first record that with those before it decides all of these lines, if there is one
-abbrev pub last_needed : List SequenceLine → List Feature → List (Member Feature) → Option (Member Feature)
+abbrev pub last_needed : List SequenceLine → List Feature → List (Member Feature)
+    → Option (Member Feature)
 last_needed lines before [] = None
 last_needed lines before (member ∷ members) =
     if list_all (λ line. decided line (before ++ member.item ∷ [])) lines then Some member
     else last_needed lines (before ++ member.item ∷ []) members
 
--- how much of the second input the first lines of the first ask for: its lines up to the first record
--- that with those before it decides all of them
+-- how much of the second input the first lines of the first ask for: its lines up to the first
+-- record that with those before it decides all of them
 abbrev pub mask_reaches : Bool → Handed → List TextLine → ℕ
 mask_reaches full second lines =
-    bytes_up_to (text_lines second.text) (last_needed (lines_on full lines) [] (block_good Second second).members)
+    bytes_up_to (text_lines second.text)
+    (last_needed (lines_on full lines) [] (block_good Second second).members)
 
 -- the kinds of fault that a line of a FASTA input can have
 abbrev pub is_fasta_kind : Kind → Bool
 is_fasta_kind TextBeforeHeader = true
 is_fasta_kind _ = false
 
--- and one of the records that mask it: any chromosome may come, in blocks, as long as it has a sequence
+-- and one of the records that mask it: any chromosome may come, in blocks,
+-- as long as it has a sequence
 abbrev pub is_mask_kind : Kind → Bool
 is_mask_kind TooFewColumns = true
 is_mask_kind EmptyName = true
@@ -60,7 +67,9 @@ is_mask_kind NoSequence = true
 is_mask_kind _ = false
 
 -- the lines of one input were masked by the records of another
-abbrev pub MasksBoth : {A B : Type 0} → (A → Option (List ℕ)) → (A → Bool) → (A → Bool) → (B → Option (List ℕ)) → (B → Bool)
+abbrev pub MasksBoth : {A B : Type 0} → (A → Option (List ℕ)) → (A → Bool) → (A → Bool)
+    → (B → Option (List ℕ)) → (B → Bool)
     → MaskHow → Bool → A → B → Output → Option Told → A → B → Output → Type 0
 MasksBoth a_left a_failed a_end b_left b_failed how full =
-    WritesBoth a_left a_failed a_end b_left b_failed is_fasta_kind is_mask_kind (mask_report how full) (mask_settles how full) (mask_reaches full)
+    WritesBoth a_left a_failed a_end b_left b_failed is_fasta_kind is_mask_kind
+    (mask_report how full) (mask_settles how full) (mask_reaches full)

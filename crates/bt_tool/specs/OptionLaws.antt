@@ -1,5 +1,6 @@
 -- What holds of every command line.
-use Rattle.std.specs.Prelude.{◌≡◌, ◌≢◌, ◌↔◌, List, ◌∷◌, ◌++◌, ℕ, None, Some, Err, Result, All, length}
+use Rattle.std.specs.Prelude.{◌≡◌, ◌≢◌, ◌↔◌, List, ◌∷◌, ◌++◌, ℕ, None, Some, Err, Result, All}
+use Rattle.std.specs.Prelude.{length}
 use Rattle.bt_tool.specs.declared.usage.Usage.{Usage}
 use Rattle.bt_tool.specs.Items.{Item, IsLongestDivision, items_of, spelled}
 use Rattle.bt_tool.specs.Options.{AnswersAll, PlanSeen, last_item, options, word_fault}

@@ -1,5 +1,8 @@
 -- What a list of words asks for: the plan, or the fault of its usage.
-use Rattle.std.specs.Prelude.{◌≡◌, ℕ, ◌+◌, Bool, List, [], ◌∷◌, ◌++◌, ◌||◌, ◌&&◌, false, true, not, Option, Some, None, Result, Ok, Err, MatchOption, bytes_eq, codes, count_by, drop, if◌then◌else◌, is_some, length, nat_lt, option_and_then, option_map, option_to_list, unwrap_or}
+use Rattle.std.specs.Prelude.{◌≡◌, ℕ, ◌+◌, Bool, List, [], ◌∷◌, ◌++◌, ◌||◌, ◌&&◌, false, true, not}
+use Rattle.std.specs.Prelude.{Option, Some, None, Result, Ok, Err, MatchOption, bytes_eq, codes}
+use Rattle.std.specs.Prelude.{count_by, drop, if◌then◌else◌, is_some, length, nat_lt}
+use Rattle.std.specs.Prelude.{option_and_then, option_map, option_to_list, unwrap_or}
 use Rattle.std.specs.List.{list_any}
 use Rattle.std.specs.Option.{option_map_or, option_or}
 use Rattle.bt_bed.specs.Record.{strand_named}
@@ -11,17 +14,26 @@ use Rattle.bt_seq.specs.declared.mask_how.MaskHow.{MaskHow}
 use Rattle.bt_seq.specs.declared.mask_how.MaskHow.TheVariants.{Soft, Hard}
 use Rattle.bt_sweep.specs.declared.hit_rule.HitRule.{HitRule}
 use Rattle.bt_sweep.specs.declared.shape.Shape.{Shape}
-use Rattle.bt_sweep.specs.declared.shape.Shape.TheVariants.{Cut, OrigA, CutAndB, OrigBoth, Overlap, Once, Missing, Count}
+use Rattle.bt_sweep.specs.declared.shape.Shape.TheVariants.{Cut, OrigA, CutAndB, OrigBoth, Overlap}
+use Rattle.bt_sweep.specs.declared.shape.Shape.TheVariants.{Once, Missing, Count}
 use Rattle.bt_tool.specs.declared.plan_type.Command.{Command}
-use Rattle.bt_tool.specs.declared.plan_type.Command.TheVariants.{Merge as MergeWith, Complement as ComplementWith, Intersect as IntersectWith, Subtract as SubtractWith, Coverage as CoverageWith, BamToBed as BamToBedWith, MaskFasta as MaskFastaWith}
+use Rattle.bt_tool.specs.declared.plan_type.Command.TheVariants.{Merge as MergeWith}
+use Rattle.bt_tool.specs.declared.plan_type.Command.TheVariants.{Complement as ComplementWith}
+use Rattle.bt_tool.specs.declared.plan_type.Command.TheVariants.{Intersect as IntersectWith}
+use Rattle.bt_tool.specs.declared.plan_type.Command.TheVariants.{Subtract as SubtractWith}
+use Rattle.bt_tool.specs.declared.plan_type.Command.TheVariants.{Coverage as CoverageWith}
+use Rattle.bt_tool.specs.declared.plan_type.Command.TheVariants.{BamToBed as BamToBedWith}
+use Rattle.bt_tool.specs.declared.plan_type.Command.TheVariants.{MaskFasta as MaskFastaWith}
 use Rattle.bt_tool.specs.declared.tool.Tool.{Tool}
-use Rattle.bt_tool.specs.declared.tool.Tool.TheVariants.{Merge, Complement, Intersect, Subtract, Coverage, BamToBed, MaskFasta}
+use Rattle.bt_tool.specs.declared.tool.Tool.TheVariants.{Merge, Complement, Intersect, Subtract}
+use Rattle.bt_tool.specs.declared.tool.Tool.TheVariants.{Coverage, BamToBed, MaskFasta}
 use Rattle.bt_tool.specs.declared.usage.Usage.{Usage}
 use Rattle.bt_tool.specs.Character.{character_of}
 use Rattle.bt_tool.specs.Fraction.{fraction_of}
 use Rattle.bt_tool.specs.Items.{Item, IsLongestDivision, items_of, spelled}
 use Rattle.bt_tool.specs.Table.{Word, Table, command_named, table_of, takes}
-use Rattle.bt_tool.specs.Usage.{no_command, unknown_option, value_missing, bad_value, required_missing, options_exclusive, input_named_twice}
+use Rattle.bt_tool.specs.Usage.{no_command, unknown_option, value_missing, bad_value}
+use Rattle.bt_tool.specs.Usage.{required_missing, options_exclusive, input_named_twice}
 
 -- a plan, its names as bytes
 pub record PlanSeen : Type 0 where
@@ -79,7 +91,8 @@ abbrev pub output_by : Option Word → Option Word
 output_by None = None
 output_by (Some name) = if is_standard_output name then None else Some name
 
--- the records that are merged: with -s those of each strand by themselves, else those of the strand that is the value of -S, and without one all
+-- the records that are merged: with -s those of each strand by themselves, else those of the strand
+-- that is the value of -S, and without one all
 abbrev pub strand_by : Bool → Option Word → MergeStrand
 strand_by true value = Each
 strand_by false None = All
@@ -97,7 +110,8 @@ number_by value = unwrap_or (option_and_then number_of value) 0
 abbrev pub billionths_by : Option Word → ℕ
 billionths_by value = unwrap_or (option_and_then fraction_of value) 0
 
--- what makes a hit: the fraction of -f, of both records or of the first alone, and equal strands with -s
+-- what makes a hit: the fraction of -f, of both records or of the first alone,
+-- and equal strands with -s
 abbrev pub rule_by : List Item → Bool → HitRule
 rule_by items both = record {
   billionths = billionths_by (value_of items (codes "-f"));
@@ -105,7 +119,8 @@ rule_by items both = record {
   same_strand = is_given items (codes "-s");
 }
 
--- the shape of what intersect writes, by -wa and -wb alone: a hit's own part of the record or the record, and what hits it
+-- the shape of what intersect writes, by -wa and -wb alone:
+-- a hit's own part of the record or the record, and what hits it
 abbrev pub hit_shape : Bool → Bool → Shape
 hit_shape false false = Cut
 hit_shape true false = OrigA
@@ -126,18 +141,25 @@ mask_by value = unwrap_or (option_and_then character_of value) 78
 
 -- what stands for a masked base: with -soft its lower case
 abbrev pub mask_how_by : List Item → MaskHow
-mask_how_by items = if is_given items (codes "-soft") then Soft else Hard (mask_by (value_of items (codes "-mc")))
+mask_how_by items =
+    if is_given items (codes "-soft") then Soft else Hard (mask_by (value_of items (codes "-mc")))
 
 -- the command that the items ask for
 abbrev pub command_by : Tool → List Item → Command
-command_by Merge items = MergeWith (number_by (value_of items (codes "-d"))) (strand_by (is_given items (codes "-s")) (value_of items (codes "-S")))
+command_by Merge items =
+    MergeWith (number_by (value_of items (codes "-d")))
+    (strand_by (is_given items (codes "-s")) (value_of items (codes "-S")))
 command_by Complement items = ComplementWith (is_given items (codes "-L"))
-command_by Intersect items = IntersectWith (shape_by items) (rule_by items (is_given items (codes "-r")))
+command_by Intersect items =
+    IntersectWith (shape_by items) (rule_by items (is_given items (codes "-r")))
 command_by Subtract items = SubtractWith (is_given items (codes "-A")) (rule_by items false)
 command_by Coverage items =
-    CoverageWith (is_given items (codes "-bga")) (counted_strand_by (value_of items (codes "-strand")))
-command_by BamToBed items = BamToBedWith (is_given items (codes "-split")) (is_given items (codes "-cigar"))
-command_by MaskFasta items = MaskFastaWith (mask_how_by items) (is_given items (codes "-fullHeader"))
+    CoverageWith (is_given items (codes "-bga"))
+    (counted_strand_by (value_of items (codes "-strand")))
+command_by BamToBed items =
+    BamToBedWith (is_given items (codes "-split")) (is_given items (codes "-cigar"))
+command_by MaskFasta items =
+    MaskFastaWith (mask_how_by items) (is_given items (codes "-fullHeader"))
 
 -- the names of the inputs and of the output, as the items give them
 pub record Named : Type 0 where
@@ -167,7 +189,8 @@ lacks_one_of (option ∷ others) items = not (list_any (is_given items) (option 
 -- whether an option is missing that has to be given, or that is one of several
 abbrev pub lacks_option : Table → List Item → Bool
 lacks_option table items =
-    list_any (λ option. not (is_given items option)) table.required || lacks_one_of table.one_of items
+    list_any (λ option. not (is_given items option)) table.required
+    || lacks_one_of table.one_of items
 
 -- whether two options are given that exclude one another
 abbrev pub has_exclusive : Table → List Item → Bool
@@ -176,7 +199,8 @@ has_exclusive table items =
 
 -- whether the output has the name of an input, by its text
 abbrev pub overwrites : Named → Bool
-overwrites named = option_map_or (λ output. list_any (bytes_eq output) (inputs_of named)) named.output false
+overwrites named =
+    option_map_or (λ output. list_any (bytes_eq output) (inputs_of named)) named.output false
 
 -- whether more than one input is standard input
 abbrev pub reads_twice : Named → Bool
@@ -186,7 +210,8 @@ reads_twice named = nat_lt 1 (count_by is_standard_input (inputs_of named))
 abbrev pub fault_together : Table → List Item → Option Usage
 fault_together table items =
     if lacks_option table items then Some required_missing
-    else (if has_exclusive table items || overwrites (named_by table items) then Some options_exclusive
+    else (if has_exclusive table items || overwrites (named_by table items)
+    then Some options_exclusive
     else (if reads_twice (named_by table items) then Some input_named_twice
     else None))
 

@@ -1,14 +1,17 @@
 -- What a reader of members has passed, and why it stops.
-use Rattle.std.specs.Prelude.{◌≡◌, ℕ, suc, ◌+◌, ◌^◌, ◌<◌, ◌≤◌, ◌⊎◌, ⊤, All, Bool, true, List, [], ◌∷◌, ◌++◌, drop, length, Option, Some, None, IfSome}
+use Rattle.std.specs.Prelude.{◌≡◌, ℕ, suc, ◌+◌, ◌^◌, ◌<◌, ◌≤◌, ◌⊎◌, ⊤, All, Bool, true, List, []}
+use Rattle.std.specs.Prelude.{◌∷◌, ◌++◌, drop, length, Option, Some, None, IfSome}
 use Rattle.bt_lines.specs.Fault.{Told, read_failed, no_memory}
 use Rattle.bt_lines.specs.Lines.{bytes_in}
 use Rattle.bt_lines.specs.Output.{block_size}
-use Rattle.bt_lines.specs.Reader.{CutsOff, Hands, IsSound, source_of, input_of, bytes_taken, fault_kept as line_fault, lines_given, lines_left}
+use Rattle.bt_lines.specs.Reader.{CutsOff, Hands, IsSound, source_of, input_of, bytes_taken}
+use Rattle.bt_lines.specs.Reader.{fault_kept as line_fault, lines_given, lines_left}
 use Rattle.bt_lines.specs.declared.fault.Kind.{Kind}
 use Rattle.bt_bed.specs.Good.{Format, Member}
 use Rattle.bt_bed.specs.GoodLines.{IsBeyond}
 use Rattle.bt_bed.specs.LineKind.{fault_at_line}
-use Rattle.bt_bed.specs.Reading.{AnswersFault, EndsMembers, GivesMember, IsSaidBehind, MemberReader, good_coming}
+use Rattle.bt_bed.specs.Reading.{AnswersFault, EndsMembers, GivesMember, IsSaidBehind, MemberReader}
+use Rattle.bt_bed.specs.Reading.{good_coming}
 use Rattle.bt_tool.specs.Feeding.{ComeFirst, member_items}
 
 -- what is known behind these items
@@ -19,11 +22,13 @@ state_behind format state (item ∷ items) = state_behind format (format.after s
 -- each of these items is what a line says behind those before it
 abbrev pub AreSaid : {A State : Type 0} → Format A State → State → List A → Type 0
 AreSaid format state [] = ⊤
-AreSaid format state (item ∷ items) = IsSaidBehind format state item × AreSaid format (format.after state item) items
+AreSaid format state (item ∷ items) =
+    IsSaidBehind format state item × AreSaid format (format.after state item) items
 
 module _ {S A State : Type 0} (left : S → Option (List ℕ)) (failed end : S → Bool) where
   -- the reader has a member ahead
-  pub record IsAhead (old : MemberReader S A State) (m : Member A) (peeked : MemberReader S A State) : Type 0 where
+  pub record IsAhead (old : MemberReader S A State) (m : Member A)
+      (peeked : MemberReader S A State) : Type 0 where
     pub read : GivesMember left failed old m peeked
     pub sound : IsSound left end old.below → IsSound left end peeked.below
     pub clear : peeked.fault ≡ None → line_fault peeked.below ≡ None
@@ -35,7 +40,8 @@ module _ {S A State : Type 0} (left : S → Option (List ℕ)) (failed end : S �
     pub clear : new.fault ≡ None → line_fault new.below ≡ None
 
   -- it tells a fault
-  pub record IsStopped (old : MemberReader S A State) (fault : Told) (new : MemberReader S A State) : Type 0 where
+  pub record IsStopped (old : MemberReader S A State) (fault : Told)
+      (new : MemberReader S A State) : Type 0 where
     pub answers : AnswersFault left failed end old fault new
     pub sound : IsSound left end old.below → IsSound left end new.below
 
@@ -50,14 +56,15 @@ module _ {S A State : Type 0} (left : S → Option (List ℕ)) (failed end : S �
       pub behind : All (λ m. m.line ≤ lines_given now.below) past
       pub ahead_low : IfSome now.ahead (λ m. m.line ≤ lines_given now.below)
       -- the lines left are those behind the lines given
-      pub lines : IfSome (lines_left left old.below) (λ lines. lines_left left now.below ≡ Some (drop (lines_given now.below) lines))
+      pub lines : IfSome (lines_left left old.below)
+          (λ lines. lines_left left now.below ≡ Some (drop (lines_given now.below) lines))
       pub going : now.fault ≡ None
       pub clear : line_fault now.below ≡ None
       pub sound : IsSound left end now.below
       pub served : failed (source_of now.below) ≡ failed (source_of old.below)
 
-    -- How far the input was read: so many lines, one more and a block at most, and what is good behind
-    -- these members stands behind so many lines.
+    -- How far the input was read: so many lines, one more and a block at most, and what is good
+    -- behind these members stands behind so many lines.
     pub record IsReadTo (past : List (Member A)) (now : MemberReader S A State) : Type 0 where
       pub count : ℕ
       pub near : IfSome (lines_left left old.below) (λ lines. IfSome (left (source_of now.below))
@@ -66,20 +73,26 @@ module _ {S A State : Type 0} (left : S → Option (List ℕ)) (failed end : S �
           × (good.members ≡ past ++ rest)
           × IsBeyond count (record { members = rest; fault = good.fault }))
 
-    -- The members on these so many lines are `past`, and all that were given stand on them and the next.
-    pub record IsReadFor (past given : List (Member A)) (now : MemberReader S A State) : Type 0 where
+    -- The members on these so many lines are `past`,
+    -- and all that were given stand on them and the next.
+    pub record IsReadFor (past given : List (Member A))
+        (now : MemberReader S A State) : Type 0 where
       pub to : IsReadTo past now
       pub low : All (λ m. m.line ≤ to.count) past
       pub high : All (λ m. m.line ≤ suc to.count) given
-      pub begins : IfSome (good_coming left old) (λ good. (rest : List (Member A)) × (good.members ≡ given ++ rest))
+      pub begins : IfSome (good_coming left old)
+          (λ good. (rest : List (Member A)) × (good.members ≡ given ++ rest))
 
     -- they are all that is good of the input, which has no fault
     abbrev pub AreAll : List (Member A) → Type 0
-    AreAll past = IfSome (good_coming left old) (λ good. (good.members ≡ past) × (good.fault ≡ None))
+    AreAll past =
+        IfSome (good_coming left old) (λ good. (good.members ≡ past) × (good.fault ≡ None))
 
     -- a line behind them is at fault
-    pub record IsWrongBehind (kinds : Kind → Bool) (past : List (Member A)) (fault : Told) (new : MemberReader S A State) : Type 0 where
-      pub whole : IfSome (good_coming left old) (λ good. (good.members ≡ past) × (good.fault ≡ Some fault))
+    pub record IsWrongBehind (kinds : Kind → Bool) (past : List (Member A)) (fault : Told)
+        (new : MemberReader S A State) : Type 0 where
+      pub whole : IfSome (good_coming left old)
+          (λ good. (good.members ≡ past) × (good.fault ≡ Some fault))
       pub line : ℕ
       pub kind : Kind
       pub is : fault ≡ fault_at_line (input_of old.below) line kind
@@ -88,7 +101,8 @@ module _ {S A State : Type 0} (left : S → Option (List ℕ)) (failed end : S �
       pub within : bytes_taken new.below < 2 ^ 63
 
     -- the source failed, or its text is too long: behind the lines that were given
-    pub record IsUnreadBehind (past : List (Member A)) (fault : Told) (new : MemberReader S A State) : Type 0 where
+    pub record IsUnreadBehind (past : List (Member A)) (fault : Told)
+        (new : MemberReader S A State) : Type 0 where
       pub is : fault ≡ read_failed (input_of old.below) (suc (lines_given new.below))
       pub cause : (failed (source_of new.below) ≡ true) ⊎ (2 ^ 63 ≤ bytes_taken new.below)
       pub cut : CutsOff left old.below new.below
@@ -104,6 +118,8 @@ module _ {S A State : Type 0} (left : S → Option (List ℕ)) (failed end : S �
       pub served : failed (source_of new.below) ≡ failed (source_of old.below)
 
     -- the reader stopped behind these members
-    pub record StopsAfter (kinds : Kind → Bool) (past : List (Member A)) (fault : Told) (new : MemberReader S A State) : Type 0 where
+    pub record StopsAfter (kinds : Kind → Bool) (past : List (Member A)) (fault : Told)
+        (new : MemberReader S A State) : Type 0 where
       pub bytes : (bytes : List ℕ) × Hands left old.below bytes new.below
-      pub cause : IsWrongBehind kinds past fault new ⊎ (IsUnreadBehind past fault new ⊎ LacksMemory fault new)
+      pub cause : IsWrongBehind kinds past fault new
+          ⊎ (IsUnreadBehind past fault new ⊎ LacksMemory fault new)

@@ -19,7 +19,8 @@ pub record Report : Type 0 where
 -- the lines of all members, or where a line is at fault, those that the members before it settle
 abbrev pub report_by : {A : Type 0} → Written A → List A → Option Told → Report
 report_by written members None = record { output = written.whole members; fault = None }
-report_by written members (Some fault) = record { output = written.settled members; fault = Some fault }
+report_by written members (Some fault) =
+    record { output = written.settled members; fault = Some fault }
 
 -- the report on good members, and on the fault behind them, if there is one
 abbrev pub good_report : {A : Type 0} → Written A → Good A → Report

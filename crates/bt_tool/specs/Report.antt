@@ -1,5 +1,7 @@
--- What a run gives: the bytes written, the fault told and the exit status, from the words of the command line and what its inputs hand over.
-use Rattle.std.specs.Prelude.{◌≡◌, ℕ, Bool, false, List, [], Option, Some, None, Result, Ok, Err, option_map, unwrap_or}
+-- What a run gives: the bytes written, the fault told and the exit status, from the words of the
+-- command line and what its inputs hand over.
+use Rattle.std.specs.Prelude.{◌≡◌, ℕ, Bool, false, List, [], Option, Some, None, Result, Ok, Err}
+use Rattle.std.specs.Prelude.{option_map, unwrap_or}
 use Rattle.bt_lines.specs.Fault.{Told, InputNames, line_of}
 use Rattle.bt_lines.specs.Handed.{Handed, whole_text}
 use Rattle.bt_lines.specs.Lines.{TextLine}
@@ -15,12 +17,16 @@ use Rattle.bt_tool.specs.Inputs.{Inputs}
 use Rattle.bt_tool.specs.Options.{PlanSeen, options}
 use Rattle.bt_tool.specs.Table.{Word, tool_name, tool_of}
 use Rattle.bt_tool.specs.Usage.{usage_text}
-use Rattle.bt_tool.specs.Both.{intersect_reaches, intersect_report, intersect_settles, subtract_reaches, subtract_report, subtract_settles}
-use Rattle.bt_tool.specs.Masked.{is_fasta_kind, is_mask_kind, mask_reaches, mask_report, mask_settles}
+use Rattle.bt_tool.specs.Both.{intersect_reaches, intersect_report, intersect_settles}
+use Rattle.bt_tool.specs.Both.{subtract_reaches, subtract_report, subtract_settles}
+use Rattle.bt_tool.specs.Masked.{is_fasta_kind, is_mask_kind, mask_reaches, mask_report}
+use Rattle.bt_tool.specs.Masked.{mask_settles}
 use Rattle.bt_tool.specs.RecordReport.{Report, records_report, records_settle}
 use Rattle.bt_tool.specs.Written.{complement_written, coverage_written, merge_written}
 use Rattle.bt_tool.specs.declared.plan_type.Command.{Command}
-use Rattle.bt_tool.specs.declared.plan_type.Command.TheVariants.{Merge, Complement, Intersect, Subtract, Coverage, BamToBed, MaskFasta}
+use Rattle.bt_tool.specs.declared.plan_type.Command.TheVariants.{Merge, Complement, Intersect}
+use Rattle.bt_tool.specs.declared.plan_type.Command.TheVariants.{Subtract, Coverage, BamToBed}
+use Rattle.bt_tool.specs.declared.plan_type.Command.TheVariants.{MaskFasta}
 use Rattle.bt_tool.specs.declared.usage.Usage.{Usage}
 use Rattle.bt_tool.specs.declared.usage.Refusal.{Refusal}
 use Rattle.bt_tool.specs.declared.usage.Refusal.TheVariants.{Usage as InWords, NoMemory}
@@ -46,7 +52,8 @@ command_report (Subtract whole rule) entries first second =
 command_report (Coverage zeros strand) entries first second =
     records_report (coverage_written entries zeros strand) (order_of entries) first
 command_report (BamToBed split cigar) entries first second = bamtobed_report split cigar first
-command_report (MaskFasta how full) entries first second = mask_report how full first (or_empty second)
+command_report (MaskFasta how full) entries first second =
+    mask_report how full first (or_empty second)
 
 -- what the first lines of the first input settle
 abbrev pub command_settles : Command → List Entry → Option Handed → List TextLine → List ℕ
@@ -61,7 +68,8 @@ command_settles (Subtract whole rule) entries second lines =
 command_settles (Coverage zeros strand) entries second lines =
     records_settle (coverage_written entries zeros strand) (order_of entries) lines
 command_settles (BamToBed split cigar) entries second lines = bamtobed_settles split cigar lines
-command_settles (MaskFasta how full) entries second lines = mask_settles how full (or_empty second) lines
+command_settles (MaskFasta how full) entries second lines =
+    mask_settles how full (or_empty second) lines
 
 -- the kinds of fault that a line of a command's first input can have
 abbrev pub first_kinds : Command → Kind → Bool
@@ -95,15 +103,16 @@ report_on command (Ok entries) first second = command_report command entries fir
 
 -- the report of a command on what its inputs hand over
 unfoldable pub report_of : Command → Inputs → Report
-report_of command inputs = report_on command (chromosomes_of inputs.genome) inputs.first inputs.second
+report_of command inputs =
+    report_on command (chromosomes_of inputs.genome) inputs.first inputs.second
 
 -- the lines that the first lines of the first input settle, by the genome file
 abbrev pub settles_on : Command → Result (List Entry) Told → Option Handed → List TextLine → List ℕ
 settles_on command (Err fault) second lines = []
 settles_on command (Ok entries) second lines = command_settles command entries second lines
 
--- how much of the second input the first lines of the first ask for: its bytes up to the first record
--- that decides all members among them
+-- how much of the second input the first lines of the first ask for: its bytes up to the first
+-- record that decides all members among them
 abbrev pub command_reaches : Command → List Entry → Option Handed → List TextLine → ℕ
 command_reaches (Merge d strand) entries second lines = 0
 command_reaches (Complement limit) entries second lines = 0
@@ -113,7 +122,8 @@ command_reaches (Subtract whole rule) entries second lines =
     subtract_reaches (order_of entries) (or_empty second) lines
 command_reaches (Coverage zeros strand) entries second lines = 0
 command_reaches (BamToBed split cigar) entries second lines = 0
-command_reaches (MaskFasta how full) entries second lines = mask_reaches full (or_empty second) lines
+command_reaches (MaskFasta how full) entries second lines =
+    mask_reaches full (or_empty second) lines
 
 -- the same by the genome file: after its fault nothing is asked for
 abbrev pub reaches_on : Command → Result (List Entry) Told → Option Handed → List TextLine → ℕ
@@ -122,7 +132,12 @@ reaches_on command (Ok entries) second lines = command_reaches command entries s
 
 -- the names of a plan's inputs; an input that it doesn't have has none
 abbrev pub names_in : PlanSeen → InputNames
-names_in plan = record { genome = unwrap_or plan.genome []; first = plan.first; second = unwrap_or plan.second [] }
+names_in plan =
+    record {
+      genome = unwrap_or plan.genome [];
+      first = plan.first;
+      second = unwrap_or plan.second [];
+    }
 
 -- the line that tells a fault of a run of the plan
 abbrev pub fault_text : PlanSeen → Told → List ℕ
@@ -133,7 +148,8 @@ abbrev pub status_of : Option Told → ℕ
 status_of None = 0
 status_of (Some fault) = 1
 
--- what a user sees: the bytes on standard output, the line on standard error, if there is one, and the exit status
+-- what a user sees: the bytes on standard output, the line on standard error, if there is one,
+-- and the exit status
 pub record Seen : Type 0 where
   pub output : List ℕ
   pub line : Option (List ℕ)
@@ -141,7 +157,12 @@ pub record Seen : Type 0 where
 
 -- what a user sees of the report of a plan
 abbrev pub seen_of : PlanSeen → Report → Seen
-seen_of plan report = record { output = report.output; line = option_map (fault_text plan) report.fault; status = status_of report.fault }
+seen_of plan report =
+    record {
+      output = report.output;
+      line = option_map (fault_text plan) report.fault;
+      status = status_of report.fault;
+    }
 
 -- the texts of the inputs that a plan has
 abbrev pub texts_of : PlanSeen → List ℕ → List ℕ → List ℕ → Inputs
@@ -171,9 +192,13 @@ abbrev pub ReportsPlan : List Word → PlanSeen → Type 0
 ReportsPlan words plan = (genome first second : List ℕ)
     → report words genome first second ≡ seen_on plan genome first second
 
--- what a user sees of these words is the fault's line and the exit status 2, whatever the texts of the inputs
+-- what a user sees of these words is the fault's line and the exit status 2,
+-- whatever the texts of the inputs
 abbrev pub ReportsUsage : List Word → Usage → Type 0
-ReportsUsage words usage = (genome first second : List ℕ) → report words genome first second ≡ record { output = []; line = Some (usage_text words usage); status = 2 }
+ReportsUsage words usage =
+    (genome first second : List ℕ)
+    → report words genome first second
+    ≡ record { output = []; line = Some (usage_text words usage); status = 2 }
 
 -- so it is for a refusal, unless memory ran out
 abbrev pub ReportsRefusal : List Word → Refusal → Type 0

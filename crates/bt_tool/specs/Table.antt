@@ -1,24 +1,36 @@
 -- The commands, and for each its options, those that it requires, and what their values name.
 -- The options are those of the tool's page in the bedtools manual; that merge has `-g` is this
 -- program's own rule. A later command is a row of `commands` and a table.
-use Rattle.std.specs.Prelude.{ℕ, Bool, false, true, ◌||◌, List, [], ◌∷◌, Option, Some, None, bytes_eq, codes, find, is_some, length, nat_lt, option_map, IsTrue, IsSome, IsNone}
+use Rattle.std.specs.Prelude.{ℕ, Bool, false, true, ◌||◌, List, [], ◌∷◌, Option, Some, None}
+use Rattle.std.specs.Prelude.{bytes_eq, codes, find, is_some, length, nat_lt, option_map, IsTrue}
+use Rattle.std.specs.Prelude.{IsSome, IsNone}
 use Rattle.std.specs.List.{list_any}
 use Rattle.std.specs.Option.{option_map_or}
 use Rattle.bt_lines.specs.Number.{value_of as number_of}
 use Rattle.bt_tool.specs.Character.{character_of}
 use Rattle.bt_tool.specs.Fraction.{fraction_of}
 use Rattle.bt_tool.specs.declared.plan_type.Command.{Command}
-use Rattle.bt_tool.specs.declared.plan_type.Command.TheVariants.{Merge as MergeWith, Complement as ComplementWith, Intersect as IntersectWith, Subtract as SubtractWith, Coverage as CoverageWith, BamToBed as BamToBedWith, MaskFasta as MaskFastaWith}
+use Rattle.bt_tool.specs.declared.plan_type.Command.TheVariants.{Merge as MergeWith}
+use Rattle.bt_tool.specs.declared.plan_type.Command.TheVariants.{Complement as ComplementWith}
+use Rattle.bt_tool.specs.declared.plan_type.Command.TheVariants.{Intersect as IntersectWith}
+use Rattle.bt_tool.specs.declared.plan_type.Command.TheVariants.{Subtract as SubtractWith}
+use Rattle.bt_tool.specs.declared.plan_type.Command.TheVariants.{Coverage as CoverageWith}
+use Rattle.bt_tool.specs.declared.plan_type.Command.TheVariants.{BamToBed as BamToBedWith}
+use Rattle.bt_tool.specs.declared.plan_type.Command.TheVariants.{MaskFasta as MaskFastaWith}
 use Rattle.bt_tool.specs.declared.takes.Takes.{Takes}
-use Rattle.bt_tool.specs.declared.takes.Takes.TheVariants.{Nothing, FileName, Number, Fraction, Strand, Character}
+use Rattle.bt_tool.specs.declared.takes.Takes.TheVariants.{Nothing, FileName, Number, Fraction}
+use Rattle.bt_tool.specs.declared.takes.Takes.TheVariants.{Strand, Character}
 use Rattle.bt_tool.specs.declared.tool.Tool.{Tool}
-use Rattle.bt_tool.specs.declared.tool.Tool.TheVariants.{Merge, Complement, Intersect, Subtract, Coverage, BamToBed, MaskFasta}
+use Rattle.bt_tool.specs.declared.tool.Tool.TheVariants.{Merge, Complement, Intersect, Subtract}
+use Rattle.bt_tool.specs.declared.tool.Tool.TheVariants.{Coverage, BamToBed, MaskFasta}
 
 -- a word of the command line, as its bytes
 abbrev pub Word : Type 0
 Word = List ℕ
 
--- whether an option may stand with this value, or without one: a file name isn't empty, a number is one of bt_lines, a fraction is at most 1, a strand is `+` or `-`, and a character is a printable one of ASCII
+-- whether an option may stand with this value, or without one: a file name isn't empty, a number is
+-- one of bt_lines, a fraction is at most 1, a strand is `+` or `-`,
+-- and a character is a printable one of ASCII
 abbrev pub fits : Takes → Option Word → Bool
 fits Nothing None = true
 fits Nothing (Some value) = false
@@ -96,7 +108,8 @@ complement_table = record {
   output = None;
 }
 
--- Two shapes of output exclude one another, but for -wa beside -wb, and beside -u, -v and -c, where it changes nothing.
+-- Two shapes of output exclude one another, but for -wa beside -wb, and beside -u, -v and -c,
+-- where it changes nothing.
 abbrev pub intersect_table : Table
 intersect_table = record {
   options = record { option = codes "-a"; takes = FileName }
@@ -206,7 +219,8 @@ table_of MaskFasta = maskfasta_table
 
 -- the tools by their names
 abbrev pub commands : List (Word × Tool)
-commands = (codes "merge", Merge) ∷ (codes "complement", Complement) ∷ (codes "intersect", Intersect)
+commands =
+    (codes "merge", Merge) ∷ (codes "complement", Complement) ∷ (codes "intersect", Intersect)
     ∷ (codes "subtract", Subtract) ∷ (codes "genomecov", Coverage) ∷ (codes "bamtobed", BamToBed)
     ∷ (codes "maskfasta", MaskFasta) ∷ []
 

@@ -22,7 +22,8 @@ use Rattle.bt_sweep.specs.declared.shape.Shape.{Shape}
 
 module _ {S O : Type 0} {g : Ghosts O} (left : S → Option (List ℕ)) (failed end : S → Bool) where
   -- the reader has a record ahead
-  pub record HasAhead (old : Records S O g) (record_is : Feature) (peeked : Records S O g) : Type 0 where
+  pub record HasAhead (old : Records S O g) (record_is : Feature)
+      (peeked : Records S O g) : Type 0 where
     pub gives : GivesRecord left failed old record_is peeked
     pub sound : IsSound left end (below old) → IsSound left end (below peeked)
     pub order : order_in peeked ≡ order_in old
@@ -46,32 +47,41 @@ module _ {S O : Type 0} {g : Ghosts O} (left : S → Option (List ℕ)) (failed 
       pub peeked : Records S O g
       pub ahead : HasAhead old item peeked
       pub passes : PassesRecord left peeked new
-      pub given : (shape : Shape) (rule : HitRule) (stage : Stage) → StandsAt order shape rule stage sweep → IsInOrder order (with_a stage item)
-          → StandsAt order shape rule (with_a stage item) swept × Grown out (lines_with shape rule stage item) grown
+      pub given : (shape : Shape) (rule : HitRule) (stage : Stage)
+          → StandsAt order shape rule stage sweep → IsInOrder order (with_a stage item)
+          → StandsAt order shape rule (with_a stage item) swept
+          × Grown out (lines_with shape rule stage item) grown
 
     -- its end was given
     pub record EndsFirst (new : Records S O g) (swept : Sweeping) (grown : Output) : Type 0 where
       pub ended : HasEnded old new
-      pub given : (shape : Shape) (rule : HitRule) (stage : Stage) → StandsAt order shape rule stage sweep → StandsAt order shape rule (with_a_ended stage) swept
+      pub given : (shape : Shape) (rule : HitRule) (stage : Stage)
+          → StandsAt order shape rule stage sweep
+          → StandsAt order shape rule (with_a_ended stage) swept
       pub same_output : grown ≡ out
 
     -- a record of the first input wasn't taken, or its lines weren't written
-    pub record FailsFirst (fault : Told) (new : Records S O g) (swept : Sweeping) (grown : Output) : Type 0 where
+    pub record FailsFirst (fault : Told) (new : Records S O g) (swept : Sweeping)
+        (grown : Output) : Type 0 where
       pub item : Feature
       pub ahead : HasAhead old item new
-      pub fails : (shape : Shape) (rule : HitRule) (stage : Stage) → StandsAt order shape rule stage sweep → IsInOrder order (with_a stage item)
+      pub fails : (shape : Shape) (rule : HitRule) (stage : Stage)
+          → StandsAt order shape rule stage sweep → IsInOrder order (with_a stage item)
           → Fails out (lines_with shape rule stage item) fault grown
 
     -- the input couldn't give one
-    pub record StopsTurn (fault : Told) (new : Records S O g) (swept : Sweeping) (grown : Output) : Type 0 where
+    pub record StopsTurn (fault : Told) (new : Records S O g) (swept : Sweeping)
+        (grown : Output) : Type 0 where
       pub stopped : HasStopped old fault new
       pub same_sweep : swept ≡ sweep
       pub same_output : grown ≡ out
 
     -- a turn of the first input
-    abbrev pub TurnsFirst : {A : Type 0} → Result A Fault → Records S O g → Sweeping → Output → Type 0
+    abbrev pub TurnsFirst : {A : Type 0} → Result A Fault → Records S O g → Sweeping → Output
+        → Type 0
     TurnsFirst (Ok done) new swept grown = GivesFirst new swept grown ⊎ EndsFirst new swept grown
-    TurnsFirst (Err fault) new swept grown = StopsTurn (told fault) new swept grown ⊎ FailsFirst (told fault) new swept grown
+    TurnsFirst (Err fault) new swept grown =
+        StopsTurn (told fault) new swept grown ⊎ FailsFirst (told fault) new swept grown
 
     -- a record of the second input was taken and passed
     pub record TakesSecond (new : Records S O g) (swept : Sweeping) (grown : Output) : Type 0 where
@@ -79,7 +89,8 @@ module _ {S O : Type 0} {g : Ghosts O} (left : S → Option (List ℕ)) (failed 
       pub peeked : Records S O g
       pub ahead : HasAhead old item peeked
       pub passes : PassesRecord left peeked new
-      pub given : (shape : Shape) (rule : HitRule) (stage : Stage) (a : Feature) → StandsAt order shape rule stage sweep → stage.waiting ≡ Some a
+      pub given : (shape : Shape) (rule : HitRule) (stage : Stage) (a : Feature)
+          → StandsAt order shape rule stage sweep → stage.waiting ≡ Some a
           → ArePlaced order (intervals_of stage.taken)
           → TakesB order shape rule stage a item out swept grown
 
@@ -87,35 +98,45 @@ module _ {S O : Type 0} {g : Ghosts O} (left : S → Option (List ℕ)) (failed 
     pub record LeavesSecond (new : Records S O g) (swept : Sweeping) (grown : Output) : Type 0 where
       pub item : Feature
       pub ahead : HasAhead old item new
-      pub given : (shape : Shape) (rule : HitRule) (stage : Stage) (a : Feature) → StandsAt order shape rule stage sweep → stage.waiting ≡ Some a
+      pub given : (shape : Shape) (rule : HitRule) (stage : Stage) (a : Feature)
+          → StandsAt order shape rule stage sweep → stage.waiting ≡ Some a
           → ArePlaced order (intervals_of stage.taken)
           → WritesA order shape rule stage a item out swept grown
 
     -- the end of the second input was given
     pub record EndsSecond (new : Records S O g) (swept : Sweeping) (grown : Output) : Type 0 where
       pub ended : HasEnded old new
-      pub given : (shape : Shape) (rule : HitRule) (stage : Stage) (a : Feature) → StandsAt order shape rule stage sweep → stage.waiting ≡ Some a
+      pub given : (shape : Shape) (rule : HitRule) (stage : Stage) (a : Feature)
+          → StandsAt order shape rule stage sweep → stage.waiting ≡ Some a
           → ArePlaced order (intervals_of stage.taken)
-          → StandsAt order shape rule (with_b_ended stage) swept × Grown out (lines_for shape rule a stage.taken) grown
+          → StandsAt order shape rule (with_b_ended stage) swept
+          × Grown out (lines_for shape rule a stage.taken) grown
 
     -- a record of the second input wasn't taken, or the lines of the waiting one weren't written
-    pub record FailsSecond (fault : Told) (new : Records S O g) (swept : Sweeping) (grown : Output) : Type 0 where
+    pub record FailsSecond (fault : Told) (new : Records S O g) (swept : Sweeping)
+        (grown : Output) : Type 0 where
       pub item : Feature
       pub ahead : HasAhead old item new
-      pub fails : (shape : Shape) (rule : HitRule) (stage : Stage) (a : Feature) → StandsAt order shape rule stage sweep → stage.waiting ≡ Some a
+      pub fails : (shape : Shape) (rule : HitRule) (stage : Stage) (a : Feature)
+          → StandsAt order shape rule stage sweep → stage.waiting ≡ Some a
           → ArePlaced order (intervals_of stage.taken)
-          → FailsToWriteA order shape rule stage a item out fault grown ⊎ FailsToHold order shape rule stage a item out fault grown
+          → FailsToWriteA order shape rule stage a item out fault grown
+          ⊎ FailsToHold order shape rule stage a item out fault grown
 
     -- at its end the lines of the waiting record weren't written
-    pub record FailsAtEnd (fault : Told) (new : Records S O g) (swept : Sweeping) (grown : Output) : Type 0 where
+    pub record FailsAtEnd (fault : Told) (new : Records S O g) (swept : Sweeping)
+        (grown : Output) : Type 0 where
       pub ended : HasEnded old new
-      pub fails : (shape : Shape) (rule : HitRule) (stage : Stage) (a : Feature) → StandsAt order shape rule stage sweep → stage.waiting ≡ Some a
+      pub fails : (shape : Shape) (rule : HitRule) (stage : Stage) (a : Feature)
+          → StandsAt order shape rule stage sweep → stage.waiting ≡ Some a
           → ArePlaced order (intervals_of stage.taken)
           → FailsToAdd out (lines_for shape rule a stage.taken) fault grown
 
     -- a turn of the second input
-    abbrev pub TurnsSecond : {A : Type 0} → Result A Fault → Records S O g → Sweeping → Output → Type 0
+    abbrev pub TurnsSecond : {A : Type 0} → Result A Fault → Records S O g → Sweeping → Output
+        → Type 0
     TurnsSecond (Ok done) new swept grown =
         TakesSecond new swept grown ⊎ (LeavesSecond new swept grown ⊎ EndsSecond new swept grown)
     TurnsSecond (Err fault) new swept grown =
-        StopsTurn (told fault) new swept grown ⊎ (FailsSecond (told fault) new swept grown ⊎ FailsAtEnd (told fault) new swept grown)
+        StopsTurn (told fault) new swept grown
+        ⊎ (FailsSecond (told fault) new swept grown ⊎ FailsAtEnd (told fault) new swept grown)

@@ -1,8 +1,12 @@
 -- The faults of a command line, and what is told of each.
-use Rattle.std.specs.Prelude.{ℕ, ◌<◌, ◌≤◌, Bool, List, [], ◌∷◌, ◌++◌, ◌&&◌, IsTrue, codes, if◌then◌else◌, nat_eq, nat_le, slice_index_or}
+use Rattle.std.specs.Prelude.{ℕ, ◌<◌, ◌≤◌, Bool, List, [], ◌∷◌, ◌++◌, ◌&&◌, IsTrue, codes}
+use Rattle.std.specs.Prelude.{if◌then◌else◌, nat_eq, nat_le, slice_index_or}
 use Rattle.bt_tool.specs.declared.usage.Usage.{Usage}
 use Rattle.bt_tool.specs.declared.usage.UsageKind.{UsageKind}
-use Rattle.bt_tool.specs.declared.usage.UsageKind.TheVariants.{NoCommand, UnknownOption, ValueMissing, BadValue, RequiredMissing, OptionsExclusive, InputNamedTwice}
+use Rattle.bt_tool.specs.declared.usage.UsageKind.TheVariants.{NoCommand, UnknownOption}
+use Rattle.bt_tool.specs.declared.usage.UsageKind.TheVariants.{ValueMissing, BadValue}
+use Rattle.bt_tool.specs.declared.usage.UsageKind.TheVariants.{RequiredMissing, OptionsExclusive}
+use Rattle.bt_tool.specs.declared.usage.UsageKind.TheVariants.{InputNamedTwice}
 use Rattle.bt_tool.specs.Table.{Word}
 
 abbrev pub number_of : UsageKind → ℕ

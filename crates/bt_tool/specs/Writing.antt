@@ -1,39 +1,54 @@
 -- What a command does with its inputs, by what they hand over; the second may not be there.
-use Rattle.std.specs.Prelude.{◌≡◌, ◌≢◌, ℕ, ◌+◌, ◌⊎◌, Bool, false, List, [], ◌++◌, Option, Some, None}
+use Rattle.std.specs.Prelude.{◌≡◌, ◌≢◌, ℕ, ◌+◌, ◌⊎◌, Bool, false, List, [], ◌++◌, Option, Some}
+use Rattle.std.specs.Prelude.{None}
 use Rattle.bt_lines.specs.Fault.{Told, no_memory, write_failed}
 use Rattle.bt_lines.specs.Handed.{Handed}
 use Rattle.bt_lines.specs.Lines.{TextLine}
 use Rattle.bt_lines.specs.Output.{Output, IsFrontOf, Grows, block_size}
 use Rattle.bt_lines.specs.declared.fault.Input.TheVariants.{First, Second}
 use Rattle.bt_lines.specs.declared.fault.Kind.{Kind}
-use Rattle.bt_tool.specs.Driving.{IsOfInput, IsReported, ReadsNoFurther, TellsDevice, TellsInput, TellsInputIf}
+use Rattle.bt_tool.specs.Driving.{IsOfInput, IsReported, ReadsNoFurther, TellsDevice, TellsInput}
+use Rattle.bt_tool.specs.Driving.{TellsInputIf}
 use Rattle.bt_tool.specs.Inputs.{HandsUpToIf, Holds, HoldsIf, Reads, ReadsIf, ServesIf}
 use Rattle.bt_tool.specs.RecordReport.{Report}
 
-module _ {A B : Type 0} (a_left : A → Option (List ℕ)) (a_failed a_end : A → Bool) (b_left : B → Option (List ℕ)) (b_failed : B → Bool) (first_kinds second_kinds : Kind → Bool) (report : Handed → Option Handed → Report) (settles : Option Handed → List TextLine → List ℕ) (reaches : Option Handed → List TextLine → ℕ) where
-  -- the inputs were read, and what they make a command write was written: the report on what they hand over
-  pub record WritesInputs (first : A) (second : Option B) (out : Output) (fault : Option Told) (first_after : A) (second_after : Option B) (grown : Output) : Type 0 where
+module _ {A B : Type 0} (a_left : A → Option (List ℕ)) (a_failed a_end : A → Bool)
+    (b_left : B → Option (List ℕ)) (b_failed : B → Bool) (first_kinds second_kinds : Kind → Bool)
+    (report : Handed → Option Handed → Report) (settles : Option Handed → List TextLine → List ℕ)
+    (reaches : Option Handed → List TextLine → ℕ) where
+  -- the inputs were read, and what they make a command write was written:
+  -- the report on what they hand over
+  pub record WritesInputs (first : A) (second : Option B) (out : Output) (fault : Option Told)
+      (first_after : A) (second_after : Option B) (grown : Output) : Type 0 where
     -- no write and no growth failed: the report on what was handed over, also where a read failed
-    pub whole : (one : Handed) (two : Option Handed) (before : List ℕ) → Reads a_left a_failed first first_after one
+    pub whole : (one : Handed) (two : Option Handed) (before : List ℕ)
+        → Reads a_left a_failed first first_after one
         → ReadsIf b_left b_failed second second_after two → out.put ≡ Some before
-        → fault ≢ Some write_failed → fault ≢ Some no_memory → IsReported (report one two) before fault grown
+        → fault ≢ Some write_failed → fault ≢ Some no_memory
+        → IsReported (report one two) before fault grown
     -- no device's fault is told: the report on the whole texts
-    pub told : (one : Handed) (two : Option Handed) (before : List ℕ) → Holds a_left first one → HoldsIf b_left second two
+    pub told : (one : Handed) (two : Option Handed) (before : List ℕ) → Holds a_left first one
+        → HoldsIf b_left second two
         → out.put ≡ Some before → IsOfInput fault → IsReported (report one two) before fault grown
     -- where a write failed: the sink took a front of the report's output
-    pub cut : fault ≡ Some write_failed → (one : Handed) (two : Option Handed) (before : List ℕ) → Holds a_left first one
+    pub cut : fault ≡ Some write_failed → (one : Handed) (two : Option Handed) (before : List ℕ)
+        → Holds a_left first one
         → HoldsIf b_left second two → out.put ≡ Some before → (front : List ℕ) × (rest : List ℕ)
-        × ((report one two).output ≡ front ++ rest) × IsFrontOf grown.took (Some (before ++ front)) []
+        × ((report one two).output ≡ front ++ rest)
+        × IsFrontOf grown.took (Some (before ++ front)) []
     -- whatever else fails: a front of the report's output was put
-    pub kept : fault ≢ Some write_failed → (one : Handed) (two : Option Handed) (before : List ℕ) → Holds a_left first one
+    pub kept : fault ≢ Some write_failed → (one : Handed) (two : Option Handed) (before : List ℕ)
+        → Holds a_left first one
         → HoldsIf b_left second two → out.put ≡ Some before → (front : List ℕ) × (rest : List ℕ)
         × ((report one two).output ≡ front ++ rest) × (grown.put ≡ Some (before ++ front))
     pub grows : Grows out.took grown.took
     -- without a fault no device failed, known or not
-    pub served : fault ≡ None → ((a_failed first_after ≡ a_failed first) × ServesIf b_failed second second_after)
+    pub served : fault ≡ None
+        → ((a_failed first_after ≡ a_failed first) × ServesIf b_failed second second_after)
         × (grown.sink_has_failed ≡ out.sink_has_failed)
     -- how far the inputs were read, whatever happened
-    pub near : (one : Handed) (two : Option Handed) (before taken : List ℕ) → Holds a_left first one → HoldsIf b_left second two
+    pub near : (one : Handed) (two : Option Handed) (before taken : List ℕ) → Holds a_left first one
+        → HoldsIf b_left second two
         → out.put ≡ Some before → out.took ≡ Some taken
         → ReadsNoFurther (λ lines. a_end first_after ≡ false
         → HandsUpToIf b_left (reaches two lines + block_size) second second_after)

@@ -20,17 +20,18 @@ pub record Written (A : Type 0) : Type 0 where
   pub whole : List A → List ℕ
   pub settled : List A → List ℕ
 
--- the merged runs, chromosomes in the order of the genome file, and those that the last record has
--- passed
+-- the merged runs, chromosomes in the order of the genome file,
+-- and those that the last record has passed
 abbrev pub pooled_written : List Entry → ℕ → MergeStrand → Written Feature
 pooled_written entries d strand = record {
   whole = λ records. interval_lines (merged (genome_names entries) d (counted strand records));
   settled = λ records. interval_lines
-      (passed_by d (merged (genome_names entries) d (counted strand records)) (last_of (intervals_of records)));
+      (passed_by d (merged (genome_names entries) d (counted strand records))
+      (last_of (intervals_of records)));
 }
 
--- the runs of each strand, all listed by their first records, and the longest front of them that the last
--- record has passed
+-- the runs of each strand, all listed by their first records, and the longest front of them that
+-- the last record has passed
 abbrev pub strands_written : ℕ → Written Feature
 strands_written d = record {
   whole = λ records. interval_lines (places_of (strand_runs d records));

@@ -291,7 +291,7 @@ fn line_ends_and_order(rt: HostRuntime) -> Result<(), Fail> {
     Ok(())
 }
 
-// Without -i the input is standard input, and its lines are told so.
+// Without -i the input is standard input, and its fault lines name it so.
 #[test]
 fn a_missing_name(rt: HostRuntime) -> Result<(), Fail> {
     let alloc = rt.alloc();

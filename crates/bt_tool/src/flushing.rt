@@ -7,7 +7,7 @@ ghost use Rattle.bt_tool.specs.Flushing.{Flushes};
 
 use bt_lines::{Fault, Kind, Out, Sink};
 
-// Hands on what is held back, unless a write failed, and tells the fault that the run ends with.
+// Hands on what is held back, unless a write failed, and gives the fault that the run ends with.
 pub(crate) fn flushed<K: Sink>(fault: Option<Fault>, out: &mut Out<K>) -> Option<Fault>
     ensures ends { Flushes out.old (option_map told fault) (option_map told result) out.new }
     ensures flushed { (option_map told result ≡ Some write_failed)

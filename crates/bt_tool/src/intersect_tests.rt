@@ -565,7 +565,7 @@ fn a_second_input_that_fails_at_each_byte(rt: HostRuntime) -> Result<(), Fail> {
     Ok(())
 }
 
-// A fault of the first input is told before one of the second that no record asks for.
+// A fault of the first input is reported before one of the second that no record asks for.
 #[test]
 fn a_second_input_that_fails_beside_a_faulty_first(rt: HostRuntime) -> Result<(), Fail> {
     let first = b"chr1\t0\t10\nchr1\tx\t5\n";

@@ -1,13 +1,22 @@
 //! The commands, from a list of words and the bytes of the inputs to the bytes written.
 //!
-//! An example, as the tables of `command_tests` run many: the words `merge -g g.txt -d 1` over the
-//! records `chr1 250 500` and `chr1 501 1000`.
+//! An example, which is the test in `example.rt`: a command line, over scripts in the place of files.
+//! `strings` makes the words, and `source_if` a source that moves so many bytes a call.
 //!
 //! ```text
-//! let plan = plan(rt.alloc(), words)?;     // its inputs: g.txt, and standard input as `stdin`
-//! let ended = run(rt.alloc(), &plan, Some(genome), first, None, sink);
-//! ended.outcome.status()                   // 0; the sink has `chr1 250 1000`
-//! ended.outcome.fault_line(alloc, &plan)   // Ok(None)
+//! fn a_run(rt: HostRuntime) -> Result<(), Fail> {
+//!     let words = strings(rt.alloc(), &["merge", "-g", "g.txt", "-d", "1"])?;
+//!     let plan = plan(rt.alloc(), words.as_slice()).ok().ok_or("a plan")?;
+//!     // A source where the plan names the input: here the genome file, and no second one.
+//!     let genome = source_if(&plan.genome, b"chr1\t1000\n", whole(7));
+//!     let second = source_if(&plan.second, b"", whole(7));
+//!     let records = ScriptSource::new(b"chr1\t250\t500\nchr1\t501\t1000\n", 7, None);
+//!     let sink = ScriptSink::new(rt.alloc(), 7, None);
+//!     let ended = run(rt.alloc(), &plan, genome, records, second, sink);
+//!     assert_eq!(rt; ended.out.taken(), b"chr1\t250\t1000\n".as_slice());
+//!     assert_eq!(rt; ended.outcome.status(), 0);
+//!     Ok(())
+//! }
 //! ```
 #![tactic(auto)]
 
@@ -44,6 +53,8 @@ pub use usage::{Refusal, Usage, usage_line};
 mod bamtobed_tests;
 #[cfg(test)]
 mod command_tests;
+#[cfg(test)]
+mod example;
 #[cfg(test)]
 mod fault_tests;
 #[cfg(test)]

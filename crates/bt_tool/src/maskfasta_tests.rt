@@ -416,6 +416,90 @@ const LINES: [Case; 14] = [
     },
 ];
 
+// Lines that a record further ahead decides.
+const AHEAD: [Case; 10] = [
+    Case {
+        name: "a record several lines ahead",
+        options: &[],
+        first: b">s\nAC\nGT\n\nAA\nCC\nGG\n",
+        second: b"s\t7\t8\n",
+        output: b">s\nAC\nGT\n\nAA\nCN\nGG\n",
+        line: b"",
+    },
+    Case {
+        name: "a record at the end of a line several lines ahead",
+        options: &[],
+        first: b">s\nAC\nGT\nAA\nCC\n",
+        second: b"s\t4\t5\n",
+        output: b">s\nAC\nGT\nNA\nCC\n",
+        line: b"",
+    },
+    Case {
+        name: "a record ahead in the sequence behind",
+        options: &[],
+        first: b">s\nAC\nGT\n>t\nAA\nCC\n",
+        second: b"t\t2\t3\n",
+        output: b">s\nAC\nGT\n>t\nAA\nNC\n",
+        line: b"",
+    },
+    Case {
+        name: "a record ahead past the end of its sequence",
+        options: &[],
+        first: b">s\nAC\nGT\n>s\nAA\nCC\nGG\n",
+        second: b"s\t5\t6\n",
+        output: b">s\nAC\nGT\n>s\nAA\nCC\nGG\n",
+        line: b"",
+    },
+    Case {
+        name: "the same name behind a sequence that was passed",
+        options: &[],
+        first: b">s\nAC\nGT\n>t\nAA\n>s\nAA\nCC\n",
+        second: b"t\t0\t1\ns\t3\t4\n",
+        output: b">s\nAC\nGT\n>t\nNA\n>s\nAA\nCN\n",
+        line: b"",
+    },
+    Case {
+        name: "a block that goes over to the next sequence",
+        options: &[],
+        first: b">s\nAC\nGT\nAA\n>t\nCC\nGG\n",
+        second: b"s\t3\t4\nt\t3\t4\n",
+        output: b">s\nAC\nGN\nAA\n>t\nCC\nGN\n",
+        line: b"",
+    },
+    Case {
+        name: "a record over two lines while another is ahead",
+        options: &[],
+        first: b">s\nACGT\nACGT\nACGT\nACGT\n",
+        second: b"s\t2\t7\ns\t14\t15\n",
+        output: b">s\nACNN\nNNNT\nACGT\nACNT\n",
+        line: b"",
+    },
+    Case {
+        name: "lower case, and a record ahead",
+        options: &["-soft"],
+        first: b">s\nACGT\nACGT\nACGT\n",
+        second: b"s\t9\t11\n",
+        output: b">s\nACGT\nACGT\nAcgT\n",
+        line: b"",
+    },
+    Case {
+        name: "a block without a sequence and several lines behind",
+        options: &[],
+        first: b">s\nAC\nGT\nAA\n>t\nCC\nGG\n",
+        second: b"u\t0\t1\nt\t0\t1\n",
+        output: b">s\nAC\nGT\nAA\n>t\nCC\nGG\n",
+        line: b"bedtools maskfasta: b.bed:1: no such sequence from here on\n",
+    },
+    Case {
+        name: "line ends before a record ahead",
+        options: &[],
+        first: b">s\r\nAC\r\n\r\nGT\nAA\r",
+        second: b"s\t50\t60\n",
+        output: b">s\r\nAC\r\n\r\nGT\nAA\r",
+        line: b"",
+    },
+];
+
 // Runs maskfasta with these options.
 fn maskfasta(
     alloc: Global,
@@ -472,6 +556,11 @@ fn faults_of_both_inputs(rt: HostRuntime) -> Result<(), Fail> {
 #[test]
 fn names_and_long_records(rt: HostRuntime) -> Result<(), Fail> {
     check_all(&rt, rt.alloc(), &NAMES)
+}
+
+#[test]
+fn records_further_ahead(rt: HostRuntime) -> Result<(), Fail> {
+    check_all(&rt, rt.alloc(), &AHEAD)
 }
 
 #[test]
@@ -613,4 +702,12 @@ fn check_output(
 fn an_output_that_fails_at_each_byte(rt: HostRuntime) -> Result<(), Fail> {
     check_output(&rt, rt.alloc(), ONE, ONE_RECORD, ONE_MASKED)?;
     check_output(&rt, rt.alloc(), THREE, THREE_RECORDS, THREE_MASKED)
+}
+
+// Lines of which the third is masked; the record decides those before it.
+const LATER: &[u8] = b">s\nAC\nGT\nAC\n";
+
+#[test]
+fn an_output_that_fails_before_a_record_ahead(rt: HostRuntime) -> Result<(), Fail> {
+    check_output(&rt, rt.alloc(), LATER, b"s\t5\t6\n", b">s\nAC\nGT\nAN\n")
 }

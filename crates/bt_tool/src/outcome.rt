@@ -9,7 +9,7 @@ use crate::plan_type::Plan;
 use bt_lines::{Fault, Names, fault_line};
 use std::alloc::{AllocError, Global};
 
-/// How a run ended: without a fault, or with the one that it tells.
+/// How a run ended: without a fault, or with the one that it reports.
 #[derive(Clone, Copy, Debug)]
 pub struct Outcome {
     pub fault: Option<Fault>,
@@ -26,7 +26,7 @@ impl Outcome {
         }
     }
 
-    /// The line that tells the fault, if there is one, with the names of the plan's inputs. A name that
+    /// The line that reports the fault, if there is one, with the names of the plan's inputs. A name that
     /// the plan lacks is empty. `Err` where memory runs out; none is taken where there is no fault.
     pub fn fault_line(&self, alloc: Global, plan: &Plan) -> Result<Option<Vec<u8>>, AllocError>
         ensures line { IfOk result (λ line. option_map (λ line. line.items) line

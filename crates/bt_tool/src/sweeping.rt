@@ -88,7 +88,7 @@ fn sweep_all<A: Source, B: Source, O: ChromOrder, H: Held, K: Sink>(
     }
 }
 
-// Reads an input to its end, so that a fault behind the last record that was asked for is told.
+// Reads an input to its end, so that a fault behind the last record that was asked for is reported.
 fn check_rest<B: Source, O: ChromOrder>(second: &mut Records<'_, B, O>) -> Result<(), Fault>
     ensures { ReadsOn B.left B.has_failed B.end_told second.old result second.new }
 {

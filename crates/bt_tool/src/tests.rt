@@ -225,7 +225,7 @@ const CASES: [Case; 29] = [
 ];
 
 // The words as strings.
-fn strings(alloc: Global, words: &[&str]) -> Result<Vec<String>, AllocError> {
+pub(crate) fn strings(alloc: Global, words: &[&str]) -> Result<Vec<String>, AllocError> {
     let mut strings = Vec::new(alloc);
     for word in words {
         strings.push(String::from_str(alloc, word)?)?;
@@ -264,7 +264,11 @@ pub(crate) fn failing_by(step: usize, good: usize) -> Script
 }
 
 // A source of these bytes where the plan names the input.
-fn source_if<'a>(name: &Option<String>, bytes: &'a [u8], script: Script) -> Option<ScriptSource<'a>>
+pub(crate) fn source_if<'a>(
+    name: &Option<String>,
+    bytes: &'a [u8],
+    script: Script,
+) -> Option<ScriptSource<'a>>
     ensures { is_some result ≡ is_some name.now }
 {
     if name.is_none() {
@@ -329,7 +333,7 @@ pub(crate) fn run_both(
     })
 }
 
-// The line that an answer tells, or an empty one.
+// The line that an answer reports, or an empty one.
 pub(crate) fn line_of(answer: &Answer) -> &[u8] {
     match &answer.line {
         Some(line) => line.as_slice(),

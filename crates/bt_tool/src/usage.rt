@@ -1,4 +1,4 @@
-//! The faults of a command line, and the line that tells each.
+//! The faults of a command line, and the line that reports each.
 
 ghost use Rattle.std.specs.Prelude.{◌≡◌, IfOk, length};
 ghost use Rattle.bt_tool.specs.Plan.{words_seen};
@@ -126,7 +126,7 @@ impl Usage {
     }
 }
 
-/// The line on standard error that tells a fault of these words.
+/// The line on standard error that reports a fault of these words.
 pub fn usage_line(alloc: Global, words: &[String], usage: &Usage) -> Result<Vec<u8>, AllocError>
     requires { IsTellable usage.now (length words.now) }
     ensures { IfOk result (λ line. line.items ≡ usage_text (words_seen words.now) usage.now) }

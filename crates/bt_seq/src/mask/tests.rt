@@ -316,6 +316,29 @@ fn records_that_reach_into_the_line_are_held(rt: HostRuntime) -> Result<(), Fail
     Ok(())
 }
 
+#[test]
+fn lines_before_the_record_ahead_dont_wait(rt: HostRuntime) -> Result<(), Fail> {
+    let mut out = Out::new(ScriptSink::new(rt.alloc(), 7, None));
+    let mut mask = Mask::new(rt.alloc(), MaskHow::Soft, false);
+    assert!(rt; give_line(&mut mask, b">s", &mut out));
+    assert!(rt; !takes(&mut mask, b"s\t5\t9", &mut out));
+    assert!(rt; give_line(&mut mask, b"AC", &mut out));
+    assert!(rt; give_line(&mut mask, b"", &mut out));
+    assert!(rt; give_line(&mut mask, b"GTA", &mut out));
+    assert!(rt; mask.want() == MaskWant::Line);
+    assert!(rt; give_line(&mut mask, b"CGT", &mut out));
+    assert!(rt; takes(&mut mask, b"s\t5\t9", &mut out));
+    assert!(rt; !takes(&mut mask, b"s\t12\t13", &mut out));
+    assert!(rt; give_line(&mut mask, b"ACGT", &mut out));
+    assert!(rt; mask.want() == MaskWant::Line && mask.kept_len() == 1);
+    assert!(rt; give_line(&mut mask, b">s", &mut out));
+    assert!(rt; mask.want() == MaskWant::Bed && mask.kept_len() == 0);
+    let is_flushed = out.flush().is_ok();
+    let want: &[u8] = b">s\nAC\n\nGTA\ncgt\naCGT\n";
+    assert!(rt; is_flushed && out.into_sink().taken() == want);
+    Ok(())
+}
+
 // The records of these lines.
 fn records_of(alloc: Global, lines: &[&[u8]]) -> Result<Vec<Rec>, AllocError> {
     let mut records = Vec::new(alloc);

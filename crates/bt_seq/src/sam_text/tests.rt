@@ -18,75 +18,76 @@ fn placed(text: &[u8]) -> Option<Placed> {
 }
 
 // The example of the SAM specification, section 1.1, and lines at the limits.
+const ALIGNMENTS: [(&[u8], Placed); 16] = [
+    (
+        b"r001\t99\tref\t7\t30\t8M2I4M1D3M\t=\t37\t39\tTTAGATAAAGGATACTG\t*",
+        (6, 22, true, false, false, 30),
+    ),
+    (
+        b"r002\t0\tref\t9\t30\t3S6M1P1I4M\t*\t0\t0\tAAAAGATAAGGATA\t*",
+        (8, 18, false, false, false, 30),
+    ),
+    (
+        b"r003\t0\tref\t9\t30\t5S6M\t*\t0\t0\tGCCTAAGCTAA\t*\tSA:Z:ref,29,-,6H5M,17,0;",
+        (8, 14, false, false, false, 30),
+    ),
+    (
+        b"r004\t0\tref\t16\t30\t6M14N5M\t*\t0\t0\tATAGCTTCAGC\t*",
+        (15, 40, false, false, false, 30),
+    ),
+    (
+        b"r003\t2064\tref\t29\t17\t6H5M\t*\t0\t0\tTAGGC\t*\tSA:Z:ref,9,+,5S6M,30,1;",
+        (28, 33, false, false, true, 17),
+    ),
+    (
+        b"r001\t147\tref\t37\t30\t9M\t=\t7\t-39\tCAGCGGCAT\t*\tNM:i:1",
+        (36, 45, false, true, true, 30),
+    ),
+    (
+        b"r\t192\tref\t1\t30\t5M\t*\t0\t0\t*\t*",
+        (0, 5, true, true, false, 30),
+    ),
+    (
+        b"r\t65467\tref\t1\t30\t5M\t*\t0\t0\t*\t*",
+        (0, 5, false, true, true, 30),
+    ),
+    (
+        b"r\t0\tref\t1\t30\t999999999999M\t*\t0\t0\t*\t*",
+        (0, 999_999_999_999, false, false, false, 30),
+    ),
+    (
+        b"r\t0\tref\t2147483647\t255\t5M\t*\t0\t0\t*\t*",
+        (2_147_483_646, 2_147_483_651, false, false, false, 255),
+    ),
+    (
+        b"r\t0065531\tref\t01\t00\t05=\t*\t0\t0\t*\t*",
+        (0, 5, true, true, true, 0),
+    ),
+    (
+        b"r\t0\tref\t1\t30\t5N5M\t*\t0\t0\t*\t*",
+        (0, 10, false, false, false, 30),
+    ),
+    (
+        b"r\t0\tref\t1\t0\t5X\t\t\t\t\t",
+        (0, 5, false, false, false, 0),
+    ),
+    (
+        b"\t0\tref\t1\t0\t5X\t\t\t\t\t",
+        (0, 5, false, false, false, 0),
+    ),
+    (
+        b"r\t32\tref\t1\t0\t5X\t\t\t\t\t",
+        (0, 5, false, false, false, 0),
+    ),
+    (
+        b"r\t0\tref\t1\t0\t1S5D\t\t\t\t\t",
+        (0, 5, false, false, false, 0),
+    ),
+];
+
 #[test]
 fn alignments(rt: HostRuntime) {
-    let cases: [(&[u8], Placed); 16] = [
-        (
-            b"r001\t99\tref\t7\t30\t8M2I4M1D3M\t=\t37\t39\tTTAGATAAAGGATACTG\t*",
-            (6, 22, true, false, false, 30),
-        ),
-        (
-            b"r002\t0\tref\t9\t30\t3S6M1P1I4M\t*\t0\t0\tAAAAGATAAGGATA\t*",
-            (8, 18, false, false, false, 30),
-        ),
-        (
-            b"r003\t0\tref\t9\t30\t5S6M\t*\t0\t0\tGCCTAAGCTAA\t*\tSA:Z:ref,29,-,6H5M,17,0;",
-            (8, 14, false, false, false, 30),
-        ),
-        (
-            b"r004\t0\tref\t16\t30\t6M14N5M\t*\t0\t0\tATAGCTTCAGC\t*",
-            (15, 40, false, false, false, 30),
-        ),
-        (
-            b"r003\t2064\tref\t29\t17\t6H5M\t*\t0\t0\tTAGGC\t*\tSA:Z:ref,9,+,5S6M,30,1;",
-            (28, 33, false, false, true, 17),
-        ),
-        (
-            b"r001\t147\tref\t37\t30\t9M\t=\t7\t-39\tCAGCGGCAT\t*\tNM:i:1",
-            (36, 45, false, true, true, 30),
-        ),
-        (
-            b"r\t192\tref\t1\t30\t5M\t*\t0\t0\t*\t*",
-            (0, 5, true, true, false, 30),
-        ),
-        (
-            b"r\t65467\tref\t1\t30\t5M\t*\t0\t0\t*\t*",
-            (0, 5, false, true, true, 30),
-        ),
-        (
-            b"r\t0\tref\t1\t30\t999999999999M\t*\t0\t0\t*\t*",
-            (0, 999_999_999_999, false, false, false, 30),
-        ),
-        (
-            b"r\t0\tref\t2147483647\t255\t5M\t*\t0\t0\t*\t*",
-            (2_147_483_646, 2_147_483_651, false, false, false, 255),
-        ),
-        (
-            b"r\t0065531\tref\t01\t00\t05=\t*\t0\t0\t*\t*",
-            (0, 5, true, true, true, 0),
-        ),
-        (
-            b"r\t0\tref\t1\t30\t5N5M\t*\t0\t0\t*\t*",
-            (0, 10, false, false, false, 30),
-        ),
-        (
-            b"r\t0\tref\t1\t0\t5X\t\t\t\t\t",
-            (0, 5, false, false, false, 0),
-        ),
-        (
-            b"\t0\tref\t1\t0\t5X\t\t\t\t\t",
-            (0, 5, false, false, false, 0),
-        ),
-        (
-            b"r\t32\tref\t1\t0\t5X\t\t\t\t\t",
-            (0, 5, false, false, false, 0),
-        ),
-        (
-            b"r\t0\tref\t1\t0\t1S5D\t\t\t\t\t",
-            (0, 5, false, false, false, 0),
-        ),
-    ];
-    for (text, want) in cases {
+    for (text, want) in ALIGNMENTS {
         assert_eq!(rt; placed(text), Some(want), "at {text:?}");
     }
 }
@@ -125,47 +126,49 @@ fn nothing_is_said(rt: HostRuntime) {
     }
 }
 
+// Lines, and what is wrong with each.
+const AT_FAULT: [(&[u8], Kind); 24] = [
+    (b"r", Kind::TooFewColumns),
+    (b"r\t0\tref\t1\t30\t5M", Kind::TooFewColumns),
+    (b"r\t0\tref\t1\t30\t5M\t*\t0\t0\t*", Kind::TooFewColumns),
+    (b"r\tx\t\tx\tx\tx\t*\t0\t0\t*", Kind::TooFewColumns),
+    (b"r\t65536\tref\t1\t30\t5M\t*\t0\t0\t*\t*", Kind::BadFlag),
+    (b"r\tx\t\tx\tx\tx\t*\t0\t0\t*\t*", Kind::BadFlag),
+    (b"r\t\tref\t1\t30\t5M\t*\t0\t0\t*\t*", Kind::BadFlag),
+    (b"r\t-1\tref\t1\t30\t5M\t*\t0\t0\t*\t*", Kind::BadFlag),
+    (b"r\t4\t\tx\tx\tx\t*\t0\t0\t*\t*", Kind::EmptyName),
+    (b"r\t4\tref\tx\tx\tx\t*\t0\t0\t*\t*", Kind::BadPosition),
+    (
+        b"r\t0\tref\t2147483648\t30\t5M\t*\t0\t0\t*\t*",
+        Kind::BadPosition,
+    ),
+    (b"r\t0\tref\t-1\t30\t5M\t*\t0\t0\t*\t*", Kind::BadPosition),
+    (b"r\t4\tref\t1\tx\tx\t*\t0\t0\t*\t*", Kind::BadQuality),
+    (b"r\t0\tref\t1\t256\t5M\t*\t0\t0\t*\t*", Kind::BadQuality),
+    (b"r\t0\tref\t1\t\t5M\t*\t0\t0\t*\t*", Kind::BadQuality),
+    (b"r\t4\tref\t1\t30\t5Q\t*\t0\t0\t*\t*", Kind::BadCigar),
+    (b"r\t0\tref\t1\t30\t5Q\t*\t0\t0\t*\t*", Kind::BadCigar),
+    (b"r\t0\tref\t1\t30\t5\t*\t0\t0\t*\t*", Kind::BadCigar),
+    (b"r\t0\tref\t1\t30\t\t*\t0\t0\t*\t*", Kind::BadCigar),
+    (b"r\t0\tref\t1\t30\tM\t*\t0\t0\t*\t*", Kind::BadCigar),
+    (b"r\t0\t*\t0\t30\t5M3\t*\t0\t0\t*\t*", Kind::BadCigar),
+    (
+        b"r\t0\tref\t1\t30\t1000000000000M\t*\t0\t0\t*\t*",
+        Kind::BadCigar,
+    ),
+    (
+        b"r\t0\tref\t2\t30\t999999999999M\t*\t0\t0\t*\t*",
+        Kind::StopTooLarge,
+    ),
+    (
+        b"r\t0\tref\t1\t30\t999999999999M999999999999M\t*\t0\t0\t*\t*",
+        Kind::StopTooLarge,
+    ),
+];
+
 #[test]
 fn lines_are_at_fault(rt: HostRuntime) {
-    let cases: [(&[u8], Kind); 24] = [
-        (b"r", Kind::TooFewColumns),
-        (b"r\t0\tref\t1\t30\t5M", Kind::TooFewColumns),
-        (b"r\t0\tref\t1\t30\t5M\t*\t0\t0\t*", Kind::TooFewColumns),
-        (b"r\tx\t\tx\tx\tx\t*\t0\t0\t*", Kind::TooFewColumns),
-        (b"r\t65536\tref\t1\t30\t5M\t*\t0\t0\t*\t*", Kind::BadFlag),
-        (b"r\tx\t\tx\tx\tx\t*\t0\t0\t*\t*", Kind::BadFlag),
-        (b"r\t\tref\t1\t30\t5M\t*\t0\t0\t*\t*", Kind::BadFlag),
-        (b"r\t-1\tref\t1\t30\t5M\t*\t0\t0\t*\t*", Kind::BadFlag),
-        (b"r\t4\t\tx\tx\tx\t*\t0\t0\t*\t*", Kind::EmptyName),
-        (b"r\t4\tref\tx\tx\tx\t*\t0\t0\t*\t*", Kind::BadPosition),
-        (
-            b"r\t0\tref\t2147483648\t30\t5M\t*\t0\t0\t*\t*",
-            Kind::BadPosition,
-        ),
-        (b"r\t0\tref\t-1\t30\t5M\t*\t0\t0\t*\t*", Kind::BadPosition),
-        (b"r\t4\tref\t1\tx\tx\t*\t0\t0\t*\t*", Kind::BadQuality),
-        (b"r\t0\tref\t1\t256\t5M\t*\t0\t0\t*\t*", Kind::BadQuality),
-        (b"r\t0\tref\t1\t\t5M\t*\t0\t0\t*\t*", Kind::BadQuality),
-        (b"r\t4\tref\t1\t30\t5Q\t*\t0\t0\t*\t*", Kind::BadCigar),
-        (b"r\t0\tref\t1\t30\t5Q\t*\t0\t0\t*\t*", Kind::BadCigar),
-        (b"r\t0\tref\t1\t30\t5\t*\t0\t0\t*\t*", Kind::BadCigar),
-        (b"r\t0\tref\t1\t30\t\t*\t0\t0\t*\t*", Kind::BadCigar),
-        (b"r\t0\tref\t1\t30\tM\t*\t0\t0\t*\t*", Kind::BadCigar),
-        (b"r\t0\t*\t0\t30\t5M3\t*\t0\t0\t*\t*", Kind::BadCigar),
-        (
-            b"r\t0\tref\t1\t30\t1000000000000M\t*\t0\t0\t*\t*",
-            Kind::BadCigar,
-        ),
-        (
-            b"r\t0\tref\t2\t30\t999999999999M\t*\t0\t0\t*\t*",
-            Kind::StopTooLarge,
-        ),
-        (
-            b"r\t0\tref\t1\t30\t999999999999M999999999999M\t*\t0\t0\t*\t*",
-            Kind::StopTooLarge,
-        ),
-    ];
-    for (text, want) in cases {
+    for (text, want) in AT_FAULT {
         let found = match sam_line(text) {
             Err(kind) => Some(kind),
             Ok(_) => None,

@@ -1,11 +1,11 @@
 use Rattle.std.proofs.Common.{◌++◌, ◌<◌, length, max, subst, arith}
 use Rattle.bt_lines.specs.Putting.{Adds}
 use Rattle.bt_seq.proofs.TextLemmas.{some_put}
-use Rattle.bt_seq.proofs.put_text.put_text.Goals as goal
+use Rattle.bt_seq.proofs.put_text.put_ended.Goals as goal
 
 pub returns : goal.returns
 returns g c =
     let end = c.bytes_of-end.result.now in
     let some : 0 < max (length c.args.text.now) (length end) = omega (arith, c.max.ensures, c.if-max-eq0.false) in
-    subst (λ e. Adds c.args.out.now (c.args.text.now ++ e) c.put_column.result c.put_column.new.out) c.bytes_of-end.ensures
-    (some_put c.args.out.now c.put_column.new.out c.args.text.now end c.put_column.result some c.put_column.ensures)
+    subst (λ e. Adds c.args.out.now (c.args.text.now ++ e) c.put_line.result c.put_line.new.out) c.bytes_of-end.ensures
+    (some_put c.args.out.now c.put_line.new.out c.args.text.now end c.put_line.result some c.put_line.ensures)
