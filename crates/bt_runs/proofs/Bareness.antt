@@ -9,7 +9,7 @@ use Rattle.bt_bed.proofs.Apart.{stretches_are_same}
 use Rattle.bt_bed.proofs.Scan.{scan_finds}
 use Rattle.bt_runs.proofs.Bridging.{is_covered-Decides}
 
-is_bare-Decides : (spans : List Span) (p : ℕ) → Decides (not (is_covered spans p)) (IsCovered spans p → ⊥)
+pub is_bare-Decides : (spans : List Span) (p : ℕ) → Decides (not (is_covered spans p)) (IsCovered spans p → ⊥)
 is_bare-Decides spans p = Decides-not (is_covered spans p) (is_covered-Decides spans p)
 
 pub are_gaps : gaps_are

@@ -43,7 +43,7 @@ bridged_from gap spans p h = record {
 bridged_to : (gap : ℕ) (spans : List Span) (p : ℕ) → Bridged gap spans p → HasLeft gap spans p
 bridged_to gap spans p b = (b.left, omega arith, (b.left_covered, (b.right, omega arith, (b.right_covered, b.to_right))))
 
-is_bridged-Decides : (gap : ℕ) (spans : List Span) (p : ℕ) → Decides (is_bridged gap spans p) (Bridged gap spans p)
+pub is_bridged-Decides : (gap : ℕ) (spans : List Span) (p : ℕ) → Decides (is_bridged gap spans p) (Bridged gap spans p)
 unfolding is_bridged
 is_bridged-Decides gap spans p =
     Decides-like (some_below (p + 1) (λ left. is_covered spans left && some_below (left + gap + 2) (λ right. is_covered spans right && nat_le p right)))
@@ -51,7 +51,7 @@ is_bridged-Decides gap spans p =
     (bridged_to gap spans p)
     (some_below-Decides (λ left. is_covered spans left && some_below (left + gap + 2) (λ right. is_covered spans right && nat_le p right)) (λ left. IsCovered spans left × HasRight gap spans p left) (λ left. Decides-and (is_covered spans left) (some_below (left + gap + 2) (λ right. is_covered spans right && nat_le p right)) (is_covered-Decides spans left) (HasRight-Decides gap spans p left)) (p + 1))
 
-covered_below_end : (xs : List Span) (p : ℕ) → IsCovered xs p → p < end_of xs
+pub covered_below_end : (xs : List Span) (p : ℕ) → IsCovered xs p → p < end_of xs
 covered_below_end [] p c = absurd c
 covered_below_end (x ∷ xs) p (inl w) = omega arith
 covered_below_end (x ∷ xs) p (inr w) = let h = covered_below_end xs p w in omega arith

@@ -2,11 +2,12 @@
 use Rattle.std.proofs.Common.{◌≡◌, ℕ, inl, inr, List, [], ◌∷◌, ◌++◌, append-nil, refl, sym, ap, ap₂, ◌∙◌, subst, arith, length, length-append, min, Bool, true, Option, Some, None, Result, Ok, Err}
 use Rattle.std.specs.Prelude.{⊤}
 use Rattle.std.proofs.lemmas.Bool.{cases_lt, lt-ltb, le-ltb}
-use Rattle.bt_lines.specs.Fault.{Told}
+use Rattle.bt_lines.specs.Fault.{Told, no_memory}
 use Rattle.bt_lines.specs.Names.{told}
 use Rattle.bt_lines.specs.Output.{Output}
 use Rattle.bt_lines.specs.Putting.{Adds}
 use Rattle.bt_lines.specs.declared.fault.Fault.{Fault}
+use Rattle.bt_lines.specs.declared.fault.Kind.TheVariants.{NoMemory, WriteFailed}
 use Rattle.bt_lines.proofs.PuttingLemmas.{grown_works}
 use Rattle.bt_bed.specs.Feature.{Feature, intervals_of}
 use Rattle.bt_bed.specs.Genome.{Entry, genome_names}
@@ -14,7 +15,7 @@ use Rattle.bt_bed.specs.Interval.{Span, last_of}
 use Rattle.bt_bed.specs.Locus.{Locus}
 use Rattle.bt_bed.specs.Rank.{AreDistinct, rank_of}
 use Rattle.bt_bed.specs.declared.strand.Strand.{Strand}
-use Rattle.bt_runs.specs.Covering.{AdvanceAnswers, AreReached, Covering, StandsAfter, begun_of, held_of, is_quiet, kept_fault, may_take, place_of, seen, settled_lines, stands_after, whole_output}
+use Rattle.bt_runs.specs.Covering.{AdvanceAnswers, AreReached, Covering, OnWant, StandsAfter, begun_of, held_of, is_quiet, kept_fault, may_take, place_of, seen, settled_lines, stands_after, whole_output}
 use Rattle.bt_runs.specs.Depth.{begun_across, counted_on, coverage, depth_lines, depth_of, kept_by, kept_records, known_place, open_at, settled_depths, unfinished, unfinished_by}
 use Rattle.bt_runs.specs.DepthStep.{IsPlaced, Known, Place, count_step, left_before}
 use Rattle.bt_runs.specs.Engine.{AfterEach, Feeds, Finishes}
@@ -277,3 +278,9 @@ module _ (table : List Entry) (zeros : Bool) (strand : Option Strand) (current :
   finishes_left stop result grown all p =
       finishes_by may_take stands_after kept_fault settled_lines old (λ first past stands. stands.going) was_going out (depth_lines (left_before zeros table (seen current held) stop)) whole_output
       (λ first past stands taken. lines_left past table zeros strand current held at stop all first.entries first.zeros first.strand fault old is stands taken) result grown p
+
+-- where memory ran out, what is said of that holds
+pub ends_for_record : {P : Type 0} (failure : Failure)
+    → OnWant {A = Option Reached} P (Err failure) → fault_of failure ≡ no_memory → P
+ends_for_record Write holds e = let kind : WriteFailed ≡ NoMemory = ap (λ t. t.kind) e in absurd (cc)
+ends_for_record Memory holds e = holds

@@ -27,7 +27,7 @@ up_to_later order p q x total one two three (inr a) (inl b) = inl (subst (λ (c 
 up_to_later order p q x total one two three (inr a) (inr b) = inr (a.0 ∙ b.0, let h = a.1 in let g = b.1 in omega arith)
 
 -- the next is left out
-skips : (order : Order) (p q : Interval) (rest : List Interval) → IsTotal order → ArePlaced order (p ∷ q ∷ rest) → ArePlaced order (p ∷ rest)
+pub skips : (order : Order) (p q : Interval) (rest : List Interval) → IsTotal order → ArePlaced order (p ∷ q ∷ rest) → ArePlaced order (p ∷ rest)
 skips order p q [] total t = (t.0, tt, tt)
 skips order p q (x ∷ xs) total t = (t.0, up_to_later order p q x total t.0 t.2.0 t.2.2.0 t.1 t.2.1, t.2.2)
 

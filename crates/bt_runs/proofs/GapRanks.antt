@@ -1,16 +1,16 @@
 -- The chromosomes of a genome file by their ranks.
-use Rattle.std.proofs.Common.{◌≡◌, ℕ, zero, suc, ◌+◌, ◌-◌, ◌<◌, ◌≤◌, List, [], ◌∷◌, ◌++◌, ap, ◌∙◌, arith, length, length-append, length-drop, get_or, take, drop, false, bytes_eq, Some, option_map, slice_range}
+use Rattle.std.proofs.Common.{◌≡◌, ℕ, zero, suc, ◌+◌, ◌-◌, ◌<◌, ◌≤◌, List, [], ◌∷◌, ◌++◌, ap, sym, ◌∙◌, arith, length, length-append, length-drop, get_or, take, drop, false, bytes_eq, Some, option_map, slice_range}
 use Rattle.std.specs.List.{slice_get}
 use Rattle.std.proofs.lemmas.Bool.{cond-true, cond-false, or_parts}
 use Rattle.std.proofs.lemmas.Grind.{take_at_read}
 use Rattle.std.proofs.lemmas.List.{take_at, drop_at, get_or-drop}
 use Rattle.std.proofs.Math.Seq.{get_or-append_seam}
 use Rattle.bt_bed.specs.Genome.{Entry, genome_names}
-use Rattle.bt_bed.specs.Rank.{is_among}
+use Rattle.bt_bed.specs.Rank.{is_among, rank_of}
 use Rattle.bt_bed.proofs.NameLemmas.{name_eq}
 use Rattle.bt_runs.specs.Gaps.{length_in}
 use Rattle.bt_runs.specs.GapStep.{entry_at}
-use Rattle.bt_runs.proofs.Keys.{Found}
+use Rattle.bt_runs.proofs.Keys.{Found, found}
 
 -- the name of a chromosome
 abbrev pub name_at : Entry → List ℕ
@@ -35,6 +35,16 @@ size_there [] e after name is first = cond-true (bytes_eq e.name name) e.length 
 size_there (b ∷ bs) e after name is first =
     let parts = or_parts (bytes_eq b.name name) (is_among (genome_names bs) name) first in
     cond-false (bytes_eq b.name name) b.length (length_in (bs ++ e ∷ after) name) parts.0 ∙ size_there bs e after name is parts.1
+
+-- and by its rank
+pub size_ranked : (entries : List Entry) (name : List ℕ) (rank : ℕ)
+    → rank_of (genome_names entries) name ≡ Some rank
+    → length_in entries name ≡ (entry_at entries rank).length
+size_ranked entries name rank is =
+    let f = found name_at entries name rank is in
+    ap (λ l. length_in l name) f.split
+    ∙ size_there f.before f.key f.after name f.is f.first
+    ∙ ap (λ (e : Entry). e.length) (sym (found_entry entries name rank f))
 
 -- what a look-up in the names, or in the lengths, gives of the chromosome
 pub name_read : (entries : List Entry) (rank : ℕ) (name : List ℕ) → slice_get (genome_names entries) rank ≡ Some name → (entry_at entries rank).name ≡ name

@@ -21,7 +21,7 @@ value_first first x xs p v d l (inl w) = w.2
 value_first first x xs p v d l (inr w) = let h = value_from x.stop xs p v d.3 w in absurd (omega (arith, h, l))
 
 -- at its stop there is none, or another one
-next_differs : (x : Level) (xs : List Level) → DiffersFromNext x xs → AreDisjointFrom x.stop xs → HasValue xs x.stop x.value → ⊥
+pub next_differs : (x : Level) (xs : List Level) → DiffersFromNext x xs → AreDisjointFrom x.stop xs → HasValue xs x.stop x.value → ⊥
 next_differs x [] other d h = h
 next_differs x (y ∷ ys) other d (inl w) = other (omega (arith, d.0, w.0)) (sym w.2)
 next_differs x (y ∷ ys) other d (inr w) = let h = value_from y.stop ys x.stop x.value d.3 w in absurd (omega (arith, d.0, d.1))
@@ -89,7 +89,7 @@ abbrev pub IsBegun : (ℕ → Option ℕ) → ℕ → ℕ → Option Begun → T
 IsBegun value first p None = first ≡ p
 IsBegun value first p (Some begun) = (first ≡ begun.start) × (first < p) × ((q : ℕ) → first ≤ q → q < p → value q ≡ Some begun.value)
 
-looser : (f g : ℕ) (xs : List Level) → g ≤ f → AreDisjointFrom f xs → AreDisjointFrom g xs
+pub looser : (f g : ℕ) (xs : List Level) → g ≤ f → AreDisjointFrom f xs → AreDisjointFrom g xs
 looser f g [] h d = tt
 looser f g (x ∷ xs) h d = (omega (arith, d.0), d.1, d.2, d.3)
 
@@ -233,7 +233,7 @@ apart_disjoint : (first second : ℕ) (spans : List Span) → second ≤ first �
 apart_disjoint first second [] h a = tt
 apart_disjoint first second (s ∷ ss) h a = (omega (arith, a.0), a.1, apart_differs s ss a.2, apart_disjoint (s.stop + 1) s.stop ss (omega arith) a.2)
 
-value_one : (test : Bool) (v : ℕ) → cond test (Some 0) None ≡ Some v → (IsTrue test) × (0 ≡ v)
+pub value_one : (test : Bool) (v : ℕ) → cond test (Some 0) None ≡ Some v → (IsTrue test) × (0 ≡ v)
 value_one true v e = (refl, let same : Some 0 ≡ Some v = e in cc)
 value_one false v e = let bare : None ≡ Some v = e in cc
 

@@ -13,6 +13,7 @@ pub mod EachLemmas
 pub mod OneStrand
 pub mod StrandListing
 pub mod StrandSettling
+pub mod StrandOrder
 pub mod WaitingLemmas
 pub mod PassedRuns
 pub mod StrandedLemmas
@@ -46,6 +47,8 @@ pub mod DepthWalk
 pub mod CoverageLemmas
 pub mod CoverageSteps
 pub mod PlainDepths
+pub mod CoveredLevels
+pub mod PlainStrands
 mod Examples
 mod GapExamples
 mod DepthExamples

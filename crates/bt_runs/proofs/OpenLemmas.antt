@@ -1,6 +1,8 @@
 -- The records that are open at a position and at later ones, and how many of them cover a position.
-use Rattle.std.proofs.Common.{◌≡◌, ℕ, ◌+◌, ◌<◌, ◌≤◌, inl, inr, List, [], ◌∷◌, ◌++◌, refl, sym, ap, ◌∙◌, arith, All, filter, length, nat_le, false}
+use Rattle.std.proofs.Common.{◌≡◌, ℕ, ◌+◌, ◌<◌, ◌≤◌, inl, inr, List, [], ◌∷◌, ◌++◌, refl, sym, ap, ◌∙◌, arith, All, filter, length, nat_le, not, false}
 use Rattle.std.proofs.lemmas.Bool.{cases_Bool, cases_lt, lt-ltb, le-ltb, lt-leb, le-leb}
+use Rattle.std.proofs.lemmas.List.{length-map}
+use Rattle.std.proofs.lemmas.List.Filters.{length-filter_both}
 use Rattle.std.proofs.lemmas.List.Elements.{All-cons, All-head, All-nil, All-tail, filter-append}
 use Rattle.bt_bed.specs.Interval.{Span}
 use Rattle.bt_runs.specs.Depth.{covers, depth_at}
@@ -104,3 +106,12 @@ kept_open start old new is = ap spans_open is ∙ still start old
 -- with one more that is open
 pub open_more : (position : ℕ) (spans : List Span) (s : Span) → position ≤ s.stop → still_open position (spans ++ s ∷ []) ≡ still_open position spans ++ s ∷ []
 open_more position spans s left = filter-append (λ s. nat_le position s.stop) spans (s ∷ []) ∙ ap (λ l. still_open position spans ++ l) (rw (le-leb position s.stop left) refl)
+
+-- of the code's list no more are open than there are
+pub open_few : (position : ℕ) (spans : List OpenSpan)
+    → length (still_open position (spans_open spans)) ≤ length spans
+open_few position spans =
+    let test = λ (s : OpenSpan). nat_le position s.stop in
+    let all = length-filter_both test (λ s. not (test s)) (λ s. refl) spans in
+    let same = length-map (filter test spans) span_open in
+    rw (← still position spans) (omega arith)

@@ -30,7 +30,7 @@ pub record Lies (item : StrandRun) (p : Feature) : Type 0 where
   pub from : item.run.start ≤ p.start
   pub to : p.stop ≤ item.run.stop
 
-lies_true : (item : StrandRun) (p : Feature) → Lies item p → is_in item p ≡ true
+pub lies_true : (item : StrandRun) (p : Feature) → Lies item p → is_in item p ≡ true
 lies_true item p l =
     and_from (is_strand item.strand p.strand) (lies_in item.run (interval_of p)) (ap (λ s. is_strand item.strand s) (sym l.same) ∙ strand_self item.strand)
     (and_from (bytes_eq item.run.chrom p.chrom) (nat_le item.run.start p.start && nat_le p.stop item.run.stop) (name_eq item.run.chrom p.chrom l.on)
@@ -59,7 +59,7 @@ pub record Listed (gap : ℕ) (past : List Feature) : Type 0 where
   pub apart : Each (λ item. Each (λ p. IsWithinOrFar gap item p) past) (strand_runs gap past)
   pub split : (strand : Strand) → filter (λ item. is_strand item.strand strand) (strand_runs gap past) ≡ runs_of_strand gap past strand
 
-listed_append : (runs : Strand → List StrandRun) (before xs ys : List Feature) → listed_behind runs before (xs ++ ys) ≡ listed_behind runs before xs ++ listed_behind runs (before ++ xs) ys
+pub listed_append : (runs : Strand → List StrandRun) (before xs ys : List Feature) → listed_behind runs before (xs ++ ys) ≡ listed_behind runs before xs ++ listed_behind runs (before ++ xs) ys
 listed_append runs before [] ys = ap (λ l. listed_behind runs l ys) (sym (append-nil before))
 listed_append runs before (x ∷ xs) ys =
     let first = begun_by (runs x.strand) before x in
@@ -131,7 +131,7 @@ module _ (gap : ℕ) (r : Feature) where
   ]
 
   -- no record of before comes to lie in a run that the record makes longer
-  same_in : (item : StrandRun) (p : Feature) → IsWithinOrFar gap item p → (p.chrom ≡ r.chrom → p.start ≤ r.start) → is_in (joined_to gap r item) p ≡ is_in item p
+  pub same_in : (item : StrandRun) (p : Feature) → IsWithinOrFar gap item p → (p.chrom ≡ r.chrom → p.start ≤ r.start) → is_in (joined_to gap r item) p ≡ is_in item p
   same_in item p apart up = elim (cases_Bool (reaches gap r item)) [
     | inr f ↦ ap (λ i. is_in i p) (join_not item f)
     | inl t ↦ ap (λ i. is_in i p) (join_is item t) ∙ elim (cases_Bool (is_in item p)) [
@@ -147,7 +147,7 @@ module _ (gap : ℕ) (r : Feature) where
   ]
 
   -- and none lies in a new run
-  not_in_new : (items : List StrandRun) → Each (λ item. reaches gap r item ≡ false) items → (p : Feature) → Some_of (λ item. Lies item p) items → p.start < p.stop → is_in (run_from r) p ≡ false
+  pub not_in_new : (items : List StrandRun) → Each (λ item. reaches gap r item ≡ false) items → (p : Feature) → Some_of (λ item. Lies item p) items → p.start < p.stop → is_in (run_from r) p ≡ false
   not_in_new items none p some full = false_from_ne_true (is_in (run_from r) p) (λ i.
       let l = true_lies (run_from r) p i in
       some_out (λ item. Lies item p × (reaches gap r item ≡ false)) ⊥ (λ item both.
@@ -160,11 +160,11 @@ module _ (gap : ℕ) (past : List Feature) (r : Feature) (taken : AreTaken (past
   abbrev pub some_reached : Bool
   some_reached = list_any (reaches gap r) (strand_runs gap past)
 
-  up : Each (λ p. p.chrom ≡ r.chrom → p.start ≤ r.start) past
+  pub up : Each (λ p. p.chrom ≡ r.chrom → p.start ≤ r.start) past
   up = each_unmap (λ p. p.chrom ≡ r.chrom → p.start ≤ r.start) interval_of past
       (up_to (intervals_of past) (interval_of r) (subst AreTogether (intervals_next past r) taken.together))
 
-  some_base : Each (λ p. p.start < p.stop) past
+  pub some_base : Each (λ p. p.start < p.stop) past
   some_base = each_unmap (λ p. p.start < p.stop) interval_of past (recursion_from_All (λ p. p.start < p.stop) (intervals_of past) (full_front past (r ∷ []) taken.full))
 
   full : r.start < r.stop

@@ -8,8 +8,8 @@ use Rattle.bt_bed.specs.Locus.{Locus}
 use Rattle.bt_runs.specs.Engine.{IsQuiet}
 use Rattle.bt_runs.specs.Gaps.{AreTaken, complement, kept_place, settled_gaps}
 
--- the chromosomes, whether those without records are left out, the place that is kept, and the fault
--- that was answered
+-- the chromosomes, whether those without records are left out, the place that is kept, and the
+-- fault that was answered
 pub record Complementing : Type 0 where
   pub entries : List Entry
   pub limit : Bool
@@ -17,7 +17,8 @@ pub record Complementing : Type 0 where
   pub fault : Option Told
 
 -- the complement has taken the records of the past, and answered no fault
-pub record StandsAfter (entries : List Entry) (limit : Bool) (past : List Feature) (complement : Complementing) : Type 0 where
+pub record StandsAfter (entries : List Entry) (limit : Bool) (past : List Feature)
+    (complement : Complementing) : Type 0 where
   pub same_entries : complement.entries ≡ entries
   pub same_limit : complement.limit ≡ limit
   pub kept : complement.kept ≡ kept_place entries past

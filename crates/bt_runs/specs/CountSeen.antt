@@ -11,7 +11,8 @@ abbrev pub begun_seen : Option Stretch → Option Begun
 begun_seen None = None
 begun_seen (Some s) = Some (record { start = s.start; value = s.depth })
 
--- what is known of a chromosome: up to where the open records stand, with the interval that isn't ended
+-- what is known of a chromosome: up to where the open records stand,
+-- with the interval that isn't ended
 abbrev pub known_seen : Option Stretch → OpenAt → Known
 known_seen begun here = record { to = here.at; begun = begun_seen begun; held = here.spans }
 

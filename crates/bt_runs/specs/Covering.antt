@@ -1,17 +1,21 @@
 -- A count of depths as its callers see it.
-use Rattle.std.specs.Prelude.{◌≡◌, ℕ, ⊤, Bool, List, [], ◌∷◌, length, Option, Some, None, Result, Ok, Err, cond, nat_lt}
-use Rattle.bt_lines.specs.Fault.{Told, write_failed}
+use Rattle.std.specs.Prelude.{◌≡◌, ℕ, ◌<◌, ⊤, Bool, true, List, [], ◌∷◌, length}
+use Rattle.std.specs.Prelude.{Option, Some, None, Result, Ok, Err, cond, nat_lt}
+use Rattle.bt_lines.specs.Fault.{Told, no_memory, write_failed}
+use Rattle.bt_lines.specs.Names.{told}
 use Rattle.bt_lines.specs.Output.{Output}
 use Rattle.bt_lines.specs.Putting.{FailsToAdd, Grown}
+use Rattle.bt_lines.specs.declared.fault.Fault.{Fault}
 use Rattle.bt_bed.specs.Feature.{Feature}
 use Rattle.bt_bed.specs.Genome.{Entry}
 use Rattle.bt_bed.specs.Interval.{Span}
 use Rattle.bt_bed.specs.Locus.{Locus}
 use Rattle.bt_bed.specs.declared.strand.Strand.{Strand}
 use Rattle.bt_runs.specs.CountSeen.{place_seen}
-use Rattle.bt_runs.specs.Depth.{DepthInterval, coverage, depth_lines, kept_records, known_place, settled_depths, unfinished}
+use Rattle.bt_runs.specs.Depth.{DepthInterval, coverage, depth_lines, is_counted_by}
+use Rattle.bt_runs.specs.Depth.{kept_records, known_place, settled_depths, unfinished}
 use Rattle.bt_runs.specs.DepthStep.{IsPlaced, Known, Place, begun_to, still_open}
-use Rattle.bt_runs.specs.Gaps.{AreTaken}
+use Rattle.bt_runs.specs.Gaps.{AreTaken, length_in}
 use Rattle.bt_runs.specs.GapStep.{entry_at}
 use Rattle.bt_runs.specs.Levels.{Begun}
 use Rattle.bt_runs.specs.OpenRecords.{OpenAt}
@@ -19,8 +23,9 @@ use Rattle.bt_runs.specs.declared.depths.Reached.{Reached}
 use Rattle.bt_runs.specs.declared.failure.Failure.{Failure}
 use Rattle.bt_runs.specs.declared.failure.Failure.TheVariants.{Write, Memory}
 
--- the chromosomes, whether depth 0 is reported, the strand that is counted, the place up to which depths are known, the
--- interval that is unfinished there, the records that are kept, and the fault that was answered
+-- the chromosomes, whether depth 0 is reported, the strand that is counted, the place up to which
+-- depths are known, the interval that is unfinished there, the records that are kept,
+-- and the fault that was answered
 pub record Covering : Type 0 where
   pub entries : List Entry
   pub zeros : Bool
@@ -31,7 +36,8 @@ pub record Covering : Type 0 where
   pub fault : Option Told
 
 -- the coverage has taken the records of the past, and answered no fault
-pub record StandsAfter (entries : List Entry) (zeros : Bool) (strand : Option Strand) (past : List Feature) (coverage : Covering) : Type 0 where
+pub record StandsAfter (entries : List Entry) (zeros : Bool) (strand : Option Strand)
+    (past : List Feature) (coverage : Covering) : Type 0 where
   pub same_entries : coverage.entries ≡ entries
   pub same_zeros : coverage.zeros ≡ zeros
   pub same_strand : coverage.strand ≡ strand
@@ -64,9 +70,30 @@ whole_output first past = depth_lines (coverage first.zeros first.strand first.e
 abbrev pub held_count : Covering → List Feature → ℕ
 held_count first past = length (kept_records first.strand first.entries past)
 
--- no record is said to be taken without a growth
+-- no record is said to be taken quietly: `IsForRecord` says when memory may be wanted
 abbrev pub is_quiet : Covering → List Feature → Feature → Type 0
 is_quiet first past r = ⊥
+
+-- a record has to be kept: it is counted, and starts below this length of its chromosome
+pub record IsToKeep (size : ℕ) (strand : Option Strand) (r : Feature) : Type 0 where
+  pub counted : is_counted_by strand r.strand ≡ true
+  pub starts : r.start < size
+
+-- on the chromosome of its name
+abbrev pub HasToKeep : List Entry → Option Strand → Feature → Type 0
+HasToKeep entries strand r = IsToKeep (length_in entries r.chrom) strand r
+
+-- where memory ran out for the first time, the record had to be kept
+abbrev pub IsForRecord : {A : Type 0} → Covering → Feature → Result A Fault → Type 0
+IsForRecord old r (Ok done) = ⊤
+IsForRecord old r (Err fault) =
+    told fault ≡ no_memory → old.fault ≡ None → HasToKeep old.entries old.strand r
+
+-- this holds where memory ran out
+abbrev pub OnWant : {A : Type 0} → Type 0 → Result A Failure → Type 0
+OnWant P (Ok done) = ⊤
+OnWant P (Err Write) = ⊤
+OnWant P (Err Memory) = P
 
 -- the chromosome that was reached, if one was
 abbrev pub seen : Option Reached → OpenAt → Option Place
@@ -81,7 +108,8 @@ AreReached entries (Some reached) = IsPlaced entries reached.rank
 -- the place up to which depths are known, and what is unfinished there
 abbrev pub place_of : List Entry → Option Place → List Locus
 place_of entries None = []
-place_of entries (Some place) = record { chrom = (entry_at entries place.rank).name; start = place.known.to } ∷ []
+place_of entries (Some place) =
+    record { chrom = (entry_at entries place.rank).name; start = place.known.to } ∷ []
 
 abbrev pub begun_of : Option Place → Option Begun
 begun_of None = None
@@ -93,17 +121,21 @@ held_of (Some place) = place.known.held
 
 -- what is known once the depths are settled by a record's start, before the record is counted
 abbrev pub settled_known : Bool → ℕ → Known → ℕ → Known
-settled_known zeros size known start = cond (nat_lt size start) (record { to = size; begun = None; held = [] })
+settled_known zeros size known start =
+    cond (nat_lt size start) (record { to = size; begun = None; held = [] })
     (record { to = start; begun = begun_to zeros known start; held = still_open start known.held })
 
 -- one more record was taken, as the step says
-pub record Advances (step : Option Place × List DepthInterval) (entries : List Entry) (next : Option Reached) (held : OpenAt) (out grown : Output) : Type 0 where
+pub record Advances (step : Option Place × List DepthInterval) (entries : List Entry)
+    (next : Option Reached) (held : OpenAt) (out grown : Output) : Type 0 where
   pub puts : Grown out (depth_lines step.1) grown
   pub reached : seen next held ≡ step.0
   pub at : AreReached entries next
 
 -- or its lines couldn't be written, or the record couldn't be kept
-abbrev pub AdvanceAnswers : Option Place × List DepthInterval → List Entry → Result (Option Reached) Failure → OpenAt → Output → Output → Type 0
+abbrev pub AdvanceAnswers : Option Place × List DepthInterval → List Entry
+    → Result (Option Reached) Failure → OpenAt → Output → Output → Type 0
 AdvanceAnswers step entries (Ok next) held out grown = Advances step entries next held out grown
-AdvanceAnswers step entries (Err Write) held out grown = FailsToAdd out (depth_lines step.1) write_failed grown
+AdvanceAnswers step entries (Err Write) held out grown =
+    FailsToAdd out (depth_lines step.1) write_failed grown
 AdvanceAnswers step entries (Err Memory) held out grown = Grown out (depth_lines step.1) grown

@@ -110,8 +110,8 @@ unfoldable pub kept_records : Option Strand → List Entry → List Feature → 
 kept_records strand entries records =
     kept_by strand entries records (last_of (intervals_of records))
 
--- the first of the intervals that begins below a position and ends there or past it, with its
--- depth
+-- the first of the intervals that begins below a position and ends there or past it,
+-- with its depth
 abbrev pub begun_across : ℕ → List Level → Option Begun
 begun_across p [] = None
 begun_across p (l ∷ ls) =

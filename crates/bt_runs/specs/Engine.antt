@@ -1,5 +1,5 @@
--- What the calls of an engine do: what they write and what the engine has become, after every list of
--- records that it stands after.
+-- What the calls of an engine do: what they write and what the engine has become, after every list
+-- of records that it stands after.
 use Rattle.std.specs.Prelude.{◌≡◌, ℕ, ◌≤◌, ◌⊎◌, true, List, [], ◌∷◌, ◌++◌}
 use Rattle.std.specs.Prelude.{Option, Some, None, Result, Ok, Err, IsOk}
 use Rattle.bt_lines.specs.Fault.{Told, no_memory, write_failed}
@@ -32,7 +32,8 @@ module _ {E : Type 0} (MayTake : E → List Feature → Type 0)
   KeepsHeld held count = AtEnd (λ first past. count ≡ held first past)
 
 module _ {E : Type 0} (MayTake : E → List Feature → Type 0)
-    (Stands : E → List Feature → E → Type 0) (fault : E → Option Told) (settled : E → List Feature → List ℕ) where
+    (Stands : E → List Feature → E → Type 0) (fault : E → Option Told)
+    (settled : E → List Feature → List ℕ) where
   -- one more record
   module _ (old : E) (r : Feature) (out : Output) where
     -- the record was taken

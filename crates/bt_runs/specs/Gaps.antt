@@ -1,5 +1,9 @@
--- What `bedtools complement` gives: the parts of each chromosome that no feature covers, in the order of the genome file, and with -L of those chromosomes alone that have records (bedtools manual, complement).
-use Rattle.std.specs.Prelude.{◌≡◌, ℕ, ◌<◌, ◌≤◌, length, Bool, true, false, not, ◌||◌, List, [], ◌∷◌, ◌++◌, map, filter, flat_map, cond, min, nat_le, bytes_eq, Option, Some, None}
+-- What `bedtools complement` gives: the parts of each chromosome that no feature covers, in the
+-- order of the genome file, and with -L of those chromosomes alone that
+-- have records (bedtools manual, complement).
+use Rattle.std.specs.Prelude.{◌≡◌, ℕ, ◌<◌, ◌≤◌, length, Bool, true, false, not, ◌||◌, List, [], ◌∷◌}
+use Rattle.std.specs.Prelude.{◌++◌, map, filter, flat_map, cond, min, nat_le, bytes_eq, Option}
+use Rattle.std.specs.Prelude.{Some, None}
 use Rattle.std.specs.declared.cmp.Ordering.{Ordering}
 use Rattle.std.specs.declared.cmp.Ordering.TheVariants.{Less, Equal, Greater}
 use Rattle.bt_bed.specs.Feature.{Feature, intervals_of}
@@ -26,11 +30,14 @@ gaps_are = (size : ℕ) (spans : List Span) → AreStretchesOf (IsBare size span
 
 -- no other list is
 abbrev pub gaps_only : Type 0
-gaps_only = (size : ℕ) (spans gaps : List Span) → AreStretchesOf (IsBare size spans) gaps → gaps ≡ gaps_of size spans
+gaps_only =
+    (size : ℕ) (spans gaps : List Span) → AreStretchesOf (IsBare size spans) gaps
+    → gaps ≡ gaps_of size spans
 
 -- the gaps on a chromosome of the genome file
 abbrev pub gaps_on : List Interval → Entry → List Interval
-gaps_on records entry = map (placed_on entry.name) (gaps_of entry.length (spans_on entry.name records))
+gaps_on records entry =
+    map (placed_on entry.name) (gaps_of entry.length (spans_on entry.name records))
 
 -- whether a chromosome's gaps are asked for: they all are, or with -L where it has records
 abbrev pub is_asked : Bool → List Interval → Entry → Bool
@@ -38,16 +45,20 @@ is_asked limit records entry = not limit || has_records entry.name records
 
 -- the gaps of the chromosomes that are asked for, in their order
 unfoldable pub complement : Bool → List Entry → List Feature → List Interval
-complement limit entries records = flat_map (gaps_on (intervals_of records)) (filter (is_asked limit (intervals_of records)) entries)
+complement limit entries records =
+    flat_map (gaps_on (intervals_of records))
+    (filter (is_asked limit (intervals_of records)) entries)
 
--- whether a gap is settled, once its chromosome is compared with that of the last record: it comes before, or it is the same and the gap ends by the record's start
+-- whether a gap is settled, once its chromosome is compared with that of the last record: it comes
+-- before, or it is the same and the gap ends by the record's start
 abbrev pub is_over_at : Ordering → Bool → Bool
 is_over_at Less ends = true
 is_over_at Equal ends = ends
 is_over_at Greater ends = false
 
 abbrev pub is_over : List (List ℕ) → Interval → Interval → Bool
-is_over names last gap = is_over_at ((rank_order names).compare gap.chrom last.chrom) (nat_le gap.stop last.start)
+is_over names last gap =
+    is_over_at ((rank_order names).compare gap.chrom last.chrom) (nat_le gap.stop last.start)
 
 abbrev pub over_by : List (List ℕ) → List Interval → Option Interval → List Interval
 over_by names gaps None = []
@@ -55,22 +66,30 @@ over_by names gaps (Some last) = filter (is_over names last) gaps
 
 -- the gaps that are settled after the records
 unfoldable pub settled_gaps : Bool → List Entry → List Feature → List Interval
-settled_gaps limit entries records = over_by (genome_names entries) (complement limit entries records) (last_of (intervals_of records))
+settled_gaps limit entries records =
+    over_by (genome_names entries) (complement limit entries records)
+    (last_of (intervals_of records))
 
 -- the length of the chromosome of this name
 abbrev pub length_in : List Entry → List ℕ → ℕ
 length_in [] name = 0
-length_in (entry ∷ entries) name = cond (bytes_eq entry.name name) entry.length (length_in entries name)
+length_in (entry ∷ entries) name =
+    cond (bytes_eq entry.name name) entry.length (length_in entries name)
 
 -- the place that is kept: the greatest end on the last record's chromosome, cut at its length
 abbrev pub kept_at : List Entry → List Interval → Option Interval → List Locus
 kept_at entries records None = []
-kept_at entries records (Some last) = record { chrom = last.chrom; start = min (end_of (spans_on last.chrom records)) (length_in entries last.chrom) } ∷ []
+kept_at entries records (Some last) =
+    record {
+      chrom = last.chrom;
+      start = min (end_of (spans_on last.chrom records)) (length_in entries last.chrom);
+    } ∷ []
 
 unfoldable pub kept_place : List Entry → List Feature → List Locus
 kept_place entries records = kept_at entries (intervals_of records) (last_of (intervals_of records))
 
--- records that a complement or a coverage may take: they are in the order of the genome file, which has each chromosome once, and each has a base
+-- records that a complement or a coverage may take: they are in the order of the genome file, which
+-- has each chromosome once, and each has a base
 pub record AreTaken (entries : List Entry) (records : List Feature) : Type 0 where
   pub distinct : AreDistinct (genome_names entries)
   pub placed : ArePlaced (rank_order (genome_names entries)) (intervals_of records)
@@ -78,12 +97,21 @@ pub record AreTaken (entries : List Entry) (records : List Feature) : Type 0 whe
 
 -- what is settled begins what is settled later
 abbrev pub settled_gaps_stay : Type 0
-settled_gaps_stay = (limit : Bool) (entries : List Entry) (past more : List Feature) → AreTaken entries (past ++ more) → (rest : List Interval) × (settled_gaps limit entries (past ++ more) ≡ settled_gaps limit entries past ++ rest)
+settled_gaps_stay =
+    (limit : Bool) (entries : List Entry) (past more : List Feature)
+    → AreTaken entries (past ++ more)
+    → (rest : List Interval) × (settled_gaps limit entries (past ++ more)
+    ≡ settled_gaps limit entries past ++ rest)
 
 -- and the whole output
 abbrev pub settled_gaps_begin : Type 0
-settled_gaps_begin = (limit : Bool) (entries : List Entry) (past more : List Feature) → AreTaken entries (past ++ more) → (rest : List Interval) × (complement limit entries (past ++ more) ≡ settled_gaps limit entries past ++ rest)
+settled_gaps_begin =
+    (limit : Bool) (entries : List Entry) (past more : List Feature)
+    → AreTaken entries (past ++ more)
+    → (rest : List Interval) × (complement limit entries (past ++ more)
+    ≡ settled_gaps limit entries past ++ rest)
 
 -- one place at most is kept
 abbrev pub one_place_is_kept : Type 0
-one_place_is_kept = (entries : List Entry) (records : List Feature) → length (kept_place entries records) ≤ 1
+one_place_is_kept =
+    (entries : List Entry) (records : List Feature) → length (kept_place entries records) ≤ 1

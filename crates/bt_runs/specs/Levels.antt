@@ -1,5 +1,8 @@
--- Positions of one chromosome of which some have a value, and the one list of intervals of equal value that they make up. A set of positions is the case of one value (see `stretches_are_levels`).
-use Rattle.std.specs.Prelude.{◌≡◌, ℕ, zero, suc, ◌+◌, ◌<◌, ◌≤◌, Bool, true, false, cond, ◌⊎◌, ⊤, IsTrue, List, [], ◌∷◌, ◌++◌, map, ◌==◌, Option, Some, None}
+-- Positions of one chromosome of which some have a value, and the one list of intervals of equal
+-- value that they make up. A set of positions is the case of one
+-- value (see `stretches_are_levels`).
+use Rattle.std.specs.Prelude.{◌≡◌, ℕ, zero, suc, ◌+◌, ◌<◌, ◌≤◌, Bool, true, false, cond, ◌⊎◌, ⊤}
+use Rattle.std.specs.Prelude.{IsTrue, List, [], ◌∷◌, ◌++◌, map, ◌==◌, Option, Some, None}
 use Rattle.bt_bed.specs.Interval.{Span}
 use Rattle.bt_bed.specs.Stretches.{AreStretchesOf}
 
@@ -19,10 +22,12 @@ abbrev pub DiffersFromNext : Level → List Level → Type 0
 DiffersFromNext l [] = ⊤
 DiffersFromNext l (m ∷ ms) = l.stop ≡ m.start → l.value ≡ m.value → ⊥
 
--- ascending and disjoint, from a first position on: none is empty, and two that touch differ in value
+-- ascending and disjoint, from a first position on: none is empty,
+-- and two that touch differ in value
 abbrev pub AreDisjointFrom : ℕ → List Level → Type 0
 AreDisjointFrom first [] = ⊤
-AreDisjointFrom first (l ∷ ls) = (first ≤ l.start) × (l.start < l.stop) × DiffersFromNext l ls × AreDisjointFrom l.stop ls
+AreDisjointFrom first (l ∷ ls) =
+    (first ≤ l.start) × (l.start < l.stop) × DiffersFromNext l ls × AreDisjointFrom l.stop ls
 
 -- the list of intervals that the values of the positions below a length make up
 pub record AreLevelsOf (value : ℕ → Option ℕ) (size : ℕ) (levels : List Level) : Type 0 where
@@ -62,15 +67,19 @@ next_ended p value begun = cond (goes_on begun value) [] (ended_at begun p)
 -- what has begun after n positions from the first on, and what ended at one of them
 unfoldable pub begun_after : (ℕ → Option ℕ) → ℕ → ℕ → Option Begun → Option Begun
 begun_after value first zero begun = begun
-begun_after value first (suc n) begun = begun_after value (first + 1) n (next_begun first (value first) begun)
+begun_after value first (suc n) begun =
+    begun_after value (first + 1) n (next_begun first (value first) begun)
 
 unfoldable pub ended_after : (ℕ → Option ℕ) → ℕ → ℕ → Option Begun → List Level
 ended_after value first zero begun = []
-ended_after value first (suc n) begun = next_ended first (value first) begun ++ ended_after value (first + 1) n (next_begun first (value first) begun)
+ended_after value first (suc n) begun =
+    next_ended first (value first) begun
+    ++ ended_after value (first + 1) n (next_begun first (value first) begun)
 
 -- the intervals that end within n positions from the first on, and the one that reaches their end
 abbrev pub levels_from : (ℕ → Option ℕ) → ℕ → ℕ → Option Begun → List Level
-levels_from value first n begun = ended_after value first n begun ++ ended_at (begun_after value first n begun) (first + n)
+levels_from value first n begun =
+    ended_after value first n begun ++ ended_at (begun_after value first n begun) (first + n)
 
 -- the intervals of equal value of a chromosome of this length
 abbrev pub levels_of : (ℕ → Option ℕ) → ℕ → List Level
@@ -82,7 +91,9 @@ levels_are = (value : ℕ → Option ℕ) (size : ℕ) → AreLevelsOf value siz
 
 -- no other list is
 abbrev pub levels_only : Type 0
-levels_only = (value : ℕ → Option ℕ) (size : ℕ) (levels : List Level) → AreLevelsOf value size levels → levels ≡ levels_of value size
+levels_only =
+    (value : ℕ → Option ℕ) (size : ℕ) (levels : List Level) → AreLevelsOf value size levels
+    → levels ≡ levels_of value size
 
 -- a span whose positions have a value
 abbrev pub level_on : ℕ → Span → Level
@@ -90,4 +101,7 @@ level_on value span = record { start = span.start; stop = span.stop; value = val
 
 -- the stretches of a set of positions are the intervals of those that have one value
 abbrev pub stretches_are_levels : Type 0
-stretches_are_levels = (test : ℕ → Bool) (size : ℕ) (spans : List Span) → AreStretchesOf (λ p. (p < size) × IsTrue (test p)) spans → map (level_on 0) spans ≡ levels_of (λ p. cond (test p) (Some 0) None) size
+stretches_are_levels =
+    (test : ℕ → Bool) (size : ℕ) (spans : List Span)
+    → AreStretchesOf (λ p. (p < size) × IsTrue (test p)) spans
+    → map (level_on 0) spans ≡ levels_of (λ p. cond (test p) (Some 0) None) size

@@ -5,6 +5,7 @@ pub mod Merged
 pub mod Counted
 pub mod MergedRuns
 pub mod StrandRuns
+pub mod StrandOrder
 pub mod StrandStep
 pub mod Waiting
 pub mod Stranding
@@ -24,4 +25,6 @@ pub mod DepthStep
 pub mod OpenRecords
 pub mod CountSeen
 pub mod Covering
+pub mod CoveredLevels
 pub mod PlainLevels
+pub mod PlainStrands

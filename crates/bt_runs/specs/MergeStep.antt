@@ -25,4 +25,7 @@ left_by gap runs r = filter (λ run. not (is_passed gap r run)) runs
 
 -- the runs that are kept after the record, which is added where it counts
 abbrev pub kept_by : ℕ → MergeStrand → List Interval → Feature → List Interval
-kept_by gap strand runs feature = cond (is_counted strand feature.strand) (with_record (left_by gap runs (interval_of feature)) (interval_of feature)) (left_by gap runs (interval_of feature))
+kept_by gap strand runs feature =
+    cond (is_counted strand feature.strand)
+    (with_record (left_by gap runs (interval_of feature)) (interval_of feature))
+    (left_by gap runs (interval_of feature))

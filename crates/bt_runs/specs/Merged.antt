@@ -1,5 +1,7 @@
--- What `bedtools merge` gives: overlapping and touching features become one, and with -d also those up to a gap apart (bedtools manual, merge).
-use Rattle.std.specs.Prelude.{◌≡◌, ℕ, zero, suc, ◌+◌, ◌-◌, ◌≤◌, Bool, false, not, ◌&&◌, ◌||◌, List, [], ◌∷◌, map, filter, flat_map, max, nat_le, nat_lt, bytes_eq}
+-- What `bedtools merge` gives: overlapping and touching features become one, and with -d also those
+-- up to a gap apart (bedtools manual, merge).
+use Rattle.std.specs.Prelude.{◌≡◌, ℕ, zero, suc, ◌+◌, ◌-◌, ◌≤◌, Bool, false, not, ◌&&◌, ◌||◌, List}
+use Rattle.std.specs.Prelude.{[], ◌∷◌, map, filter, flat_map, max, nat_le, nat_lt, bytes_eq}
 use Rattle.bt_bed.specs.Interval.{Interval, Span, spans_on, placed_on}
 use Rattle.bt_bed.specs.Stretches.{IsCovered, AreStretchesOf, stretches_from}
 
@@ -23,9 +25,12 @@ abbrev pub is_covered : List Span → ℕ → Bool
 is_covered [] p = false
 is_covered (s ∷ ss) p = (nat_le s.start p && nat_lt p s.stop) || is_covered ss p
 
--- whether the position is bridged: some covered position up to it has a covered position near it, at or past the position
+-- whether the position is bridged: some covered position up to it has a covered position near it,
+-- at or past the position
 unfoldable pub is_bridged : ℕ → List Span → ℕ → Bool
-is_bridged gap spans p = some_below (p + 1) (λ left. is_covered spans left && some_below (left + gap + 2) (λ right. is_covered spans right && nat_le p right))
+is_bridged gap spans p =
+    some_below (p + 1) (λ left. is_covered spans left
+    && some_below (left + gap + 2) (λ right. is_covered spans right && nat_le p right))
 
 -- the greatest stop
 abbrev pub end_of : List Span → ℕ
@@ -42,7 +47,9 @@ runs_are = (gap : ℕ) (spans : List Span) → AreStretchesOf (Bridged gap spans
 
 -- no other list is
 abbrev pub runs_only : Type 0
-runs_only = (gap : ℕ) (spans runs : List Span) → AreStretchesOf (Bridged gap spans) runs → runs ≡ runs_of gap spans
+runs_only =
+    (gap : ℕ) (spans runs : List Span) → AreStretchesOf (Bridged gap spans) runs
+    → runs ≡ runs_of gap spans
 
 -- the merged runs on the chromosome of this name
 abbrev pub runs_on : List ℕ → ℕ → List Interval → List Interval

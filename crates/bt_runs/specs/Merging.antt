@@ -1,5 +1,6 @@
--- What a merge holds after the records of the past: with one set of records one open run, and with each strand by itself the runs that wait.
-use Rattle.std.specs.Prelude.{◌≡◌, ℕ, List, [], Option, None, Result}
+-- What a merge holds after the records of the past: with one set of records one open run, and with
+-- each strand by itself the runs that wait.
+use Rattle.std.specs.Prelude.{ℕ, List, [], Option, None, Result}
 use Rattle.bt_lines.specs.Fault.{Told}
 use Rattle.bt_lines.specs.declared.fault.Fault.{Fault}
 use Rattle.bt_bed.specs.Feature.{Feature}
@@ -22,7 +23,8 @@ pub data Merging : Type 0 where
 abbrev pub merge_begun : ℕ → MergeStrand → Merging
 merge_begun gap Each = Apart (record { gap = gap; kept = []; fault = None })
 merge_begun gap All = Together (record { gap = gap; strand = All; kept = []; fault = None })
-merge_begun gap (One strand) = Together (record { gap = gap; strand = One strand; kept = []; fault = None })
+merge_begun gap (One strand) =
+    Together (record { gap = gap; strand = One strand; kept = []; fault = None })
 
 -- the records that may be taken
 abbrev pub may_take : Merging → List Feature → Type 0
@@ -35,9 +37,9 @@ stands_after (Apart first) past (Apart now) = strands.stands_after first past no
 stands_after (Together first) past (Apart now) = ⊥
 stands_after (Apart first) past (Together now) = ⊥
 
--- one that has taken no record stands so
+-- a merge with this gap and these strands stands after no record
 abbrev pub StandsNew : ℕ → MergeStrand → Merging → Type 0
-StandsNew gap strand merge = stands_after merge [] merge
+StandsNew gap strand merge = stands_after (merge_begun gap strand) [] merge
 
 -- the fault that it answered, if one
 abbrev pub kept_fault : Merging → Option Told
@@ -74,7 +76,8 @@ abbrev pub IsForRun : {A : Type 0} → Merging → Feature → Result A Fault �
 IsForRun (Together old) r result = pooled_taking.IsForRun old r result
 IsForRun (Apart old) r result = taking.IsForRun old r result
 
--- the runs of all records, as options -s and -S of `bedtools merge` ask for them, and those that the records settle
+-- the runs of all records, as options -s and -S of `bedtools merge` ask for them,
+-- and those that the records settle
 abbrev pub listed_runs : ℕ → MergeStrand → List Feature → List Interval
 listed_runs gap Each records = places_of (strand_runs gap records)
 listed_runs gap All records = merged_runs gap All records

@@ -1,5 +1,5 @@
 -- The records that are open at a position of a chromosome, and how the code keeps them.
-use Rattle.std.specs.Prelude.{◌≡◌, ℕ, ◌<◌, ◌≤◌, ◌&&◌, Bool, nat_le}
+use Rattle.std.specs.Prelude.{◌≡◌, ℕ, ◌*◌, ◌<◌, ◌≤◌, ◌&&◌, Bool, nat_le}
 use Rattle.std.specs.Prelude.{List, [], ◌∷◌, ◌++◌, All, filter, length, map}
 use Rattle.bt_bed.specs.Interval.{Span}
 use Rattle.bt_runs.specs.DepthStep.{opened, still_open}
@@ -57,8 +57,9 @@ abbrev pub StartsBelow : ℕ → List ℕ → Type 0
 StartsBelow position [] = ⊥
 StartsBelow position (e ∷ es) = e < position
 
--- what is kept at a position: spans that start there or before, of which some may have ended, and
--- the ends of the others
+-- what is kept at a position: spans that start there or before, of which at most half have ended,
+-- and the ends of the others
 pub record KeepsOpen (at : ℕ) (spans : List Span) (ends : List ℕ) : Type 0 where
   pub started : All (λ s. s.start ≤ at) spans
   pub counts : CountsEnds ends (still_open at spans)
+  pub few : length spans ≤ 2 * length ends

@@ -19,9 +19,12 @@ pub record HasRight (gap : ℕ) (spans : List Span) (left p : ℕ) : Type 0 wher
   pub to_right : p ≤ right
   pub near : right - left ≤ gap + 1
 
--- the first span and the others, with the next position: it belongs to the last of them where that ends there
+-- the first span and the others, with the next position:
+-- it belongs to the last of them where that ends there
 abbrev pub with_next_after : Span → List Span → ℕ → List Span
-with_next_after s [] p = cond (s.stop == p) (record { start = s.start; stop = p + 1 } ∷ []) (s ∷ record { start = p; stop = p + 1 } ∷ [])
+with_next_after s [] p =
+    cond (s.stop == p) (record { start = s.start; stop = p + 1 } ∷ [])
+    (s ∷ record { start = p; stop = p + 1 } ∷ [])
 with_next_after s (t ∷ ts) p = s ∷ with_next_after t ts p
 
 -- the spans with the next position

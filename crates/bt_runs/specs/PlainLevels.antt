@@ -11,9 +11,13 @@ level_in d = record { start = d.start; stop = d.stop; value = d.depth }
 abbrev pub levels_in : List PlainDepth → List Level
 levels_in depths = map level_in depths
 
--- the first interval and the others, with the next position: it belongs to the last of them where that ends there and has its value
+-- the first interval and the others, with the next position: it belongs to the last of them where
+-- that ends there and has its value
 abbrev pub with_value_after : Level → List Level → ℕ → ℕ → List Level
-with_value_after l [] p value = cond (l.stop == p && l.value == value) (record { start = l.start; stop = p + 1; value = value } ∷ []) (l ∷ record { start = p; stop = p + 1; value = value } ∷ [])
+with_value_after l [] p value =
+    cond (l.stop == p && l.value == value)
+    (record { start = l.start; stop = p + 1; value = value } ∷ [])
+    (l ∷ record { start = p; stop = p + 1; value = value } ∷ [])
 with_value_after l (m ∷ ms) p value = l ∷ with_value_after m ms p value
 
 -- the intervals with the next position

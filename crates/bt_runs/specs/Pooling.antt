@@ -8,8 +8,8 @@ use Rattle.bt_runs.specs.Engine.{IsQuiet}
 use Rattle.bt_runs.specs.MergedRuns.{AreTaken, kept_runs, merged_runs, settled_runs}
 use Rattle.bt_runs.specs.declared.merge_strand.MergeStrand.{MergeStrand}
 
--- a merge as its callers see it: the gap that it bridges, the records that it counts, the run that it
--- keeps, if there is one, and the fault that it answered
+-- a merge as its callers see it: the gap that it bridges, the records that it counts, the run that
+-- it keeps, if there is one, and the fault that it answered
 pub record Pooling : Type 0 where
   pub gap : ℕ
   pub strand : MergeStrand
@@ -17,7 +17,8 @@ pub record Pooling : Type 0 where
   pub fault : Option Told
 
 -- the merge has taken the records of the past, and answered no fault
-pub record StandsAfter (gap : ℕ) (strand : MergeStrand) (past : List Feature) (merge : Pooling) : Type 0 where
+pub record StandsAfter (gap : ℕ) (strand : MergeStrand) (past : List Feature)
+    (merge : Pooling) : Type 0 where
   pub same_gap : merge.gap ≡ gap
   pub same_strand : merge.strand ≡ strand
   pub kept : merge.kept ≡ kept_runs gap strand past

@@ -1,5 +1,6 @@
 -- What one more record does to the runs of several strands that a merge keeps.
-use Rattle.std.specs.Prelude.{◌≡◌, ℕ, ◌+◌, suc, Bool, not, cond, ◌&&◌, List, [], ◌∷◌, ◌++◌, drop, get_or, length, set, Option, Some, None}
+use Rattle.std.specs.Prelude.{◌≡◌, ℕ, ◌+◌, suc, Bool, not, cond, ◌&&◌, List, [], ◌∷◌, ◌++◌, drop}
+use Rattle.std.specs.Prelude.{get_or, length, set, Option, Some, None}
 use Rattle.std.specs.List.{prefix_len, take_while}
 use Rattle.bt_bed.specs.Feature.{Feature, interval_of}
 use Rattle.bt_bed.specs.Interval.{Interval}
@@ -24,7 +25,8 @@ run_from r = record { strand = r.strand; run = interval_of r }
 abbrev pub run_with : Feature → StrandRun → StrandRun
 run_with r item = record { strand = item.strand; run = joined_run item.run (interval_of r) }
 
--- the place of the last element that passes, from whether the first does and the place among the others
+-- the place of the last element that passes,
+-- from whether the first does and the place among the others
 abbrev pub place_among : Bool → Option ℕ → Option ℕ
 place_among first (Some place) = Some (suc place)
 place_among first None = cond first (Some 0) None
@@ -34,16 +36,19 @@ abbrev pub last_place : {A : Type 0} → (A → Bool) → List A → Option ℕ
 last_place test [] = None
 last_place test (x ∷ xs) = place_among (test x) (last_place test xs)
 
--- the runs with the record, where the last run of its strand stands at this place: joined to that run, if it hasn't passed it, and else as the last one
+-- the runs with the record, where the last run of its strand stands at this place: joined to that
+-- run, if it hasn't passed it, and else as the last one
 abbrev pub added_at : ℕ → List StrandRun → Feature → Option ℕ → List StrandRun
 added_at gap items r None = items ++ run_from r ∷ []
-added_at gap items r (Some place) = cond (is_passed gap (interval_of r) (get_or items place (run_from r)).run)
+added_at gap items r (Some place) =
+    cond (is_passed gap (interval_of r) (get_or items place (run_from r)).run)
     (items ++ run_from r ∷ [])
     (set items place (run_with r (get_or items place (run_from r))))
 
 -- the runs with the record
 abbrev pub with_added : ℕ → List StrandRun → Feature → List StrandRun
-with_added gap items r = added_at gap items r (last_place (λ item. is_strand item.strand r.strand) items)
+with_added gap items r =
+    added_at gap items r (last_place (λ item. is_strand item.strand r.strand) items)
 
 -- the runs that are kept after the record
 abbrev pub kept_with : ℕ → List StrandRun → Feature → List StrandRun

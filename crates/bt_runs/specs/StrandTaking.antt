@@ -17,7 +17,9 @@ lines_by merge r = strand_lines (front_settled merge.gap merge.kept r)
 
 -- a run has to be opened: of the runs that stay, the record is joined to none
 abbrev pub OpensRun : Stranding → Feature → Type 0
-OpensRun old r = with_added old.gap (behind_settled old.gap old.kept r) r ≡ behind_settled old.gap old.kept r ++ run_from r ∷ []
+OpensRun old r =
+    with_added old.gap (behind_settled old.gap old.kept r) r
+    ≡ behind_settled old.gap old.kept r ++ run_from r ∷ []
 
 -- where memory ran out for the first time, a run had to be opened
 abbrev pub IsForRun : {A : Type 0} → Stranding → Feature → Result A Fault → Type 0
@@ -43,7 +45,8 @@ module _ (old : Stranding) (r : Feature) (out : Output) (new : Stranding) (grown
     pub puts : Grown out (lines_by old r) grown
 
 -- what one more record does
-abbrev pub TakesNext : {A : Type 0} → Stranding → Feature → Output → Result A Failure → Stranding → Output → Type 0
+abbrev pub TakesNext : {A : Type 0} → Stranding → Feature → Output → Result A Failure → Stranding
+    → Output → Type 0
 TakesNext old r out (Ok done) new grown = Takes old r out new grown
 TakesNext old r out (Err Write) new grown = FailsToSettle old r out new grown
 TakesNext old r out (Err Memory) new grown = FailsToKeep old r out new grown

@@ -5,7 +5,8 @@ use Rattle.bt_bed.specs.Feature.{Feature}
 use Rattle.bt_bed.specs.IntervalLine.{interval_lines}
 use Rattle.bt_runs.specs.Engine.{IsQuiet}
 use Rattle.bt_runs.specs.MergedRuns.{AreTaken}
-use Rattle.bt_runs.specs.StrandRuns.{StrandRun, kept_strand_runs, places_of, settled_strand_runs, strand_runs}
+use Rattle.bt_runs.specs.StrandRuns.{StrandRun, kept_strand_runs, places_of, settled_strand_runs}
+use Rattle.bt_runs.specs.StrandRuns.{strand_runs}
 
 -- the gap that it bridges, the runs that it keeps, and the fault that it answered
 pub record Stranding : Type 0 where

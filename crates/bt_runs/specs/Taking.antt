@@ -53,17 +53,20 @@ module _ (old : Pooling) (feature : Feature) (out : Output) (new : Pooling) (gro
     pub puts : Grown out (lines_by old feature) grown
 
 -- what one more record does
-abbrev pub TakesNext : {A : Type 0} → Pooling → Feature → Output → Result A Failure → Pooling → Output → Type 0
+abbrev pub TakesNext : {A : Type 0} → Pooling → Feature → Output → Result A Failure → Pooling
+    → Output → Type 0
 TakesNext old feature out (Ok done) new grown = Takes old feature out new grown
 TakesNext old feature out (Err Write) new grown = FailsToSettle old feature out new grown
 TakesNext old feature out (Err Memory) new grown = FailsToKeep old feature out new grown
 
 -- the runs that the record has passed were written, and are kept no longer
-pub record ClosesRuns (old : Pooling) (feature : Feature) (out : Output) (new : Pooling) (grown : Output) : Type 0 where
+pub record ClosesRuns (old : Pooling) (feature : Feature) (out : Output) (new : Pooling)
+    (grown : Output) : Type 0 where
   pub left : new ≡ record old { kept = left_by old.gap old.kept (interval_of feature) }
   pub puts : Grown out (lines_by old feature) grown
 
 -- what the writing of the settled runs does
-abbrev pub SettlesRuns : {A : Type 0} {E : Type 0} → Pooling → Feature → Output → Result A E → Pooling → Output → Type 0
+abbrev pub SettlesRuns : {A : Type 0} {E : Type 0} → Pooling → Feature → Output → Result A E
+    → Pooling → Output → Type 0
 SettlesRuns old feature out (Ok done) new grown = ClosesRuns old feature out new grown
 SettlesRuns old feature out (Err fault) new grown = FailsToSettle old feature out new grown

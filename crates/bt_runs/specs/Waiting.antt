@@ -1,5 +1,7 @@
--- The runs that wait, without their chromosome: where the last one of each strand stands, and how one more record is joined to it.
-use Rattle.std.specs.Prelude.{◌≡◌, ℕ, zero, suc, Bool, true, false, not, cond, ◌||◌, List, [], ◌∷◌, drop, length, map, max, set, Option, Some, None, nat_lt}
+-- The runs that wait, without their chromosome: where the last one of each strand stands, and how
+-- one more record is joined to it.
+use Rattle.std.specs.Prelude.{◌≡◌, ℕ, zero, suc, Bool, true, false, not, cond, ◌||◌, List, [], ◌∷◌}
+use Rattle.std.specs.Prelude.{drop, length, map, max, set, Option, Some, None, nat_lt}
 use Rattle.std.specs.List.{slice_get, take_while}
 use Rattle.bt_bed.specs.Feature.{Feature}
 use Rattle.bt_bed.specs.declared.strand.Strand.{Strand}
@@ -28,10 +30,12 @@ place_behind (Some (suc place)) = Some place
 abbrev pub lengthened : ℕ → Waiting → Waiting
 lengthened stop run = record { strand = run.strand; start = run.start; stop = max run.stop stop }
 
--- whether a record is joined to the run at a place, which must not end below `reach`, and the runs with it
+-- whether a record is joined to the run at a place, which must not end below `reach`,
+-- and the runs with it
 abbrev pub joined_here : ℕ → ℕ → List Waiting → ℕ → Option Waiting → Bool × List Waiting
 joined_here reach stop runs place None = (false, runs)
-joined_here reach stop runs place (Some run) = cond (nat_lt run.stop reach) (false, runs) (true, set runs place (lengthened stop run))
+joined_here reach stop runs place (Some run) =
+    cond (nat_lt run.stop reach) (false, runs) (true, set runs place (lengthened stop run))
 
 abbrev pub with_joined : ℕ → ℕ → List Waiting → Option ℕ → Bool × List Waiting
 with_joined reach stop runs None = (false, runs)
@@ -39,12 +43,17 @@ with_joined reach stop runs (Some place) = joined_here reach stop runs place (sl
 
 -- a run on the chromosome of this name
 abbrev pub placed_run : List ℕ → Waiting → StrandRun
-placed_run chrom run = record { strand = run.strand; run = record { chrom = chrom; start = run.start; stop = run.stop } }
+placed_run chrom run =
+    record {
+      strand = run.strand;
+      run = record { chrom = chrom; start = run.start; stop = run.stop };
+    }
 
 abbrev pub placed_runs : List ℕ → List Waiting → List StrandRun
 placed_runs chrom runs = map (placed_run chrom) runs
 
--- the first runs that are passed: all, where the record lies elsewhere, and else those that end below `reach`
+-- the first runs that are passed: all, where the record lies elsewhere,
+-- and else those that end below `reach`
 abbrev pub passed_runs : Bool → ℕ → List Waiting → List Waiting
 passed_runs here reach runs = take_while (λ (w : Waiting). not here || nat_lt w.stop reach) runs
 

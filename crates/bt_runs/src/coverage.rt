@@ -1,11 +1,11 @@
 //! The engine of `bedtools genomecov -bg`: the records that are open, and the interval that isn't ended.
 
-ghost use Rattle.std.specs.Prelude.{◌≡◌, false, ◌<◌, ◌≤◌, ℕ, List, [], length, flat_map, min, slice_range, Option, Some, None, Ok, Err, IfOk, OnOk};
+ghost use Rattle.std.specs.Prelude.{◌≡◌, false, true, ◌<◌, ◌≤◌, ℕ, List, [], length, flat_map, min, slice_range, Option, Some, None, Ok, Err, IfOk, OnErr, OnOk};
 ghost use Rattle.bt_bed.specs.Bed.{feature_lent};
 ghost use Rattle.bt_bed.specs.GenomeTable.{entries};
 ghost use Rattle.bt_lines.specs.Putting.{Adds};
 ghost use Rattle.bt_runs.specs.CountSeen.{known_seen, place_seen};
-ghost use Rattle.bt_runs.specs.Covering.{AdvanceAnswers, AreReached, StandsAfter, held_count, is_quiet, kept_fault, may_take, seen, settled_known, settled_lines, stands_after, whole_output};
+ghost use Rattle.bt_runs.specs.Covering.{AdvanceAnswers, AreReached, HasToKeep, IsForRecord, IsToKeep, OnWant, StandsAfter, held_count, is_quiet, kept_fault, may_take, seen, settled_known, settled_lines, stands_after, whole_output};
 ghost use Rattle.bt_runs.specs.Depth.{depth_lines, is_counted_by};
 ghost use Rattle.bt_runs.specs.DepthStep.{IsPlaced, bare_of, bares_of, count_step, counting, is_here, left_before, left_of, levels_by, levels_left, levels_on, reached};
 ghost use Rattle.bt_runs.specs.Engine.{Feeds, KeepsHeld};
@@ -23,16 +23,22 @@ use std::alloc::{AllocError, Global};
 use std::marker::Model;
 
 /// The intervals of equal depth of each chromosome, in the order of a genome file, with their depths.
-/// It keeps the counted records that end at the last start or past it, and one unfinished interval. An
-/// interval is written once a record starts past its end, or on a later chromosome. A record on a
+/// It keeps the counted records that end at the last start or past it, with at most as many that ended
+/// before, and one unfinished interval. An interval is written once a record starts past its end, or on a later chromosome. A record on a
 /// chromosome that the genome file doesn't have is passed over.
 #[derive(Drop, Debug)]
 pub struct Coverage<'g> {
+    // Its chromosomes are those that are written.
     genome: &'g Genome,
+    // Whether depth 0 is written.
     zeros: bool,
+    // The strand that is counted; `None` where all records are.
     strand: Option<Strand>,
+    // `None` before the first record on a chromosome of the genome file.
     current: Option<Reached>,
+    // Those of the current chromosome; none are held before it.
     held: OpenRecords,
+    // The first failure, which is answered from then on.
     failure: Option<Failure>,
 }
 
@@ -96,7 +102,13 @@ impl Engine for Coverage<'_> {
 
     ghost quiet = { is_quiet };
 
-    fn feed<K: Sink>(&mut self, bed: &BedRef<'_>, out: &mut Out<K>) -> Result<(), Fault> {
+    /// `NoMemory` is answered only where the record has to be kept: it is counted, and starts below its
+    /// chromosome's length.
+    fn feed<K: Sink>(&mut self, bed: &BedRef<'_>, out: &mut Out<K>) -> Result<(), Fault>
+        ensures feeds { Feeds may_take stands_after kept_fault settled_lines self.old
+            (feature_lent bed.now) out.old is_quiet result self.new out.new }
+        ensures memory { IsForRecord self.old (feature_lent bed.now) result }
+    {
         if let Some(failure) = self.failure {
             return Err(failure.fault());
         }
@@ -135,7 +147,7 @@ impl Engine for Coverage<'_> {
         }
     }
 
-    /// How many records it keeps.
+    /// How many counted records end at the last start or past it.
     fn kept_len(&self) -> usize
         ensures list { result ≡ length self.now.kept }
         ensures held { KeepsHeld may_take stands_after self.now held_count result }
@@ -155,7 +167,8 @@ fn advance<K: Sink>(
     out: &mut Out<K>,
 ) -> Result<Option<Reached>, Failure>
     requires { AreReached (entries genome.now) current }
-    ensures { AdvanceAnswers (count_step zeros strand (entries genome.now) (seen current held.old) (feature_lent bed.now)) (entries genome.now) result held.new out.old out.new }
+    ensures steps { AdvanceAnswers (count_step zeros strand (entries genome.now) (seen current held.old) (feature_lent bed.now)) (entries genome.now) result held.new out.old out.new }
+    ensures memory { OnWant (HasToKeep (entries genome.now) strand (feature_lent bed.now)) result }
 {
     if let Some(reached) = current {
         if genome.name(reached.rank) == bed.chrom {
@@ -178,7 +191,8 @@ fn begin<K: Sink>(
 ) -> Result<Option<Reached>, Failure>
     requires at { AreReached (entries genome.now) current }
     requires elsewhere { is_here (entries genome.now) (seen current held.now) bed.now.chrom.now ≡ false }
-    ensures { AdvanceAnswers (count_step zeros strand (entries genome.now) (seen current held.old) (feature_lent bed.now)) (entries genome.now) result held.new out.old out.new }
+    ensures steps { AdvanceAnswers (count_step zeros strand (entries genome.now) (seen current held.old) (feature_lent bed.now)) (entries genome.now) result held.new out.old out.new }
+    ensures memory { OnWant (HasToKeep (entries genome.now) strand (feature_lent bed.now)) result }
 {
     let Some(rank) = genome.rank(bed.chrom) else {
         return Ok(current);
@@ -205,7 +219,9 @@ fn count<K: Sink>(
     out: &mut Out<K>,
 ) -> Result<Option<Reached>, Failure>
     requires { IsPlaced (entries genome.now) reached.rank }
-    ensures { AdvanceAnswers (Some (counting zeros strand (entries genome.now) (place_seen reached held.old) (feature_lent bed.now)).0, (counting zeros strand (entries genome.now) (place_seen reached held.old) (feature_lent bed.now)).1) (entries genome.now) result held.new out.old out.new }
+    ensures steps { AdvanceAnswers (Some (counting zeros strand (entries genome.now) (place_seen reached held.old) (feature_lent bed.now)).0, (counting zeros strand (entries genome.now) (place_seen reached held.old) (feature_lent bed.now)).1) (entries genome.now) result held.new out.old out.new }
+    ensures memory { OnWant (IsToKeep (entry_at (entries genome.now) reached.rank).length strand
+        (feature_lent bed.now)) result }
 {
     let length = genome.length(reached.rank);
     let chrom = genome.name(reached.rank);
@@ -258,7 +274,8 @@ fn settle<K: Sink>(
 
 // Adds a counted record that starts below the chromosome's length, cut there.
 fn hold(held: &mut OpenRecords, counted: bool, length: u64, stop: u64) -> Result<(), AllocError>
-    ensures { OnOk result (held.new ≡ open_with counted length stop held.old) }
+    ensures held { OnOk result (held.new ≡ open_with counted length stop held.old) }
+    ensures memory { OnErr result ((counted ≡ true) × (held.old.at < length)) }
 {
     if counted && held.at() < length {
         return held.push(stop.min(length));

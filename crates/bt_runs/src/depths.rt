@@ -15,7 +15,9 @@ use bt_lines::{Fault, Out, Sink};
 // An interval of one depth that isn't ended.
 #[derive(Clone, Copy, Debug)]
 pub(crate) struct Stretch {
+    // Below the position up to which depths are known.
     pub(crate) start: u64,
+    // That of each of its positions; 0 only where depth 0 is written.
     pub(crate) depth: u64,
 }
 
@@ -23,7 +25,9 @@ pub(crate) struct Stretch {
 // are known.
 #[derive(Clone, Copy, Debug)]
 pub(crate) struct Reached {
+    // A rank of the genome file.
     pub(crate) rank: usize,
+    // `None` at position 0, past the chromosome's length, and at depth 0 where that isn't written.
     pub(crate) begun: Option<Stretch>,
 }
 

@@ -14,7 +14,7 @@ pub(crate) enum Failure {
 }
 
 impl Failure {
-    // The fault that tells it.
+    // The fault that reports it.
     pub(crate) fn fault(self) -> Fault
         ensures { told result ≡ fault_of self }
     {

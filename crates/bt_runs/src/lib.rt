@@ -3,15 +3,22 @@
 //! Each is an [`Engine`]: it is fed one record after another, and writes each line of its output as
 //! soon as no later record can change it.
 //!
-//! An example, as the test `worked_rows` of `merge` runs many: of the records `chr1 100 200`,
-//! `chr1 180 250` and `chr1 501 1000` the third settles the run of the first two.
+//! An example, which is the test in `example.rt`: two records, merged.
 //!
 //! ```text
-//! let mut merge = Merge::new(rt.alloc(), 0, MergeStrand::All);
-//! merge.feed(&first, &mut out)     // opens the run from 100 to 200
-//! merge.feed(&second, &mut out)    // which now goes to 250
-//! merge.feed(&third, &mut out)     // puts `chr1 100 250` and opens another
-//! merge.finish(&mut out)           // puts `chr1 501 1000`
+//! fn merged_records(rt: HostRuntime) -> Result<(), Fail> {
+//!     // Features that overlap or touch, of all strands.
+//!     let mut merge = Merge::new(rt.alloc(), 0, MergeStrand::All);
+//!     let mut out = Out::new(ScriptSink::new(rt.alloc(), 7, None));
+//!     let first = parse_bed(b"chr1\t100\t200")?.ok_or("a record")?;
+//!     let second = parse_bed(b"chr1\t180\t250\tname")?.ok_or("a record")?;
+//!     merge.feed(&first, &mut out)?;
+//!     merge.feed(&second, &mut out)?;
+//!     merge.finish(&mut out)?;
+//!     out.flush()?;
+//!     assert_eq!(rt; out.into_sink().taken(), b"chr1\t100\t250\n".as_slice());
+//!     Ok(())
+//! }
 //! ```
 #![tactic(auto)]
 
@@ -22,15 +29,20 @@ pub mod depth_laws;
 mod depth_line;
 mod depths;
 mod engine;
+#[cfg(test)]
+mod example;
 mod failure;
 pub mod laws;
+pub mod level_laws;
 mod merge;
 mod merge_strand;
 mod open_records;
 pub mod plain;
 pub mod plain_depths;
 pub mod plain_gaps;
+pub mod plain_strands;
 mod pooled;
+pub mod strand_laws;
 mod stranded;
 mod waiting;
 

@@ -1,29 +1,35 @@
 //! The counted records that are open at a position of a chromosome.
 
-ghost use Rattle.std.specs.Prelude.{◌≡◌, ◌≤◌, ℕ, List, [], ◌∷◌, ◌++◌, All, MatchBool, OnOk, length, max};
+ghost use Rattle.std.specs.Prelude.{◌≡◌, ◌≤◌, ◌<◌, ◌*◌, ℕ, List, [], ◌∷◌, ◌++◌, All, MatchBool, OnErr, OnOk, length, max};
 ghost use Rattle.std.specs.BinaryHeap.{heap_items};
 ghost use Rattle.bt_runs.specs.DepthStep.{still_open};
-ghost use Rattle.bt_runs.specs.OpenRecords.{CountsFrom, IsLeastFirst, StartsBelow, ends_of, none_open_at, open_from};
+ghost use Rattle.bt_runs.specs.OpenRecords.{CountsFrom, IsLeastFirst, StartsBelow, ends_of, none_open_at, open_from, spans_open};
 
 use std::alloc::{AllocError, Global};
 use std::cmp::Reverse;
 use std::collections::BinaryHeap;
 use std::marker::Model;
 
-// A counted record that is open: it may cover positions to come.
+// A counted record that was open at its start: it may cover positions to come, until it has ended.
 #[derive(Clone, Copy, Debug)]
 pub(crate) struct OpenSpan {
+    // At most the position of the records.
     pub(crate) start: u64,
+    // Past the position, or at it; below it only in a record that has ended and isn't taken out yet.
     pub(crate) stop: u64,
 }
 
 // The counted records of a chromosome that end at a position or past it, in file order. Their ends are
 // kept beside them, the least first, so that a record that ends costs the log of how many are open. The
-// records that have ended leave the list in one pass, once they are more than those that are open.
+// records that have ended leave the list in one pass, once they are more than those that are open: so
+// at most half of the list has ended.
 #[derive(Drop, Debug)]
 pub(crate) struct OpenRecords {
+    // The position, on a chromosome that its owner knows. It never falls but where `clear` sets it.
     at: u64,
+    // In file order, with some that ended before the position.
     spans: Vec<OpenSpan>,
+    // The ends of those that didn't, each once.
     ends: BinaryHeap<Reverse<u64>>,
 }
 
@@ -81,9 +87,11 @@ impl OpenRecords {
     {
         self.at = self.at.max(position);
         drop_ended(&mut self.ends, self.at);
+        forget_ended(&mut self.spans, self.ends.len(), self.at);
     }
 
-    // The first position at which one ends, but no more than `stop`.
+    // The first position at which one ends, but no more than `stop`. What is written needs no more than
+    // that none ends before it.
     pub(crate) fn first_end(&self, stop: u64) -> u64
         ensures within { result ≤ stop }
         ensures ends { All (λ s. result ≤ s.stop) self.now.spans }
@@ -97,9 +105,8 @@ impl OpenRecords {
 
     // Adds a record that starts at the position, if it is open there.
     pub(crate) fn push(&mut self, stop: u64) -> Result<(), AllocError>
-        ensures { OnOk result (self.new ≡ record { at = self.old.at; spans = self.old.spans ++ still_open self.old.at (record { start = self.old.at; stop = stop } ∷ []) }) }
+        ensures added { OnOk result (self.new ≡ record { at = self.old.at; spans = self.old.spans ++ still_open self.old.at (record { start = self.old.at; stop = stop } ∷ []) }) }
     {
-        self.forget_ended();
         if stop < self.at {
             return Ok(());
         }
@@ -111,15 +118,21 @@ impl OpenRecords {
         self.ends.push(Reverse(stop))?;
         Ok(())
     }
+}
 
-    // Takes the records that have ended out of the list, once they are more than those that are open.
-    fn forget_ended(&mut self)
-        ensures { self.new ≡ self.old }
-    {
-        if self.ends.len() < self.spans.len() / 2 {
-            let at = self.at;
-            self.spans.retain(|span| at <= span.stop);
-        }
+// Takes the records that ended before a position out of the list, once they are more than those that
+// are open there. `count` says how many are open.
+fn forget_ended(spans: &mut Vec<OpenSpan>, count: usize, position: u64)
+    requires { count ≡ length (still_open position (spans_open spans.old.items)) }
+    ensures left { still_open position (spans_open spans.new.items)
+        ≡ still_open position (spans_open spans.old.items) }
+    ensures started { All (λ s. s.start ≤ position) (spans_open spans.old.items)
+        → All (λ s. s.start ≤ position) (spans_open spans.new.items) }
+    ensures few { length spans.new.items ≤ 2 * count }
+{
+    let ended = spans.len() - count;
+    if count < ended {
+        spans.retain(|span| position <= span.stop);
     }
 }
 

@@ -12,8 +12,11 @@ use std::marker::Model;
 // A run without its chromosome.
 #[derive(Clone, Copy, Debug)]
 pub(crate) struct Waiting {
+    // That of each of its records.
     pub(crate) strand: Strand,
+    // The start of its first record.
     pub(crate) start: u64,
+    // The greatest end of its records so far.
     pub(crate) stop: u64,
 }
 
@@ -23,9 +26,11 @@ pub(crate) struct Waiting {
 pub(crate) struct WaitingRuns {
     // In the order of their first records.
     runs: VecDeque<Waiting>,
-    // Where the last run of this strand stands; `None` where there is none, here and below.
+    // Where the last run of the strand `+` stands; `None` where none of it waits.
     plus: Option<usize>,
+    // The same of the strand `-`.
     minus: Option<usize>,
+    // The same of the runs without a strand.
     dot: Option<usize>,
 }
 

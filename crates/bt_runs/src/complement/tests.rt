@@ -135,7 +135,7 @@ fn feed_line<E: Engine, K: Sink>(
     }
 }
 
-// Feeds the records of lines. At the end it tells how many items are kept.
+// Feeds the records of lines. At the end it answers how many items are kept.
 fn feed_lines<E: Engine, K: Sink>(
     engine: &mut E,
     lines: &[&[u8]],
@@ -147,7 +147,7 @@ fn feed_lines<E: Engine, K: Sink>(
     Ok(engine.kept_len())
 }
 
-// Feeds the records of lines until one is refused, and then once more. It tells whether that answers
+// Feeds the records of lines until one is refused, and then once more. It says whether that answers
 // the same.
 fn feed_until_refused<E: Engine, K: Sink>(
     engine: &mut E,

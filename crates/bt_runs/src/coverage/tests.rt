@@ -9,117 +9,110 @@ use std::test::Fail;
 // The genome file of the cases.
 const GENOME: &[u8] = b"chr1\t20\nchr2\t5\n";
 
-// A case: its name, the records, whether depth 0 is reported, the strand that is counted, how many
-// records are kept after them, and the lines that are wanted: those written with the records, and those
-// written at the end.
+// A case: its name, the records, with how many are kept after each, whether depth 0 is reported, the
+// strand that is counted, and the lines that are wanted: those written with the records, and those
+// written at the end. What is kept are the counted records on the last chromosome that start below its
+// length and end, cut there, at the last start or past it.
 type Case = (
     &'static str,
-    &'static [&'static [u8]],
+    &'static [(&'static [u8], usize)],
     bool,
     Option<Strand>,
-    usize,
     &'static [u8],
     &'static [u8],
 );
 
 const CASES: [Case; 12] = [
-    ("no record", &[], false, None, 0, b"", b""),
+    ("no record", &[], false, None, b"", b""),
     (
         "no record, with zeros",
         &[],
         true,
         None,
-        0,
         b"",
         b"chr1\t0\t20\t0\nchr2\t0\t5\t0\n",
     ),
     (
         "one behind another",
-        &[b"chr1\t0\t10", b"chr1\t10\t20"],
+        &[(b"chr1\t0\t10", 1), (b"chr1\t10\t20", 2)],
         false,
         None,
-        2,
         b"",
         b"chr1\t0\t20\t1\n",
     ),
     (
         "one within another, and one behind",
-        &[b"chr1\t0\t10", b"chr1\t5\t10", b"chr1\t10\t15"],
+        &[
+            (b"chr1\t0\t10", 1),
+            (b"chr1\t5\t10", 2),
+            (b"chr1\t10\t15", 3),
+        ],
         false,
         None,
-        3,
         b"chr1\t0\t5\t1\n",
         b"chr1\t5\t10\t2\nchr1\t10\t15\t1\n",
     ),
     (
         "one strand",
-        &[b"chr1\t0\t10\ta\t0\t+", b"chr1\t5\t15\tb\t0\t-"],
+        &[(b"chr1\t0\t10\ta\t0\t+", 0), (b"chr1\t5\t15\tb\t0\t-", 1)],
         false,
         Some(Strand::Minus),
-        1,
         b"",
         b"chr1\t5\t15\t1\n",
     ),
     (
         "a record of the other strand settles",
-        &[b"chr1\t3\t4\ta\t0\t+", b"chr1\t6\t9\tb\t0\t-"],
+        &[(b"chr1\t3\t4\ta\t0\t+", 1), (b"chr1\t6\t9\tb\t0\t-", 0)],
         true,
         Some(Strand::Plus),
-        0,
         b"chr1\t0\t3\t0\nchr1\t3\t4\t1\n",
         b"chr1\t4\t20\t0\nchr2\t0\t5\t0\n",
     ),
     (
         "the second chromosome, with zeros",
-        &[b"chr2\t3\t9"],
+        &[(b"chr2\t3\t9", 1)],
         true,
         None,
-        1,
         b"chr1\t0\t20\t0\n",
         b"chr2\t0\t3\t0\nchr2\t3\t5\t1\n",
     ),
     (
         "depth 0 between, not asked for",
-        &[b"chr1\t0\t5", b"chr1\t7\t9"],
+        &[(b"chr1\t0\t5", 1), (b"chr1\t7\t9", 1)],
         false,
         None,
-        1,
         b"chr1\t0\t5\t1\n",
         b"chr1\t7\t9\t1\n",
     ),
     (
         "the last start isn't settled",
-        &[b"chr1\t0\t5", b"chr1\t5\t9"],
+        &[(b"chr1\t0\t5", 1), (b"chr1\t5\t9", 2)],
         false,
         None,
-        2,
         b"",
         b"chr1\t0\t9\t1\n",
     ),
     (
         "past the length",
-        &[b"chr2\t3\t4", b"chr2\t6\t9"],
+        &[(b"chr2\t3\t4", 1), (b"chr2\t6\t9", 0)],
         true,
         None,
-        0,
         b"chr1\t0\t20\t0\nchr2\t0\t3\t0\nchr2\t3\t4\t1\nchr2\t4\t5\t0\n",
         b"",
     ),
     (
         "at the length",
-        &[b"chr2\t3\t9", b"chr2\t5\t9"],
+        &[(b"chr2\t3\t9", 1), (b"chr2\t5\t9", 1)],
         false,
         None,
-        1,
         b"",
         b"chr2\t3\t5\t1\n",
     ),
     (
         "from one chromosome to the next",
-        &[b"chr1\t2\t9", b"chr1\t3\t9", b"chr2\t0\t1"],
+        &[(b"chr1\t2\t9", 1), (b"chr1\t3\t9", 2), (b"chr2\t0\t1", 1)],
         false,
         None,
-        1,
         b"chr1\t2\t3\t1\nchr1\t3\t9\t2\n",
         b"chr2\t0\t1\t1\n",
     ),
@@ -144,19 +137,22 @@ fn feed_line<E: Engine, K: Sink>(
     }
 }
 
-// Feeds the records of lines. At the end it tells how many items are kept.
-fn feed_lines<E: Engine, K: Sink>(
+// Feeds the records of lines, beside which stands how many items are kept then. It says whether they
+// are.
+fn keeps_after_each<E: Engine, K: Sink>(
     engine: &mut E,
-    lines: &[&[u8]],
+    lines: &[(&'static [u8], usize)],
     out: &mut Out<K>,
-) -> Result<usize, Fault> {
-    for line in lines {
+) -> Result<bool, Fault> {
+    let mut kept_so = true;
+    for (line, kept) in lines {
         feed_line(engine, line, out)?;
+        kept_so = kept_so && engine.kept_len() == *kept;
     }
-    Ok(engine.kept_len())
+    Ok(kept_so)
 }
 
-// Feeds the records of lines until one is refused, and then once more. It tells whether that answers
+// Feeds the records of lines until one is refused, and then once more. It says whether that answers
 // the same.
 fn feed_until_refused<E: Engine, K: Sink>(
     engine: &mut E,
@@ -188,13 +184,13 @@ fn worked_rows(rt: HostRuntime) {
     let Ok(genome) = genome(rt.alloc(), GENOME) else {
         return assert!(rt; false, "the genome");
     };
-    for (name, lines, zeros, strand, kept, settled, left) in CASES {
+    for (name, lines, zeros, strand, settled, left) in CASES {
         let mut coverage = Coverage::new(rt.alloc(), &genome, zeros, strand);
         let mut out = Out::new(ScriptSink::new(rt.alloc(), 3, None));
         assert_eq!(rt; coverage.kept_len(), 0, "{name}");
         assert_eq!(rt;
-            feed_lines(&mut coverage, lines, &mut out),
-            Ok(kept),
+            keeps_after_each(&mut coverage, lines, &mut out),
+            Ok(true),
             "{name}"
         );
         assert_eq!(rt; out.flush(), Ok(()), "{name}");
@@ -236,7 +232,7 @@ fn records_are_kept_until_one_starts_past_their_end(rt: HostRuntime) {
     assert_eq!(rt; out.into_sink().taken(), want);
 }
 
-// Feeds one record of the first chromosome, and tells how many are kept then.
+// Feeds one record of the first chromosome, and answers how many are kept then.
 fn kept_with<K: Sink>(
     alloc: Global,
     coverage: &mut Coverage<'_>,
@@ -273,7 +269,33 @@ fn short_records_beside_long_ones(rt: HostRuntime) -> Result<(), Fail> {
     Ok(())
 }
 
-// Feeds records to a sink that takes so many bytes. It tells whether the failure is answered from then
+#[test]
+fn thousands_of_records_are_open_at_once(rt: HostRuntime) -> Result<(), Fail> {
+    let Ok(genome) = genome(rt.alloc(), b"chr1\t20000\n") else {
+        assert!(rt; false, "the genome");
+        return Ok(());
+    };
+    let mut coverage = Coverage::new(rt.alloc(), &genome, false, None);
+    let mut out = Out::new(ScriptSink::new(rt.alloc(), 512, None));
+    let mut all_open = true;
+    for start in 0..4000u64 {
+        let kept = kept_with(rt.alloc(), &mut coverage, start, 20000 - start, &mut out)?;
+        all_open = all_open && kept as u64 == start + 1;
+    }
+    assert!(rt; all_open);
+    // The 2001 that end at 18000 or past it, and the record itself.
+    let kept = kept_with(rt.alloc(), &mut coverage, 18000, 18001, &mut out)?;
+    assert_eq!(rt; kept, 2002);
+    assert_eq!(rt; end(coverage, &mut out), Ok(()));
+    let sink = out.into_sink();
+    let first: &[u8] = b"chr1\t0\t1\t1\nchr1\t1\t2\t2\n";
+    assert!(rt; sink.taken().starts_with(first));
+    let last: &[u8] = b"chr1\t19998\t19999\t2\nchr1\t19999\t20000\t1\n";
+    assert!(rt; sink.taken().ends_with(last));
+    Ok(())
+}
+
+// Feeds records to a sink that takes so many bytes. It says whether the failure is answered from then
 // on, and the sink took the front of the lines.
 fn fails_at(
     alloc: Global,

@@ -7,6 +7,7 @@ use Rattle.bt_runs.specs.DepthStep.{Place, counting, left_before, unknown}
 use Rattle.bt_runs.specs.OpenRecords.{OpenAt}
 use Rattle.bt_runs.specs.declared.depths.Reached.{Reached}
 use Rattle.bt_runs.proofs.CoverageLemmas.{advances_more, begins_cut, count_begins, found_at}
+use Rattle.bt_runs.proofs.GapRanks.{size_ranked}
 use Rattle.bt_runs.proofs.coverage.begin.Goals as goal
 
 pub put_before-requires-clause-within : goal.put_before-requires-clause-within
@@ -15,8 +16,8 @@ put_before-requires-clause-within g c =
     let h = at.within in
     omega arith
 
-pub returns-in-Err : goal.returns-in-Err
-returns-in-Err g c =
+pub returns-in-Err-clause-steps : goal.returns-in-Err-clause-steps
+returns-in-Err-clause-steps g c =
     let table = entries c.args.genome.now in
     let place = seen c.args.current c.args.held.now in
     let r = feature_lent c.args.bed.now in
@@ -26,8 +27,8 @@ returns-in-Err g c =
 pub count-requires : goal.count-requires
 count-requires g c = found_at (entries c.args.genome.now) c.args.bed.now.chrom.now c.in-Some.rank (sym c.in-Some.ensures)
 
-pub returns-in-Ok : goal.returns-in-Ok
-returns-in-Ok g c =
+pub returns-in-Ok-clause-steps : goal.returns-in-Ok-clause-steps
+returns-in-Ok-clause-steps g c =
     let table = entries c.args.genome.now in
     let place = seen c.args.current c.args.held.now in
     let r = feature_lent c.args.bed.now in
@@ -35,4 +36,10 @@ returns-in-Ok g c =
     let reached : Reached = record { rank = c.in-Some.rank; begun = None } in
     let step = counting c.args.zeros c.args.strand table start r in
     rw (count_begins c.args.zeros c.args.strand table place r c.in-Some.rank c.requires.elsewhere c.in-Some.ensures)
-    (advances_more _ (left_before c.args.zeros table place c.in-Some.rank) step.1 table c.count.result c.count.new.held c.args.out.now c.put_before.new.out c.count.new.out c.in-Ok.ensures (subst (λ (l : OpenAt). AdvanceAnswers (Some (counting c.args.zeros c.args.strand table (place_seen reached l) r).0, (counting c.args.zeros c.args.strand table (place_seen reached l) r).1) table c.count.result c.count.new.held c.put_before.new.out c.count.new.out) c.clear.ensures c.count.ensures))
+    (advances_more _ (left_before c.args.zeros table place c.in-Some.rank) step.1 table c.count.result c.count.new.held c.args.out.now c.put_before.new.out c.count.new.out c.in-Ok.ensures (subst (λ (l : OpenAt). AdvanceAnswers (Some (counting c.args.zeros c.args.strand table (place_seen reached l) r).0, (counting c.args.zeros c.args.strand table (place_seen reached l) r).1) table c.count.result c.count.new.held c.put_before.new.out c.count.new.out) c.clear.ensures c.count.ensures.steps))
+
+pub returns-in-Ok-clause-memory : goal.returns-in-Ok-clause-memory
+returns-in-Ok-clause-memory g c =
+    let table = entries c.args.genome.now in
+    rw (size_ranked table c.args.bed.now.chrom.now c.in-Some.rank (sym c.in-Some.ensures))
+    c.count.ensures.memory

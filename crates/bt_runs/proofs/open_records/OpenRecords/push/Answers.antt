@@ -1,6 +1,7 @@
-use Rattle.std.proofs.Common.{ℕ, ◌≡◌, ◌≤◌, ◌∷◌, [], ◌++◌, List, arith, ap, ◌∙◌, subst}
+use Rattle.std.proofs.Common.{ℕ, ◌≡◌, ◌≤◌, ◌∷◌, [], ◌++◌, List, arith, ap, ◌∙◌, length-append, subst}
 use Rattle.std.proofs.lemmas.List.{map-append}
 use Rattle.std.proofs.lemmas.List.Elements.{All-push}
+use Rattle.std.proofs.lemmas.List.Sorted.{length_permutation}
 use Rattle.std.specs.BinaryHeap.{heap_items}
 use Rattle.std.specs.List.Sorted.{IsPermutation}
 use Rattle.std.specs.declared.cmp.Reverse.{Reverse}
@@ -26,5 +27,11 @@ invariant_of-self-2 c =
       rw all (record {
         started = All-push (λ s. s.start ≤ m.at) spans s c.self.invariant.1.started (omega arith);
         counts = rw (open_more m.at spans s left) (ends_more (ends_of (heap_items m.ends)) (still_open m.at spans) s (ends_of (heap_items c.push-2.new.self)) c.self.invariant.1.counts moved);
+        few =
+            let few = c.self.invariant.1.few in
+            let wide = length-append spans (s ∷ []) in
+            let more = length_permutation (c.args.stop ∷ ends_of (heap_items m.ends))
+            (ends_of (heap_items c.push-2.new.self)) moved in
+            omega arith;
       }),
     )
