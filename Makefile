@@ -37,7 +37,8 @@ mutants:
 	for mutants in crates/*/mutants; do mv $$mutants $$(dirname $$mutants)/must-fail; done && \
 	rt must-fail; status=$$?; rm -rf $$copy; exit $$status
 
-# The shell examples of the pages write what stands below them, and each link leads somewhere.
+# The shell examples of the pages write what stands below them, the example on each crate's first page is its test,
+# and each link leads somewhere.
 check-docs: $(PROGRAM)
 	docs/examples.py
 	docs/links.py

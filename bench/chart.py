@@ -3,8 +3,8 @@
 from html import escape
 
 COLOURS = {"dunekettle": "#c2571a", "bedtools": "#5b7c99", "bedops": "#a9b8c4", "convert2bed": "#d3dbe2"}
-WIDTH = 760
-LEFT = 190
+WIDTH = 830
+LEFT = 260
 BAR = 14
 GAP = 12
 TITLE = 34

@@ -7,12 +7,14 @@ Prints, for each command and kind of record, for RECORDS records (5,000,000 wher
 for a tenth of them, the processor time and the peak memory; beside them those of the bedtools and the
 bedops on PATH, where they are there and do the same job; and the instructions a record, where valgrind
 is there. For `bamtobed` samtools makes the BAM file that bedtools reads, and bedops' convert2bed, which
-writes further columns, isn't compared. With `--only` it takes the workloads alone whose names have these words in them; with `--chart` it draws the larger runs as an SVG.
+writes further columns, isn't compared. With `--only` it takes the workloads alone whose names have these
+words in them; with `--chart` it draws the larger runs as an SVG.
 It fails where a program fails, where two outputs differ, or where this program's memory grows with its
 input.
 """
 
 import argparse
+import ctypes
 import filecmp
 import os
 import random
@@ -21,7 +23,6 @@ import shutil
 import subprocess
 import sys
 import tempfile
-import time
 from dataclasses import dataclass
 from pathlib import Path
 
@@ -31,23 +32,41 @@ PROGRAM = Path(__file__).resolve().parent.parent / "bin" / "bedtools"
 # The lengths of the human chromosomes in GRCh38, in million bases.
 LENGTHS = [249, 242, 198, 190, 182, 171, 159, 145, 138, 134, 135, 133, 114, 107, 102, 90, 83, 80, 59, 64, 47, 51, 156, 57]
 NAMES = [f"chr{name}" for name in [*range(1, 23), "X", "Y"]]
+# Requests of Linux' ptrace(2), by which a process stops where it is about to end or becomes another program, and the
+# event of the first.
+LIBC = ctypes.CDLL(None, use_errno=True)
+LIBC.ptrace.argtypes = [ctypes.c_long, ctypes.c_long, ctypes.c_void_p, ctypes.c_void_p]
+LIBC.ptrace.restype = ctypes.c_long
+TRACEME, CONTINUE, SETOPTIONS, STOP_AT_EVENTS = 0, 7, 0x4200, 0x50
+AT_EXIT = 6
 # How much more memory, in kilobytes, a ten times longer input may show: what the system adds to any program.
 SLACK = 1024
 # So many records are enough to count instructions: they repeat.
 COUNTED = 100_000
 
 
+class OneInput:
+    """The input of a workload, as one file."""
+
+    def inputs(self, folder):
+        return ["-i", str(folder / "records.bed")]
+
+
+class TwoInputs:
+    """The inputs of a workload, as two files."""
+
+    def inputs(self, folder):
+        return ["-a", str(folder / "records.bed"), "-b", str(folder / "second.bed")]
+
+
 @dataclass
-class Touching:
+class Touching(OneInput):
     """Records of which a third touch or overlap the one before, as one input."""
 
     columns: int
 
     def name(self):
         return f"{self.columns} columns"
-
-    def inputs(self, folder):
-        return ["-i", str(folder / "records.bed")]
 
     def write(self, folder, count):
         write_records(folder / "records.bed", count, self.columns, 1)
@@ -68,14 +87,11 @@ class Features:
 
 
 @dataclass
-class Behind:
+class Behind(OneInput):
     """200,000 short records of one strand behind a long one of the other, whatever the size asked for."""
 
     def name(self):
         return "200,000 behind one of the other strand"
-
-    def inputs(self, folder):
-        return ["-i", str(folder / "records.bed")]
 
     def write(self, folder, count):
         lines = (f"chr1\t{at * 1000}\t{at * 1000 + 500}\tx\t1\t-\n" for at in range(1, 200_001))
@@ -83,7 +99,7 @@ class Behind:
 
 
 @dataclass
-class Pair:
+class Pair(TwoInputs):
     """Records of two kinds, as two inputs."""
 
     first: Features
@@ -92,16 +108,13 @@ class Pair:
     def name(self):
         return f"{self.first.word} and {self.second.word}"
 
-    def inputs(self, folder):
-        return ["-a", str(folder / "records.bed"), "-b", str(folder / "second.bed")]
-
     def write(self, folder, count):
         self.first.write(folder / "records.bed", count, 1)
         self.second.write(folder / "second.bed", count, 2)
 
 
 @dataclass
-class Alone:
+class Alone(OneInput):
     """Records of one kind, as one input: at random places on whole chromosomes, or with a depth on so much of each
     chromosome's begin that they cover it so many times."""
 
@@ -110,9 +123,6 @@ class Alone:
 
     def name(self):
         return f"{self.features.word} at {self.depth}x" if self.depth else self.features.word
-
-    def inputs(self, folder):
-        return ["-i", str(folder / "records.bed")]
 
     def write(self, folder, count):
         part = 1.0
@@ -123,14 +133,11 @@ class Alone:
 
 
 @dataclass
-class Nested:
+class Nested(TwoInputs):
     """2,000 exons inside 10,000 records that lie one in another, whatever the size asked for."""
 
     def name(self):
         return "2,000 in 10,000 nested"
-
-    def inputs(self, folder):
-        return ["-a", str(folder / "records.bed"), "-b", str(folder / "second.bed")]
 
     def write(self, folder, count):
         lines = (f"chr1\t{100_000_000 + at * 1000}\t{100_000_500 + at * 1000}\tx\t1\t+\n" for at in range(2000))
@@ -140,14 +147,11 @@ class Nested:
 
 
 @dataclass
-class Alignments:
+class Alignments(OneInput):
     """Reads of 100 bases as SAM text, one for three records asked for; bedtools has them as BAM, made by samtools."""
 
     def name(self):
         return "alignments"
-
-    def inputs(self, folder):
-        return ["-i", str(folder / "records.bed")]
 
     def inputs_of_bedtools(self, folder):
         return ["-i", str(folder / "records.bam")]
@@ -351,27 +355,43 @@ def write_sequences(folder, count, apart, seed):
 def time_run(run, output):
     """Runs a program, and keeps its processor time in seconds and its peak memory in kilobytes."""
     with open(run.source or os.devnull, "rb") as source, open(output, "wb") as out:
-        process = subprocess.Popen(run.words, stdin=source, stdout=out)
-        peak = 0
-        ended = 0
-        while ended == 0:
-            peak = max(peak, peak_so_far(process.pid))
-            time.sleep(0.005)
-            ended, status, usage = os.wait4(process.pid, os.WNOHANG)
+        process = subprocess.Popen(run.words, stdin=source, stdout=out, preexec_fn=lambda: trace(TRACEME, 0))
+    run.kilobytes, status, usage = ended(process.pid)
     process.returncode = os.waitstatus_to_exitcode(status)
     if process.returncode != 0:
         sys.exit(f"{' '.join(run.words)}: status {process.returncode}")
     run.seconds = usage.ru_utime + usage.ru_stime
-    run.kilobytes = peak
 
 
-def peak_so_far(process):
-    """The peak memory of a running process in kilobytes. What wait4 tells has that of its parent in it."""
-    with open(f"/proc/{process}/status", encoding="ascii") as status:
-        for line in status:
-            if line.startswith("VmHWM:"):
-                return int(line.split()[1])
-    return 0
+def trace(request, process, data=0):
+    """A request of ptrace(2)."""
+    if LIBC.ptrace(request, process, None, data) != 0:
+        sys.exit(f"ptrace: {os.strerror(ctypes.get_errno())}")
+
+
+def ended(process):
+    """Waits for a traced process, which stands at its first instruction. Answers its peak memory in kilobytes, its
+    status and what it used. What the system keeps of an ended process counts its parent's memory too, so the
+    peak is read where the process is about to end."""
+    os.waitpid(process, 0)
+    trace(SETOPTIONS, process, STOP_AT_EVENTS)
+    peak = given_on = 0
+    while True:
+        trace(CONTINUE, process, given_on)
+        _, status, usage = os.wait4(process, 0)
+        if not os.WIFSTOPPED(status):
+            return peak, status, usage
+        # A signal is given on to the process, an event isn't one.
+        event = status >> 16
+        given_on = 0 if event else os.WSTOPSIG(status)
+        if event == AT_EXIT:
+            peak = peak_of(process)
+
+
+def peak_of(process):
+    """The peak memory of a process in kilobytes."""
+    status = Path(f"/proc/{process}/status").read_text(encoding="ascii")
+    return int(re.search(r"VmHWM:\s*(\d+)", status)[1])
 
 
 def runs_of(workload, others, folder):
@@ -429,8 +449,8 @@ def count_instructions(valgrind, workload, others, folder):
     for run in runs:
         words = [valgrind, "--tool=callgrind", "--callgrind-out-file=/dev/null", *run.words]
         with open(run.source or os.devnull, "rb") as source:
-            told = subprocess.run(words, stdin=source, stdout=subprocess.DEVNULL, stderr=subprocess.PIPE, check=True, text=True)
-        count = int(re.search(r"Collected : (\d+)", told.stderr).group(1))
+            counted = subprocess.run(words, stdin=source, stdout=subprocess.DEVNULL, stderr=subprocess.PIPE, check=True, text=True)
+        count = int(re.search(r"Collected : (\d+)", counted.stderr).group(1))
         print(f"  {run.program:10} {count / lines:6.0f}", flush=True)
 
 
@@ -449,8 +469,7 @@ def main():
         folder = Path(folder)
         for workload in (it for it in WORKLOADS if asked.only in it.name()):
             small, large = (compare(workload, others, folder, size) for size in (asked.records // 10, asked.records))
-            # A run that ends at once may be gone before its memory is read.
-            if small[0].kilobytes and large[0].kilobytes > small[0].kilobytes + SLACK:
+            if large[0].kilobytes > small[0].kilobytes + SLACK:
                 sys.exit("the memory grows with the input")
             if others["bedtools"]:
                 print(f"  at most {workload.part} of bedtools' time aimed at")

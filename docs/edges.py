@@ -43,6 +43,7 @@ CASES = [
     ("bedtools bamtobed -i alignments.sam >&-", "", WRITING_FAILS.format("bamtobed"), 1),
     ("bedtools merge -g genome.txt <&- >&-", "", STDIN_FAILS.format("merge"), 1),
     ("bedtools merge -i a.bed -g genome.txt >&- 2>&-; cat a.bed genome.txt", FILES["a.bed"] + FILES["genome.txt"], "", 0),
+    ("bedtools merge -i /dev/null -g genome.txt >&-", "", "", 0),
     # Standard error is closed: the line is lost, the status stays, and the line is in no other file.
     ("bedtools merge -i unsorted.bed -g genome.txt 2>&-", "", "", 1),
     ("bedtools merge -i unsorted.bed -g genome.txt <&- 2>&-", "", "", 1),
@@ -59,11 +60,23 @@ CASES = [
     ("bedtools bamtobed -i alignments.sam >/dev/full", "", WRITING_FAILS.format("bamtobed"), 1),
     ("bedtools maskfasta -fi a.fa -bed a.bed >/dev/full", "", WRITING_FAILS.format("maskfasta"), 1),
     ("bedtools maskfasta -fi a.fa -bed a.bed -fo /dev/full", "", WRITING_FAILS.format("maskfasta"), 1),
+    # A file size limit ends it by a signal, or where that is ignored by a failed write.
+    ("yes \"$(printf 'chr1\\t2\\t6')\" | head -n 1000 > many.bed; ulimit -f 1; sh -c '"
+     "bedtools intersect -a many.bed -b a.bed -g genome.txt -u > hits.bed; echo $?' 2> line.txt", "153\n", "", 0),
+    ("yes \"$(printf 'chr1\\t2\\t6')\" | head -n 1000 > many.bed; trap '' XFSZ; ulimit -f 1;"
+     " bedtools intersect -a many.bed -b a.bed -g genome.txt -u > hits.bed", "", WRITING_FAILS.format("intersect"), 1),
     # The file of -fo gets no fault line, and is no standard stream.
     ("bedtools maskfasta -fi a.fa -bed unsorted.bed -fo masked.fa 2>&-; echo $?; cat masked.fa",
      "1\n>chr1\nACGTACGT\n", "", 0),
     ("bedtools maskfasta -fi a.fa -bed - -fo masked.fa <&-; cat masked.fa", "", "bedtools maskfasta: -:1: reading failed\n", 0),
     ("bedtools maskfasta -fi a.fa -bed a.bed -fo masked.fa >&- && cat masked.fa", ">chr1\nACNNNNGT\n", "", 0),
+    # A longer file that is there is emptied first, and stays as it was where an input is missing.
+    ("yes | head -n 1000 > masked.fa; bedtools maskfasta -fi a.fa -bed a.bed -fo masked.fa && cat masked.fa",
+     ">chr1\nACNNNNGT\n", "", 0),
+    ("echo old > masked.fa; bedtools maskfasta -fi a.fa -bed none.bed -fo masked.fa; echo $?; cat masked.fa",
+     "1\nold\n", "bedtools maskfasta: none.bed: cannot be opened\n", 0),
+    # A masked base that looks like the begin of a header.
+    ("bedtools maskfasta -fi a.fa -bed a.bed -mc '>'", ">chr1\nAC>>>>GT\n", "", 0),
     # The reader of the pipe goes away.
     ("yes \"$(printf 'chr1\\t2\\t6')\" | head -n 100000 | bedtools intersect -a - -b a.bed -g genome.txt -u | head -n 1",
      "chr1\t2\t6\n", WRITING_FAILS.format("intersect"), 0),

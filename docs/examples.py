@@ -1,11 +1,14 @@
 #!/usr/bin/env python3
-"""Runs the shell examples of README.md and of the pages beside this file, with the program in bin/.
+"""Runs the shell examples of README.md and of the pages beside this file, with the program in bin/, and sees that
+the example on the first page of each crate is its test.
 
     docs/examples.py [PAGE..]
 
 An example is a block, indented by four spaces or more, that begins with `$ `: each command is run by sh, in one
 folder for a page, and what it writes, standard error behind standard output, has to be what stands below it.
-Commands of blocks that begin with anything else aren't run. Ends with 1 where one differs.
+Commands of blocks that begin with anything else aren't run. The first page of a crate is the comment at the head
+of its src/lib.rt, with the first function of src/example.rt, which is its test or is run by it; or the comment of
+its src/main.rt, with a shell example that is run in the crate's folder. Ends with 1 where one differs.
 """
 
 import os
@@ -17,6 +20,9 @@ from pathlib import Path
 
 TOP = Path(__file__).resolve().parent.parent
 COMMAND = re.compile(r"( {4,})\$ (.*)")
+# The example on a crate's first page, and the first function of a file.
+FIRST_PAGE = re.compile(r"^//! ```text\n(.*?)^//! ```$", re.MULTILINE | re.DOTALL)
+FUNCTION = re.compile(r"^fn .*?^\}\n", re.MULTILINE | re.DOTALL)
 
 
 def examples_of(text):
@@ -43,25 +49,55 @@ def wrote(command, folder):
     return ran.stdout + ran.stderr
 
 
-def check(page):
-    """Runs the examples of a page, and answers how many there are and how many of them differ."""
-    examples = examples_of(page.read_text(encoding="utf-8"))
+def differ(page, text, folder):
+    """Runs the examples of a page's text in a folder, and answers how many there are and how many of them differ."""
+    examples = examples_of(text)
     wrong = 0
-    with tempfile.TemporaryDirectory() as folder:
-        os.symlink(TOP / "bin", f"{folder}/bin")
-        for number, command, wanted in examples:
-            found = wrote(command, folder).splitlines()
-            if found != wanted:
-                wrong += 1
-                print(f"{page.relative_to(TOP)}:{number}: {command}", *(f"  {line}" for line in found), sep="\n")
+    for number, command, wanted in examples:
+        found = wrote(command, folder).splitlines()
+        if found != wanted:
+            wrong += 1
+            print(f"{page.relative_to(TOP)}:{number}: {command}", *(f"  {line}" for line in found), sep="\n")
     return len(examples), wrong
 
 
+def check(page):
+    """Runs the examples of a page in a folder of its own, and answers how many there are and how many of them differ."""
+    with tempfile.TemporaryDirectory() as folder:
+        os.symlink(TOP / "bin", f"{folder}/bin")
+        return differ(page, page.read_text(encoding="utf-8"), folder)
+
+
+def first_example(page):
+    """The example on a crate's first page, or nothing."""
+    found = FIRST_PAGE.search(page.read_text(encoding="utf-8"))
+    return "".join(f"{line[4:]}\n" for line in found[1].splitlines()) if found else ""
+
+
+def check_program(page):
+    """Runs the shell example of a program's first page in the folder of its crate."""
+    shell = "".join(f"    {line}\n" for line in first_example(page).splitlines())
+    return differ(page, shell, page.parent.parent)
+
+
+def check_library(page):
+    """Compares the example of a library's first page with its test."""
+    test = page.with_name("example.rt")
+    code = FUNCTION.search(test.read_text(encoding="utf-8")) if test.exists() else None
+    is_test = bool(code) and code[0] == first_example(page)
+    if not is_test:
+        print(f"{page.relative_to(TOP)}: its example isn't the test of {test.relative_to(TOP)}")
+    return 1, 0 if is_test else 1
+
+
 def main():
-    pages = [Path(name).resolve() for name in sys.argv[1:]] or [TOP / "README.md", *sorted((TOP / "docs").glob("*.md"))]
-    counts = [check(page) for page in pages]
+    pages = [Path(name).resolve() for name in sys.argv[1:]]
+    counts = [check(page) for page in pages or [TOP / "README.md", *sorted((TOP / "docs").glob("*.md"))]]
+    if not pages:
+        counts += [check_program(page) for page in sorted(TOP.glob("crates/*/src/main.rt"))]
+        counts += [check_library(page) for page in sorted(TOP.glob("crates/*/src/lib.rt"))]
     run, wrong = (sum(column) for column in zip(*counts))
-    print(f"{run} examples run, {wrong} of them differ")
+    print(f"{run} examples, {wrong} of them differ")
     return 1 if wrong else 0
 
 

@@ -1,11 +1,11 @@
 #!/usr/bin/env python3
-"""Checks that each link of the pages leads to a file, and to a heading of it where it names one, and that the
-pages that name a version name the same one.
+"""Checks that each link of the pages leads to a file, and to a heading of it where it names one, that the pages
+that name a version name the same one, and that README.md says how many definitions the report stands on.
 
     docs/links.py
 
 The pages are the Markdown files of this repository. Links to other hosts aren't followed. Ends with 1 where one
-leads nowhere.
+leads nowhere, or where a number is another.
 """
 
 import re
@@ -23,6 +23,10 @@ VERSIONS = {
     "CHANGELOG.md": r"^## (\d+\.\d+\.\d+)",
     "man/bedtools.1": r"Dunekettle (\d+\.\d+\.\d+)",
 }
+
+# Where README.md says in how many files and lines the report is defined, and the file that names the others.
+DEFINITIONS = re.compile(r"definitions that it names: (\d+) files with some ([\d,]+) lines")
+REPORT = TOP / "crates" / "bt_tool" / "specs" / "Report.antt"
 
 
 def anchor(heading):
@@ -64,6 +68,40 @@ def versions():
     return found
 
 
+def named_by(definition):
+    """The files of definitions of this repository that one imports from."""
+    names = re.findall(r"^use Rattle\.(\w+)\.specs\.(\w+)", definition.read_text(encoding="utf-8"), re.MULTILINE)
+    files = (TOP / "crates" / crate / "specs" / f"{name}.antt" for crate, name in names)
+    return [file for file in files if file.exists()]
+
+
+def definitions():
+    """The files that say what the report is: the one that has it, and all that it names in turn."""
+    found, open_ones = set(), [REPORT]
+    while open_ones:
+        definition = open_ones.pop()
+        if definition not in found:
+            found.add(definition)
+            open_ones += named_by(definition)
+    return found
+
+
+def lines_of(definition):
+    """How many lines a file has that are neither blank nor an import."""
+    return sum(1 for line in definition.read_text(encoding="utf-8").splitlines() if line.strip() and not line.startswith("use "))
+
+
+def definitions_differ():
+    """Whether README.md gives other numbers of files and lines than there are. Lines are rounded to tens there."""
+    files = definitions()
+    counts = (len(files), round(sum(map(lines_of, files)), -1))
+    match = DEFINITIONS.search((TOP / "README.md").read_text(encoding="utf-8"))
+    said = match and (int(match[1]), int(match[2].replace(",", "")))
+    if said != counts:
+        print(f"README.md: the report is defined in {counts[0]} files with some {counts[1]:,} lines")
+    return said != counts
+
+
 def main():
     links = [(page, number, target) for page in PAGES for number, target in links_of(page)]
     broken = [link for link in links if leads_nowhere(link[0], link[2])]
@@ -73,7 +111,8 @@ def main():
     if len(set(found.values())) > 1:
         print("versions:", ", ".join(f"{name} {version}" for name, version in found.items()))
     print(f"{len(links)} links, {len(broken)} of them lead nowhere; version {found['README.md']}")
-    return 1 if broken or len(set(found.values())) > 1 else 0
+    differ = definitions_differ()
+    return 1 if broken or differ or len(set(found.values())) > 1 else 0
 
 
 if __name__ == "__main__":

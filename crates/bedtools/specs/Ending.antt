@@ -1,4 +1,4 @@
--- How carrying out a plan ends, as standard error and the exit status tell it.
+-- How carrying out a plan ends, as standard error and the exit status report it.
 use Rattle.std.specs.Prelude.{◌≡◌, ◌⊎◌, [], Option, Some, option_map, unwrap_or}
 use Rattle.bt_lines.specs.Fault.{Told}
 use Rattle.bt_tool.specs.Options.{PlanSeen}
@@ -8,23 +8,28 @@ use Rattle.bedtools.specs.Message.{Says, cannot_open_text}
 use Rattle.bedtools.specs.declared.message.Message.{Message}
 
 -- the file of this name can't be opened
-abbrev pub TellsUnopened : PlanSeen → Word → Message → Type 0
-TellsUnopened plan name message = Says (cannot_open_text (tool_name (tool_of plan.command)) name) 1 message
+abbrev pub ReportsUnopened : PlanSeen → Word → Message → Type 0
+ReportsUnopened plan name message =
+    Says (cannot_open_text (tool_name (tool_of plan.command)) name) 1 message
 
 -- an input of the plan has this name, or its output
 abbrev pub IsFile : PlanSeen → Word → Type 0
-IsFile plan name = (plan.genome ≡ Some name) ⊎ ((plan.first ≡ name) ⊎ ((plan.second ≡ Some name) ⊎ (plan.output ≡ Some name)))
+IsFile plan name =
+    (plan.genome ≡ Some name)
+    ⊎ ((plan.first ≡ name) ⊎ ((plan.second ≡ Some name) ⊎ (plan.output ≡ Some name)))
 
 -- a file of the plan can't be opened
 pub record CannotBegin (plan : PlanSeen) (message : Message) : Type 0 where
   pub name : Word
   pub is_file : IsFile plan name
-  pub tells : TellsUnopened plan name message
+  pub reports : ReportsUnopened plan name message
 
 -- a run ended with this fault, or without one: then nothing is said, with status 0
-abbrev pub TellsRun : PlanSeen → Option Told → Message → Type 0
-TellsRun plan fault message = Says (unwrap_or (option_map (fault_text plan) fault) []) (status_of fault) message
+abbrev pub ReportsRun : PlanSeen → Option Told → Message → Type 0
+ReportsRun plan fault message =
+    Says (unwrap_or (option_map (fault_text plan) fault) []) (status_of fault) message
 
 -- the plan was carried out, or couldn't be
 abbrev pub Ends : PlanSeen → Message → Type 0
-Ends plan message = CannotBegin plan message ⊎ ((fault : Option Told) × TellsRun plan fault message)
+Ends plan message =
+    CannotBegin plan message ⊎ ((fault : Option Told) × ReportsRun plan fault message)

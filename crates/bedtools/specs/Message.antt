@@ -1,33 +1,35 @@
--- The lines that the program itself tells, and the exit statuses that go with them.
+-- The lines that the program itself reports, and the exit statuses that go with them.
 use Rattle.std.specs.Prelude.{ℕ, List, [], ◌++◌, ◌≡◌, ◌⊎◌, codes, length}
 use Rattle.bt_tool.specs.Plan.{words_seen}
 use Rattle.bt_tool.specs.Usage.{IsTellable, usage_text}
-use Rattle.bedtools.specs.declared.message.Trouble.{Trouble}
-use Rattle.bedtools.specs.declared.message.Trouble.TheVariants.{NotUnicode, Usage, ClosedStream, CannotOpen}
+use Rattle.bedtools.specs.declared.message.Obstacle.{Obstacle}
+use Rattle.bedtools.specs.declared.message.Obstacle.TheVariants.{NotUnicode, Usage, ClosedStream}
+use Rattle.bedtools.specs.declared.message.Obstacle.TheVariants.{CannotOpen}
 use Rattle.bedtools.specs.declared.message.Message.{Message}
 use Rattle.bedtools.specs.declared.message.MessageLine.{MessageLine}
 use Rattle.bedtools.specs.declared.message.MessageLine.TheVariants.{Nothing, Text, NoMemory}
 
--- a fault of usage is told of the words that it is about
-abbrev pub CanBeTold : Trouble → Type 0
-CanBeTold NotUnicode = Unit {0}
-CanBeTold (Usage words usage) = IsTellable usage (length words.now)
-CanBeTold ClosedStream = Unit {0}
-CanBeTold (CannotOpen command name) = Unit {0}
+-- a fault of usage is reported of the words that it is about
+abbrev pub CanBeReported : Obstacle → Type 0
+CanBeReported NotUnicode = Unit {0}
+CanBeReported (Usage words usage) = IsTellable usage (length words.now)
+CanBeReported ClosedStream = Unit {0}
+CanBeReported (CannotOpen command name) = Unit {0}
 
 -- the line of a file that a command can't open
 abbrev pub cannot_open_text : List ℕ → List ℕ → List ℕ
-cannot_open_text command name = codes "bedtools " ++ command ++ codes ": " ++ name ++ codes ": cannot be opened\n"
+cannot_open_text command name =
+    codes "bedtools " ++ command ++ codes ": " ++ name ++ codes ": cannot be opened\n"
 
 -- the line, with its line feed
-abbrev pub line_of : Trouble → List ℕ
+abbrev pub line_of : Obstacle → List ℕ
 line_of NotUnicode = codes "bedtools: argument is not UTF-8\n"
 line_of (Usage words usage) = usage_text (words_seen words.now) usage
 line_of ClosedStream = codes "bedtools: standard stream is closed\n"
 line_of (CannotOpen command name) = cannot_open_text command.now name.now
 
 -- the exit status
-abbrev pub status_of : Trouble → ℕ
+abbrev pub status_of : Obstacle → ℕ
 status_of NotUnicode = 2
 status_of (Usage words usage) = 2
 status_of ClosedStream = 1
@@ -39,7 +41,8 @@ line_seen Nothing = []
 line_seen (Text line) = line.items
 line_seen NoMemory = codes "bedtools: no memory\n"
 
--- a message says this line with this exit status; or there was no memory for the line, which has status 1
+-- a message says this line with this exit status; or there was no memory for the line,
+-- which has status 1
 abbrev pub Says : List ℕ → ℕ → Message → Type 0
 Says line status message = (line_seen message.line ≡ line × message.status ≡ status)
     ⊎ (line_seen message.line ≡ codes "bedtools: no memory\n" × message.status ≡ 1)

@@ -1,7 +1,17 @@
 //! `bedtools`: makes the plan of a command line, opens its files, runs it, and reports what went wrong.
 //!
-//! An example, which is the stored run beside this folder (`args`, `stdin`, `data`, `stdout`):
-//! `bedtools merge -i stdin -g g.txt` over four records, of which the first three touch.
+//! An example, as the stored run in this crate's folder (`args`, `stdin`, `data`, `stdout`) makes it:
+//!
+//! ```text
+//! $ tr '\t' ' ' < stdin
+//! chr1 100 200
+//! chr1 180 250
+//! chr1 250 500
+//! chr1 501 1000
+//! $ bedtools merge -i stdin -g data/g.txt < stdin | tr '\t' ' '
+//! chr1 100 500
+//! chr1 501 1000
+//! ```
 #![tactic(auto)]
 
 ghost use Rattle.std.specs.Prelude.{◌≡◌, Ok, Err, [], is_some, None, Some, option_map, string_bytes, IfOk, IfErr};
@@ -11,7 +21,7 @@ ghost use Rattle.bt_tool.specs.Plan.{plan_seen, words_seen};
 ghost use Rattle.bt_tool.specs.Table.{Word};
 ghost use Rattle.bt_tool.specs.Usage.{usage_text};
 ghost use Rattle.bt_tool.specs.declared.usage.Usage.{Usage};
-ghost use Rattle.bedtools.specs.Ending.{CannotBegin, Ends, TellsRun, TellsUnopened};
+ghost use Rattle.bedtools.specs.Ending.{CannotBegin, Ends, ReportsRun, ReportsUnopened};
 ghost use Rattle.bedtools.specs.Message.{Says, line_seen};
 
 mod message;
@@ -20,7 +30,7 @@ mod output;
 mod stand_ins;
 
 use bt_tool::{Outcome, Plan, Refusal, plan, run};
-use message::{Message, MessageLine, Trouble};
+use message::{Message, MessageLine, Obstacle};
 use opened::Opened;
 use output::Output;
 use stand_ins::StandIns;
@@ -33,7 +43,7 @@ fn main(rt: HostRuntime) -> ExitCode {
     let stand_ins = StandIns::take(&rt);
     let message = match &stand_ins {
         Ok(_) => start_by_words(&rt),
-        Err(_) => Message::of(rt.alloc(), &Trouble::ClosedStream),
+        Err(_) => Message::of(rt.alloc(), &Obstacle::ClosedStream),
     };
     message.print(&rt);
     ExitCode::from(message.status)
@@ -44,7 +54,7 @@ fn start_by_words(rt: &HostRuntime) -> Message {
     match words(rt) {
         Ok(words) => start(rt, words.as_slice()),
         Err(error) if error.kind() == io::ErrorKind::OutOfMemory => Message::no_memory(),
-        Err(_) => Message::of(rt.alloc(), &Trouble::NotUnicode),
+        Err(_) => Message::of(rt.alloc(), &Obstacle::NotUnicode),
     }
 }
 
@@ -66,7 +76,7 @@ fn start(rt: &HostRuntime, words: &[String]) -> Message
 {
     match plan(rt.alloc(), words) {
         Ok(plan) => carry_out(rt, &plan),
-        Err(Refusal::Usage(usage)) => Message::of(rt.alloc(), &Trouble::Usage(words, usage)),
+        Err(Refusal::Usage(usage)) => Message::of(rt.alloc(), &Obstacle::Usage(words, usage)),
         Err(Refusal::NoMemory) => Message::no_memory(),
     }
 }
@@ -97,7 +107,7 @@ fn run_opened(rt: &HostRuntime, plan: &Plan) -> Result<Outcome, Message>
 // created.
 fn open_output(rt: &HostRuntime, plan: &Plan) -> Result<Output, Message>
     ensures { IfErr result (λ message. (word : Word) × ((plan_seen plan.now).output ≡ Some word)
-        × TellsUnopened (plan_seen plan.now) word message) }
+        × ReportsUnopened (plan_seen plan.now) word message) }
 {
     let Some(name) = &plan.output else {
         return Ok(Output::standard(rt));
@@ -116,8 +126,8 @@ fn open_if_named(
     name: &Option<String>,
 ) -> Result<Option<Opened>, Message>
     ensures input { IfOk result (λ input. is_some input ≡ is_some name.now) }
-    ensures tells { IfErr result (λ message. (word : Word) × (option_map string_bytes name.now ≡ Some word)
-        × TellsUnopened (plan_seen plan.now) word message) }
+    ensures reports { IfErr result (λ message. (word : Word) × (option_map string_bytes name.now ≡ Some word)
+        × ReportsUnopened (plan_seen plan.now) word message) }
 {
     match name {
         Some(name) => Ok(Some(open(rt, plan, name.as_str())?)),
@@ -127,7 +137,7 @@ fn open_if_named(
 
 // Opens an input. `Err` where it can't be opened.
 fn open(rt: &HostRuntime, plan: &Plan, name: &str) -> Result<Opened, Message>
-    ensures { IfErr result (TellsUnopened (plan_seen plan.now) name.now) }
+    ensures { IfErr result (ReportsUnopened (plan_seen plan.now) name.now) }
 {
     match Opened::open(rt, name) {
         Ok(input) => Ok(input),
@@ -136,16 +146,16 @@ fn open(rt: &HostRuntime, plan: &Plan, name: &str) -> Result<Opened, Message>
     }
 }
 
-// Tells that a file can't be opened.
+// Reports that a file can't be opened.
 fn cannot_open(alloc: Global, plan: &Plan, name: &str) -> Message
-    ensures { TellsUnopened (plan_seen plan.now) name.now result }
+    ensures { ReportsUnopened (plan_seen plan.now) name.now result }
 {
-    Message::of(alloc, &Trouble::CannotOpen(plan.command.name(), name))
+    Message::of(alloc, &Obstacle::CannotOpen(plan.command.name(), name))
 }
 
-// How a run ended: its fault, if there is one, is told.
+// How a run ended: its fault, if there is one, is reported.
 fn end_of(alloc: Global, plan: &Plan, outcome: &Outcome) -> Message
-    ensures fault { TellsRun (plan_seen plan.now) (option_map told outcome.now.fault) result }
+    ensures fault { ReportsRun (plan_seen plan.now) (option_map told outcome.now.fault) result }
     ensures none { outcome.now.fault ≡ None → line_seen result.line ≡ [] × result.status ≡ 0 }
 {
     let line = match outcome.fault_line(alloc, plan) {
@@ -164,92 +174,94 @@ mod tests {
     use super::*;
     use std::test::Fail;
 
+    // Words, and the line and status of their end.
+    const ENDS: [(&str, &[u8], u8); 21] = [
+        ("", b"bedtools: no or unknown command\n", 2),
+        ("sort", b"bedtools: no or unknown command\n", 2),
+        ("merge -q", b"bedtools: unknown option: -q\n", 2),
+        (
+            "complement -i a.bed",
+            b"bedtools: required option missing\n",
+            2,
+        ),
+        (
+            "merge -g no/such/file",
+            b"bedtools merge: no/such/file: cannot be opened\n",
+            1,
+        ),
+        (
+            "intersect -a no/a -b no/b -g no/g",
+            b"bedtools intersect: no/g: cannot be opened\n",
+            1,
+        ),
+        (
+            "intersect -a no/a -b no/b -g /dev/null",
+            b"bedtools intersect: no/a: cannot be opened\n",
+            1,
+        ),
+        (
+            "intersect -a /dev/null -b no/b -g /dev/null",
+            b"bedtools intersect: no/b: cannot be opened\n",
+            1,
+        ),
+        (
+            "intersect -a . -b /dev/null -g /dev/null",
+            b"bedtools intersect: .:1: reading failed\n",
+            1,
+        ),
+        (
+            "intersect -a /dev/null -b . -g /dev/null",
+            b"bedtools intersect: .:1: reading failed\n",
+            1,
+        ),
+        (
+            "merge -i . -g /dev/null",
+            b"bedtools merge: .:1: reading failed\n",
+            1,
+        ),
+        ("merge -i /dev/null -g /dev/null", b"", 0),
+        ("bamtobed -i /dev/null", b"", 0),
+        ("bamtobed -g g.txt", b"bedtools: unknown option: -g\n", 2),
+        ("maskfasta -fi /dev/null -bed /dev/null", b"", 0),
+        ("maskfasta -fi /dev/null -bed /dev/null -fo stdout", b"", 0),
+        (
+            "maskfasta -fi /dev/null -bed /dev/null -fo /dev/null",
+            b"bedtools: options exclude one another\n",
+            2,
+        ),
+        (
+            "maskfasta -fi no/fa -bed no/bed -fo no/out",
+            b"bedtools maskfasta: no/fa: cannot be opened\n",
+            1,
+        ),
+        (
+            "maskfasta -fi /dev/null -bed no/bed -fo no/out",
+            b"bedtools maskfasta: no/bed: cannot be opened\n",
+            1,
+        ),
+        (
+            "maskfasta -fi /dev/null -bed /dev/./null -fo no/out",
+            b"bedtools maskfasta: no/out: cannot be opened\n",
+            1,
+        ),
+        (
+            "maskfasta -fi /dev/null -bed . -fo /dev/./null",
+            b"bedtools maskfasta: .:1: reading failed\n",
+            1,
+        ),
+    ];
+
     // With memory for its line, each end has its own line and status.
     #[test]
     fn ends(rt: HostRuntime) -> Result<(), Fail> {
-        let cases: [(&str, &[u8], u8); 21] = [
-            ("", b"bedtools: no or unknown command\n", 2),
-            ("sort", b"bedtools: no or unknown command\n", 2),
-            ("merge -q", b"bedtools: unknown option: -q\n", 2),
-            (
-                "complement -i a.bed",
-                b"bedtools: required option missing\n",
-                2,
-            ),
-            (
-                "merge -g no/such/file",
-                b"bedtools merge: no/such/file: cannot be opened\n",
-                1,
-            ),
-            (
-                "intersect -a no/a -b no/b -g no/g",
-                b"bedtools intersect: no/g: cannot be opened\n",
-                1,
-            ),
-            (
-                "intersect -a no/a -b no/b -g /dev/null",
-                b"bedtools intersect: no/a: cannot be opened\n",
-                1,
-            ),
-            (
-                "intersect -a /dev/null -b no/b -g /dev/null",
-                b"bedtools intersect: no/b: cannot be opened\n",
-                1,
-            ),
-            (
-                "intersect -a . -b /dev/null -g /dev/null",
-                b"bedtools intersect: .:1: reading failed\n",
-                1,
-            ),
-            (
-                "intersect -a /dev/null -b . -g /dev/null",
-                b"bedtools intersect: .:1: reading failed\n",
-                1,
-            ),
-            (
-                "merge -i . -g /dev/null",
-                b"bedtools merge: .:1: reading failed\n",
-                1,
-            ),
-            ("merge -i /dev/null -g /dev/null", b"", 0),
-            ("bamtobed -i /dev/null", b"", 0),
-            ("bamtobed -g g.txt", b"bedtools: unknown option: -g\n", 2),
-            ("maskfasta -fi /dev/null -bed /dev/null", b"", 0),
-            ("maskfasta -fi /dev/null -bed /dev/null -fo stdout", b"", 0),
-            (
-                "maskfasta -fi /dev/null -bed /dev/null -fo /dev/null",
-                b"bedtools: options exclude one another\n",
-                2,
-            ),
-            (
-                "maskfasta -fi no/fa -bed no/bed -fo no/out",
-                b"bedtools maskfasta: no/fa: cannot be opened\n",
-                1,
-            ),
-            (
-                "maskfasta -fi /dev/null -bed no/bed -fo no/out",
-                b"bedtools maskfasta: no/bed: cannot be opened\n",
-                1,
-            ),
-            (
-                "maskfasta -fi /dev/null -bed /dev/./null -fo no/out",
-                b"bedtools maskfasta: no/out: cannot be opened\n",
-                1,
-            ),
-            (
-                "maskfasta -fi /dev/null -bed . -fo /dev/./null",
-                b"bedtools maskfasta: .:1: reading failed\n",
-                1,
-            ),
-        ];
-        for (command, line, status) in &cases {
+        for (command, line, status) in ENDS {
             let mut words = Vec::new(rt.alloc());
             for word in command.split_whitespace() {
                 words.push(String::from_str(rt.alloc(), word)?)?;
             }
             let message = start(&rt, words.as_slice());
-            assert_eq!(rt; message.line.as_bytes(), *line);
-            assert_eq!(rt; message.status, *status);
+            assert_eq!(rt; message.line.as_bytes(), line);
+            assert_eq!(rt; message.status, status);
         }
         Ok(())
     }

@@ -1,7 +1,7 @@
 //! What the program itself reports: the lines that come of no run.
 
 ghost use Rattle.std.specs.Prelude.{◌≡◌, ◌++◌, codes, IfOk};
-ghost use Rattle.bedtools.specs.Message.{CanBeTold, Says, line_of, line_seen, status_of};
+ghost use Rattle.bedtools.specs.Message.{CanBeReported, Says, line_of, line_seen, status_of};
 
 use bt_tool::{Usage, usage_line};
 use std::alloc::{AllocError, Global};
@@ -9,7 +9,7 @@ use std::io::Write;
 
 /// What kept a run from beginning, or its fault from being reported.
 #[derive(Clone, Copy)]
-pub enum Trouble<'a> {
+pub enum Obstacle<'a> {
     /// A word of the command line isn't UTF-8.
     NotUnicode,
     /// The words ask for nothing that can be done.
@@ -40,14 +40,14 @@ pub enum MessageLine {
 impl Message {
     /// Says what kept a run from beginning. The exit status is 2 for a command line that can't be used,
     /// else 1. Where the line finds no memory, that is reported, with status 1.
-    pub fn of(alloc: Global, trouble: &Trouble<'_>) -> Message
-        requires { CanBeTold trouble.now }
-        ensures { Says (line_of trouble.now) (status_of trouble.now) result }
+    pub fn of(alloc: Global, obstacle: &Obstacle<'_>) -> Message
+        requires { CanBeReported obstacle.now }
+        ensures { Says (line_of obstacle.now) (status_of obstacle.now) result }
     {
-        match line_of(alloc, trouble) {
+        match line_of(alloc, obstacle) {
             Ok(line) => Message {
                 line: MessageLine::Text(line),
-                status: status_of(trouble),
+                status: status_of(obstacle),
             },
             Err(_) => Message::no_memory(),
         }
@@ -84,27 +84,27 @@ impl MessageLine {
 }
 
 // The line of what kept a run from beginning.
-fn line_of(alloc: Global, trouble: &Trouble<'_>) -> Result<Vec<u8>, AllocError>
-    requires { CanBeTold trouble.now }
-    ensures { IfOk result (λ line. line.items ≡ line_of trouble.now) }
+fn line_of(alloc: Global, obstacle: &Obstacle<'_>) -> Result<Vec<u8>, AllocError>
+    requires { CanBeReported obstacle.now }
+    ensures { IfOk result (λ line. line.items ≡ line_of obstacle.now) }
 {
-    match trouble {
-        Trouble::NotUnicode => Vec::from_slice(alloc, b"bedtools: argument is not UTF-8\n"),
-        Trouble::Usage(words, usage) => usage_line(alloc, words, usage),
-        Trouble::ClosedStream => {
+    match obstacle {
+        Obstacle::NotUnicode => Vec::from_slice(alloc, b"bedtools: argument is not UTF-8\n"),
+        Obstacle::Usage(words, usage) => usage_line(alloc, words, usage),
+        Obstacle::ClosedStream => {
             Vec::from_slice(alloc, b"bedtools: standard stream is closed\n")
         }
-        Trouble::CannotOpen(command, name) => cannot_open(alloc, command, name),
+        Obstacle::CannotOpen(command, name) => cannot_open(alloc, command, name),
     }
 }
 
 // The exit status that goes with it.
-fn status_of(trouble: &Trouble<'_>) -> u8
-    ensures { result ≡ status_of trouble.now }
+fn status_of(obstacle: &Obstacle<'_>) -> u8
+    ensures { result ≡ status_of obstacle.now }
 {
-    match trouble {
-        Trouble::NotUnicode | Trouble::Usage(_, _) => 2,
-        Trouble::ClosedStream | Trouble::CannotOpen(_, _) => 1,
+    match obstacle {
+        Obstacle::NotUnicode | Obstacle::Usage(_, _) => 2,
+        Obstacle::ClosedStream | Obstacle::CannotOpen(_, _) => 1,
     }
 }
 
@@ -134,35 +134,41 @@ mod tests {
             String::from_str(alloc, "-q")?,
         ];
         let usage = Usage { number: 2, word: 1 };
-        let cases: [(Trouble<'_>, &[u8], u8); 4] = [
+        let cases: [(Obstacle<'_>, &[u8], u8); 4] = [
             (
-                Trouble::CannotOpen("merge", "g.txt"),
+                Obstacle::CannotOpen("merge", "g.txt"),
                 b"bedtools merge: g.txt: cannot be opened\n",
                 1,
             ),
-            (Trouble::NotUnicode, b"bedtools: argument is not UTF-8\n", 2),
             (
-                Trouble::ClosedStream,
+                Obstacle::NotUnicode,
+                b"bedtools: argument is not UTF-8\n",
+                2,
+            ),
+            (
+                Obstacle::ClosedStream,
                 b"bedtools: standard stream is closed\n",
                 1,
             ),
             (
-                Trouble::Usage(&words, usage),
+                Obstacle::Usage(&words, usage),
                 b"bedtools: unknown option: -q\n",
                 2,
             ),
         ];
-        for (trouble, line, status) in &cases {
-            let message = Message::of(alloc, trouble);
+        for (obstacle, line, status) in &cases {
+            let message = Message::of(alloc, obstacle);
             assert_eq!(rt; message.line.as_bytes(), *line);
             assert_eq!(rt; message.status, *status);
         }
-        let message = Message::no_memory();
-        assert_eq!(rt;
-            message.line.as_bytes(),
-            b"bedtools: no memory\n".as_slice()
-        );
-        assert_eq!(rt; message.status, 1);
         Ok(())
+    }
+
+    #[test]
+    fn want_of_memory(rt: HostRuntime) {
+        let message = Message::no_memory();
+        let line = b"bedtools: no memory\n".as_slice();
+        assert_eq!(rt; message.line.as_bytes(), line);
+        assert_eq!(rt; message.status, 1);
     }
 }
