@@ -28,12 +28,24 @@ pub front_held : (took : Option (List ℕ)) (held more : List ℕ) → IsFrontOf
 front_held None held more = tt
 front_held (Some took) held more = (held ++ more, sym (append_assoc took held more))
 
--- a front of what is held back, before a piece that was to follow
-pub front_before : (old new : Option (List ℕ)) (held piece : List ℕ) → IsFrontOf new old held → IsFrontOf new (append_known old held) piece
-front_before None None held piece h = tt
-front_before (Some old) None held piece h = tt
-front_before None (Some new) held piece h = tt
-front_before (Some old) (Some new) held piece h = (h.0 ++ piece, sym (append_assoc new h.0 piece) ∙ ap (λ l. l ++ piece) h.1)
+-- a front of the first bytes of a piece is one of the piece
+pub front_first : (old new : Option (List ℕ)) (piece : List ℕ) (n : ℕ) → IsFrontOf new old (take n piece) → IsFrontOf new old piece
+front_first None None piece n h = tt
+front_first (Some old) None piece n h = tt
+front_first None (Some new) piece n h = tt
+front_first (Some old) (Some new) piece n h = (
+  h.0 ++ drop n piece,
+  sym (append_assoc new h.0 (drop n piece)) ∙ ap (λ l. l ++ drop n piece) h.1 ∙ append_assoc old (take n piece) (drop n piece)
+      ∙ ap (λ l. old ++ l) (take-append-drop n piece),
+)
+
+-- a front of what is held back and of the first bytes of a piece
+pub front_filled : (old new : Option (List ℕ)) (held piece : List ℕ) (n : ℕ) → IsFrontOf new old (held ++ take n piece) → IsFrontOf new (append_known old held) piece
+front_filled None None held piece n h = tt
+front_filled (Some old) None held piece n h = tt
+front_filled None (Some new) held piece n h = tt
+front_filled (Some old) (Some new) held piece n h =
+    front_first (Some (old ++ held)) (Some new) piece n (h.0, h.1 ∙ sym (append_assoc old held (take n piece)))
 
 -- what was taken grows, and grows again
 pub grows_both : (old mid new : Option (List ℕ)) → Grows old mid → Grows mid new → Grows old new

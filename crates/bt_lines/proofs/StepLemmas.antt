@@ -181,8 +181,8 @@ module _ {S : Type 0} (left : S → Option (List ℕ)) (failed end : S → Bool)
     goes = is.good;
   }
 
-  pub stepped_fed : Stepped left failed end old (Ok (tt {0})) new
-  stepped_fed = record {
+  pub stepped_fed : {A : Type 0} (done : A) → Stepped left failed end old (Ok done) new
+  stepped_fed done = record {
     answers = subst (λ line. StepsTo left failed old line new) (sym at) gives_fed;
     sound = λ h. record {
       end = λ e. absurd (false≢true (sym is.untold ∙ e));
@@ -364,15 +364,15 @@ module _ {S : Type 0} (left : S → Option (List ℕ)) (failed end : S → Bool)
 
 module _ {S : Type 0} (left : S → Option (List ℕ)) (failed end : S → Bool) (old new : LineReader S) (going : is_going old ≡ true) (same : new.input ≡ old.input) where
   -- a line that stands whole in the block
-  pub cut_step : (ending : LineEnd) → CutsLine (unread old.block) (text_in new.block) ending (unread new.block) → new.source ≡ old.source → new.taken ≡ old.taken
-      → new.lines ≡ old.lines + 1 → new.state ≡ Reading → new.ending ≡ ending → Stepped left failed end old (Ok (tt {0})) new
+  pub cut_step : {A : Type 0} (done : A) (ending : LineEnd) → CutsLine (unread old.block) (text_in new.block) ending (unread new.block) → new.source ≡ old.source → new.taken ≡ old.taken
+      → new.lines ≡ old.lines + 1 → new.state ≡ Reading → new.ending ≡ ending → Stepped left failed end old (Ok done) new
   unfolding source_of input_of lines_given line_at
-  cut_step ending cut same_source same_taken more state is_ending =
+  cut_step done ending cut same_source same_taken more state is_ending =
       let number : new.lines ≡ suc old.lines = omega arith in
       let some : nat_lt 0 (suc old.lines) ≡ true = grind (arith, nat_tests) in
       stepped_fed left failed end old new [] cut.piece (goes old going) (goes new (rw state refl)) same number
       (rw same_source (Consumes-nil (left old.source))) (same_taken ∙ sym (add-zero old.taken)) (append-nil (unread old.block) ∙ cut.cut) cut.clear
-      (rw (state, number, is_ending, cut.stripped, cut.ended, some) refl) (λ h. same_source) (ap failed same_source)
+      (rw (state, number, is_ending, cut.stripped, cut.ended, some) refl) (λ h. same_source) (ap failed same_source) done
 
   module _ (before : List ℕ) (stop : Stop) (fills : Fills left failed end old.source (unread old.block) old.taken stop new.source (unread new.block) before new.taken) where
     -- a line that reaches past its block
@@ -384,7 +384,7 @@ module _ {S : Type 0} (left : S → Option (List ℕ)) (failed end : S → Bool)
         let number : new.lines ≡ suc old.lines = omega arith in
         stepped_fed left failed end old new fills.bytes before (goes old going) (goes new (rw state refl)) same number
         fills.consumed (omega (arith, fills.counted)) (fills.joined ∙ ap (λ l. before ++ l) fills.stopped.0) fills.clear
-        (rw (state, number, is_ending, stripped) refl) (λ h. absurd (omega (arith, h, line_feeds-none (unread old.block) no_line))) fills.stopped.1
+        (rw (state, number, is_ending, stripped) refl) (λ h. absurd (omega (arith, h, line_feeds-none (unread old.block) no_line))) fills.stopped.1 (tt {0})
 
     -- the last line
     pub last_step : stop ≡ StopEnd → 0 < length before → new.carried.items ≡ strip_last 13 before → new.lines ≡ old.lines + 1 → new.state ≡ LastLine

@@ -101,7 +101,9 @@ impl<S: Source> LineReader<S> {
         ensures* after { sem 𝓛 (Rests (the_row S.row) self.entry (λ new.
             NextLine S.left S.has_failed S.end_told self.old result new)) }
     {
-        self.step()?;
+        if !self.cuts_line() {
+            self.step()?;
+        }
         Ok(self.line())
     }
 
@@ -146,13 +148,41 @@ impl<S: Source> LineReader<S> {
         source
     }
 
-    // Moves on to the next line, if there is one.
+    // Whether neither the end nor a fault has come.
+    fn is_going(&self) -> bool
+        ensures { result ≡ is_going self.now }
+    {
+        matches!(self.state, State::Reading | State::Carried)
+    }
+
+    // Moves on to the next line where it stands whole in the block, and else does nothing.
     #[inline(always)]
+    fn cuts_line(&mut self) -> bool
+        ensures cut { result ≡ true → Stepped S.left S.has_failed S.end_told self.old (Ok result) self.new }
+        ensures unchanged { result ≡ false → self.new ≡ self.old }
+        ensures none { result ≡ false → is_going self.old ≡ true → NoLineFeed (taken_ahead self.old) }
+    {
+        if !self.is_going() {
+            return false;
+        }
+        let Some(length) = self.block.find_feed() else {
+            return false;
+        };
+        self.ending = self.block.cut_line(length);
+        self.lines += 1;
+        self.state = State::Reading;
+        true
+    }
+
+    // Moves on where no whole line stands in the block: reads one, if there is one.
+    #[cold]
+    #[inline(never)]
     fn step(&mut self) -> Result<(), Fault>
+        requires { is_going self.old ≡ true → NoLineFeed (taken_ahead self.old) }
         ensures { Stepped S.left S.has_failed S.end_told self.old result self.new }
     {
         match self.state {
-            State::Reading | State::Carried => self.read_line(),
+            State::Reading | State::Carried => self.read_on(),
             State::LastLine => {
                 self.state = State::Ended;
                 Ok(())
@@ -163,25 +193,7 @@ impl<S: Source> LineReader<S> {
         }
     }
 
-    // Moves on to the next line: nothing is read where it stands whole in the block.
-    fn read_line(&mut self) -> Result<(), Fault>
-        requires { is_going self.old ≡ true }
-        ensures { Stepped S.left S.has_failed S.end_told self.old result self.new }
-    {
-        match self.block.find_feed() {
-            Some(length) => {
-                self.ending = self.block.cut_line(length);
-                self.lines += 1;
-                self.state = State::Reading;
-                Ok(())
-            }
-            None => self.read_on(),
-        }
-    }
-
     // Reads the line that reaches past the block.
-    #[cold]
-    #[inline(never)]
     fn read_on(&mut self) -> Result<(), Fault>
         requires going { is_going self.old ≡ true }
         requires no_line { NoLineFeed (taken_ahead self.old) }

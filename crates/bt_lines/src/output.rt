@@ -1,6 +1,6 @@
 //! Bytes out, in order, to a sink.
 
-ghost use Rattle.std.specs.Prelude.{◌≡◌, ◌++◌, ℕ, ◌≤◌, false, true, [], length, OnOk, OnErr, IfErr, IsErr, Some, None};
+ghost use Rattle.std.specs.Prelude.{◌≡◌, ◌++◌, ◌+◌, ℕ, ◌≤◌, ◌<◌, false, true, [], length, OnOk, OnErr, IfErr, IsErr, Some, None};
 ghost use Rattle.std.specs.Io.KnownBytes.{Appends, Keeps, append_known};
 ghost use Rattle.bt_lines.specs.Output.{HoldsBlock, IsFrontOf, Grows, block_size};
 ghost use Rattle.bt_lines.specs.Fault.{write_failed};
@@ -92,8 +92,10 @@ impl<K: Sink> Out<K> {
         Ok(())
     }
 
-    // Holds back a piece and the short one that ends it, where there is room for both.
-    pub(crate) fn hold_both(&mut self, piece: &[u8], end: &[u8]) -> bool
+    /// Holds back a piece and the short one that ends it, where there is room for both, and else does nothing.
+    /// No write is made, so none can fail.
+    #[inline(always)]
+    pub fn hold_both(&mut self, piece: &[u8], end: &[u8]) -> bool
         ensures held { result ≡ true → PutsAll self.old (piece.now ++ end.now) self.new }
         ensures unchanged { result ≡ false → self.new ≡ self.old }
     {
@@ -146,11 +148,14 @@ impl<K: Sink> Out<K> {
     }
 }
 
-// Puts a piece for which there is no room behind the bytes that are held back: they go to the sink,
-// and the piece after them, unless it is shorter than a block.
+// Puts a piece for which there is no room behind the bytes that are held back: it fills their block up,
+// which goes to the sink, and so do the further whole blocks of the piece. So until a flush the sink is
+// given whole blocks alone.
 #[cold]
 #[inline(never)]
 fn put_across<K: Sink>(sink: &mut K, held: &mut HeldBack, piece: &[u8]) -> Result<(), DeviceFailed>
+    requires fits { length held.old ≤ block_size }
+    requires across { block_size < length held.old + length piece.now }
     ensures put { OnOk result (Appends (append_known (K.took sink.old) held.old)
         (append_known (K.took sink.new) held.new) piece.now) }
     ensures block { length held.new ≤ block_size }
@@ -160,12 +165,26 @@ fn put_across<K: Sink>(sink: &mut K, held: &mut HeldBack, piece: &[u8]) -> Resul
     ensures served { OnOk result (K.has_failed sink.new ≡ K.has_failed sink.old) }
     ensures failed { OnErr result (K.has_failed sink.new ≡ true) }
 {
+    let room = held.room();
+    held.append(&piece[..room]);
     send(sink, held)?;
-    if piece.len() < BLOCK {
-        held.append(piece);
-        return Ok(());
-    }
-    write_whole(sink, piece)
+    put_blocks(sink, held, &piece[room..])
+}
+
+// Hands the whole blocks of a piece to the sink, and holds back what is left of it.
+fn put_blocks<K: Sink>(sink: &mut K, held: &mut HeldBack, piece: &[u8]) -> Result<(), DeviceFailed>
+    requires { held.old ≡ [] }
+    ensures put { OnOk result (Appends (K.took sink.old) (append_known (K.took sink.new) held.new) piece.now) }
+    ensures block { length held.new ≤ block_size }
+    ensures front { OnErr result (IsFrontOf (K.took sink.new) (K.took sink.old) piece.now) }
+    ensures grows { Grows (K.took sink.old) (K.took sink.new) }
+    ensures served { OnOk result (K.has_failed sink.new ≡ K.has_failed sink.old) }
+    ensures failed { OnErr result (K.has_failed sink.new ≡ true) }
+{
+    let whole = piece.len() - piece.len() % BLOCK;
+    write_whole(sink, &piece[..whole])?;
+    held.append(&piece[whole..]);
+    Ok(())
 }
 
 // Hands on the bytes that are held back, and flushes the sink.
