@@ -1,5 +1,5 @@
 -- Lemmas on the steps of a masking engine.
-use Rattle.std.proofs.Common.{◌≡◌, ℕ, nat_eq, Bool, true, false, cond, not, ◌||◌, nat_lt, length, List, [], ◌∷◌, ◌++◌, arith, Some, None, Result, Ok, Err, refl, sym, ap, ◌∙◌, subst, inl, inr}
+use Rattle.std.proofs.Common.{◌≡◌, ℕ, nat_eq, Bool, true, false, cond, not, ◌||◌, ◌&&◌, filter, if◌then◌else◌, is_none, is_some, nat_le, Option, nat_lt, length, List, [], ◌∷◌, ◌++◌, arith, Some, None, Result, Ok, Err, refl, sym, ap, ◌∙◌, subst, inl, inr}
 use Rattle.std.proofs.lemmas.Bool.Decides.{nat_tests}
 use Rattle.std.specs.Prelude.{IsErr, IsOk}
 use Rattle.bt_bed.specs.Feature.{Feature}
@@ -10,9 +10,10 @@ use Rattle.bt_lines.specs.Lines.{end_bytes}
 use Rattle.bt_lines.specs.Putting.{Adds, FailsToAdd, Grown}
 use Rattle.bt_lines.specs.declared.fault.Fault.{Fault}
 use Rattle.bt_seq.proofs.StretchLemmas.{none_masked}
-use Rattle.bt_seq.specs.Masking.{Keeps, Masking, TakesLine, Waiting, Writes, WritesGiven, decides, decides_by, decides_up_to, is_stray, line_bytes, may_grow, moved_to, with_owner, writes_at_once}
-use Rattle.bt_seq.specs.Matching.{Matched, matched_with, owner_of}
-use Rattle.bt_seq.specs.Sequences.{is_header}
+use Rattle.bt_seq.specs.Masking.{Keeps, Masking, PassesLine, TakesLine, Waiting, Writes, WritesGiven, decides, decides_by, decides_up_to, is_stray, line_bytes, may_grow, moved_to, with_owner, writes_at_once}
+use Rattle.bt_seq.specs.Matching.{Matched, matched_with, named, owner_of}
+use Rattle.bt_seq.specs.Sequences.{is_header, name_in}
+use Rattle.bt_seq.specs.Window.{gone_on, no_bases}
 use Rattle.bt_seq.specs.Stretches.{masked_in}
 use Rattle.bt_seq.specs.declared.mask_want.MaskWant.TheVariants.{Line, Bed, Nothing}
 use Rattle.bt_seq.specs.declared.matching.Owner.{Owner}
@@ -130,6 +131,42 @@ pub keeps_line : {A : Type 0} (r : Result A Fault) (old moved new : Masking) (nu
 keeps_line r old moved new number line out m later keeps =
     waits_now r old new number line out m.1 (sym (ap (λ (s : Masking). writes_at_once s line.text) m.0) ∙ later)
     (subst (λ (s : Masking). Keeps s line r new) m.0 keeps)
+
+ahead_parts : (h n e d : Bool) → (not h && (n && (e && d))) ≡ true
+    → (h ≡ false) × (n ≡ true) × (e ≡ true) × (d ≡ true)
+ahead_parts false true true true is = (refl, refl, refl, refl)
+ahead_parts false true true false is = absurd (let apart : false ≡ true = is in cc)
+ahead_parts false true false d is = absurd (let apart : false ≡ true = is in cc)
+ahead_parts false false e d is = absurd (let apart : false ≡ true = is in cc)
+ahead_parts true n e d is = absurd (let apart : false ≡ true = is in cc)
+
+named_not_stray : (name : Option (List ℕ)) (h text : Bool) → is_some name ≡ true → (not h && (is_none name && text)) ≡ false
+named_not_stray (Some name) true text e = refl
+named_not_stray (Some name) false text e = refl
+named_not_stray None h text e = absurd (let apart : false ≡ true = e in cc)
+
+decided_now : (ended none h within : Bool) → h ≡ false → (ended || within) ≡ true → (ended || (none || (not h && within))) ≡ true
+decided_now true none h within e is = refl
+decided_now false true h within e is = refl
+decided_now false false false within e is = is
+decided_now false false true within e is = absurd (let apart : true ≡ false = e in cc)
+
+none_held_on : (held : List Stretch) (place : ℕ) → held ≡ [] → filter (λ (s : Stretch). nat_lt place s.stop) held ≡ []
+none_held_on held place none = ap (λ ss. filter (λ (s : Stretch). nat_lt place s.stop) ss) none
+
+-- a line that lies ahead was written as it is
+pub passes_line : {A : Type 0} (done : A) (old new : Masking) (number : ℕ) (line : Waiting) (out grown : Output)
+    → PassesLine old line out new grown → TakesLine old number line out (Ok done) new grown
+passes_line done old new number line out grown p =
+    let moved : Masking = record old { window = gone_on old.window (length line.text) } in
+    let ahead = ahead_parts (is_header line.text) (is_some old.matched.name) (nat_eq (length old.window.held) 0) (old.bed_ended || nat_le moved.window.bases old.decided_to) p.0 in
+    let is_moved : moved ≡ moved_to old line.text =
+    ap (λ b. if b then record old { matched = named old.matched (name_in old.full line.text); window = no_bases } else moved) (sym ahead.0) in
+    let none : moved.window.held ≡ [] = none_held_on old.window.held old.window.bases (none_held old.window.held ahead.2) in
+    writes_line (Ok done) old moved new number line out grown
+    (is_moved, named_not_stray old.matched.name (is_header line.text) (nat_lt 0 (length line.text)) ahead.1)
+    (decided_now old.bed_ended (is_none old.matched.name) (is_header line.text) (nat_le moved.window.bases old.decided_to) ahead.0 ahead.3)
+    (p.1, subst (λ (l : List ℕ). Grown out l grown) (plain_bytes moved line none) p.2)
 
 -- there was no memory for the name of a header
 pub header_may_grow : (m : Masking) (text : List ℕ) → is_header text ≡ true → may_grow m text ≡ true

@@ -5,7 +5,7 @@ use Rattle.bt_seq.specs.declared.mask_want.Taken.TheVariants.{Yes, No}
 use Rattle.bt_seq.specs.declared.mask_want.Taken.{Taken}
 use Rattle.std.specs.Prelude.{◌≡◌, ◌⊎◌, ℕ, ◌&&◌, ◌||◌, not, Bool, true, false, List, ◌++◌, length}
 use Rattle.std.specs.Prelude.{nat_lt, Option, Some, None, is_none, ⊤, nat_le, Result, Ok, Err}
-use Rattle.std.specs.Prelude.{if◌then◌else◌, cond, [], ◌∷◌}
+use Rattle.std.specs.Prelude.{if◌then◌else◌, cond, [], ◌∷◌, is_some, nat_eq}
 use Rattle.bt_bed.specs.Feature.{Feature}
 use Rattle.bt_bed.specs.LineKind.{fault_at_line}
 use Rattle.bt_lines.specs.Fault.{no_memory}
@@ -122,6 +122,24 @@ TakesLine old number line out (Err fault) new grown =
     × (FailsToAdd out (bytes_at_once (moved_to old line.text) line) (told fault) grown
     ⊎ ((told fault ≡ no_memory) × (grown ≡ out)
     × (may_grow (moved_to old line.text) line.text ≡ true)))))
+
+-- whether the next line, of this text, is no header, nothing is held, and the records have ended or
+-- the record ahead decides it
+abbrev pub lies_ahead : Masking → List ℕ → Bool
+lies_ahead m text =
+    not (is_header text) && (is_some m.matched.name && (nat_eq (length m.window.held) 0
+    && (m.bed_ended || nat_le (gone_on m.window (length text)).bases m.decided_to)))
+
+-- taking such a line, which is written as it is
+abbrev pub PassesLine : Masking → Waiting → Output → Masking → Output → Type 0
+PassesLine old line out new grown =
+    (lies_ahead old line.text ≡ true)
+    × (new ≡ record old {
+      window = gone_on old.window (length line.text);
+      waiting = None;
+      want = Line;
+    })
+    × Grown out (line.text ++ end_bytes line.ending) grown
 
 -- with the sequence of the block of a record on this chromosome
 abbrev pub with_owner : Masking → List ℕ → Masking

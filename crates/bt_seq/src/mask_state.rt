@@ -5,7 +5,7 @@ ghost use Rattle.bt_lines.specs.Fault.{no_memory};
 ghost use Rattle.bt_lines.specs.Names.{told};
 ghost use Rattle.bt_bed.specs.Bed.{feature_lent};
 ghost use Rattle.bt_bed.specs.LineKind.{fault_at_line};
-ghost use Rattle.bt_seq.specs.Masking.{ChecksBed, Keeps, Moves, TakesBed, TakesLine, Waiting, Writes, WritesGiven, decides_by, decides_up_to, with_stretch, writes_at_once};
+ghost use Rattle.bt_seq.specs.Masking.{ChecksBed, Keeps, Moves, PassesLine, TakesBed, TakesLine, Waiting, Writes, WritesGiven, decides_by, decides_up_to, lies_ahead, with_stretch, writes_at_once};
 ghost use Rattle.bt_seq.specs.Sequences.{is_header};
 ghost use Rattle.bt_seq.specs.Window.{no_bases};
 
@@ -13,7 +13,7 @@ use crate::header_name::{is_header, name_in};
 use crate::mask_how::MaskHow;
 use crate::mask_want::{MaskWant, Taken};
 use crate::matching::{Matching, Owner};
-use crate::put_text::put_text;
+use crate::put_text::{hold_text, put_text};
 use crate::window::{LIMIT, Window};
 use bt_bed::BedRef;
 use bt_lines::{Fault, Input, Kind, Line, LineEnd, Out, Place, Sink};
@@ -122,6 +122,17 @@ impl MaskState {
         ensures { TakesLine self.old line.now.number
             (record { text = line.now.text.now; ending = line.now.ending }) out.old result self.new out.new }
     {
+        if self.passes(line.text, line.ending, out) {
+            return Ok(());
+        }
+        self.take_longer(line, out)
+    }
+
+    // The same for a line of any kind.
+    fn take_longer<K: Sink>(&mut self, line: &Line<'_>, out: &mut Out<K>) -> Result<(), Fault>
+        ensures { TakesLine self.old line.now.number
+            (record { text = line.now.text.now; ending = line.now.ending }) out.old result self.new out.new }
+    {
         if let Err(fault) = self.move_to(line.number, line.text) {
             self.want = MaskWant::Nothing;
             return Err(fault);
@@ -193,6 +204,34 @@ impl MaskState {
         }
         self.want = MaskWant::Nothing;
         Ok(())
+    }
+
+    // Writes the next line as it is given, where that is known before it is looked at more closely and
+    // the output has room for it: so most lines go where few records mask anything.
+    #[inline(always)]
+    fn passes<K: Sink>(&mut self, text: &[u8], ending: LineEnd, out: &mut Out<K>) -> bool
+        ensures passed { result ≡ true → PassesLine self.old
+            (record { text = text.now; ending = ending }) out.old self.new out.new }
+        ensures unchanged { result ≡ false → (self.new ≡ self.old) × (out.new ≡ out.old) }
+    {
+        if !self.lies_ahead(text) || !hold_text(text, ending, out) {
+            return false;
+        }
+        self.window.go_on(text.len());
+        self.waits = false;
+        self.want = MaskWant::Line;
+        true
+    }
+
+    // Whether the next line, of this text, has bases into which nothing that is held can reach, and is
+    // decided before it is given.
+    fn lies_ahead(&self, text: &[u8]) -> bool
+        ensures { result ≡ lies_ahead self.now text.now }
+    {
+        !is_header(text)
+            && self.matching.is_named()
+            && self.window.is_empty()
+            && (self.bed_ended || !self.window.next_reaches(self.decided_to, text.len()))
     }
 
     // Whether a line of this text is written at once: the records have ended, no header has come, or it is

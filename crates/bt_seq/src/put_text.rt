@@ -1,10 +1,19 @@
 //! Lines put as they stood.
 
-ghost use Rattle.std.specs.Prelude.{◌≡◌, ◌++◌};
+ghost use Rattle.std.specs.Prelude.{◌≡◌, ◌++◌, true, false};
 ghost use Rattle.bt_lines.specs.Lines.{end_bytes};
-ghost use Rattle.bt_lines.specs.Putting.{Adds};
+ghost use Rattle.bt_lines.specs.Putting.{Adds, Grown};
 
 use bt_lines::{Fault, LineEnd, Out, Sink, put_line};
+
+// Holds back a text and its line end, where that is a line feed and there is room for both.
+#[inline(always)]
+pub(crate) fn hold_text<K: Sink>(text: &[u8], ending: LineEnd, out: &mut Out<K>) -> bool
+    ensures held { result ≡ true → Grown out.old (text.now ++ end_bytes ending) out.new }
+    ensures unchanged { result ≡ false → out.new ≡ out.old }
+{
+    ending == LineEnd::Lf && out.hold_both(text, b"\n")
+}
 
 // Puts a text and its line end, which mostly is a line feed. It takes no memory.
 #[inline(always)]

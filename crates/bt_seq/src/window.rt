@@ -74,6 +74,13 @@ impl Window {
         place < self.bases
     }
 
+    // Whether a place lies before the end of the next line, which has so many bases.
+    pub(crate) fn next_reaches(&self, place: u64, count: usize) -> bool
+        ensures { result ≡ nat_lt place (gone_on self.now count).bases }
+    {
+        place < up_to_limit(self.bases, count)
+    }
+
     // Holds the part of a record that reaches past the start of the line.
     pub(crate) fn hold(&mut self, start: u64, stop: u64) -> Result<(), AllocError>
         ensures held { OnOk result (self.new ≡ (if nat_lt self.old.before stop
