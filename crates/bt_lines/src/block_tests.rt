@@ -150,7 +150,7 @@ fn drawn_texts_by_a_plain_split(rt: HostRuntime) -> Result<(), Fail> {
     Ok(())
 }
 
-// How many bytes the sink takes of pieces of these lengths.
+// How many bytes the sink takes of pieces of these lengths: whole blocks.
 fn taken_of(alloc: Global, lengths: &[usize]) -> Result<usize, Fail> {
     let mut output = Out::new(ScriptSink::new(alloc, BLOCK, None));
     for length in lengths {
@@ -166,8 +166,8 @@ fn a_block_is_held_back(rt: HostRuntime) -> Result<(), Fail> {
         (&[8192], 0),
         (&[8191, 1], 0),
         (&[8192, 1], 8192),
-        (&[10, 8190], 10),
-        (&[1, 20000], 20001),
+        (&[10, 8190], 8192),
+        (&[1, 20000], 16384),
     ];
     for (lengths, want) in cases {
         assert_eq!(rt; taken_of(rt.alloc(), lengths)?, want);

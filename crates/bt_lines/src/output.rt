@@ -1,6 +1,6 @@
 //! Bytes out, in order, to a sink.
 
-ghost use Rattle.std.specs.Prelude.{◌≡◌, ◌++◌, ◌+◌, ℕ, ◌≤◌, ◌<◌, false, true, [], length, OnOk, OnErr, IfErr, IsErr, Some, None};
+ghost use Rattle.std.specs.Prelude.{◌≡◌, ◌++◌, ◌+◌, ◌%◌, ℕ, ◌≤◌, ◌<◌, false, true, [], length, OnOk, OnErr, IfErr, IsErr, Some, None};
 ghost use Rattle.std.specs.Io.KnownBytes.{Appends, Keeps, append_known};
 ghost use Rattle.bt_lines.specs.Output.{HoldsBlock, IsFrontOf, Grows, block_size};
 ghost use Rattle.bt_lines.specs.Fault.{write_failed};
@@ -92,11 +92,12 @@ impl<K: Sink> Out<K> {
         Ok(())
     }
 
-    /// Holds back a piece and the short one that ends it, where there is room for both, and else does nothing.
-    /// No write is made, so none can fail.
+    /// Puts a piece and a short one behind it, if no write has failed and there is room for both, and
+    /// answers whether it did; else nothing changes. It writes nothing to the sink.
     #[inline(always)]
     pub fn hold_both(&mut self, piece: &[u8], end: &[u8]) -> bool
         ensures held { result ≡ true → PutsAll self.old (piece.now ++ end.now) self.new }
+        ensures untaken { self.new.took ≡ self.old.took }
         ensures unchanged { result ≡ false → self.new ≡ self.old }
     {
         if self.has_failed || self.held.room() < piece.len() + end.len() {
@@ -149,8 +150,8 @@ impl<K: Sink> Out<K> {
 }
 
 // Puts a piece for which there is no room behind the bytes that are held back: it fills their block up,
-// which goes to the sink, and so do the further whole blocks of the piece. So until a flush the sink is
-// given whole blocks alone.
+// which goes to the sink, and so do the further whole blocks of the piece. So the sink is given whole
+// blocks until a flush, as long as it takes them whole.
 #[cold]
 #[inline(never)]
 fn put_across<K: Sink>(sink: &mut K, held: &mut HeldBack, piece: &[u8]) -> Result<(), DeviceFailed>
@@ -175,6 +176,7 @@ fn put_across<K: Sink>(sink: &mut K, held: &mut HeldBack, piece: &[u8]) -> Resul
 fn put_blocks<K: Sink>(sink: &mut K, held: &mut HeldBack, piece: &[u8]) -> Result<(), DeviceFailed>
     requires { held.old ≡ [] }
     ensures put { OnOk result (Appends (K.took sink.old) (append_known (K.took sink.new) held.new) piece.now) }
+    ensures rest { OnOk result (length held.new ≡ length piece.now % block_size) }
     ensures block { length held.new ≤ block_size }
     ensures front { OnErr result (IsFrontOf (K.took sink.new) (K.took sink.old) piece.now) }
     ensures grows { Grows (K.took sink.old) (K.took sink.new) }

@@ -154,7 +154,7 @@ decided_now false false true within e is = absurd (let apart : true ≡ false = 
 none_held_on : (held : List Stretch) (place : ℕ) → held ≡ [] → filter (λ (s : Stretch). nat_lt place s.stop) held ≡ []
 none_held_on held place none = ap (λ ss. filter (λ (s : Stretch). nat_lt place s.stop) ss) none
 
--- a line that lies ahead was written as it is
+-- a line that stays as it was given was written
 pub passes_line : {A : Type 0} (done : A) (old new : Masking) (number : ℕ) (line : Waiting) (out grown : Output)
     → PassesLine old line out new grown → TakesLine old number line out (Ok done) new grown
 passes_line done old new number line out grown p =

@@ -123,17 +123,17 @@ TakesLine old number line out (Err fault) new grown =
     ⊎ ((told fault ≡ no_memory) × (grown ≡ out)
     × (may_grow (moved_to old line.text) line.text ≡ true)))))
 
--- whether the next line, of this text, is no header, nothing is held, and the records have ended or
--- the record ahead decides it
-abbrev pub lies_ahead : Masking → List ℕ → Bool
-lies_ahead m text =
+-- whether the next line, of this text, is known to be written as it is: it is no header but stands
+-- behind one, nothing is held, and the records have ended or the record ahead decides it
+abbrev pub stays_as_given : Masking → List ℕ → Bool
+stays_as_given m text =
     not (is_header text) && (is_some m.matched.name && (nat_eq (length m.window.held) 0
     && (m.bed_ended || nat_le (gone_on m.window (length text)).bases m.decided_to)))
 
 -- taking such a line, which is written as it is
 abbrev pub PassesLine : Masking → Waiting → Output → Masking → Output → Type 0
 PassesLine old line out new grown =
-    (lies_ahead old line.text ≡ true)
+    (stays_as_given old line.text ≡ true)
     × (new ≡ record old {
       window = gone_on old.window (length line.text);
       waiting = None;

@@ -5,7 +5,7 @@ ghost use Rattle.bt_lines.specs.Fault.{no_memory};
 ghost use Rattle.bt_lines.specs.Names.{told};
 ghost use Rattle.bt_bed.specs.Bed.{feature_lent};
 ghost use Rattle.bt_bed.specs.LineKind.{fault_at_line};
-ghost use Rattle.bt_seq.specs.Masking.{ChecksBed, Keeps, Moves, PassesLine, TakesBed, TakesLine, Waiting, Writes, WritesGiven, decides_by, decides_up_to, lies_ahead, with_stretch, writes_at_once};
+ghost use Rattle.bt_seq.specs.Masking.{ChecksBed, Keeps, Moves, PassesLine, TakesBed, TakesLine, Waiting, Writes, WritesGiven, decides_by, decides_up_to, stays_as_given, with_stretch, writes_at_once};
 ghost use Rattle.bt_seq.specs.Sequences.{is_header};
 ghost use Rattle.bt_seq.specs.Window.{no_bases};
 
@@ -125,11 +125,11 @@ impl MaskState {
         if self.passes(line.text, line.ending, out) {
             return Ok(());
         }
-        self.take_longer(line, out)
+        self.take_any(line, out)
     }
 
-    // The same for a line of any kind.
-    fn take_longer<K: Sink>(&mut self, line: &Line<'_>, out: &mut Out<K>) -> Result<(), Fault>
+    // The same for any line.
+    fn take_any<K: Sink>(&mut self, line: &Line<'_>, out: &mut Out<K>) -> Result<(), Fault>
         ensures { TakesLine self.old line.now.number
             (record { text = line.now.text.now; ending = line.now.ending }) out.old result self.new out.new }
     {
@@ -206,15 +206,16 @@ impl MaskState {
         Ok(())
     }
 
-    // Writes the next line as it is given, where that is known before it is looked at more closely and
-    // the output has room for it: so most lines go where few records mask anything.
+    // Writes the next line as it was given, if it is known beforehand that nothing masks it, it ends with
+    // a line feed and the output has room; else nothing changes. Where few records mask anything, most
+    // lines go this way.
     #[inline(always)]
     fn passes<K: Sink>(&mut self, text: &[u8], ending: LineEnd, out: &mut Out<K>) -> bool
         ensures passed { result ≡ true → PassesLine self.old
             (record { text = text.now; ending = ending }) out.old self.new out.new }
         ensures unchanged { result ≡ false → (self.new ≡ self.old) × (out.new ≡ out.old) }
     {
-        if !self.lies_ahead(text) || !hold_text(text, ending, out) {
+        if !self.stays_as_given(text) || !hold_text(text, ending, out) {
             return false;
         }
         self.window.go_on(text.len());
@@ -223,10 +224,10 @@ impl MaskState {
         true
     }
 
-    // Whether the next line, of this text, has bases into which nothing that is held can reach, and is
-    // decided before it is given.
-    fn lies_ahead(&self, text: &[u8]) -> bool
-        ensures { result ≡ lies_ahead self.now text.now }
+    // Whether the next line, of this text, is known to be written as it is: it is no header but stands
+    // behind one, nothing is held, and the records have ended or the record ahead decides it.
+    fn stays_as_given(&self, text: &[u8]) -> bool
+        ensures { result ≡ stays_as_given self.now text.now }
     {
         !is_header(text)
             && self.matching.is_named()

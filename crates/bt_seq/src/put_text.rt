@@ -6,7 +6,8 @@ ghost use Rattle.bt_lines.specs.Putting.{Adds, Grown};
 
 use bt_lines::{Fault, LineEnd, Out, Sink, put_line};
 
-// Holds back a text and its line end, where that is a line feed and there is room for both.
+// Puts a text and its line end, if that is a line feed and the output has room for both, and answers
+// whether it did; else nothing changes.
 #[inline(always)]
 pub(crate) fn hold_text<K: Sink>(text: &[u8], ending: LineEnd, out: &mut Out<K>) -> bool
     ensures held { result ≡ true → Grown out.old (text.now ++ end_bytes ending) out.new }

@@ -1,7 +1,7 @@
 use Rattle.std.proofs.Common.{sym}
 use Rattle.bt_seq.specs.Masking.{Waiting}
 use Rattle.bt_seq.proofs.MaskingLemmas.{keeps_line, writes_line}
-use Rattle.bt_seq.proofs.mask_state.MaskState.take_longer.Goals as goal
+use Rattle.bt_seq.proofs.mask_state.MaskState.take_any.Goals as goal
 
 pub returns-then-writes_at_once : goal.returns-then-writes_at_once
 returns-then-writes_at_once g c =
