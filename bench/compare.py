@@ -1,14 +1,15 @@
 #!/usr/bin/env python3
 """Times the commands of this repository on sorted records that it makes itself.
 
-    bench/compare.py [RECORDS] [--only WORDS] [--chart FILE]
+    bench/compare.py [RECORDS] [--only WORDS] [--times N] [--discard] [--chart FILE]
 
 Prints, for each command and kind of record, for RECORDS records (5,000,000 where it is missing) and
 for a tenth of them, the processor time and the peak memory; beside them those of the bedtools and the
 bedops on PATH, where they are there and do the same job; and the instructions a record, where valgrind
 is there. For `bamtobed` samtools makes the BAM file that bedtools reads, and bedops' convert2bed, which
 writes further columns, isn't compared. With `--only` it takes the workloads alone whose names have these
-words in them; with `--chart` it draws the larger runs as an SVG.
+words in them; with `--times` each program runs so many times, and the least time is printed; with `--discard`
+the outputs go to /dev/null, and aren't compared; with `--chart` it draws the larger runs as an SVG.
 It fails where a program fails, where two outputs differ, or where this program's memory grows with its
 input.
 """
@@ -16,6 +17,7 @@ input.
 import argparse
 import ctypes
 import filecmp
+import math
 import os
 import random
 import re
@@ -271,7 +273,7 @@ class Run:
     # What it reads from standard input, if anything, and whether its output is to be that of this program.
     source: Path = None
     is_same: bool = True
-    seconds: float = 0.0
+    seconds: float = math.inf
     kilobytes: int = 0
 
 
@@ -353,14 +355,14 @@ def write_sequences(folder, count, apart, seed):
 
 
 def time_run(run, output):
-    """Runs a program, and keeps its processor time in seconds and its peak memory in kilobytes."""
+    """Runs a program, and keeps its least processor time in seconds and its last peak memory in kilobytes."""
     with open(run.source or os.devnull, "rb") as source, open(output, "wb") as out:
         process = subprocess.Popen(run.words, stdin=source, stdout=out, preexec_fn=lambda: trace(TRACEME, 0))
     run.kilobytes, status, usage = ended(process.pid)
     process.returncode = os.waitstatus_to_exitcode(status)
     if process.returncode != 0:
         sys.exit(f"{' '.join(run.words)}: status {process.returncode}")
-    run.seconds = usage.ru_utime + usage.ru_stime
+    run.seconds = min(run.seconds, usage.ru_utime + usage.ru_stime)
 
 
 def trace(request, process, data=0):
@@ -420,18 +422,21 @@ def prepared(workload, folder, size):
     return place
 
 
-def compare(workload, others, folder, size):
-    """Runs a workload on `size` records by each program. Answers what each took."""
+def compare(workload, others, folder, size, times, discard):
+    """Runs a workload on `size` records by each program, so many times. Answers what each took, with its least time."""
     place = prepared(workload, folder, size)
     runs = runs_of(workload, others, place)
     megabytes = (place / "records.bed").stat().st_size / 1e6
     print(f"{workload.name()}: about {size} records, {megabytes:.0f} MB")
+    outputs = {run.program: Path(os.devnull) if discard else folder / f"{run.program}.bed" for run in runs}
+    for _ in range(times):
+        for run in runs:
+            time_run(run, outputs[run.program])
     for run in runs:
-        time_run(run, folder / f"{run.program}.bed")
         part = "" if run is runs[0] else f", of which ours is {runs[0].seconds / run.seconds:.2f}"
-        print(f"  {run.program:10} {run.seconds:6.2f} s{part}; {run.kilobytes} kB", flush=True)
-    for run in (run for run in runs[1:] if run.is_same):
-        if not filecmp.cmp(folder / f"{runs[0].program}.bed", folder / f"{run.program}.bed", shallow=False):
+        print(f"  {run.program:10} {run.seconds:6.3f} s{part}; {run.kilobytes} kB", flush=True)
+    for run in (run for run in runs[1:] if run.is_same and not discard):
+        if not filecmp.cmp(outputs[runs[0].program], outputs[run.program], shallow=False):
             sys.exit(f"the output of {run.program} differs")
     return runs
 
@@ -458,6 +463,8 @@ def main():
     parser = argparse.ArgumentParser(description=__doc__.splitlines()[0])
     parser.add_argument("records", nargs="?", type=int, default=5_000_000)
     parser.add_argument("--only", metavar="WORDS", default="")
+    parser.add_argument("--times", metavar="N", type=int, default=1)
+    parser.add_argument("--discard", action="store_true")
     parser.add_argument("--chart", metavar="FILE")
     asked = parser.parse_args()
     others = {name: shutil.which(name) for name in ("bedtools", "bedops", "convert2bed")}
@@ -468,7 +475,8 @@ def main():
     with tempfile.TemporaryDirectory() as folder:
         folder = Path(folder)
         for workload in (it for it in WORKLOADS if asked.only in it.name()):
-            small, large = (compare(workload, others, folder, size) for size in (asked.records // 10, asked.records))
+            sizes = (asked.records // 10, asked.records)
+            small, large = (compare(workload, others, folder, size, asked.times, asked.discard) for size in sizes)
             if large[0].kilobytes > small[0].kilobytes + SLACK:
                 sys.exit("the memory grows with the input")
             if others["bedtools"]:
