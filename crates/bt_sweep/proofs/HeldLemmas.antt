@@ -1,5 +1,5 @@
 -- Lemmas on a walk through what is held.
-use Rattle.std.proofs.Common.{◌≡◌, ℕ, ◌+◌, ◌≤◌, Bool, true, false, ◌||◌, cond, List, [], ◌∷◌, ◌++◌, Option, Some, None, Err, refl, sym, ap, ◌∙◌, subst, append_assoc, add-one, arith, filter, flat_map, take, drop, length, option_to_list, length-append, zero, suc}
+use Rattle.std.proofs.Common.{◌≡◌, ℕ, ◌+◌, ◌<◌, ◌≤◌, Bool, true, false, ◌||◌, cond, List, [], ◌∷◌, ◌++◌, Option, Some, None, Err, refl, sym, ap, ◌∙◌, subst, append_assoc, add-one, arith, filter, flat_map, take, drop, length, option_to_list, length-append, zero, suc}
 use Rattle.std.specs.Prelude.{All}
 use Rattle.std.specs.List.{AllByRecursion, list_any, slice_get}
 use Rattle.std.proofs.lemmas.Bool.{false≢true, or_left, or_right, or_from}
@@ -28,6 +28,23 @@ module _ {X : Type 0} where
   take_whole [] (suc i) h = refl
   take_whole (x ∷ xs) zero h = absurd (omega arith)
   take_whole (x ∷ xs) (suc i) h = ap (λ l. x ∷ l) (take_whole xs i (omega arith))
+
+  -- those taken from the front are where they were
+  pub get_took : (xs : List X) (n i : ℕ) → i < n → slice_get (take n xs) i ≡ slice_get xs i
+  get_took xs zero i h = absurd (omega arith)
+  get_took [] (suc n) i h = refl
+  get_took (x ∷ xs) (suc n) zero h = refl
+  get_took (x ∷ xs) (suc n) (suc i) h = get_took xs n i (omega arith)
+
+  pub took_few : (xs : List X) (n : ℕ) → length (take n xs) ≤ n
+  took_few xs zero = omega arith
+  took_few [] (suc n) = omega arith
+  took_few (x ∷ xs) (suc n) = omega (arith, took_few xs n)
+
+  pub took_twice : (xs : List X) (n : ℕ) → take n (take n xs) ≡ take n xs
+  took_twice xs zero = refl
+  took_twice [] (suc n) = refl
+  took_twice (x ∷ xs) (suc n) = ap (λ l. x ∷ l) (took_twice xs n)
 
   module _ (P : X → Type 0) where
     at_rec : (xs : List X) (i : ℕ) → AllByRecursion P xs → AllByRecursion P (option_to_list (slice_get xs i))

@@ -1,6 +1,6 @@
 -- What is held is all that the lines of a record come from.
-use Rattle.std.proofs.Common.{◌≡◌, ℕ, ◌-◌, ◌<◌, Bool, true, false, cond, List, refl, ap, ltb, arith, filter, max, min, bytes_eq}
-use Rattle.std.proofs.lemmas.Bool.{false≢true, ltb-true, lt-ltb, and_from}
+use Rattle.std.proofs.Common.{◌≡◌, true, List, ap, ltb, arith, filter, bytes_eq}
+use Rattle.std.proofs.lemmas.Bool.{lt-ltb, and_from}
 use Rattle.bt_bed.specs.Feature.{Feature}
 use Rattle.bt_sweep.specs.Hits.{hits}
 use Rattle.bt_sweep.specs.Lines.{lines_of, lines_for}

@@ -1,18 +1,21 @@
 -- Lemmas on hits: what decides a record doesn't hit it.
-use Rattle.std.proofs.Common.{◌≡◌, ℕ, ◌-◌, inl, inr, Bool, true, false, cond, List, [], ◌∷◌, ◌++◌, refl, sym, ap, ◌∙◌, subst, ltb, arith, filter, max, min, bytes_eq, append-nil}
+use Rattle.std.proofs.Common.{◌≡◌, ℕ, ◌-◌, ◌≤◌, inl, inr, Bool, true, false, cond, List, [], ◌∷◌, ◌++◌, refl, sym, ap, ◌∙◌, subst, ltb, arith, filter, max, min, bytes_eq, append-nil, take, drop}
 use Rattle.std.specs.Prelude.{IsTrue}
-use Rattle.std.specs.List.{list_all}
+use Rattle.std.specs.List.{AllByRecursion, list_all}
 use Rattle.std.proofs.lemmas.Bool.{and_from, and_parts}
-use Rattle.std.proofs.lemmas.List.Elements.{filter-append}
+use Rattle.std.proofs.lemmas.List.{take-append-drop}
+use Rattle.std.proofs.lemmas.List.Elements.{filter-append, recursion_from_All}
 use Rattle.std.specs.declared.cmp.Ordering.TheVariants.{Equal, Greater}
 use Rattle.bt_bed.specs.Feature.{Feature, intervals_of}
 use Rattle.bt_bed.specs.Order.{Order, IsTotal}
 use Rattle.bt_bed.specs.Locus.{ArePlaced}
 use Rattle.bt_bed.proofs.NameLemmas.{same_name}
 use Rattle.bt_sweep.specs.Deciding.{decides}
+use Rattle.bt_sweep.specs.Held.{StartFrom}
 use Rattle.bt_sweep.specs.Hits.{hits, hits_among}
 use Rattle.bt_sweep.specs.Lines.{lines_of, lines_for, lines_stay, lines_are_before}
 use Rattle.bt_sweep.specs.declared.hit_rule.HitRule.{HitRule}
+use Rattle.bt_sweep.specs.declared.shape.Shape.{Shape}
 use Rattle.bt_sweep.proofs.RuleLemmas.{apart_misses}
 use Rattle.bt_sweep.proofs.DecidingLemmas.{IsPast, past_from, later_decide, placed_back, all_decide}
 
@@ -30,6 +33,11 @@ past_misses order rule a b total kb past =
           absurd (let apart : Greater ≡ Equal = sym it ∙ total.same b.chrom kb in cc)
       | inr here ↦ omega (arith, here.1)
     ]))
+
+-- what starts at its end or behind it doesn't either
+behind_misses : (rule : HitRule) (a b : Feature) → a.stop ≤ b.start → hits rule a b ≡ false
+behind_misses rule a b h =
+    apart_misses rule a b (nothing_shared (bytes_eq a.chrom b.chrom) (min a.stop b.stop - max a.start b.start) (λ same. omega (arith, h)))
 
 misses_at : (rule : HitRule) (a : Feature) (x : Feature) (xs : List Feature) → hits rule a x ≡ false → filter (hits rule a) xs ≡ [] → filter (hits rule a) (x ∷ xs) ≡ []
 misses_at rule a x xs e rest = ap (λ b. cond b (x ∷ filter (hits rule a) xs) (filter (hits rule a) xs)) e ∙ rest
@@ -56,3 +64,19 @@ before_lines order shape rule a b bs total ka e more placed =
     ap (lines_of shape a) (filter-append (hits rule a) bs (b ∷ more)
     ∙ ap (λ l. hits_among rule a bs ++ l) (none_hit order rule a (b ∷ more) total ka back (and_from (decides order a b) (list_all (decides order a) more) e (all_decide order a b more total ka back e)))
     ∙ append-nil (hits_among rule a bs))
+
+module _ (rule : HitRule) (a : Feature) where
+  none_rec : (bs : List Feature) → AllByRecursion (λ b. a.stop ≤ b.start) bs → hits_among rule a bs ≡ []
+  none_rec [] all = refl
+  none_rec (b ∷ bs) all = misses_at rule a b bs (behind_misses rule a b all.0) (none_rec bs all.1)
+
+  -- so the lines are those against what stands before that
+  pub took_lines : (shape : Shape) (bs : List Feature) (n : ℕ) → StartFrom a.stop (drop n bs) → lines_for shape rule a (take n bs) ≡ lines_for shape rule a bs
+  unfolding lines_for
+  took_lines shape bs n behind =
+      let none = none_rec (drop n bs) (recursion_from_All (λ (b : Feature). a.stop ≤ b.start) (drop n bs) behind) in
+      ap (lines_of shape a)
+      (sym (append-nil (hits_among rule a (take n bs)))
+      ∙ ap (λ l. hits_among rule a (take n bs) ++ l) (sym none)
+      ∙ sym (filter-append (hits rule a) (take n bs) (drop n bs))
+      ∙ ap (hits_among rule a) (take-append-drop n bs))

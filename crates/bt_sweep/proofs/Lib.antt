@@ -17,3 +17,5 @@ pub mod RisingLemmas
 pub mod PieceLemmas
 pub mod WalkLemmas
 pub mod PlainPieceLemmas
+pub mod StartedLemmas
+pub mod HeldListLemmas

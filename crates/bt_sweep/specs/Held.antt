@@ -1,5 +1,5 @@
 -- Held records.
-use Rattle.std.specs.Prelude.{◌≡◌, ℕ, ◌≤◌, ⊤, List, [], ◌∷◌, All, Option}
+use Rattle.std.specs.Prelude.{◌≡◌, ℕ, ◌<◌, ◌≤◌, ⊤, List, [], ◌∷◌, All, Option}
 use Rattle.std.specs.Option.{ForSome}
 use Rattle.bt_bed.specs.Feature.{Feature}
 
@@ -19,3 +19,11 @@ AreRisingFrom low (b ∷ bs) = (low ≤ b.start) × AreRisingFrom b.start bs
 -- their starts don't fall
 abbrev pub AreRising : List Feature → Type 0
 AreRising held = AreRisingFrom 0 held
+
+-- each starts at this position or behind it
+abbrev pub StartFrom : ℕ → List Feature → Type 0
+StartFrom place held = All (λ b. place ≤ b.start) held
+
+-- each has a base
+abbrev pub HaveBases : List Feature → Type 0
+HaveBases held = All (λ b. b.start < b.stop) held

@@ -1,6 +1,6 @@
 -- Which records hit one another: all pairs are compared
 -- (bedtools manual, intersect, options -f, -r and -s).
-use Rattle.std.specs.Prelude.{◌≡◌, ℕ, ◌*◌, Bool, true, false, not, ◌&&◌, ◌||◌, List, filter, nat_le}
+use Rattle.std.specs.Prelude.{◌≡◌, ℕ, ◌*◌, Bool, false, not, ◌&&◌, ◌||◌, List, filter, nat_le}
 use Rattle.std.specs.Prelude.{nat_lt}
 use Rattle.bt_bed.specs.Bases.{length_of, shared}
 use Rattle.bt_bed.specs.Feature.{Feature, interval_of}

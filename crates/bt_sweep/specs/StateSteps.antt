@@ -1,5 +1,5 @@
 -- What the steps of a sweep do to what it keeps. Callers know them by `Steps`.
-use Rattle.std.specs.Prelude.{◌≡◌, ◌⊎◌, ℕ, Bool, true, false, cond, List, [], ◌∷◌, ◌++◌, Option}
+use Rattle.std.specs.Prelude.{◌≡◌, ◌⊎◌, Bool, true, false, cond, List, [], ◌∷◌, ◌++◌, Option}
 use Rattle.std.specs.Prelude.{Some, None, Result, Ok, Err, filter, nat_lt, bytes_eq}
 use Rattle.bt_lines.specs.Fault.{no_memory}
 use Rattle.bt_lines.specs.Names.{told}

@@ -1,9 +1,8 @@
 -- Small inputs, worked by hand: what is written and told of them.
-use Rattle.std.specs.Prelude.{◌≡◌, ℕ, false, true, List, [], ◌∷◌, codes, Option, Some, None}
+use Rattle.std.specs.Prelude.{◌≡◌, ℕ, false, true, [], ◌∷◌, codes, Option, Some, None}
 use Rattle.bt_lines.specs.Fault.{Told}
 use Rattle.bt_bed.specs.Feature.{Feature}
 use Rattle.bt_bed.specs.Good.{Good}
-use Rattle.bt_bed.specs.Meeting.{Met}
 use Rattle.bt_bed.specs.Order.{Order}
 use Rattle.bt_bed.specs.Rank.{rank_order}
 use Rattle.bt_bed.specs.declared.strand.Strand.TheVariants.{Dot}

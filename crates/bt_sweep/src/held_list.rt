@@ -1,14 +1,26 @@
-//! Held records in a vector.
+//! Held records in a queue.
+
+ghost use Rattle.std.specs.Prelude.{◌≡◌, ◌<◌, ◌≤◌, ◌++◌, [], ◌∷◌, drop, false, filter, length, nat_le, nat_lt, option_copied, option_to_list, take, true};
+ghost use Rattle.std.specs.List.{list_any, slice_get};
+ghost use Rattle.std.specs.List.Sorted.{IsNonDecreasingBy, IsPartitionPoint};
+ghost use Rattle.bt_bed.specs.Feature.{Feature};
+ghost use Rattle.bt_sweep.specs.Held.{HaveBases};
 
 use crate::held::Held;
 use bt_bed::Rec;
 use std::alloc::Global;
+use std::collections::VecDeque;
 
-/// Held records as a vector of them. Dropping those that ended goes over all of them.
+/// Held records as a queue of them. Where they come by their starts, those that start at a place or
+/// behind it aren't looked at when those that ended there are dropped.
 #[derive(Drop, Debug)]
 pub struct HeldList {
     // In file order.
-    records: Vec<Rec>,
+    records: VecDeque<Rec>,
+    // Whether they are known to come by their starts.
+    rising: bool,
+    ghost rises: { rising ≡ true → IsNonDecreasingBy (λ r. r.start) records.items },
+    ghost bases: { HaveBases records.items },
 }
 
 impl HeldList {
@@ -20,7 +32,18 @@ impl HeldList {
         ensures { records_in result ≡ [] }
     {
         HeldList {
-            records: Vec::new(alloc),
+            records: VecDeque::new(alloc),
+            rising: true,
+        }
+    }
+
+    // Whether they are known to come by their starts once this one is added.
+    fn rises_to(&self, rec: &Rec) -> bool
+        ensures { result ≡ true → IsNonDecreasingBy (λ r. r.start) (records_in self.now ++ rec.now ∷ []) }
+    {
+        match self.records.back() {
+            None => true,
+            Some(last) => self.rising && last.as_bed().start <= rec.as_bed().start,
         }
     }
 }
@@ -31,29 +54,108 @@ impl Held for HeldList {
     ghost records = { records_in };
 
     fn push(&mut self, rec: Rec) -> Result<(), Rec> {
-        match self.records.push(rec) {
-            Ok(()) => Ok(()),
+        let rising = self.rises_to(&rec);
+        match self.records.push_back(rec) {
+            Ok(()) => {
+                self.rising = rising;
+                Ok(())
+            }
             Err(failed) => Err(failed.value),
         }
     }
 
     fn drop_ended(&mut self, place: u64) {
-        if self.records.is_empty() {
+        if !self.rising {
+            self.records.retain(|record| place < record.as_bed().stop);
             return;
         }
-        self.records.retain(|record| place < record.as_bed().stop);
+        let count = started_in(&self.records, place);
+        if has_ended(&self.records, count, place) {
+            drop_ended_of(&mut self.records, count, place);
+        }
     }
 
     fn clear(&mut self) {
         self.records.clear();
+        self.rising = true;
     }
 
     fn nth(&self, index: usize) -> Option<&Rec> {
-        self.records.get(index)
+        record_at(&self.records, index)
     }
 
     fn len(&self) -> usize {
         self.records.len()
+    }
+}
+
+// How many records there are before the first that starts at the place or behind it.
+fn started_in(records: &VecDeque<Rec>, place: u64) -> usize
+    ensures within { result ≤ length records.now.items }
+    ensures point { IsNonDecreasingBy (λ r. r.start) records.now.items
+        → IsPartitionPoint (λ r. nat_lt r.start place ≡ true) (λ r. nat_lt r.start place ≡ false)
+        records.now.items result }
+{
+    records.partition_point(|record| record.as_bed().start < place)
+}
+
+// The record with so many before it, if there is one.
+fn record_at(records: &VecDeque<Rec>, index: usize) -> Option<&Rec>
+    ensures { option_copied result ≡ slice_get records.now.items index }
+{
+    records.get(index)
+}
+
+// Whether one of so many records from the first ends at or before the place.
+fn has_ended(records: &VecDeque<Rec>, count: usize, place: u64) -> bool
+    ensures { result ≡ list_any (λ r. nat_le r.stop place) (take count records.now.items) }
+{
+    for index in 0..count {
+        if ends_by(record_at(records, index), place) {
+            return true;
+        }
+    }
+    false
+}
+
+// Drops those of so many records from the front that end at or before the place.
+fn drop_ended_of(records: &mut VecDeque<Rec>, count: usize, place: u64)
+    requires { count ≤ length records.old.items }
+    ensures { records.new.items
+        ≡ filter (λ r. nat_lt place r.stop) (take count records.old.items) ++ drop count records.old.items }
+{
+    let mut kept = 0;
+    for _ in 0..count {
+        kept += pass_first(records, place);
+    }
+    records.rotate_right(kept);
+}
+
+// Drops the first record where it ends at or before the place, and else takes it to the end. Answers
+// how many were taken there.
+fn pass_first(records: &mut VecDeque<Rec>, place: u64) -> usize
+    ensures passed { records.new.items
+        ≡ drop 1 records.old.items ++ filter (λ r. nat_lt place r.stop) (take 1 records.old.items) }
+    ensures kept { result ≡ length (filter (λ r. nat_lt place r.stop) (take 1 records.old.items)) }
+{
+    if records.is_empty() {
+        return 0;
+    }
+    if ends_by(records.front(), place) {
+        records.pop_front();
+        return 0;
+    }
+    records.rotate_left(1);
+    1
+}
+
+// Whether there is a record and it ends at or before the place.
+fn ends_by(rec: Option<&Rec>, place: u64) -> bool
+    ensures { result ≡ list_any (λ r. nat_le r.stop place) (option_to_list (option_copied rec.entry)) }
+{
+    match rec {
+        None => false,
+        Some(rec) => rec.as_bed().stop <= place,
     }
 }
 
@@ -108,6 +210,19 @@ mod tests {
         assert_eq!(rt; start_of(&held, 2), None);
         assert_eq!(rt; clear(&mut held), 0);
         assert_eq!(rt; start_of(&held, 0), None);
+        Ok(())
+    }
+    // Records that don't come by their starts are dropped as the others are.
+    #[test]
+    fn ended_records_are_dropped_in_any_order(rt: HostRuntime) -> Result<(), Fail> {
+        let mut held = HeldList::new(rt.alloc());
+        for line in [b"c\t50\t60".as_slice(), b"c\t10\t20", b"c\t30\t90"] {
+            assert!(rt; push(rt.alloc(), &mut held, line)?);
+        }
+        assert_eq!(rt; drop_ended(&mut held, 20), 2);
+        assert_eq!(rt; start_of(&held, 0), Some(50));
+        assert_eq!(rt; start_of(&held, 1), Some(30));
+        assert_eq!(rt; drop_ended(&mut held, 60), 1);
         Ok(())
     }
 }

@@ -1,6 +1,6 @@
 //! Which records hit one another.
 
-ghost use Rattle.std.specs.Prelude.{◌≡◌, length, option_copied, option_to_list};
+ghost use Rattle.std.specs.Prelude.{◌≡◌, length, option_copied, option_to_list, take};
 ghost use Rattle.std.specs.List.{list_any};
 ghost use Rattle.bt_bed.specs.Bed.{feature_lent};
 ghost use Rattle.bt_bed.specs.Strands.{is_strand};
@@ -87,12 +87,12 @@ fn is_hit_by(rule: HitRule, a: &BedRef<'_>, b: Option<&Rec>) -> bool
     }
 }
 
-// Whether a held record hits the record.
-pub(crate) fn is_any_hit<H: Held>(rule: HitRule, a: &BedRef<'_>, held: &H) -> bool
+// Whether one of so many held records from the first hits the record.
+pub(crate) fn is_any_hit<H: Held>(rule: HitRule, a: &BedRef<'_>, held: &H, count: usize) -> bool
     requires { AreOn a.now.chrom.now (H.records held.now) }
-    ensures { result ≡ list_any (hits rule (feature_lent a.now)) (H.records held.now) }
+    ensures { result ≡ list_any (hits rule (feature_lent a.now)) (take count (H.records held.now)) }
 {
-    for index in 0..held.len() {
+    for index in 0..count {
         if is_hit_by(rule, a, held.nth(index)) {
             return true;
         }
@@ -100,16 +100,16 @@ pub(crate) fn is_any_hit<H: Held>(rule: HitRule, a: &BedRef<'_>, held: &H) -> bo
     false
 }
 
-// How many held records hit the record.
-pub(crate) fn count_hits<H: Held>(rule: HitRule, a: &BedRef<'_>, held: &H) -> usize
+// How many of so many held records from the first hit the record.
+pub(crate) fn count_hits<H: Held>(rule: HitRule, a: &BedRef<'_>, held: &H, count: usize) -> usize
     requires { AreOn a.now.chrom.now (H.records held.now) }
-    ensures { result ≡ length (hits_among rule (feature_lent a.now) (H.records held.now)) }
+    ensures { result ≡ length (hits_among rule (feature_lent a.now) (take count (H.records held.now))) }
 {
-    let mut count = 0;
-    for index in 0..held.len() {
+    let mut hits = 0;
+    for index in 0..count {
         if is_hit_by(rule, a, held.nth(index)) {
-            count += 1;
+            hits += 1;
         }
     }
-    count
+    hits
 }

@@ -34,6 +34,7 @@ mod pieces;
 pub mod plain;
 mod plain_pieces;
 mod shape;
+mod started;
 mod state;
 mod sweep;
 mod want;

@@ -1,6 +1,6 @@
 //! What is left of one record.
 
-ghost use Rattle.std.specs.Prelude.{◌≡◌, IfOk, cond, [], flat_map, max, nat_lt, option_copied, option_to_list};
+ghost use Rattle.std.specs.Prelude.{◌≡◌, IfOk, cond, [], flat_map, max, nat_lt, option_copied, option_to_list, take};
 ghost use Rattle.bt_lines.specs.Putting.{Adds};
 ghost use Rattle.bt_bed.specs.Bed.{feature_lent};
 ghost use Rattle.bt_sweep.specs.Held.{AreOn, AreRising};
@@ -15,20 +15,23 @@ use crate::hit_rule::HitRule;
 use bt_bed::{BedRef, Rec, put_cut};
 use bt_lines::{Fault, Out, Sink};
 
-// Puts the pieces of a record that none of these which hits it covers. They lie on its chromosome, and
-// come by their starts, so one walk over them meets the pieces in order. It takes no memory.
+// Puts the pieces of a record that none of so many held records from the first covers which hits it. They
+// lie on its chromosome, and come by their starts, so one walk over them meets the pieces in order. It
+// takes no memory.
 pub(crate) fn put_pieces<H: Held, K: Sink>(
     rule: HitRule,
     a: &BedRef<'_>,
     held: &H,
+    count: usize,
     out: &mut Out<K>,
 ) -> Result<(), Fault>
     requires { AreOn a.now.chrom.now (H.records held.now) }
     ensures { AreRising (H.records held.now) → Adds out.old (flat_map (piece_line (feature_lent a.now))
-        (pieces (feature_lent a.now) (hits_among rule (feature_lent a.now) (H.records held.now)))) result out.new }
+        (pieces (feature_lent a.now) (hits_among rule (feature_lent a.now) (take count (H.records held.now)))))
+        result out.new }
 {
     let mut free = a.start;
-    for index in 0..held.len() {
+    for index in 0..count {
         free = put_before(rule, a, free, held.nth(index), out)?;
     }
     put_gap(a, free, a.stop, out)

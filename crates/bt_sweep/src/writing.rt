@@ -1,6 +1,6 @@
 //! The lines of one record.
 
-ghost use Rattle.std.specs.Prelude.{◌≡◌, ◌∷◌, [], ◌<◌, IsTrue, cond, decimal, flat_map, option_copied, option_to_list};
+ghost use Rattle.std.specs.Prelude.{◌≡◌, ◌∷◌, [], ◌<◌, IsTrue, cond, decimal, flat_map, option_copied, option_to_list, take};
 ghost use Rattle.bt_lines.specs.Putting.{Adds, Puts};
 ghost use Rattle.bt_bed.specs.Bed.{feature_lent};
 ghost use Rattle.bt_bed.specs.Record.{bed_text, cut_to};
@@ -14,6 +14,7 @@ use crate::hit::{count_hits, is_any_hit, is_hit};
 use crate::hit_rule::HitRule;
 use crate::pieces::put_pieces;
 use crate::shape::Shape;
+use crate::started::count_started;
 use bt_bed::{BedRef, Rec, put_bed, put_cut};
 use bt_lines::{Fault, Out, Sink, put_number};
 
@@ -32,8 +33,8 @@ pub(crate) fn needs_hit(shape: Shape) -> bool
     }
 }
 
-// Puts the lines of a record against these, which lie on its chromosome and come by their starts. It
-// takes no memory.
+// Puts the lines of a record against these, which lie on its chromosome and come by their starts. Those
+// that start at its end or behind it aren't looked at. It takes no memory.
 pub(crate) fn put_lines<H: Held, K: Sink>(
     shape: Shape,
     rule: HitRule,
@@ -45,30 +46,32 @@ pub(crate) fn put_lines<H: Held, K: Sink>(
     ensures { AreRising (H.records held.now)
         → Adds out.old (lines_for shape rule (feature_lent a.now) (H.records held.now)) result out.new }
 {
+    let count = count_started(held, a.stop);
     match shape {
-        Shape::Count => put_counted(a, count_hits(rule, a, held) as u64, out),
-        Shape::Once => put_where(is_any_hit(rule, a, held), a, out),
-        Shape::Missing | Shape::Whole => put_where(!is_any_hit(rule, a, held), a, out),
+        Shape::Count => put_counted(a, count_hits(rule, a, held, count) as u64, out),
+        Shape::Once => put_where(is_any_hit(rule, a, held, count), a, out),
+        Shape::Missing | Shape::Whole => put_where(!is_any_hit(rule, a, held, count), a, out),
         Shape::Cut | Shape::OrigA | Shape::CutAndB | Shape::OrigBoth | Shape::Overlap => {
-            put_hits(shape, rule, a, held, out)
+            put_hits(shape, rule, a, held, count, out)
         }
-        Shape::Pieces => put_pieces(rule, a, held, out),
+        Shape::Pieces => put_pieces(rule, a, held, count, out),
     }
 }
 
-// Puts a line for each held record that hits the record.
+// Puts a line for each of so many held records from the first that hits the record.
 fn put_hits<H: Held, K: Sink>(
     shape: Shape,
     rule: HitRule,
     a: &BedRef<'_>,
     held: &H,
+    count: usize,
     out: &mut Out<K>,
 ) -> Result<(), Fault>
     requires { AreOn a.now.chrom.now (H.records held.now) }
     ensures { Adds out.old (flat_map (hit_line shape (feature_lent a.now))
-        (hits_among rule (feature_lent a.now) (H.records held.now))) result out.new }
+        (hits_among rule (feature_lent a.now) (take count (H.records held.now)))) result out.new }
 {
-    for index in 0..held.len() {
+    for index in 0..count {
         put_if_hit(shape, rule, a, held.nth(index), out)?;
     }
     Ok(())

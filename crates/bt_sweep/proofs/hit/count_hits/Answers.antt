@@ -1,8 +1,8 @@
-use Rattle.std.proofs.Common.{◌∙◌, true, false, arith, ap, sym, option_to_list}
+use Rattle.std.proofs.Common.{◌∙◌, true, false, arith, ap, sym, option_to_list, take}
 use Rattle.std.specs.List.{list_any}
 use Rattle.bt_bed.specs.Bed.{feature_lent}
 use Rattle.bt_sweep.specs.Hits.{hits}
-use Rattle.bt_sweep.proofs.HeldLemmas.{count_next}
+use Rattle.bt_sweep.proofs.HeldLemmas.{count_next, get_took}
 use Rattle.bt_sweep.proofs.hit.count_hits.Goals as goal
 use Rattle.bt_sweep.proofs.hit.count_hits.Goals.{then-is_hit_by, else-is_hit_by}
 
@@ -11,13 +11,13 @@ loop-index-preserved g c =
     let p = hits c.args.rule (feature_lent c.args.a.now) in
     let held = g.H.Held.records c.args.held.now in
     let i = c.loop-index.index in
-    let n = c.loop-index.count in
-    let at = ap (λ o. list_any p (option_to_list o)) c.nth.ensures in
+    let n = c.loop-index.hits in
+    let at = ap (λ o. list_any p (option_to_list o)) (c.nth.ensures ∙ sym (get_took held c.args.count i c.loop-index-test.true)) in
     elim c.if-is_hit_by.branch [
       | then-is_hit_by w ↦
-          let next = count_next p held i n true c.loop-index.invariant.counted (sym (w.if-is_hit_by.ensures ∙ at)) in
+          let next = count_next p (take c.args.count held) i n true c.loop-index.invariant.counted (sym (w.if-is_hit_by.ensures ∙ at)) in
           record { counted = omega (arith, next); few = omega (arith, c.loop-index.invariant.few) }
       | else-is_hit_by w ↦
-          let next = count_next p held i n false c.loop-index.invariant.counted (sym (w.if-is_hit_by.ensures ∙ at)) in
+          let next = count_next p (take c.args.count held) i n false c.loop-index.invariant.counted (sym (w.if-is_hit_by.ensures ∙ at)) in
           record { counted = omega (arith, next); few = omega (arith, c.loop-index.invariant.few) }
     ]

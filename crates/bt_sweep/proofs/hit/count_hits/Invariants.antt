@@ -5,6 +5,6 @@ use Rattle.bt_sweep.proofs.hit.count_hits.Given as goal
 
 abbrev pub invariant-loop-index : goal.invariant-loop-index
 invariant-loop-index g l = record {
-  counted : l.count ≡ length (hits_among l.rule (feature_lent l.a) (take l.index (g.H.Held.records l.held)));
-  few : l.count ≤ l.index;
+  counted : l.hits ≡ length (hits_among l.rule (feature_lent l.a) (take l.index (take l.count (g.H.Held.records l.held))));
+  few : l.hits ≤ l.index;
 }

@@ -1,6 +1,5 @@
-use Rattle.std.proofs.Common.{◌≡◌, ◌-◌, List, true, false, Vec, Global, ap, sym, ◌∙◌, arith}
+use Rattle.std.proofs.Common.{◌-◌, List, true, false, Vec, Global, ap, sym, ◌∙◌, arith}
 use Rattle.bt_bed.specs.Bed.{feature_lent}
-use Rattle.bt_bed.specs.Stretches.{with_position}
 use Rattle.bt_sweep.specs.Hits.{hits_among}
 use Rattle.bt_sweep.specs.Pieces.{is_left}
 use Rattle.bt_sweep.specs.Plain.{pieces_in}

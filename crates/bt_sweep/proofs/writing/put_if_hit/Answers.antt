@@ -1,4 +1,4 @@
-use Rattle.std.proofs.Common.{sym, ◌∙◌}
+use Rattle.std.proofs.Common.{sym}
 use Rattle.std.proofs.lemmas.Bool.{ltb-true}
 use Rattle.bt_bed.specs.Bed.{feature_lent}
 use Rattle.bt_sweep.specs.Hits.{shared_bases}

@@ -1,4 +1,3 @@
-use Rattle.bt_sweep.specs.Sweeping.{Sweeping}
 use Rattle.bt_sweep.proofs.StepLemmas.{ends_a}
 use Rattle.bt_sweep.proofs.sweep.Sweep.end_a.Goals as goal
 

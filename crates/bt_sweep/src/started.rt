@@ -1,0 +1,41 @@
+//! Where records that come by their starts reach a position.
+
+ghost use Rattle.std.specs.Prelude.{◌≡◌, ◌≤◌, drop, length, nat_le, option_copied, option_to_list};
+ghost use Rattle.std.specs.List.{list_any};
+ghost use Rattle.bt_sweep.specs.Held.{AreRising, StartFrom};
+
+use crate::held::Held;
+use bt_bed::Rec;
+
+// How many held records there are before the first that starts at the place or behind it, where they come
+// by their starts. The last is looked at first, since mostly all start before the place; and then half of
+// those that are left in turn.
+pub(crate) fn count_started<H: Held>(held: &H, place: u64) -> usize
+    ensures within { result ≤ length (H.records held.now) }
+    ensures rest { AreRising (H.records held.now) → StartFrom place (drop result (H.records held.now)) }
+{
+    let mut high = held.len();
+    if high == 0 || !starts_from(held.nth(high - 1), place) {
+        return high;
+    }
+    let mut low = 0;
+    while low < high {
+        let middle = low + (high - low) / 2;
+        if starts_from(held.nth(middle), place) {
+            high = middle;
+        } else {
+            low = middle + 1;
+        }
+    }
+    high
+}
+
+// Whether there is a record and it starts at the place or behind it.
+fn starts_from(rec: Option<&Rec>, place: u64) -> bool
+    ensures { result ≡ list_any (λ r. nat_le place r.start) (option_to_list (option_copied rec.entry)) }
+{
+    match rec {
+        None => false,
+        Some(rec) => place <= rec.as_bed().start,
+    }
+}
