@@ -6,13 +6,14 @@ ghost use Rattle.bedtools.specs.Opened.{output_has_failed, output_is_flushed};
 use bt_lines::{DeviceFailed, Sink, ToWrite};
 use std::fs::File;
 use std::io;
-use std::io::Stdout;
+use std::io::{BufWriter, Stdout};
 
-/// An output. `run` writes to it in blocks.
+/// An output. `run` writes to it in blocks. Those of a file are gathered, for it is read once the run has
+/// ended, and fewer writes cost the system less.
 #[derive(Drop)]
 pub enum Output {
     Standard(ToWrite<Stdout>),
-    File(ToWrite<File>),
+    File(ToWrite<BufWriter<File>>),
 }
 
 impl Output {
@@ -23,9 +24,14 @@ impl Output {
 
     /// Creates the file of this name, or empties it where it is there.
     pub fn create(rt: &HostRuntime, name: &str) -> io::Result<Output> {
-        Ok(Output::File(ToWrite::new(File::create(rt, name)?)))
+        let file = File::create(rt, name)?;
+        let gathered = BufWriter::with_capacity(rt.alloc(), GATHERED, file)?;
+        Ok(Output::File(ToWrite::new(gathered)))
     }
 }
+
+// How many bytes are gathered before a file is written to.
+const GATHERED: usize = 131_072;
 
 impl Sink for Output {
     ghost took = { λ _. None };
