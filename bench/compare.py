@@ -8,7 +8,7 @@ for a tenth of them, the processor time and the peak memory; beside them those o
 bedops on PATH, where they are there and do the same job; and the instructions a record, where valgrind
 is there. For `bamtobed` samtools makes the BAM file that bedtools reads, and bedops' convert2bed, which
 writes further columns, isn't compared. With `--only` it takes the workloads alone whose names have these
-words in them; with `--times` each program runs so many times, and the least time is printed; with `--discard`
+words in them; with `--times` each program runs so many times, and the least time and the highest memory are printed; with `--discard`
 the outputs go to /dev/null, and aren't compared; with `--chart` it draws the larger runs as an SVG.
 It fails where a program fails, where two outputs differ, or where this program's memory grows with its
 input.
@@ -180,9 +180,6 @@ class Sequences:
     def inputs(self, folder):
         return ["-fi", str(folder / "records.bed"), "-bed", str(folder / "second.bed")]
 
-    def inputs_of_bedtools(self, folder):
-        return [*self.inputs(folder), "-fo", "/dev/stdout"]
-
     def write(self, folder, count):
         write_sequences(folder, count // 106, self.apart, 1)
 
@@ -215,6 +212,8 @@ class Workload:
 
     # The words by which convert2bed of bedops does a job like it, from standard input.
     convert2bed: list = None
+    # The option that names the output file, where it isn't written to standard output.
+    output_option: str = None
 
     def counts(self, program):
         return self.is_drawn if self.counted is None else program in self.counted
@@ -257,7 +256,7 @@ WORKLOADS = [
     Workload(["bamtobed"], Alignments(), (), None, None, 0.15, convert2bed=["--input=sam", "--do-not-sort"]),
     Workload(["bamtobed", "-split"], Alignments(), (), None, None, 0.15, False),
     *(
-        Workload(["maskfasta", *how], Sequences(word, apart), (), None, None, 0.3, not how)
+        Workload(["maskfasta", *how], Sequences(word, apart), (), None, None, 0.3, not how, output_option="-fo")
         for word, apart in (("few", 100_000), ("many", 400))
         for how in ([], ["-soft"])
     ),
@@ -273,8 +272,14 @@ class Run:
     # What it reads from standard input, if anything, and whether its output is to be that of this program.
     source: Path = None
     is_same: bool = True
+    # The option that names the output file, where it isn't written to standard output.
+    output_option: str = None
     seconds: float = math.inf
     kilobytes: int = 0
+
+    def words_into(self, output):
+        """The words by which it writes to a file, where it doesn't write to standard output."""
+        return [*self.words, self.output_option, str(output)] if self.output_option else self.words
 
 
 def write_genome(path):
@@ -355,10 +360,11 @@ def write_sequences(folder, count, apart, seed):
 
 
 def time_run(run, output):
-    """Runs a program, and keeps its least processor time in seconds and its last peak memory in kilobytes."""
+    """Runs a program, and keeps its least processor time in seconds and its highest peak memory in kilobytes."""
     with open(run.source or os.devnull, "rb") as source, open(output, "wb") as out:
-        process = subprocess.Popen(run.words, stdin=source, stdout=out, preexec_fn=lambda: trace(TRACEME, 0))
-    run.kilobytes, status, usage = ended(process.pid)
+        process = subprocess.Popen(run.words_into(output), stdin=source, stdout=out, preexec_fn=lambda: trace(TRACEME, 0))
+    kilobytes, status, usage = ended(process.pid)
+    run.kilobytes = max(run.kilobytes, kilobytes)
     process.returncode = os.waitstatus_to_exitcode(status)
     if process.returncode != 0:
         sys.exit(f"{' '.join(run.words)}: status {process.returncode}")
@@ -400,11 +406,12 @@ def runs_of(workload, others, folder):
     """The runs of a workload: this program's first, then those of the other programs that do the same job."""
     genome = {program: ["-g", str(folder / "genome.txt")] for program in workload.genome_of}
     inputs = workload.data.inputs(folder)
-    runs = [Run("dunekettle", [str(PROGRAM), *workload.words, *inputs, *genome.get("dunekettle", [])])]
+    into = workload.output_option
+    runs = [Run("dunekettle", [str(PROGRAM), *workload.words, *inputs, *genome.get("dunekettle", [])], output_option=into)]
     if others["bedtools"] and (not isinstance(workload.data, Alignments) or shutil.which("samtools")):
         inputs = getattr(workload.data, "inputs_of_bedtools", workload.data.inputs)(folder)
         words = workload.words_of_bedtools or workload.words
-        runs.append(Run("bedtools", [others["bedtools"], *words, *inputs, *genome.get("bedtools", [])]))
+        runs.append(Run("bedtools", [others["bedtools"], *words, *inputs, *genome.get("bedtools", [])], output_option=into))
     if others["bedops"] and workload.bedops:
         runs.append(Run("bedops", [others["bedops"], *workload.bedops, str(folder / "records.bed")]))
     if others["convert2bed"] and workload.convert2bed:
@@ -432,13 +439,19 @@ def compare(workload, others, folder, size, times, discard):
     for _ in range(times):
         for run in runs:
             time_run(run, outputs[run.program])
+        if not discard:
+            check_same(runs, outputs)
     for run in runs:
         part = "" if run is runs[0] else f", of which ours is {runs[0].seconds / run.seconds:.2f}"
         print(f"  {run.program:10} {run.seconds:6.3f} s{part}; {run.kilobytes} kB", flush=True)
-    for run in (run for run in runs[1:] if run.is_same and not discard):
+    return runs
+
+
+def check_same(runs, outputs):
+    """Ends the bench where the output of another program differs."""
+    for run in (run for run in runs[1:] if run.is_same):
         if not filecmp.cmp(outputs[runs[0].program], outputs[run.program], shallow=False):
             sys.exit(f"the output of {run.program} differs")
-    return runs
 
 
 def count_instructions(valgrind, workload, others, folder):
@@ -452,7 +465,7 @@ def count_instructions(valgrind, workload, others, folder):
     aim = f", at most {workload.instructions} aimed at" if workload.instructions else ""
     print(f"{workload.name()}: instructions a record{aim}")
     for run in runs:
-        words = [valgrind, "--tool=callgrind", "--callgrind-out-file=/dev/null", *run.words]
+        words = [valgrind, "--tool=callgrind", "--callgrind-out-file=/dev/null", *run.words_into(os.devnull)]
         with open(run.source or os.devnull, "rb") as source:
             counted = subprocess.run(words, stdin=source, stdout=subprocess.DEVNULL, stderr=subprocess.PIPE, check=True, text=True)
         count = int(re.search(r"Collected : (\d+)", counted.stderr).group(1))
@@ -467,6 +480,8 @@ def main():
     parser.add_argument("--discard", action="store_true")
     parser.add_argument("--chart", metavar="FILE")
     asked = parser.parse_args()
+    if asked.times < 1:
+        parser.error("--times takes a number above 0")
     others = {name: shutil.which(name) for name in ("bedtools", "bedops", "convert2bed")}
     if others["bedtools"] and Path(others["bedtools"]).resolve() == PROGRAM:
         others["bedtools"] = None
