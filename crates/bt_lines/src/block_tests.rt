@@ -233,3 +233,21 @@ fn a_block_that_failed_is_not_sent_again(rt: HostRuntime) -> Result<(), Fail> {
     assert!(rt; sink.failed());
     Ok(())
 }
+
+// A piece and its line feed are held back where both fit into the block, also to its last byte.
+#[test]
+fn both_are_held_where_both_fit(rt: HostRuntime) -> Result<(), Fail> {
+    for (before, is_held) in [(0, true), (8187, true), (8188, false), (8192, false)] {
+        let mut output = Out::new(ScriptSink::new(rt.alloc(), BLOCK, None));
+        output.put(long_line(rt.alloc(), before, b"")?.as_slice())?;
+        assert_eq!(rt; output.hold_both(b"line", b"\n"), is_held);
+        output.flush()?;
+        let want = if is_held { before + 5 } else { before };
+        assert_eq!(rt; output.into_sink().taken().len(), want);
+    }
+    let mut failed = Out::new(ScriptSink::new(rt.alloc(), BLOCK, Some(0)));
+    failed.put(b"line")?;
+    assert!(rt; failed.flush().is_err());
+    assert!(rt; !failed.hold_both(b"line", b"\n"));
+    Ok(())
+}

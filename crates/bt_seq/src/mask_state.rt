@@ -207,7 +207,7 @@ impl MaskState {
     }
 
     // Writes the next line as it was given, if it is known beforehand that nothing masks it, it ends with
-    // a line feed and the output has room; else nothing changes. Where few records mask anything, most
+    // a line feed alone and the output has room; else nothing changes. Where few records mask anything, most
     // lines go this way.
     #[inline(always)]
     fn passes<K: Sink>(&mut self, text: &[u8], ending: LineEnd, out: &mut Out<K>) -> bool
