@@ -2,7 +2,7 @@
 use Rattle.std.proofs.Common.{◌≡◌, ℕ, Bool, true, false, cond, List, [], ◌∷◌, Option, Some, None, Result, Ok, Err, refl, sym, ap, ◌∙◌}
 use Rattle.std.specs.Prelude.{⊤, ◌≢◌, IfSome, nat_lt}
 use Rattle.bt_lines.specs.Fault.{Told, read_failed}
-use Rattle.bt_lines.specs.Handed.{Handed, cut_fault, lines_handed}
+use Rattle.bt_lines.specs.Handed.{cut_fault, lines_handed}
 use Rattle.bt_lines.specs.Lines.{TextLine, pieces}
 use Rattle.bt_lines.specs.Number.{value_of}
 use Rattle.bt_lines.specs.declared.fault.Input.{Input}

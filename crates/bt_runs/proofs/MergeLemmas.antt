@@ -1,5 +1,5 @@
 -- What the calls of a merge do is what those of the engine inside it do.
-use Rattle.std.proofs.Common.{◌≡◌, ◌⊎◌, inl, inr, ℕ, List, [], ◌∷◌, ◌++◌, length, ap, Result, Ok, Err, None}
+use Rattle.std.proofs.Common.{◌≡◌, inl, inr, List, [], ◌∷◌, ◌++◌, ap, Result, Ok, Err, None}
 use Rattle.std.specs.Prelude.{IsOk}
 use Rattle.bt_lines.specs.Fault.{Told}
 use Rattle.bt_lines.specs.Names.{told}

@@ -1,30 +1,25 @@
 -- The runs of several strands, listed by their first records: what one more record does to the list.
-use Rattle.std.proofs.Common.{◌≡◌, ℕ, ◌+◌, ◌<◌, ◌≤◌, ◌⊎◌, inl, inr, List, [], ◌∷◌, ◌++◌, append_assoc, append-nil, refl, sym, ap, ap₂, ◌∙◌, subst, arith, cond, filter, length, map, max, Bool, true, false, not, ◌&&◌, ◌||◌, bytes_eq, nat_le, nat_lt, le-leb, leb-true}
+use Rattle.std.proofs.Common.{◌≡◌, ℕ, ◌≤◌, inl, inr, List, [], ◌∷◌, ◌++◌, append-nil, refl, sym, ap, ap₂, ◌∙◌, subst, arith, cond, filter, length, map, Bool, true, false, not, ◌&&◌, ◌||◌}
 use Rattle.std.specs.List.{list_any}
-use Rattle.std.proofs.lemmas.Bool.{and_parts, and_from, and_left, and_right, cases_Bool, cases_lt, cond-true, cond-false, false≢true, false_from_ne_true, lt-leb, not_from_true, not_from_false, or_parts}
+use Rattle.std.proofs.lemmas.Bool.{cases_Bool, cond-true, cond-false, false≢true, not_from_true, not_from_false}
 use Rattle.std.proofs.lemmas.List.{length-map, map-append}
-use Rattle.std.proofs.lemmas.List.Elements.{filter-append, recursion_from_All}
-use Rattle.std.proofs.lemmas.List.Folds.{list_any-append}
-use Rattle.std.proofs.lemmas.Map.Views.{any-filter_same}
 use Rattle.bt_bed.specs.Feature.{Feature, interval_of, intervals_of}
-use Rattle.bt_bed.specs.Interval.{Interval, AreNonEmpty, last_from, last_of}
+use Rattle.bt_bed.specs.Interval.{Interval, last_from, last_of}
 use Rattle.bt_bed.specs.Together.{has_records, AreTogether}
 use Rattle.bt_bed.specs.declared.strand.Strand.{Strand}
 use Rattle.bt_bed.specs.declared.strand.Strand.TheVariants.{Plus, Minus, Dot}
-use Rattle.bt_bed.proofs.NameLemmas.{cases_name, name_eq, other_name, same_name}
 use Rattle.bt_bed.proofs.TogetherLemmas.{last_of-push}
-use Rattle.bt_runs.specs.Counted.{counted, is_counted}
+use Rattle.bt_runs.specs.Counted.{is_counted}
 use Rattle.bt_bed.specs.Strands.{is_strand}
 use Rattle.bt_runs.specs.Merged.{chromosomes, merged}
 use Rattle.bt_runs.specs.MergedRuns.{AreTaken, is_passed, kept_runs, merged_runs, passed_by, settled_runs}
-use Rattle.bt_runs.specs.MergeStep.{joined_run, kept_by, left_by, settled_by, with_record}
-use Rattle.bt_runs.specs.StrandRuns.{StrandRun, begun_by, is_in, lies_in, listed_behind, runs_of_strand, strand_runs}
+use Rattle.bt_runs.specs.MergeStep.{joined_run, left_by, settled_by, with_record}
+use Rattle.bt_runs.specs.StrandRuns.{StrandRun, runs_of_strand}
 use Rattle.bt_runs.specs.StrandStep.{run_from, run_with}
 use Rattle.bt_runs.specs.declared.merge_strand.MergeStrand.TheVariants.{One}
-use Rattle.bt_runs.proofs.ByChromosome.{full_last, intervals_next}
+use Rattle.bt_runs.proofs.ByChromosome.{intervals_next}
 use Rattle.bt_runs.proofs.Counting.{counted_same}
-use Rattle.bt_runs.proofs.EachLemmas.{Each, Some_of, any_from, any_same, any_some, each_all, each_append, each_both, each_filter, each_front, each_map, each_unmap, each_weaker, filter_changed, filter_drops, filter_keeps, filter_passes, map_leaves, none_each, none_from, some_each, some_left, some_map, some_out, some_right, some_weaker}
-use Rattle.bt_runs.proofs.Passing.{passed_elsewhere}
+use Rattle.bt_runs.proofs.EachLemmas.{Each, any_from, each_append, each_front, each_map, each_weaker, filter_passes, map_leaves, none_from, some_right}
 use Rattle.bt_runs.proofs.SettledRuns.{next_taken, taken_front, whole_taken}
 use Rattle.bt_runs.proofs.Standing.{has_records-here}
 

@@ -1,10 +1,10 @@
 -- The runs that are written one after another, as a record passes them.
-use Rattle.std.proofs.Common.{◌≡◌, ◌⊎◌, inl, inr, ℕ, ◌<◌, ◌≤◌, lt-ltb, le-ltb, List, [], ◌∷◌, ◌++◌, append_assoc, append-nil, length, not, cond, ◌||◌, drop, Bool, true, false, nat_lt, Option, None, Some, Result, Ok, Err, refl, sym, ap, ap₂, ◌∙◌, subst}
-use Rattle.std.specs.List.{slice_get, take_while}
+use Rattle.std.proofs.Common.{◌≡◌, ◌⊎◌, inl, inr, ℕ, ◌<◌, ◌≤◌, lt-ltb, le-ltb, List, [], ◌∷◌, ◌++◌, append_assoc, append-nil, length, not, ◌||◌, drop, Bool, true, false, nat_lt, None, Some, Result, Err, refl, sym, ap, ◌∙◌, subst}
+use Rattle.std.specs.List.{slice_get}
 use Rattle.std.proofs.lemmas.Bool.{not_from_false, not_from_true, or_from, or_left, or_right}
 use Rattle.std.proofs.lemmas.List.{map-append}
 use Rattle.bt_lines.specs.Output.{Output}
-use Rattle.bt_lines.specs.Putting.{Adds, FailsToAdd, Grown, Puts}
+use Rattle.bt_lines.specs.Putting.{Adds, Grown, Puts}
 use Rattle.bt_lines.specs.declared.fault.Fault.{Fault}
 use Rattle.bt_bed.specs.IntervalLine.{interval_line, interval_lines}
 use Rattle.bt_bed.proofs.IntervalLineLemmas.{adds_line, adds_lines, cut_lines}

@@ -1,9 +1,9 @@
 -- The settled runs of several strands and the kept ones, and what one more record does to them.
-use Rattle.std.proofs.Common.{◌≡◌, ℕ, ◌+◌, ◌<◌, ◌≤◌, ◌⊎◌, inl, inr, List, [], ◌∷◌, ◌++◌, append_assoc, append-nil, refl, sym, ap, ap₂, ◌∙◌, subst, arith, cond, drop, filter, get_or, length, map, set, take, Bool, true, false, not, ◌&&◌, ◌||◌, bytes_eq, nat_lt, Option, Some, None, zero, suc}
+use Rattle.std.proofs.Common.{◌≡◌, ℕ, ◌+◌, ◌≤◌, inl, inr, List, [], ◌∷◌, ◌++◌, append_assoc, append-nil, refl, sym, ap, ap₂, ◌∙◌, subst, arith, cond, drop, filter, get_or, length, map, set, take, Bool, true, false, not, ◌||◌, bytes_eq, nat_lt, Option, Some, None}
 use Rattle.std.specs.List.{list_any, prefix_len, take_while}
 use Rattle.std.specs.Prelude.{⊤, is_some}
-use Rattle.std.proofs.lemmas.Bool.{and_from, and_left, and_parts, and_right, cases_Bool, cond-true, cond-false, false≢true, ltb-true, not-false, not-true, not_from_true, not_from_false, or_cases, or_left, or_parts}
-use Rattle.std.proofs.lemmas.List.{drop_at, length-take-le, map-append, take-append-drop, take_at}
+use Rattle.std.proofs.lemmas.Bool.{and_from, and_left, and_right, cases_Bool, cond-true, cond-false, false≢true, ltb-true, not-true, not_from_true, not_from_false, or_cases, or_left}
+use Rattle.std.proofs.lemmas.List.{drop_at, map-append, take-append-drop, take_at}
 use Rattle.std.proofs.lemmas.List.Folds.{length-prefix_len, list_any-append}
 use Rattle.std.proofs.lemmas.List.Sums.{take_while-cons}
 use Rattle.bt_bed.specs.Feature.{Feature, interval_of, intervals_of}
@@ -18,7 +18,7 @@ use Rattle.bt_runs.specs.StrandRuns.{StrandRun, kept_strand_runs, passed_front, 
 use Rattle.bt_runs.specs.StrandStep.{added_at, behind_settled, front_settled, kept_with, last_place, place_among, run_from, run_with, with_added}
 use Rattle.bt_runs.proofs.ByChromosome.{full_last, intervals_next}
 use Rattle.bt_runs.proofs.EachLemmas.{Each, Some_of, each_append, each_both, each_front, each_unmap, each_weaker, map_leaves, none_each, none_from, some_each, some_out}
-use Rattle.bt_runs.proofs.OneStrand.{Parted, joined_to, last_there, new_run, parted, reaches}
+use Rattle.bt_runs.proofs.OneStrand.{joined_to, last_there, new_run, parted, reaches}
 use Rattle.bt_runs.proofs.Passing.{not_passed, passed_elsewhere, passed_far}
 use Rattle.bt_runs.proofs.SettledRuns.{taken_front}
 use Rattle.bt_runs.proofs.SettlingLemmas.{begins, stays}

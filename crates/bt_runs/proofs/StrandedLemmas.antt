@@ -1,20 +1,19 @@
 -- What a merge that keeps the strands apart does with one more record is what the definitions say, whatever the past.
-use Rattle.std.proofs.Common.{◌≡◌, ◌⊎◌, ℕ, ◌+◌, ◌-◌, ◌<◌, ◌≤◌, List, [], ◌∷◌, ◌++◌, append-nil, length, length-append, inl, inr, not, cond, ◌&&◌, ◌||◌, drop, get_or, map, set, take, Bool, true, false, bytes_eq, nat_lt, lt-ltb, le-ltb, Option, None, Some, zero, suc, Result, Ok, Err, refl, sym, ap, ap₂, ◌∙◌, subst, arith}
-use Rattle.std.specs.List.{list_any, prefix_len, slice_get, take_while}
-use Rattle.std.proofs.lemmas.Bool.{cases_Bool, cases_lt, cond-true, cond-false, false≢true, ltb-true, ltb-false, not_from_true, not_from_false}
+use Rattle.std.proofs.Common.{◌≡◌, ◌⊎◌, ℕ, ◌+◌, ◌-◌, ◌≤◌, List, [], ◌∷◌, ◌++◌, length, length-append, inl, inr, not, cond, ◌||◌, drop, get_or, map, set, take, Bool, true, false, bytes_eq, nat_lt, lt-ltb, le-ltb, Option, None, Some, zero, suc, Result, Ok, Err, refl, sym, ap, ap₂, ◌∙◌, subst, arith}
+use Rattle.std.specs.List.{prefix_len, slice_get}
+use Rattle.std.proofs.lemmas.Bool.{cases_Bool, cases_lt, cond-true, cond-false, false≢true, not_from_true}
 use Rattle.std.proofs.lemmas.Grind.{flat_map-append}
 use Rattle.std.proofs.lemmas.List.{length-map, map-append, map-set}
-use Rattle.std.proofs.lemmas.Option.{get_or_from_slice_get, slice_get-get_or}
-use Rattle.bt_lines.specs.Fault.{Told, no_memory, write_failed}
+use Rattle.std.proofs.lemmas.Option.{slice_get-get_or}
+use Rattle.bt_lines.specs.Fault.{Told, no_memory}
 use Rattle.bt_lines.specs.declared.fault.Kind.TheVariants.{WriteFailed, NoMemory}
 use Rattle.bt_lines.specs.Names.{told}
 use Rattle.bt_lines.specs.Output.{Output}
 use Rattle.bt_lines.specs.Putting.{Adds, FailsToAdd, FailsToPut, Grown}
 use Rattle.bt_lines.specs.declared.fault.Fault.{Fault}
 use Rattle.bt_bed.specs.Feature.{Feature, interval_of}
-use Rattle.bt_bed.specs.Interval.{Interval}
 use Rattle.bt_bed.specs.IntervalLine.{interval_line, interval_lines}
-use Rattle.bt_bed.proofs.NameLemmas.{name_eq, same_name}
+use Rattle.bt_bed.proofs.NameLemmas.{same_name}
 use Rattle.bt_bed.specs.Strands.{is_strand}
 use Rattle.bt_runs.specs.Engine.{AfterEach, Feeds, Finishes}
 use Rattle.bt_runs.specs.Failure.{fault_of}
@@ -30,7 +29,7 @@ use Rattle.bt_runs.specs.declared.waiting.Waiting.{Waiting}
 use Rattle.bt_runs.proofs.EngineLemmas.{feeds_cut, feeds_short, feeds_taken, finishes_by, quiet_none}
 use Rattle.bt_runs.proofs.PassedRuns.{left_none, passed_every}
 use Rattle.bt_runs.proofs.PooledLemmas.{no_lines}
-use Rattle.bt_runs.proofs.StrandSettling.{front_and_behind, strand_next, strand_runs_are_all}
+use Rattle.bt_runs.proofs.StrandSettling.{strand_next, strand_runs_are_all}
 use Rattle.bt_runs.proofs.WaitingLemmas.{last_place_within}
 
 -- tests that agree

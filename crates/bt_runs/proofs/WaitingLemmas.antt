@@ -1,5 +1,5 @@
 -- Where the last run of each strand stands, as runs are added, joined and taken off.
-use Rattle.std.proofs.Common.{◌≡◌, ℕ, ◌-◌, ◌<◌, ◌≤◌, List, [], ◌∷◌, ◌++◌, refl, sym, ap, ◌∙◌, subst, cond, drop, get_or, length, set, arith, Bool, true, false, nat_lt, lt-ltb, le-ltb, Option, Some, None, zero, suc}
+use Rattle.std.proofs.Common.{◌≡◌, ℕ, ◌<◌, ◌≤◌, List, [], ◌∷◌, ◌++◌, refl, sym, ap, ◌∙◌, subst, cond, get_or, length, set, arith, Bool, true, false, nat_lt, lt-ltb, le-ltb, Option, Some, None, zero, suc}
 use Rattle.std.specs.List.{slice_get}
 use Rattle.std.proofs.lemmas.Bool.{cond-true, cond-false}
 use Rattle.std.proofs.lemmas.List.{set-get_or}
@@ -8,7 +8,7 @@ use Rattle.bt_bed.specs.declared.strand.Strand.{Strand}
 use Rattle.bt_bed.specs.declared.strand.Strand.TheVariants.{Plus, Minus, Dot}
 use Rattle.bt_bed.specs.Strands.{is_strand}
 use Rattle.bt_runs.specs.StrandStep.{last_place, place_among}
-use Rattle.bt_runs.specs.Waiting.{ArePlaces, joined_here, lengthened, place_of, with_joined}
+use Rattle.bt_runs.specs.Waiting.{ArePlaces, joined_here, lengthened, with_joined}
 use Rattle.bt_runs.specs.declared.waiting.Waiting.{Waiting}
 
 -- the place of the last element that passes, with one more element, and with one in the place of another

@@ -1,9 +1,7 @@
 -- What one more record does to the runs of several strands that a merge keeps.
-use Rattle.std.specs.Prelude.{◌≡◌, ℕ, ◌+◌, suc, Bool, not, cond, ◌&&◌, List, [], ◌∷◌, ◌++◌, drop}
+use Rattle.std.specs.Prelude.{ℕ, suc, Bool, cond, List, [], ◌∷◌, ◌++◌, drop}
 use Rattle.std.specs.Prelude.{get_or, length, set, Option, Some, None}
-use Rattle.std.specs.List.{prefix_len, take_while}
 use Rattle.bt_bed.specs.Feature.{Feature, interval_of}
-use Rattle.bt_bed.specs.Interval.{Interval}
 use Rattle.bt_bed.specs.Strands.{is_strand}
 use Rattle.bt_runs.specs.MergedRuns.{is_passed}
 use Rattle.bt_runs.specs.MergeStep.{joined_run}

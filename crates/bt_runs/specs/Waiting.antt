@@ -1,6 +1,6 @@
 -- The runs that wait, without their chromosome: where the last one of each strand stands, and how
 -- one more record is joined to it.
-use Rattle.std.specs.Prelude.{◌≡◌, ℕ, zero, suc, Bool, true, false, not, cond, ◌||◌, List, [], ◌∷◌}
+use Rattle.std.specs.Prelude.{◌≡◌, ℕ, zero, suc, Bool, true, false, not, cond, ◌||◌, List}
 use Rattle.std.specs.Prelude.{drop, length, map, max, set, Option, Some, None, nat_lt}
 use Rattle.std.specs.List.{slice_get, take_while}
 use Rattle.bt_bed.specs.Feature.{Feature}

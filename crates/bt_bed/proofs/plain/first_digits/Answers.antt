@@ -1,4 +1,4 @@
-use Rattle.std.proofs.Common.{arith, length, take, sym, refl, ◌≡◌, ◌∙◌}
+use Rattle.std.proofs.Common.{arith, take}
 use Rattle.bt_lines.proofs.NumberLemmas.{digits_denoting}
 use Rattle.bt_bed.proofs.plain.first_digits.Goals as goal
 

@@ -1,4 +1,4 @@
-use Rattle.std.proofs.Common.{ℕ, ◌≡◌, ◌+◌, ◌-◌, ◌/◌, ◌^◌, ◌<◌, ◌≤◌, length, drop, ap, arith, refl, length-drop}
+use Rattle.std.proofs.Common.{ℕ, ◌+◌, ◌-◌, ◌/◌, ◌^◌, ◌≤◌, length, drop, ap, arith, refl, length-drop}
 use Rattle.bt_bed.proofs.TabLemmas.{first_tab_inside, second_tab_is, tabs_from}
 use Rattle.bt_bed.proofs.tabs.second_tab.Goals as goal
 

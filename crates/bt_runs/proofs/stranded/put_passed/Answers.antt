@@ -1,4 +1,4 @@
-use Rattle.std.proofs.Common.{sym, ◌∙◌, ◌≡◌, inl, inr, Ok, true, []}
+use Rattle.std.proofs.Common.{sym, ◌∙◌, ◌≡◌, inl, inr, Ok, true}
 use Rattle.std.proofs.lemmas.Result.{err_from_is_err_and}
 use Rattle.bt_lines.proofs.PuttingLemmas.{grown_none}
 use Rattle.bt_runs.proofs.PassedRuns.{all_left, all_written, is_over, line_cut, line_more, next_written, none_written, over_not, over_so, stopped_at}

@@ -1,4 +1,4 @@
-use Rattle.std.proofs.Common.{[], ap, refl, sym, ◌∙◌}
+use Rattle.std.proofs.Common.{ap, refl, sym, ◌∙◌}
 use Rattle.bt_runs.specs.Waiting.{placed_runs}
 use Rattle.bt_runs.proofs.StrandSettling.{no_strand_runs}
 use Rattle.bt_runs.proofs.stranded.Stranded.new.Goals as goal

@@ -1,4 +1,4 @@
-use Rattle.std.proofs.Common.{◌≡◌, ◌-◌, bytes_eq, length, option_map, rules, sym}
+use Rattle.std.proofs.Common.{◌≡◌, ◌-◌, bytes_eq, option_map, rules}
 use Rattle.bt_bed.specs.Bed.{feature_lent}
 use Rattle.bt_runs.specs.Failure.{fault_of}
 use Rattle.bt_runs.proofs.StrandedLemmas.{fails_opened, fails_settling, takes_joined, takes_opened}

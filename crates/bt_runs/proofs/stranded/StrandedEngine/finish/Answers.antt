@@ -1,7 +1,6 @@
 use Rattle.std.proofs.Common.{ap, sym, ◌∙◌, option_map}
 use Rattle.bt_runs.specs.Failure.{fault_of}
 use Rattle.bt_runs.specs.Waiting.{placed_runs}
-use Rattle.bt_runs.proofs.PassedRuns.{passed_every}
 use Rattle.bt_runs.proofs.StrandedLemmas.{finishes_all}
 use Rattle.bt_runs.proofs.stranded.StrandedEngine.finish.Goals as goal
 

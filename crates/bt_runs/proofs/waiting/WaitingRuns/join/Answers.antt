@@ -1,4 +1,4 @@
-use Rattle.std.proofs.Common.{sym, ◌∙◌, ap}
+use Rattle.std.proofs.Common.{sym, ◌∙◌}
 use Rattle.bt_bed.specs.Strands.{is_strand}
 use Rattle.bt_runs.specs.declared.waiting.Waiting.{Waiting}
 use Rattle.bt_runs.proofs.WaitingLemmas.{joined_places, last_place_within}

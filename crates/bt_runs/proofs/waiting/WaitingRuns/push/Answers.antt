@@ -1,5 +1,4 @@
-use Rattle.std.proofs.Common.{◌≡◌, length, Option, Some, ℕ, rules, subst, sym}
-use Rattle.bt_runs.specs.Waiting.{ArePlaces}
+use Rattle.std.proofs.Common.{◌≡◌, length, rules}
 use Rattle.bt_runs.proofs.WaitingLemmas.{added_dot, added_minus, added_plus}
 use Rattle.bt_runs.proofs.waiting.WaitingRuns.push.Goals as goal
 
