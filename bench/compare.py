@@ -149,6 +149,20 @@ class Nested(TwoInputs):
 
 
 @dataclass
+class Under(TwoInputs):
+    """100,000 short records under a long one, over as many of the second input, whatever the size asked for."""
+
+    def name(self):
+        return "100,000 under a long one"
+
+    def write(self, folder, count):
+        lines = (f"chr1\t{at * 900 + 10}\t{at * 900 + 200}\n" for at in range(100_000))
+        (folder / "records.bed").write_text("chr1\t0\t100000000\n" + "".join(lines), encoding="ascii")
+        lines = (f"chr1\t{at * 900 + 50}\t{at * 900 + 300}\n" for at in range(100_000))
+        (folder / "second.bed").write_text("".join(lines), encoding="ascii")
+
+
+@dataclass
 class Alignments(OneInput):
     """Reads of 100 bases as SAM text, one for three records asked for; bedtools has them as BAM, made by samtools."""
 
@@ -239,6 +253,8 @@ WORKLOADS = [
         for data in (Pair(READS, EXONS), Pair(EXONS, PEAKS), Nested())
         for shape in SHAPES
     ),
+    *(Workload(["intersect", "-sorted", *shape], Under(), BOTH, None, None, 0.35, False) for shape in ([], ["-u"], ["-c"])),
+    Workload(["subtract"], Under(), BOTH, None, None, 0.3, False, ["subtract", "-sorted"]),
     Workload(["intersect", "-sorted", "-f", "0.5", "-r"], Pair(READS, EXONS), BOTH, None, None, 0.35, False),
     Workload(["intersect", "-sorted", "-f", "0.1", "-s"], Pair(READS, EXONS), BOTH, None, None, 0.35, False),
     *(

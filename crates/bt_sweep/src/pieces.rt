@@ -15,9 +15,9 @@ use crate::hit_rule::HitRule;
 use bt_bed::{BedRef, Rec, put_cut};
 use bt_lines::{Fault, Out, Sink};
 
-// Puts the pieces of a record that none of so many held records from the first covers which hits it. They
-// lie on its chromosome, and come by their starts, so one walk over them meets the pieces in order. It
-// takes no memory.
+// Puts the pieces of a record that its hits leave, among so many held records from the first. The held
+// records lie on its chromosome and come by their starts, so one walk over them meets the pieces in
+// order. It takes no memory.
 pub(crate) fn put_pieces<H: Held, K: Sink>(
     rule: HitRule,
     a: &BedRef<'_>,

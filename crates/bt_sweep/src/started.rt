@@ -1,4 +1,4 @@
-//! Where records that come by their starts reach a position.
+//! How many records that come by their starts begin before a position.
 
 ghost use Rattle.std.specs.Prelude.{◌≡◌, ◌≤◌, drop, length, nat_le, option_copied, option_to_list};
 ghost use Rattle.std.specs.List.{list_any};
@@ -7,9 +7,9 @@ ghost use Rattle.bt_sweep.specs.Held.{AreRising, StartFrom};
 use crate::held::Held;
 use bt_bed::Rec;
 
-// How many held records there are before the first that starts at the place or behind it, where they come
-// by their starts. The last is looked at first, since mostly all start before the place; and then half of
-// those that are left in turn.
+// Of how many held records from the first on some may start before the place, where they come by their
+// starts: those behind start there or behind it. The last is looked at first, since mostly it starts
+// before the place; else the range that is left is halved until it is empty.
 pub(crate) fn count_started<H: Held>(held: &H, place: u64) -> usize
     ensures within { result ≤ length (H.records held.now) }
     ensures rest { AreRising (H.records held.now) → StartFrom place (drop result (H.records held.now)) }

@@ -34,7 +34,7 @@ pub(crate) fn needs_hit(shape: Shape) -> bool
 }
 
 // Puts the lines of a record against these, which lie on its chromosome and come by their starts. Those
-// that start at its end or behind it aren't looked at. It takes no memory.
+// that start at its end or behind it are passed over. It takes no memory.
 pub(crate) fn put_lines<H: Held, K: Sink>(
     shape: Shape,
     rule: HitRule,
