@@ -383,7 +383,7 @@ def time_run(run, output):
     run.kilobytes = max(run.kilobytes, kilobytes)
     process.returncode = os.waitstatus_to_exitcode(status)
     if process.returncode != 0:
-        sys.exit(f"{' '.join(run.words)}: status {process.returncode}")
+        sys.exit(f"{' '.join(run.words_into(output))}: status {process.returncode}")
     run.seconds = min(run.seconds, usage.ru_utime + usage.ru_stime)
 
 

@@ -8,8 +8,8 @@ use std::fs::File;
 use std::io;
 use std::io::{BufWriter, Stdout};
 
-/// An output. `run` writes to it in blocks. Those of a file are gathered, for it is read once the run has
-/// ended, and fewer writes cost the system less.
+/// An output. `run` writes to it in blocks. Those of a file are gathered, for fewer writes cost the system
+/// less.
 #[derive(Drop)]
 pub enum Output {
     Standard(ToWrite<Stdout>),
