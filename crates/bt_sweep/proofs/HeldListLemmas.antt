@@ -1,12 +1,10 @@
 -- Lemmas on a queue of held records.
-use Rattle.std.proofs.Common.{◌≡◌, cond, subst, nat_lt, ℕ, ◌+◌, ◌-◌, ◌<◌, ◌≤◌, Bool, true, false, List, [], ◌∷◌, ◌++◌, zero, suc, refl, sym, ap, ◌∙◌, add-one, append_assoc, arith, drop, filter, length, length-append, nat_le, option_to_list, Option, Some, slice_index_or, take}
-use Rattle.std.proofs.lemmas.Bool.{le-ltb, leb-false, leb-true, lt-ltb, ltb-false, or_parts}
+use Rattle.std.proofs.Common.{◌≡◌, cond, subst, nat_lt, ℕ, ◌+◌, ◌-◌, ◌<◌, ◌≤◌, Bool, true, false, List, [], ◌∷◌, ◌++◌, zero, suc, refl, sym, ap, ◌∙◌, add-one, append_assoc, arith, drop, filter, length, length-append, nat_le, slice_index_or, take}
+use Rattle.std.proofs.lemmas.Bool.{leb-false, lt-ltb, ltb-false, or_parts}
 use Rattle.std.specs.Prelude.{All}
-use Rattle.std.specs.List.{AllByRecursion, list_any, remove, slice_get}
-use Rattle.std.specs.Option.{OnSome}
-use Rattle.std.proofs.Math.Bool.{or-false}
+use Rattle.std.specs.List.{AllByRecursion, list_any}
 use Rattle.std.specs.List.Sorted.{IsNonDecreasingBy, IsPartitionPoint}
-use Rattle.std.proofs.lemmas.List.{get_or-drop, get_or_default, length-drop, length-take-le, take-append-drop}
+use Rattle.std.proofs.lemmas.List.{get_or-drop, get_or_default, length-drop, take-append-drop}
 use Rattle.std.proofs.lemmas.List.Elements.{All-filter, filter-append, recursion_from_All}
 use Rattle.std.proofs.lemmas.List.Kept.{IsNonDecreasingBy-filter}
 use Rattle.std.proofs.lemmas.List.Sorted.{IsNonDecreasingBy-push}
@@ -25,58 +23,41 @@ rises_push xs last y n is at h rises =
     let same = ap start_of (get_or_default xs (length xs - 1) d last within ∙ ap (λ k. slice_index_or xs (k - 1) last) (sym is) ∙ sym at) in
     omega (arith, same, h))
 
-module _ {X : Type 0} where
-  pub record Splits (xs : List X) (n i : ℕ) : Type 0 where
-    pub x : X
-    pub behind : drop i (take n xs) ≡ x ∷ drop (suc i) (take n xs)
-    pub before : take (suc i) xs ≡ take i xs ++ x ∷ []
+module _ {X : Type 0} (p : X → Bool) where
+  record Splits (xs : List X) (i : ℕ) : Type 0 where
+    x : X
+    behind : drop i xs ≡ x ∷ drop (suc i) xs
+    before : take (suc i) xs ≡ take i xs ++ x ∷ []
 
-  pub splits : (xs : List X) (n i : ℕ) → i < n → n ≤ length xs → Splits xs n i
-  splits xs zero i h fits = absurd (omega (arith, h))
-  splits [] (suc n) i h fits = absurd (omega (arith, fits))
-  splits (x ∷ xs) (suc n) zero h fits = record { x = x; behind = refl; before = refl }
-  splits (y ∷ xs) (suc n) (suc i) h fits =
-      let s = splits xs n i (omega (arith, h)) (omega (arith, fits)) in
+  splits : (xs : List X) (i : ℕ) → i < length xs → Splits xs i
+  splits [] i h = absurd (omega (arith, h))
+  splits (x ∷ xs) zero h = record { x = x; behind = refl; before = refl }
+  splits (y ∷ xs) (suc i) h =
+      let s = splits xs i (omega (arith, h)) in
       record { x = s.x; behind = s.behind; before = ap (λ l. y ∷ l) s.before }
 
-  pub get_here : (before behind : List X) (x : X) (i : ℕ) → length before ≡ i → slice_get (before ++ x ∷ behind) i ≡ Some x
-  get_here [] behind x zero h = refl
-  get_here [] behind x (suc i) h = absurd (omega (arith, h))
-  get_here (y ∷ before) behind x zero h = absurd (omega (arith, h))
-  get_here (y ∷ before) behind x (suc i) h = get_here before behind x i (omega (arith, h))
+  module _ (xs items : List X) (i : ℕ) (h : i < length xs) (so_far : items ≡ drop i xs ++ filter p (take i xs)) where
+    split : Splits xs i
+    split = splits xs i h
 
-  pub remove_here : (before behind : List X) (x : X) (i : ℕ) → length before ≡ i → remove (before ++ x ∷ behind) i ≡ before ++ behind
-  remove_here [] behind x zero h = refl
-  remove_here [] behind x (suc i) h = absurd (omega (arith, h))
-  remove_here (y ∷ before) behind x zero h = absurd (omega (arith, h))
-  remove_here (y ∷ before) behind x (suc i) h = ap (λ l. y ∷ l) (remove_here before behind x i (omega (arith, h)))
+    abbrev kept : List X
+    kept = filter p (take i xs)
 
-  pub some_gives : {P : Type 0} (o : Option X) (x : X) → o ≡ Some x → OnSome o P → P
-  some_gives {P = P} o x e = subst (λ (o : Option X). OnSome o P → P) (sym e) (λ p. p)
+    parts : items ≡ split.x ∷ (drop (suc i) xs ++ kept)
+    parts = so_far ∙ ap (λ l. l ++ kept) split.behind
 
-  pub is_within : (items before behind : List X) (x : X) (i : ℕ) → items ≡ before ++ x ∷ behind → length before ≡ i → i < length items
-  is_within items before behind x i is at =
-      let sum = length-append before (x ∷ behind) in
-      let same = ap length is in
-      omega (arith, sum, same, at)
+    one_more : kept ++ filter p (take 1 items) ≡ filter p (take (suc i) xs)
+    one_more = ap (λ l. kept ++ filter p (take 1 l)) parts ∙ sym (filter-append p (take i xs) (split.x ∷ [])) ∙ ap (filter p) (sym split.before)
 
-module _ (place : ℕ) (items before behind : List Feature) (r : Feature) (i : ℕ) (is : items ≡ before ++ r ∷ behind) (at : length before ≡ i) where
-  abbrev ended : Feature → Bool
-  ended r = nat_le r.stop place
+    -- the first of them is passed
+    pub passed_next : drop 1 items ++ filter p (take 1 items) ≡ drop (i + 1) xs ++ filter p (take (i + 1) xs)
+    passed_next =
+        rw add-one
+        (ap (λ l. l ++ filter p (take 1 items)) (ap (drop 1) parts) ∙ append_assoc (drop (suc i) xs) kept (filter p (take 1 items))
+        ∙ ap (λ l. drop (suc i) xs ++ l) one_more)
 
-  -- whether the record there has ended
-  pub ended_here : (o : Option Feature) (b : Bool) → o ≡ slice_get items i → b ≡ list_any ended (option_to_list o) → ended r ≡ b
-  ended_here o b e answered =
-      let here = e ∙ ap (λ l. slice_get l i) is ∙ get_here before behind r i at in
-      sym (or-false (ended r)) ∙ sym (answered ∙ ap (λ o. list_any ended (option_to_list o)) here)
-
-  pub goes_here : ended r ≡ true → remove items i ≡ before ++ (filter (λ r. nat_lt place r.stop) (r ∷ []) ++ behind)
-  goes_here e =
-      ap (λ l. remove l i) is ∙ remove_here before behind r i at
-      ∙ ap (λ b. before ++ (cond b (r ∷ []) [] ++ behind)) (sym (le-ltb place r.stop (leb-true r.stop place e)))
-
-  pub stays_here : ended r ≡ false → items ≡ before ++ (filter (λ r. nat_lt place r.stop) (r ∷ []) ++ behind)
-  stays_here e = is ∙ ap (λ b. before ++ (cond b (r ∷ []) [] ++ behind)) (sym (lt-ltb place r.stop (leb-false r.stop place e)))
+    pub kept_next : length kept + length (filter p (take 1 items)) ≡ length (filter p (take (i + 1) xs))
+    kept_next = rw add-one (sym (length-append kept (filter p (take 1 items))) ∙ ap length one_more)
 
 module _ {X : Type 0} (p : X → Bool) where
   pass_rec : (xs : List X) → AllByRecursion (λ x. p x ≡ true) xs → filter p xs ≡ xs
@@ -123,27 +104,3 @@ rises_on p xs items is rises = subst (IsNonDecreasingBy start_of) (sym is) (IsNo
 
 pub bases_on : (p : Feature → Bool) (xs items : List Feature) → items ≡ filter p xs → HaveBases xs → HaveBases items
 bases_on p xs items is bases = subst HaveBases (sym is) (All-filter p (λ b. b.start < b.stop) xs bases)
-
-module _ {X : Type 0} (p : X → Bool) (xs : List X) (n : ℕ) where
-  -- what stands from i on, once those that fail the test are dropped there, among the first n
-  abbrev pub kept_from : ℕ → List X
-  kept_from i = filter p (drop i (take n xs)) ++ drop n xs
-
-  module _ (fits : n ≤ length xs) (i : ℕ) (h : i < n) where
-    abbrev pub one_at : X
-    one_at = (splits xs n i h fits).x
-
-    pub before_one : take (i + 1) xs ++ kept_from (i + 1) ≡ take i xs ++ one_at ∷ kept_from (i + 1)
-    before_one =
-        rw add-one
-        (ap (λ l. l ++ kept_from (suc i)) (splits xs n i h fits).before ∙ append_assoc (take i xs) (one_at ∷ []) (kept_from (suc i)))
-
-    pub length_before : length (take i xs) ≡ i
-    length_before = length-take-le i xs (omega (arith, fits, h))
-
-    pub kept_next : filter p (one_at ∷ []) ++ kept_from (i + 1) ≡ kept_from i
-    kept_next =
-        rw add-one
-        (sym (append_assoc (filter p (one_at ∷ [])) (filter p (drop (suc i) (take n xs))) (drop n xs))
-        ∙ ap (λ l. l ++ drop n xs) (sym (filter-append p (one_at ∷ []) (drop (suc i) (take n xs))))
-        ∙ ap (λ l. filter p l ++ drop n xs) (sym (splits xs n i h fits).behind))

@@ -1,6 +1,6 @@
 //! Held records in a queue.
 
-ghost use Rattle.std.specs.Prelude.{◌≡◌, ◌<◌, ◌≤◌, ◌++◌, List, [], ◌∷◌, drop, false, filter, length, nat_le, nat_lt, option_copied, option_to_list, take, true};
+ghost use Rattle.std.specs.Prelude.{◌≡◌, ◌<◌, ◌≤◌, ◌++◌, [], ◌∷◌, drop, false, filter, length, nat_le, nat_lt, option_copied, option_to_list, take, true};
 ghost use Rattle.std.specs.List.{list_any, slice_get};
 ghost use Rattle.std.specs.List.Sorted.{IsNonDecreasingBy, IsPartitionPoint};
 ghost use Rattle.bt_bed.specs.Feature.{Feature};
@@ -118,29 +118,36 @@ fn has_ended(records: &VecDeque<Rec>, count: usize, place: u64) -> bool
     false
 }
 
-// Drops those of so many records from the first that end at or before the place.
+// Drops those of so many records from the first that end at or before the place. The others are moved
+// behind those that follow, and back at last.
 fn drop_ended_of(records: &mut VecDeque<Rec>, count: usize, place: u64)
     requires { count ≤ length records.old.items }
     ensures { records.new.items
         ≡ filter (λ r. nat_lt place r.stop) (take count records.old.items) ++ drop count records.old.items }
 {
-    let mut index = count;
-    while index > 0 {
-        index -= 1;
-        drop_if_ended(records, index, place);
+    let mut kept = 0;
+    for _ in 0..count {
+        kept += pass_first(records, place);
     }
+    records.rotate_right(kept);
 }
 
-// Drops the record with so many before it where it ends at or before the place. Of the records before it
-// and behind it the fewer are moved.
-fn drop_if_ended(records: &mut VecDeque<Rec>, index: usize, place: u64)
-    ensures { (before behind : List Feature) (r : Feature) → records.old.items ≡ before ++ r ∷ behind
-        → length before ≡ index
-        → records.new.items ≡ before ++ (filter (λ r. nat_lt place r.stop) (r ∷ []) ++ behind) }
+// Drops the first record where it ends at or before the place, and else moves it behind the others.
+// Answers how many were moved there.
+fn pass_first(records: &mut VecDeque<Rec>, place: u64) -> usize
+    ensures passed { records.new.items
+        ≡ drop 1 records.old.items ++ filter (λ r. nat_lt place r.stop) (take 1 records.old.items) }
+    ensures kept { result ≡ length (filter (λ r. nat_lt place r.stop) (take 1 records.old.items)) }
 {
-    if ends_by(record_at(records, index), place) {
-        records.remove(index);
+    if records.is_empty() {
+        return 0;
     }
+    if ends_by(records.front(), place) {
+        records.pop_front();
+        return 0;
+    }
+    records.rotate_left(1);
+    1
 }
 
 // Whether there is a record and it ends at or before the place.

@@ -7,9 +7,9 @@ ghost use Rattle.bt_sweep.specs.Held.{AreRising, StartFrom};
 use crate::held::Held;
 use bt_bed::Rec;
 
-// Of how many held records from the first on some may start before the place, where they come by their
-// starts: those behind start there or behind it. The last is looked at first, since mostly it starts
-// before the place; else the range that is left is halved until it is empty.
+// How many held records stand before the first one that starts at the place or behind it, where they
+// come by their starts. The contract says no more than that those behind start there. The last record
+// is looked at first, since mostly it starts before the place.
 pub(crate) fn count_started<H: Held>(held: &H, place: u64) -> usize
     ensures within { result ≤ length (H.records held.now) }
     ensures rest { AreRising (H.records held.now) → StartFrom place (drop result (H.records held.now)) }

@@ -1,19 +1,16 @@
-use Rattle.std.proofs.Common.{◌≡◌, ◌+◌, ◌-◌, ◌++◌, ◌<◌, ◌∙◌, ap, arith, nat_lt, take}
+use Rattle.std.proofs.Common.{arith, length, nat_lt, ◌∙◌, ◌<◌}
 use Rattle.bt_bed.specs.Feature.{Feature}
-use Rattle.bt_sweep.proofs.HeldListLemmas.{before_one, kept_from, kept_next, length_before, one_at}
+use Rattle.bt_sweep.proofs.HeldListLemmas.{kept_next, passed_next}
 use Rattle.bt_sweep.proofs.held_list.drop_ended_of.Goals as goal
 
-pub loop-index-preserved : goal.loop-index-preserved
-loop-index-preserved c =
+pub loop-preserved : goal.loop-preserved
+loop-preserved c =
     let p = λ (r : Feature). nat_lt c.args.place r.stop in
     let xs = c.args.records.now.items in
-    let n = c.args.count in
-    let i = c.loop-index.index - 1 in
-    let next : c.loop-index.index ≡ i + 1 = omega (arith, c.loop-index-test.true) in
-    let within : i < n = omega (arith, c.loop-index-test.true, c.loop-index.invariant.within) in
-    let here = c.loop-index.invariant.dropped ∙ ap (λ k. take k xs ++ kept_from p xs n k) next ∙ before_one p xs n c.requires i within in
+    let items = c.loop.records.items in
+    let within : c.loop.counter < length xs = omega (arith, c.loop-test.true, c.requires) in
+    let more = kept_next p xs items c.loop.counter within c.loop.invariant.passed in
     record {
-      within = omega (arith, c.loop-index.invariant.within);
-      dropped = c.drop_if_ended.ensures (take i xs) (kept_from p xs n (i + 1)) (one_at p xs n c.requires i within) here (length_before p xs n c.requires i within)
-          ∙ ap (λ l. take i xs ++ l) (kept_next p xs n c.requires i within);
+      passed = c.pass_first-kept.ensures.passed ∙ passed_next p xs items c.loop.counter within c.loop.invariant.passed;
+      kept = omega (arith, c.loop.invariant.kept, c.pass_first-kept.ensures.kept, more);
     }
