@@ -213,6 +213,7 @@ mod tests {
         assert_eq!(rt; start_of(&held, 0), None);
         Ok(())
     }
+
     // Records that don't come by their starts are dropped as the others are.
     #[test]
     fn ended_records_are_dropped_in_any_order(rt: HostRuntime) -> Result<(), Fail> {
