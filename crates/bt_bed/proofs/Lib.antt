@@ -1,5 +1,6 @@
 pub mod NameLemmas
 pub mod RankLemmas
+pub mod ByteOrderLemmas
 pub mod TogetherLemmas
 pub mod Apart
 pub mod Scan

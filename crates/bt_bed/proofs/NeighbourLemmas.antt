@@ -6,17 +6,19 @@ use Rattle.bt_lines.specs.declared.fault.Fault.{Fault}
 use Rattle.bt_lines.specs.declared.fault.Kind.{Kind}
 use Rattle.bt_lines.specs.declared.fault.Kind.TheVariants.{UnknownChrom, OutOfOrder}
 use Rattle.bt_lines.specs.declared.fault.Place.{Place}
-use Rattle.bt_bed.proofs.SaidLemmas.{said_features, wrong_is_of_line, same_kind}
+use Rattle.std.proofs.lemmas.Bool.{false≢true}
+use Rattle.bt_bed.proofs.SaidLemmas.{said_features, wrong_is_of_line, wrong_is_of_record, same_kind}
 use Rattle.bt_bed.specs.Ahead.{StandsIn, feature_at, member_at, text_at}
 use Rattle.bt_bed.specs.Bed.{EndsWith}
 use Rattle.bt_bed.specs.Feature.{Feature}
 use Rattle.bt_bed.specs.Good.{Member}
-use Rattle.bt_bed.specs.GoodBed.{line_says, said_after, in_order, locus_at}
-use Rattle.bt_bed.specs.LineKind.{is_bed_kind}
+use Rattle.bt_bed.specs.GoodBed.{line_says, said_after, in_order, locus_at, wrong_lines_are_of_bed}
+use Rattle.bt_bed.specs.LineKind.{is_bed_kind, is_record_kind}
 use Rattle.bt_bed.specs.Neighbours.{IsSaidBy, TakesLine, ahead_in, line_in, has_ahead, name_of}
 use Rattle.bt_bed.specs.Locus.{Locus}
 use Rattle.bt_bed.specs.Record.{record_of}
-use Rattle.bt_bed.specs.Sorting.{Sorting, falls_in}
+use Rattle.bt_bed.specs.Order.{Order}
+use Rattle.bt_bed.specs.Sorting.{Sorting, falls_in, sorting_of}
 use Rattle.bt_bed.specs.declared.neighbours.Neighbours.{Neighbours}
 use Rattle.bt_bed.specs.declared.spot.Spot.{Spot}
 
@@ -55,6 +57,26 @@ said_is_of_line sorting last (Err k) kind e h = same_kind {T = Option Feature} (
 pub says_of_line : (sorting : Sorting) (last : Option Locus) (text : List ℕ) (kind : Kind) → line_says sorting last text ≡ Err kind → is_bed_kind kind ≡ true
 unfolding line_says
 says_of_line sorting last text kind e = said_is_of_line sorting last (record_of text) kind e (λ k h. wrong_is_of_line text k (sym h))
+
+-- an unknown chromosome is one that the order doesn't know
+unknown_by : (b : Bool) (name : List ℕ) (known falls : Bool) (r : Feature) → b ≡ known → cond known (cond falls (Err OutOfOrder) (Ok (Some r))) (Err UnknownChrom) ≡ Err UnknownChrom → b ≡ false
+unknown_by b name false falls r is e = is
+unknown_by b name true true r is e = cc
+unknown_by b name true false r is e = cc
+
+unknown_said : (order : Order) (last : Option Locus) (said : Result (Option Feature) Kind) → said_after (sorting_of order) last said ≡ Err UnknownChrom → ((k : Kind) → said ≡ Err k → is_record_kind k ≡ true) → (name : List ℕ) × (order.knows name ≡ false)
+unknown_said order last (Ok None) e h = cc
+unknown_said order last (Ok (Some r)) e h = (r.chrom, unknown_by (order.knows r.chrom) r.chrom (order.knows r.chrom) (falls_in (sorting_of order) last (locus_at r)) r refl e)
+unknown_said order last (Err k) e h =
+    let is : k ≡ UnknownChrom = cc in
+    absurd (false≢true (subst (λ (kind : Kind). is_record_kind kind ≡ true) is (h k refl)))
+
+pub wrong_of_bed : wrong_lines_are_of_bed
+unfolding line_says
+wrong_of_bed order last text kind e = (
+  says_of_line (sorting_of order) last text kind e,
+  λ is. unknown_said order last (record_of text) (e ∙ ap (λ k. Err k) is) (λ k h. wrong_is_of_record text k (sym h)),
+)
 
 none_of : {T : Type 0} (o : Option Spot) (f : Spot → T) → is_some o ≡ false → option_map f o ≡ None
 none_of None f e = refl

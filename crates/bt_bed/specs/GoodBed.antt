@@ -13,6 +13,7 @@ use Rattle.bt_bed.specs.Feature.{Feature, interval_of, intervals_of}
 use Rattle.bt_bed.specs.Good.{Format, Good, Member, good, good_handed, items_in}
 use Rattle.bt_bed.specs.GoodLines.{AreAscending, IsBeyond}
 use Rattle.bt_bed.specs.Interval.{AreNonEmpty}
+use Rattle.bt_bed.specs.LineKind.{IsBedKind}
 use Rattle.bt_bed.specs.Order.{Order, IsTotal}
 use Rattle.bt_bed.specs.Locus.{Locus, locus_of, ArePlaced}
 use Rattle.bt_bed.specs.Record.{record_of}
@@ -39,6 +40,12 @@ said_after sorting last (Ok (Some r)) = in_order sorting last r
 -- what a line says behind the last place: nothing, a record, or what is wrong with it
 unfoldable pub line_says : Sorting → Option Locus → List ℕ → Result (Option Feature) Kind
 line_says sorting last text = said_after sorting last (record_of text)
+
+-- what is wrong with a line is of those kinds, by the order of the chromosomes
+abbrev pub wrong_lines_are_of_bed : Type 0
+wrong_lines_are_of_bed =
+    (order : Order) (last : Option Locus) (text : List ℕ) (kind : Kind)
+    → line_says (sorting_of order) last text ≡ Err kind → IsBedKind order kind
 
 -- sorted records, of which the place of the last is known
 abbrev pub bed_format : Sorting → Format Feature (Option Locus)

@@ -7,6 +7,7 @@ pub mod Stretches
 pub mod Order
 pub mod Rank
 pub mod RankTotal
+pub mod ByteOrder
 pub mod Locus
 pub mod Together
 pub mod Header

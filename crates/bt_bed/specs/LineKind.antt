@@ -1,5 +1,5 @@
 -- Faults of a line.
-use Rattle.std.specs.Prelude.{ℕ, Bool, true, false, Some}
+use Rattle.std.specs.Prelude.{◌≡◌, ℕ, Bool, true, false, List, Some}
 use Rattle.bt_lines.specs.Fault.{Told}
 use Rattle.bt_lines.specs.declared.fault.Input.{Input}
 use Rattle.bt_lines.specs.declared.fault.Kind.{Kind}
@@ -7,6 +7,7 @@ use Rattle.bt_lines.specs.declared.fault.Kind.TheVariants.{TooFewColumns, EmptyN
 use Rattle.bt_lines.specs.declared.fault.Kind.TheVariants.{BadStop, EmptyFeature, UnknownChrom}
 use Rattle.bt_lines.specs.declared.fault.Kind.TheVariants.{OutOfOrder, BadLength, RepeatedChrom}
 use Rattle.bt_lines.specs.declared.fault.Kind.TheVariants.{ReadFailed, WriteFailed, NoMemory}
+use Rattle.bt_bed.specs.Order.{Order}
 
 -- a line can be at fault by what it says, and not by a device that failed or by want of memory
 abbrev pub is_of_line : Kind → Bool
@@ -14,6 +15,15 @@ is_of_line ReadFailed = false
 is_of_line WriteFailed = false
 is_of_line NoMemory = false
 is_of_line _ = true
+
+-- whether a line of a BED input can be at fault so by itself, whatever its chromosome and its place
+abbrev pub is_record_kind : Kind → Bool
+is_record_kind TooFewColumns = true
+is_record_kind EmptyName = true
+is_record_kind BadStart = true
+is_record_kind BadStop = true
+is_record_kind EmptyFeature = true
+is_record_kind _ = false
 
 -- whether a line of a BED input can be at fault so
 abbrev pub is_bed_kind : Kind → Bool
@@ -25,6 +35,13 @@ is_bed_kind EmptyFeature = true
 is_bed_kind UnknownChrom = true
 is_bed_kind OutOfOrder = true
 is_bed_kind _ = false
+
+-- A line of a BED input that is sorted by an order of the chromosomes can be at fault so. For an
+-- unknown chromosome it is only where there is a name that the order doesn't know.
+abbrev pub IsBedKind : Order → Kind → Type 0
+IsBedKind order kind =
+    (is_bed_kind kind ≡ true)
+    × (kind ≡ UnknownChrom → (name : List ℕ) × (order.knows name ≡ false))
 
 -- whether a line of a genome file can be
 abbrev pub is_genome_kind : Kind → Bool

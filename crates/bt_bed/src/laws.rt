@@ -1,9 +1,11 @@
 //! The laws of the definitions, each as the contract of a function that does nothing.
 
 ghost use Rattle.std.specs.Prelude.{◌≡◌, [], ◌∷◌, ◌++◌, Some, None, Ok, Err, codes};
+ghost use Rattle.std.specs.declared.cmp.Ordering.TheVariants.{Less};
 ghost use Rattle.bt_bed.specs.Bases.{shared_are_common};
+ghost use Rattle.bt_bed.specs.ByteOrder.{byte_order, bytes_are_total, bytes_know_each_chromosome, first_difference_decides, prefixes_come_first};
 ghost use Rattle.bt_bed.specs.Genome.{first_lines_make_entries, genome_names_are_distinct};
-ghost use Rattle.bt_bed.specs.GoodBed.{first_lines_have_the_first, good_are_non_empty, good_are_placed, good_stand_on_lines};
+ghost use Rattle.bt_bed.specs.GoodBed.{first_lines_have_the_first, good_are_non_empty, good_are_placed, good_stand_on_lines, wrong_lines_are_of_bed};
 ghost use Rattle.bt_bed.specs.GoodBlocks.{blocks_know_each_chromosome, good_are_in_blocks, good_in_blocks_are_non_empty, good_in_blocks_stand_on_lines};
 ghost use Rattle.bt_bed.specs.Locus.{fronts_are_placed, placed_grows};
 ghost use Rattle.bt_bed.specs.Meeting.{EarlyLinesBegin};
@@ -60,6 +62,11 @@ pub fn first_lines_have_the_first_records()
     ensures first { first_lines_have_the_first }
 {}
 
+/// What is wrong with a line of a BED input is of a kind that its order of the chromosomes allows.
+pub fn wrong_lines_are_of_bed()
+    ensures { wrong_lines_are_of_bed }
+{}
+
 /// A genome file without a fault has each chromosome once.
 pub fn chromosomes_come_once()
     ensures { genome_names_are_distinct }
@@ -78,6 +85,20 @@ pub fn sorted_records_follow_the_order()
 /// The ranks of names give a total order of them, in which only equal names compare as equal.
 pub fn ranks_give_an_order()
     ensures { ranks_are_total }
+{}
+
+/// The bytes of names give a total order of all names, in which only equal names compare as equal: a
+/// name comes before the longer ones that it begins, and else the first byte that differs decides. No
+/// chromosome is unknown to it.
+pub fn bytes_give_an_order()
+    ensures total { bytes_are_total }
+    ensures prefix { prefixes_come_first }
+    ensures difference { first_difference_decides }
+    ensures known { bytes_know_each_chromosome }
+    ensures prefix_of_a_name { byte_order.compare (codes "chr") (codes "chr1") ≡ Less }
+    ensures prefix_of_a_number { byte_order.compare (codes "chr1") (codes "chr10") ≡ Less }
+    ensures no_number { byte_order.compare (codes "chr10") (codes "chr2") ≡ Less }
+    ensures capital { byte_order.compare (codes "chrX") (codes "chra") ≡ Less }
 {}
 
 /// What a line says is a feature: its name is one column, it has a base, and its numbers have at most

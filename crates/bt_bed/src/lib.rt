@@ -3,8 +3,8 @@
 //! A feature is what a line of a BED file says ([`parse_bed`]). A [`BedRef`] borrows it, and a [`Rec`]
 //! keeps it; both are written whole or in parts ([`write_bed`], [`write_cut`], [`put_bed`],
 //! [`put_cut`]). [`Records`] reads the features of sorted input in an order of the chromosomes
-//! ([`ChromOrder`]), as that of a [`Genome`], and [`Blocks`] those of input in which only the records
-//! of a chromosome that stand together are sorted.
+//! ([`ChromOrder`]), that of a [`Genome`] or of the bytes of their names ([`ByteOrder`]), and [`Blocks`]
+//! those of input in which only the records of a chromosome that stand together are sorted.
 //!
 //! An example, which is the test in `example.rt`: the records of a source, in the order of a genome
 //! file that has `chr1` first.
@@ -30,6 +30,7 @@
 
 mod bed;
 mod blocks;
+mod byte_order;
 mod cursor;
 mod entry;
 #[cfg(test)]
@@ -58,6 +59,7 @@ mod writing;
 
 pub use bed::BedRef;
 pub use blocks::Blocks;
+pub use byte_order::ByteOrder;
 pub use faults::at_line;
 pub use genome::Genome;
 pub use interval_line::put_interval;

@@ -41,7 +41,7 @@ module _ (order : Order) (total : IsTotal order) (keep : Feature → Bool) where
       ]
 
   -- some of the records are in order where all are
-  some_placed : (records : List Feature) → ArePlaced order (intervals_of records) → ArePlaced order (intervals_of (filter keep records))
+  pub some_placed : (records : List Feature) → ArePlaced order (intervals_of records) → ArePlaced order (intervals_of (filter keep records))
   some_placed [] t = tt
   some_placed (r ∷ rs) t =
       elim (keep r) as (λ b. ArePlaced order (intervals_of (cond b (r ∷ filter keep rs) (filter keep rs)))) [

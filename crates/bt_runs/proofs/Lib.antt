@@ -19,6 +19,7 @@ pub mod PassedRuns
 pub mod StrandedLemmas
 pub mod MergeLemmas
 pub mod FileOrder
+pub mod RunOrder
 pub mod OwnOrder
 pub mod MergeForm
 pub mod EngineLemmas

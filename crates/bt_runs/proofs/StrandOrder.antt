@@ -12,8 +12,6 @@ use Rattle.bt_bed.specs.Feature.{Feature, interval_of, intervals_of}
 use Rattle.bt_bed.specs.Interval.{Interval}
 use Rattle.bt_bed.specs.Locus.{ArePlaced, IsPlacedBefore, IsUpTo, Locus, locus_of}
 use Rattle.bt_bed.specs.Order.{IsTotal, Order}
-use Rattle.bt_bed.specs.Rank.{rank_order}
-use Rattle.bt_bed.specs.RankTotal.{ranks_total}
 use Rattle.bt_bed.proofs.TogetherLemmas.{placed_together}
 use Rattle.bt_runs.specs.MergedRuns.{AreTaken}
 use Rattle.bt_runs.specs.StrandOrder.{first_place, first_start, strand_runs_come_in_order}
@@ -347,9 +345,7 @@ start_with_records gap records taken =
     (firsts gap records taken).start
 
 pub in_order : strand_runs_come_in_order
-in_order names gap records placed full =
-    let order = rank_order names in
-    let total = ranks_total names in
+in_order order gap records total placed full =
     let together = placed_together order (intervals_of records) total placed in
     let taken : AreTaken records = record { together = together; full = full } in
     placed_more gap order total [] records taken

@@ -4,6 +4,7 @@ pub mod Engine
 pub mod Merged
 pub mod Counted
 pub mod MergedRuns
+pub mod RunOrder
 pub mod StrandRuns
 pub mod StrandOrder
 pub mod StrandStep

@@ -6,7 +6,7 @@ use Rattle.std.specs.List.Sorted.{IsStrictlyIncreasing}
 use Rattle.bt_bed.specs.Feature.{Feature, interval_of, intervals_of}
 use Rattle.bt_bed.specs.Interval.{AreNonEmpty}
 use Rattle.bt_bed.specs.Locus.{ArePlaced, Locus, locus_of}
-use Rattle.bt_bed.specs.Rank.{rank_order}
+use Rattle.bt_bed.specs.Order.{Order, IsTotal}
 use Rattle.bt_runs.specs.MergedRuns.{AreTaken}
 use Rattle.bt_runs.specs.StrandRuns.{StrandRun, is_in, places_of, strand_runs}
 
@@ -32,10 +32,10 @@ strand_runs_start_with_records =
     → map (first_start records) (strand_runs gap records)
     ≡ map (λ item. Some (locus_of item.run)) (strand_runs gap records)
 
--- so for records in the order of a genome file the runs are in that order:
+-- so for records in a total order of the chromosomes the runs are in that order:
 -- by chromosome, then by start
 abbrev pub strand_runs_come_in_order : Type 0
 strand_runs_come_in_order =
-    (names : List (List ℕ)) (gap : ℕ) (records : List Feature)
-    → ArePlaced (rank_order names) (intervals_of records) → AreNonEmpty (intervals_of records)
-    → ArePlaced (rank_order names) (places_of (strand_runs gap records))
+    (order : Order) (gap : ℕ) (records : List Feature) → IsTotal order
+    → ArePlaced order (intervals_of records) → AreNonEmpty (intervals_of records)
+    → ArePlaced order (places_of (strand_runs gap records))

@@ -2,6 +2,7 @@
 
 ghost use Rattle.bt_runs.specs.Merged.{runs_are, runs_only};
 ghost use Rattle.bt_runs.specs.MergedRuns.{one_run_is_kept, runs_come_in_order, settled_runs_begin, settled_runs_stay};
+ghost use Rattle.bt_runs.specs.RunOrder.{file_runs_are_ordered, ordered_runs_come};
 ghost use Rattle.bt_runs.specs.StrandRuns.{strand_runs_begin, strand_runs_divide, strand_runs_stay, strands_stay_in_order};
 
 /// The merged runs of a chromosome are the stretches of its bridged positions, and no other list is.
@@ -10,9 +11,16 @@ pub fn runs_are_determined()
     ensures only { runs_only }
 {}
 
-/// In the order of a genome file the chromosomes of the merged runs come as in that file.
+/// In a total order of the chromosomes the merged runs come in that order.
+pub fn runs_follow_the_order()
+    ensures { ordered_runs_come }
+{}
+
+/// In the order of a genome file the chromosomes of the merged runs come as in that file, which is the
+/// order of its names' ranks.
 pub fn runs_come_in_file_order()
-    ensures { runs_come_in_order }
+    ensures come { runs_come_in_order }
+    ensures ordered { file_runs_are_ordered }
 {}
 
 /// No later record changes a settled run, and all runs but one are settled.

@@ -1,5 +1,5 @@
 use Rattle.bt_runs.proofs.StrandOrder.{in_order, in_turn, start_with_records}
-use Rattle.bt_runs.proofs.strand_laws.strand_runs_come_in_file_order.Goals as goal
+use Rattle.bt_runs.proofs.strand_laws.strand_runs_follow_the_order.Goals as goal
 
 pub returns-clause-turn : goal.returns-clause-turn
 returns-clause-turn c = in_turn

@@ -1,0 +1,43 @@
+-- The merged runs in an order of the chromosomes, as that of a genome file or of the names' bytes.
+use Rattle.std.specs.Prelude.{◌≡◌, ℕ, List, [], ◌∷◌, if◌then◌else◌}
+use Rattle.std.specs.Ordering.{is_lt}
+use Rattle.bt_bed.specs.Feature.{Feature, intervals_of}
+use Rattle.bt_bed.specs.Interval.{Interval}
+use Rattle.bt_bed.specs.Locus.{ArePlaced}
+use Rattle.bt_bed.specs.Order.{Order, IsTotal}
+use Rattle.bt_bed.specs.Rank.{AreDistinct, rank_order}
+use Rattle.bt_runs.specs.Counted.{counted}
+use Rattle.bt_runs.specs.Merged.{chromosomes, merged}
+use Rattle.bt_runs.specs.MergedRuns.{merged_runs}
+use Rattle.bt_runs.specs.declared.merge_strand.MergeStrand.{MergeStrand}
+
+-- a name among names in order: it stands before the first that comes after it
+abbrev pub put_in_order : Order → List ℕ → List (List ℕ) → List (List ℕ)
+put_in_order order name [] = name ∷ []
+put_in_order order name (n ∷ ns) =
+    if is_lt (order.compare name n) then name ∷ n ∷ ns else n ∷ put_in_order order name ns
+
+-- the names in order
+abbrev pub in_order : Order → List (List ℕ) → List (List ℕ)
+in_order order [] = []
+in_order order (n ∷ ns) = put_in_order order n (in_order order ns)
+
+-- the merged runs of the records, their chromosomes in order
+unfoldable pub ordered_runs : Order → ℕ → MergeStrand → List Feature → List Interval
+ordered_runs order gap strand records =
+    merged (in_order order (chromosomes (counted strand records))) gap (counted strand records)
+
+-- for records in a total order, the order in which the chromosomes come is that order
+abbrev pub ordered_runs_come : Type 0
+ordered_runs_come =
+    (order : Order) (gap : ℕ) (strand : MergeStrand) (records : List Feature) → IsTotal order
+    → ArePlaced order (intervals_of records)
+    → ordered_runs order gap strand records ≡ merged_runs gap strand records
+
+-- for records in the order of a genome file they are the runs by the names of the file: a
+-- chromosome without records has none
+abbrev pub file_runs_are_ordered : Type 0
+file_runs_are_ordered =
+    (names : List (List ℕ)) (gap : ℕ) (strand : MergeStrand) (records : List Feature)
+    → AreDistinct names → ArePlaced (rank_order names) (intervals_of records)
+    → merged names gap (counted strand records) ≡ ordered_runs (rank_order names) gap strand records
