@@ -1,6 +1,6 @@
 # make builds bin/bedtools, make example runs it, make test is the gate, make mutants tries further wrong bodies.
-# make check-docs checks the docs, make check-program the program at its edges, make check-differences compares it
-# with bedtools 2.30.0. make install PREFIX=.. NAME=.. copies the program and its manual page.
+# make check-docs checks the docs, make check-program the program at its edges, make check-speed its instructions,
+# make check-differences compares it with bedtools 2.30.0. make install PREFIX=.. NAME=.. copies the program and its manual page.
 PREFIX ?= /usr/local
 # The name of the installed program: not `bedtools`, which it would hide.
 NAME ?= dunekettle-bedtools
@@ -10,7 +10,7 @@ PROGRAM := bin/bedtools
 LOG := bin/build.log
 SOURCES := crates.txt $(shell find crates -name out -prune -o -type f \( -name '*.rt' -o -name '*.antt' \) -print)
 
-.PHONY: all example test mutants check-docs check-program check-differences pictures install clean
+.PHONY: all example test mutants check-docs check-program check-speed check-differences pictures install clean
 
 all: $(PROGRAM)
 
@@ -46,6 +46,10 @@ check-docs: $(PROGRAM)
 # Closed standard streams, full disks, directories: what no proof says of real files.
 check-program: $(PROGRAM)
 	docs/edges.py
+
+# The instructions a record, beside those in bench/instructions.txt.
+check-speed: $(PROGRAM)
+	bench/compare.py --check
 
 # The rows of docs/DIFFERENCES.md, tried with the program and with the bedtools 2.30.0 on PATH.
 check-differences: $(PROGRAM)

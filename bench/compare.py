@@ -2,16 +2,22 @@
 """Times the commands of this repository on sorted records that it makes itself.
 
     bench/compare.py [RECORDS] [--only WORDS] [--times N] [--discard] [--chart FILE]
+    bench/compare.py --check [--store] [--only WORDS]
 
 Prints, for each command and kind of record, for RECORDS records (5,000,000 where it is missing) and
 for a tenth of them, the processor time and the peak memory; beside them those of the bedtools and the
 bedops on PATH, where they are there and do the same job; and the instructions a record, where valgrind
 is there. For `bamtobed` samtools makes the BAM file that bedtools reads, and bedops' convert2bed, which
 writes further columns, isn't compared. With `--only` it takes the workloads alone whose names have these
-words in them; with `--times` each program runs so many times, and the least time and the highest memory are printed; with `--discard`
-the outputs go to /dev/null, and aren't compared; with `--chart` it draws the larger runs as an SVG.
+words in them; with `--times` each program runs so many times, and the least time and the highest memory
+are printed; with `--discard` the outputs go to /dev/null, and aren't compared; with `--chart` it draws the
+larger runs as an SVG, and writes what they took beside it, as a text of the same name.
 It fails where a program fails, where two outputs differ, or where this program's memory grows with its
 input.
+
+With `--check` nothing is timed: the instructions a record of this program are compared with those in
+instructions.txt. It fails where a workload takes over 3 percent more than there, or isn't there, and says
+which take over 3 percent less; with `--store` it writes what it counted into that file instead.
 """
 
 import argparse
@@ -28,7 +34,7 @@ import tempfile
 from dataclasses import dataclass
 from pathlib import Path
 
-from chart import draw
+from chart import draw, write_rows
 
 PROGRAM = Path(__file__).resolve().parent.parent / "bin" / "bedtools"
 # The lengths of the human chromosomes in GRCh38, in million bases.
@@ -45,6 +51,9 @@ AT_EXIT = 6
 SLACK = 1024
 # So many records are enough to count instructions: they repeat.
 COUNTED = 100_000
+# The instructions a record that are to be kept to, and by which part they may differ.
+STORED = Path(__file__).resolve().parent / "instructions.txt"
+ALLOWED = 0.03
 
 
 class OneInput:
@@ -262,9 +271,9 @@ WORKLOADS = [
         for data in (Pair(READS, EXONS), Pair(EXONS, PEAKS), Pair(PEAKS, REPEATS))
         for shape in ([], ["-A"], ["-f", "0.5"])
     ),
-    # bedtools goes over each base of the genome: in the chart it would leave no room for the others.
+    # bedtools goes over each base of the genome, so its instructions aren't counted: that would take half an hour.
     *(
-        Workload(["genomecov", *options], data, BOTH, None, None, part, False, counted=OURS)
+        Workload(["genomecov", *options], data, BOTH, None, None, part, data.depth > 0 and options == ["-bg"], counted=OURS)
         for data, part in ((Alone(READS, 30), 0.1), (Alone(PEAKS), 0.02))
         for options in (["-bg"], ["-bga"], ["-bg", "-strand", "+"])
         if data.features.columns > 3 or "-strand" not in options
@@ -476,16 +485,71 @@ def count_instructions(valgrind, workload, others, folder):
     runs = [run for run in runs_of(workload, others, place) if workload.counts(run.program)]
     if not runs:
         return
-    with open(place / "records.bed", "rb") as records:
-        lines = sum(1 for _ in records)
+    lines = lines_of(place / "records.bed")
     aim = f", at most {workload.instructions} aimed at" if workload.instructions else ""
     print(f"{workload.name()}: instructions a record{aim}")
     for run in runs:
-        words = [valgrind, "--tool=callgrind", "--callgrind-out-file=/dev/null", *run.words_into(os.devnull)]
-        with open(run.source or os.devnull, "rb") as source:
-            counted = subprocess.run(words, stdin=source, stdout=subprocess.DEVNULL, stderr=subprocess.PIPE, check=True, text=True)
-        count = int(re.search(r"Collected : (\d+)", counted.stderr).group(1))
-        print(f"  {run.program:10} {count / lines:6.0f}", flush=True)
+        print(f"  {run.program:10} {instructions_of(valgrind, run) / lines:6.0f}", flush=True)
+
+
+def instructions_of(valgrind, run):
+    """The instructions of a run, as callgrind counts them."""
+    words = [valgrind, "--tool=callgrind", "--callgrind-out-file=/dev/null", *run.words_into(os.devnull)]
+    with open(run.source or os.devnull, "rb") as source:
+        counted = subprocess.run(words, stdin=source, stdout=subprocess.DEVNULL, stderr=subprocess.PIPE, check=True, text=True)
+    return int(re.search(r"Collected : (\d+)", counted.stderr).group(1))
+
+
+def lines_of(path):
+    """How many lines a file has."""
+    with open(path, "rb") as lines:
+        return sum(1 for _ in lines)
+
+
+def stored_instructions():
+    """The instructions a record of each workload by its name, as they are stored."""
+    if not STORED.exists():
+        return {}
+    lines = [line.split(maxsplit=1) for line in STORED.read_text(encoding="ascii").splitlines() if not line.startswith("#")]
+    return {name: float(count) for count, name in lines}
+
+
+def store_instructions(counts):
+    """Stores the instructions a record of each workload, in the order of the workloads."""
+    head = "# Instructions a record, which bench/compare.py --check keeps to, and writes anew with --store.\n"
+    names = [workload.name() for workload in WORKLOADS if workload.name() in counts]
+    STORED.write_text(head + "".join(f"{counts[name]:9.1f}  {name}\n" for name in names), encoding="ascii")
+
+
+def checked_instructions(valgrind, only):
+    """Counts this program's instructions a record of each workload, and yields its name with them."""
+    with tempfile.TemporaryDirectory() as folder:
+        for workload in (it for it in WORKLOADS if only in it.name() and it.counts("dunekettle")):
+            place = prepared(workload, Path(folder), COUNTED)
+            run = runs_of(workload, dict.fromkeys(("bedtools", "bedops", "convert2bed")), place)[0]
+            yield workload.name(), instructions_of(valgrind, run) / lines_of(place / "records.bed")
+
+
+def check(valgrind, only, is_stored):
+    """Compares the instructions of this program with the stored ones, or stores them. Answers the exit status."""
+    stored = stored_instructions()
+    kept = dict(stored)
+    grown = []
+    fallen = []
+    for name, count in checked_instructions(valgrind, only):
+        kept[name] = count
+        change = count / stored[name] - 1 if name in stored else None
+        print(f"{count:9.1f}  {name}, " + ("not stored" if change is None else f"{change:+.1%} beside the stored ones"), flush=True)
+        if change is None or change > ALLOWED:
+            grown.append(name)
+        elif change < -ALLOWED:
+            fallen.append(name)
+    print(f"{len(fallen)} fell by over {ALLOWED:.0%}" + "".join(f"\n  {name}" for name in fallen))
+    if is_stored:
+        store_instructions(kept)
+        return 0
+    print(f"{len(grown)} grew by over {ALLOWED:.0%}, or aren't stored" + "".join(f"\n  {name}" for name in grown))
+    return 1 if grown else 0
 
 
 def main():
@@ -495,13 +559,24 @@ def main():
     parser.add_argument("--times", metavar="N", type=int, default=1)
     parser.add_argument("--discard", action="store_true")
     parser.add_argument("--chart", metavar="FILE")
+    parser.add_argument("--check", action="store_true")
+    parser.add_argument("--store", action="store_true")
     asked = parser.parse_args()
     if asked.times < 1:
         parser.error("--times takes a number above 0")
+    if asked.store and not asked.check:
+        parser.error("--store goes with --check")
+    valgrind = shutil.which("valgrind")
+    if asked.check:
+        sys.exit(check(valgrind, asked.only, asked.store) if valgrind else "valgrind isn't on PATH")
+    compare_all(asked, valgrind)
+
+
+def compare_all(asked, valgrind):
+    """Compares the programs on each workload that is asked for."""
     others = {name: shutil.which(name) for name in ("bedtools", "bedops", "convert2bed")}
     if others["bedtools"] and Path(others["bedtools"]).resolve() == PROGRAM:
         others["bedtools"] = None
-    valgrind = shutil.which("valgrind")
     rows = []
     with tempfile.TemporaryDirectory() as folder:
         folder = Path(folder)
@@ -517,6 +592,7 @@ def main():
             if workload.is_drawn:
                 rows.append((workload.name(), large))
     if asked.chart:
+        write_rows(Path(asked.chart).with_suffix(".txt"), rows)
         Path(asked.chart).write_text(draw(rows), encoding="utf-8")
 
 
