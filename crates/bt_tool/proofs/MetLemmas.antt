@@ -260,7 +260,7 @@ module _ {A B O : Type 0} {g : Ghosts O} (a_left : A → Option (List ℕ)) (a_f
       ]
 
   first_named : (past : List (Member Feature)) (other : Told) → Wrong past other → TellsInput a_left a_failed is_bed_kind First one_before one_after other
-  first_named past other (inl wrong) = inl (record { line = wrong.line; kind = wrong.kind; of_kind = wrong.of_bed; is = wrong.is ∙ ap (λ i. fault_at_line i wrong.line wrong.kind) begins.input_is })
+  first_named past other (inl wrong) = inl (record { line = wrong.line; kind = wrong.kind; of_kind = wrong.of_kind; is = wrong.is ∙ ap (λ i. fault_at_line i wrong.line wrong.kind) begins.input_is })
   first_named past other (inr unread) = inr (record {
     line = suc (lines_given (below first));
     is = unread.is ∙ ap (λ i. read_failed i (suc (lines_given (below first)))) begins.input_is;
@@ -268,7 +268,7 @@ module _ {A B O : Type 0} {g : Ghosts O} (a_left : A → Option (List ℕ)) (a_f
   })
 
   second_named : (past : List (Member Feature)) (other : Told) → WrongSecond past other → TellsInput b_left b_failed is_bed_kind Second two_before two_after other
-  second_named past other (inl wrong) = inl (record { line = wrong.line; kind = wrong.kind; of_kind = wrong.of_bed; is = wrong.is ∙ ap (λ i. fault_at_line i wrong.line wrong.kind) begins_second.input_is })
+  second_named past other (inl wrong) = inl (record { line = wrong.line; kind = wrong.kind; of_kind = wrong.of_kind; is = wrong.is ∙ ap (λ i. fault_at_line i wrong.line wrong.kind) begins_second.input_is })
   second_named past other (inr unread) = inr (record {
     line = suc (lines_given (below second));
     is = unread.is ∙ ap (λ i. read_failed i (suc (lines_given (below second)))) begins_second.input_is;

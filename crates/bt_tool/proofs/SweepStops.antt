@@ -34,7 +34,8 @@ use Rattle.bt_lines.specs.declared.fault.Fault.{Fault}
 use Rattle.bt_tool.specs.Swept.{AsksFor, ChecksAll, ChecksUpTo, Finishes, FinishesBoth, FirstServes, IsOpenAt, ReadsOn, SecondFails, SecondServes, Settles, StaysNear, Sweeps, Why, Wrote}
 use Rattle.bt_tool.specs.Turns.{FailsAtEnd, FailsFirst, FailsSecond, HasStopped, StopsTurn}
 use Rattle.bt_tool.proofs.FeedLemmas.{begins_more, begins_with, grows_both, line_going, took_later, took_lines, up_to}
-use Rattle.bt_tool.proofs.PassedLemmas.{ahead_at, ahead_first, bytes_more, ended_at, no_ahead_at_end, no_ahead_at_stop, passes_all, passes_end, passes_peek, passes_stop, read_ahead, read_at, read_for, stopped_at}
+use Rattle.bt_tool.proofs.PassedLemmas.{ahead_at, bytes_more, ended_at, no_ahead_at_end, no_ahead_at_stop, passes_all, passes_end, passes_peek, passes_stop, read_ahead, read_at, read_for, stopped_at}
+use Rattle.bt_tool.proofs.MemberLemmas.{ahead_first}
 use Rattle.bt_tool.proofs.RestLemmas.{rises_up}
 use Rattle.bt_tool.proofs.SeenLemmas.{cuts_more, if_known, items_begin, items_first, puts_front, seen_items, seen_low}
 use Rattle.bt_tool.proofs.StopLemmas.{StopsBehind}
@@ -79,9 +80,9 @@ module _ {A B O : Type 0} {g : Ghosts O} (a_left : A → Option (List ℕ)) (a_f
     ended = ended;
     settles = λ known. subst (λ (l : List Feature). Settles order shape rule written lines l ended) (sym (seen_items past (view_of now).ahead)) (settles known);
     first_begins = begins;
-    second_begins = seen_begins b_left (good_coming b_left (view_of old_second)) now past (view_of now).ahead refl p.come;
+    second_begins = seen_begins b_left (good_coming b_left (view_of old_second)) now past (view_of now).ahead refl p.members.come;
     low = up_to (lines_given (below now)) (lines_given (below new)) (past ++ option_to_list (view_of now).ahead) rises
-        (seen_low past (view_of now).ahead (lines_given (below now)) p.behind p.ahead_low);
+        (seen_low past (view_of now).ahead (lines_given (below now)) p.members.behind p.members.ahead_low);
     second_all = λ e.
         let whole = all e in
         subst (AreAll b_left b_failed b_end old_second) (sym (ap (λ (o : Option (Member Feature)). past ++ option_to_list o) whole.1 ∙ append-nil past)) whole.0;
@@ -95,10 +96,10 @@ module _ {A B O : Type 0} {g : Ghosts O} (a_left : A → Option (List ℕ)) (a_f
     stage = s.stage
 
     second_serves : SecondServes a_left a_failed a_end b_left b_failed b_end order shape rule old_first old_second out second
-    second_serves = record { served = s.second_passes.served; within = s.second_passes.sound.within (line_going second s.second_passes.going) }
+    second_serves = record { served = s.second_passes.members.served; within = s.second_passes.members.sound.within (line_going second s.second_passes.members.going) }
 
     first_serves : FirstServes a_left a_failed a_end b_left b_failed b_end order shape rule old_first old_second out first
-    first_serves = record { served = s.first_passes.served; within = s.first_passes.sound.within (line_going first s.first_passes.going) }
+    first_serves = record { served = s.first_passes.members.served; within = s.first_passes.members.sound.within (line_going first s.first_passes.members.going) }
 
     settles_now : IsSome (good_coming b_left (view_of old_second)) → Settles order shape rule stage.written s.lines (member_items s.past_second ++ option_to_list (record_ahead second)) stage.b_ended
     settles_now known = subst (λ (l : List Feature). Settles order shape rule stage.written s.lines (l ++ option_to_list (record_ahead second)) stage.b_ended) s.all_taken (s.settles known)
@@ -107,7 +108,7 @@ module _ {A B O : Type 0} {g : Ghosts O} (a_left : A → Option (List ℕ)) (a_f
     begins_now =
         items_first (good_coming a_left (view_of old_first)) stage.written (option_to_list stage.waiting)
         (items_begin (good_coming a_left (view_of old_first)) s.past_first stage.written (option_to_list stage.waiting) (sym s.all_given)
-        (begins_with (good_coming a_left (view_of old_first)) (good_coming a_left (view_of first)) s.past_first s.first_passes.come))
+        (begins_with (good_coming a_left (view_of old_first)) (good_coming a_left (view_of first)) s.past_first s.first_passes.members.come))
 
     ended_now : stage.b_ended ≡ true → AreAll b_left b_failed b_end old_second s.past_second × ((view_of second).ahead ≡ None)
     ended_now e = let all = s.second_all e in (all.0, all.2)
@@ -116,13 +117,13 @@ module _ {A B O : Type 0} {g : Ghosts O} (a_left : A → Option (List ℕ)) (a_f
     wrote_first : (first_now : Records A O g) → (bytes : List ℕ) × Hands a_left (below old_first) bytes (below first_now)
         → Wrote a_left a_failed a_end b_left b_failed b_end order shape rule old_first old_second out stage.written s.lines first_now second grown
     wrote_first first_now bytes =
-        wrote_by s.past_second second second s.second_passes (omega arith) s.second_passes.bytes first_now bytes stage.written s.lines stage.b_ended grown settles_now begins_now ended_now s.grows
+        wrote_by s.past_second second second s.second_passes (omega arith) s.second_passes.members.bytes first_now bytes stage.written s.lines stage.b_ended grown settles_now begins_now ended_now s.grows
 
     -- and of the second
     wrote_second : (second_now : Records B O g) → lines_given (below second) ≤ lines_given (below second_now) → (bytes : List ℕ) × Hands b_left (below old_second) bytes (below second_now)
         → Wrote a_left a_failed a_end b_left b_failed b_end order shape rule old_first old_second out stage.written s.lines first second_now grown
     wrote_second second_now rises bytes =
-        wrote_by s.past_second second second_now s.second_passes rises bytes first s.first_passes.bytes stage.written s.lines stage.b_ended grown settles_now begins_now ended_now s.grows
+        wrote_by s.past_second second second_now s.second_passes rises bytes first s.first_passes.members.bytes stage.written s.lines stage.b_ended grown settles_now begins_now ended_now s.grows
 
     -- each record that was taken leaves one of the given undecided
     asks_by : (second_now : Records B O g) → (IsSome (good_coming b_left (view_of old_second)) → IsReadTo b_left b_failed b_end old_second s.past_second second_now) → Asks s.past_first second_now
@@ -215,14 +216,14 @@ module _ {A B O : Type 0} {g : Ghosts O} (a_left : A → Option (List ℕ)) (a_f
           record {
             written = stage.written ++ r ∷ [];
             lines = s.lines ++ more;
-            wrote = wrote_by s.past_second second second s.second_passes (omega arith) s.second_passes.bytes first_now
+            wrote = wrote_by s.past_second second second s.second_passes (omega arith) s.second_passes.members.bytes first_now
                 (bytes_more a_left a_failed a_end old_first s.past_first first s.first_passes first_now turn.ahead.gives.read.stays.bytes) (stage.written ++ r ∷ []) (s.lines ++ more) true now
                 (λ known. subst (λ (l : List Feature). Settles order shape rule (stage.written ++ r ∷ []) (s.lines ++ more) (l ++ option_to_list (record_ahead second)) true) s.all_taken
                 (subst (λ (l : List Feature). Settles order shape rule (stage.written ++ r ∷ []) (s.lines ++ more) l true) (sym seen)
                 (settles_end order shape rule stage.written s.lines stage.taken stage.b_ended r (subst (λ (l : List Feature). Settles order shape rule stage.written s.lines l stage.b_ended) seen (s.settles known)))))
                 (items_first (good_coming a_left (view_of old_first)) (stage.written ++ r ∷ []) []
                 (items_begin (good_coming a_left (view_of old_first)) (s.past_first ++ m ∷ []) (stage.written ++ r ∷ []) [] items
-                (begins_more (good_coming a_left (view_of old_first)) (good_coming a_left (view_of first)) s.past_first m s.first_passes.come turn.ahead.gives.read.first)))
+                (begins_more (good_coming a_left (view_of old_first)) (good_coming a_left (view_of first)) s.past_first m s.first_passes.members.come turn.ahead.gives.read.first)))
                 (λ k. ended_now e)
                 (grows_both out.took grown.took now.took s.grows adds.puts.grows);
             why = inr (inr (ap Some adds.puts.is, cuts_more out grown now s.lines more fault s.puts adds));
@@ -247,13 +248,13 @@ module _ {A B O : Type 0} {g : Ghosts O} (a_left : A → Option (List ℕ)) (a_f
       begins_here =
           items_first (good_coming a_left (view_of old_first)) (stage.written ++ a ∷ []) []
           (items_begin (good_coming a_left (view_of old_first)) s.past_first (stage.written ++ a ∷ []) [] all_here
-          (begins_with (good_coming a_left (view_of old_first)) (good_coming a_left (view_of first)) s.past_first s.first_passes.come))
+          (begins_with (good_coming a_left (view_of old_first)) (good_coming a_left (view_of first)) s.past_first s.first_passes.members.come))
 
       begins_before : IfSome (good_coming a_left (view_of old_first)) (λ good. (rest : List Feature) × (items_in good ≡ stage.written ++ a ∷ rest))
       begins_before =
           items_begin (good_coming a_left (view_of old_first)) s.past_first stage.written (a ∷ [])
           (sym (all_with a_left a_failed a_end b_left b_failed b_end shape rule old_first old_second out total same_order first second sweep grown s a waits))
-          (begins_with (good_coming a_left (view_of old_first)) (good_coming a_left (view_of first)) s.past_first s.first_passes.come)
+          (begins_with (good_coming a_left (view_of old_first)) (good_coming a_left (view_of first)) s.past_first s.first_passes.members.come)
 
       open_by : (view_of second).ahead ≡ None → decided order a (member_items s.past_second) ≡ false
       open_by none =
@@ -350,22 +351,22 @@ module _ {A B O : Type 0} {g : Ghosts O} (a_left : A → Option (List ℕ)) (a_f
             | inl writes ↦ record {
               written = stage.written ++ a ∷ [];
               lines = s.lines ++ more;
-              wrote = wrote_by s.past_second second_now second_now p (omega arith) p.bytes first s.first_passes.bytes (stage.written ++ a ∷ []) (s.lines ++ more) false now
+              wrote = wrote_by s.past_second second_now second_now p (omega arith) p.members.bytes first s.first_passes.members.bytes (stage.written ++ a ∷ []) (s.lines ++ more) false now
                   (λ known. subst (λ (l : List Feature). Settles order shape rule (stage.written ++ a ∷ []) (s.lines ++ more) l false) seen
                   (settles_with order shape rule stage.written s.lines stage.taken a r (peeked known) writes.decides (before_lines order shape rule a r stage.taken total known_a writes.decides)))
                   begins_here (λ e. absurd (false≢true e)) (grows_both out.took grown.took now.took s.grows writes.fails.puts.grows);
               why = inr (inr (ap Some writes.fails.puts.is, cuts_more out grown now s.lines more fault s.puts writes.fails));
-              near = near_second_by second_now now rises p.bytes writes.fails.puts.grows read;
+              near = near_second_by second_now now rises p.members.bytes writes.fails.puts.grows read;
             }
             | inr holds ↦ subst (λ o. Ends (Some fault) first second_now o) (sym holds.same_output)
                 (record {
                   written = stage.written;
                   lines = s.lines;
-                  wrote = wrote_by s.past_second second_now second_now p (omega arith) p.bytes first s.first_passes.bytes stage.written s.lines false grown
+                  wrote = wrote_by s.past_second second_now second_now p (omega arith) p.members.bytes first s.first_passes.members.bytes stage.written s.lines false grown
                       (λ known. subst (λ (l : List Feature). Settles order shape rule stage.written s.lines l false) seen (peeked known))
                       begins_now (λ e. absurd (false≢true e)) s.grows;
                   why = inr (inl (ap Some holds.is, puts_front out s.lines grown s.puts));
-                  near = near_second_by second_now grown rises p.bytes no_more read;
+                  near = near_second_by second_now grown rises p.members.bytes no_more read;
                 })
           ]
 
@@ -380,14 +381,14 @@ module _ {A B O : Type 0} {g : Ghosts O} (a_left : A → Option (List ℕ)) (a_f
           record {
             written = stage.written ++ a ∷ [];
             lines = s.lines ++ more;
-            wrote = wrote_by s.past_second second_now second_now p (omega arith) p.bytes first s.first_passes.bytes (stage.written ++ a ∷ []) (s.lines ++ more) true now
+            wrote = wrote_by s.past_second second_now second_now p (omega arith) p.members.bytes first s.first_passes.members.bytes (stage.written ++ a ∷ []) (s.lines ++ more) true now
                 (λ known. subst (λ (l : List Feature). Settles order shape rule (stage.written ++ a ∷ []) (s.lines ++ more) l true) seen
                 (settles_end order shape rule stage.written s.lines stage.taken false a
                 (settles_ended a_left a_failed a_end b_left b_failed b_end shape rule old_first old_second out total same_order first second sweep grown s a waits second_now turn.ended known)))
                 begins_here (λ e. (passes_all b_left b_failed b_end old_second s.past_second second s.second_passes second_now turn.ended, turn.ended.ends.none_ahead))
                 (grows_both out.took grown.took now.took s.grows fails.puts.grows);
             why = inr (inr (ap Some fails.puts.is, cuts_more out grown now s.lines more fault s.puts fails));
-            near = near_second_by second_now now turn.ended.ends.rises p.bytes fails.puts.grows
+            near = near_second_by second_now now turn.ended.ends.rises p.members.bytes fails.puts.grows
                 (λ known. read_at b_left b_failed b_end old_second s.past_second second s.second_passes second_now
                 (ended_at b_left b_failed b_end old_second s.past_second second s.second_passes
                 (no_ahead_at_end b_left b_failed b_end old_second s.past_second second s.second_passes second_now turn.ended known) second_now turn.ended));
@@ -412,7 +413,7 @@ module _ {A B O : Type 0} {g : Ghosts O} (a_left : A → Option (List ℕ)) (a_f
           all = all_done;
           whole = (s.first_all done).0;
           serves = first_serves;
-          told_end = (s.first_passes.sound.end (s.first_all done).2).0;
+          told_end = (s.first_passes.members.sound.end (s.first_all done).2).0;
           rest = rest;
         })),
         s.puts,
@@ -423,17 +424,17 @@ module _ {A B O : Type 0} {g : Ghosts O} (a_left : A → Option (List ℕ)) (a_f
       near_done : (second_now : Records B O g) → lines_given (below second) ≤ lines_given (below second_now) → (bytes : List ℕ) × Hands b_left (below old_second) bytes (below second_now) → Near first second_now grown
       near_done second_now rises bytes =
           let read = s.near_first (inr done) in
-          near_by first second_now grown (wrote_second second_now rises bytes) no_more read.0 read.1 read.2 (inl (s.first_passes.sound.end (s.first_all done).2).0)
+          near_by first second_now grown (wrote_second second_now rises bytes) no_more read.0 read.1 read.2 (inl (s.first_passes.members.sound.end (s.first_all done).2).0)
 
       pub finishes_all : (second_now : Records B O g) → ChecksAll b_left b_failed b_end old_second s.past_second second second_now → Ends None first second_now grown
       unfolding wrote_second wrote_by
       finishes_all second_now checks = record {
         written = stage.written;
         lines = s.lines;
-        wrote = wrote_second second_now checks.rises checks.passes.bytes;
+        wrote = wrote_second second_now checks.rises checks.passes.members.bytes;
         why = rest_ends None second_now (s.past_second ++ checks.more)
-            (inl (refl, checks.all, record { served = checks.passes.served; within = checks.passes.sound.within (line_going second_now checks.passes.going) }));
-        near = near_done second_now checks.rises checks.passes.bytes;
+            (inl (refl, checks.all, record { served = checks.passes.members.served; within = checks.passes.members.sound.within (line_going second_now checks.passes.members.going) }));
+        near = near_done second_now checks.rises checks.passes.members.bytes;
       }
 
       before_end : (fault : Told) (second_now : Records B O g) → ChecksUpTo b_left b_failed b_end old_second s.past_second second fault second_now → stage.b_ended ≡ true → (input : Input) (line : ℕ) → fault ≡ read_failed input line → ⊥
