@@ -1,16 +1,28 @@
 # make builds bin/bedtools, make example runs it, make test is the gate, make mutants tries further wrong bodies.
 # make check-docs checks the docs, make check-program the program at its edges, make check-speed its instructions,
-# make check-differences compares it with bedtools 2.30.0. make install PREFIX=.. NAME=.. copies the program and its manual page.
+# make check-differences compares it with bedtools 2.30.0. make install PREFIX=.. NAME=.. copies the program, its docs,
+# its manual page and completions, make dist packs them into a tarball, make deb into a Debian package, and
+# make check-packages tries all three.
 PREFIX ?= /usr/local
 # The name of the installed program: not `bedtools`, which it would hide.
 NAME ?= dunekettle-bedtools
+
+# The version stands in CHANGELOG.md.
+VERSION := $(shell sed -n 's/^## //p' CHANGELOG.md | head -n 1)
+# A package of one commit is the same wherever it is made: its files have the commit's date.
+DATE := $(shell git log -1 --format=%ct 2> /dev/null || date +%s)
+DIST := dunekettle-$(VERSION)-$(shell uname -m)
+DEB = dunekettle-bedtools_$(VERSION)_$(shell dpkg --print-architecture).deb
 
 PROGRAM := bin/bedtools
 # What the prover and the compiler say.
 LOG := bin/build.log
 SOURCES := crates.txt $(shell find crates -name out -prune -o -type f \( -name '*.rt' -o -name '*.antt' \) -print)
 
-.PHONY: all example test mutants check-docs check-program check-speed check-differences pictures install clean
+DOCS := README.md CHANGELOG.md LICENSE $(wildcard docs/*.md docs/*.svg) bench/README.md bench/chart.svg
+
+.PHONY: all example test mutants check-docs check-program check-speed check-differences check-packages pictures completions \
+	install dist deb clean
 
 all: $(PROGRAM)
 
@@ -38,10 +50,11 @@ mutants:
 	rt must-fail; status=$$?; rm -rf $$copy; exit $$status
 
 # The shell examples of the pages write what stands below them, the example on each crate's first page is its test,
-# and each link leads somewhere.
+# each link leads somewhere, and the completions have the options of the pages.
 check-docs: $(PROGRAM)
 	docs/examples.py
 	docs/links.py
+	docs/completions.py
 
 # Closed standard streams, full disks, directories: what no proof says of real files.
 check-program: $(PROGRAM)
@@ -55,12 +68,30 @@ check-speed: $(PROGRAM)
 check-differences: $(PROGRAM)
 	docs/differences.py
 
+# What make install, make dist and make deb make, tried in folders of their own.
+check-packages: $(PROGRAM)
+	packaging/check.sh
+
 pictures:
 	docs/pictures.py
 
+completions:
+	docs/completions.py --write
+
+# The manual page and the completions get the program's name there.
 install: $(PROGRAM)
-	install -D $(PROGRAM) $(DESTDIR)$(PREFIX)/bin/$(NAME)
-	install -D -m 644 man/bedtools.1 $(DESTDIR)$(PREFIX)/share/man/man1/$(NAME).1
+	install -D $(PROGRAM) "$(DESTDIR)$(PREFIX)/bin/$(NAME)"
+	packaging/install.sh "$(DESTDIR)$(PREFIX)/share" "$(PREFIX)/share" "$(NAME)" $(DOCS)
+
+dist: $(PROGRAM)
+	rm -rf bin/$(DIST)
+	$(MAKE) install DESTDIR= PREFIX="$(CURDIR)/bin/$(DIST)" NAME="$(NAME)"
+	packaging/dist.sh bin/$(DIST) $(DATE)
+
+deb: $(PROGRAM)
+	rm -rf bin/deb
+	$(MAKE) install DESTDIR="$(CURDIR)/bin/deb" PREFIX=/usr NAME=dunekettle-bedtools
+	packaging/deb.sh bin/deb $(VERSION) $(DATE) bin/$(DEB)
 
 clean:
 	rm -rf bin crates/*/out

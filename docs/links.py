@@ -13,7 +13,8 @@ import sys
 from pathlib import Path
 
 TOP = Path(__file__).resolve().parent.parent
-PAGES = [*sorted(TOP.glob("*.md")), *sorted((TOP / "docs").glob("*.md")), *sorted((TOP / "bench").glob("*.md"))]
+PAGES = [*sorted(TOP.glob("*.md")), *sorted((TOP / "docs").glob("*.md")), *sorted((TOP / "bench").glob("*.md")),
+         *sorted((TOP / "packaging").glob("*.md"))]
 LINK = re.compile(r"\[[^\]]*\]\(([^)\s]+)\)")
 CODE = re.compile(r"`[^`]*`")
 
@@ -22,6 +23,7 @@ VERSIONS = {
     "README.md": r"version (\d+\.\d+\.\d+)",
     "CHANGELOG.md": r"^## (\d+\.\d+\.\d+)",
     "man/bedtools.1": r"Dunekettle (\d+\.\d+\.\d+)",
+    "packaging/bioconda/meta.yaml": r"set version = \"(\d+\.\d+\.\d+)\"",
 }
 
 # Where README.md says in how many files and lines the report is defined, and the file that names the others.

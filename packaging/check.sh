@@ -1,0 +1,87 @@
+#!/bin/bash
+# Tries what `make install`, `make dist` and `make deb` make, in a folder of its own: the program runs from there, its
+# manual page and completions have its name, the checksums are right, and the Debian package installs beside another
+# bedtools and goes without a trace. What needs a shell or a program that isn't here is passed over with a word.
+#
+#     packaging/check.sh
+set -euo pipefail
+
+cd "$(dirname "$0")/.."
+folder=$(mktemp -d)
+trap 'rm -rf "$folder"' EXIT
+cases=0 wrong=0
+
+# expect WHAT WANTED FOUND: one case
+expect() {
+    cases=$((cases + 1))
+    [ "$2" = "$3" ] || { wrong=$((wrong + 1)); printf '%s\n  wanted %s\n  found  %s\n' "$1" "$2" "$3"; }
+}
+has() { command -v "$1" > /dev/null || { echo "no $1: passed over"; return 1; }; }
+records() { printf 'chr1\t2\t6\nchr1\t4\t9\n'; }
+genome() { printf 'chr1\t20\n'; }
+
+# Words that a shell offers for a begun command line, in one line.
+in_bash() {
+    bash -c "source '$share/bash-completion/completions/trial-tools'
+        COMP_WORDS=($1); COMP_CWORD=\$((\${#COMP_WORDS[@]} - 1)); _dunekettle_bedtools 2> /dev/null
+        printf '%s\n' \"\${COMPREPLY[@]%%  (*}\"" | sort | paste -s -d ' '
+}
+in_fish() { fish -c "source '$share/fish/vendor_completions.d/trial-tools.fish'; complete -C '$1'" | cut -f 1 | sort | paste -s -d ' '; }
+in_zsh() { # what zsh shows behind a tab
+    zsh -f -c "zmodload zsh/zpty; zpty shell zsh -f -i; zpty -w shell 'fpath=($share/zsh/site-functions \$fpath)
+        autoload -Uz compinit; compinit -u -d $folder/dump; PS1=; unsetopt beep; LISTMAX=999; COLUMNS=300'
+        zpty -w -n shell '$1'\$'\t'; sleep 3; zpty -r -t shell text; while zpty -r -t shell more; do text+=\$more; done; print -r -- \$text; zpty -d shell"
+}
+
+share=$folder/there/share
+make --silent install DESTDIR= PREFIX="$folder/there" NAME=trial-tools
+expect "the installed program" "chr1	2	9" "$(records | "$folder/there/bin/trial-tools" merge -g <(genome))"
+expect "the docs of an installation" "yes" "$([ -f "$share/doc/trial-tools/docs/ERRORS.md" ] && echo yes)"
+if has man; then
+    page=$(MANWIDTH=80 man -l "$share/man/man1/trial-tools.1" | col -b)
+    expect "the examples of its manual page" "yes" "$(grep -q 'trial-tools merge -i' <<< "$page" && echo yes)"
+    expect "no example of another name" "" "$(grep -E 'bedtools (merge|intersect|bamtobed) ' <<< "$page" || true)"
+    expect "its title" "yes" "$(grep -q '^TRIAL-TOOLS(1)' <<< "$page" && echo yes)"
+fi
+expect "a command in bash" "merge" "$(in_bash 'trial-tools me')"
+expect "options in bash" "-wa -wb -wo" "$(in_bash 'trial-tools intersect -w')"
+expect "strands in bash" "+ -" "$(in_bash "trial-tools merge -S ''")"
+if has fish; then
+    expect "a command in fish" "merge" "$(in_fish 'trial-tools me')"
+    expect "options in fish" "-wa -wb -wo" "$(in_fish 'trial-tools intersect -w')"
+fi
+if has zsh; then
+    shown=$(in_zsh 'trial-tools intersect -w')
+    expect "options in zsh" "yes" "$(grep -q -- '-wo .*number of bases' <<< "$shown" && echo yes)"
+fi
+
+make --silent dist > "$folder/said.txt"
+tarball=$(sed -n 's/^Made \([^,]*\),.*/\1/p' "$folder/said.txt")
+expect "the tarball's checksum" "yes" "$(cd bin && sha256sum --quiet -c "$(basename "$tarball").sha256" && echo yes)"
+tar -C "$folder" -xzf "$tarball"
+unpacked=$folder/$(basename "$tarball" .tar.gz)
+expect "the checksums in the tarball" "yes" "$(cd "$unpacked" && sha256sum --quiet -c SHA256SUMS && echo yes)"
+expect "each file has one" "$(cd "$unpacked" && find . -type f | wc -l)" "$(($(wc -l < "$unpacked/SHA256SUMS") + 1))"
+expect "the program in the tarball" "chr1	2	9" "$(records | "$unpacked/bin/dunekettle-bedtools" merge -g <(genome))"
+sum=$(cat "$tarball.sha256")
+make --silent dist > /dev/null
+expect "the same tarball once more" "$sum" "$(cat "$tarball.sha256")"
+
+if has dpkg-deb; then
+    make --silent deb > "$folder/said.txt"
+    package=$(sed -n "s/.* in '\(.*\)'.*/\1/p" "$folder/said.txt")
+    root=$folder/root
+    mkdir -p "$root/var/lib/dpkg/updates" "$root/var/lib/dpkg/info" "$root/usr/bin"
+    : > "$root/var/lib/dpkg/status"
+    echo other > "$root/usr/bin/bedtools"
+    debian() { dpkg --root="$root" --force-not-root --force-depends --log=/dev/null "$@" > "$folder/said.txt" 2>&1; }
+    debian --install "$package"
+    expect "the package's program" "chr1	2	9" "$(records | "$root/usr/bin/dunekettle-bedtools" merge -g <(genome))"
+    expect "bedtools beside it" "other" "$(cat "$root/usr/bin/bedtools")"
+    expect "its files are whole" "" "$(cd "$root" && md5sum --quiet -c var/lib/dpkg/info/dunekettle-bedtools.md5sums)"
+    debian --purge dunekettle-bedtools
+    expect "what is left of it" "$root/usr/bin/bedtools" "$(find "$root/usr" -type f)"
+fi
+
+echo "$cases cases of packages, $wrong of them differ"
+[ "$wrong" = 0 ]
