@@ -56,9 +56,13 @@ check-docs: $(PROGRAM)
 	docs/links.py
 	docs/completions.py
 
-# Closed standard streams, full disks, directories: what no proof says of real files.
+# Closed standard streams, full disks, directories: what no proof says of real files. Then want of memory, in small address
+# spaces and with each growth refused, and random bytes.
 check-program: $(PROGRAM)
 	docs/edges.py
+	docs/scarce.py
+	docs/refusals.py
+	docs/hostile.py
 
 # The instructions a record, beside those in bench/instructions.txt.
 check-speed: $(PROGRAM)

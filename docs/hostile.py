@@ -1,0 +1,234 @@
+#!/usr/bin/env python3
+"""Runs the program in bin/ over random bytes.
+
+    docs/hostile.py [--seed N] [--inputs N] [--only COMMAND | --only 'COMMAND NUMBER']
+
+So many inputs (100,000 where that isn't said), as many for each command, of three kinds: any bytes, bytes of the
+format's alphabet, and good lines with one byte changed. Each run has to end with status 0 and nothing on standard
+error, or with status 1 and one line that the pages know, of a line that the input has; what it wrote has to be whole
+lines. Each tenth input is run again behind a line that ends near the end of a block of 8,192 bytes, and the answer has
+to be the same. An input goes by the seed, its command and its number: `--only 'merge 17'` runs it alone. Ends with 1
+where something else comes of it.
+"""
+
+import argparse
+import collections
+import os
+import random
+import re
+import signal
+import sys
+import tempfile
+from dataclasses import dataclass
+from pathlib import Path
+
+from plain import answer_of
+from random_inputs import KINDS, good, line_ahead
+
+PROGRAM = str(Path(__file__).resolve().parent.parent / "bin" / "bedtools")
+BLOCK = 8192
+# A folder in memory: on a disk the files, which are short and written anew for each run, take most of the time.
+MEMORY = "/dev/shm"
+# A run that takes longer than so many seconds hangs.
+LONGEST = 20
+FAULT = re.compile(
+    rb"bedtools (?P<command>[a-z]+): (?:(?P<name>[a-z.-]+):(?P<line>[1-9][0-9]*): (?:too few columns|empty chromosome name|"
+    rb"start is not a number|end is not a number|start is not below end|chromosome is not in the genome file|"
+    rb"record is out of order|length is not a number|chromosome is repeated|flag is not a number|position is not a number|"
+    rb"mapping quality is not a number|CIGAR is malformed|text before the first header|no such sequence from here on|"
+    rb"end is too large))\n"
+)
+WITH_GENOME = [("-g", "g.txt", "genome")]
+ONE_INPUT = [("-i", "a.bed", "bed"), *WITH_GENOME]
+TWO_INPUTS = [("-a", "a.bed", "bed"), ("-b", "b.bed", "bed"), *WITH_GENOME]
+
+
+@dataclass
+class Command:
+    """A command with its inputs (the option, the name and the format of each), and the options that it is tried with."""
+
+    name: str
+    inputs: list
+    options: list
+
+
+COMMANDS = [
+    Command("merge", ONE_INPUT, ["", "-d 3", "-s", "-s -d 7", "-S +", "-S -"]),
+    Command("complement", ONE_INPUT, ["", "-L"]),
+    Command("intersect", TWO_INPUTS, ["", "-wa", "-wb", "-wa -wb", "-wo", "-u", "-v", "-c", "-s", "-f 0.5 -r", "-f 0.1 -s -v"]),
+    Command("subtract", TWO_INPUTS, ["", "-A", "-f 0.5", "-s"]),
+    Command("genomecov", ONE_INPUT, ["-bg", "-bga", "-bg -strand +", "-bga -strand -"]),
+    Command("bamtobed", [("-i", "a.sam", "sam")], ["", "-split", "-cigar", "-split -cigar"]),
+    Command("maskfasta", [("-fi", "a.fa", "fasta"), ("-bed", "b.bed", "bed")], ["", "-soft", "-mc x", "-fullHeader"]),
+]
+
+
+@dataclass
+class Case:
+    """A run: its command, its words, and the bytes of its files. One of them may be standard input."""
+
+    command: Command
+    options: list
+    files: dict
+    stream: str
+
+    def words(self):
+        words = [PROGRAM, self.command.name, *self.options]
+        for option, name, _ in self.command.inputs:
+            words += [option, "-" if name == self.stream else name]
+        return words
+
+    def file_of(self, name):
+        """The file that a fault line names."""
+        return self.stream if name == "-" else name
+
+
+@dataclass
+class Answer:
+    """What a run ended with, wrote and reported. A negative status is a signal's number."""
+
+    status: int
+    output: bytes
+    error: bytes
+
+
+def run(case):
+    """Runs a case in the folder where the process stands."""
+    for name, text in case.files.items():
+        Path(name).write_bytes(text)
+    into = os.O_WRONLY | os.O_CREAT | os.O_TRUNC
+    streams = [
+        (os.POSIX_SPAWN_OPEN, 0, case.stream or os.devnull, os.O_RDONLY, 0),
+        (os.POSIX_SPAWN_OPEN, 1, "output", into, 0o600),
+        (os.POSIX_SPAWN_OPEN, 2, "error", into, 0o600),
+    ]
+    process = os.posix_spawn(PROGRAM, case.words(), {}, file_actions=streams)
+    signal.signal(signal.SIGALRM, lambda *_: os.kill(process, signal.SIGKILL))
+    signal.alarm(LONGEST)
+    _, status = os.waitpid(process, 0)
+    signal.alarm(0)
+    return Answer(os.waitstatus_to_exitcode(status), Path("output").read_bytes(), Path("error").read_bytes())
+
+
+def wrong_with(case, answer):
+    """What is wrong with an answer, if anything."""
+    if answer.status not in (0, 1):
+        return f"status {answer.status}"
+    fault = FAULT.fullmatch(answer.error)
+    if (answer.status == 1) != bool(fault) or (answer.status == 0 and answer.error):
+        return "standard error"
+    if fault:
+        lines = case.files[case.file_of(fault["name"].decode())].split(b"\n")
+        if fault["command"].decode() != case.command.name or int(fault["line"]) > len(lines) - (lines[-1] == b""):
+            return "the place of the fault"
+    if answer.output and not answer.output.endswith(b"\n") and case.command.name != "maskfasta":
+        return "a part of a line"
+    return differs(case, answer)
+
+
+def differs(case, answer):
+    """How an answer differs from what the rules of the pages give, if it does."""
+    output, is_all, fault = answer_of(case.command.name, case.files, case.options)
+    if output is None:
+        return None
+    error = fault.line(case.command.name, case.stream) if fault else b""
+    if answer.error != error:
+        return f"standard error isn't {error!r}"
+    return None if answer.output == output or not is_all and output.startswith(answer.output) else f"the output isn't {shortened(output)}"
+
+
+def random_case(seed, command, number):
+    """The case of a command with this number, and the kind of its bytes."""
+    numbers = random.Random(f"{seed} {command.name} {number}")
+    kind = KINDS[number % len(KINDS)]
+    names = [name for _, name, _ in command.inputs]
+    # The genome file is rarely hostile: behind a fault there nothing else is looked at.
+    others = [name for name in names if name != "g.txt"]
+    chosen = ["g.txt"] if "g.txt" in names and numbers.random() < 0.1 else others
+    hostile = chosen if numbers.random() < 0.1 else [numbers.choice(chosen)]
+    files = {name: (kind if name in hostile else good)(numbers, form) for _, name, form in command.inputs}
+    stream = numbers.choice([None, None, *others])
+    return Case(command, numbers.choice(command.options).split(), files, stream), kind.__name__, numbers
+
+
+def behind_a_line(case, numbers):
+    """The same case with a line ahead of one of its files that ends near the end of a block, the name of the file, and
+    by how much the numbers of its lines grow."""
+    name = numbers.choice(sorted(case.files))
+    form = next(form for _, known, form in case.command.inputs if known == name)
+    ahead = line_ahead(form, max(1, BLOCK * numbers.randrange(1, 3) - numbers.randrange(len(case.files[name]) + 3)))
+    return Case(case.command, case.options, {**case.files, name: ahead + case.files[name]}, case.stream), name, ahead.count(b"\n")
+
+
+def is_the_same(case, answer, further, name, lines):
+    """Whether a case behind a line was answered as the case itself: but for the number of the line, and for the blank
+    lines that stand ahead of a FASTA file."""
+    error = answer.error
+    fault = FAULT.fullmatch(error)
+    if fault and case.file_of(fault["name"].decode()) == name:
+        error = error.replace(b":%s:" % fault["line"], b":%d:" % (int(fault["line"]) + lines))
+    outputs = [it.output.lstrip(b"\n") if name == "a.fa" else it.output for it in (answer, further)]
+    return (answer.status, error, outputs[0]) == (further.status, further.error, outputs[1])
+
+
+def tell(label, case, *answers):
+    """Prints what is wrong with a case."""
+    print(f"{label}\n  {' '.join(case.words())}")
+    for name, text in case.files.items():
+        print(f"  {name}{' (standard input)' if name == case.stream else ''}: {shortened(text)}")
+    for answer in answers:
+        print(f"  status {answer.status}, output {shortened(answer.output)}, standard error {shortened(answer.error)}", flush=True)
+
+
+def shortened(text):
+    """The bytes as they stand, or the ends of them."""
+    return repr(text) if len(text) < 1000 else f"{text[:400]!r} .. {text[-400:]!r} ({len(text)} bytes)"
+
+
+def try_bytes(seed, command, number, counts):
+    """Runs a case of random bytes, and each tenth again behind a line. Answers how many of the answers are wrong."""
+    case, kind, numbers = random_case(seed, command, number)
+    answer = run(case)
+    counts[f"{kind} {'refused' if answer.status else 'taken'}"] += 1
+    wrong = wrong_with(case, answer)
+    if wrong:
+        tell(f"{command.name} {number}: {wrong}", case, answer)
+        return 1
+    if number % 10:
+        return 0
+    further_case, name, lines = behind_a_line(case, numbers)
+    further = run(further_case)
+    if is_the_same(case, answer, further, name, lines):
+        return 0
+    tell(f"{command.name} {number}: another answer behind a line", further_case, answer, further)
+    return 1
+
+
+def random_bytes(asked):
+    """Runs the inputs of random bytes. Answers how many of them are answered wrongly."""
+    counts = collections.Counter()
+    each = -(-asked.inputs // len(COMMANDS))
+    wrong = 0
+    for command in COMMANDS:
+        chosen = [number for number in range(each) if asked.only in ("", command.name, f"{command.name} {number}")]
+        wrong += sum(try_bytes(asked.seed, command, number, counts) for number in chosen)
+    kinds = ", ".join(f"{count} {kind}" for kind, count in sorted(counts.items())).replace("_", " ")
+    print(f"{sum(counts.values())} inputs of random bytes run (seed {asked.seed}), {wrong} answered wrongly: {kinds}")
+    return wrong
+
+
+def main():
+    parser = argparse.ArgumentParser(description=__doc__.splitlines()[0])
+    parser.add_argument("--seed", type=int, default=1)
+    parser.add_argument("--inputs", metavar="N", type=int, default=100_000)
+    parser.add_argument("--only", metavar="COMMAND", default="")
+    asked = parser.parse_args()
+    with tempfile.TemporaryDirectory(dir=MEMORY if Path(MEMORY).is_dir() else None) as folder:
+        os.chdir(folder)
+        wrong = random_bytes(asked)
+        os.chdir("/")
+    return 1 if wrong else 0
+
+
+if __name__ == "__main__":
+    sys.exit(main())

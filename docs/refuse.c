@@ -1,0 +1,145 @@
+// Preloaded into the program by refusals.py. It refuses one growth of memory, or all from one on; hands over a line at
+// most at each read of a file; and lets the reads of a file fail behind so many lines. What it is to do stands in the
+// environment:
+//
+//   REFUSE_AT     the growth that is refused, counted from 1; none where it is missing
+//   REFUSE_ALL    whether all growths behind that one are refused too
+//   REFUSE_READS  files and numbers, as "a.bed 3 b.bed 1 ": behind so many lines of the file reading fails
+//   REFUSE_NOTES  where it notes, once a growth is refused, how many lines of each file were handed over, as "a.bed 3" and
+//                 a line feed; the file that was read last, of which the last line may be handed over in part, comes last
+#include <errno.h>
+#include <fcntl.h>
+#include <stdio.h>
+#include <stdlib.h>
+#include <string.h>
+#include <sys/syscall.h>
+#include <unistd.h>
+
+enum { FILES = 64, NAME = 256 };
+
+extern void *__libc_malloc(size_t);
+extern void *__libc_calloc(size_t, size_t);
+extern void *__libc_realloc(void *, size_t);
+extern void *__libc_memalign(size_t, size_t);
+
+// How many lines of each open file were handed over, whether a part of a further one was, and the file's name.
+static long lines_of[FILES];
+static int is_begun[FILES];
+static int last_read = -1;
+static char names[FILES][NAME];
+
+// Keeps the name of an open file, without its folder. A file that has another name than before has no lines yet.
+static void keep_name(int file) {
+    char link[64], room[NAME];
+    snprintf(link, sizeof link, "/proc/self/fd/%d", file);
+    ssize_t length = readlink(link, room, NAME - 1);
+    room[length < 0 ? 0 : length] = 0;
+    const char *slash = strrchr(room, '/');
+    const char *name = slash ? slash + 1 : room;
+    if (strcmp(names[file], name) != 0) {
+        strcpy(names[file], name);
+        lines_of[file] = is_begun[file] = 0;
+    }
+}
+
+static void write_note(int notes, int file) {
+    char note[NAME + 32];
+    if (file >= 0 && lines_of[file] + is_begun[file] > 0) {
+        int length = snprintf(note, sizeof note, "%s %ld\n", names[file], lines_of[file] + is_begun[file]);
+        syscall(SYS_write, notes, note, (size_t)length);
+    }
+}
+
+static void write_notes(void) {
+    const char *path = getenv("REFUSE_NOTES");
+    int notes = path ? open(path, O_WRONLY | O_CREAT | O_TRUNC, 0600) : -1;
+    if (notes < 0) {
+        return;
+    }
+    for (int file = 0; file < FILES; file++) {
+        if (file != last_read) {
+            write_note(notes, file);
+        }
+    }
+    write_note(notes, last_read);
+    close(notes);
+}
+
+// Whether this growth is refused.
+static int is_refused(void) {
+    static long growths, at = -1;
+    if (at < 0) {
+        const char *said = getenv("REFUSE_AT");
+        at = said ? atol(said) : 0;
+    }
+    growths++;
+    if (growths == at) {
+        write_notes();
+    }
+    int refused = at > 0 && (growths == at || (growths > at && getenv("REFUSE_ALL")));
+    if (refused) {
+        errno = ENOMEM;
+    }
+    return refused;
+}
+
+void *malloc(size_t size) {
+    return is_refused() ? NULL : __libc_malloc(size);
+}
+
+void *calloc(size_t count, size_t size) {
+    return is_refused() ? NULL : __libc_calloc(count, size);
+}
+
+void *realloc(void *old, size_t size) {
+    return is_refused() ? NULL : __libc_realloc(old, size);
+}
+
+void *memalign(size_t place, size_t size) {
+    return is_refused() ? NULL : __libc_memalign(place, size);
+}
+
+void *aligned_alloc(size_t place, size_t size) {
+    return memalign(place, size);
+}
+
+int posix_memalign(void **answer, size_t place, size_t size) {
+    *answer = memalign(place, size);
+    return *answer ? 0 : ENOMEM;
+}
+
+// Whether reading a file fails behind so many lines.
+static int fails_behind(const char *name, long lines) {
+    const char *said = getenv("REFUSE_READS");
+    size_t length = strlen(name);
+    for (; said && *said; said = strchr(strchr(said, ' ') + 1, ' ') + 1) {
+        if (strncmp(said, name, length) == 0 && said[length] == ' ') {
+            return lines >= atol(said + length);
+        }
+    }
+    return 0;
+}
+
+ssize_t read(int file, void *block, size_t size) {
+    if (file < 0 || file >= FILES) {
+        return syscall(SYS_read, file, block, size);
+    }
+    keep_name(file);
+    last_read = file;
+    if (fails_behind(names[file], lines_of[file])) {
+        errno = EIO;
+        return -1;
+    }
+    char *bytes = block;
+    size_t taken = 0;
+    ssize_t got = 1;
+    while (taken < size && got > 0 && (taken == 0 || bytes[taken - 1] != '\n')) {
+        got = syscall(SYS_read, file, bytes + taken, 1);
+        taken += got > 0;
+    }
+    // A last line without an end counts as one; so does the end of the file.
+    int is_whole = got <= 0 || bytes[taken - 1] == '\n';
+    lines_of[file] += is_whole;
+    is_begun[file] = !is_whole;
+    return taken > 0 ? (ssize_t)taken : got;
+}
