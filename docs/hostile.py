@@ -6,8 +6,11 @@
 So many inputs (100,000 where that isn't said), as many for each command, of three kinds: any bytes, bytes of the
 format's alphabet, and good lines with one byte changed. Each run has to end with status 0 and nothing on standard
 error, or with status 1 and one line that the pages know, of a line that the input has; what it wrote has to be whole
-lines. Each tenth input is run again behind a line that ends near the end of a block of 8,192 bytes, and the answer has
-to be the same. An input goes by the seed, its command and its number: `--only 'merge 17'` runs it alone. Ends with 1
+lines; and the answer has to be the one that plain.py finds by the rules of the pages. Each tenth input is run again
+behind a line that ends near the end of a block of 8,192 bytes, and the answer has to be the same. An input goes by the
+seed, its command and its number: `--only 'merge 17'` runs it alone.
+
+Then a good text of each format is cut at each of its bytes, for each command and each of its options. Ends with 1
 where something else comes of it.
 """
 
@@ -134,7 +137,8 @@ def differs(case, answer):
     error = fault.line(case.command.name, case.stream) if fault else b""
     if answer.error != error:
         return f"standard error isn't {error!r}"
-    return None if answer.output == output or not is_all and output.startswith(answer.output) else f"the output isn't {shortened(output)}"
+    is_right = answer.output == output if is_all else output.startswith(answer.output)
+    return None if is_right else f"the output isn't {shortened(output)}"
 
 
 def random_case(seed, command, number):
@@ -177,7 +181,7 @@ def tell(label, case, *answers):
     for name, text in case.files.items():
         print(f"  {name}{' (standard input)' if name == case.stream else ''}: {shortened(text)}")
     for answer in answers:
-        print(f"  status {answer.status}, output {shortened(answer.output)}, standard error {shortened(answer.error)}", flush=True)
+        print(f"  status {answer.status}, output {shortened(answer.output)}, error {shortened(answer.error)}", flush=True)
 
 
 def shortened(text):
@@ -217,6 +221,24 @@ def random_bytes(asked):
     return wrong
 
 
+def cut_inputs(seed):
+    """Cuts each input of each command line at each byte. Answers how many runs are answered wrongly."""
+    runs = wrong = 0
+    for command, options in ((command, options) for command in COMMANDS for options in command.options):
+        numbers = random.Random(f"{seed} {command.name} {options}")
+        files = {name: good(numbers, form) for _, name, form in command.inputs}
+        for name, text in files.items():
+            for at in range(len(text) + 1):
+                case = Case(command, options.split(), {**files, name: text[:at]}, None)
+                answer = run(case)
+                fault = wrong_with(case, answer)
+                if fault:
+                    tell(f"{name} is cut at {at}: {fault}", case, answer)
+                runs, wrong = runs + 1, wrong + bool(fault)
+    print(f"{runs} inputs run that are cut at a byte, {wrong} answered wrongly")
+    return wrong
+
+
 def main():
     parser = argparse.ArgumentParser(description=__doc__.splitlines()[0])
     parser.add_argument("--seed", type=int, default=1)
@@ -225,7 +247,7 @@ def main():
     asked = parser.parse_args()
     with tempfile.TemporaryDirectory(dir=MEMORY if Path(MEMORY).is_dir() else None) as folder:
         os.chdir(folder)
-        wrong = random_bytes(asked)
+        wrong = random_bytes(asked) + (0 if asked.only else cut_inputs(asked.seed))
         os.chdir("/")
     return 1 if wrong else 0
 

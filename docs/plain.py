@@ -66,9 +66,8 @@ def genome_of(name, text):
         if line == b"" or line.startswith(b"#"):
             continue
         columns = line.split(b"\t")
-        checks = [(len(columns) < 2, "too few columns"), (columns[0] == b"", "empty chromosome name"),
-                  (len(columns) > 1 and not number(columns[1]), "length is not a number"), (columns[0] in genome, "chromosome is repeated")]
-        refuse_first(checks, name, at)
+        refuse_first([(len(columns) < 2, "too few columns"), (columns[0] == b"", "empty chromosome name")], name, at)
+        refuse_first([(not number(columns[1]), "length is not a number"), (columns[0] in genome, "chromosome is repeated")], name, at)
         genome[columns[0]] = number(columns[1])
     return genome
 
@@ -170,7 +169,8 @@ def genomecov(records, fault, genome, options):
     """The stretches of equal depth; up to a fault those that end before the last start."""
     only = options[options.index("-strand") + 1].encode() if "-strand" in options else None
     found = stretches(records, fault, genome, only, lambda stop, last: stop < last)
-    return whole_lines(b"%s\t%d\t%d\t%d" % (chrom, *stretch) for chrom, stretch, _ in found if stretch[2] > 0 or "-bga" in options)
+    return whole_lines(b"%s\t%d\t%d\t%d" % (chrom, *stretch) for chrom, stretch, _ in found
+                       if stretch[2] > 0 or "-bga" in options)
 
 
 def hits_of(record, others, options):
@@ -190,11 +190,12 @@ def intersect_lines(record, hits, options):
         return [record.text()] if bool(hits) == ("-u" in options) else []
     if "-c" in options:
         return [record.text() + b"\t%d" % len(hits)]
+    is_whole, has_other, has_shared = "-wa" in options or "-wo" in options, "-wb" in options or "-wo" in options, "-wo" in options
     found = []
     for other, shared in hits:
-        cut = record.text() if "-wa" in options or "-wo" in options else record.text(max(record.start, other.start), min(record.stop, other.stop))
-        with_other = [other.text()] if "-wb" in options or "-wo" in options else []
-        found.append(b"\t".join([cut, *with_other, *([b"%d" % shared] if "-wo" in options else [])]))
+        cut = record.text(max(record.start, other.start), min(record.stop, other.stop))
+        pieces = [(True, record.text() if is_whole else cut), (has_other, other.text()), (has_shared, b"%d" % shared)]
+        found.append(b"\t".join(piece for is_there, piece in pieces if is_there))
     return found
 
 
@@ -230,30 +231,44 @@ def cigar_of(text):
     return found if is_good else None
 
 
-def alignment_lines(at, line, options):
-    """The BED lines of a line of SAM text."""
+def alignment_of(at, line):
+    """The columns of an alignment up to its CIGAR, numbers as numbers; None for a header or a blank line."""
     if line == b"" or line.startswith(b"@"):
-        return []
+        return None
     columns = line.split(b"\t")
     refuse_first([(len(columns) < 11, "too few columns")], "a.sam", at)
     name, flag, chrom, position, quality, cigar = columns[:6]
-    operations = cigar_of(cigar)
-    refuse_first([(number(flag, 65_535) is None, "flag is not a number"), (chrom == b"", "empty chromosome name"),
-                  (number(position, 2_147_483_647) is None, "position is not a number"),
-                  (number(quality, 255) is None, "mapping quality is not a number"), (operations is None, "CIGAR is malformed")], "a.sam", at)
-    blocks, place = [[int(position) - 1, int(position) - 1]], int(position) - 1
+    flag, position, quality = number(flag, 65_535), number(position, 2_147_483_647), number(quality, 255)
+    refuse_first([(flag is None, "flag is not a number"), (chrom == b"", "empty chromosome name"),
+                  (position is None, "position is not a number"), (quality is None, "mapping quality is not a number"),
+                  (cigar_of(cigar) is None, "CIGAR is malformed")], "a.sam", at)
+    return name, flag, chrom, position, quality, cigar
+
+
+def blocks_of(start, operations, is_split):
+    """The spans of an alignment on the reference: one, or where it is split one for each piece between N operations."""
+    blocks = [[start, start]]
     for count, kind in operations:
-        place += count if kind in b"MDN=X" else 0
-        if kind == b"N" and "-split" in options:
+        place = blocks[-1][1] + (count if kind in b"MDN=X" else 0)
+        if kind == b"N" and is_split:
             blocks.append([place, place])
         blocks[-1][1] = place
-    if int(flag) & 4 or chrom == b"*" or int(position) == 0 or place == int(position) - 1:
+    return blocks
+
+
+def alignment_lines(at, line, options):
+    """The BED lines of a line of SAM text."""
+    alignment = alignment_of(at, line)
+    if alignment is None:
         return []
-    refuse_first([(place > LARGEST, "end is too large")], "a.sam", at)
-    name += (b"/1" if int(flag) & 64 else b"") + (b"/2" if int(flag) & 128 else b"")
-    strand = b"-" if int(flag) & 16 else b"+"
-    further = [cigar] if "-cigar" in options else []
-    return [b"\t".join([chrom, b"%d\t%d" % (start, stop), name, b"%d" % int(quality), strand, *further]) for start, stop in blocks if start < stop]
+    name, flag, chrom, position, quality, cigar = alignment
+    blocks = blocks_of(position - 1, cigar_of(cigar), "-split" in options)
+    if flag & 4 or chrom == b"*" or position == 0 or blocks[-1][1] == position - 1:
+        return []
+    refuse_first([(blocks[-1][1] > LARGEST, "end is too large")], "a.sam", at)
+    name += (b"/1" if flag & 64 else b"") + (b"/2" if flag & 128 else b"")
+    further = [name, b"%d" % quality, b"-" if flag & 16 else b"+", *([cigar] if "-cigar" in options else [])]
+    return [b"\t".join([chrom, b"%d\t%d" % (start, stop), *further]) for start, stop in blocks if start < stop]
 
 
 def bamtobed(text, options):

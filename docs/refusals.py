@@ -7,9 +7,9 @@ Each command line below is run again and again: first its first growth is refuse
 no refusal; and so once more, where all growths behind the refused one are refused too. Each refused run has to end
 with `bedtools COMMAND: no memory` or `bedtools: no memory` and status 1, and to write a front of the whole output, in
 which nothing is missing that was settled: what the same command line writes where reading fails at the line that was
-read last, and behind what was read of the other input. refuse.c refuses the growths, preloaded into the program; it hands over a line at most at each
-read, so that it knows how far the inputs were read; without it the whole output has to be the same. Needs gcc. Ends
-with 1 where something else comes of it.
+read last, and behind what was read of the other input. refuse.c refuses the growths, preloaded into the program; it
+hands over a line at most at each read, so that it knows how far the inputs were read; without it the whole output has
+to be the same. Needs gcc. Ends with 1 where something else comes of it.
 """
 
 import os
@@ -46,6 +46,8 @@ def spans(starts, length, further=""):
     return "".join(f"chr2\t{start}\t{start + length}{further}\n" for start in starts)
 
 
+KEPT = {"a.bed": GAPS + "chr2\t0\t90\n", "b.bed": "chr1\t5\t20\n" + spans(range(50), 9)}
+
 # (words, files): what each shows stands in its files.
 RUNS = [
     ("merge -i a.bed -g g.txt", {"a.bed": TOUCHING}),
@@ -73,10 +75,10 @@ RUNS = [
     (f"subtract {TWO}", {"a.bed": f"{GAPS}chr2\t5\t9\t{'x' * 40_000}\n", "b.bed": GAPS.replace("\t10\n", "\t5\n")}),
     # Many records that are kept behind some that aren't, and many chromosomes.
     ("merge -i a.bed -g g.txt -s", {"a.bed": GAPS + "chr2\t0\t99\tx\t0\t+\n" + spans(range(2, 99, 2), 1, "\tx\t0\t-")}),
-    *((f"intersect {TWO} {further}", {"a.bed": GAPS + "chr2\t0\t90\n", "b.bed": GAPS + spans(range(50), 9)}) for further in ("", "-c", "-wo")),
-    *((f"subtract {TWO} {further}", {"a.bed": GAPS + "chr2\t0\t90\n", "b.bed": "chr1\t5\t20\n" + spans(range(50), 9)}) for further in ("", "-A")),
+    *((f"intersect {TWO} {further}", KEPT) for further in ("", "-c", "-wo")),
+    *((f"subtract {TWO} {further}", KEPT) for further in ("", "-A")),
     ("genomecov -i a.bed -g g.txt -bg", {"a.bed": GAPS + spans(range(40), 90)}),
-    ("maskfasta -fi a.fa -bed b.bed", {"a.fa": ">s\nACGT\n" + "A" * 90 + "\nAC\n", "b.bed": "".join(f"s\t{at}\t{at + 60}\n" for at in range(50))}),
+    ("maskfasta -fi a.fa -bed b.bed", {"a.fa": f">chr2\nACGT\n{'A' * 90}\nAC\n", "b.bed": spans(range(50), 60)}),
     ("complement -i a.bed -g g.txt", {"a.bed": GAPS, "g.txt": GENOME + "".join(f"scaffold{at}\t50\n" for at in range(50))}),
 ]
 
@@ -113,7 +115,7 @@ class Refuser:
             Path(name).unlink(missing_ok=True)
         environment = {**os.environ, "LD_PRELOAD": self.library, "REFUSE_NOTES": "notes", **said}
         with open(self.stream, "rb") as stream:
-            ran = subprocess.run([PROGRAM, *self.words], stdin=stream, capture_output=True, env=environment, timeout=20, check=False)
+            ran = subprocess.run([PROGRAM, *self.words], stdin=stream, capture_output=True, env=environment, timeout=60, check=False)
         output = Path("masked.fa").read_bytes() if Path("masked.fa").exists() else ran.stdout
         notes = dict(line.split() for line in Path("notes").read_text().splitlines()) if Path("notes").exists() else None
         return Answer(ran.returncode, output, ran.stderr, notes)
@@ -152,8 +154,8 @@ class Refuser:
                 fault = self.wrong_with(answer)
             if fault:
                 wrong += 1
-                print(f"bedtools {' '.join(self.words)}: growth {at} is refused{' and all behind it' if further else ''}: {fault}\n"
-                      f"  status {answer.status}, output {answer.output[-300:]!r}, standard error {answer.error[-300:]!r}", flush=True)
+                print(f"bedtools {' '.join(self.words)}: growth {at} is refused{' and all behind it' if further else ''}: {fault}")
+                print(f"  status {answer.status}, output {answer.output[-300:]!r}, error {answer.error[-300:]!r}", flush=True)
             if is_last:
                 return at - 1, wrong
         return MOST, wrong + 1

@@ -11,8 +11,8 @@ whatever a run at such a size does is the program's doing. In less than that the
 is the loader's and never the program's, or where the system ends `true` too.
 
 Full disks: each command into a file that takes only so many bytes (a limit of the file's size, whose signal is
-ignored), and into a tmpfs with less room than the output, with none, and with no room for a file. The file has to hold
-a front of the output, and the line has to say that writing failed, with status 1.
+ignored; a short output at each of its bytes), and into a tmpfs with less room than the output, with none, and with no
+room for a file. The file has to hold a front of the output, and the line has to say that writing failed, with status 1.
 
 Ends with 1 where something else comes of it.
 """
@@ -27,6 +27,8 @@ from pathlib import Path
 
 PROGRAM = str(Path(__file__).resolve().parent.parent / "bin" / "bedtools")
 GENOME = "chr1\t1000000000\nchr2\t1000000000\n"
+# So many bytes at most are written at once.
+LARGEST_PIECE = 131_072
 # The bytes of a long line, and the records that are kept.
 LONG = 16 * 1024 * 1024
 MANY = 200_000
@@ -198,6 +200,17 @@ def disk_jobs():
     yield Job("maskfasta", ["maskfasta", "-fi", "a", "-bed", "b"], {"a": ">chr1\n" + "ACGTACGTAC\n" * 20_000, "b": apart})
 
 
+def short_jobs():
+    """A job for each command, whose output is short."""
+    spans = {"a": bed("chr1", [2, 14, 30], 4, "\tx\t0\t+"), "b": bed("chr1", [3, 16], 2)}
+    for words in (["merge"], ["complement"], ["genomecov", "-bga"]):
+        yield Job(" ".join(words), words + ["-i", "a"], spans)
+    for words in (["intersect", "-wo"], ["subtract"]):
+        yield Job(" ".join(words), words + ["-a", "a", "-b", "b"], spans)
+    yield Job("bamtobed", ["bamtobed", "-i", "a"], {"a": "r1\t0\tchr1\t3\t60\t4M\t*\t0\t0\tACGT\t*\n" * 2})
+    yield Job("maskfasta", ["maskfasta", "-fi", "a", "-bed", "b"], {"a": ">chr1\nACGTACGT\nACGTACGTAC", "b": spans["b"]})
+
+
 def limited(size):
     """What limits the files of a process to so many bytes. Python's own processes ignore the signal of that limit."""
     def limit():
@@ -215,9 +228,11 @@ def into_file(words, size, option):
 
 
 def try_sizes(job, whole, option):
-    """Runs a job into files of several sizes. Answers the runs, and how many went wrong."""
+    """Runs a job into files of several sizes, of each size where that isn't many. Answers the runs, and how many went
+    wrong."""
     line = f"bedtools {job.command()}: writing failed\n".encode()
     sizes = [0, 1, 4096, 8191, 8192, 8193, 100_000, 131_071, 131_072, 131_073, len(whole) - 1, len(whole)]
+    sizes = range(len(whole) + 1) if len(whole) < 1000 else sizes
     wrong = 0
     for size in sizes:
         found = into_file(words_of(job), size, option)
@@ -250,12 +265,12 @@ def full_disks():
     """Runs all jobs into files that don't take the whole output. Answers how many runs went wrong."""
     counts = []
     has_tmpfs = on_tmpfs(["true"], "64k", "9", "empty")[0] == 0
-    for job in disk_jobs():
+    for job in [*short_jobs(), *disk_jobs()]:
         write_files(job.files)
         whole = answered(words_of(job))[1]
         for option in ([[], ["-fo", "output"]] if job.command() == "maskfasta" else [[]]):
             counts.append(try_sizes(job, whole, option))
-            if has_tmpfs:
+            if has_tmpfs and len(whole) > LARGEST_PIECE:
                 counts.append(try_tmpfs(job, whole, [word.replace("output", "disk/output") for word in option]))
     if has_tmpfs:
         found = on_tmpfs(words_of(job, "-fo", "disk/output"), "64k", "1", "empty")
