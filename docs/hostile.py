@@ -1,7 +1,7 @@
 #!/usr/bin/env python3
 """Runs the program in bin/ over random bytes.
 
-    docs/hostile.py [--seed N] [--inputs N] [--only COMMAND | --only 'COMMAND NUMBER']
+    docs/hostile.py [--seed N] [--inputs N] [--jobs N] [--only COMMAND | --only 'COMMAND NUMBER']
 
 So many inputs (100,000 where that isn't said), as many for each command, of three kinds: any bytes, bytes of the
 format's alphabet, and good lines with one byte changed. Each run has to end with status 0 and nothing on standard
@@ -10,8 +10,8 @@ lines; and the answer has to be the one that plain.py finds by the rules of the 
 behind a line that ends near the end of a block of 8,192 bytes, and the answer has to be the same. An input goes by the
 seed, its command and its number: `--only 'merge 17'` runs it alone.
 
-Then a good text of each format is cut at each of its bytes, for each command and each of its options. Ends with 1
-where something else comes of it.
+Then a good text of each format is cut at each of its bytes, for each command and each of its options. `--jobs` runs are
+under way at a time, as many as there are processors where that isn't said. Ends with 1 where something else comes of it.
 """
 
 import argparse
@@ -19,9 +19,11 @@ import collections
 import os
 import random
 import re
+import resource
 import signal
 import sys
 import tempfile
+from concurrent.futures import ProcessPoolExecutor
 from dataclasses import dataclass
 from pathlib import Path
 
@@ -33,7 +35,11 @@ BLOCK = 8192
 # A folder in memory: on a disk the files, which are short and written anew for each run, take most of the time.
 MEMORY = "/dev/shm"
 # A run that takes longer than so many seconds hangs.
-LONGEST = 20
+LONGEST = 60
+# So many bytes of memory are enough for any run: one that takes more is not to take the machine's.
+MOST_MEMORY = 1 << 30
+# A process takes so many cases at once.
+SHARE = 500
 FAULT = re.compile(
     rb"bedtools (?P<command>[a-z]+): (?:(?P<name>[a-z.-]+):(?P<line>[1-9][0-9]*): (?:too few columns|empty chromosome name|"
     rb"start is not a number|end is not a number|start is not below end|chromosome is not in the genome file|"
@@ -177,11 +183,9 @@ def is_the_same(case, answer, further, name, lines):
 
 def tell(label, case, *answers):
     """Prints what is wrong with a case."""
-    print(f"{label}\n  {' '.join(case.words())}")
-    for name, text in case.files.items():
-        print(f"  {name}{' (standard input)' if name == case.stream else ''}: {shortened(text)}")
-    for answer in answers:
-        print(f"  status {answer.status}, output {shortened(answer.output)}, error {shortened(answer.error)}", flush=True)
+    files = [f"{name}{' (standard input)' if name == case.stream else ''}: {shortened(text)}" for name, text in case.files.items()]
+    ends = [f"status {it.status}, output {shortened(it.output)}, error {shortened(it.error)}" for it in answers]
+    print("\n  ".join([label, " ".join(case.words()), *files, *ends]), flush=True)
 
 
 def shortened(text):
@@ -208,47 +212,69 @@ def try_bytes(seed, command, number, counts):
     return 1
 
 
-def random_bytes(asked):
-    """Runs the inputs of random bytes. Answers how many of them are answered wrongly."""
+def try_share(seed, command, chosen):
+    """Runs the cases of a command with these numbers. Answers how many of each kind there were, and how many of the
+    answers are wrong."""
     counts = collections.Counter()
+    wrong = sum(try_bytes(seed, command, number, counts) for number in chosen)
+    return counts, wrong
+
+
+def random_bytes(pool, asked):
+    """Runs the inputs of random bytes. Answers how many of them are answered wrongly."""
     each = -(-asked.inputs // len(COMMANDS))
-    wrong = 0
+    shares = []
     for command in COMMANDS:
         chosen = [number for number in range(each) if asked.only in ("", command.name, f"{command.name} {number}")]
-        wrong += sum(try_bytes(asked.seed, command, number, counts) for number in chosen)
+        shares += [pool.submit(try_share, asked.seed, command, chosen[first : first + SHARE]) for first in range(0, len(chosen), SHARE)]
+    found = [share.result() for share in shares]
+    counts = sum((counts for counts, _ in found), collections.Counter())
+    wrong = sum(wrong for _, wrong in found)
     kinds = ", ".join(f"{count} {kind}" for kind, count in sorted(counts.items())).replace("_", " ")
     print(f"{sum(counts.values())} inputs of random bytes run (seed {asked.seed}), {wrong} answered wrongly: {kinds}")
     return wrong
 
 
-def cut_inputs(seed):
-    """Cuts each input of each command line at each byte. Answers how many runs are answered wrongly."""
+def try_cuts(seed, command, options):
+    """Cuts each input of a command line at each byte. Answers how many runs there were, and how many went wrong."""
+    numbers = random.Random(f"{seed} {command.name} {options}")
+    files = {name: good(numbers, form) for _, name, form in command.inputs}
     runs = wrong = 0
-    for command, options in ((command, options) for command in COMMANDS for options in command.options):
-        numbers = random.Random(f"{seed} {command.name} {options}")
-        files = {name: good(numbers, form) for _, name, form in command.inputs}
-        for name, text in files.items():
-            for at in range(len(text) + 1):
-                case = Case(command, options.split(), {**files, name: text[:at]}, None)
-                answer = run(case)
-                fault = wrong_with(case, answer)
-                if fault:
-                    tell(f"{name} is cut at {at}: {fault}", case, answer)
-                runs, wrong = runs + 1, wrong + bool(fault)
+    for name, text in files.items():
+        for at in range(len(text) + 1):
+            case = Case(command, options.split(), {**files, name: text[:at]}, None)
+            answer = run(case)
+            fault = wrong_with(case, answer)
+            if fault:
+                tell(f"{name} is cut at {at}: {fault}", case, answer)
+            runs, wrong = runs + 1, wrong + bool(fault)
+    return runs, wrong
+
+
+def cut_inputs(pool, seed):
+    """Cuts each input of each command line at each byte. Answers how many runs are answered wrongly."""
+    shares = [pool.submit(try_cuts, seed, command, options) for command in COMMANDS for options in command.options]
+    runs, wrong = (sum(column) for column in zip(*(share.result() for share in shares)))
     print(f"{runs} inputs run that are cut at a byte, {wrong} answered wrongly")
     return wrong
+
+
+def prepare(folder):
+    """Prepares a process that runs cases: it gets a folder of its own, and so much memory at most as all that it runs."""
+    os.chdir(tempfile.mkdtemp(dir=folder))
+    resource.setrlimit(resource.RLIMIT_AS, (MOST_MEMORY, MOST_MEMORY))
 
 
 def main():
     parser = argparse.ArgumentParser(description=__doc__.splitlines()[0])
     parser.add_argument("--seed", type=int, default=1)
     parser.add_argument("--inputs", metavar="N", type=int, default=100_000)
+    parser.add_argument("--jobs", metavar="N", type=int, default=len(os.sched_getaffinity(0)))
     parser.add_argument("--only", metavar="COMMAND", default="")
     asked = parser.parse_args()
     with tempfile.TemporaryDirectory(dir=MEMORY if Path(MEMORY).is_dir() else None) as folder:
-        os.chdir(folder)
-        wrong = random_bytes(asked) + (0 if asked.only else cut_inputs(asked.seed))
-        os.chdir("/")
+        with ProcessPoolExecutor(asked.jobs, initializer=prepare, initargs=(folder,)) as pool:
+            wrong = random_bytes(pool, asked) + (0 if asked.only else cut_inputs(pool, asked.seed))
     return 1 if wrong else 0
 
 

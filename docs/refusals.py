@@ -13,6 +13,7 @@ to be the same. Needs gcc. Ends with 1 where something else comes of it.
 """
 
 import os
+import resource
 import shutil
 import subprocess
 import sys
@@ -25,6 +26,8 @@ PROGRAM = str(HERE.parent / "bin" / "bedtools")
 GENOME = "chr1\t1000\nchr2\t50\n"
 # A command line that grows its memory so many times doesn't end.
 MOST = 2000
+# So many bytes of memory are enough for any run: one that takes more is not to take the machine's.
+MOST_MEMORY = 1 << 30
 
 TOUCHING = "chr1\t100\t200\nchr1\t180\t250\nchr1\t250\t500\nchr1\t501\t1000\n"
 STRANDS = "chr1\t0\t100\ta\t0\t+\nchr1\t10\t20\tb\t0\t-\nchr1\t50\t120\tc\t0\t+\nchr1\t60\t70\td\t0\t-\n"
@@ -181,6 +184,7 @@ def main():
     if not shutil.which("gcc"):
         print("gcc isn't on PATH: no growths of memory are refused")
         return 0
+    resource.setrlimit(resource.RLIMIT_AS, (MOST_MEMORY, MOST_MEMORY))
     with tempfile.TemporaryDirectory() as folder:
         os.chdir(folder)
         refused, wrong = refuse_all(folder)

@@ -27,6 +27,8 @@ from pathlib import Path
 
 PROGRAM = str(Path(__file__).resolve().parent.parent / "bin" / "bedtools")
 GENOME = "chr1\t1000000000\nchr2\t1000000000\n"
+# So many bytes of memory are enough for any run: one that takes more is not to take the machine's.
+MOST_MEMORY = 1 << 30
 # So many bytes at most are written at once.
 LARGEST_PIECE = 131_072
 # The bytes of a long line, and the records that are kept.
@@ -282,6 +284,7 @@ def full_disks():
 
 
 def main():
+    resource.setrlimit(resource.RLIMIT_AS, (MOST_MEMORY, MOST_MEMORY))
     with tempfile.TemporaryDirectory() as folder:
         os.chdir(folder)
         wrong = full_disks() + small_spaces()
