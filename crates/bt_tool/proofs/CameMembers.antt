@@ -1,19 +1,27 @@
 -- Lemmas on what is good of an input that a reader of members took.
-use Rattle.std.proofs.Common.{◌≡◌, ℕ, suc, ◌-◌, ◌^◌, ◌≤◌, ◌<◌, Bool, List, ◌++◌, take, Option, Some, refl, sym, ap, ◌∙◌, subst, inl, inr}
+use Rattle.std.proofs.Common.{◌≡◌, ℕ, suc, ◌-◌, ◌^◌, ◌≤◌, ◌<◌, Bool, List, ◌++◌, take, Option, None, Some, refl, sym, ap, ◌∙◌, subst, inl, inr}
 use Rattle.std.specs.Prelude.{All, IfSome, IsSome, option_map}
 use Rattle.bt_lines.specs.Fault.{Told, read_failed}
 use Rattle.bt_lines.specs.Handed.{Handed, whole_text}
 use Rattle.bt_lines.specs.Lines.{line_feeds, text_lines}
 use Rattle.bt_lines.specs.Reader.{Hands, bytes_taken, feeds_taken, input_of, lines_given, lines_left, source_of}
 use Rattle.bt_lines.specs.declared.fault.Input.{Input}
-use Rattle.bt_bed.specs.Good.{Format, Good, Member, good, good_handed}
+use Rattle.bt_bed.specs.Good.{Format, Good, Member, good, good_handed, or_else}
 use Rattle.bt_bed.specs.GoodLines.{IsBeyond}
 use Rattle.bt_bed.specs.Reading.{MemberReader, good_coming}
 use Rattle.bt_tool.specs.Coming.{Came}
 use Rattle.bt_tool.specs.Passed.{IsUnreadBehind}
-use Rattle.bt_tool.proofs.CameLemmas.{or_else_none, some_of}
 use Rattle.bt_tool.proofs.HandedLemmas.{cut_good}
 use Rattle.bt_tool.proofs.HandedReader.{cut_text, handed_all, handed_part}
+
+-- what holds of a known value
+pub some_of : {A : Type 0} (a : Option A) (value : A) (P : A → Type 0) → a ≡ Some value → IfSome a P → P value
+some_of None value P e h = cc
+some_of (Some x) value P e h = let same : x ≡ value = cc in subst P same h
+
+pub or_else_none : (fault : Option Told) → or_else fault None ≡ fault
+or_else_none None = refl
+or_else_none (Some fault) = refl
 
 -- what is good of a whole text
 pub good_whole : {A State : Type 0} (format : Format A State) (input : Input) (text : List ℕ) → good_handed format input (whole_text text) ≡ good format input (text_lines text)

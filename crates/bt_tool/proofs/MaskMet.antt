@@ -33,11 +33,12 @@ use Rattle.bt_tool.specs.Inputs.{HandsUpTo}
 use Rattle.bt_tool.specs.Masked.{is_fasta_kind, is_mask_kind, mask_reaches, mask_report, mask_settles}
 use Rattle.bt_tool.specs.Masks.{AreOwned, Finishes, FirstStops, InputsEnd, RestStops, SecondFails, SecondStops, Why}
 use Rattle.bt_tool.specs.Passed.{IsUnreadBehind, IsWrongBehind}
-use Rattle.bt_tool.specs.Swept.{MayCome}
+use Rattle.bt_tool.specs.Pair.{MayCome}
 use Rattle.bt_tool.proofs.CameMembers.{BeginsAt, at_whole, came_cut, came_whole, is_known, text_known}
 use Rattle.bt_tool.proofs.FaultLemmas.{memory_no_write, placed_no_write, some_is}
 use Rattle.bt_tool.proofs.HandedReader.{passes_by}
-use Rattle.bt_tool.proofs.MetLemmas.{from_known, may_come, puts_kept, seen_in}
+use Rattle.bt_tool.proofs.PairMet.{from_known, may_come, seen_in}
+use Rattle.bt_tool.proofs.SeenLemmas.{puts_front}
 
 -- what the lines and the fault of a meeting are
 abbrev MeetsAs : MaskHow → Good SequenceLine → Good Feature → List ℕ → Option Told → Type 0
@@ -319,7 +320,7 @@ module _ {A B : Type 0} (a_left : A → Option (List ℕ)) (a_failed a_end : A �
   cut_by is before put (inr (inr cut)) = cut.1.front before put
 
   kept_by : fault ≢ Some write_failed → Why a_left a_failed a_end b_left b_failed b_end how full old_first old_second out w.written w.bytes w.wrote.ended first second fault grown → PutsFront out w.bytes grown
-  kept_by other (inl (end, puts, works)) = puts_kept out w.bytes grown puts
+  kept_by other (inl (end, puts, works)) = puts_front out w.bytes grown puts
   kept_by other (inr (inl ran)) = ran.1
   kept_by other (inr (inr cut)) = absurd (other cut.0)
 

@@ -32,13 +32,12 @@ use Rattle.bt_tool.specs.Feeding.{TookButBlock, member_items}
 use Rattle.bt_tool.specs.Inputs.{HandsUpTo}
 use Rattle.bt_tool.specs.Masked.{last_needed, lines_on, mask_reaches, mask_settles}
 use Rattle.bt_tool.specs.Masks.{AsksFor, StaysNear, leaves_some}
-use Rattle.bt_tool.specs.Swept.{MayCome}
-use Rattle.bt_tool.proofs.CameLemmas.{some_of}
-use Rattle.bt_tool.proofs.CameMembers.{BeginsAt, at_whole, good_whole, is_known}
+use Rattle.bt_tool.specs.Pair.{MayCome}
+use Rattle.bt_tool.proofs.CameMembers.{BeginsAt, at_whole, good_whole, is_known, some_of}
 use Rattle.bt_tool.proofs.HandedLemmas.{handed_near}
 use Rattle.bt_tool.proofs.HandedReader.{consumed_by, consumes_parts}
-use Rattle.bt_tool.proofs.MetLemmas.{may_come}
-use Rattle.bt_tool.proofs.NearLemmas.{front_from, not_all, take_less, take_whole}
+use Rattle.bt_tool.proofs.PairMet.{may_come}
+use Rattle.bt_tool.proofs.PairNear.{front_from, not_all, take_less, take_whole}
 
 -- a line that more records leave undecided, fewer do too
 undecided_by : (b c : Bool) → (b ≡ true → c ≡ true) → not c ≡ true → not b ≡ true

@@ -27,7 +27,7 @@ use Rattle.bt_tool.specs.Masks.{IsOpenAt, IsOpenLine, Masks, Settles, item_ahead
 use Rattle.bt_tool.specs.Passed.{IsAhead, IsOver, state_behind}
 use Rattle.bt_tool.proofs.FeedLemmas.{grows_both, works_both}
 use Rattle.bt_tool.proofs.MemberLemmas.{ended_at, items_next, no_ahead_at_end, passes_all, passes_end, passes_more, passes_peek, read_ahead, read_at, read_for, read_given, read_passed}
-use Rattle.bt_tool.proofs.SweptLemmas.{grown_puts, grown_works}
+use Rattle.bt_tool.proofs.PairTurns.{grown_puts, grown_works}
 
 -- what is asked for tells what waits
 never_line : (waits lines_ended bed_ended : Bool) → want_of waits lines_ended bed_ended ≡ WantLine → (waits ≡ false) × (lines_ended ≡ false)

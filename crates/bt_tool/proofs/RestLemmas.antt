@@ -1,75 +1,69 @@
 -- Lemmas on reading an input to its end, from wherever its reader stands.
-use Rattle.std.proofs.Common.{◌≡◌, ℕ, ◌≤◌, List, [], ◌∷◌, ◌++◌, Option, None, Some, refl, sym, ap, ◌∙◌, subst, append-nil, append_assoc, arith}
-use Rattle.std.specs.Prelude.{Bool, IsSome}
+use Rattle.std.proofs.Common.{◌≡◌, ℕ, ◌≤◌, List, [], ◌∷◌, ◌++◌, Option, None, Some, Err, refl, sym, ap, ◌∙◌, subst, append-nil, append_assoc, arith}
+use Rattle.std.specs.Prelude.{Bool, IsSome, true}
 use Rattle.std.proofs.lemmas.Bool.{false≢true}
 use Rattle.bt_lines.specs.Fault.{Told}
+use Rattle.bt_lines.specs.Lines.{TextLine}
 use Rattle.bt_lines.specs.Reader.{Hands, lines_given}
+use Rattle.bt_lines.specs.declared.fault.Kind.{Kind}
 use Rattle.bt_lines.proofs.ReaderLemmas.{hands_none, hands_both}
-use Rattle.bt_bed.specs.Feature.{Feature}
 use Rattle.bt_bed.specs.Good.{Member}
-use Rattle.bt_bed.specs.GoodBed.{bed_format}
-use Rattle.bt_bed.specs.Sorting.{sorting_of}
-use Rattle.bt_bed.specs.Reading.{GivesMember, MemberReader}
-use Rattle.bt_bed.specs.Records.{PassesRecord, below, order_in, view_of}
-use Rattle.bt_bed.specs.declared.order.ChromOrder.{Ghosts}
-use Rattle.bt_bed.specs.declared.records.Records.{Records}
-use Rattle.bt_tool.specs.Passing.{Passes}
+use Rattle.bt_bed.specs.Reading.{Advances, GivesMember, MemberReader}
+use Rattle.bt_tool.specs.Passed.{IsAhead, IsOver, IsStopped, Passes}
 use Rattle.bt_tool.specs.Swept.{ChecksAll, ChecksUpTo, IsReadOn}
-use Rattle.bt_tool.specs.Turns.{HasAhead, HasEnded, HasStopped}
-use Rattle.bt_tool.proofs.PassedLemmas.{fails_before_end, passes_all, passes_end, passes_more, passes_stop}
+use Rattle.bt_tool.proofs.MemberLemmas.{fails_before_end, passes_all, passes_end, passes_more, passes_stop}
 
-pub rises_up : {S A State : Type 0} (left : S → Option (List ℕ)) (failed : S → Bool) (old new : MemberReader S A State) (m : Member A) (o : Option (Member A)) → old.ahead ≡ o
+rises_up : {S A State : Type 0} (left : S → Option (List ℕ)) (failed : S → Bool) (old new : MemberReader S A State) (m : Member A) (o : Option (Member A)) → old.ahead ≡ o
     → GivesMember left failed old m new → lines_given old.below ≤ lines_given new.below
 rises_up left failed old new m None e gives = let up = gives.rises e in omega (arith, up.0)
 rises_up {S} {A} {State} left failed old new m (Some x) e gives =
     let same : new ≡ old = gives.again (subst IsSome (sym e) refl) in
     omega (arith, ap (λ (r : MemberReader S A State). lines_given r.below) same)
 
-module _ {B O : Type 0} {g : Ghosts O} (left : B → Option (List ℕ)) (failed end : B → Bool) (before : Records B O g) where
+module _ {S A State : Type 0} (left : S → Option (List ℕ)) (failed end : S → Bool) (before : MemberReader S A State) where
   pub reads_start : IsReadOn left failed end before before
   reads_start = record {
-    bytes = ([], hands_none left (below before));
+    bytes = ([], hands_none left before.below);
     rises = omega arith;
     passes = λ old past p. ([], subst (λ l. Passes left failed end old l before) (sym (append-nil past)) p);
   }
 
-  module _ (now : Records B O g) (on : IsReadOn left failed end before now) where
-    pub reads_more : (r : Feature) (peeked next : Records B O g) → HasAhead left failed end now r peeked → PassesRecord left peeked next → IsReadOn left failed end before next
-    reads_more r peeked next ahead passes =
-        let same = passes.passes.reads_nothing in
-        let hands = ahead.gives.read.stays.bytes in
-        let up = rises_up left failed (view_of now) (view_of peeked) (record { line = ahead.gives.line; item = r }) (view_of now).ahead refl ahead.gives.read in
+  module _ (now : MemberReader S A State) (on : IsReadOn left failed end before now) where
+    pub reads_more : (m : Member A) (peeked next : MemberReader S A State) → IsAhead left failed end now m peeked → Advances left peeked next → IsReadOn left failed end before next
+    reads_more m peeked next ahead passes =
+        let hands = ahead.read.stays.bytes in
+        let up = rises_up left failed now peeked m now.ahead refl ahead.read in
         record {
-          bytes = subst (λ reader. (bytes : List ℕ) × Hands left (below before) bytes reader) (sym same)
-              (on.bytes.0 ++ hands.0, hands_both left (below before) (below now) (below peeked) on.bytes.0 hands.0 on.bytes.1 hands.1);
-          rises = subst (λ reader. lines_given (below before) ≤ lines_given reader) (sym same) (omega (arith, on.rises, up));
+          bytes = subst (λ reader. (bytes : List ℕ) × Hands left before.below bytes reader) (sym passes.reads_nothing)
+              (on.bytes.0 ++ hands.0, hands_both left before.below now.below peeked.below on.bytes.0 hands.0 on.bytes.1 hands.1);
+          rises = subst (λ reader. lines_given before.below ≤ lines_given reader) (sym passes.reads_nothing) (omega (arith, on.rises, up));
           passes = λ old past p.
-              let was = on.passes old past p in
-              let m : Member Feature = record { line = ahead.gives.line; item = r } in (
+              let was = on.passes old past p in (
                 was.0 ++ m ∷ [],
                 subst (λ l. Passes left failed end old l next) (append_assoc past was.0 (m ∷ []))
-                    (passes_more left failed end old (past ++ was.0) now was.1 r peeked ahead next passes),
+                    (passes_more left failed end old (past ++ was.0) now was.1 m peeked ahead next passes),
               );
         }
 
-    pub reads_end : (new : Records B O g) → HasEnded left failed end now new → (old : Records B O g) (past : List (Member Feature))
-        → Passes left failed end old past before → (view_of old).format ≡ bed_format (sorting_of (order_in old)) → ChecksAll left failed end old past before new
-    reads_end new ended old past p sorted =
+    pub reads_end : (new : MemberReader S A State) → IsOver left failed end now new → (old : MemberReader S A State) (past : List (Member A))
+        → Passes left failed end old past before → ChecksAll left failed end old past before new
+    reads_end new over old past p =
         let was = on.passes old past p in
         record {
           more = was.0;
-          passes = passes_end left failed end old (past ++ was.0) now was.1 new ended;
-          all = passes_all left failed end old (past ++ was.0) now was.1 new ended;
-          rises = omega (arith, on.rises, ended.ends.rises);
+          passes = passes_end left failed end old (past ++ was.0) now was.1 new over;
+          all = passes_all left failed end old (past ++ was.0) now was.1 new over;
+          rises = omega (arith, on.rises, over.ends.rises);
         }
 
-    pub reads_stop : (new : Records B O g) (fault : Told) → HasStopped left failed end now fault new → (old : Records B O g) (past : List (Member Feature))
-        → Passes left failed end old past before → (view_of old).format ≡ bed_format (sorting_of (order_in old)) → ChecksUpTo left failed end old past before fault new
-    reads_stop new fault stopped old past p sorted =
+    pub reads_stop : (new : MemberReader S A State) (fault : Told) → IsStopped left failed end now fault new → (old : MemberReader S A State) (past : List (Member A)) (kinds : Kind → Bool)
+        → Passes left failed end old past before → ((state : State) (line : TextLine) (kind : Kind) → old.format.says state line ≡ Err kind → kinds kind ≡ true)
+        → ChecksUpTo left failed end old past before kinds fault new
+    reads_stop new fault stopped old past kinds p wrong =
         let was = on.passes old past p in
         record {
           more = was.0;
-          stops = passes_stop left failed end old (past ++ was.0) now was.1 sorted new fault stopped;
+          stops = passes_stop left failed end old (past ++ was.0) now was.1 kinds wrong new fault stopped;
           rises = omega (arith, on.rises, stopped.answers.rises);
           before_end = λ told input line e. false≢true (sym (fails_before_end left failed end old (past ++ was.0) now was.1 new fault stopped input line e) ∙ on.bytes.1.told_stays told);
         }

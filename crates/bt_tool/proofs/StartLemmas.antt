@@ -1,10 +1,16 @@
 -- Lemmas on the beginning of a sweep over two readers.
-use Rattle.std.proofs.Common.{◌≡◌, ℕ, Bool, false, List, [], ◌++◌, Option, None, Some, refl, sym, ap, ◌∙◌, append-nil, inl, inr}
-use Rattle.std.specs.Option.{option_to_list}
-use Rattle.std.proofs.lemmas.Bool.{false≢true}
-use Rattle.std.proofs.KnownBytes.{Appends-nil}
+use Rattle.std.proofs.Common.{◌≡◌, ℕ, Bool, List, [], Option, None, ap, ◌∙◌}
+use Rattle.std.specs.Prelude.{option_map}
+use Rattle.bt_lines.specs.Lines.{text_lines}
 use Rattle.bt_lines.specs.Output.{Output, HoldsBlock}
-use Rattle.bt_bed.specs.Records.{last_locus, order_in, record_ahead, view_of}
+use Rattle.bt_lines.specs.Reader.{bytes_taken, fault_kept as line_fault, feeds_taken, input_of, lines_left, source_of}
+use Rattle.bt_lines.specs.declared.fault.Input.{Input}
+use Rattle.bt_lines.specs.declared.line_reader.LineReader.{LineReader}
+use Rattle.bt_bed.specs.Good.{good}
+use Rattle.bt_bed.specs.GoodBed.{bed_format}
+use Rattle.bt_bed.specs.Order.{Order}
+use Rattle.bt_bed.specs.Records.{below, good_left, last_locus, order_in, view_of}
+use Rattle.bt_bed.specs.Sorting.{sorting_of}
 use Rattle.bt_bed.specs.declared.order.ChromOrder.{Ghosts}
 use Rattle.bt_bed.specs.declared.records.Records.{Records}
 use Rattle.bt_sweep.specs.Standing.{StandsAt, first_stage}
@@ -12,9 +18,12 @@ use Rattle.bt_sweep.specs.Sweeping.{Sweeping}
 use Rattle.bt_sweep.specs.declared.hit_rule.HitRule.{HitRule}
 use Rattle.bt_sweep.specs.declared.shape.Shape.{Shape}
 use Rattle.bt_tool.specs.Feeding.{IsFresh}
-use Rattle.bt_tool.specs.Swept.{Sweeps}
-use Rattle.bt_tool.proofs.PassedLemmas.{passes_start, read_start}
-use Rattle.bt_tool.proofs.SweptLemmas.{settles_nothing}
+use Rattle.bt_tool.specs.Swept.{Sweeps, records_pair, sweep_making}
+use Rattle.bt_tool.proofs.CameMembers.{BeginsAt}
+use Rattle.bt_tool.proofs.FeedLemmas.{line_going}
+use Rattle.bt_tool.proofs.MemberLemmas.{passes_start, read_start}
+use Rattle.bt_tool.proofs.PairTurns.{comes_start}
+use Rattle.bt_tool.proofs.PassedLemmas.{placed_start}
 
 module _ {A B O : Type 0} {g : Ghosts O} (a_left : A → Option (List ℕ)) (a_failed a_end : A → Bool) (b_left : B → Option (List ℕ)) (b_failed b_end : B → Bool)
     (shape : Shape) (rule : HitRule) (first : Records A O g) (second : Records B O g) (out : Output) where
@@ -25,25 +34,28 @@ module _ {A B O : Type 0} {g : Ghosts O} (a_left : A → Option (List ℕ)) (a_f
   sweeps_start fresh none fresh_second none_second block sweep stands = record {
     past_first = [];
     past_second = [];
-    first_passes = passes_start a_left a_failed a_end first fresh none;
-    none_ahead = fresh.none_ahead;
-    second_passes = passes_start b_left b_failed b_end second fresh_second none_second;
     stage = first_stage;
     stands = stands;
-    all_given = refl;
-    all_taken = refl;
-    lines = [];
-    settles = λ known. settles_nothing (order_in first) shape rule ([] ++ option_to_list (record_ahead second)) false;
-    is_open = inr (inr refl);
-    first_all = λ e. absurd (false≢true e);
-    second_all = λ e. absurd (false≢true e);
-    puts = λ before e. e ∙ ap Some (sym (append-nil before));
-    works = record { served = refl; sink_served = refl; put = ([], Appends-nil out.put); block = λ h. h };
-    block = block;
-    grows = ([], Appends-nil out.took);
-    near_first = λ asked. elim asked [
-      | inl some ↦ absurd (false≢true some)
-      | inr ended ↦ absurd (false≢true ended)
-    ];
-    near_second = λ known. read_start b_left b_failed b_end second fresh_second;
+    comes = comes_start (sweep_making (order_in first) shape rule) (records_pair a_left a_failed a_end b_left b_failed b_end first second) out
+        (passes_start a_left a_failed a_end (view_of first) fresh (line_going first fresh.going)) fresh.none_ahead
+        (passes_start b_left b_failed b_end (view_of second) fresh_second (line_going second fresh_second.going))
+        (read_start b_left b_failed b_end (view_of second) fresh_second (line_going second fresh_second.going)) block;
+    first_placed = placed_start a_left a_failed a_end first none;
+    second_placed = placed_start b_left b_failed b_end second none_second;
+  }
+
+module _ {S O : Type 0} {ghosts : Ghosts O} (left : S → Option (List ℕ)) (order : Order) (input : Input) (first : S) (reader : LineReader S) (records : Records S O ghosts) where
+  -- the reader at its beginning
+  pub begins_by : below records ≡ reader
+      → source_of reader ≡ first → input_of reader ≡ input → bytes_taken reader ≡ 0 → feeds_taken reader ≡ 0 → line_fault reader ≡ None
+      → lines_left left reader ≡ option_map text_lines (left first)
+      → (line_fault reader ≡ None → good_left left records ≡ option_map (good (bed_format (sorting_of order)) (input_of reader)) (lines_left left reader))
+      → BeginsAt left (bed_format (sorting_of order)) input first (view_of records)
+  begins_by is source same taken fed going lines known = record {
+    source = ap source_of is ∙ source;
+    input_is = ap input_of is ∙ same;
+    bytes = ap bytes_taken is ∙ taken;
+    feeds = ap feeds_taken is ∙ fed;
+    lines = ap (lines_left left) is ∙ lines;
+    good = known going ∙ ap (λ i. option_map (good (bed_format (sorting_of order)) i) (lines_left left reader)) same ∙ ap (option_map (good (bed_format (sorting_of order)) input)) lines;
   }

@@ -16,11 +16,10 @@ use Rattle.bt_sweep.specs.Sweeping.{Sweeping, want_in}
 use Rattle.bt_sweep.specs.declared.hit_rule.HitRule.{HitRule}
 use Rattle.bt_sweep.specs.declared.shape.Shape.{Shape}
 use Rattle.bt_sweep.specs.declared.want.Want.TheVariants.{A as WantA, B as WantB}
-use Rattle.bt_tool.specs.Swept.{Finishes, Sweeps}
+use Rattle.bt_tool.specs.Swept.{SweepEnds, Sweeps}
 use Rattle.bt_tool.specs.Turns.{EndsFirst, EndsSecond, FailsAtEnd, FailsFirst, FailsSecond, GivesFirst, LeavesSecond, StopsTurn, TakesSecond}
 use Rattle.bt_tool.proofs.SweepMeasure.{left_to_ask, less_end, less_ended, less_first, less_left, less_taken}
-use Rattle.bt_tool.proofs.SweepStops.{fails_at_end, fails_first, fails_second, stops_first, stops_second}
-use Rattle.bt_tool.proofs.SweptLemmas.{ends_first, ends_second, goes_first, leaves_second, some_by, takes_second}
+use Rattle.bt_tool.proofs.SweptLemmas.{ends_first, ends_second, fails_at_end, fails_first, fails_second, goes_first, leaves_second, stops_first, stops_second, takes_second, waiting}
 
 module _ {A B O : Type 0} {g : Ghosts O} (a_left : A → Option (List ℕ)) (a_failed a_end : A → Bool) (b_left : B → Option (List ℕ)) (b_failed b_end : B → Bool)
     (shape : Shape) (rule : HitRule) (old_first : Records A O g) (old_second : Records B O g) (out : Output) (total : IsTotal (order_in old_first)) (same_order : order_in old_second ≡ order_in old_first)
@@ -31,18 +30,18 @@ module _ {A B O : Type 0} {g : Ghosts O} (a_left : A → Option (List ℕ)) (a_f
   Going = Sweeps a_left a_failed a_end b_left b_failed b_end (order_in old_first) shape rule old_first old_second out
 
   abbrev Ends : Option Told → Records A O g → Records B O g → Output → Type 0
-  Ends = Finishes a_left a_failed a_end b_left b_failed b_end (order_in old_first) shape rule old_first old_second out
+  Ends = SweepEnds a_left a_failed a_end b_left b_failed b_end (order_in old_first) shape rule old_first old_second out
 
   module _ (wants : want_in sweep ≡ WantA) where
     turned_first : (now : Records A O g) (swept : Sweeping) (later : Output) → (GivesFirst a_left a_failed a_end (order_in old_first) first sweep grown now swept later ⊎ EndsFirst a_left a_failed a_end (order_in old_first) first sweep grown now swept later)
         → Going now second swept later × (left_to_ask now second swept < left_to_ask first second sweep)
     turned_first now swept later (inl turn) = (
-      goes_first a_left a_failed a_end b_left b_failed b_end shape rule old_first old_second out total same_order first second sweep grown s wants now swept later turn,
-      less_first a_left a_failed a_end b_left b_failed b_end shape rule old_first old_second out total same_order first second sweep grown s wants now swept later turn,
+      goes_first a_left a_failed a_end b_left b_failed b_end shape rule old_first old_second out total same_order is_bed is_bed_second first second sweep grown s wants now swept later turn,
+      less_first a_left a_failed a_end b_left b_failed b_end shape rule old_first old_second out total same_order is_bed is_bed_second first second sweep grown s wants now swept later turn,
     )
     turned_first now swept later (inr turn) = (
-      ends_first a_left a_failed a_end b_left b_failed b_end shape rule old_first old_second out total same_order first second sweep grown s wants now swept later turn,
-      less_end a_left a_failed a_end b_left b_failed b_end shape rule old_first old_second out total same_order first second sweep grown s wants now swept later turn,
+      ends_first a_left a_failed a_end b_left b_failed b_end shape rule old_first old_second out total same_order is_bed is_bed_second first second sweep grown s wants now swept later turn,
+      less_end a_left a_failed a_end b_left b_failed b_end shape rule old_first old_second out total same_order is_bed is_bed_second first second sweep grown s wants now swept later turn,
     )
 
     stopped_first : (fault : Fault) (now : Records A O g) (swept : Sweeping) (later : Output) → (StopsTurn a_left a_failed a_end (order_in old_first) first sweep grown (told fault) now swept later ⊎ FailsFirst a_left a_failed a_end (order_in old_first) first sweep grown (told fault) now swept later)
@@ -61,32 +60,32 @@ module _ {A B O : Type 0} {g : Ghosts O} (a_left : A → Option (List ℕ)) (a_f
     first_stops fault now swept later turn = stopped_first fault now swept later (subst (λ (o : Order). (StopsTurn a_left a_failed a_end o first sweep grown (told fault) now swept later ⊎ FailsFirst a_left a_failed a_end o first sweep grown (told fault) now swept later)) is_order turn)
 
   module _ (wants : want_in sweep ≡ WantB) where
-    waiting : (a : Feature) × (s.stage.waiting ≡ Some a)
-    waiting = some_by s.stage.waiting sweep.waits sweep.done s.stands.waits wants
+    held : (a : Feature) × (s.stage.waiting ≡ Some a)
+    held = waiting a_left a_failed a_end b_left b_failed b_end shape rule old_first old_second out total same_order is_bed is_bed_second first second sweep grown s wants
 
     turned_second : (now : Records B O g) (swept : Sweeping) (later : Output) → (TakesSecond b_left b_failed b_end (order_in old_first) second sweep grown now swept later ⊎ (LeavesSecond b_left b_failed b_end (order_in old_first) second sweep grown now swept later ⊎ EndsSecond b_left b_failed b_end (order_in old_first) second sweep grown now swept later))
         → Going first now swept later × (left_to_ask first now swept < left_to_ask first second sweep)
     turned_second now swept later (inl turn) = (
-      takes_second a_left a_failed a_end b_left b_failed b_end shape rule old_first old_second out total same_order first second sweep grown s waiting.0 waiting.1 now swept later turn,
-      less_taken a_left a_failed a_end b_left b_failed b_end shape rule old_first old_second out total same_order first second sweep grown s wants waiting.0 waiting.1 now swept later turn,
+      takes_second a_left a_failed a_end b_left b_failed b_end shape rule old_first old_second out total same_order is_bed is_bed_second first second sweep grown s wants now swept later turn,
+      less_taken a_left a_failed a_end b_left b_failed b_end shape rule old_first old_second out total same_order is_bed is_bed_second first second sweep grown s wants held.0 held.1 now swept later turn,
     )
     turned_second now swept later (inr (inl turn)) = (
-      leaves_second a_left a_failed a_end b_left b_failed b_end shape rule old_first old_second out total same_order first second sweep grown s waiting.0 waiting.1 now swept later turn,
-      less_left a_left a_failed a_end b_left b_failed b_end shape rule old_first old_second out total same_order first second sweep grown s wants waiting.0 waiting.1 now swept later turn,
+      leaves_second a_left a_failed a_end b_left b_failed b_end shape rule old_first old_second out total same_order is_bed is_bed_second first second sweep grown s wants now swept later turn,
+      less_left a_left a_failed a_end b_left b_failed b_end shape rule old_first old_second out total same_order is_bed is_bed_second first second sweep grown s wants held.0 held.1 now swept later turn,
     )
     turned_second now swept later (inr (inr turn)) = (
-      ends_second a_left a_failed a_end b_left b_failed b_end shape rule old_first old_second out total same_order first second sweep grown s waiting.0 waiting.1 now swept later turn,
-      less_ended a_left a_failed a_end b_left b_failed b_end shape rule old_first old_second out total same_order first second sweep grown s wants waiting.0 waiting.1 now swept later turn,
+      ends_second a_left a_failed a_end b_left b_failed b_end shape rule old_first old_second out total same_order is_bed is_bed_second first second sweep grown s wants now swept later turn,
+      less_ended a_left a_failed a_end b_left b_failed b_end shape rule old_first old_second out total same_order is_bed is_bed_second first second sweep grown s wants held.0 held.1 now swept later turn,
     )
 
     stopped_second : (fault : Fault) (now : Records B O g) (swept : Sweeping) (later : Output) → (StopsTurn b_left b_failed b_end (order_in old_first) second sweep grown (told fault) now swept later ⊎ (FailsSecond b_left b_failed b_end (order_in old_first) second sweep grown (told fault) now swept later ⊎ FailsAtEnd b_left b_failed b_end (order_in old_first) second sweep grown (told fault) now swept later))
         → Ends (Some (told fault)) first now later
     stopped_second fault now swept later (inl turn) =
-        stops_second a_left a_failed a_end b_left b_failed b_end shape rule old_first old_second out total same_order is_bed is_bed_second first second sweep grown s waiting.0 waiting.1 (told fault) now swept later turn
+        stops_second a_left a_failed a_end b_left b_failed b_end shape rule old_first old_second out total same_order is_bed is_bed_second first second sweep grown s wants (told fault) now swept later turn
     stopped_second fault now swept later (inr (inl turn)) =
-        fails_second a_left a_failed a_end b_left b_failed b_end shape rule old_first old_second out total same_order is_bed is_bed_second first second sweep grown s waiting.0 waiting.1 (told fault) now swept later turn
+        fails_second a_left a_failed a_end b_left b_failed b_end shape rule old_first old_second out total same_order is_bed is_bed_second first second sweep grown s wants (told fault) now swept later turn
     stopped_second fault now swept later (inr (inr turn)) =
-        fails_at_end a_left a_failed a_end b_left b_failed b_end shape rule old_first old_second out total same_order is_bed is_bed_second first second sweep grown s waiting.0 waiting.1 (told fault) now swept later turn
+        fails_at_end a_left a_failed a_end b_left b_failed b_end shape rule old_first old_second out total same_order is_bed is_bed_second first second sweep grown s wants (told fault) now swept later turn
 
     pub turns_second : (now : Records B O g) (swept : Sweeping) (later : Output) → (TakesSecond b_left b_failed b_end order second sweep grown now swept later ⊎ (LeavesSecond b_left b_failed b_end order second sweep grown now swept later ⊎ EndsSecond b_left b_failed b_end order second sweep grown now swept later))
         → Going first now swept later × (left_to_ask first now swept < left_to_ask first second sweep)
@@ -98,7 +97,7 @@ module _ {A B O : Type 0} {g : Ghosts O} (a_left : A → Option (List ℕ)) (a_f
 
   -- the order of the readers stays
   pub order_first : order_in first ≡ order
-  order_first = s.first_passes.order ∙ sym is_order
+  order_first = s.first_placed.order ∙ sym is_order
 
   pub order_second : order_in second ≡ order
-  order_second = s.second_passes.order ∙ same_order ∙ sym is_order
+  order_second = s.second_placed.order ∙ same_order ∙ sym is_order

@@ -1,40 +1,51 @@
--- Lemmas on the turns of a sweep over two readers.
-use Rattle.std.proofs.Common.{◌≡◌, ℕ, Bool, true, false, cond, ◌&&◌, List, [], ◌∷◌, ◌++◌, Option, None, Some, refl, sym, ap, ◌∙◌, subst, append-nil, append_assoc, flat_map, option_to_list, inl, inr}
-use Rattle.std.specs.Prelude.{IsSome, IsTrue, is_none, is_some, option_map}
-use Rattle.std.specs.List.{list_all}
-use Rattle.std.proofs.lemmas.Bool.{false≢true, and_from, or_left, or_right}
-use Rattle.std.proofs.lemmas.Grind.{flat_map-append}
-use Rattle.std.proofs.lemmas.List.Folds.{list_all-append, list_any-append}
+-- Lemmas on the turns of a sweep over two readers: what it takes, writes and fails at.
+use Rattle.std.proofs.Common.{◌≡◌, ℕ, Bool, true, false, cond, List, [], ◌∷◌, ◌++◌, Option, None, Some, Result, Ok, Err, refl, sym, ap, ◌∙◌, subst, append-nil, append_assoc, option_to_list, inl, inr}
+use Rattle.std.specs.Prelude.{IsTrue, is_some}
+use Rattle.std.proofs.lemmas.Bool.{or_left, or_right}
+use Rattle.std.proofs.lemmas.List.{map-append}
+use Rattle.std.proofs.lemmas.List.Folds.{list_any-append}
 use Rattle.bt_lines.specs.Fault.{Told}
+use Rattle.bt_lines.specs.Lines.{TextLine}
+use Rattle.bt_lines.specs.Names.{told}
 use Rattle.bt_lines.specs.Output.{Output}
-use Rattle.bt_lines.specs.Putting.{Grown, WorksAsBefore}
+use Rattle.bt_lines.specs.Putting.{Grown}
+use Rattle.bt_lines.specs.declared.fault.Fault.{Fault}
+use Rattle.bt_lines.specs.declared.fault.Kind.{Kind}
 use Rattle.bt_bed.specs.Feature.{Feature, intervals_of}
-use Rattle.bt_bed.specs.Good.{Member}
-use Rattle.bt_bed.specs.Locus.{ArePlaced}
-use Rattle.bt_bed.specs.Meeting.{Rule}
+use Rattle.bt_bed.specs.Good.{Format, Member}
+use Rattle.bt_bed.specs.GoodBed.{bed_format}
+use Rattle.bt_bed.specs.LineKind.{is_bed_kind}
+use Rattle.bt_bed.specs.Locus.{ArePlaced, Locus}
 use Rattle.bt_bed.specs.Order.{Order, IsTotal}
-use Rattle.bt_bed.specs.Reading.{GivesMember, MemberReader, good_coming}
-use Rattle.bt_bed.specs.Records.{order_in, record_ahead, view_of}
+use Rattle.bt_bed.specs.Records.{order_in, view_of}
+use Rattle.bt_bed.specs.Sorting.{sorting_of}
 use Rattle.bt_bed.specs.declared.order.ChromOrder.{Ghosts}
 use Rattle.bt_bed.specs.declared.records.Records.{Records}
+use Rattle.bt_bed.proofs.NeighbourLemmas.{says_of_line}
 use Rattle.bt_sweep.specs.Deciding.{decided, decides}
-use Rattle.bt_sweep.specs.Lines.{LinesBefore, lines_for}
+use Rattle.bt_sweep.specs.Lines.{lines_for}
 use Rattle.bt_sweep.specs.Standing.{IsInOrder, Stage, StandsAt, given, with_a, with_a_ended, with_b, with_b_ended, with_lines}
+use Rattle.bt_sweep.specs.Steps.{Fails}
 use Rattle.bt_sweep.specs.Sweeping.{Sweeping, want_in, want_of}
-use Rattle.bt_sweep.specs.Sweeps.{sweep_rule}
 use Rattle.bt_sweep.specs.declared.hit_rule.HitRule.{HitRule}
 use Rattle.bt_sweep.specs.declared.shape.Shape.{Shape}
 use Rattle.bt_sweep.specs.declared.want.Want.TheVariants.{A as WantA, B as WantB, Nothing}
 use Rattle.bt_sweep.proofs.DecidingLemmas.{none_before}
+use Rattle.bt_sweep.proofs.HitLemmas.{before_lines}
 use Rattle.bt_sweep.proofs.HoldLemmas.{last_known}
-use Rattle.bt_tool.specs.Feeding.{PutsLines, member_items}
-use Rattle.bt_tool.specs.Swept.{IsOpenAt, Settles, Sweeps}
-use Rattle.bt_tool.specs.Turns.{EndsFirst, EndsSecond, GivesFirst, HasAhead, HasEnded, LeavesSecond, TakesSecond}
-use Rattle.bt_tool.proofs.FeedLemmas.{grows_both, text_grows, works_both}
-use Rattle.bt_tool.proofs.PassedLemmas.{ended_at, items_next, passes_all, passes_end, passes_more, passes_peek, placed_next, no_ahead_at_end, read_ahead, read_at, read_for, read_given, read_passed}
+use Rattle.bt_tool.specs.Feeding.{member_items}
+use Rattle.bt_tool.specs.Pair.{Making, Pair, Settles, item_ahead}
+use Rattle.bt_tool.specs.PairComes.{IsOpenAt}
+use Rattle.bt_tool.specs.PairEnds.{IsKnown}
+use Rattle.bt_tool.specs.Swept.{FinishesBoth, ReadsOn, SweepEnds, Sweeps, records_pair, stage_of, sweep_making}
+use Rattle.bt_tool.specs.Turns.{EndsFirst, EndsSecond, FailsAtEnd, FailsFirst, FailsSecond, GivesFirst, HasAhead, LeavesSecond, StopsTurn, TakesSecond}
+use Rattle.bt_tool.proofs.PairSettles.{settles_with}
+use Rattle.bt_tool.proofs.PairStops as stop
+use Rattle.bt_tool.proofs.PairTurns as turned
+use Rattle.bt_tool.proofs.PassedLemmas.{is_ahead, is_over, is_stopped, member_ahead, placed_end, placed_more, placed_next, placed_peek}
 
 -- what is asked for tells what waits
-pub none_by : (w : Option Feature) (waits done : Bool) → waits ≡ is_some w → want_of waits done ≡ WantA → w ≡ None
+none_by : (w : Option Feature) (waits done : Bool) → waits ≡ is_some w → want_of waits done ≡ WantA → w ≡ None
 none_by None waits done e wants = refl
 none_by (Some a) waits done e wants =
     let h : want_of true done ≡ WantA = ap (λ (w : Bool). want_of w done) (sym e) ∙ wants in
@@ -49,90 +60,45 @@ never_b : (done : Bool) → want_of false done ≡ WantB → ⊥
 never_b true e = cc
 never_b false e = cc
 
-pub some_by : (w : Option Feature) (waits done : Bool) → waits ≡ is_some w → want_of waits done ≡ WantB → (a : Feature) × (w ≡ Some a)
+some_by : (w : Option Feature) (waits done : Bool) → waits ≡ is_some w → want_of waits done ≡ WantB → (a : Feature) × (w ≡ Some a)
 some_by None waits done e wants = absurd (never_b done (ap (λ (w : Bool). want_of w done) (sym e) ∙ wants))
 some_by (Some a) waits done e wants = (a, refl)
 
-pub done_by : (waits done : Bool) → want_of waits done ≡ Nothing → done ≡ true
+done_by : (waits done : Bool) → want_of waits done ≡ Nothing → done ≡ true
 done_by true done e = absurd (let apart : WantB ≡ Nothing = e in cc)
 done_by false true e = refl
 done_by false false e = absurd (let apart : WantA ≡ Nothing = e in cc)
 
-pub not_true : (b : Bool) → (b ≡ true → ⊥) → b ≡ false
+not_true : (b : Bool) → (b ≡ true → ⊥) → b ≡ false
 not_true true h = absurd (h refl)
 not_true false h = refl
 
--- the output grew by lines
-pub grown_puts : (out old new : Output) (lines more : List ℕ) → PutsLines out lines old → Grown old more new → PutsLines out (lines ++ more) new
-grown_puts out old new lines more puts grown before e = text_grows old.put new.put before lines more (lines ++ more) refl grown.appends (puts before e)
-
-pub grown_works : (old new : Output) (more : List ℕ) → Grown old more new → WorksAsBefore old new
-grown_works old new more grown = record { served = grown.served; sink_served = grown.sink_served; put = (more, grown.appends); block = grown.block }
-
-module _ (order : Order) (shape : Shape) (rule : HitRule) where
-  -- one more record is decided and has these lines
-  one_more : (rule : Rule Feature ℕ Told) (written : List Feature) (a : Feature) (lines more : List ℕ) → (list_all rule.decided written ≡ true) × (flat_map rule.lines written ≡ lines)
-      → rule.decided a ≡ true → rule.lines a ≡ more → (list_all rule.decided (written ++ a ∷ []) ≡ true) × (flat_map rule.lines (written ++ a ∷ []) ≡ lines ++ more)
-  one_more rule written a lines more was here is = (
-    list_all-append rule.decided written (a ∷ []) ∙ and_from (list_all rule.decided written) (rule.decided a && true) was.0 (and_from (rule.decided a) true here refl),
-    flat_map-append rule.lines written (a ∷ []) ∙ ap (λ l. l ++ flat_map rule.lines (a ∷ [])) was.1 ∙ ap (λ l. lines ++ l) (append-nil (rule.lines a) ∙ is),
-  )
-
-  pub settles_nothing : (seen : List Feature) (ended : Bool) → Settles order shape rule [] [] seen ended
-  settles_nothing seen ended = record { whatever = λ second fault placed may. (refl, refl) }
-
-  -- one more record of the second input is seen
-  pub settles_seen : (written : List Feature) (lines : List ℕ) (seen more : List Feature) → Settles order shape rule written lines seen false → Settles order shape rule written lines (seen ++ more) false
-  settles_seen written lines seen more s = record {
-    whatever = λ second fault placed may. s.whatever second fault placed
-        (record { begins = (more ++ may.begins.0, may.begins.1 ∙ append_assoc seen more may.begins.0); all = λ e. absurd (false≢true e) });
-  }
-
-  -- a is decided by b
-  pub settles_with : (written : List Feature) (lines : List ℕ) (taken : List Feature) (a b : Feature) → Settles order shape rule written lines (taken ++ b ∷ []) false
-      → decides order a b ≡ true → LinesBefore order shape rule a taken b → Settles order shape rule (written ++ a ∷ []) (lines ++ lines_for shape rule a taken) (taken ++ b ∷ []) false
-  settles_with written lines taken a b s d before = record {
-    whatever = λ second fault placed may.
-        let parts : second ≡ taken ++ b ∷ may.begins.0 = may.begins.1 ∙ append_assoc taken (b ∷ []) may.begins.0 in
-        let here : decided order a second ≡ true =
-        ap (λ (l : List Feature). decided order a l) parts ∙ list_any-append (decides order a) taken (b ∷ may.begins.0)
-        ∙ or_right (decided order a taken) (decided order a (b ∷ may.begins.0)) (or_left (decides order a b) (decided order a may.begins.0) d) in
-        one_more (sweep_rule order shape rule second fault) written a lines (lines_for shape rule a taken) (s.whatever second fault placed may)
-        (or_right (is_none fault) (decided order a second) here)
-        (ap (lines_for shape rule a) parts ∙ before may.begins.0 (subst (λ (l : List Feature). ArePlaced order (intervals_of l)) parts placed));
-  }
-
-  -- the second input has ended
-  pub settles_end : (written : List Feature) (lines : List ℕ) (taken : List Feature) (ended : Bool) (a : Feature) → Settles order shape rule written lines taken ended
-      → Settles order shape rule (written ++ a ∷ []) (lines ++ lines_for shape rule a taken) taken true
-  settles_end written lines taken ended a s = record {
-    whatever = λ second fault placed may.
-        let all = may.all refl in
-        one_more (sweep_rule order shape rule second fault) written a lines (lines_for shape rule a taken)
-        (s.whatever second fault placed (record { begins = may.begins; all = λ e. all }))
-        (or_left (is_none fault) (decided order a second) (ap is_none all.1))
-        (ap (lines_for shape rule a) all.0);
-  }
-
-  -- the record ahead is seen
-  pub seen_by : {S State : Type 0} (left : S → Option (List ℕ)) (failed : S → Bool) (now new : MemberReader S Feature State) (m : Member Feature) (o : Option (Member Feature)) → now.ahead ≡ o → GivesMember left failed now m new
-      → (written : List Feature) (lines : List ℕ) (taken : List Feature) → Settles order shape rule written lines (taken ++ option_to_list (option_map (λ m. m.item) o)) false
-      → Settles order shape rule written lines (taken ++ m.item ∷ []) false
-  seen_by left failed now new m None e gives written lines taken s =
-      settles_seen written lines taken (m.item ∷ []) (subst (λ (l : List Feature). Settles order shape rule written lines l false) (append-nil taken) s)
-  seen_by {S} {State} left failed now new m (Some x) e gives written lines taken s =
-      let same : new ≡ now = gives.again (subst IsSome (sym e) refl) in
-      let is : Some x ≡ Some m = sym e ∙ ap (λ (r : MemberReader S Feature State). r.ahead) (sym same) ∙ gives.ahead in
-      let eq : x ≡ m = cc in
-      subst (λ (y : Member Feature). Settles order shape rule written lines (taken ++ y.item ∷ []) false) eq s
+says_bed : (order : Order) (format : Format Feature (Option Locus)) → format ≡ bed_format (sorting_of order) → (state : Option Locus) (line : TextLine) (kind : Kind) → format.says state line ≡ Err kind → is_bed_kind kind ≡ true
+says_bed order format is state line kind e = says_of_line (sorting_of order) state line.text kind (ap (λ (f : Format Feature (Option Locus)). f.says state line) (sym is) ∙ e)
 
 module _ {A B O : Type 0} {g : Ghosts O} (a_left : A → Option (List ℕ)) (a_failed a_end : A → Bool) (b_left : B → Option (List ℕ)) (b_failed b_end : B → Bool)
-    (shape : Shape) (rule : HitRule) (old_first : Records A O g) (old_second : Records B O g) (out : Output) (total : IsTotal (order_in old_first)) (same_order : order_in old_second ≡ order_in old_first) where
+    (shape : Shape) (rule : HitRule) (old_first : Records A O g) (old_second : Records B O g) (out : Output) (total : IsTotal (order_in old_first)) (same_order : order_in old_second ≡ order_in old_first)
+    (is_bed : (view_of old_first).format ≡ bed_format (sorting_of (order_in old_first))) (is_bed_second : (view_of old_second).format ≡ bed_format (sorting_of (order_in old_second))) where
   abbrev order : Order
   order = order_in old_first
 
+  abbrev making : Making Feature Feature
+  making = sweep_making order shape rule
+
+  abbrev pair : Pair A B Feature Feature (Option Locus) (Option Locus)
+  pair = records_pair a_left a_failed a_end b_left b_failed b_end old_first old_second
+
   abbrev Going : Records A O g → Records B O g → Sweeping → Output → Type 0
   Going = Sweeps a_left a_failed a_end b_left b_failed b_end order shape rule old_first old_second out
+
+  abbrev Ends : Option Told → Records A O g → Records B O g → Output → Type 0
+  Ends = SweepEnds a_left a_failed a_end b_left b_failed b_end order shape rule old_first old_second out
+
+  wrong : (state : Option Locus) (line : TextLine) (kind : Kind) → (view_of old_first).format.says state line ≡ Err kind → is_bed_kind kind ≡ true
+  wrong = says_bed order (view_of old_first).format is_bed
+
+  wrong_second : (state : Option Locus) (line : TextLine) (kind : Kind) → (view_of old_second).format.says state line ≡ Err kind → is_bed_kind kind ≡ true
+  wrong_second = says_bed (order_in old_second) (view_of old_second).format is_bed_second
 
   module _ (first : Records A O g) (second : Records B O g) (sweep : Sweeping) (grown : Output) (s : Going first second sweep grown) where
     abbrev stage : Stage
@@ -140,8 +106,12 @@ module _ {A B O : Type 0} {g : Ghosts O} (a_left : A → Option (List ℕ)) (a_f
 
     -- the records of the second input that were taken are in order
     pub placed_taken : ArePlaced order (intervals_of stage.taken)
-    placed_taken = subst (λ (l : List Feature). ArePlaced order (intervals_of l)) (sym s.all_taken) (subst (λ (o : Order). ArePlaced o (intervals_of (member_items s.past_second))) same_order s.second_passes.placed)
+    placed_taken = subst (λ (l : List Feature). ArePlaced order (intervals_of l)) (sym s.comes.all_taken) (subst (λ (o : Order). ArePlaced o (intervals_of (member_items s.past_second))) same_order s.second_placed.placed)
 
+    asked : stage.a_ended ≡ false → making.Asks (given stage) stage.taken
+    asked e = s.stands.holds.reached
+
+    -- a record of the first input is asked for
     module _ (wants : want_in sweep ≡ WantA) where
       pub none_waits : stage.waiting ≡ None
       none_waits = none_by stage.waiting sweep.waits sweep.done s.stands.waits wants
@@ -149,15 +119,9 @@ module _ {A B O : Type 0} {g : Ghosts O} (a_left : A → Option (List ℕ)) (a_f
       not_ended : stage.a_ended ≡ false
       not_ended = sym s.stands.done ∙ going_by sweep.waits sweep.done wants
 
-      pub all_written : stage.written ≡ member_items s.past_first
-      all_written = sym (append-nil stage.written) ∙ ap (λ (o : Option Feature). stage.written ++ option_to_list o) (sym none_waits) ∙ s.all_given
-
-      never_ended : {X : Type 0} → stage.a_ended ≡ true → X
-      never_ended e = absurd (false≢true (sym not_ended ∙ e))
-
       module _ (r : Feature) (peeked : Records A O g) (ahead : HasAhead a_left a_failed a_end first r peeked) where
         abbrev next : Member Feature
-        next = record { line = ahead.gives.line; item = r }
+        next = member_ahead a_left a_failed a_end first peeked r ahead
 
         given_with : (b : Bool) → given (cond b (record stage { written = stage.written ++ r ∷ [] }) (record stage { waiting = Some r })) ≡ stage.written ++ r ∷ []
         given_with true = ap (λ (o : Option Feature). (stage.written ++ r ∷ []) ++ option_to_list o) none_waits ∙ append-nil (stage.written ++ r ∷ [])
@@ -168,80 +132,44 @@ module _ {A B O : Type 0} {g : Ghosts O} (a_left : A → Option (List ℕ)) (a_f
         taken_with false = refl
 
         all_next : stage.written ++ r ∷ [] ≡ member_items (s.past_first ++ next ∷ [])
-        all_next = ap (λ l. l ++ r ∷ []) all_written ∙ sym (items_next a_left a_failed a_end old_first s.past_first first s.first_passes r peeked ahead)
+        all_next =
+            ap (λ l. l ++ r ∷ []) (turned.all_written making pair out (stage_of stage) s.past_first s.past_second (view_of first) (view_of second) grown s.comes none_waits not_ended)
+            ∙ sym (map-append (λ m. m.item) s.past_first (next ∷ []))
 
         -- the records given and the next one are in order
-        pub ordered : IsInOrder order (with_a stage r)
+        ordered : IsInOrder order (with_a stage r)
         ordered = record {
-          first = subst (λ (l : List Feature). ArePlaced order (intervals_of l)) (sym (given_with stage.b_ended ∙ all_next)) (placed_next a_left a_failed a_end old_first s.past_first first s.first_passes r peeked ahead);
+          first = subst (λ (l : List Feature). ArePlaced order (intervals_of l)) (sym (given_with stage.b_ended ∙ all_next)) (placed_next a_left a_failed a_end old_first s.past_first first s.first_placed r peeked ahead);
           second = subst (λ (l : List Feature). ArePlaced order (intervals_of l)) (sym (taken_with stage.b_ended)) placed_taken;
         }
+
+        -- once the second input has ended, its lines are those against what was taken
+        settles_here : stage.b_ended ≡ true → IsKnown pair → Settles making (stage.written ++ r ∷ []) (s.comes.bytes ++ lines_for shape rule r stage.taken) (stage.taken ++ option_to_list (item_ahead (view_of second))) stage.b_ended
+        settles_here e known = turned.settles_at_end making pair out (stage_of stage) s.past_first s.past_second (view_of first) (view_of second) grown s.comes e r known
 
       gave_by : (b : Bool) → stage.b_ended ≡ b → (first_now : Records A O g) (swept : Sweeping) (now : Output) → (turn : GivesFirst a_left a_failed a_end order first sweep grown first_now swept now)
           → StandsAt order shape rule (cond b (record stage { written = stage.written ++ turn.item ∷ [] }) (record stage { waiting = Some turn.item })) swept
           → Grown grown (cond b (lines_for shape rule turn.item stage.taken) []) now → Going first_now second swept now
-      gave_by true e first_now swept now turn stands adds =
-          let end = s.second_all e in
-          let m = next turn.item turn.peeked turn.ahead in
-          let none : option_to_list (record_ahead second) ≡ [] = ap (λ (o : Option (Member Feature)). option_to_list (option_map (λ m. m.item) o)) end.2 in
-          let seen : stage.taken ++ option_to_list (record_ahead second) ≡ stage.taken = ap (λ l. stage.taken ++ l) none ∙ append-nil stage.taken in
-          record {
-            past_first = s.past_first ++ m ∷ [];
-            past_second = s.past_second;
-            first_passes = passes_more a_left a_failed a_end old_first s.past_first first s.first_passes turn.item turn.peeked turn.ahead first_now turn.passes;
-            none_ahead = turn.passes.passes.none_ahead;
-            second_passes = s.second_passes;
-            stage = record stage { written = stage.written ++ turn.item ∷ [] };
-            stands = stands;
-            all_given = given_with turn.item turn.peeked turn.ahead true ∙ all_next turn.item turn.peeked turn.ahead;
-            all_taken = s.all_taken;
-            lines = s.lines ++ lines_for shape rule turn.item stage.taken;
-            settles = λ known. subst (λ (b : Bool). Settles order shape rule (stage.written ++ turn.item ∷ []) (s.lines ++ lines_for shape rule turn.item stage.taken) (stage.taken ++ option_to_list (record_ahead second)) b) (sym e)
-                (subst (λ (l : List Feature). Settles order shape rule (stage.written ++ turn.item ∷ []) (s.lines ++ lines_for shape rule turn.item stage.taken) l true) (sym seen)
-                (settles_end order shape rule stage.written s.lines stage.taken stage.b_ended turn.item (subst (λ (l : List Feature). Settles order shape rule stage.written s.lines l stage.b_ended) seen (s.settles known))));
-            is_open = inr (inl e);
-            first_all = λ e. never_ended e;
-            second_all = s.second_all;
-            puts = grown_puts out grown now s.lines (lines_for shape rule turn.item stage.taken) s.puts adds;
-            works = works_both out grown now s.works (grown_works grown now (lines_for shape rule turn.item stage.taken) adds);
-            block = adds.block s.block;
-            grows = grows_both out.took grown.took now.took s.grows adds.grows;
-            near_first = λ asked. elim asked [
-              | inl some ↦ absurd (false≢true (sym (ap is_some none_waits) ∙ some))
-              | inr ended ↦ never_ended ended
-            ];
-            near_second = s.near_second;
-          }
-      gave_by false e first_now swept now turn stands adds =
-          let m = next turn.item turn.peeked turn.ahead in
-          record {
-            past_first = s.past_first ++ m ∷ [];
-            past_second = s.past_second;
-            first_passes = passes_more a_left a_failed a_end old_first s.past_first first s.first_passes turn.item turn.peeked turn.ahead first_now turn.passes;
-            none_ahead = turn.passes.passes.none_ahead;
-            second_passes = s.second_passes;
-            stage = record stage { waiting = Some turn.item };
-            stands = stands;
-            all_given = all_next turn.item turn.peeked turn.ahead;
-            all_taken = s.all_taken;
-            lines = s.lines;
-            settles = s.settles;
-            is_open = elim s.is_open [
-              | inl some ↦ inl some
-              | inr rest ↦ elim rest [
-                | inl ended ↦ absurd (false≢true (sym e ∙ ended))
-                | inr was ↦ inr (inr (ap (λ (l : List Feature). decided order turn.item l) (subst (λ (w : Option Feature). IsOpenAt order w stage.taken) none_waits was)))
-              ]
-            ];
-            first_all = λ e. never_ended e;
-            second_all = λ ended. absurd (false≢true (sym e ∙ ended));
-            puts = subst (λ l. PutsLines out l now) (append-nil s.lines) (grown_puts out grown now s.lines [] s.puts adds);
-            works = works_both out grown now s.works (grown_works grown now [] adds);
-            block = adds.block s.block;
-            grows = grows_both out.took grown.took now.took s.grows adds.grows;
-            near_first = λ asked. (s.past_first, sym all_written, read_given a_left a_failed a_end old_first s.past_first first s.first_passes s.none_ahead turn.item turn.peeked first_now turn.ahead turn.passes);
-            near_second = s.near_second;
-          }
+      gave_by true e first_now swept now turn stands adds = record {
+        past_first = s.past_first ++ next turn.item turn.peeked turn.ahead ∷ [];
+        past_second = s.past_second;
+        stage = record stage { written = stage.written ++ turn.item ∷ [] };
+        stands = stands;
+        comes = turned.writes_first making pair out (stage_of stage) s.past_first s.past_second (view_of first) (view_of second) grown s.comes none_waits not_ended (next turn.item turn.peeked turn.ahead) (view_of turn.peeked) (view_of first_now)
+            (is_ahead a_left a_failed a_end first turn.peeked turn.item turn.ahead) turn.passes.passes (lines_for shape rule turn.item stage.taken) now (settles_here turn.item turn.peeked turn.ahead e) adds;
+        first_placed = placed_more a_left a_failed a_end old_first s.past_first first s.first_placed turn.item turn.peeked turn.ahead first_now turn.passes;
+        second_placed = s.second_placed;
+      }
+      gave_by false e first_now swept now turn stands adds = record {
+        past_first = s.past_first ++ next turn.item turn.peeked turn.ahead ∷ [];
+        past_second = s.past_second;
+        stage = record stage { waiting = Some turn.item };
+        stands = stands;
+        comes = turned.gives_first making pair out (stage_of stage) s.past_first s.past_second (view_of first) (view_of second) grown s.comes none_waits not_ended (next turn.item turn.peeked turn.ahead) (view_of turn.peeked) (view_of first_now)
+            (is_ahead a_left a_failed a_end first turn.peeked turn.item turn.ahead) turn.passes.passes e refl now adds;
+        first_placed = placed_more a_left a_failed a_end old_first s.past_first first s.first_placed turn.item turn.peeked turn.ahead first_now turn.passes;
+        second_placed = s.second_placed;
+      }
 
       -- a record of the first input was given
       pub goes_first : (first_now : Records A O g) (swept : Sweeping) (now : Output) → GivesFirst a_left a_failed a_end order first sweep grown first_now swept now → Going first_now second swept now
@@ -256,180 +184,158 @@ module _ {A B O : Type 0} {g : Ghosts O} (a_left : A → Option (List ℕ)) (a_f
           (record {
             past_first = s.past_first;
             past_second = s.past_second;
-            first_passes = passes_end a_left a_failed a_end old_first s.past_first first s.first_passes first_now turn.ended;
-            none_ahead = turn.ended.ends.none_ahead;
-            second_passes = s.second_passes;
             stage = with_a_ended stage;
             stands = turn.given shape rule stage s.stands;
-            all_given = s.all_given;
-            all_taken = s.all_taken;
-            lines = s.lines;
-            settles = s.settles;
-            is_open = s.is_open;
-            first_all = λ e. (passes_all a_left a_failed a_end old_first s.past_first first s.first_passes first_now turn.ended, none_waits, turn.ended.ends.told);
-            second_all = s.second_all;
-            puts = s.puts;
-            works = s.works;
-            block = s.block;
-            grows = s.grows;
-            near_first = λ asked. (
-              s.past_first,
-              sym all_written,
-              read_for a_left a_failed a_end old_first s.past_first first s.first_passes first_now
-                  (ended_at a_left a_failed a_end old_first s.past_first first s.first_passes s.none_ahead first_now turn.ended),
-            );
-            near_second = s.near_second;
+            comes = turned.ends_first making pair out (stage_of stage) s.past_first s.past_second (view_of first) (view_of second) grown s.comes none_waits not_ended (view_of first_now) (is_over a_left a_failed a_end first first_now turn.ended);
+            first_placed = placed_end a_left a_failed a_end old_first s.past_first first s.first_placed first_now turn.ended;
+            second_placed = s.second_placed;
           })
 
-    module _ (a : Feature) (waits : stage.waiting ≡ Some a) where
-      pub all_with : stage.written ++ a ∷ [] ≡ member_items s.past_first
-      all_with = ap (λ (o : Option Feature). stage.written ++ option_to_list o) (sym waits) ∙ s.all_given
+      -- the first input couldn't give a record
+      pub stops_first : (fault : Told) (first_now : Records A O g) (swept : Sweeping) (now : Output) → StopsTurn a_left a_failed a_end order first sweep grown fault first_now swept now → Ends (Some fault) first_now second now
+      stops_first fault first_now swept now turn =
+          subst (λ o. Ends (Some fault) first_now second o) (sym turn.same_output)
+          (stop.stops_first making pair out wrong wrong_second (stage_of stage) s.past_first s.past_second (view_of first) (view_of second) grown s.comes asked none_waits not_ended fault (view_of first_now)
+          (is_stopped a_left a_failed a_end first first_now fault turn.stopped))
 
-      pub with_waiting : given stage ≡ stage.written ++ a ∷ []
-      with_waiting = ap (λ (o : Option Feature). stage.written ++ option_to_list o) waits
+      fails_first_by : (b : Bool) → stage.b_ended ≡ b → (fault : Told) (first_now : Records A O g) (swept : Sweeping) (now : Output) (turn : FailsFirst a_left a_failed a_end order first sweep grown fault first_now swept now)
+          → Fails grown (cond b (lines_for shape rule turn.item stage.taken) []) fault now → Ends (Some fault) first_now second now
+      fails_first_by b e fault first_now swept now turn (inr ran) =
+          subst (λ o. Ends (Some fault) first_now second o) (sym ran.1)
+          (stop.lacks_first making pair out wrong wrong_second (stage_of stage) s.past_first s.past_second (view_of first) (view_of second) grown s.comes asked none_waits not_ended (next turn.item first_now turn.ahead) (view_of first_now)
+          (is_ahead a_left a_failed a_end first first_now turn.item turn.ahead) fault ran.0)
+      fails_first_by false e fault first_now swept now turn (inl adds) = absurd (adds.some refl)
+      fails_first_by true e fault first_now swept now turn (inl adds) =
+          stop.fails_first making pair out wrong wrong_second (stage_of stage) s.past_first s.past_second (view_of first) (view_of second) grown s.comes asked none_waits not_ended (next turn.item first_now turn.ahead) (view_of first_now)
+          (is_ahead a_left a_failed a_end first first_now turn.item turn.ahead) (lines_for shape rule turn.item stage.taken) (settles_here turn.item first_now turn.ahead e) fault now adds
 
-      pub is_known : IsTrue (order.knows a.chrom)
-      is_known = last_known order stage.written a (subst (λ (l : List Feature). ArePlaced order (intervals_of l)) (sym all_with) s.first_passes.placed)
+      -- its record wasn't taken, or not written
+      pub fails_first : (fault : Told) (first_now : Records A O g) (swept : Sweeping) (now : Output) → FailsFirst a_left a_failed a_end order first sweep grown fault first_now swept now → Ends (Some fault) first_now second now
+      fails_first fault first_now swept now turn =
+          fails_first_by stage.b_ended refl fault first_now swept now turn (turn.fails shape rule stage s.stands (ordered turn.item first_now turn.ahead))
 
-      some_none : {X : Type 0} → stage.waiting ≡ None → X
-      some_none e = absurd (let apart : Some a ≡ None = sym waits ∙ e in cc)
+    -- a record of the second input is asked for, while a waits
+    module _ (wants : want_in sweep ≡ WantB) where
+      pub waiting : (a : Feature) × (stage.waiting ≡ Some a)
+      waiting = some_by stage.waiting sweep.waits sweep.done s.stands.waits wants
 
-      pub second_goes : stage.b_ended ≡ false
-      second_goes = not_true stage.b_ended (λ e. some_none (s.second_all e).1)
+      abbrev a : Feature
+      a = waiting.0
 
-      pub first_waits : {X : Type 0} → stage.a_ended ≡ true → X
-      first_waits e = some_none (s.first_all e).1
+      goes : stage.b_ended ≡ false
+      goes = not_true stage.b_ended (λ e. turned.second_waits making pair out (stage_of stage) s.past_first s.past_second (view_of first) (view_of second) grown s.comes a waiting.1 e)
+
+      is_known : IsTrue (order.knows a.chrom)
+      is_known = last_known order stage.written a
+          (subst (λ (l : List Feature). ArePlaced order (intervals_of l)) (sym (turned.all_with making pair out (stage_of stage) s.past_first s.past_second (view_of first) (view_of second) grown s.comes a waiting.1)) s.first_placed.placed)
 
       module _ (r : Feature) (peeked : Records B O g) (ahead : HasAhead b_left b_failed b_end second r peeked) where
         abbrev next_second : Member Feature
-        next_second = record { line = ahead.gives.line; item = r }
+        next_second = member_ahead b_left b_failed b_end second peeked r ahead
 
-        pub taken_next : stage.taken ++ r ∷ [] ≡ member_items (s.past_second ++ next_second ∷ [])
-        taken_next = ap (λ l. l ++ r ∷ []) s.all_taken ∙ sym (items_next b_left b_failed b_end old_second s.past_second second s.second_passes r peeked ahead)
-
-        pub placed_with : ArePlaced order (intervals_of (stage.taken ++ r ∷ []))
-        placed_with = subst (λ (l : List Feature). ArePlaced order (intervals_of l)) (sym taken_next)
+        placed_with : ArePlaced order (intervals_of (stage.taken ++ r ∷ []))
+        placed_with = subst (λ (l : List Feature). ArePlaced order (intervals_of l))
+            (sym (turned.taken_next making pair out (stage_of stage) s.past_first s.past_second (view_of first) (view_of second) grown s.comes goes next_second (view_of peeked) (is_ahead b_left b_failed b_end second peeked r ahead)))
             (subst (λ (o : Order). ArePlaced o (intervals_of (member_items (s.past_second ++ next_second ∷ [])))) same_order
-            (placed_next b_left b_failed b_end old_second s.past_second second s.second_passes r peeked ahead))
+            (placed_next b_left b_failed b_end old_second s.past_second second s.second_placed r peeked ahead))
 
-        pub settles_peeked : IsSome (good_coming b_left (view_of old_second)) → Settles order shape rule stage.written s.lines (stage.taken ++ r ∷ []) false
-        settles_peeked known =
-            seen_by order shape rule b_left b_failed (view_of second) (view_of peeked) next_second (view_of second).ahead refl ahead.gives.read stage.written s.lines stage.taken
-            (subst (λ (b : Bool). Settles order shape rule stage.written s.lines (stage.taken ++ option_to_list (record_ahead second)) b) second_goes (s.settles known))
+        -- where it decides a, the lines of a stay
+        settles_decided : decides order a r ≡ true → IsKnown pair → Settles making (stage.written ++ a ∷ []) (s.comes.bytes ++ lines_for shape rule a stage.taken) (stage.taken ++ r ∷ []) false
+        settles_decided d known =
+            settles_with making stage.written s.comes.bytes (stage.taken ++ r ∷ []) false a (lines_for shape rule a stage.taken)
+            (turned.settles_peeked making pair out (stage_of stage) s.past_first s.past_second (view_of first) (view_of second) grown s.comes goes next_second (view_of peeked) (is_ahead b_left b_failed b_end second peeked r ahead) known)
+            (λ rest ordered.
+            let parts : (stage.taken ++ r ∷ []) ++ rest ≡ stage.taken ++ r ∷ rest = append_assoc stage.taken (r ∷ []) rest in (
+              ap (λ (l : List Feature). decided order a l) parts ∙ list_any-append (decides order a) stage.taken (r ∷ rest)
+                  ∙ or_right (decided order a stage.taken) (decided order a (r ∷ rest)) (or_left (decides order a r) (decided order a rest) d),
+              ap (lines_for shape rule a) parts
+                  ∙ before_lines order shape rule a r stage.taken total is_known d rest (subst (λ (l : List Feature). ArePlaced order (intervals_of l)) parts ordered),
+            ))
 
       -- a record of the second input was taken
       pub takes_second : (second_now : Records B O g) (swept : Sweeping) (now : Output) → TakesSecond b_left b_failed b_end order second sweep grown second_now swept now → Going first second_now swept now
       takes_second second_now swept now turn =
-          let takes = turn.given shape rule stage a s.stands waits placed_taken in
+          let takes = turn.given shape rule stage a s.stands waiting.1 placed_taken in
           let r = turn.item in
-          let none : option_to_list (record_ahead second_now) ≡ [] = ap (λ (o : Option (Member Feature)). option_to_list (option_map (λ m. m.item) o)) turn.passes.passes.none_ahead in
-          let seen : (stage.taken ++ r ∷ []) ++ option_to_list (record_ahead second_now) ≡ stage.taken ++ r ∷ [] = ap (λ l. (stage.taken ++ r ∷ []) ++ l) none ∙ append-nil (stage.taken ++ r ∷ []) in
           subst (λ o. Going first second_now swept o) (sym takes.same_output)
           (record {
             past_first = s.past_first;
             past_second = s.past_second ++ next_second r turn.peeked turn.ahead ∷ [];
-            first_passes = s.first_passes;
-            none_ahead = s.none_ahead;
-            second_passes = passes_more b_left b_failed b_end old_second s.past_second second s.second_passes r turn.peeked turn.ahead second_now turn.passes;
             stage = with_b stage r;
             stands = takes.stands;
-            all_given = s.all_given;
-            all_taken = taken_next r turn.peeked turn.ahead;
-            lines = s.lines;
-            settles = λ known. subst (λ (b : Bool). Settles order shape rule stage.written s.lines ((stage.taken ++ r ∷ []) ++ option_to_list (record_ahead second_now)) b) (sym second_goes)
-                (subst (λ (l : List Feature). Settles order shape rule stage.written s.lines l false) (sym seen) (settles_peeked r turn.peeked turn.ahead known));
-            is_open = inr (inr (subst (λ (w : Option Feature). IsOpenAt order w (stage.taken ++ r ∷ [])) (sym waits)
-                (none_before order a stage.taken r total is_known (placed_with r turn.peeked turn.ahead) takes.undecided)));
-            first_all = λ e. first_waits e;
-            second_all = λ e. absurd (false≢true (sym second_goes ∙ e));
-            puts = s.puts;
-            works = s.works;
-            block = s.block;
-            grows = s.grows;
-            near_first = s.near_first;
-            near_second = λ known. read_passed b_left b_failed b_end old_second s.past_second second s.second_passes r turn.peeked second_now turn.ahead turn.passes
-                (read_ahead b_left b_failed b_end old_second s.past_second second s.second_passes (s.near_second known) r turn.peeked turn.ahead);
+            comes = turned.takes_second making pair out (stage_of stage) s.past_first s.past_second (view_of first) (view_of second) grown s.comes goes (next_second r turn.peeked turn.ahead) (view_of turn.peeked)
+                (is_ahead b_left b_failed b_end second turn.peeked r turn.ahead) (view_of second_now) turn.passes.passes
+                (λ going. subst (λ (w : Option Feature). IsOpenAt making w (stage.taken ++ r ∷ [])) (sym waiting.1)
+                (none_before order a stage.taken r total is_known (placed_with r turn.peeked turn.ahead) takes.undecided));
+            first_placed = s.first_placed;
+            second_placed = placed_more b_left b_failed b_end old_second s.past_second second s.second_placed r turn.peeked turn.ahead second_now turn.passes;
           })
 
       -- it made the lines of a be written
       pub leaves_second : (second_now : Records B O g) (swept : Sweeping) (now : Output) → LeavesSecond b_left b_failed b_end order second sweep grown second_now swept now → Going first second_now swept now
       leaves_second second_now swept now turn =
-          let writes = turn.given shape rule stage a s.stands waits placed_taken in
-          let r = turn.item in
-          let more = lines_for shape rule a stage.taken in
-          let seen : stage.taken ++ r ∷ [] ≡ stage.taken ++ option_to_list (record_ahead second_now) =
-          ap (λ (o : Option (Member Feature)). stage.taken ++ option_to_list (option_map (λ m. m.item) o)) (sym turn.ahead.gives.read.ahead) in
+          let writes = turn.given shape rule stage a s.stands waiting.1 placed_taken in
           record {
             past_first = s.past_first;
             past_second = s.past_second;
-            first_passes = s.first_passes;
-            none_ahead = s.none_ahead;
-            second_passes = passes_peek b_left b_failed b_end old_second s.past_second second s.second_passes r second_now turn.ahead;
             stage = with_lines stage;
             stands = writes.stands;
-            all_given = append-nil (given stage) ∙ s.all_given;
-            all_taken = s.all_taken;
-            lines = s.lines ++ more;
-            settles = λ known. subst (λ (b : Bool). Settles order shape rule (given stage) (s.lines ++ more) (stage.taken ++ option_to_list (record_ahead second_now)) b) (sym second_goes)
-                (subst (λ (l : List Feature). Settles order shape rule (given stage) (s.lines ++ more) l false) seen
-                (subst (λ (w : List Feature). Settles order shape rule w (s.lines ++ more) (stage.taken ++ r ∷ []) false) (sym with_waiting)
-                (settles_with order shape rule stage.written s.lines stage.taken a r (settles_peeked r second_now turn.ahead known) writes.decides writes.settled)));
-            is_open = inl (ap is_some turn.ahead.gives.read.ahead);
-            first_all = λ e. first_waits e;
-            second_all = λ e. absurd (false≢true (sym second_goes ∙ e));
-            puts = grown_puts out grown now s.lines more s.puts writes.puts;
-            works = works_both out grown now s.works (grown_works grown now more writes.puts);
-            block = writes.puts.block s.block;
-            grows = grows_both out.took grown.took now.took s.grows writes.puts.grows;
-            near_first = λ asked. elim asked [
-              | inl some ↦ absurd (false≢true some)
-              | inr ended ↦ first_waits ended
-            ];
-            near_second = λ known. read_ahead b_left b_failed b_end old_second s.past_second second s.second_passes (s.near_second known) r second_now turn.ahead;
+            comes = turned.leaves_second making pair out (stage_of stage) s.past_first s.past_second (view_of first) (view_of second) grown s.comes goes (next_second turn.item second_now turn.ahead) (view_of second_now)
+                (is_ahead b_left b_failed b_end second second_now turn.item turn.ahead) a waiting.1 (lines_for shape rule a stage.taken) now (settles_decided turn.item second_now turn.ahead writes.decides) writes.puts;
+            first_placed = s.first_placed;
+            second_placed = placed_peek b_left b_failed b_end old_second s.past_second second s.second_placed turn.item second_now turn.ahead;
           }
-
-      -- where the second input has ended, nothing of it is ahead
-      pub settles_ended : (second_now : Records B O g) → HasEnded b_left b_failed b_end second second_now → IsSome (good_coming b_left (view_of old_second)) → Settles order shape rule stage.written s.lines stage.taken false
-      settles_ended second_now ended known =
-          let none : (view_of second).ahead ≡ None = no_ahead_at_end b_left b_failed b_end old_second s.past_second second s.second_passes second_now ended known in
-          let seen : stage.taken ++ option_to_list (record_ahead second) ≡ stage.taken =
-          ap (λ (o : Option (Member Feature)). stage.taken ++ option_to_list (option_map (λ m. m.item) o)) none ∙ append-nil stage.taken in
-          subst (λ (l : List Feature). Settles order shape rule stage.written s.lines l false) seen
-          (subst (λ (b : Bool). Settles order shape rule stage.written s.lines (stage.taken ++ option_to_list (record_ahead second)) b) second_goes (s.settles known))
 
       -- its end made them be written
       pub ends_second : (second_now : Records B O g) (swept : Sweeping) (now : Output) → EndsSecond b_left b_failed b_end order second sweep grown second_now swept now → Going first second_now swept now
       ends_second second_now swept now turn =
-          let ends = turn.given shape rule stage a s.stands waits placed_taken in
-          let more = lines_for shape rule a stage.taken in
-          let seen : stage.taken ++ option_to_list (record_ahead second_now) ≡ stage.taken =
-          ap (λ (o : Option (Member Feature)). stage.taken ++ option_to_list (option_map (λ m. m.item) o)) turn.ended.ends.none_ahead ∙ append-nil stage.taken in
+          let ends = turn.given shape rule stage a s.stands waiting.1 placed_taken in
           record {
             past_first = s.past_first;
             past_second = s.past_second;
-            first_passes = s.first_passes;
-            none_ahead = s.none_ahead;
-            second_passes = passes_end b_left b_failed b_end old_second s.past_second second s.second_passes second_now turn.ended;
             stage = with_b_ended stage;
             stands = ends.0;
-            all_given = append-nil (given stage) ∙ s.all_given;
-            all_taken = s.all_taken;
-            lines = s.lines ++ more;
-            settles = λ known. subst (λ (l : List Feature). Settles order shape rule (given stage) (s.lines ++ more) l true) (sym seen)
-                (subst (λ (w : List Feature). Settles order shape rule w (s.lines ++ more) stage.taken true) (sym with_waiting)
-                (settles_end order shape rule stage.written s.lines stage.taken false a (settles_ended second_now turn.ended known)));
-            is_open = inr (inl refl);
-            first_all = λ e. first_waits e;
-            second_all = λ e. (passes_all b_left b_failed b_end old_second s.past_second second s.second_passes second_now turn.ended, refl, turn.ended.ends.none_ahead, turn.ended.ends.told);
-            puts = grown_puts out grown now s.lines more s.puts ends.1;
-            works = works_both out grown now s.works (grown_works grown now more ends.1);
-            block = ends.1.block s.block;
-            grows = grows_both out.took grown.took now.took s.grows ends.1.grows;
-            near_first = λ asked. elim asked [
-              | inl some ↦ absurd (false≢true some)
-              | inr ended ↦ first_waits ended
-            ];
-            near_second = λ known. read_at b_left b_failed b_end old_second s.past_second second s.second_passes second_now
-                (ended_at b_left b_failed b_end old_second s.past_second second s.second_passes
-                (no_ahead_at_end b_left b_failed b_end old_second s.past_second second s.second_passes second_now turn.ended known) second_now turn.ended);
+            comes = turned.ends_waiting making pair out (stage_of stage) s.past_first s.past_second (view_of first) (view_of second) grown s.comes goes (view_of second_now) (is_over b_left b_failed b_end second second_now turn.ended) a waiting.1 now ends.1;
+            first_placed = s.first_placed;
+            second_placed = placed_end b_left b_failed b_end old_second s.past_second second s.second_placed second_now turn.ended;
           }
+
+      -- the second input couldn't give a record
+      pub stops_second : (fault : Told) (second_now : Records B O g) (swept : Sweeping) (now : Output) → StopsTurn b_left b_failed b_end order second sweep grown fault second_now swept now → Ends (Some fault) first second_now now
+      stops_second fault second_now swept now turn =
+          subst (λ o. Ends (Some fault) first second_now o) (sym turn.same_output)
+          (stop.stops_second making pair out wrong wrong_second (stage_of stage) s.past_first s.past_second (view_of first) (view_of second) grown s.comes asked goes a waiting.1 fault (view_of second_now)
+          (is_stopped b_left b_failed b_end second second_now fault turn.stopped))
+
+      -- its record wasn't held, or the lines of a weren't written
+      pub fails_second : (fault : Told) (second_now : Records B O g) (swept : Sweeping) (now : Output) → FailsSecond b_left b_failed b_end order second sweep grown fault second_now swept now → Ends (Some fault) first second_now now
+      fails_second fault second_now swept now turn =
+          elim (turn.fails shape rule stage a s.stands waiting.1 placed_taken) [
+            | inl writes ↦ stop.fails_waiting making pair out wrong wrong_second (stage_of stage) s.past_first s.past_second (view_of first) (view_of second) grown s.comes asked goes a waiting.1 (next_second turn.item second_now turn.ahead) (view_of second_now)
+                (is_ahead b_left b_failed b_end second second_now turn.item turn.ahead) (lines_for shape rule a stage.taken) (settles_decided turn.item second_now turn.ahead writes.decides) fault now writes.fails
+            | inr holds ↦ subst (λ o. Ends (Some fault) first second_now o) (sym holds.same_output)
+                (stop.lacks_second making pair out wrong wrong_second (stage_of stage) s.past_first s.past_second (view_of first) (view_of second) grown s.comes asked goes a waiting.1 (next_second turn.item second_now turn.ahead) (view_of second_now)
+                (is_ahead b_left b_failed b_end second second_now turn.item turn.ahead) fault holds.is)
+          ]
+
+      -- at its end the lines of a weren't written
+      pub fails_at_end : (fault : Told) (second_now : Records B O g) (swept : Sweeping) (now : Output) → FailsAtEnd b_left b_failed b_end order second sweep grown fault second_now swept now → Ends (Some fault) first second_now now
+      fails_at_end fault second_now swept now turn =
+          stop.fails_at_end making pair out wrong wrong_second (stage_of stage) s.past_first s.past_second (view_of first) (view_of second) grown s.comes asked goes a waiting.1 fault (view_of second_now) now
+          (is_over b_left b_failed b_end second second_now turn.ended) (turn.fails shape rule stage a s.stands waiting.1 placed_taken)
+
+    -- the first input has ended, and the second was read to its end
+    module _ (wants : want_in sweep ≡ Nothing) where
+      done : stage.a_ended ≡ true
+      done = sym s.stands.done ∙ done_by sweep.waits sweep.done wants
+
+      pub finishes_both : {T : Type 0} (result : Result T Fault) (second_now : Records B O g) → ReadsOn b_left b_failed b_end (view_of second) result (view_of second_now)
+          → FinishesBoth a_left a_failed a_end b_left b_failed b_end order shape rule old_first old_second out result first second_now grown
+      finishes_both (Ok _) second_now reads =
+          let checks = reads (view_of old_second) s.past_second is_bed_kind s.comes.second_passes wrong_second in
+          stop.ends_rest making pair out wrong wrong_second (stage_of stage) s.past_first s.past_second (view_of first) (view_of second) grown s.comes asked done (view_of second_now) checks.rises checks.passes.bytes (s.past_second ++ checks.more) None
+          (inl (refl, checks.all, record { served = checks.passes.served; within = checks.passes.sound.within checks.passes.clear }, refl))
+      finishes_both (Err fault) second_now reads =
+          let checks = reads (view_of old_second) s.past_second is_bed_kind s.comes.second_passes wrong_second in
+          stop.stops_rest making pair out wrong wrong_second (stage_of stage) s.past_first s.past_second (view_of first) (view_of second) grown s.comes asked done (view_of second_now) checks.rises (s.past_second ++ checks.more) (told fault) checks.stops
+          (λ e. checks.before_end (s.comes.second_all e).3) refl

@@ -24,8 +24,10 @@ pub mod Writing
 pub mod Both
 pub mod Masked
 pub mod Turns
-pub mod Passing
 pub mod Passed
+pub mod Pair
+pub mod PairEnds
+pub mod PairComes
 pub mod Swept
 pub mod MaskTurns
 pub mod Masks

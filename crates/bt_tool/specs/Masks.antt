@@ -30,7 +30,7 @@ use Rattle.bt_seq.specs.declared.mask_how.MaskHow.{MaskHow}
 use Rattle.bt_tool.specs.Feeding.{CutsLines, PutsFront, PutsLines, TookButBlock, member_items}
 use Rattle.bt_tool.specs.Masked.{is_fasta_kind, is_mask_kind}
 use Rattle.bt_tool.specs.Passed.{AreAll, IsReadFor, IsReadTo, IsUnreadBehind, IsWrongBehind, Passes}
-use Rattle.bt_tool.specs.Swept.{MayCome}
+use Rattle.bt_tool.specs.Pair.{MayCome}
 
 -- a reader of lines as one of the lines of sequences, where those that were given have come so far
 abbrev pub line_members : {S : Type 0} → Bool → Reached → LineReader S

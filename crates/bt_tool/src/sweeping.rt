@@ -90,7 +90,7 @@ fn sweep_all<A: Source, B: Source, O: ChromOrder, H: Held, K: Sink>(
 
 // Reads an input to its end, so that a fault behind the last record that was asked for is reported.
 fn check_rest<B: Source, O: ChromOrder>(second: &mut Records<'_, B, O>) -> Result<(), Fault>
-    ensures { ReadsOn B.left B.has_failed B.end_told second.old result second.new }
+    ensures { ReadsOn B.left B.has_failed B.end_told (view_of second.old) result (view_of second.new) }
 {
     while let Some(_record) = second.peek()? {
         second.advance();

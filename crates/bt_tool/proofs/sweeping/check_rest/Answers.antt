@@ -1,29 +1,34 @@
 use Rattle.bt_lines.specs.Names.{told}
 use Rattle.bt_bed.specs.Bed.{feature_lent}
+use Rattle.bt_bed.specs.Records.{view_of}
 use Rattle.bt_bed.proofs.ResultLemmas.{passed_on}
 use Rattle.bt_tool.specs.Swept.{ReadsOn}
+use Rattle.bt_tool.specs.Turns.{HasAhead}
+use Rattle.bt_tool.proofs.PassedLemmas.{is_ahead, is_over, is_stopped, member_ahead}
 use Rattle.bt_tool.proofs.RestLemmas.{reads_start, reads_more, reads_end, reads_stop}
 use Rattle.bt_tool.proofs.sweeping.check_rest.Goals as goal
 
 pub loop-record-init : goal.loop-record-init
-loop-record-init g c = reads_start g.B.Source.left g.B.Source.has_failed g.B.Source.end_told c.args.second.now
+loop-record-init g c = reads_start g.B.Source.left g.B.Source.has_failed g.B.Source.end_told (view_of c.args.second.now)
 
 pub returns-in_err-_record : goal.returns-in_err-_record
 returns-in_err-_record g c =
     let peek = rw c.in_err-_record.was at c.peek.follows.holds-at-none in
-    passed_on (λ r. ReadsOn g.B.Source.left g.B.Source.has_failed g.B.Source.end_told c.args.second.now r c.peek.follows.lender-at-none) c.from_residual.result c.in_err-_record.field-0.0
+    passed_on (λ r. ReadsOn g.B.Source.left g.B.Source.has_failed g.B.Source.end_told (view_of c.args.second.now) r (view_of c.peek.follows.lender-at-none)) c.from_residual.result c.in_err-_record.field-0.0
     c.from_residual.ensures.1
-    (reads_stop g.B.Source.left g.B.Source.has_failed g.B.Source.end_told c.args.second.now c.loop-record.second c.loop-record.invariant c.peek.follows.lender-at-none (told c.in_err-_record.field-0.0)
-    (record { answers = peek.answers; sound = peek.sound; order = peek.order }))
+    (reads_stop g.B.Source.left g.B.Source.has_failed g.B.Source.end_told (view_of c.args.second.now) (view_of c.loop-record.second) c.loop-record.invariant (view_of c.peek.follows.lender-at-none) (told c.in_err-_record.field-0.0)
+    (is_stopped g.B.Source.left g.B.Source.has_failed g.B.Source.end_told c.loop-record.second c.peek.follows.lender-at-none (told c.in_err-_record.field-0.0) (record { answers = peek.answers; sound = peek.sound; order = peek.order })))
 
 pub loop-record-preserved : goal.loop-record-preserved
 loop-record-preserved g c =
     let peek = rw (c.in_ok-_record.was, c.in-Some.is) at c.peek.follows.holds-at-none in
-    reads_more g.B.Source.left g.B.Source.has_failed g.B.Source.end_told c.args.second.now c.loop-record.second c.loop-record.invariant (feature_lent c.in-Some._record) c.peek.follows.lender-at-none c.advance.new.self
-    (record { gives = peek.answers; sound = peek.sound; order = peek.order }) c.advance.ensures
+    let ahead : HasAhead g.B.Source.left g.B.Source.has_failed g.B.Source.end_told c.loop-record.second (feature_lent c.in-Some._record) c.peek.follows.lender-at-none = record { gives = peek.answers; sound = peek.sound; order = peek.order } in
+    reads_more g.B.Source.left g.B.Source.has_failed g.B.Source.end_told (view_of c.args.second.now) (view_of c.loop-record.second) c.loop-record.invariant
+    (member_ahead g.B.Source.left g.B.Source.has_failed g.B.Source.end_told c.loop-record.second c.peek.follows.lender-at-none (feature_lent c.in-Some._record) ahead) (view_of c.peek.follows.lender-at-none) (view_of c.advance.new.self)
+    (is_ahead g.B.Source.left g.B.Source.has_failed g.B.Source.end_told c.loop-record.second c.peek.follows.lender-at-none (feature_lent c.in-Some._record) ahead) c.advance.ensures.passes
 
 pub returns : goal.returns
 returns g c =
     let peek = rw (c.in_ok-_record.was, c.in_default.is) at c.peek.follows.holds-at-none in
-    reads_end g.B.Source.left g.B.Source.has_failed g.B.Source.end_told c.args.second.now c.loop-record.second c.loop-record.invariant c.peek.follows.lender-at-none
-    (record { ends = peek.answers; sound = peek.sound; order = peek.order })
+    λ old past kinds p wrong. reads_end g.B.Source.left g.B.Source.has_failed g.B.Source.end_told (view_of c.args.second.now) (view_of c.loop-record.second) c.loop-record.invariant (view_of c.peek.follows.lender-at-none)
+    (is_over g.B.Source.left g.B.Source.has_failed g.B.Source.end_told c.loop-record.second c.peek.follows.lender-at-none (record { ends = peek.answers; sound = peek.sound; order = peek.order })) old past p

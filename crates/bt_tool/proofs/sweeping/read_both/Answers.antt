@@ -1,5 +1,5 @@
 use Rattle.bt_sweep.specs.Sweep.{state_of}
-use Rattle.bt_tool.proofs.SweepStops.{finishes_both}
+use Rattle.bt_tool.proofs.SweptLemmas.{finishes_both}
 use Rattle.bt_tool.proofs.sweeping.read_both.Goals as goal
 
 pub returns : goal.returns

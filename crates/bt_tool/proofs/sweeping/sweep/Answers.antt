@@ -2,17 +2,21 @@ use Rattle.std.proofs.Common.{sym, ◌∙◌, subst, ap, None, Some}
 use Rattle.bt_lines.specs.Names.{told}
 use Rattle.bt_lines.specs.Reader.{source_of}
 use Rattle.bt_lines.specs.declared.fault.Input.TheVariants.{First, Second}
+use Rattle.bt_bed.specs.GoodBed.{bed_format}
 use Rattle.bt_bed.specs.Order.{Order}
-use Rattle.bt_bed.specs.Records.{order_in}
+use Rattle.bt_bed.specs.Records.{order_in, view_of}
+use Rattle.bt_bed.specs.Sorting.{sorting_of}
+use Rattle.bt_bed.proofs.GoodBedLemmas.{placed_good}
 use Rattle.bt_sweep.specs.Standing.{StandsAt, first_stage}
 use Rattle.bt_sweep.specs.Sweep.{state_of}
 use Rattle.bt_sweep.specs.declared.hit_rule.HitRule.{HitRule}
 use Rattle.bt_sweep.specs.declared.shape.Shape.{Shape}
-use Rattle.bt_tool.specs.Swept.{Finishes}
-use Rattle.bt_tool.proofs.CameLemmas.{begins_by}
-use Rattle.bt_tool.proofs.MetLemmas.{writes_both}
-use Rattle.bt_tool.proofs.NearLemmas.{near_both}
-use Rattle.bt_tool.proofs.StartLemmas.{sweeps_start}
+use Rattle.bt_tool.specs.Both.{intersect_reaches, intersect_settles}
+use Rattle.bt_tool.specs.Swept.{SweepEnds, records_pair, sweep_making}
+use Rattle.bt_tool.proofs.PairMet.{writes_both}
+use Rattle.bt_tool.proofs.PairNear.{near_both}
+use Rattle.bt_tool.proofs.StartLemmas.{begins_by, sweeps_start}
+use Rattle.bt_tool.proofs.SweepFacts.{sweep_needs}
 use Rattle.bt_tool.proofs.DrivingLemmas.{fresh_start, sorted_start}
 use Rattle.bt_tool.proofs.sweeping.sweep.Goals as goal
 
@@ -44,21 +48,21 @@ returns-in-Ok g c =
     let reader_2 = c.new-2.ensures in
     let records_2 = c.new-seconds.ensures in
     let order = g.O.ChromOrder.order c.args.order.now in
-    let ends = subst (λ (r : HitRule). Finishes g.A.Source.left g.A.Source.has_failed g.A.Source.end_told g.B.Source.left g.B.Source.has_failed g.B.Source.end_told order c.args.shape r c.new-firsts.result c.new-seconds.result c.args.out.now None c.read_both-swept.new.first c.read_both-swept.new.second c.read_both-swept.new.out) c.new-sweep.ensures.stands.rule_is
-    (subst (λ (s : Shape). Finishes g.A.Source.left g.A.Source.has_failed g.A.Source.end_told g.B.Source.left g.B.Source.has_failed g.B.Source.end_told order s (state_of c.new-sweep.result).rule c.new-firsts.result c.new-seconds.result c.args.out.now None c.read_both-swept.new.first c.read_both-swept.new.second c.read_both-swept.new.out) c.new-sweep.ensures.stands.shape_is
-    (subst (λ (o : Order). Finishes g.A.Source.left g.A.Source.has_failed g.A.Source.end_told g.B.Source.left g.B.Source.has_failed g.B.Source.end_told o (state_of c.new-sweep.result).shape (state_of c.new-sweep.result).rule c.new-firsts.result c.new-seconds.result c.args.out.now None c.read_both-swept.new.first c.read_both-swept.new.second c.read_both-swept.new.out) records.order c.in-Ok.ensures)) in
-    writes_both g.A.Source.left g.A.Source.has_failed g.A.Source.end_told g.B.Source.left g.B.Source.has_failed g.B.Source.end_told order c.args.shape c.args.rule c.requires.total c.new-firsts.result c.new-seconds.result c.args.out.now c.args.first c.args.second
-    (begins_by g.A.Source.left order First c.args.first c.new.result c.new-firsts.result records.below reader.source reader.input reader.none_taken.0 reader.none_fed reader.going.0 reader.lines records.good)
-    (begins_by g.B.Source.left order Second c.args.second c.new-2.result c.new-seconds.result records_2.below reader_2.source reader_2.input reader_2.none_taken.0 reader_2.none_fed reader_2.going.0 reader_2.lines records_2.good)
-    c.read_both-swept.new.first c.read_both-swept.new.second c.into_source-first.result c.into_source-second.result
-    (sym (c.into_source-first.ensures ∙ ap source_of c.into_reader.ensures)) (sym (c.into_source-second.ensures ∙ ap source_of c.into_reader-2.ensures))
-    None c.read_both-swept.new.out ends
-    (near_both g.A.Source.left g.A.Source.has_failed g.A.Source.end_told g.B.Source.left g.B.Source.has_failed g.B.Source.end_told order c.args.shape c.args.rule c.requires.total c.new-firsts.result c.new-seconds.result c.args.out.now c.args.first c.args.second
-    (begins_by g.A.Source.left order First c.args.first c.new.result c.new-firsts.result records.below reader.source reader.input reader.none_taken.0 reader.none_fed reader.going.0 reader.lines records.good)
-    (begins_by g.B.Source.left order Second c.args.second c.new-2.result c.new-seconds.result records_2.below reader_2.source reader_2.input reader_2.none_taken.0 reader_2.none_fed reader_2.going.0 reader_2.lines records_2.good)
-    c.read_both-swept.new.first c.read_both-swept.new.second c.into_source-first.result c.into_source-second.result
-    (sym (c.into_source-first.ensures ∙ ap source_of c.into_reader.ensures)) (sym (c.into_source-second.ensures ∙ ap source_of c.into_reader-2.ensures))
-    c.read_both-swept.new.out ends.near)
+    let ends = subst (λ (r : HitRule). SweepEnds g.A.Source.left g.A.Source.has_failed g.A.Source.end_told g.B.Source.left g.B.Source.has_failed g.B.Source.end_told order c.args.shape r c.new-firsts.result c.new-seconds.result c.args.out.now None c.read_both-swept.new.first c.read_both-swept.new.second c.read_both-swept.new.out) c.new-sweep.ensures.stands.rule_is
+    (subst (λ (s : Shape). SweepEnds g.A.Source.left g.A.Source.has_failed g.A.Source.end_told g.B.Source.left g.B.Source.has_failed g.B.Source.end_told order s (state_of c.new-sweep.result).rule c.new-firsts.result c.new-seconds.result c.args.out.now None c.read_both-swept.new.first c.read_both-swept.new.second c.read_both-swept.new.out) c.new-sweep.ensures.stands.shape_is
+    (subst (λ (o : Order). SweepEnds g.A.Source.left g.A.Source.has_failed g.A.Source.end_told g.B.Source.left g.B.Source.has_failed g.B.Source.end_told o (state_of c.new-sweep.result).shape (state_of c.new-sweep.result).rule c.new-firsts.result c.new-seconds.result c.args.out.now None c.read_both-swept.new.first c.read_both-swept.new.second c.read_both-swept.new.out) records.order c.in-Ok.ensures)) in
+    let making = sweep_making order c.args.shape c.args.rule in
+    let pair = records_pair g.A.Source.left g.A.Source.has_failed g.A.Source.end_told g.B.Source.left g.B.Source.has_failed g.B.Source.end_told c.new-firsts.result c.new-seconds.result in
+    let format = bed_format (sorting_of order) in
+    let begins = begins_by g.A.Source.left order First c.args.first c.new.result c.new-firsts.result records.below reader.source reader.input reader.none_taken.0 reader.none_fed reader.going.0 reader.lines records.good in
+    let begins_second = begins_by g.B.Source.left order Second c.args.second c.new-2.result c.new-seconds.result records_2.below reader_2.source reader_2.input reader_2.none_taken.0 reader_2.none_fed reader_2.going.0 reader_2.lines records_2.good in
+    let ended = sym (c.into_source-first.ensures ∙ ap source_of c.into_reader.ensures) in
+    let ended_second = sym (c.into_source-second.ensures ∙ ap source_of c.into_reader-2.ensures) in
+    writes_both making pair c.args.out.now format format (λ two. placed_good Second order two c.requires.total) c.args.first c.args.second begins begins_second
+    (view_of c.read_both-swept.new.first) (view_of c.read_both-swept.new.second) c.into_source-first.result c.into_source-second.result ended ended_second None c.read_both-swept.new.out ends
+    (intersect_settles order c.args.shape c.args.rule) (intersect_reaches order)
+    (near_both making pair c.args.out.now format format (λ two. placed_good Second order two c.requires.total) (sweep_needs order c.args.shape c.args.rule) c.args.first c.args.second begins begins_second
+    (view_of c.read_both-swept.new.first) (view_of c.read_both-swept.new.second) c.into_source-first.result c.into_source-second.result ended ended_second c.read_both-swept.new.out ends.near)
 
 pub returns : goal.returns
 returns g c =
@@ -68,18 +72,18 @@ returns g c =
     let records_2 = c.new-seconds.ensures in
     let order = g.O.ChromOrder.order c.args.order.now in
     let fault = Some (told c.in-Err.fault) in
-    let ends = subst (λ (r : HitRule). Finishes g.A.Source.left g.A.Source.has_failed g.A.Source.end_told g.B.Source.left g.B.Source.has_failed g.B.Source.end_told order c.args.shape r c.new-firsts.result c.new-seconds.result c.args.out.now fault c.read_both-swept.new.first c.read_both-swept.new.second c.read_both-swept.new.out) c.new-sweep.ensures.stands.rule_is
-    (subst (λ (s : Shape). Finishes g.A.Source.left g.A.Source.has_failed g.A.Source.end_told g.B.Source.left g.B.Source.has_failed g.B.Source.end_told order s (state_of c.new-sweep.result).rule c.new-firsts.result c.new-seconds.result c.args.out.now fault c.read_both-swept.new.first c.read_both-swept.new.second c.read_both-swept.new.out) c.new-sweep.ensures.stands.shape_is
-    (subst (λ (o : Order). Finishes g.A.Source.left g.A.Source.has_failed g.A.Source.end_told g.B.Source.left g.B.Source.has_failed g.B.Source.end_told o (state_of c.new-sweep.result).shape (state_of c.new-sweep.result).rule c.new-firsts.result c.new-seconds.result c.args.out.now fault c.read_both-swept.new.first c.read_both-swept.new.second c.read_both-swept.new.out) records.order c.in-Err.ensures)) in
-    writes_both g.A.Source.left g.A.Source.has_failed g.A.Source.end_told g.B.Source.left g.B.Source.has_failed g.B.Source.end_told order c.args.shape c.args.rule c.requires.total c.new-firsts.result c.new-seconds.result c.args.out.now c.args.first c.args.second
-    (begins_by g.A.Source.left order First c.args.first c.new.result c.new-firsts.result records.below reader.source reader.input reader.none_taken.0 reader.none_fed reader.going.0 reader.lines records.good)
-    (begins_by g.B.Source.left order Second c.args.second c.new-2.result c.new-seconds.result records_2.below reader_2.source reader_2.input reader_2.none_taken.0 reader_2.none_fed reader_2.going.0 reader_2.lines records_2.good)
-    c.read_both-swept.new.first c.read_both-swept.new.second c.into_source-first.result c.into_source-second.result
-    (sym (c.into_source-first.ensures ∙ ap source_of c.into_reader.ensures)) (sym (c.into_source-second.ensures ∙ ap source_of c.into_reader-2.ensures))
-    fault c.read_both-swept.new.out ends
-    (near_both g.A.Source.left g.A.Source.has_failed g.A.Source.end_told g.B.Source.left g.B.Source.has_failed g.B.Source.end_told order c.args.shape c.args.rule c.requires.total c.new-firsts.result c.new-seconds.result c.args.out.now c.args.first c.args.second
-    (begins_by g.A.Source.left order First c.args.first c.new.result c.new-firsts.result records.below reader.source reader.input reader.none_taken.0 reader.none_fed reader.going.0 reader.lines records.good)
-    (begins_by g.B.Source.left order Second c.args.second c.new-2.result c.new-seconds.result records_2.below reader_2.source reader_2.input reader_2.none_taken.0 reader_2.none_fed reader_2.going.0 reader_2.lines records_2.good)
-    c.read_both-swept.new.first c.read_both-swept.new.second c.into_source-first.result c.into_source-second.result
-    (sym (c.into_source-first.ensures ∙ ap source_of c.into_reader.ensures)) (sym (c.into_source-second.ensures ∙ ap source_of c.into_reader-2.ensures))
-    c.read_both-swept.new.out ends.near)
+    let ends = subst (λ (r : HitRule). SweepEnds g.A.Source.left g.A.Source.has_failed g.A.Source.end_told g.B.Source.left g.B.Source.has_failed g.B.Source.end_told order c.args.shape r c.new-firsts.result c.new-seconds.result c.args.out.now fault c.read_both-swept.new.first c.read_both-swept.new.second c.read_both-swept.new.out) c.new-sweep.ensures.stands.rule_is
+    (subst (λ (s : Shape). SweepEnds g.A.Source.left g.A.Source.has_failed g.A.Source.end_told g.B.Source.left g.B.Source.has_failed g.B.Source.end_told order s (state_of c.new-sweep.result).rule c.new-firsts.result c.new-seconds.result c.args.out.now fault c.read_both-swept.new.first c.read_both-swept.new.second c.read_both-swept.new.out) c.new-sweep.ensures.stands.shape_is
+    (subst (λ (o : Order). SweepEnds g.A.Source.left g.A.Source.has_failed g.A.Source.end_told g.B.Source.left g.B.Source.has_failed g.B.Source.end_told o (state_of c.new-sweep.result).shape (state_of c.new-sweep.result).rule c.new-firsts.result c.new-seconds.result c.args.out.now fault c.read_both-swept.new.first c.read_both-swept.new.second c.read_both-swept.new.out) records.order c.in-Err.ensures)) in
+    let making = sweep_making order c.args.shape c.args.rule in
+    let pair = records_pair g.A.Source.left g.A.Source.has_failed g.A.Source.end_told g.B.Source.left g.B.Source.has_failed g.B.Source.end_told c.new-firsts.result c.new-seconds.result in
+    let format = bed_format (sorting_of order) in
+    let begins = begins_by g.A.Source.left order First c.args.first c.new.result c.new-firsts.result records.below reader.source reader.input reader.none_taken.0 reader.none_fed reader.going.0 reader.lines records.good in
+    let begins_second = begins_by g.B.Source.left order Second c.args.second c.new-2.result c.new-seconds.result records_2.below reader_2.source reader_2.input reader_2.none_taken.0 reader_2.none_fed reader_2.going.0 reader_2.lines records_2.good in
+    let ended = sym (c.into_source-first.ensures ∙ ap source_of c.into_reader.ensures) in
+    let ended_second = sym (c.into_source-second.ensures ∙ ap source_of c.into_reader-2.ensures) in
+    writes_both making pair c.args.out.now format format (λ two. placed_good Second order two c.requires.total) c.args.first c.args.second begins begins_second
+    (view_of c.read_both-swept.new.first) (view_of c.read_both-swept.new.second) c.into_source-first.result c.into_source-second.result ended ended_second fault c.read_both-swept.new.out ends
+    (intersect_settles order c.args.shape c.args.rule) (intersect_reaches order)
+    (near_both making pair c.args.out.now format format (λ two. placed_good Second order two c.requires.total) (sweep_needs order c.args.shape c.args.rule) c.args.first c.args.second begins begins_second
+    (view_of c.read_both-swept.new.first) (view_of c.read_both-swept.new.second) c.into_source-first.result c.into_source-second.result ended ended_second c.read_both-swept.new.out ends.near)

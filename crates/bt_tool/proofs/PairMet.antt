@@ -1,0 +1,382 @@
+-- Lemmas from how a run over two readers of members ends to the report on how the inputs meet.
+use Rattle.std.proofs.Common.{◌≡◌, ℕ, suc, ◌+◌, ◌≤◌, ◌<◌, Bool, true, false, List, [], ◌∷◌, ◌++◌, Option, None, Some, refl, sym, ap, ◌∙◌, subst, append_assoc, arith, flat_map, inl, inr, ⊎_elim}
+use Rattle.std.specs.Prelude.{◌⊎◌, ◌≢◌, ◌||◌, All, IfSome, IsSome, is_none}
+use Rattle.std.specs.List.{list_all}
+use Rattle.std.specs.Option.{option_or}
+use Rattle.std.proofs.lemmas.Bool.{false≢true, or_from}
+use Rattle.std.proofs.lemmas.List.{map-append}
+use Rattle.std.proofs.lemmas.List.Elements.{All-head, All-tail}
+use Rattle.bt_lines.specs.Fault.{Told, no_memory, read_failed, write_failed}
+use Rattle.bt_lines.specs.Handed.{Handed, whole_text}
+use Rattle.bt_lines.specs.Lines.{TextLine}
+use Rattle.bt_lines.specs.Output.{Output, IsFrontOf, block_size}
+use Rattle.bt_lines.specs.Reader.{input_of, lines_given, source_of}
+use Rattle.bt_lines.specs.declared.fault.Input.TheVariants.{First, Second}
+use Rattle.bt_lines.specs.declared.fault.Kind.TheVariants.{ReadFailed}
+use Rattle.bt_bed.specs.Good.{Format, Good, Member, good_handed, items_in, or_else}
+use Rattle.bt_bed.specs.GoodLines.{IsBeyond}
+use Rattle.bt_bed.specs.LineKind.{fault_at_line}
+use Rattle.bt_bed.specs.Meeting.{written}
+use Rattle.bt_bed.specs.Reading.{MemberReader, good_coming}
+use Rattle.bt_bed.proofs.MeetingLemmas.{all_stop, all_written, met_fault_all, met_fault_stop, met_lines, written_past, written_stop}
+use Rattle.bt_tool.specs.Both.{WritesBoth, met_report}
+use Rattle.bt_tool.specs.Coming.{Came}
+use Rattle.bt_tool.specs.Driving.{IsReported, ReadsNoFurther, TellsDevice, TellsInput}
+use Rattle.bt_tool.specs.Feeding.{PutsFront, PutsLines, member_items}
+use Rattle.bt_tool.specs.Inputs.{HandsUpTo}
+use Rattle.bt_tool.specs.Pair.{Making, MayCome, Pair, Serves, met_by, rule_of}
+use Rattle.bt_tool.specs.PairEnds.{Finishes, FirstFails, FirstStops, InputsEnd, RestStops, SecondFails, SecondStops, Why}
+use Rattle.bt_tool.proofs.CameMembers.{BeginsAt, at_whole, came_cut, came_whole, is_known, text_known}
+use Rattle.bt_tool.proofs.FaultLemmas.{memory_no_write, placed_no_write, some_is}
+use Rattle.bt_tool.proofs.HandedReader.{passes_by}
+use Rattle.bt_tool.proofs.SeenLemmas.{puts_front}
+
+module _ {X Y : Type 0} (making : Making X Y) where
+  -- what the lines and the fault of a meeting are
+  abbrev MeetsAs : Good X → Good Y → List ℕ → Option Told → Type 0
+  MeetsAs first second bytes fault = ((met_by making first second).lines ≡ bytes) × ((met_by making first second).fault ≡ fault)
+
+  -- what is told where all of the first is written
+  abbrev last_of : Good X → Good Y → Option Told
+  last_of first second = or_else (making.last (items_in first) second.members) second.fault
+
+  -- these members are decided, and have these bytes
+  abbrev HereAs : Good Y → List X → List ℕ → Type 0
+  HereAs second xs bytes = (list_all (λ x. is_none second.fault || making.decided x (items_in second)) xs ≡ true) × (flat_map (λ x. making.bytes x (items_in second)) xs ≡ bytes)
+
+  module _ (first : Good X) (second : Good Y) (xs : List X) (bytes : List ℕ) (here : HereAs second xs bytes) where
+    -- all members of the first are written
+    meets_all : items_in first ≡ xs → MeetsAs first second bytes (option_or first.fault (last_of first second))
+    meets_all is =
+        let made = rule_of making (items_in first) second in
+        let all : list_all made.decided (items_in first) ≡ true = ap (list_all made.decided) is ∙ here.0 in (
+          met_lines made (items_in first) first.fault ∙ sym (all_written made (items_in first) all) ∙ ap (flat_map made.lines) is ∙ here.1,
+          met_fault_all made (items_in first) first.fault all,
+        )
+
+    -- one of them waits, which the second input doesn't decide
+    meets_stop : (a : X) (rest : List X) (fault : Told) → items_in first ≡ xs ++ a ∷ rest → second.fault ≡ Some fault → making.decided a (items_in second) ≡ false → MeetsAs first second bytes (Some fault)
+    meets_stop a rest fault is told undecided_by =
+        let made = rule_of making (items_in first) second in
+        let undecided : made.decided a ≡ false = or_from (is_none second.fault) (making.decided a (items_in second)) (ap is_none told) undecided_by in (
+          met_lines made (items_in first) first.fault ∙ ap (written made) is ∙ written_stop made xs a rest here.0 undecided ∙ here.1,
+          met_fault_stop made (items_in first) first.fault (ap (list_all made.decided) is ∙ all_stop made xs a rest undecided) ∙ told,
+        )
+
+    -- whatever comes after them
+    meets_front : (rest : List X) → items_in first ≡ xs ++ rest → (more : List ℕ) × ((met_by making first second).lines ≡ bytes ++ more)
+    meets_front rest is =
+        let made = rule_of making (items_in first) second in
+        (written made rest, met_lines made (items_in first) first.fault ∙ ap (written made) is ∙ written_past made xs rest here.0 ∙ ap (λ l. l ++ written made rest) here.1)
+
+module _ {Y : Type 0} where
+  -- of two fronts of a list, that which lies on lower lines begins the other
+  front_in : (past rest seen more : List (Member Y)) (count : ℕ) → past ++ rest ≡ seen ++ more → All (λ m. m.line ≤ count) seen → All (λ m. count < m.line) rest
+      → (k : List (Member Y)) × (past ≡ seen ++ k)
+  front_in past rest [] more count e low high = (past, refl)
+  front_in [] [] (m ∷ seen) more count e low high = cc
+  front_in [] (r ∷ rest) (m ∷ seen) more count e low high =
+      let same : r ≡ m = cc in
+      let up : m.line ≤ count = All-head (λ (m : Member Y). m.line ≤ count) m seen low in
+      let down : count < r.line = All-head (λ (m : Member Y). count < m.line) r rest high in
+      absurd (omega (arith, up, down, ap (λ (m : Member Y). m.line) same))
+  front_in (p ∷ past) rest (m ∷ seen) more count e low high =
+      let same : p ≡ m = cc in
+      let others : past ++ rest ≡ seen ++ more = cc in
+      let found = front_in past rest seen more count others (All-tail (λ (m : Member Y). m.line ≤ count) m seen low) high in
+      (found.0, ap (λ l. p ∷ l) found.1 ∙ ap (λ (x : Member Y). x ∷ seen ++ found.0) same)
+
+  pub may_come : (good : Option (Good Y)) (seen : List (Member Y)) (ended : Bool) → IfSome good (λ good. (rest : List (Member Y)) × (good.members ≡ seen ++ rest))
+      → (ended ≡ true → IfSome good (λ good. (good.members ≡ seen) × (good.fault ≡ None)))
+      → IfSome good (λ good. MayCome (member_items seen) ended (items_in good) good.fault)
+  may_come None seen ended b all = tt
+  may_come (Some good) seen ended b all = record {
+    begins = (member_items b.0, ap member_items b.1 ∙ map-append (λ m. m.item) seen b.0);
+    all = λ e. let whole = all e in (ap member_items whole.0, whole.1);
+  }
+
+  -- the members seen are among those that came before a failed read
+  pub seen_in : (good : Option (Good Y)) (past seen : List (Member Y)) (count : ℕ) → IsSome good
+      → IfSome good (λ good. (rest : List (Member Y)) × (good.members ≡ past ++ rest) × IsBeyond count (record { members = rest; fault = good.fault }))
+      → IfSome good (λ good. (rest : List (Member Y)) × (good.members ≡ seen ++ rest)) → All (λ m. m.line ≤ count) seen
+      → (k : List (Member Y)) × (past ≡ seen ++ k)
+  seen_in None past seen count k f b low = absurd (false≢true k)
+  seen_in (Some good) past seen count k f b low = front_in past f.0 seen b.0 count (sym f.1 ∙ b.1) low f.2.members
+
+pub from_known : {T : Type 0} (o : Option T) (P : Type 0) → IsSome o → IfSome o (λ x. P) → P
+from_known None P k h = absurd (false≢true k)
+from_known (Some x) P k h = h
+
+module _ {A B X Y U V : Type 0} (making : Making X Y) (pair : Pair A B X Y U V) (out : Output)
+    (first_format : Format X U) (second_format : Format Y V) (in_order : (two : Handed) → making.InOrder (items_in (good_handed second_format Second two)))
+    (one_before : A) (two_before : B) (begins : BeginsAt pair.a_left first_format First one_before pair.first) (begins_second : BeginsAt pair.b_left second_format Second two_before pair.second)
+    (first : MemberReader A X U) (second : MemberReader B Y V) (one_after : A) (two_after : B) (ended : source_of first.below ≡ one_after) (ended_second : source_of second.below ≡ two_after)
+    (fault : Option Told) (grown : Output) (w : Finishes making pair out fault first second grown) where
+  abbrev good_one : Handed → Good X
+  good_one one = good_handed first_format First one
+
+  abbrev good_two : Handed → Good Y
+  good_two two = good_handed second_format Second two
+
+  abbrev CameOne : Option Told → Handed → Type 0
+  CameOne = Came pair.a_left pair.a_failed one_before one_after
+
+  abbrev CameTwo : Option Told → Handed → Type 0
+  CameTwo = Came pair.b_left pair.b_failed two_before two_after
+
+  abbrev MayBe : Good Y → Type 0
+  MayBe good = MayCome (member_items w.wrote.seen) w.wrote.ended (items_in good) good.fault
+
+  -- what the second input may have
+  second_may : IfSome (good_coming pair.b_left pair.second) MayBe
+  second_may = may_come (good_coming pair.b_left pair.second) w.wrote.seen w.wrote.ended w.wrote.second_begins w.wrote.second_all
+
+  first_whole : (other : Option Told) (one : Handed) → CameOne other one → Serves pair.a_failed pair.first first → (P : Good X → Type 0) → IfSome (good_coming pair.a_left pair.first) P → P (good_one one)
+  first_whole other one came serves =
+      came_whole pair.a_left pair.a_failed pair.a_end first_format First one_before pair.first begins first one_after ended other one came w.wrote.first_bytes serves.served serves.within
+
+  second_whole : (other : Option Told) (two : Handed) → CameTwo other two → Serves pair.b_failed pair.second second → (P : Good Y → Type 0) → IfSome (good_coming pair.b_left pair.second) P → P (good_two two)
+  second_whole other two came serves =
+      came_whole pair.b_left pair.b_failed pair.b_end second_format Second two_before pair.second begins_second second two_after ended_second other two came w.wrote.second_bytes serves.served serves.within
+
+  known_by : (two : List ℕ) → pair.b_left two_before ≡ Some two → IsSome (good_coming pair.b_left pair.second)
+  known_by two e = is_known pair.b_left pair.b_failed pair.b_end second_format Second two_before pair.second begins_second second two_after ended_second two e
+
+  known_two : (other : Option Told) (two : Handed) → CameTwo other two → IsSome (good_coming pair.b_left pair.second)
+  known_two other two came =
+      let text = text_known pair.b_left pair.b_failed pair.b_end second_format Second two_before pair.second begins_second second two_after ended_second other two came in
+      known_by text.0 text.1
+
+  here_by : (two : Handed) → IsSome (good_coming pair.b_left pair.second) → MayBe (good_two two) → HereAs making (good_two two) w.written w.bytes
+  here_by two known may = (w.wrote.settles known).whatever (items_in (good_two two)) (good_two two).fault (in_order two) may
+
+  -- what the fault of an input says of it
+  first_wrong : (past : List (Member X)) (other : Told) (one : Handed) → CameOne (Some other) one → FirstFails making pair out past first other
+      → ((good_one one).members ≡ past) × ((good_one one).fault ≡ Some other)
+  first_wrong past other one came (inl wrong) =
+      first_whole (Some other) one came (record { served = wrong.served; within = wrong.within }) (λ good. (good.members ≡ past) × (good.fault ≡ Some other)) wrong.whole
+  first_wrong past other one came (inr unread) =
+      let is = came_cut pair.a_left pair.a_failed pair.a_end first_format First one_before pair.first begins first one_after ended past other one came unread in
+      (ap (λ (g : Good X). g.members) is, ap (λ (g : Good X). g.fault) is)
+
+  second_wrong : (past : List (Member Y)) (other : Told) (two : Handed) → CameTwo (Some other) two → SecondFails making pair out w.wrote.ended past second other
+      → ((good_two two).members ≡ past) × ((good_two two).fault ≡ Some other) × MayBe (good_two two)
+  second_wrong past other two came fails =
+      elim fails.cause [
+        | inl wrong ↦
+            let serves : Serves pair.b_failed pair.second second = record { served = wrong.served; within = wrong.within } in
+            let is = second_whole (Some other) two came serves (λ good. (good.members ≡ past) × (good.fault ≡ Some other)) wrong.whole in
+            (is.0, is.1, second_whole (Some other) two came serves MayBe second_may)
+        | inr unread ↦
+            let is = came_cut pair.b_left pair.b_failed pair.b_end second_format Second two_before pair.second begins_second second two_after ended_second past other two came unread in
+            let k = seen_in (good_coming pair.b_left pair.second) past w.wrote.seen (lines_given second.below) (known_two (Some other) two came) unread.members w.wrote.second_begins w.wrote.low in
+            let may : MayCome (member_items w.wrote.seen) w.wrote.ended (member_items past) (Some other) = record {
+              begins = (member_items k.0, ap member_items k.1 ∙ map-append (λ m. m.item) w.wrote.seen k.0);
+              all = λ e. absurd (fails.before_end e (input_of pair.second.below) (suc (lines_given second.below)) unread.is);
+            } in
+            (ap (λ (g : Good Y). g.members) is, ap (λ (g : Good Y). g.fault) is, subst MayBe (sym is) may)
+      ]
+
+  -- the inputs tell the end
+  module _ (one two : Handed) (came : CameOne fault one) (came_second : CameTwo fault two) where
+    known_now : IsSome (good_coming pair.b_left pair.second)
+    known_now = known_two fault two came_second
+
+    abbrev MeetsHere : Type 0
+    MeetsHere = MeetsAs making (good_one one) (good_two two) w.bytes fault
+
+    meets_first : (other : Told) → fault ≡ Some other → FirstStops making pair out w.written first second other → MeetsHere
+    meets_first other is stops =
+        let says = first_wrong stops.past other one (subst (λ f. CameOne f one) is came) stops.cause in
+        let may = second_whole fault two came_second stops.serves MayBe second_may in
+        let met = meets_all making (good_one one) (good_two two) w.written w.bytes (here_by two known_now may) (ap member_items says.0 ∙ sym stops.all) in
+        (met.0, met.1 ∙ ap (λ f. option_or f (last_of making (good_one one) (good_two two))) says.1 ∙ sym is)
+
+    meets_second : (other : Told) → fault ≡ Some other → SecondStops making pair out w.written w.wrote.ended first second other → MeetsHere
+    meets_second other is stops =
+        let says = second_wrong stops.past other two (subst (λ f. CameTwo f two) is came_second) stops.fails in
+        let waits = first_whole fault one came stops.serves (λ good. (rest : List X) × (items_in good ≡ w.written ++ stops.waiting ∷ rest)) stops.begins in
+        let undecided_by : making.decided stops.waiting (items_in (good_two two)) ≡ false =
+        ap (λ ms. making.decided stops.waiting (member_items ms)) says.0
+        ∙ from_known (good_coming pair.b_left pair.second) (making.decided stops.waiting (member_items stops.past) ≡ false) known_now stops.undecided in
+        let met = meets_stop making (good_one one) (good_two two) w.written w.bytes (here_by two known_now says.2) stops.waiting waits.0 other waits.1 says.1 undecided_by in
+        (met.0, met.1 ∙ sym is)
+
+    -- all of the first is written
+    module _ (stops : RestStops making pair out w.written w.wrote.ended first second fault) where
+      whole_first : ((good_one one).members ≡ stops.past) × ((good_one one).fault ≡ None)
+      whole_first = first_whole fault one came stops.serves (λ good. (good.members ≡ stops.past) × (good.fault ≡ None)) stops.whole
+
+      every : items_in (good_one one) ≡ w.written
+      every = ap member_items whole_first.0 ∙ sym stops.all
+
+      at_last : (told : Option Told) → making.last w.written (good_two two).members ≡ told → or_else told (good_two two).fault ≡ fault → MayBe (good_two two) → MeetsHere
+      at_last told is last may =
+          let met = meets_all making (good_one one) (good_two two) w.written w.bytes (here_by two known_now may) every in (
+            met.0,
+            met.1 ∙ ap (λ f. option_or f (last_of making (good_one one) (good_two two))) whole_first.1
+                ∙ ap (λ (xs : List X). or_else (making.last xs (good_two two).members) (good_two two).fault) every ∙ ap (λ t. or_else t (good_two two).fault) is ∙ last,
+          )
+
+      meets_rest : MeetsHere
+      meets_rest =
+          elim stops.rest [
+            | inl end ↦
+                let says = second_whole fault two came_second end.2 (λ good. (good.members ≡ stops.past_second) × (good.fault ≡ None)) end.1 in
+                at_last None (ap (making.last w.written) says.0 ∙ end.3) (says.1 ∙ sym end.0) (second_whole fault two came_second end.2 MayBe second_may)
+            | inr others ↦ elim others [
+              | inl told ↦
+                  let says = second_wrong stops.past_second told.0 two (subst (λ f. CameTwo f two) told.1 came_second) told.2 in
+                  at_last None (ap (making.last w.written) says.0 ∙ told.3) (says.1 ∙ sym told.1) says.2
+              | inr told ↦
+                  let last = told.2 in
+                  at_last (Some told.0) (second_whole fault two came_second last.serves (λ good. making.last w.written good.members ≡ Some told.0) last.told) (sym told.1)
+                  (second_whole fault two came_second last.serves MayBe second_may)
+            ]
+          ]
+
+    meets : InputsEnd making pair out w.written w.wrote.ended first second fault → MeetsHere
+    meets (inl stops) = meets_first stops.0 stops.1 stops.2
+    meets (inr (inl stops)) = meets_second stops.0 stops.1 stops.2
+    meets (inr (inr stops)) = meets_rest stops
+
+    reported : (before : List ℕ) → out.put ≡ Some before → InputsEnd making pair out w.written w.wrote.ended first second fault → PutsLines out w.bytes grown
+        → IsReported (met_report (met_by making (good_one one) (good_two two))) before fault grown
+    reported before put end puts = let met = meets end in (sym met.1, puts before put ∙ ap (λ l. Some (before ++ l)) (sym met.0))
+
+  -- what was written begins the report on the whole texts
+  front_of : (one two : List ℕ) → pair.a_left one_before ≡ Some one → pair.b_left two_before ≡ Some two
+      → (more : List ℕ) × ((met_by making (good_one (whole_text one)) (good_two (whole_text two))).lines ≡ w.bytes ++ more)
+  front_of one two e f =
+      let may = at_whole pair.b_left pair.b_failed pair.b_end second_format Second two_before pair.second begins_second second two_after ended_second two f MayBe second_may in
+      let rest = at_whole pair.a_left pair.a_failed pair.a_end first_format First one_before pair.first begins first one_after ended one e (λ good. (rest : List X) × (items_in good ≡ w.written ++ rest)) w.wrote.first_begins in
+      meets_front making (good_one (whole_text one)) (good_two (whole_text two)) w.written w.bytes (here_by (whole_text two) (known_by two f) may) rest.0 rest.1
+
+  -- a fault of an input isn't a failed write
+  first_no_write : (past : List (Member X)) (other : Told) → FirstFails making pair out past first other → other ≡ write_failed → ⊥
+  first_no_write past other (inl wrong) e = placed_no_write (input_of pair.first.below) wrong.line wrong.kind (sym wrong.is ∙ e)
+  first_no_write past other (inr unread) e = placed_no_write (input_of pair.first.below) (suc (lines_given first.below)) ReadFailed (sym unread.is ∙ e)
+
+  second_no_write : (past : List (Member Y)) (other : Told) → SecondFails making pair out w.wrote.ended past second other → other ≡ write_failed → ⊥
+  second_no_write past other fails e =
+      elim fails.cause [
+        | inl wrong ↦ placed_no_write (input_of pair.second.below) wrong.line wrong.kind (sym wrong.is ∙ e)
+        | inr unread ↦ placed_no_write (input_of pair.second.below) (suc (lines_given second.below)) ReadFailed (sym unread.is ∙ e)
+      ]
+
+  inputs_no_write : InputsEnd making pair out w.written w.wrote.ended first second fault → fault ≡ Some write_failed → ⊥
+  inputs_no_write (inl stops) e = first_no_write stops.2.past stops.0 stops.2.cause (some_is stops.0 write_failed (sym stops.1 ∙ e))
+  inputs_no_write (inr (inl stops)) e = second_no_write stops.2.past stops.0 stops.2.fails (some_is stops.0 write_failed (sym stops.1 ∙ e))
+  inputs_no_write (inr (inr stops)) e =
+      elim stops.rest [
+        | inl end ↦ let apart : None ≡ Some write_failed = sym end.0 ∙ e in cc
+        | inr others ↦ elim others [
+          | inl told ↦ second_no_write stops.past_second told.0 told.2 (some_is told.0 write_failed (sym told.1 ∙ e))
+          | inr told ↦ placed_no_write Second told.2.line told.2.kind (sym told.2.is ∙ some_is told.0 write_failed (sym told.1 ∙ e))
+        ]
+      ]
+
+  first_named : (past : List (Member X)) (other : Told) → FirstFails making pair out past first other → TellsInput pair.a_left pair.a_failed making.first_kinds First one_before one_after other
+  first_named past other (inl wrong) = inl (record { line = wrong.line; kind = wrong.kind; of_kind = wrong.of_kind; is = wrong.is ∙ ap (λ i. fault_at_line i wrong.line wrong.kind) begins.input_is })
+  first_named past other (inr unread) = inr (record {
+    line = suc (lines_given first.below);
+    is = unread.is ∙ ap (λ i. read_failed i (suc (lines_given first.below))) begins.input_is;
+    cause = ⊎_elim (λ fails. inl (ap pair.a_failed (sym ended) ∙ fails))
+        (λ past. inr (passes_by pair.a_left pair.a_failed one_before one_after pair.first.below first.below begins.source ended begins.bytes w.wrote.first_bytes past)) unread.cause;
+  })
+
+  second_named : (past : List (Member Y)) (other : Told) → SecondFails making pair out w.wrote.ended past second other → TellsInput pair.b_left pair.b_failed making.second_kinds Second two_before two_after other
+  second_named past other fails =
+      elim fails.cause [
+        | inl wrong ↦ inl (record { line = wrong.line; kind = wrong.kind; of_kind = wrong.of_kind; is = wrong.is ∙ ap (λ i. fault_at_line i wrong.line wrong.kind) begins_second.input_is })
+        | inr unread ↦ inr (record {
+          line = suc (lines_given second.below);
+          is = unread.is ∙ ap (λ i. read_failed i (suc (lines_given second.below))) begins_second.input_is;
+          cause = ⊎_elim (λ fails. inl (ap pair.b_failed (sym ended_second) ∙ fails))
+              (λ past. inr (passes_by pair.b_left pair.b_failed two_before two_after pair.second.below second.below begins_second.source ended_second begins_second.bytes w.wrote.second_bytes past)) unread.cause;
+        })
+      ]
+
+  abbrev Named : Told → Type 0
+  Named told =
+      (TellsInput pair.a_left pair.a_failed making.first_kinds First one_before one_after told ⊎ TellsInput pair.b_left pair.b_failed making.second_kinds Second two_before two_after told)
+      ⊎ TellsDevice grown.sink_has_failed told
+
+  abbrev Because : Type 0
+  Because = Why making pair out w.written w.bytes w.wrote.ended first second fault grown
+
+  named_by : (told : Told) → fault ≡ Some told → Because → Named told
+  named_by told e (inl ((inl stops), puts, works)) = subst Named (some_is stops.0 told (sym stops.1 ∙ e)) (inl (inl (first_named stops.2.past stops.0 stops.2.cause)))
+  named_by told e (inl ((inr (inl stops)), puts, works)) = subst Named (some_is stops.0 told (sym stops.1 ∙ e)) (inl (inr (second_named stops.2.past stops.0 stops.2.fails)))
+  named_by told e (inl ((inr (inr stops)), puts, works)) =
+      elim stops.rest [
+        | inl end ↦ absurd (let apart : None ≡ Some told = sym end.0 ∙ e in cc)
+        | inr others ↦ elim others [
+          | inl other ↦ subst Named (some_is other.0 told (sym other.1 ∙ e)) (inl (inr (second_named stops.past_second other.0 other.2)))
+          | inr other ↦ subst Named (some_is other.0 told (sym other.1 ∙ e)) (inl (inr (inl (record { line = other.2.line; kind = other.2.kind; of_kind = other.2.of_kind; is = other.2.is }))))
+        ]
+      ]
+  named_by told e (inr (inl ran)) = inr (inr (some_is told no_memory (sym e ∙ ran.0)))
+  named_by told e (inr (inr cut)) = inr (inl (some_is told write_failed (sym e ∙ cut.0), cut.1.sink_failed))
+
+  served_by : fault ≡ None → Because
+      → ((pair.a_failed one_after ≡ pair.a_failed one_before) × (pair.b_failed two_after ≡ pair.b_failed two_before)) × (grown.sink_has_failed ≡ out.sink_has_failed)
+  served_by e (inl ((inl stops), puts, works)) = absurd (let apart : None ≡ Some stops.0 = sym e ∙ stops.1 in cc)
+  served_by e (inl ((inr (inl stops)), puts, works)) = absurd (let apart : None ≡ Some stops.0 = sym e ∙ stops.1 in cc)
+  served_by e (inl ((inr (inr stops)), puts, works)) =
+      elim stops.rest [
+        | inl end ↦ (
+          (ap pair.a_failed (sym ended) ∙ stops.serves.served ∙ ap pair.a_failed begins.source, ap pair.b_failed (sym ended_second) ∙ end.2.served ∙ ap pair.b_failed begins_second.source),
+          works.sink_served,
+        )
+        | inr others ↦ elim others [
+          | inl other ↦ absurd (let apart : None ≡ Some other.0 = sym e ∙ other.1 in cc)
+          | inr other ↦ absurd (let apart : None ≡ Some other.0 = sym e ∙ other.1 in cc)
+        ]
+      ]
+  served_by e (inr (inl ran)) = absurd (let apart : None ≡ Some no_memory = sym e ∙ ran.0 in cc)
+  served_by e (inr (inr cut)) = absurd (let apart : None ≡ Some write_failed = sym e ∙ cut.0 in cc)
+
+  whole_by : (one two : Handed) (before : List ℕ) → CameOne fault one → CameTwo fault two → out.put ≡ Some before
+      → fault ≢ Some write_failed → fault ≢ Some no_memory → Because → IsReported (met_report (met_by making (good_one one) (good_two two))) before fault grown
+  whole_by one two before came came_second put write memory (inl (end, puts, works)) = reported one two came came_second before put end puts
+  whole_by one two before came came_second put write memory (inr (inl ran)) = absurd (memory ran.0)
+  whole_by one two before came came_second put write memory (inr (inr cut)) = absurd (write cut.0)
+
+  cut_by : fault ≡ Some write_failed → (before : List ℕ) → out.put ≡ Some before → Because → IsFrontOf grown.took (Some (before ++ w.bytes)) []
+  cut_by is before put (inl (end, puts, works)) = absurd (inputs_no_write end is)
+  cut_by is before put (inr (inl ran)) = absurd (memory_no_write (some_is no_memory write_failed (sym ran.0 ∙ is)))
+  cut_by is before put (inr (inr cut)) = cut.1.front before put
+
+  kept_by : fault ≢ Some write_failed → Because → PutsFront out w.bytes grown
+  kept_by other (inl (end, puts, works)) = puts_front out w.bytes grown puts
+  kept_by other (inr (inl ran)) = ran.1
+  kept_by other (inr (inr cut)) = absurd (other cut.0)
+
+  module _ (settles : Handed → List TextLine → List ℕ) (reaches : Handed → List TextLine → ℕ) where
+    abbrev pub NearBoth : Type 0
+    NearBoth = (one two before taken : List ℕ) → pair.a_left one_before ≡ Some one → pair.b_left two_before ≡ Some two → out.put ≡ Some before → out.took ≡ Some taken
+        → ReadsNoFurther (λ lines. pair.a_end one_after ≡ false → HandsUpTo pair.b_left (reaches (whole_text two) lines + block_size) two_before two_after)
+        (settles (whole_text two)) one (pair.a_left one_after) before grown.took
+
+    -- the report on how the inputs meet, by how far they were read
+    pub writes_both : NearBoth → WritesBoth pair.a_left pair.a_failed pair.a_end pair.b_left pair.b_failed making.first_kinds making.second_kinds
+        (λ one two. met_report (met_by making (good_one one) (good_two two))) settles reaches one_before two_before out fault one_after two_after grown
+    writes_both near = record {
+      whole = λ one two before reads reads_second put write memory. whole_by one two before (inl reads) (inl reads_second) put write memory w.why;
+      told = λ one two before e f put is.
+          whole_by (whole_text one) (whole_text two) before
+          (inr (record { text = one; known = e; is = refl; no_read = λ input line. is.no_read input line }))
+          (inr (record { text = two; known = f; is = refl; no_read = λ input line. is.no_read input line })) put is.no_write is.no_growth w.why;
+      cut = λ is one two before e f put.
+          let more = front_of one two e f in
+          (w.bytes, more.0, more.1, cut_by is before put w.why);
+      kept = λ other one two before e f put.
+          let more = front_of one two e f in
+          let part = kept_by other w.why in
+          (part.front, part.rest ++ more.0, more.1 ∙ ap (λ l. l ++ more.0) part.parts ∙ append_assoc part.front part.rest more.0, part.puts before put);
+      grows = w.wrote.grows;
+      served = λ e. served_by e w.why;
+      near = near;
+      named = λ told e. named_by told e w.why;
+    }

@@ -1,0 +1,146 @@
+-- How a run over two readers of members ends.
+use Rattle.std.specs.Prelude.{◌≡◌, ℕ, ◌≤◌, ◌⊎◌, All, Bool, true, false, List, ◌∷◌, ◌++◌, Option}
+use Rattle.std.specs.Prelude.{Some, None, IfSome, IsSome}
+use Rattle.bt_lines.specs.Fault.{Told, no_memory, read_failed, write_failed}
+use Rattle.bt_lines.specs.Output.{Output, Grows}
+use Rattle.bt_lines.specs.Putting.{WorksAsBefore}
+use Rattle.bt_lines.specs.Reader.{Hands, lines_given, source_of}
+use Rattle.bt_lines.specs.declared.fault.Input.{Input}
+use Rattle.bt_lines.specs.declared.fault.Input.TheVariants.{Second}
+use Rattle.bt_lines.specs.declared.fault.Kind.{Kind}
+use Rattle.bt_bed.specs.Good.{Member, items_in}
+use Rattle.bt_bed.specs.LineKind.{fault_at_line}
+use Rattle.bt_bed.specs.Reading.{MemberReader, good_coming}
+use Rattle.bt_tool.specs.Feeding.{CutsLines, PutsFront, PutsLines, TookButBlock, member_items}
+use Rattle.bt_tool.specs.Pair.{Making, Pair, Serves, Settles}
+use Rattle.bt_tool.specs.Passed.{AreAll, IsReadFor, IsReadTo, IsUnreadBehind, IsWrongBehind}
+
+-- the members of the second input are known
+abbrev pub IsKnown : {A B X Y U V : Type 0} → Pair A B X Y U V → Type 0
+IsKnown pair = IsSome (good_coming pair.b_left pair.second)
+
+module _ {A B X Y U V : Type 0} (making : Making X Y) (pair : Pair A B X Y U V)
+    (out : Output) where
+  -- what is written at the end: these members of the first input, whatever the second has
+  pub record Wrote (written : List X) (bytes : List ℕ) (first : MemberReader A X U)
+      (second : MemberReader B Y V) (grown : Output) : Type 0 where
+    pub seen : List (Member Y)
+    pub ended : Bool
+    pub settles : IsKnown pair → Settles making written bytes (member_items seen) ended
+    pub first_begins : IfSome (good_coming pair.a_left pair.first)
+        (λ good. (rest : List X) × (items_in good ≡ written ++ rest))
+    pub second_begins : IfSome (good_coming pair.b_left pair.second)
+        (λ good. (rest : List (Member Y)) × (good.members ≡ seen ++ rest))
+    pub low : All (λ m. m.line ≤ lines_given second.below) seen
+    pub second_all : ended ≡ true → AreAll pair.b_left pair.b_failed pair.b_end pair.second seen
+    pub first_bytes : (bytes : List ℕ) × Hands pair.a_left pair.first.below bytes first.below
+    pub second_bytes : (bytes : List ℕ) × Hands pair.b_left pair.second.below bytes second.below
+    pub grows : Grows out.took grown.took
+
+  -- the fault of the first input, behind these members
+  abbrev pub FirstFails : List (Member X) → MemberReader A X U → Told → Type 0
+  FirstFails past first fault =
+      IsWrongBehind pair.a_left pair.a_failed pair.a_end pair.first making.first_kinds past fault
+      first
+      ⊎ IsUnreadBehind pair.a_left pair.a_failed pair.a_end pair.first past fault first
+
+  -- all good members of the first input are written, and its fault is told
+  pub record FirstStops (written : List X) (first : MemberReader A X U)
+      (second : MemberReader B Y V) (fault : Told) : Type 0 where
+    pub past : List (Member X)
+    pub all : written ≡ member_items past
+    pub cause : FirstFails past first fault
+    pub serves : Serves pair.b_failed pair.second second
+
+  -- the fault of the second input, behind these members
+  pub record SecondFails (ended : Bool) (past : List (Member Y)) (second : MemberReader B Y V)
+      (fault : Told) : Type 0 where
+    pub cause : IsWrongBehind pair.b_left pair.b_failed pair.b_end pair.second making.second_kinds
+        past fault second
+        ⊎ IsUnreadBehind pair.b_left pair.b_failed pair.b_end pair.second past fault second
+    pub before_end : ended ≡ true → (input : Input) (line : ℕ) → fault ≡ read_failed input line → ⊥
+
+  -- a member of the first waits that the good members of the second don't decide,
+  -- and its fault is told
+  pub record SecondStops (written : List X) (ended : Bool) (first : MemberReader A X U)
+      (second : MemberReader B Y V) (fault : Told) : Type 0 where
+    pub past : List (Member Y)
+    pub waiting : X
+    pub begins : IfSome (good_coming pair.a_left pair.first)
+        (λ good. (rest : List X) × (items_in good ≡ written ++ waiting ∷ rest))
+    pub undecided : IfSome (good_coming pair.b_left pair.second)
+        (λ good. making.decided waiting (member_items past) ≡ false)
+    pub fails : SecondFails ended past second fault
+    pub serves : Serves pair.a_failed pair.first first
+
+  -- what is told at last, at a line of the second input
+  pub record LastTold (written : List X) (second : MemberReader B Y V) (fault : Told) : Type 0 where
+    pub line : ℕ
+    pub kind : Kind
+    pub is : fault ≡ fault_at_line Second line kind
+    pub of_kind : making.second_kinds kind ≡ true
+    pub told : IfSome (good_coming pair.b_left pair.second)
+        (λ good. making.last written good.members ≡ Some fault)
+    pub serves : Serves pair.b_failed pair.second second
+
+  -- all of the first is written, and the second was read to its end, to its fault
+  -- or to what is told at last
+  pub record RestStops (written : List X) (ended : Bool) (first : MemberReader A X U)
+      (second : MemberReader B Y V) (fault : Option Told) : Type 0 where
+    pub past : List (Member X)
+    pub past_second : List (Member Y)
+    pub all : written ≡ member_items past
+    pub whole : AreAll pair.a_left pair.a_failed pair.a_end pair.first past
+    pub serves : Serves pair.a_failed pair.first first
+    pub rest : ((fault ≡ None)
+        × AreAll pair.b_left pair.b_failed pair.b_end pair.second past_second
+        × Serves pair.b_failed pair.second second × (making.last written past_second ≡ None))
+        ⊎ (((other : Told) × (fault ≡ Some other) × SecondFails ended past_second second other
+        × (making.last written past_second ≡ None))
+        ⊎ ((other : Told) × (fault ≡ Some other) × LastTold written second other))
+
+  -- the inputs say how it ends
+  abbrev pub InputsEnd : List X → Bool → MemberReader A X U → MemberReader B Y V → Option Told
+      → Type 0
+  InputsEnd written ended first second fault =
+      ((other : Told) × (fault ≡ Some other) × FirstStops written first second other)
+      ⊎ (((other : Told) × (fault ≡ Some other) × SecondStops written ended first second other)
+      ⊎ RestStops written ended first second fault)
+
+  -- why it ends
+  abbrev pub Why : List X → List ℕ → Bool → MemberReader A X U → MemberReader B Y V → Option Told
+      → Output → Type 0
+  Why written bytes ended first second fault grown =
+      (InputsEnd written ended first second fault × PutsLines out bytes grown
+      × WorksAsBefore out grown)
+      ⊎ (((fault ≡ Some no_memory) × PutsFront out bytes grown)
+      ⊎ ((fault ≡ Some write_failed) × CutsLines out bytes grown))
+
+  -- of the second input nothing was read but what these members of the first ask for
+  pub record AsksFor (given_first : List (Member X)) (second : MemberReader B Y V) : Type 0 where
+    pub past : List (Member Y)
+    pub reached : making.Asks (member_items given_first) (member_items past)
+    pub near : IsKnown pair → IsReadTo pair.b_left pair.b_failed pair.b_end pair.second past second
+
+  -- how far the inputs were read beside what was written
+  pub record StaysNear (first : MemberReader A X U) (second : MemberReader B Y V)
+      (grown : Output) : Type 0 where
+    pub at : Output
+    pub written : List X
+    pub bytes : List ℕ
+    pub wrote : Wrote written bytes first second at
+    pub took : TookButBlock out bytes grown
+    pub past : List (Member X)
+    pub given_first : List (Member X)
+    pub items : member_items past ≡ written
+    pub first_near : IsReadFor pair.a_left pair.a_failed pair.a_end pair.first past given_first first
+    pub beside : (pair.a_end (source_of first.below) ≡ true) ⊎ AsksFor given_first second
+
+  -- the run is over
+  pub record Finishes (fault : Option Told) (first : MemberReader A X U)
+      (second : MemberReader B Y V) (grown : Output) : Type 0 where
+    pub written : List X
+    pub bytes : List ℕ
+    pub wrote : Wrote written bytes first second grown
+    pub why : Why written bytes wrote.ended first second fault grown
+    pub near : StaysNear first second grown
