@@ -6,7 +6,7 @@
 -- 3. `divides`: the items are those that are done and those that are left; by the last start all of the first are over, and none of the others.
 -- The other fields are a line each: a record elsewhere changes no item, and on the chromosomes before and behind the last record's all items are over, or none. `Written` and `Ordered` say that the definitions of the whole and of what is settled go by these parts, in an order of chromosomes.
 --
--- It is given: what one more record settles and what is kept then, on the same chromosome or a later one (`goes_first`, `goes_on`, `goes_to`), which is what `feed` has to do; what is left for `finish` (`whole_left`); and `Settles` (`settling`), from which settled items stay and begin the whole (`SettlingLemmas`). `MergeForm`, `ComplementForm` and `CoverageForm` are the engines' forms, `SettledRuns`, `GapSteps` and `DepthSteps` what they take from here.
+-- It is given: what one more record settles and what is kept then, on the same chromosome or a later one (`goes_first`, `goes_on`, `goes_to`), which is what `feed` has to do; what is left for `finish` (`whole_left`); and `Settles` (`settling`), from which settled items stay and begin the whole (`SettlingLemmas`). `MergeForm`, `ComplementForm` and `CoverageForm` are the engines' forms; `SettledRuns` is what merge takes from here, and `Walks` what the two others do.
 use Rattle.std.proofs.Common.{◌≡◌, ◌⊎◌, ℕ, ◌<◌, ◌≤◌, inl, inr, List, [], ◌∷◌, ◌++◌, append_assoc, append-nil, refl, sym, ap, ap₂, ◌∙◌, subst, arith, length, length-append, map, filter, flat_map, Bool, true, false, bytes_eq, Some}
 use Rattle.std.specs.Prelude.{⊤}
 use Rattle.std.proofs.lemmas.Bool.{or_parts}

@@ -1,5 +1,5 @@
 -- What a complement says of one chromosome, and what it owes of it: its gaps that are done by the last start, and the place up to which they are.
-use Rattle.std.proofs.Common.{◌≡◌, ℕ, ◌<◌, ◌≤◌, List, [], ◌∷◌, ◌++◌, refl, sym, ap, ◌∙◌, arith, cond, map, filter, max, min, Bool, true, false}
+use Rattle.std.proofs.Common.{◌≡◌, ℕ, ◌<◌, ◌≤◌, List, [], ◌∷◌, ◌++◌, refl, sym, ap, ◌∙◌, arith, map, filter, max, min, Bool, true, false}
 use Rattle.std.proofs.lemmas.List.{map-append}
 use Rattle.std.specs.declared.cmp.Ordering.TheVariants.{Equal}
 use Rattle.bt_bed.specs.Feature.{Feature, interval_of, intervals_of}
@@ -7,14 +7,14 @@ use Rattle.bt_bed.specs.Genome.{Entry, genome_names}
 use Rattle.bt_bed.specs.Interval.{Interval, Span, placed_on, span_of, spans_on}
 use Rattle.bt_bed.specs.Rank.{rank_order}
 use Rattle.bt_bed.specs.Together.{has_records}
-use Rattle.bt_runs.specs.Gaps.{AreTaken, complement, is_over, over_by, settled_gaps}
-use Rattle.bt_runs.specs.GapStep.{gap_between, whole_of}
-use Rattle.bt_runs.proofs.ByChromosome.{Divides, Form, InOrder, NoRecords, Ordered, Owes, Written, intervals_next, order_front, picks_by}
+use Rattle.bt_runs.specs.Gaps.{complement, is_over, over_by, settled_gaps}
+use Rattle.bt_runs.specs.GapStep.{gap_between, gap_walk}
+use Rattle.bt_runs.proofs.ByChromosome.{Divides, NoRecords, Owes, Written, intervals_next, picks_by}
 use Rattle.bt_runs.proofs.ChromosomeLemmas.{spans_on-none, spans_on-push_here}
 use Rattle.bt_runs.proofs.GapParts.{complement_parts, part, part_after, part_before, part_here, part_none, part_other, placed_between, placed_done, placed_left}
-use Rattle.bt_runs.proofs.GapRanks.{name_at}
 use Rattle.bt_runs.proofs.Keys.{compare_same}
 use Rattle.bt_runs.proofs.OneGap.{EndBy, OneGap, cover_gap, end_between, end_both, end_later, no_gap, span_between}
+use Rattle.bt_runs.proofs.Walks.{Walked, form_of}
 
 -- the gaps of a chromosome by the last start on it, those that are done and the place that is kept
 pub record Own (entry : Entry) (past : List Feature) (start : ℕ) (done : List Interval) (kept : ℕ) : Type 0 where
@@ -43,22 +43,17 @@ own_next entry past start done kept r own is up full =
     }
 
 module _ (limit : Bool) (entries : List Entry) where
-  abbrev pub form : Form Entry Interval ℕ
-  form = record {
-    name = name_at;
+  abbrev pub gaps : Walked Interval ℕ
+  gaps = record {
+    walk = gap_walk limit;
     part = λ entry past. part limit (intervals_of past) entry;
     pick = λ last gaps. filter (is_over (genome_names entries) last) gaps;
     whole = complement limit entries;
     settled = settled_gaps limit entries;
-    bare = λ entry. cond limit [] (whole_of entry);
-    fresh = 0;
-    left = λ entry kept. gap_between entry.name kept entry.length;
-    step = λ entry kept r. gap_between entry.name kept (min r.start entry.length);
-    after = λ entry kept r. max kept (min r.stop entry.length);
   }
 
   -- a chromosome without records is one gap
-  none_on : (entry : Entry) (past : List Feature) → has_records entry.name (intervals_of past) ≡ false → NoRecords form Own entry past
+  none_on : (entry : Entry) (past : List Feature) → has_records entry.name (intervals_of past) ≡ false → NoRecords (form_of gaps) Own entry past
   none_on entry past none = record {
     part_is = part_none limit (intervals_of past) entry none;
     begins = record {
@@ -71,7 +66,7 @@ module _ (limit : Bool) (entries : List Entry) where
   }
 
   -- the gaps that are done end by the last start, and the last one doesn't
-  divides_own : (entry : Entry) (past : List Feature) (last : Interval) (done : List Interval) (kept : ℕ) → Own entry past last.start done kept → entry.name ≡ last.chrom → has_records entry.name (intervals_of past) ≡ true → Divides form Own entry past last done kept
+  divides_own : (entry : Entry) (past : List Feature) (last : Interval) (done : List Interval) (kept : ℕ) → Own entry past last.start done kept → entry.name ≡ last.chrom → has_records entry.name (intervals_of past) ≡ true → Divides (form_of gaps) Own entry past last done kept
   divides_own entry past last done kept own is some =
       let names = genome_names entries in
       let here : (rank_order names).compare entry.name last.chrom ≡ Equal = compare_same names entry.name last.chrom is in
@@ -89,7 +84,7 @@ module _ (limit : Bool) (entries : List Entry) where
   unfolding settled_gaps
   nothing_settled = refl
 
-  pub owes : Owes form Own (genome_names entries)
+  pub owes : Owes (form_of gaps) Own (genome_names entries)
   owes = record {
     nothing = nothing_settled;
     picks = λ last. picks_by (is_over (genome_names entries) last);
@@ -102,27 +97,9 @@ module _ (limit : Bool) (entries : List Entry) where
   }
 
   -- the gaps come in the order of the genome file
-  pub written : (past : List Feature) → Written form Own entries past
+  pub written : (past : List Feature) → Written (form_of gaps) Own entries past
   unfolding settled_gaps
   written past = record {
     whole_is = complement_parts limit entries past;
     settled_is = λ last is. ap (over_by (genome_names entries) (complement limit entries past)) is ∙ ap (filter (is_over (genome_names entries) last)) (complement_parts limit entries past);
   }
-
-  pub in_order : (past : List Feature) → AreTaken entries past → InOrder (genome_names entries) past
-  in_order past t = record { placed = t.placed; full = t.full }
-
-  pub ordered : (past : List Feature) → AreTaken entries past → Ordered form Own past
-  ordered past t = record {
-    keys = entries;
-    owes = owes;
-    distinct = t.distinct;
-    in_order = in_order past t;
-    written = λ front more is. written front;
-  }
-
--- the first records of those that a complement or a coverage may take
-pub taken_front : (entries : List Entry) (past more : List Feature) → AreTaken entries (past ++ more) → AreTaken entries past
-taken_front entries past more t =
-    let front = order_front (genome_names entries) past more (record { placed = t.placed; full = t.full }) in
-    record { distinct = t.distinct; placed = front.placed; full = front.full }

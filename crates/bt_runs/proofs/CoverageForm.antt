@@ -9,17 +9,15 @@ use Rattle.bt_bed.specs.Interval.{Interval, span_of}
 use Rattle.bt_bed.specs.Rank.{rank_order}
 use Rattle.bt_bed.specs.Together.{has_records}
 use Rattle.bt_bed.specs.declared.strand.Strand.{Strand}
-use Rattle.bt_runs.specs.Gaps.{AreTaken}
 use Rattle.bt_runs.specs.Depth.{DepthInterval, counted_on, coverage, depth_of, depth_on, depths_on, ended_by, is_counted_by, is_ended_by, settled_depths}
-use Rattle.bt_runs.specs.DepthStep.{Known, bare_of, known_by, known_with, levels_by, levels_left, levels_on, levels_with, unknown}
+use Rattle.bt_runs.specs.DepthStep.{Known, depth_walk, known_by, known_with, levels_by, levels_left, levels_on, levels_with}
 use Rattle.bt_runs.specs.Levels.{Level, levels_of}
-use Rattle.bt_runs.proofs.ByChromosome.{Divides, Form, NoRecords, Ordered, Owes, Written, picks_by}
+use Rattle.bt_runs.proofs.ByChromosome.{Divides, NoRecords, Owes, Written, picks_by}
 use Rattle.bt_runs.proofs.DepthLemmas.{counted_elsewhere, counted_here, counted_none, counted_push}
-use Rattle.bt_runs.proofs.GapRanks.{name_at}
-use Rattle.bt_runs.proofs.ComplementForm.{in_order}
 use Rattle.bt_runs.proofs.Keys.{compare_same}
 use Rattle.bt_runs.proofs.OneDepth.{bare_levels, known_at, known_first, known_next, left_end, settled_and_left, settled_at, settled_end, settled_first, settled_next, start_same, with_counted}
 use Rattle.bt_runs.proofs.ScanLemmas.{StopIn}
+use Rattle.bt_runs.proofs.Walks.{Walked, form_of}
 
 -- the counted records of a chromosome, with one more on it
 pub counted_next : (strand : Option Strand) (name : List ℕ) (past : List Feature) (r : Feature) → r.chrom ≡ name → counted_on strand name (past ++ r ∷ []) ≡ with_counted (is_counted_by strand r.strand) (counted_on strand name past) r.start r.stop
@@ -50,22 +48,17 @@ module _ (zeros : Bool) (strand : Option Strand) where
     pub known_is : known ≡ known_at zeros entry.length (counted_on strand entry.name past) start
 
   module _ (entries : List Entry) where
-    abbrev pub form : Form Entry DepthInterval Known
-    form = record {
-      name = name_at;
+    abbrev pub depths : Walked DepthInterval Known
+    depths = record {
+      walk = depth_walk zeros strand;
       part = λ entry past. depths_on zeros strand past entry;
       pick = λ last depths. filter (is_ended_by (genome_names entries) last) depths;
       whole = coverage zeros strand entries;
       settled = settled_depths zeros strand entries;
-      bare = bare_of zeros;
-      fresh = unknown;
-      left = λ entry known. levels_on entry.name (levels_left zeros entry.length known);
-      step = λ entry known r. levels_on entry.name (levels_with zeros entry.length known r);
-      after = λ entry known r. known_with zeros (is_counted_by strand r.strand) entry.length known r;
     }
 
     -- a chromosome without records has one depth
-    none_on : (entry : Entry) (past : List Feature) → has_records entry.name (intervals_of past) ≡ false → NoRecords form Own entry past
+    none_on : (entry : Entry) (past : List Feature) → has_records entry.name (intervals_of past) ≡ false → NoRecords (form_of depths) Own entry past
     none_on entry past none =
         let empty = counted_none strand entry.name past none in
         record {
@@ -102,7 +95,7 @@ module _ (zeros : Bool) (strand : Option Strand) where
         }
 
     -- the settled intervals end below the last start, and the others don't
-    divides_own : (entry : Entry) (past : List Feature) (last : Interval) (done : List DepthInterval) (known : Known) → Own entry past last.start done known → entry.name ≡ last.chrom → has_records entry.name (intervals_of past) ≡ true → Divides form Own entry past last done known
+    divides_own : (entry : Entry) (past : List Feature) (last : Interval) (done : List DepthInterval) (known : Known) → Own entry past last.start done known → entry.name ≡ last.chrom → has_records entry.name (intervals_of past) ≡ true → Divides (form_of depths) Own entry past last done known
     divides_own entry past last done known own is some =
         let names = genome_names entries in
         let size = entry.length in
@@ -120,7 +113,7 @@ module _ (zeros : Bool) (strand : Option Strand) where
     unfolding settled_depths
     nothing_settled = refl
 
-    pub owes : Owes form Own (genome_names entries)
+    pub owes : Owes (form_of depths) Own (genome_names entries)
     owes = record {
       nothing = nothing_settled;
       picks = λ last. picks_by (is_ended_by (genome_names entries) last);
@@ -134,18 +127,9 @@ module _ (zeros : Bool) (strand : Option Strand) where
     }
 
     -- the intervals come in the order of the genome file
-    pub written : (past : List Feature) → Written form Own entries past
+    pub written : (past : List Feature) → Written (form_of depths) Own entries past
     unfolding settled_depths coverage
     written past = record {
       whole_is = refl;
       settled_is = λ last is. ap (ended_by (genome_names entries) (coverage zeros strand entries past)) is;
-    }
-
-    pub ordered : (past : List Feature) → AreTaken entries past → Ordered form Own past
-    ordered past t = record {
-      keys = entries;
-      owes = owes;
-      distinct = t.distinct;
-      in_order = in_order true entries past t;
-      written = λ front more is. written front;
     }

@@ -8,7 +8,7 @@ use Rattle.bt_bed.specs.Interval.{Interval, Span, placed_on, spans_on}
 use Rattle.bt_bed.specs.Rank.{rank_order}
 use Rattle.bt_bed.specs.Together.{has_records}
 use Rattle.bt_runs.specs.Gaps.{gaps_of, gaps_on, is_asked, is_over, is_over_at, complement}
-use Rattle.bt_runs.specs.GapStep.{gap_between, whole_of, wholes}
+use Rattle.bt_runs.specs.GapStep.{bare_gap, gap_between}
 use Rattle.bt_runs.proofs.Standing.{has_records-push}
 use Rattle.bt_runs.proofs.ChromosomeLemmas.{spans_on-push_elsewhere, spans_on-none}
 use Rattle.bt_runs.proofs.OneGap.{OneGap, no_gap, one_gaps, span_between, EndBy}
@@ -39,19 +39,12 @@ placed_between name start stop = elim (cases_Bool (nat_lt start stop)) [
 gaps_none : (size : ℕ) → gaps_of size [] ≡ span_between 0 size
 gaps_none size = one_gaps size [] [] 0 (no_gap size)
 
-pub part_none : (limit : Bool) (records : List Interval) (e : Entry) → has_records e.name records ≡ false → part limit records e ≡ cond limit [] (whole_of e)
+pub part_none : (limit : Bool) (records : List Interval) (e : Entry) → has_records e.name records ≡ false → part limit records e ≡ bare_gap limit e
 part_none true records e none = rw none refl
 part_none false records e none =
     ap (λ spans. map (placed_on e.name) (gaps_of e.length spans)) (spans_on-none e.name records none)
     ∙ ap (map (placed_on e.name)) (gaps_none e.length)
     ∙ placed_between e.name 0 e.length
-
--- chromosomes without records are whole
-pub bare_wholes : (limit : Bool) (entries : List Entry) → flat_map (λ e. cond limit [] (whole_of e)) entries ≡ wholes limit entries
-bare_wholes true [] = refl
-bare_wholes false [] = refl
-bare_wholes true (e ∷ es) = bare_wholes true es
-bare_wholes false (e ∷ es) = ap (λ l. whole_of e ++ l) (bare_wholes false es)
 
 -- one with records has the gaps that are done, and the last
 pub part_here : (limit : Bool) (records : List Interval) (e : Entry) (done : List Span) (kept : ℕ) → has_records e.name records ≡ true → OneGap e.length (spans_on e.name records) done kept

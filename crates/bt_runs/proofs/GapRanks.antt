@@ -9,7 +9,7 @@ use Rattle.bt_bed.specs.Genome.{Entry, genome_names}
 use Rattle.bt_bed.specs.Rank.{is_among, rank_of}
 use Rattle.bt_bed.proofs.NameLemmas.{name_eq}
 use Rattle.bt_runs.specs.Gaps.{length_in}
-use Rattle.bt_runs.specs.GapStep.{entry_at}
+use Rattle.bt_runs.specs.Walk.{IsPlaced, entry_at}
 use Rattle.bt_runs.proofs.Keys.{Found, found}
 
 -- the name of a chromosome
@@ -28,6 +28,15 @@ found_within entries name rank f =
     let l = ap length f.split ∙ length-append f.before (f.key ∷ f.after) in
     let a = f.at in
     omega arith
+
+-- the chromosome that a look-up finds is the one of its name
+pub found_at : (entries : List Entry) (name : List ℕ) (rank : ℕ) → rank_of (genome_names entries) name ≡ Some rank → IsPlaced entries rank
+found_at entries name rank is =
+    let f = found name_at entries name rank is in
+    record {
+      within = found_within entries name rank f;
+      named = rw (found_entry entries name rank f, f.is) is;
+    }
 
 -- the length of a chromosome, by its name
 pub size_there : (before : List Entry) (e : Entry) (after : List Entry) (name : List ℕ) → e.name ≡ name → is_among (genome_names before) name ≡ false → length_in (before ++ e ∷ after) name ≡ e.length

@@ -28,6 +28,8 @@ pub mod PlainSpans
 pub mod Bareness
 pub mod OneGap
 pub mod GapRanks
+pub mod Walks
+pub mod WalkLines
 pub mod GapLines
 pub mod GapParts
 pub mod ComplementForm

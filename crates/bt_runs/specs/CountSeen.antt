@@ -1,8 +1,9 @@
 -- What the code keeps of depths, in the words of the definitions.
 use Rattle.std.specs.Prelude.{Option, Some, None}
-use Rattle.bt_runs.specs.DepthStep.{Known, Place}
+use Rattle.bt_runs.specs.DepthStep.{Known}
 use Rattle.bt_runs.specs.Levels.{Begun}
 use Rattle.bt_runs.specs.OpenRecords.{OpenAt}
+use Rattle.bt_runs.specs.Walk.{Place}
 use Rattle.bt_runs.specs.declared.depths.Reached.{Reached}
 use Rattle.bt_runs.specs.declared.depths.Stretch.{Stretch}
 
@@ -17,5 +18,10 @@ abbrev pub known_seen : Option Stretch → OpenAt → Known
 known_seen begun here = record { to = here.at; begun = begun_seen begun; held = here.spans }
 
 -- the chromosome that was reached, with the records that are open there
-abbrev pub place_seen : Reached → OpenAt → Place
+abbrev pub place_seen : Reached → OpenAt → Place Known
 place_seen reached here = record { rank = reached.rank; known = known_seen reached.begun here }
+
+-- if one was reached
+abbrev pub seen : Option Reached → OpenAt → Option (Place Known)
+seen None here = None
+seen (Some reached) here = Some (place_seen reached here)

@@ -1,5 +1,5 @@
 -- A count of depths as its callers see it.
-use Rattle.std.specs.Prelude.{◌≡◌, ℕ, ◌<◌, ⊤, Bool, true, List, [], ◌∷◌, length}
+use Rattle.std.specs.Prelude.{◌≡◌, ℕ, ◌<◌, ⊤, Bool, true, List, [], length}
 use Rattle.std.specs.Prelude.{Option, Some, None, Result, Ok, Err, cond, nat_lt}
 use Rattle.bt_lines.specs.Fault.{Told, no_memory, write_failed}
 use Rattle.bt_lines.specs.Names.{told}
@@ -11,14 +11,14 @@ use Rattle.bt_bed.specs.Genome.{Entry}
 use Rattle.bt_bed.specs.Interval.{Span}
 use Rattle.bt_bed.specs.Locus.{Locus}
 use Rattle.bt_bed.specs.declared.strand.Strand.{Strand}
-use Rattle.bt_runs.specs.CountSeen.{place_seen}
+use Rattle.bt_runs.specs.CountSeen.{seen}
 use Rattle.bt_runs.specs.Depth.{DepthInterval, coverage, depth_lines, is_counted_by}
 use Rattle.bt_runs.specs.Depth.{kept_records, known_place, settled_depths, unfinished}
-use Rattle.bt_runs.specs.DepthStep.{IsPlaced, Known, Place, begun_to, still_open}
+use Rattle.bt_runs.specs.DepthStep.{Known, begun_to, still_open}
 use Rattle.bt_runs.specs.Gaps.{AreTaken, length_in}
-use Rattle.bt_runs.specs.GapStep.{entry_at}
 use Rattle.bt_runs.specs.Levels.{Begun}
 use Rattle.bt_runs.specs.OpenRecords.{OpenAt}
+use Rattle.bt_runs.specs.Walk.{AreReached, Place}
 use Rattle.bt_runs.specs.declared.depths.Reached.{Reached}
 use Rattle.bt_runs.specs.declared.failure.Failure.{Failure}
 use Rattle.bt_runs.specs.declared.failure.Failure.TheVariants.{Write, Memory}
@@ -95,27 +95,12 @@ OnWant P (Ok done) = ⊤
 OnWant P (Err Write) = ⊤
 OnWant P (Err Memory) = P
 
--- the chromosome that was reached, if one was
-abbrev pub seen : Option Reached → OpenAt → Option Place
-seen None here = None
-seen (Some reached) here = Some (place_seen reached here)
-
--- it is one of the table
-abbrev pub AreReached : List Entry → Option Reached → Type 0
-AreReached entries None = ⊤
-AreReached entries (Some reached) = IsPlaced entries reached.rank
-
--- the place up to which depths are known, and what is unfinished there
-abbrev pub place_of : List Entry → Option Place → List Locus
-place_of entries None = []
-place_of entries (Some place) =
-    record { chrom = (entry_at entries place.rank).name; start = place.known.to } ∷ []
-
-abbrev pub begun_of : Option Place → Option Begun
+-- what is unfinished at the place that was reached, and the records that are open there
+abbrev pub begun_of : Option (Place Known) → Option Begun
 begun_of None = None
 begun_of (Some place) = place.known.begun
 
-abbrev pub held_of : Option Place → List Span
+abbrev pub held_of : Option (Place Known) → List Span
 held_of None = []
 held_of (Some place) = place.known.held
 
@@ -126,14 +111,14 @@ settled_known zeros size known start =
     (record { to = start; begun = begun_to zeros known start; held = still_open start known.held })
 
 -- one more record was taken, as the step says
-pub record Advances (step : Option Place × List DepthInterval) (entries : List Entry)
+pub record Advances (step : Option (Place Known) × List DepthInterval) (entries : List Entry)
     (next : Option Reached) (held : OpenAt) (out grown : Output) : Type 0 where
   pub puts : Grown out (depth_lines step.1) grown
   pub reached : seen next held ≡ step.0
-  pub at : AreReached entries next
+  pub at : AreReached entries (seen next held)
 
 -- or its lines couldn't be written, or the record couldn't be kept
-abbrev pub AdvanceAnswers : Option Place × List DepthInterval → List Entry
+abbrev pub AdvanceAnswers : Option (Place Known) × List DepthInterval → List Entry
     → Result (Option Reached) Failure → OpenAt → Output → Output → Type 0
 AdvanceAnswers step entries (Ok next) held out grown = Advances step entries next held out grown
 AdvanceAnswers step entries (Err Write) held out grown =

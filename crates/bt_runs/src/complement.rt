@@ -1,12 +1,13 @@
 //! The engine of `bedtools complement`: the place up to which gaps are settled.
 
 ghost use Rattle.std.specs.Prelude.{◌≡◌, ◌⊎◌, ◌<◌, ◌≤◌, ℕ, List, [], length, flat_map, min, slice_range, Option, Some, Ok, Err, None, IfOk, IfErr};
-ghost use Rattle.bt_bed.specs.Feature.{Feature, interval_of};
+ghost use Rattle.bt_bed.specs.Feature.{Feature};
 ghost use Rattle.bt_bed.specs.Bed.{feature_lent};
 ghost use Rattle.bt_bed.specs.GenomeTable.{entries};
 ghost use Rattle.bt_runs.specs.Complementing.{StandsAfter, kept_fault, held_count, is_quiet, may_take, settled_lines, stands_after, whole_output};
 ghost use Rattle.bt_runs.specs.Gaps.{AreTaken, complement, kept_place, settled_gaps};
-ghost use Rattle.bt_runs.specs.GapStep.{AreAt, IsAt, begun, covering, gap_step, gap_to, gaps_before, going, is_on, left_of, whole_of};
+ghost use Rattle.bt_runs.specs.GapStep.{bare_gap, covering, gap_to, gap_walk, last_gap, seen, whole_of};
+ghost use Rattle.bt_runs.specs.Walk.{AreReached, begun, going, is_on, left_before, left_of, walk_step};
 ghost use Rattle.bt_lines.specs.Fault.{write_failed};
 ghost use Rattle.bt_lines.specs.Names.{told};
 ghost use Rattle.bt_runs.specs.Engine.{Feeds, KeepsHeld};
@@ -49,18 +50,19 @@ impl<'g> Model for Complement<'g> {
     ghost use Rattle.bt_bed.specs.GenomeTable.{entries};
     ghost use Rattle.bt_runs.specs.Complementing.{Complementing};
     ghost use Rattle.bt_runs.specs.Failure.{fault_of};
-    ghost use Rattle.bt_runs.specs.GapStep.{AreAt, places};
+    ghost use Rattle.bt_runs.specs.GapStep.{seen};
+    ghost use Rattle.bt_runs.specs.Walk.{AreReached, places};
 
     ghost Value = { Complementing };
 
     ghost view = { λ m. record {
       entries = entries m.genome.now;
       limit = m.limit;
-      kept = places (entries m.genome.now) m.current;
+      kept = places (λ end. end) (entries m.genome.now) (seen m.current);
       fault = option_map fault_of m.failure;
     } };
 
-    ghost invariant = { λ m. AreAt (entries m.genome.now) m.current };
+    ghost invariant = { λ m. AreReached (entries m.genome.now) (seen m.current) };
 }
 
 impl<'g> Complement<'g> {
@@ -141,12 +143,12 @@ fn advance<K: Sink>(
     bed: &BedRef<'_>,
     out: &mut Out<K>,
 ) -> Result<Option<Reached>, Fault>
-    requires { AreAt (entries genome.now) current }
-    ensures adds { Adds out.old (interval_lines (gap_step limit (entries genome.now) current
-        (interval_of (feature_lent bed.now))).1) result out.new }
-    ensures reached { IfOk result (λ reached. reached ≡ (gap_step limit (entries genome.now) current
-        (interval_of (feature_lent bed.now))).0) }
-    ensures at { IfOk result (AreAt (entries genome.now)) }
+    requires { AreReached (entries genome.now) (seen current) }
+    ensures adds { Adds out.old (interval_lines (walk_step (gap_walk limit) (entries genome.now)
+        (seen current) (feature_lent bed.now)).1) result out.new }
+    ensures reached { IfOk result (λ reached. seen reached ≡ (walk_step (gap_walk limit)
+        (entries genome.now) (seen current) (feature_lent bed.now)).0) }
+    ensures at { IfOk result (λ reached. AreReached (entries genome.now) (seen reached)) }
 {
     let Some(reached) = go_to(genome, limit, current, bed.chrom, out)? else {
         return Ok(current);
@@ -163,12 +165,12 @@ fn go_to<K: Sink>(
     chrom: &[u8],
     out: &mut Out<K>,
 ) -> Result<Option<Reached>, Fault>
-    requires { AreAt (entries genome.now) current }
-    ensures adds { Adds out.old
-        (interval_lines (going limit (entries genome.now) current chrom.now).1) result out.new }
+    requires { AreReached (entries genome.now) (seen current) }
+    ensures adds { Adds out.old (interval_lines (going (gap_walk limit) (entries genome.now)
+        (seen current) chrom.now).1) result out.new }
     ensures reached { IfOk result (λ reached.
-        reached ≡ (going limit (entries genome.now) current chrom.now).0) }
-    ensures at { IfOk result (AreAt (entries genome.now)) }
+        seen reached ≡ (going (gap_walk limit) (entries genome.now) (seen current) chrom.now).0) }
+    ensures at { IfOk result (λ reached. AreReached (entries genome.now) (seen reached)) }
 {
     if is_on(genome, current, chrom) {
         return Ok(current);
@@ -182,8 +184,8 @@ fn go_to<K: Sink>(
 
 // Whether the current chromosome has this name.
 fn is_on(genome: &Genome, current: Option<Reached>, chrom: &[u8]) -> bool
-    requires { AreAt (entries genome.now) current }
-    ensures { result ≡ is_on (entries genome.now) current chrom.now }
+    requires { AreReached (entries genome.now) (seen current) }
+    ensures { result ≡ is_on (entries genome.now) (seen current) chrom.now }
 {
     match current {
         None => false,
@@ -222,10 +224,10 @@ fn put_before<K: Sink>(
     stop: usize,
     out: &mut Out<K>,
 ) -> Result<(), Fault>
-    requires at { AreAt (entries genome.now) current }
+    requires at { AreReached (entries genome.now) (seen current) }
     requires within { stop ≤ length (entries genome.now) }
-    ensures { Adds out.old
-        (interval_lines (gaps_before limit (entries genome.now) current stop)) result out.new }
+    ensures { Adds out.old (interval_lines (left_before last_gap (bare_gap limit) (entries genome.now)
+        (seen current) stop)) result out.new }
 {
     put_left(genome, current, out)?;
     if limit {
@@ -236,7 +238,7 @@ fn put_before<K: Sink>(
 
 // The rank of the chromosome after the current one, but no more than `stop`.
 fn first_rank(current: Option<Reached>, stop: usize) -> usize
-    ensures { result ≡ min (begun current) stop }
+    ensures { result ≡ min (begun (seen current)) stop }
 {
     match current {
         None => 0,
@@ -251,8 +253,9 @@ fn put_left<K: Sink>(
     current: Option<Reached>,
     out: &mut Out<K>,
 ) -> Result<(), Fault>
-    requires { AreAt (entries genome.now) current }
-    ensures { Adds out.old (interval_lines (left_of (entries genome.now) current)) result out.new }
+    requires { AreReached (entries genome.now) (seen current) }
+    ensures { Adds out.old (interval_lines (left_of last_gap (entries genome.now) (seen current)))
+        result out.new }
 {
     match current {
         None => Ok(()),

@@ -4,13 +4,13 @@ ghost use Rattle.std.specs.Prelude.{◌≡◌, false, true, ◌<◌, ◌≤◌, 
 ghost use Rattle.bt_bed.specs.Bed.{feature_lent};
 ghost use Rattle.bt_bed.specs.GenomeTable.{entries};
 ghost use Rattle.bt_lines.specs.Putting.{Adds};
-ghost use Rattle.bt_runs.specs.CountSeen.{known_seen, place_seen};
-ghost use Rattle.bt_runs.specs.Covering.{AdvanceAnswers, AreReached, HasToKeep, IsForRecord, IsToKeep, OnWant, StandsAfter, held_count, is_quiet, kept_fault, may_take, seen, settled_known, settled_lines, stands_after, whole_output};
+ghost use Rattle.bt_runs.specs.CountSeen.{known_seen, place_seen, seen};
+ghost use Rattle.bt_runs.specs.Covering.{AdvanceAnswers, HasToKeep, IsForRecord, IsToKeep, OnWant, StandsAfter, held_count, is_quiet, kept_fault, may_take, settled_known, settled_lines, stands_after, whole_output};
 ghost use Rattle.bt_runs.specs.Depth.{depth_lines, is_counted_by};
-ghost use Rattle.bt_runs.specs.DepthStep.{IsPlaced, bare_of, bares_of, count_step, counting, is_here, left_before, left_of, levels_by, levels_left, levels_on, reached};
+ghost use Rattle.bt_runs.specs.DepthStep.{bare_of, depth_walk, depths_left, levels_by, levels_left, levels_on};
 ghost use Rattle.bt_runs.specs.Engine.{Feeds, KeepsHeld};
-ghost use Rattle.bt_runs.specs.GapStep.{entry_at};
 ghost use Rattle.bt_runs.specs.OpenRecords.{none_open_at, open_with};
+ghost use Rattle.bt_runs.specs.Walk.{AreReached, IsPlaced, begun, entry_at, is_on, left_before, left_of, taking, walk_step};
 
 use crate::depth_line::put_depth;
 use crate::depths::{Reached, Stretch, go_on, put_ended};
@@ -45,8 +45,10 @@ pub struct Coverage<'g> {
 impl<'g> Model for Coverage<'g> {
     ghost use Rattle.std.specs.Prelude.{option_map};
     ghost use Rattle.bt_bed.specs.GenomeTable.{entries};
-    ghost use Rattle.bt_runs.specs.Covering.{AreReached, Covering, begun_of, place_of, seen};
+    ghost use Rattle.bt_runs.specs.CountSeen.{seen};
+    ghost use Rattle.bt_runs.specs.Covering.{Covering, begun_of};
     ghost use Rattle.bt_runs.specs.Failure.{fault_of};
+    ghost use Rattle.bt_runs.specs.Walk.{AreReached, places};
 
     ghost Value = { Covering };
 
@@ -54,13 +56,13 @@ impl<'g> Model for Coverage<'g> {
       entries = entries m.genome.now;
       zeros = m.zeros;
       strand = m.strand;
-      place = place_of (entries m.genome.now) (seen m.current m.held);
+      place = places (λ known. known.to) (entries m.genome.now) (seen m.current m.held);
       begun = begun_of (seen m.current m.held);
       kept = m.held.spans;
       fault = option_map fault_of m.failure;
     } };
 
-    ghost invariant = { λ m. AreReached (entries m.genome.now) m.current };
+    ghost invariant = { λ m. AreReached (entries m.genome.now) (seen m.current m.held) };
 }
 
 impl<'g> Coverage<'g> {
@@ -166,8 +168,8 @@ fn advance<K: Sink>(
     bed: &BedRef<'_>,
     out: &mut Out<K>,
 ) -> Result<Option<Reached>, Failure>
-    requires { AreReached (entries genome.now) current }
-    ensures steps { AdvanceAnswers (count_step zeros strand (entries genome.now) (seen current held.old) (feature_lent bed.now)) (entries genome.now) result held.new out.old out.new }
+    requires { AreReached (entries genome.now) (seen current held.now) }
+    ensures steps { AdvanceAnswers (walk_step (depth_walk zeros strand) (entries genome.now) (seen current held.old) (feature_lent bed.now)) (entries genome.now) result held.new out.old out.new }
     ensures memory { OnWant (HasToKeep (entries genome.now) strand (feature_lent bed.now)) result }
 {
     if let Some(reached) = current {
@@ -189,9 +191,9 @@ fn begin<K: Sink>(
     bed: &BedRef<'_>,
     out: &mut Out<K>,
 ) -> Result<Option<Reached>, Failure>
-    requires at { AreReached (entries genome.now) current }
-    requires elsewhere { is_here (entries genome.now) (seen current held.now) bed.now.chrom.now ≡ false }
-    ensures steps { AdvanceAnswers (count_step zeros strand (entries genome.now) (seen current held.old) (feature_lent bed.now)) (entries genome.now) result held.new out.old out.new }
+    requires at { AreReached (entries genome.now) (seen current held.now) }
+    requires elsewhere { is_on (entries genome.now) (seen current held.now) bed.now.chrom.now ≡ false }
+    ensures steps { AdvanceAnswers (walk_step (depth_walk zeros strand) (entries genome.now) (seen current held.old) (feature_lent bed.now)) (entries genome.now) result held.new out.old out.new }
     ensures memory { OnWant (HasToKeep (entries genome.now) strand (feature_lent bed.now)) result }
 {
     let Some(rank) = genome.rank(bed.chrom) else {
@@ -219,7 +221,7 @@ fn count<K: Sink>(
     out: &mut Out<K>,
 ) -> Result<Option<Reached>, Failure>
     requires { IsPlaced (entries genome.now) reached.rank }
-    ensures steps { AdvanceAnswers (Some (counting zeros strand (entries genome.now) (place_seen reached held.old) (feature_lent bed.now)).0, (counting zeros strand (entries genome.now) (place_seen reached held.old) (feature_lent bed.now)).1) (entries genome.now) result held.new out.old out.new }
+    ensures steps { AdvanceAnswers (Some (taking (depth_walk zeros strand) (entries genome.now) (place_seen reached held.old) (feature_lent bed.now)).0, (taking (depth_walk zeros strand) (entries genome.now) (place_seen reached held.old) (feature_lent bed.now)).1) (entries genome.now) result held.new out.old out.new }
     ensures memory { OnWant (IsToKeep (entry_at (entries genome.now) reached.rank).length strand
         (feature_lent bed.now)) result }
 {
@@ -308,9 +310,9 @@ fn put_before<K: Sink>(
     stop: usize,
     out: &mut Out<K>,
 ) -> Result<(), Fault>
-    requires at { AreReached (entries genome.now) current }
+    requires at { AreReached (entries genome.now) (seen current held.now) }
     requires within { stop ≤ length (entries genome.now) }
-    ensures { Adds out.old (depth_lines (left_before zeros (entries genome.now) (seen current held.old) stop)) result out.new }
+    ensures { Adds out.old (depth_lines (left_before (depths_left zeros) (bare_of zeros) (entries genome.now) (seen current held.old) stop)) result out.new }
 {
     put_current(genome, zeros, current, held, out)?;
     put_bares(genome, zeros, first_rank(current, stop), stop, out)
@@ -318,7 +320,7 @@ fn put_before<K: Sink>(
 
 // The rank of the chromosome after the current one, but no more than `stop`.
 fn first_rank(current: Option<Reached>, stop: usize) -> usize
-    ensures { result ≡ min (reached (seen current (none_open_at 0))) stop }
+    ensures { result ≡ min (begun (seen current (none_open_at 0))) stop }
 {
     match current {
         None => 0,
@@ -335,8 +337,8 @@ fn put_current<K: Sink>(
     held: &mut OpenRecords,
     out: &mut Out<K>,
 ) -> Result<(), Fault>
-    requires { AreReached (entries genome.now) current }
-    ensures { Adds out.old (depth_lines (left_of zeros (entries genome.now) (seen current held.old))) result out.new }
+    requires { AreReached (entries genome.now) (seen current held.now) }
+    ensures { Adds out.old (depth_lines (left_of (depths_left zeros) (entries genome.now) (seen current held.old))) result out.new }
 {
     match current {
         None => Ok(()),
@@ -358,7 +360,7 @@ fn put_bares<K: Sink>(
 ) -> Result<(), Fault>
     requires order { first ≤ stop }
     requires within { stop ≤ length (entries genome.now) }
-    ensures { Adds out.old (depth_lines (bares_of zeros (slice_range (entries genome.now) first stop))) result out.new }
+    ensures { Adds out.old (depth_lines (flat_map (bare_of zeros) (slice_range (entries genome.now) first stop))) result out.new }
 {
     for rank in first..stop {
         put_bare(genome, zeros, rank, out)?;

@@ -1,20 +1,31 @@
-use Rattle.std.proofs.Common.{◌≡◌, arith}
+use Rattle.std.proofs.Common.{◌≡◌, ℕ, Err, arith, subst, sym}
 use Rattle.std.proofs.lemmas.Result.{err_from_is_err_and}
 use Rattle.bt_bed.specs.GenomeTable.{entries}
-use Rattle.bt_runs.proofs.GapLines.{one_whole, whole_cut}
+use Rattle.bt_bed.specs.IntervalLine.{interval_line, interval_lines}
+use Rattle.bt_lines.specs.Putting.{Adds, Grown}
+use Rattle.bt_runs.specs.GapStep.{gap_to, whole_of}
 use Rattle.bt_runs.proofs.GapRanks.{length_read}
+use Rattle.bt_runs.proofs.WalkLines.{bare_cut, one_bare}
 use Rattle.bt_runs.proofs.complement.put_whole.Goals as goal
 
 pub returns-in_err-put_gap : goal.returns-in_err-put_gap
 returns-in_err-put_gap g c =
     let p = err_from_is_err_and c.from_residual.result c.from_residual.ensures.1 in
-    let size = length_read (entries c.args.genome.now) c.loop-rank.rank c.length.result c.length.ensures.is in
-    rw (p.1, p.2) (whole_cut (entries c.args.genome.now) c.args.first c.loop-rank.rank c.length.result (omega arith) (omega arith) size _ _ _ c.loop-rank.invariant c.args.stop c.in_err-put_gap.field-0.0 (omega arith) c.in_err-put_gap.ensures)
+    let table = entries c.args.genome.now in
+    let rank = c.loop-rank.rank in
+    let size = length_read table rank c.length.result c.length.ensures.is in
+    let gap = λ (n : ℕ). interval_lines (gap_to table (record { rank = rank; end = 0 }) n) in
+    let cut = subst (λ n. Adds {A = Unit {0}} c.loop-rank.out (gap n) (Err c.in_err-put_gap.field-0.0) c.put_gap.new.out) (sym size) c.in_err-put_gap.ensures in
+    rw (p.1, p.2) (bare_cut whole_of table interval_line c.args.first rank (omega arith) (omega arith) _ _ _ c.loop-rank.invariant c.args.stop c.in_err-put_gap.field-0.0 (omega arith) cut)
 
 pub loop-rank-preserved : goal.loop-rank-preserved
 loop-rank-preserved g c =
-    let size = length_read (entries c.args.genome.now) c.loop-rank.rank c.length.result c.length.ensures.is in
-    one_whole (entries c.args.genome.now) c.args.first c.loop-rank.rank c.length.result (omega arith) (omega arith) size _ _ _ c.loop-rank.invariant c.in_ok-put_gap.ensures
+    let table = entries c.args.genome.now in
+    let rank = c.loop-rank.rank in
+    let size = length_read table rank c.length.result c.length.ensures.is in
+    let gap = λ (n : ℕ). interval_lines (gap_to table (record { rank = rank; end = 0 }) n) in
+    let whole = subst (λ n. Grown c.loop-rank.out (gap n) c.put_gap.new.out) (sym size) c.in_ok-put_gap.ensures in
+    one_bare whole_of table interval_line c.args.first rank (omega arith) (omega arith) _ _ _ c.loop-rank.invariant whole
 
 pub returns : goal.returns
 returns g c =
