@@ -13,7 +13,7 @@ use Rattle.bt_runs.specs.Depth.{DepthInterval, counted_on, coverage, depth_of, d
 use Rattle.bt_runs.specs.DepthStep.{Known, depth_walk, known_by, known_with, levels_by, levels_left, levels_on, levels_with}
 use Rattle.bt_runs.specs.Levels.{Level, levels_of}
 use Rattle.bt_runs.proofs.ByChromosome.{Divides, NoRecords, Owes, Written, picks_by}
-use Rattle.bt_runs.proofs.DepthLemmas.{counted_elsewhere, counted_here, counted_none, counted_push}
+use Rattle.bt_runs.proofs.DepthLemmas.{counted_elsewhere, counted_here, counted_append, counted_none}
 use Rattle.bt_runs.proofs.Keys.{compare_same}
 use Rattle.bt_runs.proofs.OneDepth.{bare_levels, known_at, known_first, known_next, left_end, settled_and_left, settled_at, settled_end, settled_first, settled_next, start_same, with_counted}
 use Rattle.bt_runs.proofs.ScanLemmas.{StopIn}
@@ -21,7 +21,7 @@ use Rattle.bt_runs.proofs.Walks.{Walked, form_of}
 
 -- the counted records of a chromosome, with one more on it
 pub counted_next : (strand : Option Strand) (name : List ℕ) (past : List Feature) (r : Feature) → r.chrom ≡ name → counted_on strand name (past ++ r ∷ []) ≡ with_counted (is_counted_by strand r.strand) (counted_on strand name past) r.start r.stop
-counted_next strand name past r is = counted_push strand name past r ∙ ap (λ l. counted_on strand name past ++ l) (counted_here strand name r is)
+counted_next strand name past r is = counted_append strand name past (r ∷ []) ∙ ap (λ l. counted_on strand name past ++ l) (counted_here strand name r is)
 
 -- intervals of which all are over, or none
 module _ (names : List (List ℕ)) (last : Interval) (name : List ℕ) where
@@ -118,7 +118,7 @@ module _ (zeros : Bool) (strand : Option Strand) where
       nothing = nothing_settled;
       picks = λ last. picks_by (is_ended_by (genome_names entries) last);
       elsewhere = λ entry past r other.
-          ap (λ l. levels_on entry.name (levels_of (depth_of zeros l) entry.length)) (counted_push strand entry.name past r ∙ ap (λ l. counted_on strand entry.name past ++ l) (counted_elsewhere strand entry.name r other) ∙ append-nil (counted_on strand entry.name past));
+          ap (λ l. levels_on entry.name (levels_of (depth_of zeros l) entry.length)) (counted_append strand entry.name past (r ∷ []) ∙ ap (λ l. counted_on strand entry.name past ++ l) (counted_elsewhere strand entry.name r other) ∙ append-nil (counted_on strand entry.name past));
       is_before = λ last entry past less. all_before (genome_names entries) last entry.name (levels_of (depth_of zeros (counted_on strand entry.name past)) entry.length) less;
       is_behind = λ last entry past greater none. none_behind (genome_names entries) last entry.name (levels_of (depth_of zeros (counted_on strand entry.name past)) entry.length) greater;
       none = none_on;

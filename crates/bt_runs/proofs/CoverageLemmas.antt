@@ -28,9 +28,6 @@ pub bare_some : (zeros : Bool) (entries : List Entry) (rank size : ℕ) (name : 
     → bare_of zeros (entry_at entries rank) ≡ record { chrom = name; start = 0; stop = size; depth = 0 } ∷ []
 bare_some zeros entries rank size name is named t some = rw (is, named, t, lt-ltb 0 size some) refl
 
-pub bare_none : (zeros : Bool) (entries : List Entry) (rank size : ℕ) → (entry_at entries rank).length ≡ size → (zeros && nat_lt 0 size) ≡ false → bare_of zeros (entry_at entries rank) ≡ []
-bare_none zeros entries rank size is f = rw (is, f) refl
-
 -- how many chromosomes have begun doesn't depend on the open records
 pub begun_same : (current : Option Reached) (held : OpenAt) → begun (seen current (none_open_at 0)) ≡ begun (seen current held)
 begun_same None held = refl

@@ -16,9 +16,9 @@ use Rattle.bt_bed.specs.Rank.{AreDistinct}
 use Rattle.bt_bed.specs.declared.strand.Strand.{Strand}
 use Rattle.bt_runs.specs.CountSeen.{seen}
 use Rattle.bt_runs.specs.Covering.{AdvanceAnswers, Covering, OnWant, StandsAfter, begun_of, held_of, is_quiet, kept_fault, may_take, settled_lines, stands_after, whole_output}
-use Rattle.bt_runs.specs.Depth.{begun_across, counted_on, coverage, depth_lines, depth_of, kept_by, kept_records, known_place, open_at, settled_depths, unfinished, unfinished_by}
+use Rattle.bt_runs.specs.Depth.{DepthInterval, begun_across, counted_on, coverage, depth_lines, depth_of, kept_by, kept_records, known_place, open_at, settled_depths, unfinished, unfinished_by}
 use Rattle.bt_runs.specs.DepthStep.{Known, bare_of, depth_walk, depths_left}
-use Rattle.bt_runs.specs.Engine.{AfterEach, Feeds, Finishes}
+use Rattle.bt_runs.specs.Engine.{AfterEach, AtEnd, Feeds, Finishes}
 use Rattle.bt_runs.specs.Failure.{fault_of}
 use Rattle.bt_runs.specs.Gaps.{AreTaken, length_in}
 use Rattle.bt_runs.specs.Levels.{Begun, levels_of}
@@ -31,7 +31,7 @@ use Rattle.bt_runs.proofs.AcrossLemmas.{across_known}
 use Rattle.bt_runs.proofs.DepthLemmas.{none_open}
 use Rattle.bt_runs.proofs.DepthLines.{lines-append}
 use Rattle.bt_runs.proofs.DepthSteps.{Reaches, leaves, moves, reached}
-use Rattle.bt_runs.proofs.EngineLemmas.{finishes_by}
+use Rattle.bt_runs.proofs.EngineLemmas.{feeds_cut, feeds_short, feeds_taken, finishes_by}
 use Rattle.bt_runs.proofs.GapRanks.{name_at, size_there}
 use Rattle.bt_runs.proofs.Keys.{apart}
 use Rattle.bt_runs.proofs.OneDepth.{known_at}
@@ -134,125 +134,86 @@ shown table zeros strand current held fault = record {
   fault = fault;
 }
 
--- the lines that are settled after the records
-abbrev lines_so_far : Bool → Option Strand → List Entry → List Feature → List ℕ
-lines_so_far zeros strand entries past = depth_lines (settled_depths zeros strand entries past)
-
-module _ (past : List Feature) (table : List Entry) (zeros : Bool) (strand : Option Strand) (current : Option Reached) (held : OpenAt) (at : AreReached table (seen current held)) where
-  -- what is said of the coverage's own table and rules, for all that are the same
-  same_words : (P : List Entry → Bool → Option Strand → Type 0) (entries : List Entry) (wanted : Bool) (asked : Option Strand) (fault : Option Told) (now : Covering) → shown table zeros strand current held fault ≡ now → StandsAfter entries wanted asked past now
-      → ((AreTaken table past → Reaches zeros strand table past (seen current held)) → P table zeros strand) → P entries wanted asked
-  same_words P entries wanted asked fault now is stands claim =
-      let same_entries : table ≡ entries = ap (λ c. c.entries) is ∙ stands.same_entries in
-      let same_zeros : zeros ≡ wanted = ap (λ c. c.zeros) is ∙ stands.same_zeros in
-      let same_strand : strand ≡ asked = ap (λ c. c.strand) is ∙ stands.same_strand in
-      let place : shown_place table (seen current held) ≡ known_place table past = ap (λ c. c.place) is ∙ stands.place ∙ ap (λ e. known_place e past) (sym same_entries) in
-      let begun : begun_of (seen current held) ≡ unfinished zeros strand table past = ap (λ c. c.begun) is ∙ stands.begun ∙ ap (λ z. unfinished z asked entries past) (sym same_zeros) ∙ ap₂ (λ s e. unfinished zeros s e past) (sym same_strand) (sym same_entries) in
-      let kept : held.spans ≡ kept_records strand table past = ap (λ c. c.kept) is ∙ stands.kept ∙ ap₂ (λ s e. kept_records s e past) (sym same_strand) (sym same_entries) in
-      subst (λ e. P e wanted asked) same_entries (subst (λ z. P table z asked) same_zeros (subst (λ s. P table zeros s) same_strand (claim (λ t. held_is zeros strand table past current held t at place begun kept))))
-
-  -- the lines of the step are those that the record settles
-  pub lines_next : (r : Feature) (entries : List Entry) (wanted : Bool) (asked : Option Strand) (fault : Option Told) (now : Covering) → shown table zeros strand current held fault ≡ now → StandsAfter entries wanted asked past now → AreTaken entries (past ++ r ∷ [])
-      → lines_so_far wanted asked entries (past ++ r ∷ []) ≡ lines_so_far wanted asked entries past ++ depth_lines (walk_step (depth_walk zeros strand) table (seen current held) r).1
-  lines_next r entries wanted asked fault now is stands =
-      same_words (λ e z s. AreTaken e (past ++ r ∷ []) → lines_so_far z s e (past ++ r ∷ []) ≡ lines_so_far z s e past ++ depth_lines (walk_step (depth_walk zeros strand) table (seen current held) r).1) entries wanted asked fault now is stands (λ h next.
-      let t = taken_front table past (r ∷ []) next in
-      ap depth_lines (moves zeros strand table past r (seen current held) next (h t)).settles
-      ∙ lines-append (settled_depths zeros strand table past) (walk_step (depth_walk zeros strand) table (seen current held) r).1)
-
-  -- the coverage stands after the record too
-  pub stands_next : (r : Feature) (next : Option Reached) (now_held : OpenAt) (entries : List Entry) (wanted : Bool) (asked : Option Strand) (fault : Option Told) (now : Covering) → shown table zeros strand current held fault ≡ now → StandsAfter entries wanted asked past now → AreTaken entries (past ++ r ∷ [])
-      → seen next now_held ≡ (walk_step (depth_walk zeros strand) table (seen current held) r).0
-      → StandsAfter entries wanted asked (past ++ r ∷ []) (shown table zeros strand next now_held fault)
-  stands_next r next now_held entries wanted asked fault now is stands taken step =
-      let k = same_words (λ e z s. AreTaken e (past ++ r ∷ []) → (shown_place table (seen next now_held) ≡ known_place e (past ++ r ∷ [])) × (begun_of (seen next now_held) ≡ unfinished z s e (past ++ r ∷ [])) × (now_held.spans ≡ kept_records s e (past ++ r ∷ []))) entries wanted asked fault now is stands (λ h more.
-      let t = taken_front table past (r ∷ []) more in
-      let m = moves zeros strand table past r (seen current held) more (h t) in
-      let k = keeps zeros strand table (past ++ r ∷ []) (walk_step (depth_walk zeros strand) table (seen current held) r).0 more.distinct m.held in
-      (ap (shown_place table) step ∙ k.place, ap begun_of step ∙ k.begun, open_held zeros strand table past r next now_held (walk_step (depth_walk zeros strand) table (seen current held) r).0 step m.held ∙ k.held)) taken in
-      record {
-        same_entries = ap (λ c. c.entries) is ∙ stands.same_entries;
-        same_zeros = ap (λ c. c.zeros) is ∙ stands.same_zeros;
-        same_strand = ap (λ c. c.strand) is ∙ stands.same_strand;
-        place = k.0;
-        begun = k.1;
-        kept = k.2;
-        going = ap (λ c. c.fault) is ∙ stands.going;
-      }
-
-  -- the lines that are left
-  pub lines_left : (stop : ℕ) → stop ≡ length table → (entries : List Entry) (wanted : Bool) (asked : Option Strand) (fault : Option Told) (now : Covering) → shown table zeros strand current held fault ≡ now → StandsAfter entries wanted asked past now → AreTaken entries past
-      → depth_lines (coverage wanted asked entries past) ≡ lines_so_far wanted asked entries past ++ depth_lines (left_before (depths_left zeros) (bare_of zeros) table (seen current held) stop)
-  lines_left stop all entries wanted asked fault now is stands =
-      same_words (λ e z s. AreTaken e past → depth_lines (coverage z s e past) ≡ lines_so_far z s e past ++ depth_lines (left_before (depths_left zeros) (bare_of zeros) table (seen current held) stop)) entries wanted asked fault now is stands (λ h t.
-      ap depth_lines (leaves zeros strand table past (seen current held) t.distinct (h t) ∙ ap (λ n. settled_depths zeros strand table past ++ left_before (depths_left zeros) (bare_of zeros) table (seen current held) n) (sym all))
-      ∙ lines-append (settled_depths zeros strand table past) (left_before (depths_left zeros) (bare_of zeros) table (seen current held) stop))
-
 module _ (table : List Entry) (zeros : Bool) (strand : Option Strand) (current : Option Reached) (held : OpenAt) (at : AreReached table (seen current held)) (fault : Option Told) (old : Covering) (is : shown table zeros strand current held fault ≡ old) (was_going : kept_fault old ≡ None) (out : Output) where
+  -- whatever coverage took the records of the past, it has this table and these rules, and keeps what is to be kept
+  record Same (first : Covering) (past : List Feature) : Type 0 where
+    same_entries : first.entries ≡ table
+    same_zeros : first.zeros ≡ zeros
+    same_strand : first.strand ≡ strand
+    reached : AreTaken table past → Reaches zeros strand table past (seen current held)
+
+  same : (first : Covering) (past : List Feature) → stands_after first past old → Same first past
+  same first past stands =
+      let entries : first.entries ≡ table = sym (ap (λ c. c.entries) is ∙ stands.same_entries) in
+      let rules : first.zeros ≡ zeros = sym (ap (λ c. c.zeros) is ∙ stands.same_zeros) in
+      let wanted : first.strand ≡ strand = sym (ap (λ c. c.strand) is ∙ stands.same_strand) in
+      let place = ap (λ c. c.place) is ∙ stands.place ∙ ap (λ e. known_place e past) entries in
+      let begun = ap (λ c. c.begun) is ∙ stands.begun ∙ ap (λ z. unfinished z first.strand first.entries past) rules ∙ ap₂ (λ s e. unfinished zeros s e past) wanted entries in
+      let kept = ap (λ c. c.kept) is ∙ stands.kept ∙ ap₂ (λ s e. kept_records s e past) wanted entries in
+      record { same_entries = entries; same_zeros = rules; same_strand = wanted; reached = λ t. held_is zeros strand table past current held t at place begun kept }
+
+  -- one more record
   module _ (r : Feature) where
-    -- the lines of the step
     abbrev step_lines : List ℕ
     step_lines = depth_lines (walk_step (depth_walk zeros strand) table (seen current held) r).1
 
+    -- the lines of the step are those that the record settles
     next_lines : AfterEach may_take stands_after old r (λ first past. settled_lines first (past ++ r ∷ []) ≡ settled_lines first past ++ step_lines)
-    next_lines first past stands taken = lines_next past table zeros strand current held at r first.entries first.zeros first.strand fault old is stands taken
+    next_lines first past stands taken =
+        let s = same first past stands in
+        let more = rw s.same_entries at taken in
+        rw (s.same_entries, s.same_zeros, s.same_strand) (ap depth_lines (moves zeros strand table past r (seen current held) more (s.reached (taken_front table past (r ∷ []) more))).settles
+        ∙ lines-append (settled_depths zeros strand table past) (walk_step (depth_walk zeros strand) table (seen current held) r).1)
+
+    none : AfterEach may_take stands_after old r (λ first past. is_quiet first past r → step_lines ≡ [])
+    none first past stands taken q = absurd q
+
+    -- the coverage stands after the record too
+    stands_next : (next : Option Reached) (now_held : OpenAt) → seen next now_held ≡ (walk_step (depth_walk zeros strand) table (seen current held) r).0
+        → AfterEach may_take stands_after old r (λ first past. stands_after first (past ++ r ∷ []) (shown table zeros strand next now_held fault))
+    stands_next next now_held step first past stands taken =
+        let s = same first past stands in
+        let more = rw s.same_entries at taken in
+        let m = moves zeros strand table past r (seen current held) more (s.reached (taken_front table past (r ∷ []) more)) in
+        let reached = (walk_step (depth_walk zeros strand) table (seen current held) r).0 in
+        let k = keeps zeros strand table (past ++ r ∷ []) reached more.distinct m.held in
+        record {
+          same_entries = sym s.same_entries;
+          same_zeros = sym s.same_zeros;
+          same_strand = sym s.same_strand;
+          place = rw s.same_entries (ap (shown_place table) step ∙ k.place);
+          begun = rw (s.same_entries, s.same_zeros, s.same_strand) (ap begun_of step ∙ k.begun);
+          kept = rw (s.same_entries, s.same_strand) (open_held zeros strand table past r next now_held reached step m.held ∙ k.held);
+          going = ap (λ c. c.fault) is ∙ stands.going;
+        }
 
     pub feeds_ok : {A : Type 0} (done : A) (next : Option Reached) (now_held : OpenAt) (grown : Output) → AdvanceAnswers (walk_step (depth_walk zeros strand) table (seen current held) r) table (Ok next) now_held out grown
         → Feeds may_take stands_after kept_fault settled_lines old r out is_quiet (Ok done) (shown table zeros strand next now_held fault) grown
-    feeds_ok done next now_held grown p = record {
-      going = λ first past stands. stands.going;
-      answers = record {
-        was_going = was_going;
-        going = ap (λ c. c.fault) is ∙ was_going;
-        stands = λ first past stands taken. stands_next past table zeros strand current held at r next now_held first.entries first.zeros first.strand fault old is stands taken p.reached;
-        puts = λ first past stands taken. record { bytes = step_lines; goes_on = next_lines first past stands taken; appends = p.puts.appends };
-        works = grown_works out grown step_lines p.puts;
-      };
-      quiet = λ first past stands taken q. absurd q;
-      grows = p.puts.grows;
-      after_failure = p.puts.again;
-    }
+    feeds_ok done next now_held grown p =
+        feeds_taken may_take stands_after kept_fault settled_lines old (λ first past stands. stands.going) was_going out step_lines is_quiet r next_lines none done (shown table zeros strand next now_held fault) grown (ap (λ c. c.fault) is) (stands_next next now_held p.reached) p.puts
 
     pub feeds_err : {A : Type 0} (failure : Failure) (e : Fault) (now_held : OpenAt) (new : Covering) (grown : Output) → told e ≡ fault_of failure → kept_fault new ≡ Some (fault_of failure) → AdvanceAnswers (walk_step (depth_walk zeros strand) table (seen current held) r) table (Err failure) now_held out grown
         → Feeds may_take stands_after kept_fault settled_lines old r out {A = A} is_quiet (Err e) new grown
-    feeds_err Write e now_held new grown is_write kept p = record {
-      going = λ first past stands. stands.going;
-      answers = inr (inl (record {
-        is = is_write;
-        was_going = was_going;
-        kept = kept;
-        cuts = λ first past stands taken. record { bytes = step_lines; goes_on = next_lines first past stands taken; front = p.puts.front };
-        failed = p.puts.failed;
-        sink_failed = p.puts.sink_failed;
-      }));
-      quiet = λ first past stands taken q. absurd q;
-      grows = p.puts.grows;
-      after_failure = p.puts.again;
-    }
-    feeds_err Memory e now_held new grown is_memory kept p = record {
-      going = λ first past stands. stands.going;
-      answers = inr (inr (record {
-        is = is_memory;
-        was_going = was_going;
-        kept = kept;
-        puts = λ first past stands taken. record {
-          bytes = step_lines;
-          unput = [];
-          goes_on = next_lines first past stands taken ∙ ap (λ l. settled_lines first past ++ l) (sym (append-nil step_lines));
-          appends = p.appends;
-        };
-        works = grown_works out grown step_lines p;
-      }));
-      quiet = λ first past stands taken q. absurd q;
-      grows = p.grows;
-      after_failure = p.again;
-    }
+    feeds_err Write e now_held new grown is_write kept p =
+        feeds_cut may_take stands_after kept_fault settled_lines old (λ first past stands. stands.going) was_going out step_lines is_quiet r next_lines none e new grown is_write kept p.some p.puts
+    feeds_err Memory e now_held new grown is_memory kept p =
+        feeds_short may_take stands_after kept_fault settled_lines old (λ first past stands. stands.going) was_going out step_lines is_quiet r next_lines none e new grown is_memory kept (λ first past stands taken q. q) p
 
-  pub finishes_left : {A : Type 0} (stop : ℕ) (result : Result A Fault) (grown : Output) → stop ≡ length table → Adds out (depth_lines (left_before (depths_left zeros) (bare_of zeros) table (seen current held) stop)) result grown
+  -- the lines that are left
+  abbrev left : ℕ → List DepthInterval
+  left stop = left_before (depths_left zeros) (bare_of zeros) table (seen current held) stop
+
+  lines_left : (stop : ℕ) → stop ≡ length table → AtEnd may_take stands_after old (λ first past. whole_output first past ≡ settled_lines first past ++ depth_lines (left stop))
+  lines_left stop all first past stands taken =
+      let s = same first past stands in
+      let t = rw s.same_entries at taken in
+      rw (s.same_entries, s.same_zeros, s.same_strand, all) (ap depth_lines (leaves zeros strand table past (seen current held) t.distinct (s.reached t))
+      ∙ lines-append (settled_depths zeros strand table past) (left (length table)))
+
+  pub finishes_left : {A : Type 0} (stop : ℕ) (result : Result A Fault) (grown : Output) → stop ≡ length table → Adds out (depth_lines (left stop)) result grown
       → Finishes may_take stands_after kept_fault settled_lines whole_output old out result grown
   finishes_left stop result grown all p =
-      finishes_by may_take stands_after kept_fault settled_lines old (λ first past stands. stands.going) was_going out (depth_lines (left_before (depths_left zeros) (bare_of zeros) table (seen current held) stop)) whole_output
-      (λ first past stands taken. lines_left past table zeros strand current held at stop all first.entries first.zeros first.strand fault old is stands taken) result grown p
+      finishes_by may_take stands_after kept_fault settled_lines old (λ first past stands. stands.going) was_going out (depth_lines (left stop)) whole_output (lines_left stop all) result grown p
 
 -- where memory ran out, what is said of that holds
 pub ends_for_record : {P : Type 0} (failure : Failure)

@@ -108,16 +108,13 @@ open_self size s = elim (cases_lt s.start size) [
   | inr past ↦ rw (le-ltb s.start size past) refl
 ]
 
--- the counted records on a chromosome, with one more
-abbrev pub counted_of : Option Strand → List Feature → List Feature
-counted_of strand past = filter (λ r. is_counted_by strand r.strand) past
-
-pub counted_push : (strand : Option Strand) (name : List ℕ) (past : List Feature) (r : Feature) → counted_on strand name (past ++ r ∷ []) ≡ counted_on strand name past ++ counted_on strand name (r ∷ [])
-counted_push strand name past r =
+-- the counted records on a chromosome, one list after another
+pub counted_append : (strand : Option Strand) (name : List ℕ) (past more : List Feature) → counted_on strand name (past ++ more) ≡ counted_on strand name past ++ counted_on strand name more
+counted_append strand name past more =
     let test : Feature → Bool = λ r. is_counted_by strand r.strand in
-    ap (λ l. spans_on name (intervals_of l)) (filter-append test past (r ∷ []))
-    ∙ ap (spans_on name) (map-append interval_of (filter test past) (filter test (r ∷ [])))
-    ∙ spans_on-append name (intervals_of (filter test past)) (intervals_of (filter test (r ∷ [])))
+    ap (λ l. spans_on name (intervals_of l)) (filter-append test past more)
+    ∙ ap (spans_on name) (map-append interval_of (filter test past) (filter test more))
+    ∙ spans_on-append name (intervals_of (filter test past)) (intervals_of (filter test more))
 
 pub counted_elsewhere : (strand : Option Strand) (name : List ℕ) (r : Feature) → bytes_eq r.chrom name ≡ false → counted_on strand name (r ∷ []) ≡ []
 counted_elsewhere strand name r other = elim (cases_Bool (is_counted_by strand r.strand)) [
@@ -131,15 +128,8 @@ counted_here strand name r is = elim (cases_Bool (is_counted_by strand r.strand)
   | inr f ↦ rw f refl
 ]
 
-counted_push-front : (strand : Option Strand) (name : List ℕ) (r : Feature) (rs : List Feature) → counted_on strand name (r ∷ rs) ≡ counted_on strand name (r ∷ []) ++ counted_on strand name rs
-counted_push-front strand name r rs =
-    let test : Feature → Bool = λ r. is_counted_by strand r.strand in
-    ap (λ l. spans_on name (intervals_of l)) (filter-append test (r ∷ []) rs)
-    ∙ ap (spans_on name) (map-append interval_of (filter test (r ∷ [])) (filter test rs))
-    ∙ spans_on-append name (intervals_of (filter test (r ∷ []))) (intervals_of (filter test rs))
-
 pub counted_none : (strand : Option Strand) (name : List ℕ) (past : List Feature) → has_records name (intervals_of past) ≡ false → counted_on strand name past ≡ []
 counted_none strand name [] none = refl
 counted_none strand name (r ∷ rs) none =
     let tests = or_parts (bytes_eq r.chrom name) (has_records name (intervals_of rs)) none in
-    counted_push-front strand name r rs ∙ ap₂ (λ (xs ys : List Span). xs ++ ys) (counted_elsewhere strand name r tests.0) (counted_none strand name rs tests.1)
+    counted_append strand name (r ∷ []) rs ∙ ap₂ (λ (xs ys : List Span). xs ++ ys) (counted_elsewhere strand name r tests.0) (counted_none strand name rs tests.1)

@@ -16,16 +16,14 @@ none_more before lines after more same = append_cancel_left before lines [] (sym
 
 module _ {E : Type 0} (MayTake : E → List Feature → Type 0) (Stands : E → List Feature → E → Type 0) (fault : E → Option Told) (settled : E → List Feature → List ℕ) (old : E)
     (going : (first : E) (past : List Feature) → Stands first past old → fault old ≡ None) (was_going : fault old ≡ None) (out : Output) (lines : List ℕ) where
-  -- the lines are those that the record settles
-  module _ (held : E → List Feature → ℕ) (r : Feature) (next : AfterEach MayTake Stands old r (λ first past. settled first (past ++ r ∷ []) ≡ settled first past ++ lines)) where
-    abbrev Quiet : E → List Feature → Feature → Type 0
-    Quiet first past r = IsQuiet (settled first) (held first) past r
+  -- a record that settles nothing more settles none of the lines
+  pub quiet_none : (held : E → List Feature → ℕ) (r : Feature) → AfterEach MayTake Stands old r (λ first past. settled first (past ++ r ∷ []) ≡ settled first past ++ lines)
+      → AfterEach MayTake Stands old r (λ first past. IsQuiet (settled first) (held first) past r → lines ≡ [])
+  quiet_none held r next first past stands taken quiet =
+      none_more (settled first past) lines (settled first (past ++ r ∷ [])) (next first past stands taken) quiet.settles
 
-    -- a quiet record settles none
-    pub quiet_none : AfterEach MayTake Stands old r (λ first past. Quiet first past r → lines ≡ [])
-    quiet_none first past stands taken quiet =
-        none_more (settled first past) lines (settled first (past ++ r ∷ [])) (next first past stands taken) quiet.settles
-
+  -- the lines are those that the record settles, and there are none where it is quiet
+  module _ (Quiet : E → List Feature → Feature → Type 0) (r : Feature) (next : AfterEach MayTake Stands old r (λ first past. settled first (past ++ r ∷ []) ≡ settled first past ++ lines)) (none : AfterEach MayTake Stands old r (λ first past. Quiet first past r → lines ≡ [])) where
     -- the record was taken
     pub feeds_taken : {A : Type 0} (done : A) (new : E) (grown : Output) → fault new ≡ fault old → AfterEach MayTake Stands old r (λ first past. Stands first (past ++ r ∷ []) new) → Grown out lines grown
         → Feeds MayTake Stands fault settled old r out Quiet (Ok done) new grown
@@ -38,7 +36,7 @@ module _ {E : Type 0} (MayTake : E → List Feature → Type 0) (Stands : E → 
         puts = λ first past s taken. record { bytes = lines; goes_on = next first past s taken; appends = p.appends };
         works = grown_works out grown lines p;
       };
-      quiet = λ first past s taken q. (refl, p.nothing (quiet_none first past s taken q));
+      quiet = λ first past s taken q. (refl, p.nothing (none first past s taken q));
       grows = p.grows;
       after_failure = p.again;
     }
@@ -56,7 +54,7 @@ module _ {E : Type 0} (MayTake : E → List Feature → Type 0) (Stands : E → 
         failed = p.failed;
         sink_failed = p.sink_failed;
       }));
-      quiet = λ first past s taken q. absurd (some (quiet_none first past s taken q));
+      quiet = λ first past s taken q. absurd (some (none first past s taken q));
       grows = p.grows;
       after_failure = p.again;
     }

@@ -33,12 +33,7 @@ pub same_strand : (a b : Strand) → is_strand a b ≡ true → a ≡ b
 same_strand Plus Plus t = refl
 same_strand Minus Minus t = refl
 same_strand Dot Dot t = refl
-same_strand Plus Minus t = absurd (false≢true t)
-same_strand Plus Dot t = absurd (false≢true t)
-same_strand Minus Plus t = absurd (false≢true t)
-same_strand Minus Dot t = absurd (false≢true t)
-same_strand Dot Plus t = absurd (false≢true t)
-same_strand Dot Minus t = absurd (false≢true t)
+same_strand a b t = absurd (false≢true t)
 
 -- records that stand together: one before the next on its chromosome starts no further on
 not_gone : (x r : Interval) (xs : List Interval) → x.chrom ≡ r.chrom → has_records x.chrom (xs ++ r ∷ []) ≡ false → ⊥

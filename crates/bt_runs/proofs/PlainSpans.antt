@@ -1,5 +1,5 @@
 -- What the plain program asks of its spans, against the definitions.
-use Rattle.std.proofs.Common.{◌≡◌, ℕ, ◌+◌, ◌-◌, ◌<◌, ◌≤◌, ◌⊎◌, inl, inr, List, [], ◌∷◌, ◌++◌, append_assoc, refl, sym, ap, ◌∙◌, arith, Bool, true, false, ◌&&◌, Decides, nat_le, nat_lt, leb-true, le-leb, All, ◌==◌}
+use Rattle.std.proofs.Common.{◌≡◌, ℕ, ◌+◌, ◌-◌, ◌<◌, ◌≤◌, ◌⊎◌, inl, inr, List, [], ◌∷◌, ◌++◌, append_assoc, refl, sym, ap, ◌∙◌, subst, arith, Bool, true, false, ◌&&◌, Decides, nat_le, nat_lt, leb-true, le-leb, All, ◌==◌}
 use Rattle.std.specs.List.{list_any}
 use Rattle.std.proofs.lemmas.Bool.{cases_eq, false≢true, cond-true, cond-false, eq-eqb, ne_eqb}
 use Rattle.std.proofs.lemmas.Bool.Decides.{Decides-and, Decides-or, Decides-ltb}
@@ -89,17 +89,17 @@ with_next-adds p [] a below = record {
 }
 with_next-adds p (s ∷ ss) a below = with_next_after-adds 0 p s ss a below
 
--- the stretches of the bridged positions below n
-abbrev pub AreRunsBelow : ℕ → List Span → ℕ → List Span → Type 0
-AreRunsBelow gap spans n runs = AreStretchesOf (λ p. (p < n) × Bridged gap spans p) runs
+-- the stretches of the positions below n of which something is so, with the next position and without
+abbrev pub AreBelow : (ℕ → Type 0) → ℕ → List Span → Type 0
+AreBelow P n spans = AreStretchesOf (λ p. (p < n) × P p) spans
 
-pub runs_below-bridged : (gap : ℕ) (spans : List Span) (n : ℕ) (runs : List Span) → AreRunsBelow gap spans n runs → Bridged gap spans n → AreRunsBelow gap spans (n + 1) (with_next runs n)
-runs_below-bridged gap spans n runs r b =
-    let adds = with_next-adds n runs r.apart (λ q c. (r.within q c).0) in
+pub below_with : (P : ℕ → Type 0) (n : ℕ) (spans : List Span) → AreBelow P n spans → P n → AreBelow P (n + 1) (with_next spans n)
+below_with P n spans r here =
+    let adds = with_next-adds n spans r.apart (λ q c. (r.within q c).0) in
     record {
       apart = adds.apart;
       within = λ q c. elim (adds.within q c) [
-        | inl same ↦ (omega arith, rw same b)
+        | inl same ↦ (omega arith, rw same here)
         | inr old ↦ let h = r.within q old in (omega (arith, h.0), h.1)
       ];
       whole = λ q c. elim (cases_eq q n) [
@@ -108,15 +108,19 @@ runs_below-bridged gap spans n runs r b =
       ];
     }
 
-pub runs_below-bare : (gap : ℕ) (spans : List Span) (n : ℕ) (runs : List Span) → AreRunsBelow gap spans n runs → (Bridged gap spans n → ⊥) → AreRunsBelow gap spans (n + 1) runs
-runs_below-bare gap spans n runs r bare = record {
+pub below_without : (P : ℕ → Type 0) (n : ℕ) (spans : List Span) → AreBelow P n spans → (P n → ⊥) → AreBelow P (n + 1) spans
+below_without P n spans r none = record {
   apart = r.apart;
   within = λ q c. let h = r.within q c in (omega (arith, h.0), h.1);
   whole = λ q c. elim (cases_eq q n) [
-    | inl same ↦ let b : Bridged gap spans n = rw same at c.1 in absurd (bare b)
+    | inl same ↦ let here : P n = subst P same c.1 in absurd (none here)
     | inr other ↦ r.whole q (omega (arith, c.0), c.1)
   ];
 }
+
+-- those of the bridged positions
+abbrev pub AreRunsBelow : ℕ → List Span → ℕ → List Span → Type 0
+AreRunsBelow gap spans n runs = AreBelow (Bridged gap spans) n runs
 
 pub runs_below-all : (gap : ℕ) (spans : List PlainSpan) (end n : ℕ) (runs : List Span) → All (λ s. s.stop ≤ end) spans → end ≤ n → AreRunsBelow gap (spans_in spans) n runs → runs ≡ runs_of gap (spans_in spans)
 runs_below-all gap spans end n runs all past r = only_runs gap (spans_in spans) runs (record {

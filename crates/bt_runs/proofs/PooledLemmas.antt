@@ -97,20 +97,23 @@ module _ (old : Pooling) (was_going : kept_fault old ≡ None) (out : Output) wh
     next : AfterEach may_take stands_after old r (λ first past. settled_lines first (past ++ r ∷ []) ≡ settled_lines first past ++ lines_by old r)
     next first past stands taken = settles_next first.gap first.strand past old stands r taken
 
+    none : AfterEach may_take stands_after old r (λ first past. is_quiet first past r → lines_by old r ≡ [])
+    none = quiet_none may_take stands_after kept_fault settled_lines old (λ first past stands. stands.going) was_going out (lines_by old r) held_count r next
+
     pub feeds_ok : {A : Type 0} (done : A) (new : Pooling) (grown : Output) → Takes old r out new grown
         → Feeds may_take stands_after kept_fault settled_lines old r out is_quiet (Ok done) new grown
     feeds_ok done new grown p =
-        feeds_taken may_take stands_after kept_fault settled_lines old (λ first past stands. stands.going) was_going out (lines_by old r) held_count r next done new grown p.fault
+        feeds_taken may_take stands_after kept_fault settled_lines old (λ first past stands. stands.going) was_going out (lines_by old r) is_quiet r next none done new grown p.fault
         (λ first past stands taken. stands_next first.gap first.strand past old stands r out new grown taken p) p.puts
 
     pub feeds_err : {A : Type 0} (failure : Failure) (e : Fault) (mid new : Pooling) (grown : Output) → told e ≡ fault_of failure → kept_fault new ≡ Some (fault_of failure) → TakesNext {A = A} old r out (Err failure) mid grown
         → Feeds may_take stands_after kept_fault settled_lines old r out {A = A} is_quiet (Err e) new grown
     feeds_err Write e mid new grown is kept p =
-        feeds_cut may_take stands_after kept_fault settled_lines old (λ first past stands. stands.going) was_going out (lines_by old r) held_count r next e new grown is kept
+        feeds_cut may_take stands_after kept_fault settled_lines old (λ first past stands. stands.going) was_going out (lines_by old r) is_quiet r next none e new grown is kept
         (λ none. p.settles (no_lines (settled_by old.gap old.kept (interval_of r)) none)) p.puts
     feeds_err Memory e mid new grown is kept p =
-        feeds_short may_take stands_after kept_fault settled_lines old (λ first past stands. stands.going) was_going out (lines_by old r) held_count r next e new grown is kept
-        (λ first past stands taken q. loud_next first.gap first.strand past old stands r out mid grown taken p (quiet_none may_take stands_after kept_fault settled_lines old (λ first past stands. stands.going) was_going out (lines_by old r) held_count r next first past stands taken q) q.keeps) p.puts
+        feeds_short may_take stands_after kept_fault settled_lines old (λ first past stands. stands.going) was_going out (lines_by old r) is_quiet r next none e new grown is kept
+        (λ first past stands taken q. loud_next first.gap first.strand past old stands r out mid grown taken p (none first past stands taken q) q.keeps) p.puts
 
   -- the kept run's line is put, if a run is kept
   pub finishes_kept : {A : Type 0} (kept : List Interval) (result : Result A Fault) (grown : Output) → old.kept ≡ kept → Adds out (interval_lines kept) result grown

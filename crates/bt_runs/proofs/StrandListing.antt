@@ -69,14 +69,9 @@ listed_append runs before (x ∷ xs) ys =
 
 strand_either : (a b : Strand) → is_strand a b ≡ is_strand b a
 strand_either Plus Plus = refl
-strand_either Plus Minus = refl
-strand_either Plus Dot = refl
-strand_either Minus Plus = refl
 strand_either Minus Minus = refl
-strand_either Minus Dot = refl
-strand_either Dot Plus = refl
-strand_either Dot Minus = refl
 strand_either Dot Dot = refl
+strand_either a b = refl
 
 same_either : (b : Bool) (none : List StrandRun) → cond b none none ≡ none
 same_either true none = refl

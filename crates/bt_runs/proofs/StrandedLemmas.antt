@@ -271,20 +271,23 @@ module _ (merge : Stranding) (was_going : kept_fault merge ≡ None) (out : Outp
     next : AfterEach may_take stands_after merge r (λ first past. settled_lines first (past ++ r ∷ []) ≡ settled_lines first past ++ lines_by merge r)
     next first past stands taken = settles_next first.gap past merge stands r taken
 
+    none : AfterEach may_take stands_after merge r (λ first past. is_quiet first past r → lines_by merge r ≡ [])
+    none = quiet_none may_take stands_after kept_fault settled_lines merge (λ first past stands. stands.going) was_going out (lines_by merge r) held_count r next
+
     pub feeds_ok : {A : Type 0} (done : A) (new : Stranding) (grown : Output) → Takes merge r out new grown
         → Feeds may_take stands_after kept_fault settled_lines merge r out is_quiet (Ok done) new grown
     feeds_ok done new grown p =
-        feeds_taken may_take stands_after kept_fault settled_lines merge (λ first past stands. stands.going) was_going out (lines_by merge r) held_count r next done new grown p.fault
+        feeds_taken may_take stands_after kept_fault settled_lines merge (λ first past stands. stands.going) was_going out (lines_by merge r) is_quiet r next none done new grown p.fault
         (λ first past stands taken. stands_next first.gap past merge stands r out new grown taken p) p.puts
 
     pub feeds_err : {A : Type 0} (failure : Failure) (e : Fault) (mid new : Stranding) (grown : Output) → told e ≡ fault_of failure → kept_fault new ≡ Some (fault_of failure) → TakesNext {A = A} merge r out (Err failure) mid grown
         → Feeds may_take stands_after kept_fault settled_lines merge r out {A = A} is_quiet (Err e) new grown
     feeds_err Write e mid new grown is kept p =
-        feeds_cut may_take stands_after kept_fault settled_lines merge (λ first past stands. stands.going) was_going out (lines_by merge r) held_count r next e new grown is kept
+        feeds_cut may_take stands_after kept_fault settled_lines merge (λ first past stands. stands.going) was_going out (lines_by merge r) is_quiet r next none e new grown is kept
         (λ none. p.settles (no_items (front_settled merge.gap merge.kept r) (no_lines (places_of (front_settled merge.gap merge.kept r)) none))) p.puts
     feeds_err Memory e mid new grown is kept p =
-        feeds_short may_take stands_after kept_fault settled_lines merge (λ first past stands. stands.going) was_going out (lines_by merge r) held_count r next e new grown is kept
-        (λ first past stands taken q. loud_next first.gap past merge stands r taken p.opens (quiet_none may_take stands_after kept_fault settled_lines merge (λ first past stands. stands.going) was_going out (lines_by merge r) held_count r next first past stands taken q) q.keeps) p.puts
+        feeds_short may_take stands_after kept_fault settled_lines merge (λ first past stands. stands.going) was_going out (lines_by merge r) is_quiet r next none e new grown is kept
+        (λ first past stands taken q. loud_next first.gap past merge stands r taken p.opens (none first past stands taken q) q.keeps) p.puts
 
   -- the kept runs' lines are put
   pub finishes_kept : {A : Type 0} (result : Result A Fault) (grown : Output) → Adds out (strand_lines merge.kept) result grown

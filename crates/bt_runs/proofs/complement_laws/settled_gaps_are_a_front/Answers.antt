@@ -3,11 +3,9 @@ use Rattle.bt_runs.proofs.GapSteps.{one_kept, settles_gaps}
 use Rattle.bt_runs.proofs.SettlingLemmas.{begins, stays}
 use Rattle.bt_runs.proofs.complement_laws.settled_gaps_are_a_front.Goals as goal
 
-pub returns-clause-stay : goal.returns-clause-stay
-returns-clause-stay c = λ limit entries. stays (settled_gaps limit entries) (complement limit entries) (AreTaken entries) (settles_gaps limit entries)
-
-pub returns-clause-begin : goal.returns-clause-begin
-returns-clause-begin c = λ limit entries. begins (settled_gaps limit entries) (complement limit entries) (AreTaken entries) (settles_gaps limit entries)
-
-pub returns-clause-kept : goal.returns-clause-kept
-returns-clause-kept c = one_kept
+pub returns : goal.returns
+returns c = record {
+  stay = λ limit entries. stays (settled_gaps limit entries) (complement limit entries) (AreTaken entries) (settles_gaps limit entries);
+  begin = λ limit entries. begins (settled_gaps limit entries) (complement limit entries) (AreTaken entries) (settles_gaps limit entries);
+  kept = one_kept;
+}

@@ -4,8 +4,8 @@ use Rattle.bt_runs.proofs.DepthSteps.{settles_depths}
 use Rattle.bt_runs.proofs.SettlingLemmas.{begins, stays}
 use Rattle.bt_runs.proofs.depth_laws.settled_depths_are_a_front.Goals as goal
 
-pub returns-clause-stay : goal.returns-clause-stay
-returns-clause-stay c = λ zeros strand entries. stays (settled_depths zeros strand entries) (coverage zeros strand entries) (AreTaken entries) (settles_depths zeros strand entries)
-
-pub returns-clause-begin : goal.returns-clause-begin
-returns-clause-begin c = λ zeros strand entries. begins (settled_depths zeros strand entries) (coverage zeros strand entries) (AreTaken entries) (settles_depths zeros strand entries)
+pub returns : goal.returns
+returns c = record {
+  stay = λ zeros strand entries. stays (settled_depths zeros strand entries) (coverage zeros strand entries) (AreTaken entries) (settles_depths zeros strand entries);
+  begin = λ zeros strand entries. begins (settled_depths zeros strand entries) (coverage zeros strand entries) (AreTaken entries) (settles_depths zeros strand entries);
+}

@@ -15,28 +15,8 @@ overflow_sub-ended c =
     let long = c.len.ensures in
     omega arith
 
-pub returns-then-count-ended-clause-left : goal.returns-then-count-ended-clause-left
-returns-then-count-ended-clause-left c =
-    let at = c.args.position in
-    let old = c.args.spans.now.items in
-    let new = c.retain.new.self.items in
-    let test = λ (s : OpenSpan). nat_le at s.stop in
-    let same = filter_same _ test _ (λ x b f' k. search rules) _ _ c.retain.ensures.filtered in
-    let left : spans_open new ≡ still_open at (spans_open old) = kept_open at old new same in
-    ap (still_open at) left ∙ open_after at at (spans_open old) (omega arith)
-
-pub returns-then-count-ended-clause-started : goal.returns-then-count-ended-clause-started
-returns-then-count-ended-clause-started c = λ started.
-    let at = c.args.position in
-    let old = c.args.spans.now.items in
-    let new = c.retain.new.self.items in
-    let test = λ (s : OpenSpan). nat_le at s.stop in
-    let same = filter_same _ test _ (λ x b f' k. search rules) _ _ c.retain.ensures.filtered in
-    let left : spans_open new ≡ still_open at (spans_open old) = kept_open at old new same in
-    rw left (All-filter (λ s. nat_le at s.stop) (λ s. s.start ≤ at) (spans_open old) started)
-
-pub returns-then-count-ended-clause-few : goal.returns-then-count-ended-clause-few
-returns-then-count-ended-clause-few c =
+pub returns-then-count-ended : goal.returns-then-count-ended
+returns-then-count-ended c =
     let at = c.args.position in
     let old = c.args.spans.now.items in
     let new = c.retain.new.self.items in
@@ -45,4 +25,8 @@ returns-then-count-ended-clause-few c =
     let left : spans_open new ≡ still_open at (spans_open old) = kept_open at old new same in
     let long = length-map new span_open in
     let many : length (spans_open new) ≡ c.args.count = ap length left ∙ (let is = c.requires in cc) in
-    omega arith
+    record {
+      left = ap (still_open at) left ∙ open_after at at (spans_open old) (omega arith);
+      started = λ started. rw left (All-filter (λ s. nat_le at s.stop) (λ s. s.start ≤ at) (spans_open old) started);
+      few = omega arith;
+    }

@@ -1,7 +1,8 @@
 use Rattle.std.proofs.Common.{arith, sym, ◌∙◌}
 use Rattle.std.proofs.lemmas.Bool.{false≢true}
+use Rattle.bt_runs.specs.Merged.{Bridged}
 use Rattle.bt_runs.specs.Plain.{spans_in}
-use Rattle.bt_runs.proofs.PlainSpans.{runs_below-bridged, runs_below-bare, runs_below-all}
+use Rattle.bt_runs.proofs.PlainSpans.{below_with, below_without, runs_below-all}
 use Rattle.bt_runs.proofs.plain.plain_runs.Goals as goal
 use Rattle.bt_runs.proofs.plain.plain_runs.Goals.{then-is_bridged+in_ok-add_position, else-is_bridged}
 
@@ -11,9 +12,9 @@ loop-position-preserved c =
     elim c.if-is_bridged.branch [
       | then-is_bridged+in_ok-add_position w ↦
           let added = w.in_ok-add_position.ensures in
-          rw (w.runs-is, added) (runs_below-bridged c.args.gap (spans_in c.args.spans.now) c.loop-position.position before c.loop-position.invariant (c.is_bridged.ensures.0 w.if-is_bridged.true))
+          rw (w.runs-is, added) (below_with (Bridged c.args.gap (spans_in c.args.spans.now)) c.loop-position.position before c.loop-position.invariant (c.is_bridged.ensures.0 w.if-is_bridged.true))
       | else-is_bridged w ↦
-          rw (w.runs-is) (runs_below-bare c.args.gap (spans_in c.args.spans.now) c.loop-position.position before c.loop-position.invariant (λ b. false≢true (sym w.if-is_bridged.false ∙ c.is_bridged.ensures.1 b)))
+          rw (w.runs-is) (below_without (Bridged c.args.gap (spans_in c.args.spans.now)) c.loop-position.position before c.loop-position.invariant (λ b. false≢true (sym w.if-is_bridged.false ∙ c.is_bridged.ensures.1 b)))
     ]
 
 pub returns : goal.returns
