@@ -1,5 +1,5 @@
 -- What a coverage holds is what the definitions keep of the records of the past, and its step writes what they settle.
-use Rattle.std.proofs.Common.{◌≡◌, ℕ, inl, inr, List, [], ◌∷◌, ◌++◌, append-nil, refl, sym, ap, ap₂, ◌∙◌, subst, arith, length, min, Bool, Option, Some, None, Result, Ok, Err}
+use Rattle.std.proofs.Common.{◌≡◌, ℕ, inl, inr, List, [], ◌∷◌, ◌++◌, refl, sym, ap, ap₂, ◌∙◌, subst, arith, length, min, Bool, Option, Some, None, Result, Ok, Err}
 use Rattle.std.proofs.lemmas.Bool.{cases_lt, lt-ltb, le-ltb}
 use Rattle.bt_lines.specs.Fault.{Told, no_memory}
 use Rattle.bt_lines.specs.Names.{told}
@@ -7,7 +7,6 @@ use Rattle.bt_lines.specs.Output.{Output}
 use Rattle.bt_lines.specs.Putting.{Adds}
 use Rattle.bt_lines.specs.declared.fault.Fault.{Fault}
 use Rattle.bt_lines.specs.declared.fault.Kind.TheVariants.{NoMemory, WriteFailed}
-use Rattle.bt_lines.proofs.PuttingLemmas.{grown_works}
 use Rattle.bt_bed.specs.Feature.{Feature, intervals_of}
 use Rattle.bt_bed.specs.Genome.{Entry, genome_names}
 use Rattle.bt_bed.specs.Interval.{Span, last_of}
@@ -15,8 +14,8 @@ use Rattle.bt_bed.specs.Locus.{Locus}
 use Rattle.bt_bed.specs.Rank.{AreDistinct}
 use Rattle.bt_bed.specs.declared.strand.Strand.{Strand}
 use Rattle.bt_runs.specs.CountSeen.{seen}
-use Rattle.bt_runs.specs.Covering.{AdvanceAnswers, Covering, OnWant, StandsAfter, begun_of, held_of, is_quiet, kept_fault, may_take, settled_lines, stands_after, whole_output}
-use Rattle.bt_runs.specs.Depth.{DepthInterval, begun_across, counted_on, coverage, depth_lines, depth_of, kept_by, kept_records, known_place, open_at, settled_depths, unfinished, unfinished_by}
+use Rattle.bt_runs.specs.Covering.{AdvanceAnswers, Covering, OnWant, begun_of, held_of, is_quiet, kept_fault, may_take, settled_lines, stands_after, whole_output}
+use Rattle.bt_runs.specs.Depth.{DepthInterval, begun_across, counted_on, depth_lines, depth_of, kept_by, kept_records, known_place, open_at, settled_depths, unfinished, unfinished_by}
 use Rattle.bt_runs.specs.DepthStep.{Known, bare_of, depth_walk, depths_left}
 use Rattle.bt_runs.specs.Engine.{AfterEach, AtEnd, Feeds, Finishes}
 use Rattle.bt_runs.specs.Failure.{fault_of}

@@ -3,7 +3,6 @@ use Rattle.std.proofs.Common.{◌≡◌, ℕ, inl, inr, List, [], ◌∷◌, ref
 use Rattle.std.specs.Prelude.{if◌then◌else◌}
 use Rattle.std.specs.Ordering.{is_lt}
 use Rattle.std.specs.declared.cmp.Ordering.TheVariants.{Equal, Less}
-use Rattle.bt_bed.specs.Feature.{intervals_of}
 use Rattle.bt_bed.specs.Interval.{Interval}
 use Rattle.bt_bed.specs.Locus.{ArePlaced}
 use Rattle.bt_bed.specs.Order.{Order, IsTotal}
