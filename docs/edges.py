@@ -85,6 +85,13 @@ CASES = [
     ("bedtools merge -i a.bed -g .", "", "bedtools merge: .:1: reading failed\n", 1),
     ("bedtools intersect -a a.bed -b . -g genome.txt", "", "bedtools intersect: .:1: reading failed\n", 1),
     ("bedtools merge -i missing.bed -g genome.txt", "", "bedtools merge: missing.bed: cannot be opened\n", 1),
+    # A line that never ends takes the memory that there is, which is bounded here.
+    ("ulimit -v 100000; bedtools merge -i /dev/zero -g genome.txt", "", "bedtools merge: no memory\n", 1),
+    ("ulimit -v 100000; bedtools merge -i a.bed -g /dev/zero", "", "bedtools merge: no memory\n", 1),
+    ("ulimit -v 100000; (cat a.bed; cat /dev/zero) | bedtools merge -g genome.txt", "chr1\t2\t6\n", "bedtools merge: no memory\n", 1),
+    ("ulimit -v 100000; (cat a.fa; cat /dev/zero) | bedtools maskfasta -fi - -bed a.bed", ">chr1\nACNNNNGT\n", "bedtools maskfasta: no memory\n", 1),
+    # Few files may be open.
+    ("ulimit -n 4; bedtools merge -i a.bed -g genome.txt", "", "bedtools merge: a.bed: cannot be opened\n", 1),
     # The fault comes behind what was settled before it.
     ("bedtools merge -i unsorted.bed -g genome.txt", "", UNSORTED, 1),
     ("(cat a.bed; printf 'chr2\\t0\\t3\\nchr2\\t1\\tx\\n') | bedtools merge -g genome.txt", MERGED,
