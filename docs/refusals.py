@@ -1,5 +1,5 @@
 #!/usr/bin/env python3
-"""Refuses each growth of memory of the program in bin/ in turn.
+"""Refuses each growth of memory of the program in bin/ in turn, and lets each read and each write fail.
 
     docs/refusals.py
 
@@ -9,7 +9,11 @@ with `bedtools COMMAND: no memory` or `bedtools: no memory` and status 1, and to
 which nothing is missing that was settled: what the same command line writes where reading fails at the line that was
 read last, and behind what was read of the other input. refuse.c refuses the growths, preloaded into the program; it
 hands over a line at most at each read, so that it knows how far the inputs were read; without it the whole output has
-to be the same. Needs gcc. Ends with 1 where something else comes of it.
+to be the same.
+
+Then reading fails at each line of each input and at its end, and writing behind each number of bytes: a run has to
+report that with its line, to write a front of the whole output (of just so many bytes where writing fails), and not to
+try the call again. Needs gcc. Ends with 1 where something else comes of it.
 """
 
 import os
@@ -104,6 +108,8 @@ class Refuser:
         self.words = words.split()
         self.library = library
         self.inputs = {"g.txt": GENOME, **files}
+        # The inputs that are read: none where the words can't be used.
+        self.read = [name for name in self.inputs if name in self.words or "-" in self.words and name == "a.bed"]
         # What is settled where the inputs were read to these lines.
         self.settled = {}
         for name, text in self.inputs.items():
@@ -134,7 +140,7 @@ class Refuser:
 
     def wrong_with(self, answer):
         """What is wrong with the answer of a refused run, if anything."""
-        command = f"bedtools {self.words[0] if self.words else ''}: no memory\n"
+        command = f"bedtools {self.command()}: no memory\n"
         if answer.status != 1:
             return f"status {answer.status}"
         if answer.error.decode() not in (command, "bedtools: no memory\n"):
@@ -155,13 +161,49 @@ class Refuser:
                 fault = None if self.is_same and answer == self.whole else "another answer where nothing is refused"
             else:
                 fault = self.wrong_with(answer)
-            if fault:
-                wrong += 1
-                print(f"bedtools {' '.join(self.words)}: growth {at} is refused{' and all behind it' if further else ''}: {fault}")
-                print(f"  status {answer.status}, output {answer.output[-300:]!r}, error {answer.error[-300:]!r}", flush=True)
+            wrong += self.tell(f"growth {at} is refused{' and all behind it' if further else ''}: {fault}", answer) if fault else 0
             if is_last:
                 return at - 1, wrong
         return MOST, wrong + 1
+
+
+    def command(self):
+        return self.words[0] if self.words else ""
+
+    def tell(self, what, answer):
+        """Prints what is wrong with an answer. Answers 1."""
+        print(f"bedtools {' '.join(self.words)}: {what}")
+        print(f"  status {answer.status}, output {answer.output[-300:]!r}, error {answer.error[-300:]!r}", flush=True)
+        return 1
+
+    def fail_reads(self):
+        """Lets reading fail at each line of each input, and at its end. Answers how many runs failed, and how many went
+        wrong."""
+        runs = wrong = 0
+        for name in self.read:
+            shown = name if name in self.words else "-"
+            for at in range(len(self.inputs[name].splitlines()) + 1):
+                answer = self.run({"REFUSE_READS": f"{name} {at} "})
+                line = min(at, self.inputs[name].count("\n")) + 1
+                error = f"bedtools {self.command()}: {shown}:{line}: reading failed\n".encode()
+                is_right = (answer.status, answer.error) == (1, error) and self.whole.output.startswith(answer.output)
+                wrong += 0 if is_right else self.tell(f"reading {name} fails behind {at} lines", answer)
+                runs += 1
+        return runs, wrong
+
+    def fail_writes(self):
+        """Lets writing fail behind each number of bytes, or some where these are many. Answers as above."""
+        runs = wrong = 0
+        size = len(self.whole.output)
+        # The writer behind -fo tries a failed write once more when it is let go.
+        again = {"REFUSE_AGAIN": "1"} if "-fo" in self.words else {}
+        for taken in range(size) if size < 400 else [at for at in (0, 1, 8191, 8192, 8193, size - 1) if at < size]:
+            answer = self.run({"REFUSE_WRITES": str(taken), **again})
+            wanted = (1, self.whole.output[:taken], f"bedtools {self.command()}: writing failed\n".encode())
+            is_right = (answer.status, answer.output, answer.error) == wanted
+            wrong += 0 if is_right else self.tell(f"writing fails behind {taken} bytes", answer)
+            runs += 1
+        return runs, wrong
 
 
 def library_in(folder):
@@ -171,12 +213,17 @@ def library_in(folder):
     return library
 
 
-def refuse_all(folder):
-    """Refuses each growth of each command line. Answers how many runs were refused, and how many went wrong."""
+def refuse_all(library):
+    """Refuses each growth of each command line, and lets each read and write fail. Answers how many runs were refused a
+    growth, a read and a write, and how many went wrong."""
     counts = []
     for words, files in RUNS:
-        refuser = Refuser(words, files, library_in(folder) if not counts else f"{folder}/refuse.so")
-        counts += [refuser.refuse_each({}), refuser.refuse_each({"REFUSE_ALL": "1"})]
+        refuser = Refuser(words, files, library)
+        one, wrong = refuser.refuse_each({})
+        all_behind, wrong_behind = refuser.refuse_each({"REFUSE_ALL": "1"})
+        is_used = refuser.whole.status == 0
+        (reads, wrong_reads), (writes, wrong_writes) = (refuser.fail_reads(), refuser.fail_writes()) if is_used else ((0, 0), (0, 0))
+        counts.append((one + all_behind, reads, writes, wrong + wrong_behind + wrong_reads + wrong_writes))
     return [sum(column) for column in zip(*counts)]
 
 
@@ -187,9 +234,10 @@ def main():
     resource.setrlimit(resource.RLIMIT_AS, (MOST_MEMORY, MOST_MEMORY))
     with tempfile.TemporaryDirectory() as folder:
         os.chdir(folder)
-        refused, wrong = refuse_all(folder)
+        growths, reads, writes, wrong = refuse_all(library_in(folder))
         os.chdir("/")
-    print(f"{refused} runs of {len(RUNS)} command lines with a growth of memory refused, {wrong} went wrong")
+    print(f"{growths} runs of {len(RUNS)} command lines with a growth of memory refused, {reads} with a failed read, "
+          f"{writes} with a failed write, {wrong} went wrong")
     return 1 if wrong else 0
 
 

@@ -1,10 +1,12 @@
 // Preloaded into the program by refusals.py. It refuses one growth of memory, or all from one on; hands over a line at
-// most at each read of a file; and lets the reads of a file fail behind so many lines. What it is to do stands in the
-// environment:
+// most at each read of a file; and lets reads fail behind so many lines, and writes behind so many bytes. A read or a
+// write that is tried again after it failed ends the program with status 99. What it is to do stands in the environment:
 //
 //   REFUSE_AT     the growth that is refused, counted from 1; none where it is missing
 //   REFUSE_ALL    whether all growths behind that one are refused too
 //   REFUSE_READS  files and numbers, as "a.bed 3 b.bed 1 ": behind so many lines of the file reading fails
+//   REFUSE_WRITES a number: behind so many bytes writing fails, but on standard error
+//   REFUSE_AGAIN  whether a write may be tried again; it fails again
 //   REFUSE_NOTES  where it notes, once a growth is refused, how many lines of each file were handed over, as "a.bed 3" and
 //                 a line feed; the file that was read last, of which the last line may be handed over in part, comes last
 #include <errno.h>
@@ -15,7 +17,7 @@
 #include <sys/syscall.h>
 #include <unistd.h>
 
-enum { FILES = 64, NAME = 256 };
+enum { FILES = 64, NAME = 256, TRIED_AGAIN = 99 };
 
 extern void *__libc_malloc(size_t);
 extern void *__libc_calloc(size_t, size_t);
@@ -25,6 +27,7 @@ extern void *__libc_memalign(size_t, size_t);
 // How many lines of each open file were handed over, whether a part of a further one was, and the file's name.
 static long lines_of[FILES];
 static int is_begun[FILES];
+static int has_failed[FILES];
 static int last_read = -1;
 static char names[FILES][NAME];
 
@@ -42,6 +45,7 @@ static void keep_name(int file) {
     }
 }
 
+// Notes how far a file was read, if it was.
 static void write_note(int notes, int file) {
     char note[NAME + 32];
     if (file >= 0 && lines_of[file] + is_begun[file] > 0) {
@@ -50,6 +54,7 @@ static void write_note(int notes, int file) {
     }
 }
 
+// Notes how far all files were read.
 static void write_notes(void) {
     const char *path = getenv("REFUSE_NOTES");
     int notes = path ? open(path, O_WRONLY | O_CREAT | O_TRUNC, 0600) : -1;
@@ -120,13 +125,18 @@ static int fails_behind(const char *name, long lines) {
     return 0;
 }
 
+// A read of a line at most.
 ssize_t read(int file, void *block, size_t size) {
     if (file < 0 || file >= FILES) {
         return syscall(SYS_read, file, block, size);
     }
     keep_name(file);
     last_read = file;
+    if (has_failed[file]) {
+        _exit(TRIED_AGAIN);
+    }
     if (fails_behind(names[file], lines_of[file])) {
+        has_failed[file] = 1;
         errno = EIO;
         return -1;
     }
@@ -142,4 +152,30 @@ ssize_t read(int file, void *block, size_t size) {
     lines_of[file] += is_whole;
     is_begun[file] = !is_whole;
     return taken > 0 ? (ssize_t)taken : got;
+}
+
+// A write, of so many bytes as are still to be taken.
+ssize_t write(int file, const void *bytes, size_t size) {
+    static long left = -1;
+    static int write_has_failed;
+    const char *said = getenv("REFUSE_WRITES");
+    if (!said || file == STDERR_FILENO) {
+        return syscall(SYS_write, file, bytes, size);
+    }
+    if (write_has_failed && !getenv("REFUSE_AGAIN")) {
+        _exit(TRIED_AGAIN);
+    }
+    left = left < 0 ? atol(said) : left;
+    if (left == 0 && size > 0) {
+        write_has_failed = 1;
+        errno = EIO;
+        return -1;
+    }
+    ssize_t taken = syscall(SYS_write, file, bytes, size < (size_t)left ? size : (size_t)left);
+    left -= taken > 0 ? taken : 0;
+    return taken;
+}
+
+ssize_t __write(int file, const void *bytes, size_t size) {
+    return write(file, bytes, size);
 }
