@@ -41,7 +41,7 @@ static void keep_name(int file) {
     const char *name = slash ? slash + 1 : room;
     if (strcmp(names[file], name) != 0) {
         strcpy(names[file], name);
-        lines_of[file] = is_begun[file] = 0;
+        lines_of[file] = is_begun[file] = has_failed[file] = 0;
     }
 }
 
