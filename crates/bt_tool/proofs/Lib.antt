@@ -8,7 +8,7 @@ pub mod PassedLemmas
 pub mod MemberLemmas
 pub mod LineMembers
 pub mod MaskedLemmas
-pub mod MaskStops
+pub mod MaskFacts
 pub mod MaskKinds
 pub mod SweptLemmas
 pub mod RestLemmas
@@ -16,8 +16,6 @@ pub mod SeenLemmas
 pub mod SweepMeasure
 pub mod SweepTurns
 pub mod SweepFacts
-pub mod MaskNear
-pub mod MaskMet
 pub mod MaskStart
 pub mod MaskTurnLemmas
 pub mod CameMembers

@@ -1,9 +1,6 @@
 -- Lemmas on the beginning of masking over two readers.
-use Rattle.std.proofs.Common.{◌≡◌, ℕ, Bool, false, List, [], ◌++◌, Option, None, Some, refl, sym, ap, ◌∙◌, subst, append-nil, inl, inr}
+use Rattle.std.proofs.Common.{◌≡◌, ℕ, Bool, false, List, [], Option, None, Some, refl, sym, ap, ◌∙◌, subst}
 use Rattle.std.specs.Prelude.{option_map}
-use Rattle.std.specs.Option.{option_to_list}
-use Rattle.std.proofs.lemmas.Bool.{false≢true}
-use Rattle.std.proofs.KnownBytes.{Appends-nil}
 use Rattle.bt_lines.specs.Lines.{text_lines}
 use Rattle.bt_lines.specs.Output.{Output, HoldsBlock}
 use Rattle.bt_lines.specs.Reader.{IsSound, bytes_taken, fault_kept as line_fault, feeds_taken, input_of, lines_given, lines_left, source_of}
@@ -24,11 +21,11 @@ use Rattle.bt_seq.specs.Sequences.{Reached, SequenceLine, sequence_format}
 use Rattle.bt_seq.specs.declared.mask_how.MaskHow.{MaskHow}
 use Rattle.bt_tool.specs.Feeding.{IsFresh}
 use Rattle.bt_lines.specs.Fault.{Told}
-use Rattle.bt_tool.specs.Masks.{Finishes, Masks, item_ahead, line_members}
+use Rattle.bt_tool.specs.Masks.{MaskEnds, Masks, line_members, mask_making, mask_pair}
 use Rattle.bt_tool.proofs.CameMembers.{BeginsAt}
 use Rattle.bt_tool.proofs.LineMembers.{blocks_going}
-use Rattle.bt_tool.proofs.MaskedLemmas.{settles_nothing}
 use Rattle.bt_tool.proofs.MemberLemmas.{passes_start, read_start}
+use Rattle.bt_tool.proofs.PairTurns.{comes_start}
 
 -- before the first header
 abbrev pub nothing_reached : Reached
@@ -89,28 +86,13 @@ module _ {A B : Type 0} (a_left : A → Option (List ℕ)) (a_failed a_end : A �
   masks_start fresh going fresh_second kept block mask stands = record {
     past_first = [];
     past_second = [];
-    first_passes = passes_start a_left a_failed a_end (line_members full nothing_reached lines) fresh going;
-    none_ahead = refl;
-    second_passes = passes_start b_left b_failed b_end (view_of records) fresh_second (blocks_going records kept);
     stage = first_stage;
     stands = stands;
-    all_given = refl;
-    all_taken = refl;
+    comes = comes_start (mask_making how) (mask_pair a_left a_failed a_end b_left b_failed b_end how full (line_members full nothing_reached lines) (view_of records)) out
+        (passes_start a_left a_failed a_end (line_members full nothing_reached lines) fresh going) refl
+        (passes_start b_left b_failed b_end (view_of records) fresh_second (blocks_going records kept))
+        (read_start b_left b_failed b_end (view_of records) fresh_second (blocks_going records kept)) block;
     kept_ahead = λ r open_bed e. absurd (let apart : None ≡ Some r = e in cc);
-    bytes = [];
-    settles = λ known. settles_nothing how ([] ++ option_to_list (item_ahead (view_of records))) false;
-    is_open = λ open_lines. inr (inr refl);
-    first_all = λ e. absurd (false≢true e);
-    second_all = λ e. absurd (false≢true e);
-    puts = λ before e. e ∙ ap Some (sym (append-nil before));
-    works = record { served = refl; sink_served = refl; put = ([], Appends-nil out.put); block = λ h. h };
-    block = block;
-    grows = ([], Appends-nil out.took);
-    near_first = λ asked. elim asked [
-      | inl some ↦ absurd (false≢true some)
-      | inr ended ↦ absurd (false≢true ended)
-    ];
-    near_second = λ known. read_start b_left b_failed b_end (view_of records) fresh_second (blocks_going records kept);
   }
 
 module _ {A B : Type 0} (a_left : A → Option (List ℕ)) (a_failed a_end : A → Bool) (b_left : B → Option (List ℕ)) (b_failed b_end : B → Bool) where
@@ -126,11 +108,11 @@ module _ {A B : Type 0} (a_left : A → Option (List ℕ)) (a_failed a_end : A �
   -- and how it ends
   pub as_asked : (lines : LineReader A) (second : MemberReader B Feature (Option Locus)) (out : Output) (fault : Option Told) (new : LineReader A) (second_now : MemberReader B Feature (Option Locus)) (grown : Output)
       (own : MaskHow) (own_full : Bool) (how : MaskHow) (full : Bool) → own ≡ how → own_full ≡ full
-      → (members : MemberReader A SequenceLine Reached) × (members.below ≡ new) × Finishes a_left a_failed a_end b_left b_failed b_end own own_full (line_members own_full nothing_reached lines) second out fault members second_now grown
-      → (members : MemberReader A SequenceLine Reached) × (members.below ≡ new) × Finishes a_left a_failed a_end b_left b_failed b_end how full (line_members full nothing_reached lines) second out fault members second_now grown
+      → (members : MemberReader A SequenceLine Reached) × (members.below ≡ new) × MaskEnds a_left a_failed a_end b_left b_failed b_end own own_full (line_members own_full nothing_reached lines) second out fault members second_now grown
+      → (members : MemberReader A SequenceLine Reached) × (members.below ≡ new) × MaskEnds a_left a_failed a_end b_left b_failed b_end how full (line_members full nothing_reached lines) second out fault members second_now grown
   as_asked lines second out fault new second_now grown own own_full how full same same_full ends = (
     ends.0,
     ends.1,
-    subst (λ (h : MaskHow). Finishes a_left a_failed a_end b_left b_failed b_end h full (line_members full nothing_reached lines) second out fault ends.0 second_now grown) same
-        (subst (λ (f : Bool). Finishes a_left a_failed a_end b_left b_failed b_end own f (line_members f nothing_reached lines) second out fault ends.0 second_now grown) same_full ends.2),
+    subst (λ (h : MaskHow). MaskEnds a_left a_failed a_end b_left b_failed b_end h full (line_members full nothing_reached lines) second out fault ends.0 second_now grown) same
+        (subst (λ (f : Bool). MaskEnds a_left a_failed a_end b_left b_failed b_end own f (line_members f nothing_reached lines) second out fault ends.0 second_now grown) same_full ends.2),
   )

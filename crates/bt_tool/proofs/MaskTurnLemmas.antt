@@ -23,11 +23,11 @@ use Rattle.bt_seq.specs.declared.mask_how.MaskHow.{MaskHow}
 use Rattle.bt_seq.specs.declared.mask_want.MaskWant.{MaskWant}
 use Rattle.bt_seq.specs.declared.mask_want.MaskWant.TheVariants.{Line as WantLine, Bed as WantBed, Nothing}
 use Rattle.bt_tool.specs.MaskTurns.{EndsBed, EndsLines, FailsAtEnd, FailsBed, FailsLine, GivesLines, HasAsked, LacksBed, LacksLine, LeavesBed, TakesBed}
-use Rattle.bt_tool.specs.Masks.{Finishes, IsOpenAt, Masks, line_members}
+use Rattle.bt_tool.specs.Masks.{MaskEnds, Masks, line_members, mask_making}
+use Rattle.bt_tool.specs.PairComes.{IsOpenAt}
 use Rattle.bt_tool.specs.Passed.{IsOver}
 use Rattle.bt_tool.proofs.LineMembers.{gives_advance, gives_ahead, gives_over, gives_unread, gives_wrong, line_ahead, member_given, stopped_lines}
-use Rattle.bt_tool.proofs.MaskedLemmas.{come_so_far, ends_alone, ends_lines, ends_waiting, gave_by, goes_peeked, is_next, leaves_by, lines_over, none_waits, takes_by}
-use Rattle.bt_tool.proofs.MaskStops.{fails_at_end, fails_first, fails_to_hold, fails_waiting, finishes, lacks_first, lacks_sequence, stops_first, stops_second}
+use Rattle.bt_tool.proofs.MaskedLemmas.{come_so_far, ends_alone, ends_lines, ends_waiting, fails_at_end, fails_first, fails_to_hold, fails_waiting, finishes, gave_by, goes_peeked, is_next, lacks_first, lacks_sequence, leaves_by, lines_over, none_waits, stops_first, stops_second, takes_by}
 
 -- what is still to be asked: a line that waits is to be written, then lines come, then records alone
 abbrev pub asks : Bool → MaskWant → ℕ
@@ -86,7 +86,7 @@ module _ {A B : Type 0} (a_left : A → Option (List ℕ)) (a_failed a_end : A �
   Going = Masks a_left a_failed a_end b_left b_failed b_end how full old_first old_second out
 
   abbrev Ends : Option Told → MemberReader A SequenceLine Reached → MemberReader B Feature (Option Locus) → Output → Type 0
-  Ends = Finishes a_left a_failed a_end b_left b_failed b_end how full old_first old_second out
+  Ends = MaskEnds a_left a_failed a_end b_left b_failed b_end how full old_first old_second out
 
   abbrev EndsAt : Option Told → LineReader A → MemberReader B Feature (Option Locus) → Output → Type 0
   EndsAt fault lines second grown = (members : MemberReader A SequenceLine Reached) × (members.below ≡ lines) × Ends fault members second grown
@@ -100,7 +100,7 @@ module _ {A B : Type 0} (a_left : A → Option (List ℕ)) (a_failed a_end : A �
         → Going (line_members full r lines) new masked later × (left_to_ask lines new masked < left_to_ask lines second mask)
     over_for (Some a) e masked later waits alone =
         let ends = waits s.stage a s.stands e in (
-          ends_waiting a_left a_failed a_end b_left b_failed b_end how full old_lines old_second out (line_members full r lines) second mask grown s wants a e new masked later over ends.0 ends.1,
+          ends_waiting a_left a_failed a_end b_left b_failed b_end how full old_lines old_second out is_blocks (line_members full r lines) second mask grown s wants new masked a e later over ends.0 ends.1,
           omega (
             arith,
             over.ends.shrinks,
@@ -110,9 +110,9 @@ module _ {A B : Type 0} (a_left : A → Option (List ℕ)) (a_failed a_end : A �
         )
     over_for None e masked later waits alone =
         let ends = alone s.stage s.stands e in
-        let done = lines_over a_left a_failed a_end b_left b_failed b_end how full old_lines old_second out (line_members full r lines) second mask grown s wants e in (
+        let done = lines_over a_left a_failed a_end b_left b_failed b_end how full old_lines old_second out is_blocks (line_members full r lines) second mask grown s wants e in (
           subst (λ o. Going (line_members full r lines) new masked o) (sym ends.1)
-              (ends_alone a_left a_failed a_end b_left b_failed b_end how full old_lines old_second out (line_members full r lines) second mask grown s wants e new masked over ends.0),
+              (ends_alone a_left a_failed a_end b_left b_failed b_end how full old_lines old_second out is_blocks (line_members full r lines) second mask grown s wants new masked e over ends.0),
           omega (
             arith,
             over.ends.shrinks,
@@ -136,7 +136,7 @@ module _ {A B : Type 0} (a_left : A → Option (List ℕ)) (a_failed a_end : A �
     stage = s.stage
 
     come : r ≡ reached stage
-    come = come_so_far a_left a_failed a_end b_left b_failed b_end how full old_lines old_second out first second mask grown s
+    come = come_so_far a_left a_failed a_end b_left b_failed b_end how full old_lines old_second out is_blocks first second mask grown s
 
     says_now : (line : TextLine) → line_says full r line ≡ line_says full (reached stage) line
     says_now line = ap (λ (at : Reached). line_says full at line) come
@@ -151,7 +151,7 @@ module _ {A B : Type 0} (a_left : A → Option (List ℕ)) (a_failed a_end : A �
           let passes = gives_advance a_left a_failed a_end full r lines new turn.has.sound turn.line takes.item turn.has.gives says in (
             (
               (sequence_format full).after r takes.item,
-              gave_by a_left a_failed a_end b_left b_failed b_end how full old_lines old_second out first second mask grown s wants
+              gave_by a_left a_failed a_end b_left b_failed b_end how full old_lines old_second out is_blocks first second mask grown s wants
                   (member_given a_left a_failed a_end full r lines new turn.has.sound turn.line takes.item turn.has.gives says)
                   (line_ahead a_left a_failed a_end full r lines new turn.has.sound turn.line takes.item turn.has.gives says)
                   (line_members full ((sequence_format full).after r takes.item) new) ahead passes takes.settled
@@ -165,14 +165,14 @@ module _ {A B : Type 0} (a_left : A → Option (List ℕ)) (a_failed a_end : A �
       ends_line new masked later turn =
           let over = gives_over a_left a_failed a_end full r lines new turn.sound turn.ends in
           let stands = turn.given how full stage s.stands in
-          let none = none_waits a_left a_failed a_end b_left b_failed b_end how full old_lines old_second out first second mask grown s wants in
+          let none = none_waits a_left a_failed a_end b_left b_failed b_end how full old_lines old_second out is_blocks first second mask grown s wants in
           let waits : is_some masked.waiting ≡ false = waits_is how full (with_lines_ended stage) masked stands ∙ ap is_some none in
           let few = asks_last (is_some masked.waiting) stage.bed_ended masked.want waits (stands.want_is ∙ ap (λ (b : Bool). want_of b true stage.bed_ended) (ap is_some none ∙ sym waits)) in
           let shrinks = over.ends.shrinks in (
             (
               r,
               subst (λ o. Going (line_members full r new) second masked o) (sym turn.same_output)
-                  (ends_lines a_left a_failed a_end b_left b_failed b_end how full old_lines old_second out first second mask grown s wants (line_members full r new) masked over stands),
+                  (ends_lines a_left a_failed a_end b_left b_failed b_end how full old_lines old_second out is_blocks first second mask grown s wants (line_members full r new) masked over stands),
             ),
             omega (arith, shrinks, asks_line (is_some mask.waiting) mask.want wants, few),
           )
@@ -192,7 +192,7 @@ module _ {A B : Type 0} (a_left : A → Option (List ℕ)) (a_failed a_end : A �
       )
 
       at_input : (number : ℕ) (kind : Kind) → fault_at_line (input_of lines) number kind ≡ fault_at_line First number kind
-      at_input number kind = ap (λ i. fault_at_line i number kind) (s.first_passes.bytes.1.same_input ∙ is_first)
+      at_input number kind = ap (λ i. fault_at_line i number kind) (s.comes.first_passes.bytes.1.same_input ∙ is_first)
 
       fails_line : (fault : Told) (new : LineReader A) (later : Output) → FailsLine a_left a_failed a_end lines mask grown fault new later → EndsAt (Some fault) new second later
       fails_line fault new later turn =
@@ -231,7 +231,7 @@ module _ {A B : Type 0} (a_left : A → Option (List ℕ)) (a_failed a_end : A �
       asked_goes : (asked : MemberReader B Feature (Option Locus)) → HasAsked b_left b_failed b_end second asked → Going first asked mask grown
       asked_goes asked (inl same) = subst (λ (reader : MemberReader B Feature (Option Locus)). Going first reader mask grown) (sym same) s
       asked_goes asked (inr ahead) =
-          goes_peeked a_left a_failed a_end b_left b_failed b_end how full old_lines old_second out first second mask grown s wants ahead.0 asked ahead.1
+          goes_peeked a_left a_failed a_end b_left b_failed b_end how full old_lines old_second out is_blocks first second mask grown s wants ahead.0 asked ahead.1
 
       asked_less : (asked : MemberReader B Feature (Option Locus)) → HasAsked b_left b_failed b_end second asked → room asked ≤ room second
       asked_less asked (inl same) = omega (arith, ap (λ (reader : MemberReader B Feature (Option Locus)). room reader) same)
@@ -243,17 +243,17 @@ module _ {A B : Type 0} (a_left : A → Option (List ℕ)) (a_failed a_end : A �
       takes_for : (o : Option SequenceLine) → stage.waiting ≡ o → (new : MemberReader B Feature (Option Locus)) (masked : Masking) (later : Output) → TakesBed b_left b_failed b_end second mask grown new masked later
           → Going first new masked later × (left_to_ask lines new masked < left_to_ask lines second mask)
       takes_for (Some a) e new masked later turn =
-          let takes = turn.waits how full stage a s.stands e (is_next a_left a_failed a_end b_left b_failed b_end how full old_lines old_second out first second mask grown s wants turn.m turn.peeked turn.ahead) in (
+          let takes = turn.waits how full stage a s.stands e (is_next a_left a_failed a_end b_left b_failed b_end how full old_lines old_second out is_blocks first second mask grown s wants turn.m turn.peeked turn.ahead) in (
             subst (λ o. Going first new masked o) (sym takes.same_output)
-                (takes_by a_left a_failed a_end b_left b_failed b_end how full old_lines old_second out first second mask grown s wants turn.m turn.peeked turn.ahead new turn.passes masked takes.stands
-                (λ going. subst (λ (w : Option SequenceLine). IsOpenAt w (stage.taken ++ turn.m.item ∷ [])) (sym e) takes.undecided)),
+                (takes_by a_left a_failed a_end b_left b_failed b_end how full old_lines old_second out is_blocks first second mask grown s wants turn.m turn.peeked turn.ahead new turn.passes masked takes.stands
+                (λ going. subst (λ (w : Option SequenceLine). IsOpenAt (mask_making how) w (stage.taken ++ turn.m.item ∷ [])) (sym e) takes.undecided)),
             omega (arith, turn.passes.shrinks, turn.ahead.read.shrinks, asks_waiting (is_some mask.waiting) mask.want (waits_by (Some a) e) wants, asks_most (is_some masked.waiting) masked.want),
           )
       takes_for None e new masked later turn =
-          let takes = turn.none_waits how full stage s.stands e (is_next a_left a_failed a_end b_left b_failed b_end how full old_lines old_second out first second mask grown s wants turn.m turn.peeked turn.ahead) in
-          let over = lines_over a_left a_failed a_end b_left b_failed b_end how full old_lines old_second out first second mask grown s wants e in (
+          let takes = turn.none_waits how full stage s.stands e (is_next a_left a_failed a_end b_left b_failed b_end how full old_lines old_second out is_blocks first second mask grown s wants turn.m turn.peeked turn.ahead) in
+          let over = lines_over a_left a_failed a_end b_left b_failed b_end how full old_lines old_second out is_blocks first second mask grown s wants e in (
             subst (λ o. Going first new masked o) (sym takes.same_output)
-                (takes_by a_left a_failed a_end b_left b_failed b_end how full old_lines old_second out first second mask grown s wants turn.m turn.peeked turn.ahead new turn.passes masked takes.stands
+                (takes_by a_left a_failed a_end b_left b_failed b_end how full old_lines old_second out is_blocks first second mask grown s wants turn.m turn.peeked turn.ahead new turn.passes masked takes.stands
                 (λ going. absurd (false≢true (sym going ∙ over)))),
             omega (
               arith,
@@ -267,10 +267,10 @@ module _ {A B : Type 0} (a_left : A → Option (List ℕ)) (a_failed a_end : A �
       leaves_for : (o : Option SequenceLine) → stage.waiting ≡ o → (new : MemberReader B Feature (Option Locus)) (masked : Masking) (later : Output) → LeavesBed b_left b_failed b_end second mask grown new masked later
           → Going first new masked later × (left_to_ask lines new masked < left_to_ask lines second mask)
       leaves_for None e new masked later turn =
-          absurd (turn.none_waits how full stage s.stands e (is_next a_left a_failed a_end b_left b_failed b_end how full old_lines old_second out first second mask grown s wants turn.m new turn.ahead))
+          absurd (turn.none_waits how full stage s.stands e (is_next a_left a_failed a_end b_left b_failed b_end how full old_lines old_second out is_blocks first second mask grown s wants turn.m new turn.ahead))
       leaves_for (Some a) e new masked later turn =
-          let writes = turn.waits how full stage a s.stands e (is_next a_left a_failed a_end b_left b_failed b_end how full old_lines old_second out first second mask grown s wants turn.m new turn.ahead) in (
-            leaves_by a_left a_failed a_end b_left b_failed b_end how full old_lines old_second out first second mask grown s wants turn.m new turn.ahead a e masked later writes.decides writes.stands writes.puts writes.settled,
+          let writes = turn.waits how full stage a s.stands e (is_next a_left a_failed a_end b_left b_failed b_end how full old_lines old_second out is_blocks first second mask grown s wants turn.m new turn.ahead) in (
+            leaves_by a_left a_failed a_end b_left b_failed b_end how full old_lines old_second out is_blocks first second mask grown s wants turn.m new turn.ahead a e masked later writes.decides writes.stands writes.puts writes.settled,
             omega (
               arith,
               turn.ahead.read.shrinks,
@@ -295,13 +295,13 @@ module _ {A B : Type 0} (a_left : A → Option (List ℕ)) (a_failed a_end : A �
 
       fails_for : (o : Option SequenceLine) → stage.waiting ≡ o → (fault : Told) (new : MemberReader B Feature (Option Locus)) (later : Output) → FailsBed b_left b_failed b_end second mask grown fault new later → Ends (Some fault) first new later
       fails_for (Some a) e fault new later turn =
-          elim (turn.waits how full stage a s.stands e (is_next a_left a_failed a_end b_left b_failed b_end how full old_lines old_second out first second mask grown s wants turn.m new turn.ahead)) [
+          elim (turn.waits how full stage a s.stands e (is_next a_left a_failed a_end b_left b_failed b_end how full old_lines old_second out is_blocks first second mask grown s wants turn.m new turn.ahead)) [
             | inl writes ↦ fails_waiting a_left a_failed a_end b_left b_failed b_end how full old_lines old_second out is_blocks first second mask grown s wants turn.m new turn.ahead a e fault later writes
             | inr holds ↦ subst (λ o. Ends (Some fault) first new o) (sym holds.same_output)
-                (fails_to_hold a_left a_failed a_end b_left b_failed b_end how full old_lines old_second out is_blocks first second mask grown s wants turn.m new turn.ahead fault holds.is)
+                (fails_to_hold a_left a_failed a_end b_left b_failed b_end how full old_lines old_second out is_blocks first second mask grown s wants turn.m new turn.ahead a e fault holds.is)
           ]
       fails_for None e fault new later turn =
-          let lacks = turn.none_waits how full stage s.stands e (is_next a_left a_failed a_end b_left b_failed b_end how full old_lines old_second out first second mask grown s wants turn.m new turn.ahead) in
+          let lacks = turn.none_waits how full stage s.stands e (is_next a_left a_failed a_end b_left b_failed b_end how full old_lines old_second out is_blocks first second mask grown s wants turn.m new turn.ahead) in
           subst (λ o. Ends (Some fault) first new o) (sym lacks.same_output)
           (lacks_sequence a_left a_failed a_end b_left b_failed b_end how full old_lines old_second out is_blocks first second mask grown s wants turn.m new turn.ahead e fault later lacks)
 

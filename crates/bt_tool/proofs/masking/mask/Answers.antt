@@ -3,10 +3,15 @@ use Rattle.bt_lines.specs.Names.{told}
 use Rattle.bt_lines.specs.Reader.{source_of}
 use Rattle.bt_lines.specs.declared.fault.Input.TheVariants.{First, Second}
 use Rattle.bt_bed.specs.Blocks.{view_of}
-use Rattle.bt_tool.specs.Masks.{line_members}
-use Rattle.bt_tool.proofs.MaskMet.{writes_both}
-use Rattle.bt_tool.proofs.MaskNear.{near_both}
+use Rattle.bt_bed.specs.GoodBlocks.{block_format}
+use Rattle.bt_bed.proofs.GoodBlocksLemmas.{good_in_blocks}
+use Rattle.bt_seq.specs.Sequences.{sequence_format}
+use Rattle.bt_tool.specs.Masked.{mask_reaches, mask_settles}
+use Rattle.bt_tool.specs.Masks.{line_members, mask_making, mask_pair}
+use Rattle.bt_tool.proofs.MaskFacts.{mask_needs}
 use Rattle.bt_tool.proofs.MaskStart.{as_asked, begin_blocks, begin_lines, blocks_format, fresh_blocks, fresh_lines, masks_as_new, nothing_reached}
+use Rattle.bt_tool.proofs.PairMet.{writes_both}
+use Rattle.bt_tool.proofs.PairNear.{near_both}
 use Rattle.bt_tool.proofs.masking.mask.Goals as goal
 
 pub mask_all-masked-requires-clause-blocks : goal.mask_all-masked-requires-clause-blocks
@@ -35,9 +40,12 @@ returns-in-Ok g c =
     let begins_second = begin_blocks g.B.Source.left g.B.Source.end_told c.args.second Second c.new.result c.new-records.result records.below reader_2.source reader_2.input reader_2.none_taken.0 reader_2.none_fed reader_2.none_given reader_2.going.0 reader_2.lines records.good in
     let ended = ap source_of ends.1 ∙ sym c.into_source-first.ensures in
     let ended_second = sym (c.into_source-second.ensures ∙ ap source_of c.into_reader.ensures) in
-    writes_both g.A.Source.left g.A.Source.has_failed g.A.Source.end_told g.B.Source.left g.B.Source.has_failed g.B.Source.end_told c.args.how c.args.full (line_members c.args.full nothing_reached c.new-lines.result) (view_of c.new-records.result) c.args.out.now c.args.first c.args.second begins begins_second
+    let making = mask_making c.args.how in
+    let pair = mask_pair g.A.Source.left g.A.Source.has_failed g.A.Source.end_told g.B.Source.left g.B.Source.has_failed g.B.Source.end_told c.args.how c.args.full (line_members c.args.full nothing_reached c.new-lines.result) (view_of c.new-records.result) in
+    writes_both making pair c.args.out.now (sequence_format c.args.full) block_format (λ two. good_in_blocks Second two) c.args.first c.args.second begins begins_second
     ends.0 (view_of c.mask_all-masked.new.records) c.into_source-first.result c.into_source-second.result ended ended_second fault c.mask_all-masked.new.out ends.2
-    (near_both g.A.Source.left g.A.Source.has_failed g.A.Source.end_told g.B.Source.left g.B.Source.has_failed g.B.Source.end_told c.args.how c.args.full (line_members c.args.full nothing_reached c.new-lines.result) (view_of c.new-records.result) c.args.out.now c.args.first c.args.second begins begins_second
+    (mask_settles c.args.how c.args.full) (mask_reaches c.args.full)
+    (near_both making pair c.args.out.now (sequence_format c.args.full) block_format (λ two. good_in_blocks Second two) (mask_needs c.args.how) c.args.first c.args.second begins begins_second
     ends.0 (view_of c.mask_all-masked.new.records) c.into_source-first.result c.into_source-second.result ended ended_second c.mask_all-masked.new.out ends.2.near)
 
 pub returns : goal.returns
@@ -53,7 +61,10 @@ returns g c =
     let begins_second = begin_blocks g.B.Source.left g.B.Source.end_told c.args.second Second c.new.result c.new-records.result records.below reader_2.source reader_2.input reader_2.none_taken.0 reader_2.none_fed reader_2.none_given reader_2.going.0 reader_2.lines records.good in
     let ended = ap source_of ends.1 ∙ sym c.into_source-first.ensures in
     let ended_second = sym (c.into_source-second.ensures ∙ ap source_of c.into_reader.ensures) in
-    writes_both g.A.Source.left g.A.Source.has_failed g.A.Source.end_told g.B.Source.left g.B.Source.has_failed g.B.Source.end_told c.args.how c.args.full (line_members c.args.full nothing_reached c.new-lines.result) (view_of c.new-records.result) c.args.out.now c.args.first c.args.second begins begins_second
+    let making = mask_making c.args.how in
+    let pair = mask_pair g.A.Source.left g.A.Source.has_failed g.A.Source.end_told g.B.Source.left g.B.Source.has_failed g.B.Source.end_told c.args.how c.args.full (line_members c.args.full nothing_reached c.new-lines.result) (view_of c.new-records.result) in
+    writes_both making pair c.args.out.now (sequence_format c.args.full) block_format (λ two. good_in_blocks Second two) c.args.first c.args.second begins begins_second
     ends.0 (view_of c.mask_all-masked.new.records) c.into_source-first.result c.into_source-second.result ended ended_second fault c.mask_all-masked.new.out ends.2
-    (near_both g.A.Source.left g.A.Source.has_failed g.A.Source.end_told g.B.Source.left g.B.Source.has_failed g.B.Source.end_told c.args.how c.args.full (line_members c.args.full nothing_reached c.new-lines.result) (view_of c.new-records.result) c.args.out.now c.args.first c.args.second begins begins_second
+    (mask_settles c.args.how c.args.full) (mask_reaches c.args.full)
+    (near_both making pair c.args.out.now (sequence_format c.args.full) block_format (λ two. good_in_blocks Second two) (mask_needs c.args.how) c.args.first c.args.second begins begins_second
     ends.0 (view_of c.mask_all-masked.new.records) c.into_source-first.result c.into_source-second.result ended ended_second c.mask_all-masked.new.out ends.2.near)
