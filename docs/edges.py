@@ -89,7 +89,8 @@ CASES = [
     ("ulimit -v 100000; bedtools merge -i /dev/zero -g genome.txt", "", "bedtools merge: no memory\n", 1),
     ("ulimit -v 100000; bedtools merge -i a.bed -g /dev/zero", "", "bedtools merge: no memory\n", 1),
     ("ulimit -v 100000; (cat a.bed; cat /dev/zero) | bedtools merge -g genome.txt", "chr1\t2\t6\n", "bedtools merge: no memory\n", 1),
-    ("ulimit -v 100000; (cat a.fa; cat /dev/zero) | bedtools maskfasta -fi - -bed a.bed", ">chr1\nACNNNNGT\n", "bedtools maskfasta: no memory\n", 1),
+    ("ulimit -v 100000; (cat a.fa; cat /dev/zero) | bedtools maskfasta -fi - -bed a.bed", ">chr1\nACNNNNGT\n",
+     "bedtools maskfasta: no memory\n", 1),
     # Few files may be open.
     ("ulimit -n 4; bedtools merge -i a.bed -g genome.txt", "", "bedtools merge: a.bed: cannot be opened\n", 1),
     # The fault comes behind what was settled before it.

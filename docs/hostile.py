@@ -10,8 +10,10 @@ lines; and the answer has to be the one that plain.py finds by the rules of the 
 behind a line that ends near the end of a block of 8,192 bytes, and the answer has to be the same. An input goes by the
 seed, its command and its number: `--only 'merge 17'` runs it alone.
 
-Then a good text of each format is cut at each of its bytes, for each command and each of its options. `--jobs` runs are
-under way at a time, as many as there are processors where that isn't said. Ends with 1 where something else comes of it.
+Then a good text of each format is cut at each of its bytes, for each command and each of its options; and 10,000 random
+command lines are run, of which those that can't be used have to get status 2 and the line that plain.py finds. `--jobs`
+runs are under way at a time, as many as there are processors where that isn't said. Ends with 1 where something else
+comes of it.
 """
 
 import argparse
@@ -27,8 +29,8 @@ from concurrent.futures import ProcessPoolExecutor
 from dataclasses import dataclass
 from pathlib import Path
 
-from plain import answer_of
-from random_inputs import KINDS, good, line_ahead
+from plain import OPTIONS, answer_of, usage_of
+from random_inputs import KINDS, good, line_ahead, random_words
 
 PROGRAM = str(Path(__file__).resolve().parent.parent / "bin" / "bedtools")
 BLOCK = 8192
@@ -40,6 +42,12 @@ LONGEST = 60
 MOST_MEMORY = 1 << 30
 # A process takes so many cases at once.
 SHARE = 500
+COMMAND_LINES = 10_000
+# The files of the random command lines, each good.
+SMALL = {
+    "a.bed": "chr1\t2\t6\n", "b.bed": "chr1\t4\t9\n", "g.txt": "chr1\t20\n", "a.fa": ">chr1\nACGTACGT\n",
+    "a.sam": "r1\t0\tchr1\t3\t60\t4M\t*\t0\t0\tACGT\t*\n",
+}
 FAULT = re.compile(
     rb"bedtools (?P<command>[a-z]+): (?:(?P<name>[a-z.-]+):(?P<line>[1-9][0-9]*): (?:too few columns|empty chromosome name|"
     rb"start is not a number|end is not a number|start is not below end|chromosome is not in the genome file|"
@@ -105,13 +113,18 @@ def run(case):
     """Runs a case in the folder where the process stands."""
     for name, text in case.files.items():
         Path(name).write_bytes(text)
+    return run_words(case.words(), case.stream)
+
+
+def run_words(words, stream):
+    """Runs words."""
     into = os.O_WRONLY | os.O_CREAT | os.O_TRUNC
     streams = [
-        (os.POSIX_SPAWN_OPEN, 0, case.stream or os.devnull, os.O_RDONLY, 0),
+        (os.POSIX_SPAWN_OPEN, 0, stream or os.devnull, os.O_RDONLY, 0),
         (os.POSIX_SPAWN_OPEN, 1, "output", into, 0o600),
         (os.POSIX_SPAWN_OPEN, 2, "error", into, 0o600),
     ]
-    process = os.posix_spawn(PROGRAM, case.words(), {}, file_actions=streams)
+    process = os.posix_spawn(PROGRAM, words, {}, file_actions=streams)
     signal.signal(signal.SIGALRM, lambda *_: os.kill(process, signal.SIGKILL))
     signal.alarm(LONGEST)
     _, status = os.waitpid(process, 0)
@@ -226,7 +239,8 @@ def random_bytes(pool, asked):
     shares = []
     for command in COMMANDS:
         chosen = [number for number in range(each) if asked.only in ("", command.name, f"{command.name} {number}")]
-        shares += [pool.submit(try_share, asked.seed, command, chosen[first : first + SHARE]) for first in range(0, len(chosen), SHARE)]
+        parts = [chosen[first : first + SHARE] for first in range(0, len(chosen), SHARE)]
+        shares += [pool.submit(try_share, asked.seed, command, part) for part in parts]
     found = [share.result() for share in shares]
     counts = sum((counts for counts, _ in found), collections.Counter())
     wrong = sum(wrong for _, wrong in found)
@@ -259,6 +273,35 @@ def cut_inputs(pool, seed):
     return wrong
 
 
+def try_words(seed, chosen):
+    """Runs the random command lines with these numbers. Answers how many can't be used, and how many are answered
+    wrongly."""
+    numbers = random.Random(f"{seed} {chosen[0]}")
+    unusable = wrong = 0
+    for name, text in SMALL.items():
+        Path(name).write_text(text, encoding="ascii")
+    for number in chosen:
+        words = random_words(numbers, OPTIONS)
+        answer = run_words([PROGRAM, *words], None)
+        usage = usage_of(words)
+        if usage:
+            is_right = answer == Answer(2, b"", f"bedtools: {usage}\n".encode())
+        else:
+            is_right = answer.status in (0, 1) and len(answer.error.splitlines()) == answer.status
+        if not is_right:
+            print(f"words {number}: {words!r}\n  wanted {usage}, found {answer}", flush=True)
+        unusable, wrong = unusable + bool(usage), wrong + (not is_right)
+    return unusable, wrong
+
+
+def command_lines(pool, seed):
+    """Runs random command lines. Answers how many are answered wrongly."""
+    shares = [pool.submit(try_words, seed, range(first, first + SHARE)) for first in range(0, COMMAND_LINES, SHARE)]
+    unusable, wrong = (sum(column) for column in zip(*(share.result() for share in shares)))
+    print(f"{COMMAND_LINES} random command lines run, {unusable} of them can't be used, {wrong} answered wrongly")
+    return wrong
+
+
 def prepare(folder):
     """Prepares a process that runs cases: it gets a folder of its own, and so much memory at most as all that it runs."""
     os.chdir(tempfile.mkdtemp(dir=folder))
@@ -274,7 +317,8 @@ def main():
     asked = parser.parse_args()
     with tempfile.TemporaryDirectory(dir=MEMORY if Path(MEMORY).is_dir() else None) as folder:
         with ProcessPoolExecutor(asked.jobs, initializer=prepare, initargs=(folder,)) as pool:
-            wrong = random_bytes(pool, asked) + (0 if asked.only else cut_inputs(pool, asked.seed))
+            wrong = random_bytes(pool, asked)
+            wrong += 0 if asked.only else cut_inputs(pool, asked.seed) + command_lines(pool, asked.seed)
     return 1 if wrong else 0
 
 

@@ -5,6 +5,7 @@ It keeps everything and is slow, has nothing of the program's, and is as short a
 
 import re
 from dataclasses import dataclass
+from fractions import Fraction
 
 LARGEST = 999_999_999_999
 
@@ -354,3 +355,69 @@ def answer_of(command, files, options):
         return output, True, fault
     output = {"merge": merge, "complement": complement, "genomecov": genomecov}[command](*first, genome, options)
     return output, True, first[1]
+
+
+FILE, NUMBER, STRAND, FRACTION, CHARACTER = r".+", r"[0-9]+", r"[+-]", r"[0-9]+|[0-9]*\.[0-9]{1,9}|[0-9]+\.", r"[!-~]"
+# The options of each command: the form of the value, or None where none follows.
+OF_TWO = {"-a": FILE, "-b": FILE, "-g": FILE, "-f": FRACTION, "-s": None}
+OPTIONS = {
+    "merge": {"-i": FILE, "-g": FILE, "-d": NUMBER, "-s": None, "-S": STRAND},
+    "complement": {"-i": FILE, "-g": FILE, "-L": None},
+    "intersect": {**OF_TWO, "-wa": None, "-wb": None, "-wo": None, "-u": None, "-v": None, "-c": None, "-r": None, "-sorted": None},
+    "subtract": {**OF_TWO, "-A": None},
+    "genomecov": {"-i": FILE, "-g": FILE, "-bg": None, "-bga": None, "-strand": STRAND},
+    "bamtobed": {"-i": FILE, "-split": None, "-cigar": None},
+    "maskfasta": {"-fi": FILE, "-bed": FILE, "-fo": FILE, "-soft": None, "-mc": CHARACTER, "-fullHeader": None},
+}
+REQUIRED = {"intersect": ["-a", "-b", "-g"], "subtract": ["-a", "-b", "-g"], "bamtobed": [], "maskfasta": ["-fi", "-bed"]}
+SHAPES = ["-wa", "-wb", "-wo", "-u", "-v", "-c"]
+TOGETHER = [{"-wa", "-wb"}, {"-wa", "-u"}, {"-wa", "-v"}, {"-wa", "-c"}]
+
+
+def is_bad(form, value):
+    """Whether a value isn't of its form, or is too large."""
+    largest = {NUMBER: LARGEST, FRACTION: 1}.get(form)
+    return not re.fullmatch(form, value, re.DOTALL) or largest is not None and Fraction(value) > largest
+
+
+def given(command, words):
+    """The options with their values, or the line of the first fault from left to right."""
+    found, rest = {}, iter(words)
+    for word in rest:
+        if word not in OPTIONS[command]:
+            return found, f"unknown option: {word}"
+        form, value = OPTIONS[command][word], None
+        if form is not None:
+            value = next(rest, None)
+            if value is None:
+                return found, f"value missing: {word}"
+            if is_bad(form, value):
+                return found, f"bad value: {word}"
+        found[word] = value
+    return found, None
+
+
+def excludes(command, found):
+    """Whether options are given that exclude one another."""
+    shapes = [shape for shape in SHAPES if shape in found] if command == "intersect" else []
+    pairs = [{one, other} for one in shapes for other in shapes if one != other]
+    is_over_input = found.get("-fo") not in (None, "-", "stdout") and found.get("-fo") in (found.get("-fi"), found.get("-bed"))
+    both = {"merge": {"-s", "-S"}, "maskfasta": {"-soft", "-mc"}}.get(command, {None})
+    return any(pair not in TOGETHER for pair in pairs) or both <= set(found) or is_over_input
+
+
+def usage_of(words):
+    """The line of a command line that can't be used; None of one that can."""
+    if not words or words[0] not in OPTIONS:
+        return "no or unknown command"
+    command = words[0]
+    found, fault = given(command, words[1:])
+    if fault:
+        return fault
+    lacks_shape = command == "genomecov" and not {"-bg", "-bga"} & set(found)
+    if lacks_shape or any(option not in found for option in REQUIRED.get(command, ["-g"])):
+        return "required option missing"
+    if excludes(command, found):
+        return "options exclude one another"
+    inputs = [found.get(option, "-") for option in ("-i", "-g", "-a", "-b", "-fi", "-bed") if option in OPTIONS[command]]
+    return "standard input named twice" if sum(name in ("-", "stdin") for name in inputs) > 1 else None

@@ -131,3 +131,30 @@ def line_ahead(form, length):
     if form == "fasta":
         return b"\n" * length
     return (b"@" if form == "sam" else b"#")[: length - 1] + b"x" * (length - 2) + b"\n"
+
+
+# The first nine are values of one option or another.
+WORDS = [
+    "-", "stdin", "stdout", "+", "0", "1", "1.", ".5", "0.5", "1.5", "0.5000000000", ".", "007", "999999999999", "1000000000000", "", "x",
+    "xx", "\u00e9", "\x7f", "~", "none", "a.bed", "b.bed", "g.txt", "a.sam", "a.fa", "masked.fa", "--help", "-h", "n" * 300,
+]
+USUAL = {
+    "merge": "-g g.txt", "complement": "-g g.txt -i a.bed", "genomecov": "-g g.txt -bg", "bamtobed": "-i a.sam",
+    "intersect": "-a a.bed -b b.bed -g g.txt", "subtract": "-a a.bed -b b.bed -g g.txt", "maskfasta": "-fi a.fa -bed b.bed",
+}
+
+
+def random_words(numbers, options):
+    """A command line: mostly a usual one with further options and values, good or not, and now and then a word less."""
+    command = numbers.choice([*USUAL, *USUAL, numbers.choice(WORDS)])
+    words = [command, *(USUAL.get(command, "").split() if numbers.random() < 0.8 else [])]
+    for _ in range(numbers.randrange(5)):
+        is_known = command in options and numbers.random() < 0.8
+        known = list(options[command]) if is_known else [*WORDS, *options["intersect"], *options["maskfasta"]]
+        word = numbers.choice(known)
+        takes_value = options.get(command, {}).get(word) is not None
+        has_value = numbers.random() < (0.95 if takes_value else 0.05)
+        words += [word, *([numbers.choice(WORDS[: numbers.choice([9, len(WORDS)])])] if has_value else [])]
+    if numbers.random() < 0.1:
+        del words[numbers.randrange(len(words))]
+    return words
