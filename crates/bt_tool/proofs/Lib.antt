@@ -13,7 +13,6 @@ pub mod MaskKinds
 pub mod SweptLemmas
 pub mod RestLemmas
 pub mod SeenLemmas
-pub mod SweepMeasure
 pub mod SweepTurns
 pub mod SweepFacts
 pub mod MaskStart
