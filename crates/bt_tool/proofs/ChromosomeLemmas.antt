@@ -15,27 +15,29 @@ use Rattle.bt_bed.specs.Genome.{Entry, genome_handed, genome_of}
 use Rattle.bt_bed.specs.GenomeTable.{EntryIsWrong, EntryUnread, ReadsAll, ReadsGenome, ReadingStops, StopCause, entries}
 use Rattle.bt_bed.specs.LineKind.{fault_at_line, is_genome_kind}
 use Rattle.bt_bed.specs.declared.genome.Genome.{Genome}
+use Rattle.bt_tool.specs.Kinds.{IsOneOf}
 use Rattle.bt_tool.specs.Chromosomes.{KnowsChromosomes, LacksChromosomes, ReadsChromosomes}
 use Rattle.bt_tool.specs.Driving.{IsOfInput, TellsInput}
 use Rattle.bt_tool.specs.Inputs.{HoldsIf, Reads, ReadsIf}
-use Rattle.bt_tool.specs.Report.{chromosomes_of}
+use Rattle.bt_tool.specs.Report.{chromosomes_of, of_file}
 use Rattle.bt_tool.proofs.FaultLemmas.{memory_no_write, placed_no_write}
 use Rattle.bt_tool.proofs.HandedReader.{cut_text, handed_all, handed_part, passes_by}
 
--- without a genome file no chromosome is known
-none_read : {G : Type 0} (left : G → Option (List ℕ)) (failed : G → Bool) (handed : Option Handed) → ReadsIf left failed None None handed → chromosomes_of handed ≡ Ok []
+-- without a genome file there are no chromosomes
+none_read : {G : Type 0} (left : G → Option (List ℕ)) (failed : G → Bool) (handed : Option Handed) → ReadsIf left failed None None handed → chromosomes_of handed ≡ Ok None
 none_read left failed None h = refl
 none_read left failed (Some handed) h = absurd h
 
-none_held : {G : Type 0} (left : G → Option (List ℕ)) (handed : Option Handed) → HoldsIf left None handed → chromosomes_of handed ≡ Ok []
+none_held : {G : Type 0} (left : G → Option (List ℕ)) (handed : Option Handed) → HoldsIf left None handed → chromosomes_of handed ≡ Ok None
 none_held left None h = refl
 none_held left (Some handed) h = absurd h
 
-pub knows_none : {G : Type 0} (left : G → Option (List ℕ)) (failed : G → Bool) (table : Genome) → entries table ≡ [] → KnowsChromosomes left failed None None table
-knows_none left failed table e = record {
-  whole = λ handed reads. none_read left failed handed reads ∙ ap Ok (sym e);
-  told = λ handed holds. none_held left handed holds ∙ ap Ok (sym e);
-  distinct = rw e tt;
+pub knows_none : {G : Type 0} (left : G → Option (List ℕ)) (failed : G → Bool) → KnowsChromosomes left failed None None None
+knows_none left failed = record {
+  whole = none_read left failed;
+  told = none_held left;
+  named = refl;
+  distinct = tt;
   served = tt;
 }
 
@@ -67,25 +69,26 @@ module _ {G : Type 0} (left : G → Option (List ℕ)) (failed end : G → Bool)
   at_genome : (text : List ℕ) (P : List TextLine → Type 0) → left genome ≡ Some text → IfSome (lines_left left old) P → P (text_lines text)
   at_genome text P e h = of_some (lines_left left old) (text_lines text) P (lines ∙ ap (option_map text_lines) e) h
 
-  pub knows_read : (table : Genome) → ReadsAll left failed old new table → IsSound left end new → KnowsChromosomes left failed (Some genome) (Some after) table
+  pub knows_read : (table : Genome) → ReadsAll left failed old new table → IsSound left end new → KnowsChromosomes left failed (Some genome) (Some after) (Some table)
   knows_read table reads next =
-      let whole : (text : List ℕ) → left genome ≡ Some text → chromosomes_of (Some (whole_text text)) ≡ Ok (entries table) =
-      λ text e. subst (λ i. genome_of i (text_lines text) ≡ Ok (entries table)) input (at_genome text (λ lines. genome_of (input_of old) lines ≡ Ok (entries table)) e reads.is) in
+      let whole : (text : List ℕ) → left genome ≡ Some text → chromosomes_of (Some (whole_text text)) ≡ Ok (Some (entries table)) =
+      λ text e. ap of_file (subst (λ i. genome_of i (text_lines text) ≡ Ok (entries table)) input (at_genome text (λ lines. genome_of (input_of old) lines ≡ Ok (entries table)) e reads.is)) in
       record {
-        whole = read_as left failed genome after (λ h. chromosomes_of h ≡ Ok (entries table))
-            (λ handed r. subst (λ h. chromosomes_of (Some h) ≡ Ok (entries table)) (sym (handed_all left failed genome after old new source ended fresh handed r reads.bytes reads.served (next.within reads.going))) (whole r.text r.known));
-        told = held_as left genome (λ h. chromosomes_of h ≡ Ok (entries table)) whole;
+        whole = read_as left failed genome after (λ h. chromosomes_of h ≡ Ok (Some (entries table)))
+            (λ handed r. subst (λ h. chromosomes_of (Some h) ≡ Ok (Some (entries table))) (sym (handed_all left failed genome after old new source ended fresh handed r reads.bytes reads.served (next.within reads.going))) (whole r.text r.known));
+        told = held_as left genome (λ h. chromosomes_of h ≡ Ok (Some (entries table))) whole;
+        named = refl;
         distinct = reads.distinct;
         served = ap failed (sym ended) ∙ reads.served ∙ ap failed source;
       }
 
   module _ (fault : Told) (bytes : (bytes : List ℕ) × Hands left old bytes new) (next : IsSound left end new) where
     abbrev Tells : Type 0
-    Tells = TellsInput left failed is_genome_kind FromGenome genome after fault
+    Tells = TellsInput left failed (IsOneOf is_genome_kind) FromGenome genome after fault
 
     wrong_text : EntryIsWrong left failed old new fault → (text : List ℕ) → left genome ≡ Some text → chromosomes_of (Some (whole_text text)) ≡ Err fault
     wrong_text wrong text e =
-        subst (λ i. genome_of i (text_lines text) ≡ Err fault) input (at_genome text (λ lines. genome_of (input_of old) lines ≡ Err fault) e wrong.is)
+        ap of_file (subst (λ i. genome_of i (text_lines text) ≡ Err fault) input (at_genome text (λ lines. genome_of (input_of old) lines ≡ Err fault) e wrong.is))
 
     unread_text : EntryUnread left failed end old new fault → (handed : Handed) → Reads left failed genome after handed → chromosomes_of (Some handed) ≡ Err fault
     unread_text unread handed reads =
@@ -99,7 +102,7 @@ module _ {G : Type 0} (left : G → Option (List ℕ)) (failed end : G → Bool)
         ∙ ap (λ n. genome_of FromGenome (take n (text_lines reads.text))) (sym size)
         ∙ ap (λ i. genome_of i (take (lines_given new - lines_given old) (text_lines reads.text))) (sym input) ∙ made.1 in
         ap (λ h. chromosomes_of (Some h)) (handed_part left failed genome after old new source ended fresh handed reads bytes unread.fails.cause)
-        ∙ cut_genome front texts.more made.0 first
+        ∙ ap of_file (cut_genome front texts.more made.0 first)
         ∙ ap Err (ap (λ n. read_failed FromGenome (suc n)) (sym texts.given) ∙ ap (λ i. read_failed i (suc (lines_given new))) (sym input) ∙ sym unread.fails.is)
 
     whole_by : StopCause left failed end old new fault → fault ≢ no_memory → (handed : Handed) → Reads left failed genome after handed → chromosomes_of (Some handed) ≡ Err fault
@@ -137,7 +140,3 @@ module _ {G : Type 0} (left : G → Option (List ℕ)) (failed end : G → Bool)
 
   pub lacks_read : (fault : Told) → ReadingStops left failed end old new fault → IsSound left end new → LacksChromosomes left failed (Some genome) (Some after) fault
   lacks_read fault stops next = lacks_by fault stops.bytes next (stops.first clear)
-
-  pub reads_file : (answer : Result Genome Fault) → ReadsGenome left failed end old answer new → ReadsChromosomes left failed (Some genome) answer (Some after)
-  reads_file (Ok table) reads = knows_read table reads.answers (reads.sound sound)
-  reads_file (Err fault) reads = lacks_read (told fault) reads.answers (reads.sound sound)

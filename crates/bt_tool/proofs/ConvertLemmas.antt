@@ -28,6 +28,7 @@ use Rattle.bt_seq.specs.Converting.{Converting}
 use Rattle.bt_seq.specs.GoodSam.{sam_format}
 use Rattle.bt_seq.specs.SamKind.{is_sam_kind}
 use Rattle.bt_seq.proofs.SamKindLemmas.{wrong_kinds}
+use Rattle.bt_tool.specs.Kinds.{IsOneOf}
 use Rattle.bt_tool.specs.Converted.{alignment_lines, bamtobed_report, bamtobed_settles}
 use Rattle.bt_tool.specs.Converting.{LineRefused, LineUnwritten, LineWritten, lines_if, sam_reader}
 use Rattle.bt_tool.specs.Driving.{WritesInput}
@@ -184,7 +185,7 @@ module _ {S : Type 0} (split cigar : Bool) (left : S → Option (List ℕ)) (fai
           }
 
       took_by : (new : LineReader S) (past : List (Member Alignment)) (later : Output) → (bytes : List ℕ) × Hands left now bytes new → NearBehind (lines_left left now) (left (source_of new))
-          → Grows grown.took later.took → Took lines_of is_sam_kind Any left failed (sam_reader old) out past new later
+          → Grows grown.took later.took → Took lines_of (IsOneOf is_sam_kind) Any left failed (sam_reader old) out past new later
       took_by new past later hands near grows = record {
         bytes = (g.bytes.0 ++ hands.0, hands_both left old now new g.bytes.0 hands.0 g.bytes.1 hands.1);
         sorted = tt;
@@ -197,7 +198,7 @@ module _ {S : Type 0} (split cigar : Bool) (left : S → Option (List ℕ)) (fai
 
       -- after the last line
       pub converts_all : (new : LineReader S) → GivesEnd left failed now new → IsSound left end new
-          → FeedsAll lines_of is_sam_kind Any left failed Any (sam_reader old) out new grown
+          → FeedsAll lines_of (IsOneOf is_sam_kind) Any left failed Any (sam_reader old) out new grown
       converts_all new ends sound = record {
         past = g.past;
         took = took_by new g.past grown (ends.bytes.0, ends.bytes.1) (near_none (lines_left left now) (left (source_of new)) ends.none_left) none_more;
@@ -216,7 +217,7 @@ module _ {S : Type 0} (split cigar : Bool) (left : S → Option (List ℕ)) (fai
           subst (λ n. IfSome (lines_left left now) (λ lines. IfSome (left (source_of new)) (λ rest. bytes_in (drop n lines) ≤ length rest + block_size))) one (gives.near g.going)
 
       unread_cause : (new : LineReader S) (fault : Told) → GivesFault left failed now fault new → FailsToRead left failed now fault new ⊎ (fault ≡ no_memory)
-          → StopCause lines_of is_sam_kind Any left failed (sam_reader old) out g.past fault new grown
+          → StopCause lines_of (IsOneOf is_sam_kind) Any left failed (sam_reader old) out g.past fault new grown
       unread_cause new fault gives (inl fails) = inl (inr (record {
         is = fails.is ∙ ap (λ i. read_failed i (suc (lines_given now))) same_input ∙ ap (λ n. read_failed (input_of old) (suc n)) (sym gives.counted);
         cause = fails.cause;
@@ -235,7 +236,7 @@ module _ {S : Type 0} (split cigar : Bool) (left : S → Option (List ℕ)) (fai
 
       -- the reader told a fault
       pub stops_reading : (new : LineReader S) (fault : Told) → GivesFault left failed now fault new
-          → FeedsUpTo lines_of is_sam_kind Any left failed (sam_reader old) out fault new grown
+          → FeedsUpTo lines_of (IsOneOf is_sam_kind) Any left failed (sam_reader old) out fault new grown
       stops_reading new fault gives = record {
         past = g.past;
         took = took_by new g.past grown gives.bytes (near_fault new fault gives) none_more;
@@ -261,12 +262,12 @@ module _ {S : Type 0} (split cigar : Bool) (left : S → Option (List ℕ)) (fai
 
         -- it is at fault
         pub stops_at_line : (fault : Told) (later : Output) → LineRefused (input_of old) line grown fault later
-            → FeedsUpTo lines_of is_sam_kind Any left failed (sam_reader old) out fault new later
+            → FeedsUpTo lines_of (IsOneOf is_sam_kind) Any left failed (sam_reader old) out fault new later
         stops_at_line fault later refused =
             let place : fault_at_line (input_of now) line.number refused.kind ≡ fault = ap (λ i. fault_at_line i line.number refused.kind) same_input ∙ sym refused.is in
             let none = subst (λ o. IfSome o (λ good. good ≡ ends_with (Some (fault_at_line (input_of now) line.number refused.kind)))) (sym coming_now)
             (wrong (input_of now) (lines_left left now) (lines_left left new) line refused.kind gives.first refused.says) in
-            subst (λ o. FeedsUpTo lines_of is_sam_kind Any left failed (sam_reader old) out fault new o) (sym refused.unchanged) (record {
+            subst (λ o. FeedsUpTo lines_of (IsOneOf is_sam_kind) Any left failed (sam_reader old) out fault new o) (sym refused.unchanged) (record {
               past = g.past;
               took = took_by new g.past grown hands_line near_line none_more;
               begins = begins_with (coming left old) (coming left now) g.past g.come;
@@ -291,7 +292,7 @@ module _ {S : Type 0} (split cigar : Bool) (left : S → Option (List ℕ)) (fai
 
         -- the lines of its alignment couldn't be written
         pub stops_writing : (converting : Converting) → converting.split ≡ split → converting.with_cigar ≡ cigar → (fault : Told) (later : Output) → LineUnwritten converting line grown fault later
-            → FeedsUpTo lines_of is_sam_kind Any left failed (sam_reader old) out fault new later
+            → FeedsUpTo lines_of (IsOneOf is_sam_kind) Any left failed (sam_reader old) out fault new later
         stops_writing converting same same_cigar fault later unwritten =
             let a = unwritten.said in
             let fails = unwritten.fails.puts in
@@ -396,25 +397,25 @@ module _ {S : Type 0} (split cigar : Bool) (left : S → Option (List ℕ)) (fai
 
   module _ (converting : Converting) (same : converting ≡ record { split = split; with_cigar = cigar; fault = None }) (out : Output) (new : LineReader S) (last : S) (ended : source_of new ≡ last) (grown : Output) where
     abbrev Writes : Option Told → Type 0
-    Writes fault = WritesInput left failed is_sam_kind (bamtobed_report split cigar) (bamtobed_settles split cigar) first out fault last grown
+    Writes fault = WritesInput left failed (IsOneOf is_sam_kind) (bamtobed_report split cigar) (bamtobed_settles split cigar) first out fault last grown
 
-    as_reported : (fault : Option Told) → WritesInput left failed is_sam_kind (members_report (bamtobed_written split cigar) sam_format) (members_settle (bamtobed_written split cigar) sam_format) first out fault last grown
+    as_reported : (fault : Option Told) → WritesInput left failed (IsOneOf is_sam_kind) (members_report (bamtobed_written split cigar) sam_format) (members_settle (bamtobed_written split cigar) sam_format) first out fault last grown
         → Writes fault
     as_reported fault =
-        writes_same left failed is_sam_kind (members_report (bamtobed_written split cigar) sam_format) (bamtobed_report split cigar) (members_settle (bamtobed_written split cigar) sam_format) (bamtobed_settles split cigar)
+        writes_same left failed (IsOneOf is_sam_kind) (members_report (bamtobed_written split cigar) sam_format) (bamtobed_report split cigar) (members_settle (bamtobed_written split cigar) sam_format) (bamtobed_settles split cigar)
         (λ handed. reported split cigar _ _) (λ lines. refl) first out fault last grown
 
     -- the whole input was read
-    pub writes_all : FeedsAll (alignment_lines converting.split converting.with_cigar) is_sam_kind (λ past. ⊤) left failed (λ past. ⊤) (sam_reader reader) out new grown → Writes None
+    pub writes_all : FeedsAll (alignment_lines converting.split converting.with_cigar) (IsOneOf is_sam_kind) (λ past. ⊤) left failed (λ past. ⊤) (sam_reader reader) out new grown → Writes None
     writes_all fed =
-        let is = subst (λ (m : Converting). FeedsAll (alignment_lines m.split m.with_cigar) is_sam_kind (λ past. ⊤) left failed (λ past. ⊤) (sam_reader reader) out new grown) same fed in
+        let is = subst (λ (m : Converting). FeedsAll (alignment_lines m.split m.with_cigar) (IsOneOf is_sam_kind) (λ past. ⊤) left failed (λ past. ⊤) (sam_reader reader) out new grown) same fed in
         as_reported None
-        (drives_all (bamtobed_written split cigar) is_sam_kind (λ past. ⊤) (λ past. ⊤) more_lines more_lines left failed sam_format (λ text. tt) (sam_reader reader) first out starts_reader new last ended
+        (drives_all (bamtobed_written split cigar) (IsOneOf is_sam_kind) (λ past. ⊤) (λ past. ⊤) more_lines more_lines left failed sam_format (λ text. tt) (sam_reader reader) first out starts_reader new last ended
         (λ past. ⊤) grown is grown ([], Appends-nil grown.took) [] (sym (append-nil _)) (Appends-nil grown.put) refl)
 
     -- or it was read up to a fault
-    pub writes_up_to : (fault : Told) → FeedsUpTo (alignment_lines converting.split converting.with_cigar) is_sam_kind (λ past. ⊤) left failed (sam_reader reader) out fault new grown → Writes (Some fault)
+    pub writes_up_to : (fault : Told) → FeedsUpTo (alignment_lines converting.split converting.with_cigar) (IsOneOf is_sam_kind) (λ past. ⊤) left failed (sam_reader reader) out fault new grown → Writes (Some fault)
     writes_up_to fault fed =
         as_reported (Some fault)
-        (drives_fault (bamtobed_written split cigar) is_sam_kind (λ past. ⊤) (λ past. ⊤) more_lines more_lines left failed sam_format (λ text. tt) (sam_reader reader) first out starts_reader new last ended
-        fault grown (subst (λ (m : Converting). FeedsUpTo (alignment_lines m.split m.with_cigar) is_sam_kind (λ past. ⊤) left failed (sam_reader reader) out fault new grown) same fed))
+        (drives_fault (bamtobed_written split cigar) (IsOneOf is_sam_kind) (λ past. ⊤) (λ past. ⊤) more_lines more_lines left failed sam_format (λ text. tt) (sam_reader reader) first out starts_reader new last ended
+        fault grown (subst (λ (m : Converting). FeedsUpTo (alignment_lines m.split m.with_cigar) (IsOneOf is_sam_kind) (λ past. ⊤) left failed (sam_reader reader) out fault new grown) same fed))

@@ -144,7 +144,7 @@ pub records_sorted : (Taken : List Feature → Type 0) (order : Order) → IsTot
 records_sorted Taken order total takes text =
     takes (member_items (good (bed_format (sorting_of order)) First (text_lines text)).members) (placed_good First order (whole_text text) total) (non_empty_good First order (whole_text text))
 
-module _ {S A State : Type 0} (written : Written A) (kinds : Kind → Bool) (Sorted Taken : List A → Type 0)
+module _ {S A State : Type 0} (written : Written A) (kinds : Kind → Type 0) (Sorted Taken : List A → Type 0)
     (stays : (past more : List A) → Taken (past ++ more) → (rest : List ℕ) × (written.settled (past ++ more) ≡ written.settled past ++ rest))
     (begins : (past more : List A) → Taken (past ++ more) → (rest : List ℕ) × (written.whole (past ++ more) ≡ written.settled past ++ rest))
     (left : S → Option (List ℕ)) (failed : S → Bool) (format : Format A State) (taken : (text : List ℕ) → Taken (member_items (good format First (text_lines text)).members))

@@ -21,9 +21,9 @@ use Rattle.bt_lines.specs.Names.{told}
 use Rattle.bt_bed.specs.Good.{Format, Good, Member, ends_with, good_from, or_else, with_member}
 use Rattle.bt_bed.specs.GoodBed.{bed_format, locus_at}
 use Rattle.bt_bed.specs.Sorting.{sorting_of}
-use Rattle.bt_bed.proofs.NeighbourLemmas.{says_of_line}
+use Rattle.bt_bed.proofs.NeighbourLemmas.{wrong_of_bed}
 use Rattle.bt_bed.specs.GoodLines.{IsBeyond}
-use Rattle.bt_bed.specs.LineKind.{fault_at_line, is_bed_kind}
+use Rattle.bt_bed.specs.LineKind.{fault_at_line, IsBedKind}
 use Rattle.bt_bed.specs.Interval.{Interval, AreNonEmpty, last_of}
 use Rattle.bt_bed.specs.Order.{Order}
 use Rattle.bt_bed.specs.Locus.{Locus, locus_of, IsUpTo, ArePlaced}
@@ -286,7 +286,7 @@ module _ {S O : Type 0} {ghosts : Ghosts O} (settled : List Feature → List ℕ
   taken_more : (new : Records S O ghosts) → (bytes : List ℕ) × Hands left (below now) bytes (below new)
       → (past : List (Member Feature)) → ArePlaced (order_in old) (intervals_of (member_items past)) → AreNonEmpty (intervals_of (member_items past))
       → (later : Output) → Grows grown.took later.took → KeepsNear left settled (view_of old) out (below new) later
-      → Took settled is_bed_kind (AreInOrder (order_in old)) left failed (view_of old) out past (below new) later
+      → Took settled (IsBedKind (order_in old)) (AreInOrder (order_in old)) left failed (view_of old) out past (below new) later
   taken_more new hands past placed full later grows near = record {
     bytes = (g.bytes.0 ++ hands.0, hands_both left (below old) (below now) (below new) g.bytes.0 hands.0 g.bytes.1 hands.1);
     sorted = (placed, full);
@@ -299,7 +299,7 @@ module _ {S O : Type 0} {ghosts : Ghosts O} (settled : List Feature → List ℕ
 
   -- after the last record
   pub feeds_all : (new : Records S O ghosts) → order_in new ≡ order_in now → IsSound left end (below new)
-      → EndsMembers left failed (view_of now) (view_of new) → FeedsAll settled is_bed_kind (AreInOrder (order_in old)) left failed Stands (view_of old) out (below new) grown
+      → EndsMembers left failed (view_of now) (view_of new) → FeedsAll settled (IsBedKind (order_in old)) (AreInOrder (order_in old)) left failed Stands (view_of old) out (below new) grown
   feeds_all new order sound ends = record {
     past = g.past;
     took = taken_more new ends.stays.bytes g.past g.placed g.full grown none_more
@@ -316,13 +316,13 @@ module _ {S O : Type 0} {ghosts : Ghosts O} (settled : List Feature → List ℕ
   same_input = g.bytes.1.same_input
 
   cause_of : (new : Records S O ghosts) (fault : Told) → IsSound left end (below new) → AnswersFault left failed end (view_of now) fault (view_of new)
-      → PeekCause left failed end (view_of now) fault (view_of new) → StopCause settled is_bed_kind (AreInOrder (order_in old)) left failed (view_of old) out g.past fault (below new) grown
+      → PeekCause left failed end (view_of now) fault (view_of new) → StopCause settled (IsBedKind (order_in old)) (AreInOrder (order_in old)) left failed (view_of old) out g.past fault (below new) grown
   cause_of new fault sound answers (inl at) = inl (inl (record {
     whole = whole_with (good_coming left (view_of old)) (good_coming left (view_of now)) g.past (Some fault) g.come at.none_left;
     line = lines_given (below new);
     kind = at.kind;
     is = at.place ∙ ap (λ input. fault_at_line input (lines_given (below new)) at.kind) same_input;
-    of_kind = says_of_line (sorting_of (order_in old)) (view_of now).state at.line.text at.kind (ap (λ f. f.says (view_of now).state at.line) (sym (g.format ∙ is_bed)) ∙ at.says);
+    of_kind = wrong_of_bed (order_in old) (view_of now).state at.line.text at.kind (ap (λ f. f.says (view_of now).state at.line) (sym (g.format ∙ is_bed)) ∙ at.says);
     puts = g.puts;
     works = g.works;
     served = at.served ∙ g.served;
@@ -346,7 +346,7 @@ module _ {S O : Type 0} {ghosts : Ghosts O} (settled : List Feature → List ℕ
 
   -- the reader told a fault
   pub stops_reading : (new : Records S O ghosts) (fault : Told) → order_in new ≡ order_in now → IsSound left end (below new)
-      → AnswersFault left failed end (view_of now) fault (view_of new) → FeedsUpTo settled is_bed_kind (AreInOrder (order_in old)) left failed (view_of old) out fault (below new) grown
+      → AnswersFault left failed end (view_of now) fault (view_of new) → FeedsUpTo settled (IsBedKind (order_in old)) (AreInOrder (order_in old)) left failed (view_of old) out fault (below new) grown
   stops_reading new fault order sound answers = record {
     past = g.past;
     took = taken_more new answers.stays.bytes g.past g.placed g.full grown none_more
@@ -385,7 +385,7 @@ module _ {S O : Type 0} {ghosts : Ghosts O} (settled : List Feature → List ℕ
     pub full_items : AreNonEmpty (intervals_of (member_items g.past ++ r ∷ []))
     full_items = subst (λ rs. AreNonEmpty (intervals_of rs)) items_more full_more
 
-    took_more : (later : Output) → Grows grown.took later.took → Took settled is_bed_kind (AreInOrder (order_in old)) left failed (view_of old) out with_next (below peeked) later
+    took_more : (later : Output) → Grows grown.took later.took → Took settled (IsBedKind (order_in old)) (AreInOrder (order_in old)) left failed (view_of old) out with_next (below peeked) later
     took_more later grows =
         taken_more peeked gives.read.stays.bytes with_next placed_more full_more later grows
         (near_at (below peeked) later (stops_given left failed end (view_of now) g.none_ahead g.going g.sound next_member (view_of peeked) gives.read sound
@@ -408,7 +408,7 @@ module _ {S O : Type 0} {ghosts : Ghosts O} (settled : List Feature → List ℕ
     pub stops_writing : (fault : Told) (later : Output) → fault ≡ write_failed
         → CutsRest (settled (member_items g.past)) (settled (member_items g.past ++ r ∷ [])) grown later
         → later.has_failed ≡ true → later.sink_has_failed ≡ true → Grows grown.took later.took
-        → FeedsUpTo settled is_bed_kind (AreInOrder (order_in old)) left failed (view_of old) out fault (below peeked) later
+        → FeedsUpTo settled (IsBedKind (order_in old)) (AreInOrder (order_in old)) left failed (view_of old) out fault (below peeked) later
     stops_writing fault later is cuts fails sink grows = record {
       past = with_next;
       took = took_more later grows;
@@ -428,7 +428,7 @@ module _ {S O : Type 0} {ghosts : Ghosts O} (settled : List Feature → List ℕ
     pub stops_growing : (fault : Told) (later : Output) → fault ≡ no_memory
         → PutsPart (settled (member_items g.past)) (settled (member_items g.past ++ r ∷ [])) grown later
         → WorksAsBefore grown later → Grows grown.took later.took
-        → FeedsUpTo settled is_bed_kind (AreInOrder (order_in old)) left failed (view_of old) out fault (below peeked) later
+        → FeedsUpTo settled (IsBedKind (order_in old)) (AreInOrder (order_in old)) left failed (view_of old) out fault (below peeked) later
     stops_growing fault later is part works grows = record {
       past = with_next;
       took = took_more later grows;
@@ -516,7 +516,7 @@ module _ {S O E : Type 0} {ghosts : Ghosts O} (MayTake : E → List Feature → 
     (g : Going (settled first) (λ past. Stands first past engine) left failed end old out now grown)
     (peeked : Records S O ghosts) (r : Feature) (order : order_in peeked ≡ order_in now) (sound : IsSound left end (below peeked)) (gives : GivesRecord left failed now r peeked) where
   stops_not_taken : (fault : Told) (new : E) (later : Output) → MayTake first (member_items g.past ++ r ∷ []) → engine_fault engine ≡ None → Grows grown.took later.took
-      → NotTaken MayTake Stands engine_fault settled engine r grown fault new later → FeedsUpTo (settled first) is_bed_kind (AreInOrder (order_in old)) left failed (view_of old) out fault (below peeked) later
+      → NotTaken MayTake Stands engine_fault settled engine r grown fault new later → FeedsUpTo (settled first) (IsBedKind (order_in old)) (AreInOrder (order_in old)) left failed (view_of old) out fault (below peeked) later
   stops_not_taken fault new later takes going grows (inl again) = absurd (let apart : None ≡ Some fault = sym going ∙ again.is in cc)
   stops_not_taken fault new later takes going grows (inr (inl fails)) =
       stops_writing (settled first) (λ past. Stands first past engine) left failed end old out now grown fresh is_bed g peeked r order sound gives fault later fails.is
@@ -526,7 +526,7 @@ module _ {S O E : Type 0} {ghosts : Ghosts O} (MayTake : E → List Feature → 
       (runs_out.puts first (member_items g.past) g.stands takes) runs_out.works grows
 
   pub stops_feeding : {A : Type 0} (Quiet : E → List Feature → Feature → Type 0) (fault : Fault) (new : E) (later : Output) → MayTake first (member_items g.past ++ r ∷ [])
-      → EngineFeeds MayTake Stands engine_fault settled engine r grown {A = A} Quiet (Err fault) new later → FeedsUpTo (settled first) is_bed_kind (AreInOrder (order_in old)) left failed (view_of old) out (told fault) (below peeked) later
+      → EngineFeeds MayTake Stands engine_fault settled engine r grown {A = A} Quiet (Err fault) new later → FeedsUpTo (settled first) (IsBedKind (order_in old)) (AreInOrder (order_in old)) left failed (view_of old) out (told fault) (below peeked) later
   stops_feeding Quiet fault new later takes fed =
       stops_not_taken (told fault) new later takes (fed.going first (member_items g.past) g.stands) fed.grows fed.answers
 

@@ -365,7 +365,7 @@ module _ {S A State : Type 0} (left : S → Option (List ℕ)) (failed end : S �
     same_input : input_of now.below ≡ input_of old.below
     same_input = g.bytes.1.same_input
 
-    module _ (kinds : Kind → Bool) (of_format : (state : State) (line : TextLine) (kind : Kind) → old.format.says state line ≡ Err kind → kinds kind ≡ true) where
+    module _ (kinds : Kind → Type 0) (of_format : (state : State) (line : TextLine) (kind : Kind) → old.format.says state line ≡ Err kind → kinds kind) where
       cause_of : (new : MemberReader S A State) (fault : Told) → IsSound left end new.below → AnswersFault left failed end now fault new
           → PeekCause left failed end now fault new
           → IsWrongBehind left failed end old kinds past fault new ⊎ (IsUnreadBehind left failed end old past fault new ⊎ LacksMemory left failed end old fault new)

@@ -32,8 +32,8 @@ seen_begins {S} {A} {State} left old now past None e come =
 seen_begins left old now past (Some m) e come = begins_more old (good_coming left now) past m come (ahead_first left now m e)
 
 module _ {A B X Y U V : Type 0} (making : Making X Y) (pair : Pair A B X Y U V) (out : Output)
-    (wrong_first : (state : U) (line : TextLine) (kind : Kind) → pair.first.format.says state line ≡ Err kind → making.first_kinds kind ≡ true)
-    (wrong_second : (state : V) (line : TextLine) (kind : Kind) → pair.second.format.says state line ≡ Err kind → making.second_kinds kind ≡ true) where
+    (wrong_first : (state : U) (line : TextLine) (kind : Kind) → pair.first.format.says state line ≡ Err kind → making.first_kinds kind)
+    (wrong_second : (state : V) (line : TextLine) (kind : Kind) → pair.second.format.says state line ≡ Err kind → making.second_kinds kind) where
   abbrev Ends : Option Told → MemberReader A X U → MemberReader B Y V → Output → Type 0
   Ends = Finishes making pair out
 

@@ -56,10 +56,10 @@ module _ {S A State : Type 0} (left : S → Option (List ℕ)) (failed end : S �
           rises = omega (arith, on.rises, over.ends.rises);
         }
 
-    pub reads_stop : (new : MemberReader S A State) (fault : Told) → IsStopped left failed end now fault new → (old : MemberReader S A State) (past : List (Member A)) (kinds : Kind → Bool)
-        → Passes left failed end old past before → ((state : State) (line : TextLine) (kind : Kind) → old.format.says state line ≡ Err kind → kinds kind ≡ true)
+    pub reads_stop : (kinds : Kind → Type 0) (new : MemberReader S A State) (fault : Told) → IsStopped left failed end now fault new → (old : MemberReader S A State) (past : List (Member A))
+        → Passes left failed end old past before → ((state : State) (line : TextLine) (kind : Kind) → old.format.says state line ≡ Err kind → kinds kind)
         → ChecksUpTo left failed end old past before kinds fault new
-    reads_stop new fault stopped old past kinds p wrong =
+    reads_stop kinds new fault stopped old past p wrong =
         let was = on.passes old past p in
         record {
           more = was.0;

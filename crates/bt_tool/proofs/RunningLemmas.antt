@@ -1,6 +1,6 @@
 -- Lemmas on a run, from its devices to the report on what its inputs hand over.
 use Rattle.std.proofs.Common.{◌≡◌, ℕ, ◌+◌, ◌-◌, ◌≤◌, Bool, true, false, List, [], ◌++◌, length, take, Option, None, Some, Ok, Err, refl, sym, ap, ◌∙◌, subst, append-nil, append_assoc, length-append, arith, inl, inr, ⊎_elim}
-use Rattle.std.specs.Prelude.{◌⊎◌, ◌≢◌, IfSome, Result}
+use Rattle.std.specs.Prelude.{◌⊎◌, ◌≢◌, IfSome, Result, is_some, option_map}
 use Rattle.std.proofs.lemmas.Bool.{false≢true}
 use Rattle.std.proofs.lemmas.List.{append_cancel_left}
 use Rattle.std.specs.Io.KnownBytes.{Consumes, Keeps}
@@ -21,13 +21,15 @@ use Rattle.bt_bed.specs.LineKind.{is_genome_kind}
 use Rattle.bt_bed.specs.declared.genome.Genome.{Genome}
 use Rattle.bt_runs.specs.Depth.{settled_depths}
 use Rattle.bt_runs.specs.Gaps.{settled_gaps}
+use Rattle.bt_tool.specs.Kinds.{IsOneOf}
 use Rattle.bt_tool.specs.Chromosomes.{KnowsChromosomes, LacksChromosomes, ReadsChromosomes, StopsAtGenome, WritesBy, WritesOutput}
 use Rattle.bt_tool.specs.Driving.{IsOfInput, ReadsNoFurther, TellsDevice, TellsInput, TellsInputIf, TellsLine, TellsRead}
 use Rattle.bt_tool.specs.Flushing.{Flushes, FlushesAll, FlushFails, StaysFailed}
-use Rattle.bt_tool.specs.Gives.{Runs, is_of_genome, lies_in_genome}
+use Rattle.bt_tool.specs.Gives.{Runs, TellsOther, is_of_genome, lies_in_genome}
 use Rattle.bt_tool.specs.Inputs.{HandsUpToIf, Inputs}
 use Rattle.bt_tool.specs.RecordReport.{Report}
-use Rattle.bt_tool.specs.Report.{chromosomes_of, command_report, command_reaches, command_settles, first_kinds, reaches_on, report_of, report_on, second_kinds, settles_on}
+use Rattle.bt_tool.specs.Behaviour.{behaviour_of, order_of}
+use Rattle.bt_tool.specs.Report.{chromosomes_of, reaches_on, report_of, report_on, settles_on}
 use Rattle.bt_tool.specs.declared.plan_type.Command.{Command}
 use Rattle.bt_tool.specs.declared.plan_type.Command.TheVariants.{Merge, Complement, Intersect, Subtract, Coverage, BamToBed, MaskFasta}
 use Rattle.bt_tool.proofs.FeedLemmas.{grows_both}
@@ -135,19 +137,19 @@ near_later Beside More adds settles text left before first took more known e f g
 }
 
 -- no line settles nothing
-none_settle : (command : Command) (entries : List Entry) (second : Option Handed) → command_settles command entries second [] ≡ []
+none_settle : (command : Command) (chromosomes : Option (List Entry)) (second : Option Handed) → (behaviour_of command chromosomes).settles second [] ≡ []
 unfolding good_from settled_gaps settled_depths
-none_settle (Merge d strand) entries second = merge_settles_none entries d strand
-none_settle (Complement limit) entries second = refl
-none_settle (Intersect shape rule) entries second = refl
-none_settle (Subtract whole rule) entries second = refl
-none_settle (Coverage zeros strand) entries second = refl
-none_settle (BamToBed split cigar) entries second = refl
-none_settle (MaskFasta how full) entries second = refl
+none_settle (Merge d strand) chromosomes second = merge_settles_none (order_of chromosomes) d strand
+none_settle (Complement limit) chromosomes second = refl
+none_settle (Intersect shape rule) chromosomes second = refl
+none_settle (Subtract whole rule) chromosomes second = refl
+none_settle (Coverage zeros strand) chromosomes second = refl
+none_settle (BamToBed split cigar) chromosomes second = refl
+none_settle (MaskFasta how full) chromosomes second = refl
 
-none_settle_on : (command : Command) (chromosomes : Result (List Entry) Told) (second : Option Handed) → settles_on command chromosomes second [] ≡ []
+none_settle_on : (command : Command) (chromosomes : Result (Option (List Entry)) Told) (second : Option Handed) → settles_on command chromosomes second [] ≡ []
 none_settle_on command (Err fault) second = refl
-none_settle_on command (Ok entries) second = none_settle command entries second
+none_settle_on command (Ok chromosomes) second = none_settle command chromosomes second
 
 taken_all : (took : Option (List ℕ)) (before : List ℕ) → took ≡ Some before → IfSome took (λ taken. length (before ++ []) ≤ length taken + block_size)
 taken_all None before e = tt
@@ -156,7 +158,7 @@ taken_all (Some taken) before e =
     omega (arith, ap length same, ap length (append-nil before))
 
 -- a fault of the first input lies there
-line_elsewhere : (kinds : Kind → Bool) (input : Input) (t : Told) → is_of_genome input ≡ false → TellsLine kinds input t → lies_in_genome t.place ≡ true → ⊥
+line_elsewhere : (kinds : Kind → Type 0) (input : Input) (t : Told) → is_of_genome input ≡ false → TellsLine kinds input t → lies_in_genome t.place ≡ true → ⊥
 line_elsewhere kinds input t other tells lies = false≢true (sym other ∙ sym (ap (λ (f : Told). lies_in_genome f.place) tells.is) ∙ lies)
 
 read_elsewhere : {A : Type 0} (left : A → Option (List ℕ)) (failed : A → Bool) (input : Input) (before after : A) (t : Told) → is_of_genome input ≡ false → TellsRead left failed input before after t → lies_in_genome t.place ≡ true → ⊥
@@ -166,19 +168,23 @@ device_elsewhere : (b : Bool) (t : Told) → TellsDevice b t → lies_in_genome 
 device_elsewhere b t (inl write) lies = false≢true (sym (ap (λ (f : Told). lies_in_genome f.place) write.0) ∙ lies)
 device_elsewhere b t (inr memory) lies = false≢true (sym (ap (λ (f : Told). lies_in_genome f.place) memory) ∙ lies)
 
-input_elsewhere : {A : Type 0} (left : A → Option (List ℕ)) (failed : A → Bool) (kinds : Kind → Bool) (input : Input) (before after : A) (t : Told) → is_of_genome input ≡ false
+input_elsewhere : {A : Type 0} (left : A → Option (List ℕ)) (failed : A → Bool) (kinds : Kind → Type 0) (input : Input) (before after : A) (t : Told) → is_of_genome input ≡ false
     → TellsInput left failed kinds input before after t → lies_in_genome t.place ≡ true → ⊥
 input_elsewhere left failed kinds input before after t other (inl tells) lies = line_elsewhere kinds input t other tells lies
 input_elsewhere left failed kinds input before after t other (inr tells) lies = read_elsewhere left failed input before after t other tells lies
 
-if_elsewhere : {B : Type 0} (left : B → Option (List ℕ)) (failed : B → Bool) (kinds : Kind → Bool) (input : Input) (before after : Option B) (t : Told) → is_of_genome input ≡ false
+if_elsewhere : {B : Type 0} (left : B → Option (List ℕ)) (failed : B → Bool) (kinds : Kind → Type 0) (input : Input) (before after : Option B) (t : Told) → is_of_genome input ≡ false
     → TellsInputIf left failed kinds input before after t → lies_in_genome t.place ≡ true → ⊥
 if_elsewhere left failed kinds input None after t other tells lies = absurd tells
 if_elsewhere left failed kinds input (Some before) None t other tells lies = absurd tells
 if_elsewhere left failed kinds input (Some before) (Some after) t other tells lies = input_elsewhere left failed kinds input before after t other tells lies
 
 -- chromosomes that were read aren't at fault
-other_chromosomes : (chromosomes : Result (List Entry) Told) (entries : List Entry) (wrong : Told) → chromosomes ≡ Ok entries → chromosomes ≡ Err wrong → ⊥
+same_is_some : (table : Option Genome) → is_some (option_map entries table) ≡ is_some table
+same_is_some None = refl
+same_is_some (Some table) = refl
+
+other_chromosomes : (chromosomes : Result (Option (List Entry)) Told) (entries : Option (List Entry)) (wrong : Told) → chromosomes ≡ Ok entries → chromosomes ≡ Err wrong → ⊥
 other_chromosomes chromosomes entries wrong o e = cc
 
 -- a failed write is told where the sink failed
@@ -187,17 +193,17 @@ write_by b other (inl p) = absurd (other p)
 write_by b other (inr (inl write)) = write.1
 write_by b other (inr (inr memory)) = absurd (memory_no_write (sym memory))
 
-write_of_input : {A : Type 0} (left : A → Option (List ℕ)) (failed : A → Bool) (kinds : Kind → Bool) (input : Input) (before after : A) → TellsInput left failed kinds input before after write_failed → ⊥
+write_of_input : {A : Type 0} (left : A → Option (List ℕ)) (failed : A → Bool) (kinds : Kind → Type 0) (input : Input) (before after : A) → TellsInput left failed kinds input before after write_failed → ⊥
 write_of_input left failed kinds input before after (inl tells) = placed_no_write input tells.line tells.kind (sym tells.is)
 write_of_input left failed kinds input before after (inr tells) = write_no_read input tells.line tells.is
 
-write_of_if : {B : Type 0} (left : B → Option (List ℕ)) (failed : B → Bool) (kinds : Kind → Bool) (input : Input) (before after : Option B) → TellsInputIf left failed kinds input before after write_failed → ⊥
+write_of_if : {B : Type 0} (left : B → Option (List ℕ)) (failed : B → Bool) (kinds : Kind → Type 0) (input : Input) (before after : Option B) → TellsInputIf left failed kinds input before after write_failed → ⊥
 write_of_if left failed kinds input None after tells = absurd tells
 write_of_if left failed kinds input (Some before) None tells = absurd tells
 write_of_if left failed kinds input (Some before) (Some after) tells = write_of_input left failed kinds input before after tells
 
 -- an input that wasn't touched was read no further than its first line
-near_untouched : (Beside : List TextLine → Type 0) → ((lines : List TextLine) → Beside lines) → (command : Command) (chromosomes : Result (List Entry) Told) (second : Option Handed) (text before : List ℕ) (left took more : Option (List ℕ)) → left ≡ Some text → took ≡ Some before → Grows took more
+near_untouched : (Beside : List TextLine → Type 0) → ((lines : List TextLine) → Beside lines) → (command : Command) (chromosomes : Result (Option (List Entry)) Told) (second : Option Handed) (text before : List ℕ) (left took more : Option (List ℕ)) → left ≡ Some text → took ≡ Some before → Grows took more
     → ReadsNoFurther Beside (settles_on command chromosomes second) text left before more
 near_untouched Beside has command chromosomes second text before left took more e t g = record {
   n = 1;
@@ -216,10 +222,10 @@ module _ {G A B K : Type 0} (g_left : G → Option (List ℕ)) (g_failed : G →
   RunsSo = Runs g_left g_failed a_left a_failed a_end b_left b_failed k_took k_failed command genome first second out answer genome_after first_after second_after out_after
 
   abbrev GenomeTells : Told → Type 0
-  GenomeTells t = TellsInputIf g_left g_failed is_genome_kind FromGenome genome genome_after t
+  GenomeTells t = TellsInputIf g_left g_failed (IsOneOf is_genome_kind) FromGenome genome genome_after t
 
   abbrev OthersTell : Told → Type 0
-  OthersTell t = TellsInput a_left a_failed (first_kinds command) First first first_after t ⊎ TellsInputIf b_left b_failed (second_kinds command) Second second second_after t
+  OthersTell t = TellsOther g_left g_failed a_left a_failed a_end b_left b_failed k_took k_failed command genome first first_after second second_after t
 
   -- how far the second input was read beside lines of the first
   abbrev Beside : Inputs → List TextLine → Type 0
@@ -227,27 +233,33 @@ module _ {G A B K : Type 0} (g_left : G → Option (List ℕ)) (g_failed : G →
       → HandsUpToIf b_left (reaches_on command (chromosomes_of inputs.genome) inputs.second lines + block_size) second second_after
 
   -- the chromosomes were read, and the output written by them
-  module _ (table : Genome) (knows : KnowsChromosomes g_left g_failed genome genome_after table) (writes : WritesBy a_left a_failed a_end b_left b_failed command (entries table) first second begun fault first_after second_after mid) where
+  module _ (table : Option Genome) (knows : KnowsChromosomes g_left g_failed genome genome_after table) (writes : WritesBy a_left a_failed a_end b_left b_failed (behaviour_of command (option_map entries table)) first second begun fault first_after second_after mid) where
+    abbrev chromosomes : Option (List Entry)
+    chromosomes = option_map entries table
+
     abbrev reported : Inputs → Report
-    reported inputs = command_report command (entries table) inputs.first inputs.second
+    reported inputs = (behaviour_of command chromosomes).report inputs.first inputs.second
 
-    write_of_others : OthersTell write_failed → ⊥
-    write_of_others (inl tells) = write_of_input a_left a_failed (first_kinds command) First first first_after tells
-    write_of_others (inr tells) = write_of_if b_left b_failed (second_kinds command) Second second second_after tells
+    abbrev Tells : Told → Type 0
+    Tells t = TellsInput a_left a_failed (behaviour_of command chromosomes).FirstKinds First first first_after t ⊎ TellsInputIf b_left b_failed (behaviour_of command chromosomes).SecondKinds Second second second_after t
 
-    others_elsewhere : (t : Told) → OthersTell t ⊎ TellsDevice mid.sink_has_failed t → lies_in_genome t.place ≡ true → ⊥
-    others_elsewhere t (inl (inl tells)) lies = input_elsewhere a_left a_failed (first_kinds command) First first first_after t refl tells lies
-    others_elsewhere t (inl (inr tells)) lies = if_elsewhere b_left b_failed (second_kinds command) Second second second_after t refl tells lies
+    write_of_others : Tells write_failed → ⊥
+    write_of_others (inl tells) = write_of_input a_left a_failed (behaviour_of command chromosomes).FirstKinds First first first_after tells
+    write_of_others (inr tells) = write_of_if b_left b_failed (behaviour_of command chromosomes).SecondKinds Second second second_after tells
+
+    others_elsewhere : (t : Told) → Tells t ⊎ TellsDevice mid.sink_has_failed t → lies_in_genome t.place ≡ true → ⊥
+    others_elsewhere t (inl (inl tells)) lies = input_elsewhere a_left a_failed (behaviour_of command chromosomes).FirstKinds First first first_after t refl tells lies
+    others_elsewhere t (inl (inr tells)) lies = if_elsewhere b_left b_failed (behaviour_of command chromosomes).SecondKinds Second second second_after t refl tells lies
     others_elsewhere t (inr tells) lies = device_elsewhere mid.sink_has_failed t tells lies
 
     sink_failed : fault ≡ Some write_failed → mid.sink_has_failed ≡ true
     sink_failed e = write_by mid.sink_has_failed write_of_others (writes.named write_failed e)
 
-    of_others : (t : Told) → OthersTell t ⊎ TellsDevice mid.sink_has_failed t → (GenomeTells t ⊎ OthersTell t) ⊎ TellsDevice mid.sink_has_failed t
-    of_others t (inl tells) = inl (inr tells)
+    of_others : (t : Told) → Tells t ⊎ TellsDevice mid.sink_has_failed t → (GenomeTells t ⊎ OthersTell t) ⊎ TellsDevice mid.sink_has_failed t
+    of_others t (inl tells) = inl (inr (record { chromosomes = chromosomes; named = same_is_some table ∙ knows.named; tells = tells }))
     of_others t (inr tells) = inr tells
 
-    report_is : (inputs : Inputs) → chromosomes_of inputs.genome ≡ Ok (entries table) → report_of command inputs ≡ reported inputs
+    report_is : (inputs : Inputs) → chromosomes_of inputs.genome ≡ Ok chromosomes → report_of command inputs ≡ reported inputs
     unfolding report_of
     report_is inputs e = ap (λ c. report_on command c inputs.first inputs.second) e
 
@@ -272,16 +284,16 @@ module _ {G A B K : Type 0} (g_left : G → Option (List ℕ)) (g_failed : G →
       near = λ inputs before holds known.
           let near = writes.near inputs.first inputs.second before before holds.first_input holds.second_input (put ∙ known) (took ∙ known) in
           let read = knows.told inputs.genome holds.genome_file in
-          let later = near_later (λ lines. a_end first_after ≡ false → HandsUpToIf b_left (command_reaches command (entries table) inputs.second lines + block_size) second second_after) (Beside inputs)
+          let later = near_later (λ lines. a_end first_after ≡ false → HandsUpToIf b_left ((behaviour_of command chromosomes).reaches inputs.second lines + block_size) second second_after) (Beside inputs)
           (λ lines beside. subst (λ c. a_end first_after ≡ false → HandsUpToIf b_left (reaches_on command c inputs.second lines + block_size) second second_after) (sym read) beside)
-          (command_settles command (entries table) inputs.second) inputs.first.text (a_left first_after) before begun.took mid.took new.took before (took ∙ known) writes.grows flushes.grows near in
+          ((behaviour_of command chromosomes).settles inputs.second) inputs.first.text (a_left first_after) before begun.took mid.took new.took before (took ∙ known) writes.grows flushes.grows near in
           subst (λ c. ReadsNoFurther (Beside inputs) (settles_on command c inputs.second) inputs.first.text (a_left first_after) before (k_took out_after)) (sym read)
-          (subst (ReadsNoFurther (Beside inputs) (command_settles command (entries table) inputs.second) inputs.first.text (a_left first_after) before) (sym took_after) later);
+          (subst (ReadsNoFurther (Beside inputs) ((behaviour_of command chromosomes).settles inputs.second) inputs.first.text (a_left first_after) before) (sym took_after) later);
       served = λ none.
           let was = served_by begun mid new fault answer flushes.ends none in
           let devices = writes.served was.0 in
           ((knows.served, devices.0.1), (devices.0.0, failed_after ∙ was.1 ∙ devices.1 ∙ served));
-      after_genome = λ file holds wrong e. absurd (other_chromosomes (chromosomes_of file) (entries table) wrong (knows.told file holds) e);
+      after_genome = λ file holds wrong e. absurd (other_chromosomes (chromosomes_of file) chromosomes wrong (knows.told file holds) e);
       untouched = λ t e lies. absurd (others_elsewhere t (writes.named t (placed_by begun mid new fault answer t e lies flushes.ends)) lies);
       named = λ t e.
           subst (λ b. (GenomeTells t ⊎ OthersTell t) ⊎ TellsDevice b t) (sym failed_after)
@@ -303,9 +315,9 @@ module _ {G A B K : Type 0} (g_left : G → Option (List ℕ)) (g_failed : G →
     no_write : fault ≡ Some write_failed → ⊥
     no_write e = lacks.no_write (some_is wrong write_failed (sym stops.is ∙ e))
 
-    genome_named : (t : Told) → TellsInputIf g_left g_failed is_genome_kind FromGenome genome genome_after wrong ⊎ (wrong ≡ no_memory) → wrong ≡ t
+    genome_named : (t : Told) → TellsInputIf g_left g_failed (IsOneOf is_genome_kind) FromGenome genome genome_after wrong ⊎ (wrong ≡ no_memory) → wrong ≡ t
         → (GenomeTells t ⊎ OthersTell t) ⊎ TellsDevice mid.sink_has_failed t
-    genome_named t (inl tells) e = inl (inl (subst (TellsInputIf g_left g_failed is_genome_kind FromGenome genome genome_after) e tells))
+    genome_named t (inl tells) e = inl (inl (subst (TellsInputIf g_left g_failed (IsOneOf is_genome_kind) FromGenome genome genome_after) e tells))
     genome_named t (inr memory) e = inr (inr (sym e ∙ memory))
 
     pub runs_wrong : RunsSo
@@ -341,6 +353,6 @@ module _ {G A B K : Type 0} (g_left : G → Option (List ℕ)) (g_failed : G →
           (named_by begun mid new fault answer (λ t e. genome_named t lacks.named (some_is wrong t (sym stops.is ∙ e))) flushes.ends t e);
     }
 
-  pub runs_by : (chromosomes : Result Genome Fault) → ReadsChromosomes g_left g_failed genome chromosomes genome_after → WritesOutput a_left a_failed a_end b_left b_failed command chromosomes first second begun fault first_after second_after mid → RunsSo
+  pub runs_by : (chromosomes : Result (Option Genome) Fault) → ReadsChromosomes g_left g_failed genome chromosomes genome_after → WritesOutput a_left a_failed a_end b_left b_failed command chromosomes first second begun fault first_after second_after mid → RunsSo
   runs_by (Ok table) knows writes = runs_written table knows writes
   runs_by (Err wrong) lacks stops = runs_wrong (told wrong) lacks stops

@@ -6,18 +6,16 @@ use Rattle.bt_lines.specs.Handed.{Handed}
 use Rattle.bt_lines.specs.Lines.{TextLine, text_lines}
 use Rattle.bt_lines.specs.Output.{Output, block_size}
 use Rattle.bt_lines.specs.declared.fault.Input.TheVariants.{Second}
-use Rattle.bt_bed.specs.Genome.{Entry}
 use Rattle.bt_bed.specs.Good.{items_in}
 use Rattle.bt_bed.specs.GoodBed.{bed_good}
 use Rattle.bt_bed.specs.Order.{Order}
 use Rattle.bt_sweep.specs.Subtract.{subtract_shape}
 use Rattle.bt_sweep.specs.declared.hit_rule.HitRule.{HitRule}
 use Rattle.bt_sweep.proofs.SweepsLemmas.{faultless_all, subtract_met}
-use Rattle.bt_tool.specs.Both.{intersect_settles, records_on, subtract_settles}
+use Rattle.bt_tool.specs.Behaviour.{of_intersect, of_subtract, or_empty}
+use Rattle.bt_tool.specs.SweepReport.{intersect_settles, records_on, subtract_settles}
 use Rattle.bt_tool.specs.Chromosomes.{WritesBy}
 use Rattle.bt_tool.specs.Driving.{ReadsNoFurther}
-use Rattle.bt_tool.specs.Report.{or_empty, order_of}
-use Rattle.bt_tool.specs.declared.plan_type.Command.TheVariants.{Intersect, Subtract}
 
 -- what is left of the records on some lines, by either name
 settles_left : (order : Order) (whole : Bool) (rule : HitRule) (second : Handed) (lines : List TextLine)
@@ -42,9 +40,9 @@ near_as Beside mine yours same text left before took near = record {
 }
 
 module _ {A B : Type 0} (a_left : A → Option (List ℕ)) (a_failed a_end : A → Bool) (b_left : B → Option (List ℕ)) (b_failed : B → Bool)
-    (whole : Bool) (rule : HitRule) (entries : List Entry) (first : A) (second : Option B) (out : Output) (fault : Option Told) (first_after : A) (second_after : Option B) (grown : Output) where
-  pub subtract_writes : WritesBy a_left a_failed a_end b_left b_failed (Intersect (subtract_shape whole) rule) entries first second out fault first_after second_after grown
-      → WritesBy a_left a_failed a_end b_left b_failed (Subtract whole rule) entries first second out fault first_after second_after grown
+    (order : Order) (whole : Bool) (rule : HitRule) (first : A) (second : Option B) (out : Output) (fault : Option Told) (first_after : A) (second_after : Option B) (grown : Output) where
+  pub subtract_writes : WritesBy a_left a_failed a_end b_left b_failed (of_intersect order (subtract_shape whole) rule) first second out fault first_after second_after grown
+      → WritesBy a_left a_failed a_end b_left b_failed (of_subtract order whole rule) first second out fault first_after second_after grown
   subtract_writes w = record {
     whole = w.whole;
     told = w.told;
@@ -53,6 +51,6 @@ module _ {A B : Type 0} (a_left : A → Option (List ℕ)) (a_failed a_end : A �
     grows = w.grows;
     served = w.served;
     near = λ one two before taken holds holds_second put took.
-        near_as _ _ _ (settles_left (order_of entries) whole rule (or_empty two)) one.text (a_left first_after) before grown.took (w.near one two before taken holds holds_second put took);
+        near_as _ _ _ (settles_left order whole rule (or_empty two)) one.text (a_left first_after) before grown.took (w.near one two before taken holds holds_second put took);
     named = w.named;
   }

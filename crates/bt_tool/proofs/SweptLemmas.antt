@@ -14,14 +14,14 @@ use Rattle.bt_lines.specs.declared.fault.Kind.{Kind}
 use Rattle.bt_bed.specs.Feature.{Feature, intervals_of}
 use Rattle.bt_bed.specs.Good.{Format, Member}
 use Rattle.bt_bed.specs.GoodBed.{bed_format}
-use Rattle.bt_bed.specs.LineKind.{is_bed_kind}
+use Rattle.bt_bed.specs.LineKind.{IsBedKind}
 use Rattle.bt_bed.specs.Locus.{ArePlaced, Locus}
 use Rattle.bt_bed.specs.Order.{Order, IsTotal}
 use Rattle.bt_bed.specs.Records.{order_in, view_of}
 use Rattle.bt_bed.specs.Sorting.{sorting_of}
 use Rattle.bt_bed.specs.declared.order.ChromOrder.{Ghosts}
 use Rattle.bt_bed.specs.declared.records.Records.{Records}
-use Rattle.bt_bed.proofs.NeighbourLemmas.{says_of_line}
+use Rattle.bt_bed.proofs.NeighbourLemmas.{wrong_of_bed}
 use Rattle.bt_sweep.specs.Deciding.{decided, decides}
 use Rattle.bt_sweep.specs.Lines.{lines_for}
 use Rattle.bt_sweep.specs.Standing.{IsInOrder, Stage, StandsAt, given, with_a, with_a_ended, with_b, with_b_ended, with_lines}
@@ -73,8 +73,8 @@ not_true : (b : Bool) → (b ≡ true → ⊥) → b ≡ false
 not_true true h = absurd (h refl)
 not_true false h = refl
 
-says_bed : (order : Order) (format : Format Feature (Option Locus)) → format ≡ bed_format (sorting_of order) → (state : Option Locus) (line : TextLine) (kind : Kind) → format.says state line ≡ Err kind → is_bed_kind kind ≡ true
-says_bed order format is state line kind e = says_of_line (sorting_of order) state line.text kind (ap (λ (f : Format Feature (Option Locus)). f.says state line) (sym is) ∙ e)
+says_bed : (order : Order) (format : Format Feature (Option Locus)) → format ≡ bed_format (sorting_of order) → (state : Option Locus) (line : TextLine) (kind : Kind) → format.says state line ≡ Err kind → IsBedKind order kind
+says_bed order format is state line kind e = wrong_of_bed order state line.text kind (ap (λ (f : Format Feature (Option Locus)). f.says state line) (sym is) ∙ e)
 
 module _ {A B O : Type 0} {g : Ghosts O} (a_left : A → Option (List ℕ)) (a_failed a_end : A → Bool) (b_left : B → Option (List ℕ)) (b_failed b_end : B → Bool)
     (shape : Shape) (rule : HitRule) (old_first : Records A O g) (old_second : Records B O g) (out : Output) (total : IsTotal (order_in old_first)) (same_order : order_in old_second ≡ order_in old_first)
@@ -94,11 +94,11 @@ module _ {A B O : Type 0} {g : Ghosts O} (a_left : A → Option (List ℕ)) (a_f
   abbrev Ends : Option Told → Records A O g → Records B O g → Output → Type 0
   Ends = SweepEnds a_left a_failed a_end b_left b_failed b_end order shape rule old_first old_second out
 
-  wrong : (state : Option Locus) (line : TextLine) (kind : Kind) → (view_of old_first).format.says state line ≡ Err kind → is_bed_kind kind ≡ true
+  wrong : (state : Option Locus) (line : TextLine) (kind : Kind) → (view_of old_first).format.says state line ≡ Err kind → IsBedKind order kind
   wrong = says_bed order (view_of old_first).format is_bed
 
-  wrong_second : (state : Option Locus) (line : TextLine) (kind : Kind) → (view_of old_second).format.says state line ≡ Err kind → is_bed_kind kind ≡ true
-  wrong_second = says_bed (order_in old_second) (view_of old_second).format is_bed_second
+  wrong_second : (state : Option Locus) (line : TextLine) (kind : Kind) → (view_of old_second).format.says state line ≡ Err kind → IsBedKind order kind
+  wrong_second state line kind e = subst (λ (o : Order). IsBedKind o kind) same_order (says_bed (order_in old_second) (view_of old_second).format is_bed_second state line kind e)
 
   module _ (first : Records A O g) (second : Records B O g) (sweep : Sweeping) (grown : Output) (s : Going first second sweep grown) where
     abbrev stage : Stage
@@ -329,13 +329,13 @@ module _ {A B O : Type 0} {g : Ghosts O} (a_left : A → Option (List ℕ)) (a_f
       done : stage.a_ended ≡ true
       done = sym s.stands.done ∙ done_by sweep.waits sweep.done wants
 
-      pub finishes_both : {T : Type 0} (result : Result T Fault) (second_now : Records B O g) → ReadsOn b_left b_failed b_end (view_of second) result (view_of second_now)
+      pub finishes_both : {T : Type 0} (result : Result T Fault) (second_now : Records B O g) → ReadsOn b_left b_failed b_end (IsBedKind (order_in second)) (view_of second) result (view_of second_now)
           → FinishesBoth a_left a_failed a_end b_left b_failed b_end order shape rule old_first old_second out result first second_now grown
-      finishes_both (Ok _) second_now reads =
-          let checks = reads (view_of old_second) s.past_second is_bed_kind s.comes.second_passes wrong_second in
+      finishes_both {T} (Ok unit) second_now reads =
+          let checks = subst (λ (o : Order). ReadsOn {T = T} b_left b_failed b_end (IsBedKind o) (view_of second) (Ok unit) (view_of second_now)) (s.second_placed.order ∙ same_order) reads (view_of old_second) s.past_second s.comes.second_passes wrong_second in
           stop.ends_rest making pair out wrong wrong_second (stage_of stage) s.past_first s.past_second (view_of first) (view_of second) grown s.comes asked done (view_of second_now) checks.rises checks.passes.bytes (s.past_second ++ checks.more) None
           (inl (refl, checks.all, record { served = checks.passes.served; within = checks.passes.sound.within checks.passes.clear }, refl))
-      finishes_both (Err fault) second_now reads =
-          let checks = reads (view_of old_second) s.past_second is_bed_kind s.comes.second_passes wrong_second in
+      finishes_both {T} (Err fault) second_now reads =
+          let checks = subst (λ (o : Order). ReadsOn {T = T} b_left b_failed b_end (IsBedKind o) (view_of second) (Err fault) (view_of second_now)) (s.second_placed.order ∙ same_order) reads (view_of old_second) s.past_second s.comes.second_passes wrong_second in
           stop.stops_rest making pair out wrong wrong_second (stage_of stage) s.past_first s.past_second (view_of first) (view_of second) grown s.comes asked done (view_of second_now) checks.rises (s.past_second ++ checks.more) (told fault) checks.stops
           (λ e. checks.before_end (s.comes.second_all e).3) refl

@@ -10,16 +10,14 @@ use Rattle.bt_lines.specs.Output.{Output, block_size}
 use Rattle.bt_lines.specs.declared.fault.Input.TheVariants.{First}
 use Rattle.bt_lines.specs.declared.fault.Kind.{Kind}
 use Rattle.bt_bed.specs.Feature.{Feature, intervals_of}
-use Rattle.bt_bed.specs.Genome.{Entry, genome_names}
+use Rattle.bt_bed.specs.Genome.{Entry}
 use Rattle.bt_bed.specs.Good.{good, items_in}
 use Rattle.bt_bed.specs.GoodBed.{bed_format, bed_good}
 use Rattle.bt_bed.specs.Interval.{Interval, last_of}
 use Rattle.bt_bed.specs.IntervalLine.{interval_line, interval_lines}
-use Rattle.bt_bed.specs.LineKind.{is_bed_kind}
-use Rattle.bt_bed.specs.Order.{IsTotal}
+use Rattle.bt_bed.specs.LineKind.{IsBedKind}
+use Rattle.bt_bed.specs.Order.{IsTotal, Order}
 use Rattle.bt_bed.specs.Locus.{ArePlaced}
-use Rattle.bt_bed.specs.Rank.{AreDistinct}
-use Rattle.bt_bed.specs.RankTotal.{ranks_total}
 use Rattle.bt_bed.specs.Sorting.{sorting_of}
 use Rattle.bt_bed.proofs.GoodBedLemmas.{placed_good, placed_lines}
 use Rattle.bt_runs.specs.Gaps.{settled_gaps}
@@ -29,15 +27,12 @@ use Rattle.bt_runs.specs.StrandRuns.{places_of, settled_strand_runs, strand_runs
 use Rattle.bt_runs.specs.Settling.{SettledBegins, SettledStays}
 use Rattle.bt_runs.specs.declared.merge_strand.MergeStrand.{MergeStrand}
 use Rattle.bt_runs.specs.declared.merge_strand.MergeStrand.TheVariants.{All, Each, One}
-use Rattle.bt_runs.proofs.FileOrder.{in_file_order}
+use Rattle.bt_runs.proofs.RunOrder.{ordered_come}
 use Rattle.bt_runs.proofs.SettledRuns.{runs_begin, runs_stay}
 use Rattle.bt_runs.proofs.StrandSettling.{begin, no_strand_settled, stay}
 use Rattle.bt_tool.specs.Driving.{IsReported, WritesInput, WritesRecords}
 use Rattle.bt_tool.specs.RecordReport.{Report, records_report, records_settle, report_by}
-use Rattle.bt_tool.specs.Report.{command_report, command_settles, order_of}
-use Rattle.bt_tool.specs.Written.{Written, complement_written, merge_written, pooled_written}
-use Rattle.bt_tool.specs.declared.plan_type.Command.{Command}
-use Rattle.bt_tool.specs.declared.plan_type.Command.TheVariants.{Merge, Complement}
+use Rattle.bt_tool.specs.Written.{Written, merge_written, pooled_written}
 
 -- intervals that stay give lines that stay
 pub lines_stay : (settled : List Feature → List Interval) (Taken : List Feature → Type 0) → SettledStays settled Taken → SettledStays (λ records. interval_lines (settled records)) Taken
@@ -62,10 +57,10 @@ merge_begins (Together merge) = refl
 merge_begins (Apart merge) = ap (λ items. interval_lines (places_of items)) (no_strand_settled merge.gap)
 
 -- nor does it write any of no records
-pub merge_settles_none : (entries : List Entry) (d : ℕ) (strand : MergeStrand) → (merge_written entries d strand).settled [] ≡ []
-merge_settles_none entries d All = refl
-merge_settles_none entries d Each = ap (λ items. interval_lines (places_of items)) (no_strand_settled d)
-merge_settles_none entries d (One strand) = refl
+pub merge_settles_none : (order : Order) (d : ℕ) (strand : MergeStrand) → (merge_written order d strand).settled [] ≡ []
+merge_settles_none order d All = refl
+merge_settles_none order d Each = ap (λ items. interval_lines (places_of items)) (no_strand_settled d)
+merge_settles_none order d (One strand) = refl
 
 -- what it has settled stays, and begins the whole
 pub merge_stays : (merge : Merging) → SettledStays (settled_lines merge) AreTaken
@@ -86,7 +81,7 @@ unfolding settled_gaps
 complement_begins limit entries = refl
 
 -- a report in the place of an equal one
-pub writes_same : {A : Type 0} (left : A → Option (List ℕ)) (failed : A → Bool) (kinds : Kind → Bool) (mine report : Handed → Report) (mine_settle settles : List TextLine → List ℕ)
+pub writes_same : {A : Type 0} (left : A → Option (List ℕ)) (failed : A → Bool) (kinds : Kind → Type 0) (mine report : Handed → Report) (mine_settle settles : List TextLine → List ℕ)
     → ((handed : Handed) → mine handed ≡ report handed) → ((lines : List TextLine) → mine_settle lines ≡ settles lines)
     → (first : A) (out : Output) (fault : Option Told) (new : A) (grown : Output) → WritesInput left failed kinds mine mine_settle first out fault new grown
     → WritesInput left failed kinds report settles first out fault new grown
@@ -116,72 +111,54 @@ writes_same left failed kinds mine report mine_settle settles same same_settle f
 }
 
 -- the records of a report are in order
-module _ (entries : List Entry) (distinct : AreDistinct (genome_names entries)) where
-  total : IsTotal (order_of entries)
-  total = ranks_total (genome_names entries)
+module _ (order : Order) (total : IsTotal order) where
+  -- merged runs come in that order
+  pooled_same : (d : ℕ) (strand : MergeStrand) (records : List Feature) → ArePlaced order (intervals_of records)
+      → interval_lines (merged_runs d strand records) ≡ (pooled_written order d strand).whole records
+  pooled_same d strand records placed = ap interval_lines (sym (ordered_come order d strand records total placed))
 
-  -- merged runs come in the order of the genome file
-  pooled_same : (d : ℕ) (strand : MergeStrand) (records : List Feature) → ArePlaced (order_of entries) (intervals_of records)
-      → interval_lines (merged_runs d strand records) ≡ (pooled_written entries d strand).whole records
-  pooled_same d strand records placed = ap interval_lines (sym (in_file_order (genome_names entries) d strand records distinct placed))
-
-  pooled_settled : (d : ℕ) (strand : MergeStrand) (records : List Feature) → ArePlaced (order_of entries) (intervals_of records)
-      → interval_lines (settled_runs d strand records) ≡ (pooled_written entries d strand).settled records
+  pooled_settled : (d : ℕ) (strand : MergeStrand) (records : List Feature) → ArePlaced order (intervals_of records)
+      → interval_lines (settled_runs d strand records) ≡ (pooled_written order d strand).settled records
   unfolding settled_runs
   pooled_settled d strand records placed =
-      ap (λ runs. interval_lines (passed_by d runs (last_of (intervals_of records)))) (sym (in_file_order (genome_names entries) d strand records distinct placed))
+      ap (λ runs. interval_lines (passed_by d runs (last_of (intervals_of records)))) (sym (ordered_come order d strand records total placed))
 
-  merged_same : (d : ℕ) (strand : MergeStrand) (records : List Feature) → ArePlaced (order_of entries) (intervals_of records)
-      → whole_output (merge_begun d strand) records ≡ (merge_written entries d strand).whole records
+  merged_same : (d : ℕ) (strand : MergeStrand) (records : List Feature) → ArePlaced order (intervals_of records)
+      → whole_output (merge_begun d strand) records ≡ (merge_written order d strand).whole records
   merged_same d All records placed = pooled_same d All records placed
   merged_same d Each records placed = refl
   merged_same d (One strand) records placed = pooled_same d (One strand) records placed
 
-  settled_same : (d : ℕ) (strand : MergeStrand) (records : List Feature) → ArePlaced (order_of entries) (intervals_of records)
-      → settled_lines (merge_begun d strand) records ≡ (merge_written entries d strand).settled records
+  settled_same : (d : ℕ) (strand : MergeStrand) (records : List Feature) → ArePlaced order (intervals_of records)
+      → settled_lines (merge_begun d strand) records ≡ (merge_written order d strand).settled records
   settled_same d All records placed = pooled_settled d All records placed
   settled_same d Each records placed = refl
   settled_same d (One strand) records placed = pooled_settled d (One strand) records placed
 
-  report_same : (d : ℕ) (strand : MergeStrand) (records : List Feature) (fault : Option Told) → ArePlaced (order_of entries) (intervals_of records)
-      → report_by (merge_as_they_come (merge_begun d strand)) records fault ≡ report_by (merge_written entries d strand) records fault
+  report_same : (d : ℕ) (strand : MergeStrand) (records : List Feature) (fault : Option Told) → ArePlaced order (intervals_of records)
+      → report_by (merge_as_they_come (merge_begun d strand)) records fault ≡ report_by (merge_written order d strand) records fault
   report_same d strand records None placed = ap (λ l. record { output = l; fault = None }) (merged_same d strand records placed)
   report_same d strand records (Some fault) placed = ap (λ l. record { output = l; fault = Some fault }) (settled_same d strand records placed)
 
   -- so what a merge writes, chromosomes as they come, is the report
-  pub merge_reports : (d : ℕ) (strand : MergeStrand) (handed : Handed)
-      → records_report (merge_as_they_come (merge_begun d strand)) (order_of entries) handed ≡ records_report (merge_written entries d strand) (order_of entries) handed
+  merge_reports : (d : ℕ) (strand : MergeStrand) (handed : Handed)
+      → records_report (merge_as_they_come (merge_begun d strand)) order handed ≡ records_report (merge_written order d strand) order handed
   merge_reports d strand handed =
-      let good = bed_good First (order_of entries) handed in
-      report_same d strand (items_in good) good.fault (placed_good First (order_of entries) handed total)
+      let good = bed_good First order handed in
+      report_same d strand (items_in good) good.fault (placed_good First order handed total)
 
-  pub merge_settles : (d : ℕ) (strand : MergeStrand) (lines : List TextLine)
-      → records_settle (merge_as_they_come (merge_begun d strand)) (order_of entries) lines ≡ records_settle (merge_written entries d strand) (order_of entries) lines
+  merge_settles : (d : ℕ) (strand : MergeStrand) (lines : List TextLine)
+      → records_settle (merge_as_they_come (merge_begun d strand)) order lines ≡ records_settle (merge_written order d strand) order lines
   merge_settles d strand lines =
-      settled_same d strand (items_in (good (bed_format (sorting_of (order_of entries))) First lines)) (placed_lines First (order_of entries) lines total)
+      settled_same d strand (items_in (good (bed_format (sorting_of order)) First lines)) (placed_lines First order lines total)
 
   -- a merge's records were written as the command asks for
-  pub merge_writes : {A : Type 0} (left : A → Option (List ℕ)) (failed : A → Bool) (command : Command) (d : ℕ) (strand : MergeStrand) (merge : Merging) → command ≡ Merge d strand → merge ≡ merge_begun d strand
+  pub merge_writes : {A : Type 0} (left : A → Option (List ℕ)) (failed : A → Bool) (d : ℕ) (strand : MergeStrand) (merge : Merging) → merge ≡ merge_begun d strand
       → (first : A) (out : Output) (fault : Option Told) (new : A) (grown : Output)
-      → WritesRecords left failed (merge_as_they_come merge) (order_of entries) first out fault new grown
-      → WritesInput left failed is_bed_kind (λ handed. command_report command entries handed None) (command_settles command entries None) first out fault new grown
-  merge_writes left failed command d strand merge is begun =
-      writes_same left failed is_bed_kind (records_report (merge_as_they_come merge) (order_of entries)) (λ handed. command_report command entries handed None)
-      (records_settle (merge_as_they_come merge) (order_of entries)) (command_settles command entries None)
-      (λ handed. ap (λ m. records_report (merge_as_they_come m) (order_of entries) handed) begun
-      ∙ merge_reports d strand handed ∙ ap (λ c. command_report c entries handed None) (sym is))
-      (λ lines. ap (λ m. records_settle (merge_as_they_come m) (order_of entries) lines) begun
-      ∙ merge_settles d strand lines ∙ ap (λ c. command_settles c entries None lines) (sym is))
-
--- and a complement's
-pub complement_writes : {A : Type 0} (left : A → Option (List ℕ)) (failed : A → Bool) (command : Command) (entries mine : List Entry) (limit told : Bool) → command ≡ Complement limit → mine ≡ entries → told ≡ limit
-    → (first : A) (out : Output) (fault : Option Told) (new : A) (grown : Output)
-    → WritesRecords left failed (complement_written mine told) (order_of entries) first out fault new grown
-    → WritesInput left failed is_bed_kind (λ handed. command_report command entries handed None) (command_settles command entries None) first out fault new grown
-complement_writes left failed command entries mine limit told is same_entries same_limit =
-    writes_same left failed is_bed_kind (records_report (complement_written mine told) (order_of entries)) (λ handed. command_report command entries handed None)
-    (records_settle (complement_written mine told) (order_of entries)) (command_settles command entries None)
-    (λ handed. ap (λ es. records_report (complement_written es told) (order_of entries) handed) same_entries
-    ∙ ap (λ l. records_report (complement_written entries l) (order_of entries) handed) same_limit ∙ ap (λ c. command_report c entries handed None) (sym is))
-    (λ lines. ap (λ es. records_settle (complement_written es told) (order_of entries) lines) same_entries
-    ∙ ap (λ l. records_settle (complement_written entries l) (order_of entries) lines) same_limit ∙ ap (λ c. command_settles c entries None lines) (sym is))
+      → WritesRecords left failed (merge_as_they_come merge) order first out fault new grown
+      → WritesRecords left failed (merge_written order d strand) order first out fault new grown
+  merge_writes left failed d strand merge begun =
+      writes_same left failed (IsBedKind order) (records_report (merge_as_they_come merge) order) (records_report (merge_written order d strand) order)
+      (records_settle (merge_as_they_come merge) order) (records_settle (merge_written order d strand) order)
+      (λ handed. ap (λ m. records_report (merge_as_they_come m) order handed) begun ∙ merge_reports d strand handed)
+      (λ lines. ap (λ m. records_settle (merge_as_they_come m) order lines) begun ∙ merge_settles d strand lines)

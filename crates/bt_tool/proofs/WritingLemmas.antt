@@ -12,7 +12,7 @@ use Rattle.bt_tool.specs.Both.{WritesBoth}
 use Rattle.bt_tool.specs.Driving.{IsOfInput, IsReported, ReadsNoFurther, TellsDevice, TellsInput, TellsInputIf, WritesInput}
 use Rattle.bt_tool.specs.Inputs.{HandsUpToIf, Holds, HoldsIf, Reads, ReadsIf, ServesIf}
 use Rattle.bt_tool.specs.RecordReport.{Report}
-use Rattle.bt_tool.specs.Report.{or_empty}
+use Rattle.bt_tool.specs.Behaviour.{or_empty}
 use Rattle.bt_tool.specs.Writing.{WritesInputs}
 
 -- an input that wasn't touched handed nothing over, and worked as before
@@ -26,7 +26,7 @@ serves_none failed (Some source) = refl
 
 module _ {A B : Type 0} (a_left : A → Option (List ℕ)) (a_failed a_end : A → Bool) (b_left : B → Option (List ℕ)) (b_failed : B → Bool) where
   -- a command that doesn't look at a second input
-  module _ (kinds second_kinds : Kind → Bool) (mine : Handed → Report) (mine_settle : List TextLine → List ℕ) (report : Handed → Option Handed → Report) (settles : Option Handed → List TextLine → List ℕ) (reaches : Option Handed → List TextLine → ℕ)
+  module _ (kinds second_kinds : Kind → Type 0) (mine : Handed → Report) (mine_settle : List TextLine → List ℕ) (report : Handed → Option Handed → Report) (settles : Option Handed → List TextLine → List ℕ) (reaches : Option Handed → List TextLine → ℕ)
       (same : (one : Handed) (two : Option Handed) → mine one ≡ report one two) (same_settle : (two : Option Handed) → mine_settle ≡ settles two)
       (first : A) (second : Option B) (out : Output) (fault : Option Told) (first_after : A) (grown : Output) (w : WritesInput a_left a_failed kinds mine mine_settle first out fault first_after grown) where
     named_alone : (t : Told) → TellsInput a_left a_failed kinds First first first_after t ⊎ TellsDevice grown.sink_has_failed t
@@ -68,7 +68,7 @@ module _ {A B : Type 0} (a_left : A → Option (List ℕ)) (a_failed a_end : A �
     }
 
   -- a command that looks at both
-  module _ (first_kinds second_kinds : Kind → Bool) (report : Handed → Handed → Report) (settles : Handed → List TextLine → List ℕ) (reaches : Handed → List TextLine → ℕ)
+  module _ (first_kinds second_kinds : Kind → Type 0) (report : Handed → Handed → Report) (settles : Handed → List TextLine → List ℕ) (reaches : Handed → List TextLine → ℕ)
       (first : A) (second : B) (out : Output) (fault : Option Told) (first_after : A) (second_after : B) (grown : Output) (w : WritesBoth a_left a_failed a_end b_left b_failed first_kinds second_kinds report settles reaches first second out fault first_after second_after grown) where
     whole_of : (one : Handed) (two : Option Handed) (before : List ℕ) → Reads a_left a_failed first first_after one
         → ReadsIf b_left b_failed (Some second) (Some second_after) two → out.put ≡ Some before

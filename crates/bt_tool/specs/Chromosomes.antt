@@ -1,31 +1,34 @@
 -- What reading the genome file of a run does, where it has one.
-use Rattle.std.specs.Prelude.{◌≡◌, ◌≢◌, ℕ, ◌⊎◌, Bool, List, Option, Some, Ok, Err, Result}
+use Rattle.std.specs.Prelude.{◌≡◌, ◌≢◌, ℕ, ◌⊎◌, Bool, List, Option, Some, Ok, Err, Result, is_some}
+use Rattle.std.specs.Prelude.{IfSome, option_map}
 use Rattle.bt_lines.specs.Fault.{Told, no_memory, write_failed}
 use Rattle.bt_lines.specs.Handed.{Handed}
 use Rattle.bt_lines.specs.Names.{told}
 use Rattle.bt_lines.specs.Output.{Output}
 use Rattle.bt_lines.specs.declared.fault.Fault.{Fault}
 use Rattle.bt_lines.specs.declared.fault.Input.TheVariants.{Genome as FromGenome}
-use Rattle.bt_bed.specs.Genome.{Entry}
 use Rattle.bt_bed.specs.GenomeTable.{entries, names_of}
 use Rattle.bt_bed.specs.LineKind.{is_genome_kind}
 use Rattle.bt_bed.specs.Rank.{AreDistinct}
 use Rattle.bt_bed.specs.declared.genome.Genome.{Genome}
-use Rattle.bt_tool.specs.Driving.{IsOfInput, TellsInputIf}
+use Rattle.bt_tool.specs.Kinds.{IsOneOf}
+use Rattle.bt_tool.specs.Behaviour.{Behaviour, behaviour_of}
+use Rattle.bt_tool.specs.Telling.{IsOfInput, TellsInputIf}
 use Rattle.bt_tool.specs.Inputs.{HoldsIf, ReadsIf, ServesIf}
-use Rattle.bt_tool.specs.Report.{chromosomes_of, command_reaches, command_report, command_settles}
-use Rattle.bt_tool.specs.Report.{first_kinds, second_kinds}
+use Rattle.bt_tool.specs.Report.{chromosomes_of}
 use Rattle.bt_tool.specs.Writing.{WritesInputs}
 use Rattle.bt_tool.specs.declared.plan_type.Command.{Command}
 
 module _ {G : Type 0} (left : G → Option (List ℕ)) (failed : G → Bool) where
   -- the chromosomes were read
-  pub record KnowsChromosomes (before after : Option G) (table : Genome) : Type 0 where
+  pub record KnowsChromosomes (before after : Option G) (table : Option Genome) : Type 0 where
     pub whole : (handed : Option Handed) → ReadsIf left failed before after handed
-        → chromosomes_of handed ≡ Ok (entries table)
+        → chromosomes_of handed ≡ Ok (option_map entries table)
     pub told : (handed : Option Handed) → HoldsIf left before handed
-        → chromosomes_of handed ≡ Ok (entries table)
-    pub distinct : AreDistinct (names_of table)
+        → chromosomes_of handed ≡ Ok (option_map entries table)
+    -- there are some exactly where there is a file
+    pub named : is_some table ≡ is_some before
+    pub distinct : IfSome table (λ table. AreDistinct (names_of table))
     pub served : ServesIf failed before after
 
   -- the genome file is at fault, or couldn't be read
@@ -35,11 +38,11 @@ module _ {G : Type 0} (left : G → Option (List ℕ)) (failed : G → Bool) whe
         → chromosomes_of handed ≡ Err fault
     pub told : (handed : Option Handed) → HoldsIf left before handed → IsOfInput (Some fault)
         → chromosomes_of handed ≡ Err fault
-    pub named : TellsInputIf left failed is_genome_kind FromGenome before after fault
+    pub named : TellsInputIf left failed (IsOneOf is_genome_kind) FromGenome before after fault
         ⊎ (fault ≡ no_memory)
     pub no_write : fault ≢ write_failed
 
-  abbrev pub ReadsChromosomes : Option G → Result Genome Fault → Option G → Type 0
+  abbrev pub ReadsChromosomes : Option G → Result (Option Genome) Fault → Option G → Type 0
   ReadsChromosomes before (Ok table) after = KnowsChromosomes before after table
   ReadsChromosomes before (Err fault) after = LacksChromosomes before after (told fault)
 
@@ -54,19 +57,18 @@ pub record StopsAtGenome {A B : Type 0} (first : A) (second : Option B) (out : O
 
 module _ {A B : Type 0} (a_left : A → Option (List ℕ)) (a_failed a_end : A → Bool)
     (b_left : B → Option (List ℕ)) (b_failed : B → Bool) where
-  -- the output of a command was written, by the chromosomes of the genome file
-  abbrev pub WritesBy : Command → List Entry → A → Option B → Output → Option Told → A → Option B
-      → Output → Type 0
-  WritesBy command entries =
-      WritesInputs a_left a_failed a_end b_left b_failed (first_kinds command)
-      (second_kinds command)
-      (command_report command entries) (command_settles command entries)
-      (command_reaches command entries)
+  -- the output of a command was written
+  abbrev pub WritesBy : Behaviour → A → Option B → Output → Option Told → A → Option B → Output
+      → Type 0
+  WritesBy behaviour =
+      WritesInputs a_left a_failed a_end b_left b_failed behaviour.FirstKinds
+      behaviour.SecondKinds behaviour.report behaviour.settles behaviour.reaches
 
   -- it was written by the chromosomes that were read, or the run ended with their fault
-  abbrev pub WritesOutput : Command → Result Genome Fault → A → Option B → Output → Option Told → A
-      → Option B → Output → Type 0
+  abbrev pub WritesOutput : Command → Result (Option Genome) Fault → A → Option B → Output
+      → Option Told → A → Option B → Output → Type 0
   WritesOutput command (Ok table) first second out fault first_after second_after grown =
-      WritesBy command (entries table) first second out fault first_after second_after grown
+      WritesBy (behaviour_of command (option_map entries table)) first second out fault first_after
+      second_after grown
   WritesOutput command (Err genome_fault) first second out fault first_after second_after grown =
       StopsAtGenome first second out (told genome_fault) fault first_after second_after grown

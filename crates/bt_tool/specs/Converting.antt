@@ -16,6 +16,7 @@ use Rattle.bt_seq.specs.BedLines.{bed_lines}
 use Rattle.bt_seq.specs.Converting.{Converting}
 use Rattle.bt_seq.specs.GoodSam.{sam_format}
 use Rattle.bt_seq.specs.SamKind.{is_sam_kind}
+use Rattle.bt_tool.specs.Kinds.{IsOneOf}
 use Rattle.bt_tool.specs.Converted.{alignment_lines}
 use Rattle.bt_tool.specs.Feeding.{FeedsMembers}
 
@@ -63,5 +64,6 @@ sam_reader reader =
 abbrev pub ConvertsAll : {S T : Type 0} → (S → Option (List ℕ)) → (S → Bool) → Converting
     → LineReader S → Output → Result T Fault → LineReader S → Output → Type 0
 ConvertsAll left failed converting old out answer new grown =
-    FeedsMembers (alignment_lines converting.split converting.with_cigar) is_sam_kind (λ past. ⊤)
+    FeedsMembers (alignment_lines converting.split converting.with_cigar) (IsOneOf is_sam_kind)
+    (λ past. ⊤)
     left failed (λ past. ⊤) (sam_reader old) out answer new grown

@@ -16,7 +16,7 @@ use Rattle.bt_bed.specs.Feature.{Feature, intervals_of}
 use Rattle.bt_bed.specs.Good.{Good, Member, good_from}
 use Rattle.bt_bed.specs.GoodLines.{IsBeyond}
 use Rattle.bt_bed.specs.Interval.{AreNonEmpty}
-use Rattle.bt_bed.specs.LineKind.{fault_at_line, is_bed_kind}
+use Rattle.bt_bed.specs.LineKind.{IsBedKind, fault_at_line}
 use Rattle.bt_bed.specs.Locus.{ArePlaced}
 use Rattle.bt_bed.specs.Order.{Order}
 use Rattle.bt_bed.specs.Reading.{MemberReader, good_coming}
@@ -79,7 +79,7 @@ module _ {S A State : Type 0} (left : S → Option (List ℕ)) (end : S → Bool
     pub going : reader.fault ≡ None
     pub sound : IsSound left end reader.below
 
-module _ {S A State : Type 0} (settled : List A → List ℕ) (kinds : Kind → Bool)
+module _ {S A State : Type 0} (settled : List A → List ℕ) (Kinds : Kind → Type 0)
     (Sorted : List A → Type 0) (left : S → Option (List ℕ)) (failed : S → Bool) where
   -- these members were taken
   pub record Took (old : MemberReader S A State) (out : Output) (past : List (Member A))
@@ -110,7 +110,7 @@ module _ {S A State : Type 0} (settled : List A → List ℕ) (kinds : Kind → 
     pub line : ℕ
     pub kind : Kind
     pub is : fault ≡ fault_at_line (input_of old.below) line kind
-    pub of_kind : kinds kind ≡ true
+    pub of_kind : Kinds kind
     pub puts : PutsLines out (settled (member_items past)) grown
     pub works : WorksAsBefore out grown
     pub served : failed (source_of new) ≡ failed (source_of old.below)
@@ -178,5 +178,5 @@ module _ {S O : Type 0} {g : Ghosts O} (settled : List Feature → List ℕ)
   abbrev pub FeedsRecords : {T : Type 0} → (List Feature → Type 0) → Records S O g → Output
       → Result T Fault → Records S O g → Output → Type 0
   FeedsRecords Stands old out answer new grown =
-      FeedsMembers settled is_bed_kind (AreInOrder (order_in old)) left failed Stands (view_of old)
-      out answer (below new) grown
+      FeedsMembers settled (IsBedKind (order_in old)) (AreInOrder (order_in old)) left failed Stands
+      (view_of old) out answer (below new) grown

@@ -1,17 +1,19 @@
 -- What a run gives, by what its inputs hand over.
 use Rattle.std.specs.Prelude.{◌≡◌, ◌≢◌, ℕ, ◌+◌, ◌⊎◌, Bool, true, false, List, ◌++◌, Option, Some}
-use Rattle.std.specs.Prelude.{None, Err}
+use Rattle.std.specs.Prelude.{None, Err, is_some}
 use Rattle.bt_lines.specs.Fault.{Told, no_memory}
 use Rattle.bt_lines.specs.Output.{block_size}
 use Rattle.bt_lines.specs.Handed.{Handed}
 use Rattle.bt_lines.specs.declared.fault.Input.{Input}
 use Rattle.bt_lines.specs.declared.fault.Input.TheVariants.{Genome, First, Second}
 use Rattle.bt_lines.specs.declared.fault.Place.{Place}
+use Rattle.bt_bed.specs.Genome.{Entry}
 use Rattle.bt_bed.specs.LineKind.{is_genome_kind}
-use Rattle.bt_tool.specs.Driving.{IsOfInput, ReadsNoFurther, TellsDevice, TellsInput, TellsInputIf}
+use Rattle.bt_tool.specs.Behaviour.{behaviour_of}
+use Rattle.bt_tool.specs.Kinds.{IsOneOf}
+use Rattle.bt_tool.specs.Telling.{IsOfInput, ReadsNoFurther, TellsDevice, TellsInput, TellsInputIf}
 use Rattle.bt_tool.specs.Inputs.{HandsUpToIf, HoldsIf, Holds, Inputs, Reads, ReadsIf, ServesIf}
-use Rattle.bt_tool.specs.Report.{chromosomes_of, first_kinds, reaches_on, report_of, second_kinds}
-use Rattle.bt_tool.specs.Report.{settles_on}
+use Rattle.bt_tool.specs.Report.{chromosomes_of, reaches_on, report_of, settles_on}
 use Rattle.bt_tool.specs.declared.plan_type.Command.{Command}
 
 -- whether a fault lies in the genome file
@@ -41,6 +43,17 @@ module _ {G A B K : Type 0} (g_left : G → Option (List ℕ)) (g_failed : G →
     pub genome_file : HoldsIf g_left genome inputs.genome
     pub first_input : Holds a_left first inputs.first
     pub second_input : HoldsIf b_left second inputs.second
+
+  -- a fault of an input other than the genome file, of a kind that a line of it can have by some
+  -- chromosomes: without a genome file by none, in the order of the names' bytes
+  pub record TellsOther (command : Command) (genome : Option G) (first first_after : A)
+      (second second_after : Option B) (told : Told) : Type 0 where
+    pub chromosomes : Option (List Entry)
+    pub named : is_some chromosomes ≡ is_some genome
+    pub tells : TellsInput a_left a_failed (behaviour_of command chromosomes).FirstKinds First
+        first first_after told
+        ⊎ TellsInputIf b_left b_failed (behaviour_of command chromosomes).SecondKinds Second
+        second second_after told
 
   -- a run of a command
   pub record Runs (command : Command) (genome : Option G) (first : A) (second : Option B) (out : K)
@@ -90,11 +103,11 @@ module _ {G A B K : Type 0} (g_left : G → Option (List ℕ)) (g_failed : G →
     -- Nor was it after a fault that is told of the genome file, whatever the devices do.
     pub untouched : (told : Told) → fault ≡ Some told → lies_in_genome told.place ≡ true
         → (first_after ≡ first) × (second_after ≡ second)
-    -- What the fault may be, whatever the devices do: one that a line of an input can have, a
-    -- failed read only where its source failed or may have passed the bound, a failed write only
-    -- where the sink failed, or want of memory.
+    -- What the fault may be, whatever the devices do: one that a line of an input can have (without
+    -- a genome file none of it, and no unknown chromosome), a failed read only where its source
+    -- failed or may have passed the bound, a failed write only where the sink failed, or want of
+    -- memory.
     pub named : (told : Told) → fault ≡ Some told
-        → (TellsInputIf g_left g_failed is_genome_kind Genome genome genome_after told
-        ⊎ (TellsInput a_left a_failed (first_kinds command) First first first_after told
-        ⊎ TellsInputIf b_left b_failed (second_kinds command) Second second second_after told))
+        → (TellsInputIf g_left g_failed (IsOneOf is_genome_kind) Genome genome genome_after told
+        ⊎ TellsOther command genome first first_after second second_after told)
         ⊎ TellsDevice (k_failed out_after) told

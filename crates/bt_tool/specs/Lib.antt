@@ -13,14 +13,17 @@ pub mod Table
 pub mod TableLent
 pub mod Usage
 pub mod Inputs
+pub mod Kinds
 pub mod Written
 pub mod RecordReport
+pub mod Telling
 pub mod Flushing
 pub mod Feeding
 pub mod Driving
 pub mod Converted
 pub mod Converting
 pub mod Writing
+pub mod SweepReport
 pub mod Both
 pub mod Masked
 pub mod Turns
@@ -32,6 +35,7 @@ pub mod Swept
 pub mod MaskTurns
 pub mod Masks
 pub mod Coming
+pub mod Behaviour
 pub mod Report
 pub mod Chromosomes
 pub mod Gives

@@ -17,6 +17,7 @@ use Rattle.bt_bed.specs.GoodBlocks.{block_good}
 use Rattle.bt_seq.specs.Masked.{decided, mask_met, masked_line}
 use Rattle.bt_seq.specs.Sequences.{SequenceLine, sequence_format, sequence_good}
 use Rattle.bt_seq.specs.declared.mask_how.MaskHow.{MaskHow}
+use Rattle.bt_tool.specs.Kinds.{IsOneOf}
 use Rattle.bt_tool.specs.Both.{WritesBoth, bytes_up_to, met_report}
 use Rattle.bt_tool.specs.RecordReport.{Report}
 
@@ -71,5 +72,5 @@ abbrev pub MasksBoth : {A B : Type 0} → (A → Option (List ℕ)) → (A → B
     → (B → Option (List ℕ)) → (B → Bool)
     → MaskHow → Bool → A → B → Output → Option Told → A → B → Output → Type 0
 MasksBoth a_left a_failed a_end b_left b_failed how full =
-    WritesBoth a_left a_failed a_end b_left b_failed is_fasta_kind is_mask_kind
+    WritesBoth a_left a_failed a_end b_left b_failed (IsOneOf is_fasta_kind) (IsOneOf is_mask_kind)
     (mask_report how full) (mask_settles how full) (mask_reaches full)

@@ -19,6 +19,7 @@ use Rattle.bt_seq.specs.Masking.{Masking}
 use Rattle.bt_seq.specs.Owners.{left_after}
 use Rattle.bt_seq.specs.Sequences.{Reached, SequenceLine, sequence_format}
 use Rattle.bt_seq.specs.declared.mask_how.MaskHow.{MaskHow}
+use Rattle.bt_tool.specs.Kinds.{IsOneOf}
 use Rattle.bt_tool.specs.Both.{bytes_up_to}
 use Rattle.bt_tool.specs.Masked.{is_fasta_kind, is_mask_kind, last_needed}
 use Rattle.bt_tool.specs.Pair.{Making, Pair, item_ahead}
@@ -55,8 +56,8 @@ mask_making how = record {
   -- where records were taken, they leave one of the lines given undecided
   Asks = λ lines records. (records ≡ []) ⊎ IsTrue (leaves_some lines records);
   InOrder = AreInBlocks;
-  first_kinds = is_fasta_kind;
-  second_kinds = is_mask_kind;
+  first_kinds = IsOneOf is_fasta_kind;
+  second_kinds = IsOneOf is_mask_kind;
 }
 
 -- what a stage of masking is as one of two readers

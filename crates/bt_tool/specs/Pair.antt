@@ -26,8 +26,8 @@ pub record Making (X Y : Type 0) : Type 1 where
   -- the order in which they come
   pub InOrder : List Y → Type 0
   -- the kinds of fault that a line of each input can have
-  pub first_kinds : Kind → Bool
-  pub second_kinds : Kind → Bool
+  pub first_kinds : Kind → Type 0
+  pub second_kinds : Kind → Type 0
 
 -- two sources, and the readers of their members as they stood at first
 pub record Pair (A B X Y U V : Type 0) : Type 0 where

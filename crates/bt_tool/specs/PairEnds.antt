@@ -78,7 +78,7 @@ module _ {A B X Y U V : Type 0} (making : Making X Y) (pair : Pair A B X Y U V)
     pub line : ℕ
     pub kind : Kind
     pub is : fault ≡ fault_at_line Second line kind
-    pub of_kind : making.second_kinds kind ≡ true
+    pub of_kind : making.second_kinds kind
     pub told : IfSome (good_coming pair.b_left pair.second)
         (λ good. making.last written good.members ≡ Some fault)
     pub serves : Serves pair.b_failed pair.second second

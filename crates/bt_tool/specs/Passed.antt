@@ -89,14 +89,14 @@ module _ {S A State : Type 0} (left : S → Option (List ℕ)) (failed end : S �
         IfSome (good_coming left old) (λ good. (good.members ≡ past) × (good.fault ≡ None))
 
     -- a line behind them is at fault
-    pub record IsWrongBehind (kinds : Kind → Bool) (past : List (Member A)) (fault : Told)
+    pub record IsWrongBehind (Kinds : Kind → Type 0) (past : List (Member A)) (fault : Told)
         (new : MemberReader S A State) : Type 0 where
       pub whole : IfSome (good_coming left old)
           (λ good. (good.members ≡ past) × (good.fault ≡ Some fault))
       pub line : ℕ
       pub kind : Kind
       pub is : fault ≡ fault_at_line (input_of old.below) line kind
-      pub of_kind : kinds kind ≡ true
+      pub of_kind : Kinds kind
       pub served : failed (source_of new.below) ≡ failed (source_of old.below)
       pub within : bytes_taken new.below < 2 ^ 63
 
@@ -118,8 +118,8 @@ module _ {S A State : Type 0} (left : S → Option (List ℕ)) (failed end : S �
       pub served : failed (source_of new.below) ≡ failed (source_of old.below)
 
     -- the reader stopped behind these members
-    pub record StopsAfter (kinds : Kind → Bool) (past : List (Member A)) (fault : Told)
+    pub record StopsAfter (Kinds : Kind → Type 0) (past : List (Member A)) (fault : Told)
         (new : MemberReader S A State) : Type 0 where
       pub bytes : (bytes : List ℕ) × Hands left old.below bytes new.below
-      pub cause : IsWrongBehind kinds past fault new
+      pub cause : IsWrongBehind Kinds past fault new
           ⊎ (IsUnreadBehind past fault new ⊎ LacksMemory fault new)

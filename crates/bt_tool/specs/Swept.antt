@@ -13,7 +13,7 @@ use Rattle.bt_lines.specs.declared.fault.Kind.{Kind}
 use Rattle.bt_bed.specs.Feature.{Feature, intervals_of}
 use Rattle.bt_bed.specs.Good.{Member}
 use Rattle.bt_bed.specs.Interval.{last_of}
-use Rattle.bt_bed.specs.LineKind.{is_bed_kind}
+use Rattle.bt_bed.specs.LineKind.{IsBedKind}
 use Rattle.bt_bed.specs.Locus.{ArePlaced, Locus, locus_of}
 use Rattle.bt_bed.specs.Order.{Order}
 use Rattle.bt_bed.specs.Reading.{MemberReader}
@@ -44,8 +44,8 @@ sweep_making order shape rule = record {
   -- each record that was taken leaves one of those given undecided
   Asks = λ as_given taken. IsTrue (list_all (leaves_some order as_given) taken);
   InOrder = λ second. ArePlaced order (intervals_of second);
-  first_kinds = is_bed_kind;
-  second_kinds = is_bed_kind;
+  first_kinds = IsBedKind order;
+  second_kinds = IsBedKind order;
 }
 
 -- what a stage of a sweep is as one of two readers
@@ -126,33 +126,33 @@ module _ {S A State : Type 0} (left : S → Option (List ℕ)) (failed end : S �
     pub rises : lines_given before.below ≤ lines_given new.below
 
   -- a fault lies behind some of them
-  pub record ChecksUpTo (kinds : Kind → Bool) (fault : Told)
+  pub record ChecksUpTo (Kinds : Kind → Type 0) (fault : Told)
       (new : MemberReader S A State) : Type 0 where
     pub more : List (Member A)
-    pub stops : StopsAfter left failed end old kinds (past ++ more) fault new
+    pub stops : StopsAfter left failed end old Kinds (past ++ more) fault new
     pub rises : lines_given before.below ≤ lines_given new.below
     pub before_end : end_told before.below ≡ true → (input : Input) (line : ℕ)
         → fault ≡ read_failed input line → ⊥
 
-  abbrev pub ChecksRest : {T : Type 0} → (Kind → Bool) → Result T Fault → MemberReader S A State
+  abbrev pub ChecksRest : {T : Type 0} → (Kind → Type 0) → Result T Fault → MemberReader S A State
       → Type 0
-  ChecksRest kinds (Ok done) new = ChecksAll new
-  ChecksRest kinds (Err fault) new = ChecksUpTo kinds (told fault) new
+  ChecksRest Kinds (Ok done) new = ChecksAll new
+  ChecksRest Kinds (Err fault) new = ChecksUpTo Kinds (told fault) new
 
-  abbrev pub Checks : {T : Type 0} → (Kind → Bool) → Result T Fault → MemberReader S A State
+  abbrev pub Checks : {T : Type 0} → (Kind → Type 0) → Result T Fault → MemberReader S A State
       → Type 0
-  Checks kinds result new =
+  Checks Kinds result new =
       Passes left failed end old past before
       → ((state : State) (line : TextLine) (kind : Kind) → old.format.says state line ≡ Err kind
-      → kinds kind ≡ true)
-      → ChecksRest kinds result new
+      → Kinds kind)
+      → ChecksRest Kinds result new
 
 -- reading on to the end, from wherever the reader stands
 abbrev pub ReadsOn : {S A State T : Type 0} → (S → Option (List ℕ)) → (S → Bool) → (S → Bool)
-    → MemberReader S A State → Result T Fault → MemberReader S A State → Type 0
-ReadsOn {S} {A} {State} {T} left failed end before result new =
-    (old : MemberReader S A State) (past : List (Member A)) (kinds : Kind → Bool)
-    → Checks left failed end old past before kinds result new
+    → (Kind → Type 0) → MemberReader S A State → Result T Fault → MemberReader S A State → Type 0
+ReadsOn {S} {A} {State} {T} left failed end Kinds before result new =
+    (old : MemberReader S A State) (past : List (Member A))
+    → Checks left failed end old past before Kinds result new
 
 -- how far it has come
 module _ {S A State : Type 0} (left : S → Option (List ℕ)) (failed end : S → Bool)

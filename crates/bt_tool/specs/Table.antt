@@ -84,7 +84,7 @@ merge_table = record {
       ∷ record { option = codes "-s"; takes = Nothing }
       ∷ record { option = codes "-S"; takes = Strand }
       ∷ [];
-  required = codes "-g" ∷ [];
+  required = [];
   one_of = [];
   exclusive = (codes "-s", codes "-S") ∷ [];
   genome = Some (codes "-g");
@@ -126,7 +126,7 @@ intersect_table = record {
       ∷ record { option = codes "-s"; takes = Nothing }
       ∷ record { option = codes "-sorted"; takes = Nothing }
       ∷ [];
-  required = codes "-a" ∷ codes "-b" ∷ codes "-g" ∷ [];
+  required = codes "-a" ∷ codes "-b" ∷ [];
   one_of = [];
   exclusive = (codes "-wa", codes "-wo") ∷ (codes "-wb", codes "-wo") ∷ (codes "-wb", codes "-u")
       ∷ (codes "-wb", codes "-v") ∷ (codes "-wb", codes "-c") ∷ (codes "-wo", codes "-u")
@@ -148,7 +148,7 @@ subtract_table = record {
       ∷ record { option = codes "-f"; takes = Fraction }
       ∷ record { option = codes "-s"; takes = Nothing }
       ∷ [];
-  required = codes "-a" ∷ codes "-b" ∷ codes "-g" ∷ [];
+  required = codes "-a" ∷ codes "-b" ∷ [];
   one_of = [];
   exclusive = [];
   genome = Some (codes "-g");

@@ -13,7 +13,7 @@ use Rattle.bt_tool.specs.Inputs.{HandsUpToIf, Holds, HoldsIf, Reads, ReadsIf, Se
 use Rattle.bt_tool.specs.RecordReport.{Report}
 
 module _ {A B : Type 0} (a_left : A → Option (List ℕ)) (a_failed a_end : A → Bool)
-    (b_left : B → Option (List ℕ)) (b_failed : B → Bool) (first_kinds second_kinds : Kind → Bool)
+    (b_left : B → Option (List ℕ)) (b_failed : B → Bool) (FirstKinds SecondKinds : Kind → Type 0)
     (report : Handed → Option Handed → Report) (settles : Option Handed → List TextLine → List ℕ)
     (reaches : Option Handed → List TextLine → ℕ) where
   -- the inputs were read, and what they make a command write was written:
@@ -55,6 +55,6 @@ module _ {A B : Type 0} (a_left : A → Option (List ℕ)) (a_failed a_end : A �
         (settles two) one.text (a_left first_after) before grown.took
     -- what the fault may be, whatever the devices do
     pub named : (told : Told) → fault ≡ Some told
-        → (TellsInput a_left a_failed first_kinds First first first_after told
-        ⊎ TellsInputIf b_left b_failed second_kinds Second second second_after told)
+        → (TellsInput a_left a_failed FirstKinds First first first_after told
+        ⊎ TellsInputIf b_left b_failed SecondKinds Second second second_after told)
         ⊎ TellsDevice grown.sink_has_failed told

@@ -1,15 +1,15 @@
 -- What a command of one input writes, by the members of that input.
 use Rattle.std.specs.Prelude.{ℕ, Bool, List, Option}
 use Rattle.bt_bed.specs.Feature.{Feature, intervals_of}
-use Rattle.bt_bed.specs.Genome.{Entry, genome_names}
+use Rattle.bt_bed.specs.Genome.{Entry}
 use Rattle.bt_bed.specs.Interval.{last_of}
 use Rattle.bt_bed.specs.IntervalLine.{interval_lines}
+use Rattle.bt_bed.specs.Order.{Order}
 use Rattle.bt_bed.specs.declared.strand.Strand.{Strand}
-use Rattle.bt_runs.specs.Counted.{counted}
 use Rattle.bt_runs.specs.Depth.{coverage, depth_lines, settled_depths}
 use Rattle.bt_runs.specs.Gaps.{complement, settled_gaps}
-use Rattle.bt_runs.specs.Merged.{merged}
 use Rattle.bt_runs.specs.MergedRuns.{passed_by}
+use Rattle.bt_runs.specs.RunOrder.{ordered_runs}
 use Rattle.bt_runs.specs.StrandRuns.{places_of, settled_strand_runs, strand_runs}
 use Rattle.bt_runs.specs.declared.merge_strand.MergeStrand.{MergeStrand}
 use Rattle.bt_runs.specs.declared.merge_strand.MergeStrand.TheVariants.{All, Each, One}
@@ -20,14 +20,12 @@ pub record Written (A : Type 0) : Type 0 where
   pub whole : List A → List ℕ
   pub settled : List A → List ℕ
 
--- the merged runs, chromosomes in the order of the genome file,
--- and those that the last record has passed
-abbrev pub pooled_written : List Entry → ℕ → MergeStrand → Written Feature
-pooled_written entries d strand = record {
-  whole = λ records. interval_lines (merged (genome_names entries) d (counted strand records));
+-- the merged runs, chromosomes in order, and those that the last record has passed
+abbrev pub pooled_written : Order → ℕ → MergeStrand → Written Feature
+pooled_written order d strand = record {
+  whole = λ records. interval_lines (ordered_runs order d strand records);
   settled = λ records. interval_lines
-      (passed_by d (merged (genome_names entries) d (counted strand records))
-      (last_of (intervals_of records)));
+      (passed_by d (ordered_runs order d strand records) (last_of (intervals_of records)));
 }
 
 -- the runs of each strand, all listed by their first records, and the longest front of them that
@@ -39,10 +37,10 @@ strands_written d = record {
 }
 
 -- what merge writes, by the records that it merges
-abbrev pub merge_written : List Entry → ℕ → MergeStrand → Written Feature
-merge_written entries d Each = strands_written d
-merge_written entries d All = pooled_written entries d All
-merge_written entries d (One strand) = pooled_written entries d (One strand)
+abbrev pub merge_written : Order → ℕ → MergeStrand → Written Feature
+merge_written order d Each = strands_written d
+merge_written order d All = pooled_written order d All
+merge_written order d (One strand) = pooled_written order d (One strand)
 
 -- the gaps between the records
 abbrev pub complement_written : List Entry → Bool → Written Feature

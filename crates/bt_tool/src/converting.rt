@@ -6,6 +6,7 @@ ghost use Rattle.bt_lines.specs.Names.{told};
 ghost use Rattle.bt_lines.specs.Output.{HoldsBlock};
 ghost use Rattle.bt_lines.specs.Reader.{fault_kept};
 ghost use Rattle.bt_seq.specs.SamKind.{is_sam_kind};
+ghost use Rattle.bt_tool.specs.Kinds.{IsOneOf};
 ghost use Rattle.bt_tool.specs.Converted.{bamtobed_report, bamtobed_settles};
 ghost use Rattle.bt_tool.specs.Converting.{ConvertsAll, ConvertsLine, sam_reader};
 ghost use Rattle.bt_tool.specs.Driving.{WritesInput};
@@ -65,7 +66,7 @@ pub(crate) fn convert<A: Source, K: Sink>(
     out: &mut Out<K>,
 ) -> (Option<Fault>, A)
     requires { HoldsBlock out.old.took out.old.put }
-    ensures { WritesInput A.left A.has_failed is_sam_kind (bamtobed_report split cigar) (bamtobed_settles split cigar)
+    ensures { WritesInput A.left A.has_failed (IsOneOf is_sam_kind) (bamtobed_report split cigar) (bamtobed_settles split cigar)
         first out.old (option_map told result.0) result.1 out.new }
 {
     let mut lines = LineReader::new(alloc, first, Input::First);

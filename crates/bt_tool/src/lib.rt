@@ -64,6 +64,8 @@ mod intersect_tests;
 #[cfg(test)]
 mod maskfasta_tests;
 #[cfg(test)]
+mod no_genome_tests;
+#[cfg(test)]
 mod subtract_tests;
 #[cfg(test)]
 mod tests;

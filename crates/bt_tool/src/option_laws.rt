@@ -30,7 +30,16 @@ pub fn worked_cases()
     ensures unknown { options (codes "merge" ∷ codes "-q" ∷ []) ≡ Err (unknown_option 1) }
     ensures missing { options (codes "merge" ∷ codes "-g" ∷ []) ≡ Err (value_missing 1) }
     ensures bad { options (codes "merge" ∷ codes "-g" ∷ [] ∷ []) ≡ Err (bad_value 1) }
-    ensures required { options (codes "merge" ∷ []) ≡ Err required_missing }
+    ensures required { options (codes "complement" ∷ []) ≡ Err required_missing }
+    ensures no_genome { options (codes "merge" ∷ [])
+        ≡ Ok (record {
+          command = Command.Merge 0 MergeStrand.All;
+          genome = None;
+          first = codes "stdin";
+          second = None;
+          output = None;
+        }) }
+    ensures one_input { options (codes "intersect" ∷ codes "-a" ∷ codes "x" ∷ []) ≡ Err required_missing }
     ensures twice { options (codes "merge" ∷ codes "-g" ∷ codes "-" ∷ [])
         ≡ Err input_named_twice }
     ensures standard_input { options (codes "merge" ∷ codes "-g" ∷ codes "g" ∷ [])

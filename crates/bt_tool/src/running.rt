@@ -1,16 +1,21 @@
 //! Running a plan over its devices.
 
-ghost use Rattle.std.specs.Prelude.{IsSome, IsTrue, MatchResult, ◌≡◌, ◌⊎◌, ⊤, [], None, true, Some, is_some, option_map};
+ghost use Rattle.std.specs.Prelude.{IfSome, IsSome, IsTrue, MatchResult, ◌≡◌, ◌≤◌, ◌⊎◌, ⊤, true, Some, is_some, option_map};
+ghost use Rattle.bt_lines.specs.Number.{max_number};
 ghost use Rattle.bt_lines.specs.Fault.{write_failed};
 ghost use Rattle.bt_lines.specs.Names.{told};
 ghost use Rattle.bt_lines.specs.Output.{HoldsBlock};
 ghost use Rattle.bt_bed.specs.GenomeTable.{entries, names_of};
 ghost use Rattle.bt_bed.specs.Rank.{AreDistinct};
 ghost use Rattle.bt_sweep.specs.Subtract.{subtract_shape};
+ghost use Rattle.bt_tool.specs.Behaviour.{behaviour_of, entries_in, of_intersect, of_maskfasta, order_of};
+ghost use Rattle.bt_tool.specs.Both.{Intersects};
 ghost use Rattle.bt_tool.specs.Chromosomes.{ReadsChromosomes, WritesBy, WritesOutput};
+ghost use Rattle.bt_tool.specs.Driving.{WritesRecords};
 ghost use Rattle.bt_tool.specs.Gives.{Runs};
 ghost use Rattle.bt_tool.specs.Limits.{is_within_limits};
 ghost use Rattle.bt_tool.specs.Table.{IsNamedBy, table_of, tool_of};
+ghost use Rattle.bt_tool.specs.Written.{complement_written, coverage_written, merge_written};
 
 use crate::converting::convert;
 use crate::driving::drive;
@@ -19,9 +24,9 @@ use crate::masking::mask;
 use crate::outcome::Outcome;
 use crate::plan_type::{Command, Plan};
 use crate::sweeping::sweep;
-use bt_bed::Genome;
+use bt_bed::{ByteOrder, ChromOrder, Genome, Strand};
 use bt_lines::{Fault, Input, LineReader, Out, Sink, Source};
-use bt_runs::{Complement, Coverage, Merge};
+use bt_runs::{Complement, Coverage, Merge, MergeStrand};
 use bt_seq::MaskHow;
 use bt_sweep::{HitRule, Shape};
 use std::alloc::Global;
@@ -38,7 +43,7 @@ pub struct Ended<G, A, B, K> {
 }
 
 /// Runs a plan: reads the genome file whole, if there is one, and then the other inputs once, from the
-/// front, and writes to the sink. A fault of the genome file ends the run before any other input
+/// front, and writes to the sink. Without a genome file chromosomes are sorted by the bytes of their names. A fault of the genome file ends the run before any other input
 /// is read. The output is flushed at every ending except after a failed write.
 pub fn run<G: Source, A: Source, B: Source, K: Sink>(
     alloc: Global,
@@ -78,32 +83,43 @@ pub fn run<G: Source, A: Source, B: Source, K: Sink>(
     }
 }
 
-// Reads the genome file, and gives its source back. Without one no chromosome is known.
-fn read_genome<G: Source>(alloc: Global, genome: Option<G>) -> (Result<Genome, Fault>, Option<G>)
+// Reads the genome file, if there is one, and gives its source back.
+fn read_genome<G: Source>(
+    alloc: Global,
+    genome: Option<G>,
+) -> (Result<Option<Genome>, Fault>, Option<G>)
     ensures genome { is_some result.1 ≡ is_some genome }
+    ensures named { MatchResult result.0 (λ table. is_some table ≡ is_some genome) (λ _. ⊤) }
     ensures read { ReadsChromosomes G.left G.has_failed genome result.0 result.1 }
 {
     let Some(genome) = genome else {
-        return (Ok(Genome::new(alloc)), None);
+        return (Ok(None), None);
     };
     let mut lines = LineReader::new(alloc, genome, Input::Genome);
     let read = Genome::read(alloc, &mut lines);
-    (read, Some(lines.into_source()))
+    let genome = Some(lines.into_source());
+    match read {
+        Ok(table) => (Ok(Some(table)), genome),
+        Err(fault) => (Err(fault), genome),
+    }
 }
 
-// Writes the output by the chromosomes of the genome file. Where they couldn't be read the run ends with
-// that fault, and the other inputs aren't touched.
+// Writes the output by the chromosomes of the genome file, if there is one. Where they couldn't be read the
+// run ends with that fault, and the other inputs aren't touched.
 fn write_output<A: Source, B: Source, K: Sink>(
     alloc: Global,
     command: Command,
-    chromosomes: Result<Genome, Fault>,
+    chromosomes: Result<Option<Genome>, Fault>,
     first: A,
     second: Option<B>,
     out: &mut Out<K>,
 ) -> (Option<Fault>, A, Option<B>)
     requires limits { IsTrue (is_within_limits command) }
+    requires genome { MatchResult chromosomes
+        (λ table. IsNamedBy (table_of (tool_of command)) (table_of (tool_of command)).genome table) (λ _. ⊤) }
     requires second { IsNamedBy (table_of (tool_of command)) (table_of (tool_of command)).second second }
-    requires distinct { MatchResult chromosomes (λ table. AreDistinct (names_of table)) (λ _. ⊤) }
+    requires distinct { MatchResult chromosomes
+        (λ table. IfSome table (λ table. AreDistinct (names_of table))) (λ _. ⊤) }
     requires block { HoldsBlock out.old.took out.old.put }
     ensures written { WritesOutput A.left A.has_failed A.end_told B.left B.has_failed command chromosomes first second
         out.old (option_map told result.0) result.1 result.2 out.new }
@@ -115,38 +131,37 @@ fn write_output<A: Source, B: Source, K: Sink>(
     }
 }
 
-// Writes what the inputs make a command write, by the chromosomes of a genome file. It
-// gives the sources back, and the fault that the run ends with, if there is one.
+// Writes what the inputs make a command write, by the genome file, if there is one. It gives the sources
+// back, and the fault that the run ends with, if there is one.
 fn write_records<A: Source, B: Source, K: Sink>(
     alloc: Global,
     command: Command,
-    genome: &Genome,
+    genome: &Option<Genome>,
     first: A,
     second: Option<B>,
     out: &mut Out<K>,
 ) -> (Option<Fault>, A, Option<B>)
     requires limits { IsTrue (is_within_limits command) }
+    requires genome { IsNamedBy (table_of (tool_of command)) (table_of (tool_of command)).genome genome.now }
     requires second { IsNamedBy (table_of (tool_of command)) (table_of (tool_of command)).second second }
-    requires distinct { AreDistinct (names_of genome.now) }
+    requires distinct { IfSome genome.now (λ table. AreDistinct (names_of table)) }
     requires block { HoldsBlock out.old.took out.old.put }
-    ensures written { WritesBy A.left A.has_failed A.end_told B.left B.has_failed command (entries genome.now)
+    ensures written { WritesBy A.left A.has_failed A.end_told B.left B.has_failed
+        (behaviour_of command (option_map entries genome.now))
         first second out.old (option_map told result.0) result.1 result.2 out.new }
     ensures second { is_some result.2 ≡ is_some second }
 {
     match command {
         Command::Merge { d, strand } => {
-            let engine = Merge::new(alloc, d, strand);
-            let (fault, first) = drive(alloc, genome, engine, first, out);
+            let (fault, first) = merge(alloc, genome, d, strand, first, out);
             (fault, first, second)
         }
         Command::Complement { limit } => {
-            let engine = Complement::new(genome, limit);
-            let (fault, first) = drive(alloc, genome, engine, first, out);
+            let (fault, first) = complement(alloc, genome, limit, first, out);
             (fault, first, second)
         }
         Command::Coverage { zeros, strand } => {
-            let engine = Coverage::new(alloc, genome, zeros, strand);
-            let (fault, first) = drive(alloc, genome, engine, first, out);
+            let (fault, first) = cover(alloc, genome, zeros, strand, first, out);
             (fault, first, second)
         }
         Command::Intersect { shape, rule } => {
@@ -164,6 +179,85 @@ fn write_records<A: Source, B: Source, K: Sink>(
     }
 }
 
+// Merges the records of an input, in the order of the genome file, or of the names' bytes without one.
+fn merge<A: Source, K: Sink>(
+    alloc: Global,
+    genome: &Option<Genome>,
+    d: u64,
+    strand: MergeStrand,
+    first: A,
+    out: &mut Out<K>,
+) -> (Option<Fault>, A)
+    requires limit { d ≤ max_number }
+    requires block { HoldsBlock out.old.took out.old.put }
+    ensures { WritesRecords A.left A.has_failed (merge_written (order_of (option_map entries genome.now)) d strand)
+        (order_of (option_map entries genome.now)) first out.old (option_map told result.0) result.1 out.new }
+{
+    match genome {
+        Some(genome) => merge_in_order(alloc, genome, d, strand, first, out),
+        None => merge_in_order(alloc, &ByteOrder, d, strand, first, out),
+    }
+}
+
+// Merges the records of an input in an order of their chromosomes.
+fn merge_in_order<A: Source, O: ChromOrder, K: Sink>(
+    alloc: Global,
+    order: &O,
+    d: u64,
+    strand: MergeStrand,
+    first: A,
+    out: &mut Out<K>,
+) -> (Option<Fault>, A)
+    requires limit { d ≤ max_number }
+    requires block { HoldsBlock out.old.took out.old.put }
+    ensures { WritesRecords A.left A.has_failed (merge_written (O.order order.now) d strand) (O.order order.now)
+        first out.old (option_map told result.0) result.1 out.new }
+{
+    let engine = Merge::new(alloc, d, strand);
+    drive(alloc, order, engine, first, out)
+}
+
+// Writes the gaps between the records of an input.
+fn complement<A: Source, K: Sink>(
+    alloc: Global,
+    genome: &Option<Genome>,
+    limit: bool,
+    first: A,
+    out: &mut Out<K>,
+) -> (Option<Fault>, A)
+    requires genome { IsSome genome.now }
+    requires distinct { IfSome genome.now (λ table. AreDistinct (names_of table)) }
+    requires block { HoldsBlock out.old.took out.old.put }
+    ensures { WritesRecords A.left A.has_failed
+        (complement_written (entries_in (option_map entries genome.now)) limit)
+        (order_of (option_map entries genome.now)) first out.old (option_map told result.0) result.1 out.new }
+{
+    let Some(genome) = genome else { unreachable!() };
+    let engine = Complement::new(genome, limit);
+    drive(alloc, genome, engine, first, out)
+}
+
+// Writes the intervals of equal depth of the records of an input.
+fn cover<A: Source, K: Sink>(
+    alloc: Global,
+    genome: &Option<Genome>,
+    zeros: bool,
+    strand: Option<Strand>,
+    first: A,
+    out: &mut Out<K>,
+) -> (Option<Fault>, A)
+    requires genome { IsSome genome.now }
+    requires distinct { IfSome genome.now (λ table. AreDistinct (names_of table)) }
+    requires block { HoldsBlock out.old.took out.old.put }
+    ensures { WritesRecords A.left A.has_failed
+        (coverage_written (entries_in (option_map entries genome.now)) zeros strand)
+        (order_of (option_map entries genome.now)) first out.old (option_map told result.0) result.1 out.new }
+{
+    let Some(genome) = genome else { unreachable!() };
+    let engine = Coverage::new(alloc, genome, zeros, strand);
+    drive(alloc, genome, engine, first, out)
+}
+
 // The shape of what is left of a record: its pieces, or all of it.
 fn shape_left(whole: bool) -> Shape
     ensures { result ≡ subtract_shape whole }
@@ -174,7 +268,7 @@ fn shape_left(whole: bool) -> Shape
 // Sweeps the two inputs of intersect, or of subtract in its shapes.
 fn sweep_both<A: Source, B: Source, K: Sink>(
     alloc: Global,
-    genome: &Genome,
+    genome: &Option<Genome>,
     shape: Shape,
     rule: HitRule,
     first: A,
@@ -182,15 +276,36 @@ fn sweep_both<A: Source, B: Source, K: Sink>(
     out: &mut Out<K>,
 ) -> (Option<Fault>, A, Option<B>)
     requires second { IsSome second }
-    requires distinct { AreDistinct (names_of genome.now) }
     requires block { HoldsBlock out.old.took out.old.put }
-    ensures written { WritesBy A.left A.has_failed A.end_told B.left B.has_failed (Command.Intersect shape rule) (entries genome.now)
+    ensures written { WritesBy A.left A.has_failed A.end_told B.left B.has_failed
+        (of_intersect (order_of (option_map entries genome.now)) shape rule)
         first second out.old (option_map told result.0) result.1 result.2 out.new }
     ensures second { is_some result.2 ≡ is_some second }
 {
     let Some(second) = second else { unreachable!() };
-    let (fault, first, second) = sweep(alloc, genome, shape, rule, first, second, out);
+    let (fault, first, second) = sweep_in_order(alloc, genome, shape, rule, first, second, out);
     (fault, first, Some(second))
+}
+
+// Sweeps two inputs, both in the order of the genome file, or of the names' bytes without one.
+fn sweep_in_order<A: Source, B: Source, K: Sink>(
+    alloc: Global,
+    genome: &Option<Genome>,
+    shape: Shape,
+    rule: HitRule,
+    first: A,
+    second: B,
+    out: &mut Out<K>,
+) -> (Option<Fault>, A, B)
+    requires block { HoldsBlock out.old.took out.old.put }
+    ensures { Intersects A.left A.has_failed A.end_told B.left B.has_failed
+        (order_of (option_map entries genome.now)) shape rule
+        first second out.old (option_map told result.0) result.1 result.2 out.new }
+{
+    match genome {
+        Some(genome) => sweep(alloc, genome, shape, rule, first, second, out),
+        None => sweep(alloc, &ByteOrder, shape, rule, first, second, out),
+    }
 }
 
 // Masks the lines of the first input by the records of the second.
@@ -204,7 +319,7 @@ fn mask_both<A: Source, B: Source, K: Sink>(
 ) -> (Option<Fault>, A, Option<B>)
     requires second { IsSome second }
     requires block { HoldsBlock out.old.took out.old.put }
-    ensures written { WritesBy A.left A.has_failed A.end_told B.left B.has_failed (Command.MaskFasta how full) []
+    ensures written { WritesBy A.left A.has_failed A.end_told B.left B.has_failed (of_maskfasta how full)
         first second out.old (option_map told result.0) result.1 result.2 out.new }
     ensures second { is_some result.2 ≡ is_some second }
 {

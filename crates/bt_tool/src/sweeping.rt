@@ -4,6 +4,7 @@ ghost use Rattle.std.specs.Prelude.{◌≡◌, option_map};
 ghost use Rattle.bt_lines.specs.Names.{told};
 ghost use Rattle.bt_lines.specs.Output.{HoldsBlock};
 ghost use Rattle.bt_bed.specs.GoodBed.{bed_format};
+ghost use Rattle.bt_bed.specs.LineKind.{IsBedKind};
 ghost use Rattle.bt_bed.specs.Order.{IsTotal};
 ghost use Rattle.bt_bed.specs.Records.{order_in, view_of};
 ghost use Rattle.bt_bed.specs.Sorting.{sorting_of};
@@ -90,7 +91,7 @@ fn sweep_all<A: Source, B: Source, O: ChromOrder, H: Held, K: Sink>(
 
 // Reads an input to its end, so that a fault behind the last record that was asked for is reported.
 fn check_rest<B: Source, O: ChromOrder>(second: &mut Records<'_, B, O>) -> Result<(), Fault>
-    ensures { ReadsOn B.left B.has_failed B.end_told (view_of second.old) result (view_of second.new) }
+    ensures { ReadsOn B.left B.has_failed B.end_told (IsBedKind (order_in second.old)) (view_of second.old) result (view_of second.new) }
 {
     while let Some(_record) = second.peek()? {
         second.advance();

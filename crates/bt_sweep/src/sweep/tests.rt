@@ -2,7 +2,7 @@ use super::*;
 use crate::held_list::HeldList;
 use crate::plain::plain_intersect;
 use crate::worked::{FRACTIONS, RuledCase, STRANDS, SUBTRACTED};
-use bt_bed::{Genome, Rec, parse_bed};
+use bt_bed::{ByteOrder, Genome, Rec, parse_bed};
 use bt_lines::{Input, Kind, LineReader, ScriptSink, ScriptSource};
 use std::alloc::AllocError;
 use std::test::Fail;

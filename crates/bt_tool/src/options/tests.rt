@@ -5,7 +5,7 @@ use std::process::Abort;
 use std::test::Fail;
 
 /// The words, and the plan or the line on standard error that they give.
-const CASES: [(&[&str], &str); 42] = [
+const CASES: [(&[&str], &str); 43] = [
     (&[], "bedtools: no or unknown command\n"),
     (&["", "-g", "g"], "bedtools: no or unknown command\n"),
     (&["-g", "g", "merge"], "bedtools: no or unknown command\n"),
@@ -79,8 +79,18 @@ const CASES: [(&[&str], &str); 42] = [
     (&["merge", "-g", "g", "-i"], "bedtools: value missing: -i\n"),
     (&["merge", "-g", ""], "bedtools: bad value: -g\n"),
     (&["merge", "-i", "", "-q"], "bedtools: bad value: -i\n"),
-    (&["merge"], "bedtools: required option missing\n"),
-    (&["merge", "-i", "-"], "bedtools: required option missing\n"),
+    (
+        &["merge"],
+        "Merge { d: 0, strand: All } None stdin None None",
+    ),
+    (
+        &["merge", "-i", "-"],
+        "Merge { d: 0, strand: All } None - None None",
+    ),
+    (
+        &["merge", "-s", "-d", "5", "-i", "a"],
+        "Merge { d: 5, strand: Each } None a None None",
+    ),
     (
         &["merge", "-g", "-"],
         "bedtools: standard input named twice\n",
@@ -120,11 +130,19 @@ const CASES: [(&[&str], &str); 42] = [
 ];
 
 /// The same for intersect, without the command.
-const INTERSECT: [(&[&str], &str); 22] = [
+const INTERSECT: [(&[&str], &str); 24] = [
     (&["-a", "x"], "bedtools: required option missing\n"),
     (
-        &["-a", "x", "-b", "y"],
+        &["-a", "x", "-g", "g"],
         "bedtools: required option missing\n",
+    ),
+    (
+        &["-a", "-", "-b", "stdin"],
+        "bedtools: standard input named twice\n",
+    ),
+    (
+        &["-a", "x", "-b", "y"],
+        "Intersect { shape: Cut, rule: HitRule { billionths: 0, both: false, same_strand: false } } None x Some(\"y\") None",
     ),
     (
         &["-b", "y", "-g", "g"],
@@ -274,11 +292,15 @@ const RULES: [(&[&str], &str); 14] = [
 ];
 
 /// The same for subtract.
-const SUBTRACT: [(&[&str], &str); 16] = [
+const SUBTRACT: [(&[&str], &str); 17] = [
     (&["-a", "x"], "bedtools: required option missing\n"),
     (
-        &["-a", "x", "-b", "y"],
+        &["-b", "x", "-g", "g"],
         "bedtools: required option missing\n",
+    ),
+    (
+        &["-a", "x", "-b", "y"],
+        "Subtract { whole: false, rule: HitRule { billionths: 0, both: false, same_strand: false } } None x Some(\"y\") None",
     ),
     (
         &["-a", "-", "-b", "stdin", "-g", "g"],

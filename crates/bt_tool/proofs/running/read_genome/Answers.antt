@@ -1,11 +1,19 @@
 use Rattle.std.proofs.Common.{Some, subst, sym}
-use Rattle.bt_tool.specs.Chromosomes.{ReadsChromosomes}
-use Rattle.bt_tool.proofs.ChromosomeLemmas.{reads_file}
+use Rattle.bt_lines.specs.Names.{told}
+use Rattle.bt_tool.specs.Chromosomes.{KnowsChromosomes, LacksChromosomes}
+use Rattle.bt_tool.proofs.ChromosomeLemmas.{knows_none, knows_read, lacks_read}
 use Rattle.bt_tool.proofs.running.read_genome.Goals as goal
 
-pub returns-clause-read : goal.returns-clause-read
-returns-clause-read g c =
+pub returns-in-Ok-clause-read : goal.returns-in-Ok-clause-read
+returns-in-Ok-clause-read g c =
     let reader = c.new-lines.ensures in
-    subst (λ before. ReadsChromosomes g.G.Source.left g.G.Source.has_failed before c.read-read.result (Some c.into_source.result)) (sym c.in-Some.is)
-    (reads_file g.G.Source.left g.G.Source.has_failed g.G.Source.end_told c.in-Some.genome c.into_source.result c.new-lines.result c.read-read.new.reader reader.source (sym c.into_source.ensures) reader.input
-    reader.none_taken.0 reader.none_fed reader.none_given reader.going.0 reader.lines reader.sound c.read-read.result c.read-read.ensures)
+    subst (λ before. KnowsChromosomes g.G.Source.left g.G.Source.has_failed before (Some c.into_source.result) (Some c.in-Ok.table)) (sym c.in-Some.is)
+    (knows_read g.G.Source.left g.G.Source.has_failed g.G.Source.end_told c.in-Some.genome c.into_source.result c.new-lines.result c.read-read.new.reader reader.source (sym c.into_source.ensures) reader.input
+    reader.none_taken.0 reader.none_fed reader.none_given reader.going.0 reader.lines reader.sound c.in-Ok.table c.in-Ok.ensures.answers (c.in-Ok.ensures.sound reader.sound))
+
+pub returns-in-Err-clause-read : goal.returns-in-Err-clause-read
+returns-in-Err-clause-read g c =
+    let reader = c.new-lines.ensures in
+    subst (λ before. LacksChromosomes g.G.Source.left g.G.Source.has_failed before (Some c.into_source.result) (told c.in-Err.fault)) (sym c.in-Some.is)
+    (lacks_read g.G.Source.left g.G.Source.has_failed g.G.Source.end_told c.in-Some.genome c.into_source.result c.new-lines.result c.read-read.new.reader reader.source (sym c.into_source.ensures) reader.input
+    reader.none_taken.0 reader.none_fed reader.none_given reader.going.0 reader.lines reader.sound (told c.in-Err.fault) c.in-Err.ensures.answers (c.in-Err.ensures.sound reader.sound))

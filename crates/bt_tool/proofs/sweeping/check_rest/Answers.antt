@@ -1,6 +1,7 @@
 use Rattle.bt_lines.specs.Names.{told}
 use Rattle.bt_bed.specs.Bed.{feature_lent}
-use Rattle.bt_bed.specs.Records.{view_of}
+use Rattle.bt_bed.specs.LineKind.{IsBedKind}
+use Rattle.bt_bed.specs.Records.{order_in, view_of}
 use Rattle.bt_bed.proofs.ResultLemmas.{passed_on}
 use Rattle.bt_tool.specs.Swept.{ReadsOn}
 use Rattle.bt_tool.specs.Turns.{HasAhead}
@@ -14,9 +15,9 @@ loop-record-init g c = reads_start g.B.Source.left g.B.Source.has_failed g.B.Sou
 pub returns-in_err-_record : goal.returns-in_err-_record
 returns-in_err-_record g c =
     let peek = rw c.in_err-_record.was at c.peek.follows.holds-at-none in
-    passed_on (λ r. ReadsOn g.B.Source.left g.B.Source.has_failed g.B.Source.end_told (view_of c.args.second.now) r (view_of c.peek.follows.lender-at-none)) c.from_residual.result c.in_err-_record.field-0.0
+    passed_on (λ r. ReadsOn g.B.Source.left g.B.Source.has_failed g.B.Source.end_told (IsBedKind (order_in c.args.second.now)) (view_of c.args.second.now) r (view_of c.peek.follows.lender-at-none)) c.from_residual.result c.in_err-_record.field-0.0
     c.from_residual.ensures.1
-    (reads_stop g.B.Source.left g.B.Source.has_failed g.B.Source.end_told (view_of c.args.second.now) (view_of c.loop-record.second) c.loop-record.invariant (view_of c.peek.follows.lender-at-none) (told c.in_err-_record.field-0.0)
+    (reads_stop g.B.Source.left g.B.Source.has_failed g.B.Source.end_told (view_of c.args.second.now) (view_of c.loop-record.second) c.loop-record.invariant (IsBedKind (order_in c.args.second.now)) (view_of c.peek.follows.lender-at-none) (told c.in_err-_record.field-0.0)
     (is_stopped g.B.Source.left g.B.Source.has_failed g.B.Source.end_told c.loop-record.second c.peek.follows.lender-at-none (told c.in_err-_record.field-0.0) (record { answers = peek.answers; sound = peek.sound; order = peek.order })))
 
 pub loop-record-preserved : goal.loop-record-preserved
@@ -30,5 +31,5 @@ loop-record-preserved g c =
 pub returns : goal.returns
 returns g c =
     let peek = rw (c.in_ok-_record.was, c.in_default.is) at c.peek.follows.holds-at-none in
-    λ old past kinds p wrong. reads_end g.B.Source.left g.B.Source.has_failed g.B.Source.end_told (view_of c.args.second.now) (view_of c.loop-record.second) c.loop-record.invariant (view_of c.peek.follows.lender-at-none)
+    λ old past p wrong. reads_end g.B.Source.left g.B.Source.has_failed g.B.Source.end_told (view_of c.args.second.now) (view_of c.loop-record.second) c.loop-record.invariant (view_of c.peek.follows.lender-at-none)
     (is_over g.B.Source.left g.B.Source.has_failed g.B.Source.end_told c.loop-record.second c.peek.follows.lender-at-none (record { ends = peek.answers; sound = peek.sound; order = peek.order })) old past p

@@ -1,0 +1,25 @@
+use Rattle.std.specs.Prelude.{option_map}
+use Rattle.bt_lines.specs.Names.{told}
+use Rattle.bt_bed.specs.Feature.{intervals_of}
+use Rattle.bt_bed.proofs.TogetherLemmas.{placed_together}
+use Rattle.bt_tool.proofs.WriteLemmas.{merge_begins, merge_begins_whole, merge_stays, merge_writes}
+use Rattle.bt_tool.proofs.running.merge_in_order.Goals as goal
+
+pub drive-requires-clause-nothing : goal.drive-requires-clause-nothing
+drive-requires-clause-nothing g c = merge_begins c.new-engine.result
+
+pub drive-requires-clause-takes : goal.drive-requires-clause-takes
+drive-requires-clause-takes g c = λ past placed full.
+    let order = g.O.ChromOrder.order c.args.order.now in
+    record { together = placed_together order (intervals_of past) (g.met.O.ChromOrder.total c.args.order.now) placed; full = full }
+
+pub drive-requires-clause-stays : goal.drive-requires-clause-stays
+drive-requires-clause-stays g c = merge_stays c.new-engine.result
+
+pub drive-requires-clause-begins : goal.drive-requires-clause-begins
+drive-requires-clause-begins g c = merge_begins_whole c.new-engine.result
+
+pub returns : goal.returns
+returns g c =
+    merge_writes (g.O.ChromOrder.order c.args.order.now) (g.met.O.ChromOrder.total c.args.order.now) g.A.Source.left g.A.Source.has_failed c.args.d c.args.strand c.new-engine.result c.new-engine.ensures.begun
+    c.args.first c.args.out.now (option_map told c.drive.result.0) c.drive.result.1 c.drive.new.out c.drive.ensures

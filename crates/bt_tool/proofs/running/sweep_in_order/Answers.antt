@@ -1,0 +1,10 @@
+use Rattle.bt_bed.specs.ByteOrder.{bytes_total}
+use Rattle.bt_bed.specs.GenomeTable.{names_of}
+use Rattle.bt_bed.specs.RankTotal.{ranks_total}
+use Rattle.bt_tool.proofs.running.sweep_in_order.Goals as goal
+
+pub sweep-requires-clause-total : goal.sweep-requires-clause-total
+sweep-requires-clause-total g c = ranks_total (names_of c.in-Some.genome)
+
+pub sweep-requires-in-None-clause-total : goal.sweep-requires-in-None-clause-total
+sweep-requires-in-None-clause-total g c = bytes_total

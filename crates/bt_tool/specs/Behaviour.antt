@@ -1,0 +1,114 @@
+-- What a command does with its inputs: the report on what they hand over, what the first lines of
+-- the first input settle and ask for, and which faults a line of each can have.
+use Rattle.std.specs.Prelude.{ℕ, Bool, List, [], Option, Some, None, unwrap_or}
+use Rattle.bt_lines.specs.Handed.{Handed, whole_text}
+use Rattle.bt_lines.specs.Lines.{TextLine}
+use Rattle.bt_lines.specs.declared.fault.Kind.{Kind}
+use Rattle.bt_bed.specs.ByteOrder.{byte_order}
+use Rattle.bt_bed.specs.Feature.{Feature}
+use Rattle.bt_bed.specs.Genome.{Entry, genome_names}
+use Rattle.bt_bed.specs.LineKind.{IsBedKind}
+use Rattle.bt_bed.specs.Order.{Order}
+use Rattle.bt_bed.specs.Rank.{rank_order}
+use Rattle.bt_seq.specs.SamKind.{is_sam_kind}
+use Rattle.bt_seq.specs.declared.mask_how.MaskHow.{MaskHow}
+use Rattle.bt_sweep.specs.declared.hit_rule.HitRule.{HitRule}
+use Rattle.bt_sweep.specs.declared.shape.Shape.{Shape}
+use Rattle.bt_tool.specs.Converted.{bamtobed_report, bamtobed_settles}
+use Rattle.bt_tool.specs.Kinds.{IsNoKind, IsOneOf}
+use Rattle.bt_tool.specs.Masked.{is_fasta_kind, is_mask_kind, mask_reaches, mask_report}
+use Rattle.bt_tool.specs.Masked.{mask_settles}
+use Rattle.bt_tool.specs.RecordReport.{Report, records_report, records_settle}
+use Rattle.bt_tool.specs.SweepReport.{intersect_reaches, intersect_report, intersect_settles}
+use Rattle.bt_tool.specs.SweepReport.{subtract_reaches, subtract_report, subtract_settles}
+use Rattle.bt_tool.specs.Written.{Written, complement_written, coverage_written, merge_written}
+use Rattle.bt_tool.specs.declared.plan_type.Command.{Command}
+use Rattle.bt_tool.specs.declared.plan_type.Command.TheVariants.{Merge, Complement, Intersect}
+use Rattle.bt_tool.specs.declared.plan_type.Command.TheVariants.{Subtract, Coverage, BamToBed}
+use Rattle.bt_tool.specs.declared.plan_type.Command.TheVariants.{MaskFasta}
+
+-- what a command does; a second input that it doesn't have isn't looked at
+pub record Behaviour : Type 1 where
+  -- the report on what the inputs hand over
+  pub report : Handed → Option Handed → Report
+  -- the bytes that the first lines of the first input settle
+  pub settles : Option Handed → List TextLine → List ℕ
+  -- how much of the second input these lines ask for: its bytes up to the first record that decides
+  -- all members among them
+  pub reaches : Option Handed → List TextLine → ℕ
+  -- the kinds of fault that a line of the first input can have, and one of the second
+  pub FirstKinds : Kind → Type 0
+  pub SecondKinds : Kind → Type 0
+
+-- an input that isn't there is as an empty one
+abbrev pub or_empty : Option Handed → Handed
+or_empty handed = unwrap_or handed (whole_text [])
+
+-- a command of one input of records, in an order of their chromosomes
+abbrev pub of_records : Order → Written Feature → Behaviour
+of_records order written = record {
+  report = λ first second. records_report written order first;
+  settles = λ second. records_settle written order;
+  reaches = λ second lines. 0;
+  FirstKinds = IsBedKind order;
+  SecondKinds = IsNoKind;
+}
+
+-- intersect, and what subtract does by the same records
+abbrev pub of_intersect : Order → Shape → HitRule → Behaviour
+of_intersect order shape rule = record {
+  report = λ first second. intersect_report order shape rule first (or_empty second);
+  settles = λ second. intersect_settles order shape rule (or_empty second);
+  reaches = λ second. intersect_reaches order (or_empty second);
+  FirstKinds = IsBedKind order;
+  SecondKinds = IsBedKind order;
+}
+
+abbrev pub of_subtract : Order → Bool → HitRule → Behaviour
+of_subtract order whole rule = record {
+  report = λ first second. subtract_report order whole rule first (or_empty second);
+  settles = λ second. subtract_settles order whole rule (or_empty second);
+  reaches = λ second. subtract_reaches order (or_empty second);
+  FirstKinds = IsBedKind order;
+  SecondKinds = IsBedKind order;
+}
+
+abbrev pub of_bamtobed : Bool → Bool → Behaviour
+of_bamtobed split cigar = record {
+  report = λ first second. bamtobed_report split cigar first;
+  settles = λ second. bamtobed_settles split cigar;
+  reaches = λ second lines. 0;
+  FirstKinds = IsOneOf is_sam_kind;
+  SecondKinds = IsNoKind;
+}
+
+abbrev pub of_maskfasta : MaskHow → Bool → Behaviour
+of_maskfasta how full = record {
+  report = λ first second. mask_report how full first (or_empty second);
+  settles = λ second. mask_settles how full (or_empty second);
+  reaches = λ second. mask_reaches full (or_empty second);
+  FirstKinds = IsOneOf is_fasta_kind;
+  SecondKinds = IsOneOf is_mask_kind;
+}
+
+-- the order in use: that of the genome file, where there is one, else that of the names' bytes
+abbrev pub order_of : Option (List Entry) → Order
+order_of None = byte_order
+order_of (Some entries) = rank_order (genome_names entries)
+
+-- the chromosomes of the genome file, of a command that has one
+abbrev pub entries_in : Option (List Entry) → List Entry
+entries_in chromosomes = unwrap_or chromosomes []
+
+-- what each command does, by the chromosomes of the genome file, where there is one
+abbrev pub behaviour_of : Command → Option (List Entry) → Behaviour
+behaviour_of (Merge d strand) chromosomes =
+    of_records (order_of chromosomes) (merge_written (order_of chromosomes) d strand)
+behaviour_of (Complement limit) chromosomes =
+    of_records (order_of chromosomes) (complement_written (entries_in chromosomes) limit)
+behaviour_of (Coverage zeros strand) chromosomes =
+    of_records (order_of chromosomes) (coverage_written (entries_in chromosomes) zeros strand)
+behaviour_of (Intersect shape rule) chromosomes = of_intersect (order_of chromosomes) shape rule
+behaviour_of (Subtract whole rule) chromosomes = of_subtract (order_of chromosomes) whole rule
+behaviour_of (BamToBed split cigar) chromosomes = of_bamtobed split cigar
+behaviour_of (MaskFasta how full) chromosomes = of_maskfasta how full

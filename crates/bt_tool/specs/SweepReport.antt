@@ -1,0 +1,72 @@
+-- The reports of intersect and subtract: what two inputs make them write, and how much of the
+-- second the first lines of the first ask for.
+use Rattle.std.specs.Prelude.{ℕ, Bool, List, [], ◌∷◌, take, Option, Some, None, if◌then◌else◌}
+use Rattle.std.specs.List.{list_all}
+use Rattle.bt_lines.specs.Fault.{Told}
+use Rattle.bt_lines.specs.Handed.{Handed}
+use Rattle.bt_lines.specs.Lines.{TextLine, bytes_in, text_lines}
+use Rattle.bt_lines.specs.declared.fault.Input.TheVariants.{First, Second}
+use Rattle.bt_bed.specs.Feature.{Feature}
+use Rattle.bt_bed.specs.Good.{Member, good, items_in}
+use Rattle.bt_bed.specs.GoodBed.{bed_format, bed_good}
+use Rattle.bt_bed.specs.Meeting.{Met}
+use Rattle.bt_bed.specs.Order.{Order}
+use Rattle.bt_bed.specs.Sorting.{sorting_of}
+use Rattle.bt_sweep.specs.Deciding.{decides}
+use Rattle.bt_sweep.specs.Lines.{intersect}
+use Rattle.bt_sweep.specs.Subtract.{subtract, subtract_shape}
+use Rattle.bt_sweep.specs.Sweeps.{intersect_met}
+use Rattle.bt_sweep.specs.declared.hit_rule.HitRule.{HitRule}
+use Rattle.bt_sweep.specs.declared.shape.Shape.{Shape}
+use Rattle.bt_tool.specs.RecordReport.{Report}
+
+-- the report on how two inputs meet
+abbrev pub met_report : Met ℕ Told → Report
+met_report met = record { output = met.lines; fault = met.fault }
+
+-- the report of intersect on its inputs, in an order of their chromosomes
+abbrev pub intersect_report : Order → Shape → HitRule → Handed → Handed → Report
+intersect_report order shape rule first second =
+    met_report (intersect_met order shape rule (bed_good First order first)
+    (bed_good Second order second))
+
+-- the good records on these lines of the first input
+abbrev pub records_on : Order → List TextLine → List Feature
+records_on order lines = items_in (good (bed_format (sorting_of order)) First lines)
+
+-- what the records on these lines make intersect write, against all of the second input
+abbrev pub intersect_settles : Order → Shape → HitRule → Handed → List TextLine → List ℕ
+intersect_settles order shape rule second lines =
+    intersect shape rule (records_on order lines) (items_in (bed_good Second order second))
+
+-- the report of subtract on its inputs: what is left in pieces, or of whole records
+abbrev pub subtract_report : Order → Bool → HitRule → Handed → Handed → Report
+subtract_report order whole rule = intersect_report order (subtract_shape whole) rule
+
+-- what is left of the records on these lines, by all of the second input
+abbrev pub subtract_settles : Order → Bool → HitRule → Handed → List TextLine → List ℕ
+subtract_settles order whole rule second lines =
+    subtract whole rule (records_on order lines) (items_in (bed_good Second order second))
+
+-- the first record that decides all of these, if there is one
+abbrev pub decider : Order → List Feature → List (Member Feature) → Option (Member Feature)
+decider order as_given [] = None
+decider order as_given (member ∷ members) =
+    if list_all (λ a. decides order a member.item) as_given then Some member
+    else decider order as_given members
+
+-- the bytes of the lines up to that of a member, or of all
+abbrev pub bytes_up_to : List TextLine → Option (Member Feature) → ℕ
+bytes_up_to lines None = bytes_in lines
+bytes_up_to lines (Some member) = bytes_in (take member.line lines)
+
+-- how much of the second input the records on these lines of the first ask for: its lines up to the
+-- first record that decides all of them
+abbrev pub intersect_reaches : Order → Handed → List TextLine → ℕ
+intersect_reaches order second lines =
+    bytes_up_to (text_lines second.text)
+    (decider order (records_on order lines) (bed_good Second order second).members)
+
+-- subtract asks for as much of it
+abbrev pub subtract_reaches : Order → Handed → List TextLine → ℕ
+subtract_reaches = intersect_reaches
