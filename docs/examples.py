@@ -8,7 +8,8 @@ An example is a block, indented by four spaces or more, that begins with `$ `: e
 folder for a page, and what it writes, standard error behind standard output, has to be what stands below it.
 Commands of blocks that begin with anything else aren't run. The first page of a crate is the comment at the head
 of its src/lib.rt, with the first function of src/example.rt, which is its test or is run by it; or the comment of
-its src/main.rt, with a shell example that is run in the crate's folder. Ends with 1 where one differs.
+its src/main.rt, with a shell example that is run in the crate's folder. The code of LIBRARY.md is that of the file
+named above it. Ends with 1 where one differs.
 """
 
 import os
@@ -22,6 +23,8 @@ TOP = Path(__file__).resolve().parent.parent
 COMMAND = re.compile(r"( {4,})\$ (.*)")
 # The example on a crate's first page, and the first function of a file.
 FIRST_PAGE = re.compile(r"^//! ```text\n(.*?)^//! ```$", re.MULTILINE | re.DOTALL)
+# A piece of code, with the file that it is from.
+CODE = re.compile(r"^\[[^\]]*\]\(([^)]*)\).*?\n```rust\n(.*?)^```$", re.MULTILINE | re.DOTALL)
 FUNCTION = re.compile(r"^fn .*?^\}\n", re.MULTILINE | re.DOTALL)
 
 
@@ -90,12 +93,23 @@ def check_library(page):
     return 1, 0 if is_test else 1
 
 
+def check_code():
+    """Compares each piece of code of LIBRARY.md with the file that is linked to above it."""
+    page = TOP / "docs" / "LIBRARY.md"
+    pieces = CODE.findall(page.read_text(encoding="utf-8"))
+    wrong = [name for name, code in pieces if code not in (page.parent / name).read_text(encoding="utf-8")]
+    for name in wrong:
+        print(f"{page.relative_to(TOP)}: its code isn't that of {name}")
+    return len(pieces), len(wrong)
+
+
 def main():
     pages = [Path(name).resolve() for name in sys.argv[1:]]
     counts = [check(page) for page in pages or [TOP / "README.md", *sorted((TOP / "docs").glob("*.md"))]]
     if not pages:
         counts += [check_program(page) for page in sorted(TOP.glob("crates/*/src/main.rt"))]
         counts += [check_library(page) for page in sorted(TOP.glob("crates/*/src/lib.rt"))]
+        counts.append(check_code())
     run, wrong = (sum(column) for column in zip(*counts))
     print(f"{run} examples, {wrong} of them differ")
     return 1 if wrong else 0
