@@ -9,8 +9,8 @@ NAME ?= dunekettle-bedtools
 
 # The version stands in CHANGELOG.md.
 VERSION := $(shell sed -n 's/^## //p' CHANGELOG.md | head -n 1)
-# A package of one commit is the same wherever it is made: its files have the commit's date.
-DATE := $(shell git log -1 --format=%ct 2> /dev/null || date +%s)
+# A package of one commit is the same each time: its files have the date of the commit, or without git of CHANGELOG.md.
+DATE := $(shell git log -1 --format=%ct 2> /dev/null || stat -c %Y CHANGELOG.md)
 DIST := dunekettle-$(VERSION)-$(shell uname -m)
 DEB = dunekettle-bedtools_$(VERSION)_$(shell dpkg --print-architecture).deb
 
@@ -68,9 +68,11 @@ check-program: $(PROGRAM)
 check-speed: $(PROGRAM)
 	bench/compare.py --check
 
-# The rows of docs/DIFFERENCES.md, tried with the program and with the bedtools 2.30.0 on PATH.
+# The rows of docs/DIFFERENCES.md and the scripts of docs/RECIPES.md, tried with the program and with the bedtools
+# 2.30.0 on PATH.
 check-differences: $(PROGRAM)
 	docs/differences.py
+	docs/recipes.py
 
 # What make install, make dist and make deb make, tried in folders of their own.
 check-packages: $(PROGRAM)

@@ -5,11 +5,14 @@
 
 A trial is one command line for each program, in a folder with the files below, and what each has to answer:
 standard output and exit status, and for ours standard error too. A row of a table has a trial of its name, and
-each trial has a row. Ends with 1 where one differs, and with 0 and a word where there is no such bedtools.
+each trial has a row. Each option that bedtools names in the help text of a command has a row in RECIPES.md, and the
+program knows it where that row begins with `the same`. Ends with 1 where one differs, and with 0 and a word where
+there is no such bedtools.
 """
 
 import base64
 import gzip
+import re
 import shutil
 import subprocess
 import sys
@@ -27,6 +30,7 @@ FILES = {
     "swapped.bed": "chr2\t0\t6\nchr1\t2\t6\n",
     "unsorted.bed": "chr1\t10\t12\nchr1\t2\t6\n",
     "unknown.bed": "chrX\t1\t5\n",
+    "bare.bed": "1\t1\t5\n",
     "heading.bed": "chrom\tstart\tend\nchr1\t2\t6\n",
     "varying.bed": "chr1\t2\t6\ta\nchr1\t4\t9\n",
     "empty_feature.bed": "chr1\t5\t5\nchr1\t7\t9\n",
@@ -52,6 +56,10 @@ FILES = {
     "stray.fa": "ACGT\n>s\nAC\n",
     "s.fa": ">s\nACGT\n",
     "strands.bed": "chr9\t0\t50\ta\t0\t+\nchr9\t20\t30\tb\t0\t-\nchr10\t0\t6\tc\t0\t-\nchr10\t5\t8\td\t0\t-\n",
+    "natural.bed": "chr2\t0\t6\nchr10\t2\t6\n",
+    "nameless.bed": "\t2\t6\n",
+    "long.bed": "chr1\t0\t100000\n",
+    "bins.bed": "chr1\t30000\t300000\nchr1\t60000\t60010\n",
     "natural.txt": "chr9\t100\nchr10\t100\n",
     "no_strand.bed": "chr1\t2\t6\ta\t0\t.\n",
     "reads.sam": "@SQ\tSN:ref\tLN:45\nr004\t0\tref\t16\t30\t6M14N5M\t*\t0\t0\tATAGCTTCAGC\t*\n",
@@ -83,72 +91,95 @@ class Trial:
 # The row, their command, its output and status; our command, its output, error and status.
 TRIALS = [
     Trial("full disk", "merge -i f.bed > /dev/full", "", 0,
-          "merge -i f.bed -g g.txt > /dev/full", "", "bedtools merge: writing failed\n", 1),
+          "merge -i f.bed > /dev/full", "", "bedtools merge: writing failed\n", 1),
     Trial("reader goes away", "intersect -a many.bed -b f.bed -u | head -n 1; exit ${PIPESTATUS[0]}", "chr1\t2\t6\n", 141,
-          "intersect -a many.bed -b f.bed -g g.txt -u | head -n 1; exit ${PIPESTATUS[0]}", "chr1\t2\t6\n",
+          "intersect -a many.bed -b f.bed -u | head -n 1; exit ${PIPESTATUS[0]}", "chr1\t2\t6\n",
           "bedtools intersect: writing failed\n", 1),
     Trial("directory as input", "merge -i .", "", 134,
-          "merge -i . -g g.txt", "", "bedtools merge: .:1: reading failed\n", 1),
+          "merge -i .", "", "bedtools merge: .:1: reading failed\n", 1),
     Trial("closed standard input", "complement -i - -g g.txt <&-", "chr1\t0\t20\nchr2\t0\t8\n", 0,
           "complement -i - -g g.txt <&-", "", "bedtools complement: -:1: reading failed\n", 1),
     Trial("standard input named twice", "intersect -a - -b - < f.bed", "", 0,
-          "intersect -a - -b - -g g.txt < f.bed", "", "bedtools: standard input named twice\n", 2),
+          "intersect -a - -b - < f.bed", "", "bedtools: standard input named twice\n", 2),
     Trial("order of chromosomes", "merge -i swapped.bed", "chr2\t0\t6\nchr1\t2\t6\n", 0,
-          "merge -i swapped.bed -g g.txt", "", "bedtools merge: swapped.bed:2: record is out of order\n", 1),
-    Trial("genome file", "merge -i f.bed", MERGED, 0,
-          "merge -i f.bed", "", "bedtools: required option missing\n", 2),
-    Trial("unknown chromosome", "intersect -a unknown.bed -b f.bed", "", 0,
+          "merge -i swapped.bed", "", "bedtools merge: swapped.bed:2: record is out of order\n", 1),
+    Trial("order of chromosomes with `-sorted`", "intersect -sorted -a natural.bed -b natural.bed", FILES["natural.bed"], 0,
+          "intersect -sorted -a natural.bed -b natural.bed", "",
+          "bedtools intersect: natural.bed:2: record is out of order\n", 1),
+    Trial("`-g` without `-sorted`", "intersect -a swapped.bed -b swapped.bed -g g.txt", FILES["swapped.bed"], 0,
+          "intersect -a swapped.bed -b swapped.bed -g g.txt", "",
+          "bedtools intersect: swapped.bed:2: record is out of order\n", 1),
+    Trial("unknown chromosome", "intersect -sorted -a unknown.bed -b f.bed -g g.txt", "", 1,
           "intersect -a unknown.bed -b f.bed -g g.txt", "",
           "bedtools intersect: unknown.bed:1: chromosome is not in the genome file\n", 1),
+    Trial("unknown chromosome", "intersect -a f.bed -b bare.bed -g g.txt", "", 1,
+          "intersect -a f.bed -b bare.bed -g g.txt", "",
+          "bedtools intersect: bare.bed:1: chromosome is not in the genome file\n", 1),
+    Trial("unknown chromosome", "intersect -a f.bed -b bare.bed", "", 0, "intersect -a f.bed -b bare.bed", "", "", 0),
     Trial("chromosome repeated in the genome file", "complement -i f.bed -g twice.txt",
           "chr1\t0\t2\nchr1\t9\t14\nchr1\t17\t30\nchr1\t0\t30\n", 0,
           "complement -i f.bed -g twice.txt", "", "bedtools complement: twice.txt:2: chromosome is repeated\n", 1),
     Trial("comment with a tab in the genome file", "complement -i f.bed -g comment.txt", "", 1,
           "complement -i f.bed -g comment.txt", GAPS, "", 0),
+    Trial("empty chromosome name", "intersect -a nameless.bed -b nameless.bed", FILES["nameless.bed"], 0,
+          "intersect -a nameless.bed -b nameless.bed", "",
+          "bedtools intersect: nameless.bed:1: empty chromosome name\n", 1),
     Trial("compressed input", "merge -i f.bed.gz", MERGED, 0,
-          "merge -i f.bed.gz -g g.txt", "", "bedtools merge: f.bed.gz:1: too few columns\n", 1),
+          "merge -i f.bed.gz", "", "bedtools merge: f.bed.gz:1: too few columns\n", 1),
     Trial("GFF, VCF and BAM as input", "merge -i gff.gff", "chr1\t2\t6\n", 0,
-          "merge -i gff.gff -g g.txt", "", "bedtools merge: gff.gff:1: start is not a number\n", 1),
+          "merge -i gff.gff", "", "bedtools merge: gff.gff:1: start is not a number\n", 1),
     Trial("first line that begins with `chrom`", "merge -i heading.bed", "chr1\t2\t6\n", 0,
-          "merge -i heading.bed -g g.txt", "", "bedtools merge: heading.bed:1: start is not a number\n", 1),
+          "merge -i heading.bed", "", "bedtools merge: heading.bed:1: start is not a number\n", 1),
     Trial("numbers of columns that vary", "intersect -a varying.bed -b varying.bed -u", "", 1,
-          "intersect -a varying.bed -b varying.bed -g g.txt -u", FILES["varying.bed"], "", 0),
+          "intersect -a varying.bed -b varying.bed -u", FILES["varying.bed"], "", 0),
     Trial("feature without a base", "merge -i empty_feature.bed", "chr1\t5\t5\nchr1\t7\t9\n", 0,
-          "merge -i empty_feature.bed -g g.txt", "", "bedtools merge: empty_feature.bed:1: start is not below end\n", 1),
+          "merge -i empty_feature.bed", "", "bedtools merge: empty_feature.bed:1: start is not below end\n", 1),
     Trial("blank line that ends with CR", "merge -i crlf.bed", "", 1,
-          "merge -i crlf.bed -g g.txt", "chr1\t2\t6\nchr1\t8\t9\n", "", 0),
+          "merge -i crlf.bed", "chr1\t2\t6\nchr1\t8\t9\n", "", 0),
     Trial("numbers above 999,999,999,999", "merge -i large.bed", "chr1\t1\t9999999999999\n", 0,
-          "merge -i large.bed -g g.txt", "", "bedtools merge: large.bed:1: end is not a number\n", 1),
+          "merge -i large.bed", "", "bedtools merge: large.bed:1: end is not a number\n", 1),
     Trial("exit statuses", "merge -q > /dev/null", "", 1, "merge -q", "", "bedtools: unknown option: -q\n", 2),
     Trial("help", "--help > /dev/null", "", 0, "--help", "", "bedtools: no or unknown command\n", 2),
     Trial("`-s` without a strand in merge", "merge -i no_strand.bed -s", "", 0,
-          "merge -i no_strand.bed -g g.txt -s", "chr1\t2\t6\n", "", 0),
+          "merge -i no_strand.bed -s", "chr1\t2\t6\n", "", 0),
     Trial("`-s` behind a change of chromosome", "merge -i strands.bed -s",
           "chr9\t0\t50\nchr10\t0\t6\nchr9\t20\t30\nchr10\t5\t8\n", 0,
           "merge -i strands.bed -g natural.txt -s", "chr9\t0\t50\nchr9\t20\t30\nchr10\t0\t8\n", "", 0),
     Trial("negative `-d`", "merge -i f.bed -d -3", "chr1\t2\t6\nchr1\t4\t9\nchr1\t14\t17\n", 0,
-          "merge -i f.bed -g g.txt -d -3", "", "bedtools: bad value: -d\n", 2),
+          "merge -i f.bed -d -3", "", "bedtools: bad value: -d\n", 2),
     Trial("gap past the chromosome's length", "complement -i past.bed -g g.txt", "chr1\t0\t25\nchr2\t0\t8\n", 0,
           "complement -i past.bed -g g.txt", "chr1\t0\t20\nchr2\t0\t8\n", "", 0),
     Trial("features in the wrong order", "complement -i unsorted.bed -g g.txt", "", 1,
           "complement -i unsorted.bed -g g.txt", "chr1\t0\t10\n",
           "bedtools complement: unsorted.bed:2: record is out of order\n", 1),
-    Trial("blank line with `-sorted`", "intersect -sorted -a blank.bed -b blank.bed -g g.txt", "chr1\t2\t6\n", 0,
-          "intersect -sorted -a blank.bed -b blank.bed -g g.txt", "chr1\t2\t6\nchr1\t8\t9\n", "", 0),
-    Trial("second input out of order with `-sorted`", "intersect -sorted -a one.bed -b late.bed -g g.txt -u", "", 0,
-          "intersect -sorted -a one.bed -b late.bed -g g.txt -u", "", "bedtools intersect: late.bed:2: record is out of order\n", 1),
+    Trial("blank line with `-sorted`", "intersect -sorted -a blank.bed -b blank.bed", "chr1\t2\t6\n", 0,
+          "intersect -sorted -a blank.bed -b blank.bed", "chr1\t2\t6\nchr1\t8\t9\n", "", 0),
+    Trial("second input out of order with `-sorted -g`", "intersect -sorted -a one.bed -b late.bed -u -g g.txt", "", 0,
+          "intersect -sorted -a one.bed -b late.bed -u -g g.txt", "", "bedtools intersect: late.bed:2: record is out of order\n", 1),
     Trial("fraction", "intersect -a three.bed -b one.bed -f 0.333333334", "chr1\t0\t1\n", 0,
-          "intersect -a three.bed -b one.bed -g g.txt -f 0.333333334", "", "", 0),
+          "intersect -a three.bed -b one.bed -f 0.333333334", "", "", 0),
     Trial("fraction of 0", "intersect -a three.bed -b one.bed -f 0 > /dev/null", "", 1,
-          "intersect -a three.bed -b one.bed -g g.txt -f 0", "chr1\t0\t1\n", "", 0),
+          "intersect -a three.bed -b one.bed -f 0", "chr1\t0\t1\n", "", 0),
     Trial("fraction with an exponent", "intersect -a three.bed -b one.bed -f 1e-9", "chr1\t0\t1\n", 0,
-          "intersect -a three.bed -b one.bed -g g.txt -f 1e-9", "", "bedtools: bad value: -f\n", 2),
+          "intersect -a three.bed -b one.bed -f 1e-9", "", "bedtools: bad value: -f\n", 2),
     Trial("`-s` without a strand", "intersect -a no_strand.bed -b no_strand.bed -s", "", 0,
-          "intersect -a no_strand.bed -b no_strand.bed -g g.txt -s", FILES["no_strand.bed"], "", 0),
+          "intersect -a no_strand.bed -b no_strand.bed -s", FILES["no_strand.bed"], "", 0),
+    Trial("order of hits without `-sorted`", "intersect -a long.bed -b bins.bed", "chr1\t60000\t60010\nchr1\t30000\t100000\n", 0,
+          "intersect -a long.bed -b bins.bed", "chr1\t30000\t100000\nchr1\t60000\t60010\n", "", 0),
+    Trial("two shapes at once", "intersect -a one.bed -b three.bed -u -wb", "chr1\t0\t1\n", 0,
+          "intersect -a one.bed -b three.bed -u -wb", "", "bedtools: options exclude one another\n", 2),
+    Trial("two shapes at once", "intersect -a one.bed -b three.bed -wa -wb -u", "chr1\t0\t1\n", 0,
+          "intersect -a one.bed -b three.bed -wa -wb -u", "", "bedtools: options exclude one another\n", 2),
+    Trial("two shapes at once", "intersect -a one.bed -b at_five.bed -v -wb", "chr1\t0\t1\n", 0,
+          "intersect -a one.bed -b at_five.bed -v -wb", "", "bedtools: options exclude one another\n", 2),
+    Trial("two shapes at once", "intersect -a one.bed -b at_five.bed -v -wo", "chr1\t0\t1\n", 0,
+          "intersect -a one.bed -b at_five.bed -v -wo", "", "bedtools: options exclude one another\n", 2),
+    Trial("two shapes at once", "intersect -a one.bed -b three.bed -c -v", "chr1\t0\t1\t1\n", 0,
+          "intersect -a one.bed -b three.bed -c -v", "", "bedtools: options exclude one another\n", 2),
     Trial("fraction in subtract", "subtract -a three.bed -b one.bed -f 0.333333334", "chr1\t1\t3\n", 0,
-          "subtract -a three.bed -b one.bed -g g.txt -f 0.333333334", "chr1\t0\t3\n", "", 0),
+          "subtract -a three.bed -b one.bed -f 0.333333334", "chr1\t0\t3\n", "", 0),
     Trial("`-s` without a strand in subtract", "subtract -a no_strand.bed -b no_strand.bed -s", FILES["no_strand.bed"], 0,
-          "subtract -a no_strand.bed -b no_strand.bed -g g.txt -s", "", "", 0),
+          "subtract -a no_strand.bed -b no_strand.bed -s", "", "", 0),
     Trial("histogram", "genomecov -i f.bed -g g.txt | sed -n 1p; exit ${PIPESTATUS[0]}", "chr1\t0\t10\t20\t0.5\n", 0,
           "genomecov -i f.bed -g g.txt", "", "bedtools: required option missing\n", 2),
     Trial("order within a chromosome", "genomecov -bg -i unsorted.bed -g g.txt", "chr1\t2\t6\t1\nchr1\t10\t12\t1\n", 0,
@@ -169,7 +200,7 @@ TRIALS = [
     Trial("`-strand` without a strand", "genomecov -bg -i f.bed -g g.txt -strand +", "", 1,
           "genomecov -bg -i f.bed -g g.txt -strand +", "", "", 0),
     Trial("depth of 1,000,000 and more", "genomecov -bg -i pile.bed -g g.txt", "chr1\t2\t6\t1.00001e+06\n", 0,
-          "genomecov -bg -i some.bed -g g.txt", "chr1\t2\t6\t10000\n", "", 0),
+          "genomecov -bg -i pile.bed -g g.txt", "chr1\t2\t6\t1000010\n", "", 0),
     Trial("memory", "(ulimit -v 500000; {} genomecov -bg -i f.bed -g large.txt)", "", 134,
           "(ulimit -v 500000; {} genomecov -bg -i f.bed -g large.txt)",
           "chr1\t2\t4\t1\nchr1\t4\t6\t2\nchr1\t6\t9\t1\nchr1\t14\t17\t1\n", "", 0),
@@ -223,15 +254,10 @@ TRIALS += [
           "maskfasta -fi two.fa -bed at_five.bed", "", "bedtools maskfasta: at_five.bed:1: start is not below end\n", 1),
 ]
 
-# The options that aren't there, each with words that bedtools takes or knows.
-ABSENT = {
-    "merge": ["-c", "-o", "-header"],
-    "complement": ["-header"],
-    "intersect": ["-S", "-F", "-e", "-loj", "-wao", "-split", "-names", "-filenames", "-header"],
-    "subtract": ["-S", "-F", "-e", "-N", "-wb", "-wo", "-r", "-split", "-header"],
-    "genomecov": ["-d", "-dz", "-split", "-scale", "-max", "-5", "-3", "-trackline", "-ibam", "-pc", "-fs", "-du"],
-    "bamtobed": ["-bedpe", "-bed12", "-splitD", "-tag", "-ed", "-color"],
-}
+COMMANDS = ("merge", "complement", "intersect", "subtract", "genomecov", "bamtobed", "maskfasta")
+# An option in a help text: at the begin of a line behind a tab, or behind `[OPTIONS]`.
+NAMED = re.compile(r"^\t(-\w+)", re.MULTILINE)
+INPUTS = re.compile(r"(-\w+) <")
 
 
 def ran(program, command, folder):
@@ -249,7 +275,6 @@ def fill(folder):
     Path(folder, "f.bed.gz").write_bytes(gzip.compress(FILES["f.bed"].encode()))
     Path(folder, "at_zero.bam").write_bytes(base64.b64decode(AT_ZERO))
     Path(folder, "many.bed").write_text("chr1\t2\t6\n" * 100_000, encoding="utf-8")
-    Path(folder, "some.bed").write_text("chr1\t2\t6\n" * 10_000, encoding="utf-8")
     Path(folder, "pile.bed").write_text("chr1\t2\t6\n" * 1_000_010, encoding="utf-8")
 
 
@@ -273,6 +298,39 @@ def rows_of(page):
     return rows
 
 
+def their_options(theirs, command):
+    """The options that bedtools names in the help text of a command."""
+    _, text, _ = ran(theirs, f"{command} -h", ".")
+    usage = next(line for line in text.splitlines() if line.startswith("Usage:"))
+    return set(INPUTS.findall(usage)) | set(NAMED.findall(text))
+
+
+def rows_of_options(page, command):
+    """What the table of a command says of each option."""
+    section = page.split(f"\n## {command}\n", 1)[1].split("\n## ", 1)[0]
+    rows = {}
+    for line in section.splitlines():
+        if line.startswith("| `-"):
+            options, what = line.strip("| ").split(" | ", 1)
+            rows.update((option, what) for option in re.findall(r"`(-\w+)`", options))
+    return rows
+
+
+def options_differ(theirs, command, folder):
+    """How many options of bedtools have no row, or one that isn't true of the program."""
+    rows = rows_of_options((HERE / "RECIPES.md").read_text(encoding="utf-8"), command)
+    named = their_options(theirs, command)
+    for option in sorted(named - set(rows)):
+        print(f"RECIPES.md: no row for {option} of {command}")
+    wrong = len(named - set(rows))
+    for option, what in rows.items():
+        unknown = ran(OURS, f"{command} {option}", folder)[1] == f"bedtools: unknown option: {option}\n"
+        if unknown == what.startswith("the same"):
+            print(f"RECIPES.md: {option} of {command} is {'unknown' if unknown else 'known'}, and its row says: {what}")
+            wrong += 1
+    return wrong
+
+
 def main():
     theirs = shutil.which("bedtools")
     if not theirs or "v2.30.0" not in ran(theirs, "--version", ".")[0]:
@@ -282,12 +340,7 @@ def main():
     with tempfile.TemporaryDirectory() as folder:
         fill(folder)
         wrong += sum(differs(trial, theirs, folder) for trial in TRIALS)
-        for command, options in ABSENT.items():
-            for option in options:
-                answer = ran(OURS, f"{command} {option}", folder)
-                if answer != ("", f"bedtools: unknown option: {option}\n", 2):
-                    wrong += 1
-                    print(f"{command} {option}: {answer}")
+        wrong += sum(options_differ(theirs, command, folder) for command in COMMANDS)
     rows = rows_of((HERE / "DIFFERENCES.md").read_text(encoding="utf-8"))
     untried = sorted(set(rows) ^ {trial.row for trial in TRIALS})
     for row in untried:

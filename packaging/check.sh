@@ -18,7 +18,6 @@ expect() {
 }
 has() { command -v "$1" > /dev/null || { echo "no $1: passed over"; return 1; }; }
 records() { printf 'chr1\t2\t6\nchr1\t4\t9\n'; }
-genome() { printf 'chr1\t20\n'; }
 
 # Words that a shell offers for a begun command line, in one line.
 in_bash() {
@@ -35,7 +34,7 @@ in_zsh() { # what zsh shows behind a tab
 
 share=$folder/there/share
 make --silent install DESTDIR= PREFIX="$folder/there" NAME=trial-tools
-expect "the installed program" "chr1	2	9" "$(records | "$folder/there/bin/trial-tools" merge -g <(genome))"
+expect "the installed program" "chr1	2	9" "$(records | "$folder/there/bin/trial-tools" merge)"
 expect "the docs of an installation" "yes" "$([ -f "$share/doc/trial-tools/docs/ERRORS.md" ] && echo yes)"
 if has man; then
     page=$(MANWIDTH=80 man -l "$share/man/man1/trial-tools.1" | col -b)
@@ -62,7 +61,7 @@ tar -C "$folder" -xzf "$tarball"
 unpacked=$folder/$(basename "$tarball" .tar.gz)
 expect "the checksums in the tarball" "yes" "$(cd "$unpacked" && sha256sum --quiet -c SHA256SUMS && echo yes)"
 expect "each file has one" "$(cd "$unpacked" && find . -type f | wc -l)" "$(($(wc -l < "$unpacked/SHA256SUMS") + 1))"
-expect "the program in the tarball" "chr1	2	9" "$(records | "$unpacked/bin/dunekettle-bedtools" merge -g <(genome))"
+expect "the program in the tarball" "chr1	2	9" "$(records | "$unpacked/bin/dunekettle-bedtools" merge)"
 sum=$(cat "$tarball.sha256")
 make --silent dist > /dev/null
 expect "the same tarball once more" "$sum" "$(cat "$tarball.sha256")"
@@ -76,7 +75,7 @@ if has dpkg-deb; then
     echo other > "$root/usr/bin/bedtools"
     debian() { dpkg --root="$root" --force-not-root --force-depends --log=/dev/null "$@" > "$folder/said.txt" 2>&1; }
     debian --install "$package"
-    expect "the package's program" "chr1	2	9" "$(records | "$root/usr/bin/dunekettle-bedtools" merge -g <(genome))"
+    expect "the package's program" "chr1	2	9" "$(records | "$root/usr/bin/dunekettle-bedtools" merge)"
     expect "bedtools beside it" "other" "$(cat "$root/usr/bin/bedtools")"
     expect "its files are whole" "" "$(cd "$root" && md5sum --quiet -c var/lib/dpkg/info/dunekettle-bedtools.md5sums)"
     debian --purge dunekettle-bedtools
