@@ -22,8 +22,7 @@ use Rattle.bt_bed.specs.Together.{has_records}
 use Rattle.bt_bed.proofs.NameLemmas.{name_ne-sym}
 use Rattle.bt_bed.proofs.TogetherLemmas.{placed_front}
 use Rattle.bt_runs.specs.Settling.{Settles}
-use Rattle.bt_runs.proofs.Keys.{AllCompare, all_after, all_before}
-use Rattle.bt_runs.proofs.Standing.{Arrives, GoesTo, NoneOn, Stand, begins_at, elsewhere_of, goes, last_rank, none_at_first, stand_at}
+use Rattle.bt_runs.proofs.Standing.{AllCompare, all_after, all_before, Arrives, GoesTo, NoneOn, Stand, begins_at, elsewhere_of, goes, last_rank, none_at_first, stand_at}
 
 -- what an engine says of its items: K are the chromosomes, T the items, and S is what is open on a chromosome
 pub record Form (K T S : Type 0) : Type 0 where

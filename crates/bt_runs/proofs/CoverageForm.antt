@@ -14,9 +14,9 @@ use Rattle.bt_runs.specs.DepthStep.{Known, depth_walk, known_by, known_with, lev
 use Rattle.bt_runs.specs.Levels.{Level, levels_of}
 use Rattle.bt_runs.proofs.ByChromosome.{Divides, NoRecords, Owes, Written, picks_by}
 use Rattle.bt_runs.proofs.DepthLemmas.{counted_elsewhere, counted_here, counted_append, counted_none}
-use Rattle.bt_runs.proofs.Keys.{compare_same}
+use Rattle.bt_runs.proofs.Standing.{compare_same}
 use Rattle.bt_runs.proofs.OneDepth.{bare_levels, known_at, known_first, known_next, left_end, settled_and_left, settled_at, settled_end, settled_first, settled_next, start_same, with_counted}
-use Rattle.bt_runs.proofs.ScanLemmas.{StopIn}
+use Rattle.bt_runs.proofs.LevelLemmas.{StopIn}
 use Rattle.bt_runs.proofs.Walks.{Walked, form_of}
 
 -- the counted records of a chromosome, with one more on it

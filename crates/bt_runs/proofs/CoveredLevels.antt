@@ -19,13 +19,10 @@ use Rattle.bt_runs.specs.Gaps.{complement, gaps_of, gaps_on, is_asked}
 use Rattle.bt_runs.specs.Levels.{AreDisjointFrom, DiffersFromNext, HasValue, Level}
 use Rattle.bt_runs.specs.Levels.{level_on, levels_of}
 use Rattle.bt_runs.specs.Merged.{Bridged, is_bridged, is_covered, runs_of}
-use Rattle.bt_runs.proofs.Bareness.{are_gaps, is_bare-Decides}
-use Rattle.bt_runs.proofs.Bridging.{are_runs, covered_below_end, is_bridged-Decides}
-use Rattle.bt_runs.proofs.Bridging.{is_covered-Decides}
+use Rattle.bt_runs.proofs.OneGap.{are_gaps, is_bare-Decides}
+use Rattle.bt_runs.proofs.Bridging.{are_runs, covered_below_end, is_bridged-Decides, is_covered-Decides, bridged_here}
 use Rattle.bt_runs.proofs.EachLemmas.{each_all, filter_keeps}
-use Rattle.bt_runs.proofs.LevelLemmas.{are_levels, levels_of_stretches, looser, next_differs}
-use Rattle.bt_runs.proofs.LevelLemmas.{only_levels, value_one}
-use Rattle.bt_runs.proofs.OneOpen.{bridged_here}
+use Rattle.bt_runs.proofs.LevelLemmas.{are_levels, levels_of_stretches, looser, next_differs, only_levels, value_one}
 
 -- the merged runs
 pub runs_levels : runs_are_levels
@@ -99,41 +96,22 @@ has value l = l.value == value
 kept_has : (value : ℕ) (ls : List Level) (p v : ℕ) → HasValue (filter (has value) ls) p v
     → HasValue ls p v × (value ≡ v)
 kept_has value [] p v h = absurd h
-kept_has value (l ∷ ls) p v h =
-    let rest = filter (has value) ls in
-    elim (cases_Bool (has value l)) [
-      | inl t ↦
-          let all : HasValue (l ∷ rest) p v =
-          subst (λ xs. HasValue xs p v) (cond-true (has value l) (l ∷ rest) rest t) h in
-          elim all [
-            | inl w ↦ (inl w, sym (eqb-true l.value value t) ∙ w.2)
-            | inr w ↦ let r = kept_has value ls p v w in (inr r.0, r.1)
-          ]
-      | inr f ↦
-          let is = cond-false (has value l) (l ∷ rest) rest f in
-          let r = kept_has value ls p v (subst (λ xs. HasValue xs p v) is h) in
-          (inr r.0, r.1)
-    ]
+kept_has value (l ∷ ls) p v h = elim (cases_Bool (has value l)) [
+  | inl t ↦ elim (rw t at h) [
+    | inl w ↦ (inl w, sym (eqb-true l.value value t) ∙ w.2)
+    | inr w ↦ let r = kept_has value ls p v w in (inr r.0, r.1)
+  ]
+  | inr f ↦ let r = kept_has value ls p v (rw f at h) in (inr r.0, r.1)
+]
 
 has_kept : (value : ℕ) (ls : List Level) (p : ℕ) → HasValue ls p value
     → HasValue (filter (has value) ls) p value
 has_kept value [] p h = absurd h
-has_kept value (l ∷ ls) p h =
-    let rest = filter (has value) ls in
-    elim (cases_Bool (has value l)) [
-      | inl t ↦
-          let is = cond-true (has value l) (l ∷ rest) rest t in
-          let all : HasValue (l ∷ rest) p value =
-          elim h [ inl w ↦ inl w | inr w ↦ inr (has_kept value ls p w) ] in
-          subst (λ xs. HasValue xs p value) (sym is) all
-      | inr f ↦
-          let is = cond-false (has value l) (l ∷ rest) rest f in
-          let some : HasValue rest p value = elim h [
-            | inl w ↦ let t = eq-eqb l.value value w.2 in absurd (cc)
-            | inr w ↦ has_kept value ls p w
-          ] in
-          subst (λ xs. HasValue xs p value) (sym is) some
-    ]
+has_kept value (l ∷ ls) p (inl w) = rw (eq-eqb l.value value w.2) (inl w)
+has_kept value (l ∷ ls) p (inr w) = elim (cases_Bool (has value l)) [
+  | inl t ↦ rw t (inr (has_kept value ls p w))
+  | inr f ↦ rw f (has_kept value ls p w)
+]
 
 -- an interval differs from the next where its value isn't found at its stop
 differs_from : (first : ℕ) (l : Level) (ms : List Level) → (HasValue ms l.stop l.value → ⊥)
@@ -150,16 +128,10 @@ kept_disjoint value first (l ∷ ls) d =
     let behind = kept_disjoint value l.stop ls d.3 in
     elim (cases_Bool (has value l)) [
       | inl t ↦
-          let is = cond-true (has value l) (l ∷ rest) rest t in
           let none : HasValue rest l.stop l.value → ⊥ = λ h.
           next_differs l ls d.2 d.3 (kept_has value ls l.stop l.value h).0 in
-          let all : AreDisjointFrom first (l ∷ rest) =
-          (d.0, d.1, differs_from l.stop l rest none behind, behind) in
-          subst (λ xs. AreDisjointFrom first xs) (sym is) all
-      | inr f ↦
-          let is = cond-false (has value l) (l ∷ rest) rest f in
-          subst (λ xs. AreDisjointFrom first xs) (sym is)
-          (looser l.stop first rest (omega (arith, d.0, d.1)) behind)
+          rw t (d.0, d.1, differs_from l.stop l rest none behind, behind)
+      | inr f ↦ rw f (looser l.stop first rest (omega (arith, d.0, d.1)) behind)
     ]
 
 -- depth 0 is that of the bare positions
@@ -209,19 +181,10 @@ places_kept : (name : List ℕ) (ls : List Level)
     ≡ map (level_place name) (filter (has 0) ls)
 unfolding no_depth level_place
 places_kept name [] = refl
-places_kept name (l ∷ ls) =
-    let some = filter no_depth (map (depth_on name) ls) in
-    let rest = filter (has 0) ls in
-    elim (cases_Bool (has 0 l)) [
-      | inl t ↦
-          ap (map interval_at) (cond-true (has 0 l) (depth_on name l ∷ some) some t)
-          ∙ ap (λ xs. level_place name l ∷ xs) (places_kept name ls)
-          ∙ ap (map (level_place name)) (sym (cond-true (has 0 l) (l ∷ rest) rest t))
-      | inr f ↦
-          ap (map interval_at) (cond-false (has 0 l) (depth_on name l ∷ some) some f)
-          ∙ places_kept name ls
-          ∙ ap (map (level_place name)) (sym (cond-false (has 0 l) (l ∷ rest) rest f))
-    ]
+places_kept name (l ∷ ls) = elim (cases_Bool (has 0 l)) [
+  | inl t ↦ rw t (ap (λ xs. level_place name l ∷ xs) (places_kept name ls))
+  | inr f ↦ rw f (places_kept name ls)
+]
 
 places_of_spans : (name : List ℕ) (spans : List Span)
     → map (level_place name) (map (level_on 0) spans) ≡ map (placed_on name) spans

@@ -5,7 +5,7 @@ use Rattle.bt_runs.specs.Depth.{depth_of, reported}
 use Rattle.bt_runs.specs.DepthStep.{still_open}
 use Rattle.bt_runs.specs.Levels.{Begun, Level, begun_after, ended_after, next_begun, next_ended}
 use Rattle.bt_runs.proofs.OpenLemmas.{all_open, walk_depth}
-use Rattle.bt_runs.proofs.ScanLemmas.{begun_run, begun_split, ended_run, ended_split}
+use Rattle.bt_runs.proofs.LevelLemmas.{begun_run, begun_split, ended_run, ended_split}
 
 -- the depth of the positions from one up to the next at which a record ends
 module _ (zeros : Bool) (at position : ℕ) (first now : List Span) (low : at ≤ position) (same : still_open position now ≡ still_open position first) (started : All (λ s. s.start ≤ at) now) (value : Option ℕ) (is : value ≡ reported zeros (length (still_open (position + 1) now))) where

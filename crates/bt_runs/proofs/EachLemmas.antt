@@ -1,5 +1,5 @@
 -- What holds of each element of a list, or of some.
-use Rattle.std.proofs.Common.{◌≡◌, ◌⊎◌, inl, inr, List, [], ◌∷◌, ◌++◌, refl, sym, ap, ap₂, ◌∙◌, map, filter, cond, Bool, true, false, ◌||◌}
+use Rattle.std.proofs.Common.{◌≡◌, ◌⊎◌, inl, inr, List, [], ◌∷◌, ◌++◌, refl, ap, ap₂, ◌∙◌, map, filter, cond, Bool, true, false, ◌||◌}
 use Rattle.std.specs.List.{AllByRecursion, list_any}
 use Rattle.std.proofs.lemmas.Bool.{cases_Bool, cond-true, cond-false, or_left, or_right, or_from, or_cases}
 
@@ -125,16 +125,10 @@ filter_passes {A} test (x ∷ xs) =
 -- a filter of changed elements, where the change doesn't change the test
 pub filter_changed : {A : Type 0} (f : A → A) (test : A → Bool) (xs : List A) → Each (λ x. test (f x) ≡ test x) xs → filter test (map f xs) ≡ map f (filter test xs)
 filter_changed f test [] e = refl
-filter_changed {A} f test (x ∷ xs) e =
-    let rest = filter_changed f test xs e.1 in
-    elim (cases_Bool (test x)) [
-      | inl t ↦
-          cond-true (test (f x)) (f x ∷ filter test (map f xs)) (filter test (map f xs)) (e.0 ∙ t)
-          ∙ ap (λ l. f x ∷ l) rest ∙ ap (map f) (sym (cond-true (test x) (x ∷ filter test xs) (filter test xs) t))
-      | inr n ↦
-          cond-false (test (f x)) (f x ∷ filter test (map f xs)) (filter test (map f xs)) (e.0 ∙ n)
-          ∙ rest ∙ ap (map f) (sym (cond-false (test x) (x ∷ filter test xs) (filter test xs) n))
-    ]
+filter_changed f test (x ∷ xs) e = elim (cases_Bool (test x)) [
+  | inl t ↦ rw (e.0, t) (ap (λ l. f x ∷ l) (filter_changed f test xs e.1))
+  | inr n ↦ rw (e.0, n) (filter_changed f test xs e.1)
+]
 
 -- a change that leaves each element
 pub map_leaves : {A : Type 0} (f : A → A) (xs : List A) → Each (λ x. f x ≡ x) xs → map f xs ≡ xs

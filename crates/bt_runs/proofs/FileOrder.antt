@@ -16,7 +16,7 @@ use Rattle.bt_bed.proofs.NameLemmas.{name_eq, name_ne, name_ne-sym, cases_name}
 use Rattle.bt_runs.specs.Counted.{is_counted, counted}
 use Rattle.bt_runs.specs.Merged.{runs_of, runs_on, merged, without, chromosomes}
 use Rattle.bt_runs.specs.MergedRuns.{runs_come_in_order}
-use Rattle.bt_runs.proofs.Keys.{known_rank, later_rank}
+use Rattle.bt_runs.proofs.Standing.{known_rank, later_rank}
 use Rattle.bt_runs.proofs.ChromosomeLemmas.{spans_on-none, among_chromosomes, without-here, without-other}
 
 -- a record up to the next one but one

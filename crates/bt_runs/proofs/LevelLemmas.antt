@@ -1,9 +1,10 @@
--- A scan of the positions finds the intervals of equal value, and no other list has them.
-use Rattle.std.proofs.Common.{◌≡◌, ℕ, zero, suc, ◌+◌, ◌<◌, ◌≤◌, inl, inr, List, [], ◌∷◌, ◌++◌, refl, sym, ap, ap₂, ◌∙◌, subst, arith, append_assoc, map, cond, Bool, true, false, ◌==◌, Option, Some, None, IsTrue}
+-- A scan of the positions finds the intervals of equal value, and no other list has them; scans in parts, and scans that see the same values.
+use Rattle.std.proofs.Common.{◌≡◌, ℕ, zero, suc, ◌+◌, ◌<◌, ◌≤◌, inl, inr, List, [], ◌∷◌, ◌++◌, refl, sym, ap, ap₂, ◌∙◌, subst, arith, append_assoc, map, cond, Bool, true, false, ◌==◌, Option, Some, None, IsTrue, append-nil}
 use Rattle.std.proofs.lemmas.Bool.{cases_Bool, cases_lt, cases_eq, cond-true, eq-eqb, eqb-true}
 use Rattle.bt_bed.specs.Interval.{Span}
 use Rattle.bt_bed.specs.Stretches.{AreApartFrom, IsCovered}
-use Rattle.bt_runs.specs.Levels.{AreDisjointFrom, Begun, DiffersFromNext, HasValue, Level, begun_after, ended_after, ended_at, level_on, levels_are, levels_from, levels_of, levels_only, next_begun, next_ended, stretches_are_levels}
+use Rattle.bt_runs.specs.Levels.{AreDisjointFrom, Begun, DiffersFromNext, HasValue, Level, begun_after, ended_after, ended_at, level_on, levels_are, levels_from, levels_of, levels_only, next_begun, next_ended, stretches_are_levels, begun_at, goes_on}
+use Rattle.std.specs.Prelude.{⊤}
 
 -- two lists of intervals that have the same values are one list
 value_from : (first : ℕ) (xs : List Level) (p v : ℕ) → AreDisjointFrom first xs → HasValue xs p v → first ≤ p
@@ -249,3 +250,140 @@ levels_of_stretches test size spans h =
           let one = value_one (test p) v e in
           subst (λ n. HasValue (map (level_on 0) spans) p n) one.1 (covered_level spans p (h.whole p (below, one.0)));
     })
+
+-- a scan in two parts
+pub begun_split : (value : ℕ → Option ℕ) (a b p : ℕ) (g : Option Begun) → begun_after value p (a + b) g ≡ begun_after value (p + a) b (begun_after value p a g)
+unfolding begun_after
+begun_split value zero b p g = let here : p + 0 ≡ p = omega arith in let none : 0 + b ≡ b = omega arith in rw (here, none) refl
+begun_split value (suc a) b p g =
+    let next : p + suc a ≡ p + 1 + a = omega arith in
+    let more : suc a + b ≡ suc (a + b) = omega arith in
+    rw (next, more) (begun_split value a b (p + 1) (next_begun p (value p) g))
+
+pub ended_split : (value : ℕ → Option ℕ) (a b p : ℕ) (g : Option Begun) → ended_after value p (a + b) g ≡ ended_after value p a g ++ ended_after value (p + a) b (begun_after value p a g)
+unfolding begun_after ended_after
+ended_split value zero b p g = let here : p + 0 ≡ p = omega arith in let none : 0 + b ≡ b = omega arith in rw (here, none) refl
+ended_split value (suc a) b p g =
+    let next : p + suc a ≡ p + 1 + a = omega arith in
+    let more : suc a + b ≡ suc (a + b) = omega arith in
+    let g' = next_begun p (value p) g in
+    rw (next, more) (ap (λ l. next_ended p (value p) g ++ l) (ended_split value a b (p + 1) g') ∙ sym (append_assoc (next_ended p (value p) g) (ended_after value (p + 1) a g') (ended_after value (p + 1 + a) b (begun_after value (p + 1) a g'))))
+
+pub levels_split : (value : ℕ → Option ℕ) (a b p : ℕ) (g : Option Begun) → levels_from value p (a + b) g ≡ ended_after value p a g ++ levels_from value (p + a) b (begun_after value p a g)
+levels_split value a b p g =
+    let end : p + (a + b) ≡ p + a + b = omega arith in
+    rw (end, ended_split value a b p g, begun_split value a b p g) (append_assoc (ended_after value p a g) (ended_after value (p + a) b (begun_after value p a g)) (ended_at (begun_after value (p + a) b (begun_after value p a g)) (p + a + b)))
+
+-- scans of the same values
+abbrev pub AreSame : (ℕ → Option ℕ) → (ℕ → Option ℕ) → ℕ → ℕ → Type 0
+AreSame u v p n = (q : ℕ) → p ≤ q → q < p + n → u q ≡ v q
+
+pub begun_same : (u v : ℕ → Option ℕ) (n p : ℕ) (g : Option Begun) → AreSame u v p n → begun_after u p n g ≡ begun_after v p n g
+unfolding begun_after
+begun_same u v zero p g same = refl
+begun_same u v (suc n) p g same = rw (same p (omega arith) (omega arith)) (begun_same u v n (p + 1) (next_begun p (v p) g) (λ q low high. same q (omega arith) (omega arith)))
+
+pub ended_same : (u v : ℕ → Option ℕ) (n p : ℕ) (g : Option Begun) → AreSame u v p n → ended_after u p n g ≡ ended_after v p n g
+unfolding ended_after
+ended_same u v zero p g same = refl
+ended_same u v (suc n) p g same = rw (same p (omega arith) (omega arith)) (ap (λ l. next_ended p (v p) g ++ l) (ended_same u v n (p + 1) (next_begun p (v p) g) (λ q low high. same q (omega arith) (omega arith))))
+
+-- a scan of one value
+goes_on_now : (value : Option ℕ) (p : ℕ) (g : Option Begun) → goes_on (next_begun p value g) value ≡ true
+goes_on_now None p None = refl
+goes_on_now None p (Some b) = refl
+goes_on_now (Some v) p None = eq-eqb v v refl
+goes_on_now (Some v) p (Some b) = elim (cases_Bool (b.value == v)) [
+  | inl t ↦ rw t t
+  | inr f ↦ rw f (eq-eqb v v refl)
+]
+
+module _ (u : ℕ → Option ℕ) (value : Option ℕ) where
+  begun_on : (n p : ℕ) (g : Option Begun) → ((q : ℕ) → p ≤ q → q < p + n → u q ≡ value) → goes_on g value ≡ true → begun_after u p n g ≡ g
+  unfolding begun_after
+  begun_on zero p g same on = refl
+  begun_on (suc n) p g same on = rw (same p (omega arith) (omega arith), on) (begun_on n (p + 1) g (λ q low high. same q (omega arith) (omega arith)) on)
+
+  ended_on : (n p : ℕ) (g : Option Begun) → ((q : ℕ) → p ≤ q → q < p + n → u q ≡ value) → goes_on g value ≡ true → ended_after u p n g ≡ []
+  unfolding ended_after
+  ended_on zero p g same on = refl
+  ended_on (suc n) p g same on = rw (same p (omega arith) (omega arith), on) (ended_on n (p + 1) g (λ q low high. same q (omega arith) (omega arith)) on)
+
+  pub begun_run : (n p : ℕ) (g : Option Begun) → 0 < n → ((q : ℕ) → p ≤ q → q < p + n → u q ≡ value) → begun_after u p n g ≡ next_begun p value g
+  unfolding begun_after
+  begun_run zero p g some same = absurd (omega arith)
+  begun_run (suc n) p g some same = rw (same p (omega arith) (omega arith)) (begun_on n (p + 1) (next_begun p value g) (λ q low high. same q (omega arith) (omega arith)) (goes_on_now value p g))
+
+  pub ended_run : (n p : ℕ) (g : Option Begun) → 0 < n → ((q : ℕ) → p ≤ q → q < p + n → u q ≡ value) → ended_after u p n g ≡ next_ended p value g
+  unfolding ended_after
+  ended_run zero p g some same = absurd (omega arith)
+  ended_run (suc n) p g some same =
+      rw (same p (omega arith) (omega arith)) (ap (λ l. next_ended p value g ++ l) (ended_on n (p + 1) (next_begun p value g) (λ q low high. same q (omega arith) (omega arith)) (goes_on_now value p g)) ∙ append-nil (next_ended p value g))
+
+-- where intervals stop
+abbrev pub StopIn : ℕ → ℕ → List Level → Type 0
+StopIn low high [] = ⊤
+StopIn low high (l ∷ ls) = (low ≤ l.stop) × (l.stop < high) × StopIn low high ls
+
+pub stop_wider : (a b c d : ℕ) (ls : List Level) → c ≤ a → b ≤ d → StopIn a b ls → StopIn c d ls
+stop_wider a b c d [] h k s = tt
+stop_wider a b c d (l ∷ ls) h k s = (omega (arith, s.0), omega (arith, s.1), stop_wider a b c d ls h k s.2)
+
+pub stop_both : (a b : ℕ) (xs ys : List Level) → StopIn a b xs → StopIn a b ys → StopIn a b (xs ++ ys)
+stop_both a b [] ys s t = t
+stop_both a b (x ∷ xs) ys s t = (s.0, s.1, stop_both a b xs ys s.2 t)
+
+pub ended_at-stop : (a b p : ℕ) (g : Option Begun) → a ≤ p → p < b → StopIn a b (ended_at g p)
+ended_at-stop a b p None h k = tt
+ended_at-stop a b p (Some begun) h k = (h, k, tt)
+
+next_ended-stop : (a b p : ℕ) (value : Option ℕ) (g : Option Begun) → a ≤ p → p < b → StopIn a b (next_ended p value g)
+next_ended-stop a b p value g h k = elim (cases_Bool (goes_on g value)) [
+  | inl t ↦ rw t tt
+  | inr f ↦ rw f (ended_at-stop a b p g h k)
+]
+
+pub ended_after-stop : (value : ℕ → Option ℕ) (n p : ℕ) (g : Option Begun) → StopIn p (p + n) (ended_after value p n g)
+unfolding ended_after
+ended_after-stop value zero p g = tt
+ended_after-stop value (suc n) p g =
+    let rest = ended_after-stop value n (p + 1) (next_begun p (value p) g) in
+    stop_both p (p + suc n) (next_ended p (value p) g) (ended_after value (p + 1) n (next_begun p (value p) g)) (next_ended-stop p (p + suc n) p (value p) g (omega arith) (omega arith)) (stop_wider (p + 1) (p + 1 + n) p (p + suc n) (ended_after value (p + 1) n (next_begun p (value p) g)) (omega arith) (omega arith) rest)
+
+pub levels_from-stop : (value : ℕ → Option ℕ) (n p : ℕ) (g : Option Begun) → StopIn p (p + n + 1) (levels_from value p n g)
+levels_from-stop value n p g =
+    stop_both p (p + n + 1) (ended_after value p n g) (ended_at (begun_after value p n g) (p + n)) (stop_wider p (p + n) p (p + n + 1) (ended_after value p n g) (omega arith) (omega arith) (ended_after-stop value n p g)) (ended_at-stop p (p + n + 1) (p + n) (begun_after value p n g) (omega arith) (omega arith))
+
+-- where they start
+abbrev pub BeginsBelow : ℕ → Option Begun → Type 0
+BeginsBelow p None = ⊤
+BeginsBelow p (Some begun) = begun.start < p
+
+abbrev pub BeginsFrom : ℕ → Option Begun → Type 0
+BeginsFrom p None = ⊤
+BeginsFrom p (Some begun) = p ≤ begun.start
+
+abbrev pub StartFrom : ℕ → List Level → Type 0
+StartFrom p [] = ⊤
+StartFrom p (l ∷ ls) = (p ≤ l.start) × StartFrom p ls
+
+below_later : (p q : ℕ) (g : Option Begun) → p ≤ q → BeginsBelow p g → BeginsBelow q g
+below_later p q None h b = tt
+below_later p q (Some begun) h b = omega (arith, b)
+
+begun_at-below : (p : ℕ) (value : Option ℕ) → BeginsBelow (p + 1) (begun_at p value)
+begun_at-below p None = tt
+begun_at-below p (Some v) = omega arith
+
+next_begun-below : (p : ℕ) (value : Option ℕ) (g : Option Begun) → BeginsBelow p g → BeginsBelow (p + 1) (next_begun p value g)
+next_begun-below p value g b = elim (cases_Bool (goes_on g value)) [
+  | inl t ↦ rw t (below_later p (p + 1) g (omega arith) b)
+  | inr f ↦ rw f (begun_at-below p value)
+]
+
+pub begun_after-below : (value : ℕ → Option ℕ) (n p : ℕ) (g : Option Begun) → BeginsBelow p g → BeginsBelow (p + n) (begun_after value p n g)
+unfolding begun_after
+begun_after-below value zero p g b = below_later p (p + 0) g (omega arith) b
+begun_after-below value (suc n) p g b =
+    let next : p + suc n ≡ p + 1 + n = omega arith in
+    rw next (begun_after-below value n (p + 1) (next_begun p (value p) g) (next_begun-below p (value p) g b))

@@ -14,11 +14,10 @@ use Rattle.bt_runs.specs.MergeStep.{kept_by, left_by, settled_by, with_record}
 use Rattle.bt_runs.specs.declared.merge_strand.MergeStrand.{MergeStrand}
 use Rattle.bt_runs.proofs.ByChromosome.{Divides, Form, NoRecords, Owes, picks_by}
 use Rattle.bt_runs.proofs.ChromosomeLemmas.{runs_on-push_elsewhere, spans_on-none, spans_on-push_here}
-use Rattle.bt_runs.proofs.Counting.{counted_absent, counted_next, counted_same}
+use Rattle.bt_runs.proofs.Passing.{counted_absent, counted_next, counted_same, not_passed, passed_before, passed_elsewhere, passed_far, placed_elsewhere}
 use Rattle.bt_runs.proofs.FileOrder.{runs_of-nil, runs_on-none}
-use Rattle.bt_runs.proofs.Keys.{not_less}
-use Rattle.bt_runs.proofs.OneOpen.{OneOpen, first_open, join_open, longer, next_open, open_runs}
-use Rattle.bt_runs.proofs.Passing.{not_passed, passed_before, passed_elsewhere, passed_far, placed_elsewhere}
+use Rattle.bt_runs.proofs.Standing.{not_less}
+use Rattle.bt_runs.proofs.Bridging.{OneOpen, first_open, join_open, longer, next_open, open_runs}
 
 -- no record was merged on the chromosome
 pub record Unopened (spans : List Span) (done kept : List Interval) : Type 0 where

@@ -18,7 +18,7 @@ use Rattle.bt_runs.specs.StrandRuns.{StrandRun, runs_of_strand}
 use Rattle.bt_runs.specs.StrandStep.{run_from, run_with}
 use Rattle.bt_runs.specs.declared.merge_strand.MergeStrand.TheVariants.{One}
 use Rattle.bt_runs.proofs.ByChromosome.{intervals_next}
-use Rattle.bt_runs.proofs.Counting.{counted_same}
+use Rattle.bt_runs.proofs.Passing.{counted_same}
 use Rattle.bt_runs.proofs.EachLemmas.{Each, any_from, each_append, each_front, each_map, each_weaker, filter_passes, map_leaves, none_from, some_right}
 use Rattle.bt_runs.proofs.SettledRuns.{next_taken, taken_front, whole_taken}
 use Rattle.bt_runs.proofs.Standing.{has_records-here}

@@ -1,14 +1,20 @@
--- The records that are open at a position and at later ones, and how many of them cover a position.
-use Rattle.std.proofs.Common.{◌≡◌, ℕ, ◌+◌, ◌<◌, ◌≤◌, inl, inr, List, [], ◌∷◌, ◌++◌, refl, sym, ap, ◌∙◌, arith, All, filter, length, nat_le, not, false}
+-- The records that are open at a position and at later ones, how many of them cover a position, and their ends, counted by every test of an end.
+use Rattle.std.proofs.Common.{◌≡◌, ℕ, ◌+◌, ◌<◌, ◌≤◌, inl, inr, List, [], ◌∷◌, ◌++◌, refl, sym, ap, ◌∙◌, arith, All, filter, length, nat_le, not, false, suc, cond, ◌&&◌, length-append, nat_lt, slice_index_or, subst, Bool, MatchBool, true, IfSome, IsSome, Option, Some, None}
 use Rattle.std.proofs.lemmas.Bool.{cases_Bool, cases_lt, lt-ltb, le-ltb, lt-leb, le-leb}
 use Rattle.std.proofs.lemmas.List.{length-map}
 use Rattle.std.proofs.lemmas.List.Filters.{length-filter_both}
-use Rattle.std.proofs.lemmas.List.Elements.{All-cons, All-head, All-nil, All-tail, filter-append}
+use Rattle.std.proofs.lemmas.List.Elements.{All-cons, All-head, All-nil, All-tail, filter-append, All-weaker}
 use Rattle.bt_bed.specs.Interval.{Span}
 use Rattle.bt_runs.specs.Depth.{covers, depth_at}
 use Rattle.bt_runs.specs.DepthStep.{still_open}
-use Rattle.bt_runs.specs.OpenRecords.{span_open, spans_open}
+use Rattle.bt_runs.specs.OpenRecords.{span_open, spans_open, CountsEnds, CountsFrom, IsLeastFirst, StartsBelow, ends_of}
 use Rattle.bt_runs.specs.declared.open_records.OpenSpan.{OpenSpan}
+use Rattle.std.specs.BinaryHeap.{IsUpperBound, PopsGreatest}
+use Rattle.std.specs.List.Sorted.{IsPermutation}
+use Rattle.std.specs.Ordering.{is_lt, nat_cmp}
+use Rattle.std.specs.declared.cmp.Reverse.{Reverse}
+use Rattle.std.proofs.lemmas.List.Sorted.{IsPermutation-map, sum_by-IsPermutation}
+use Rattle.std.proofs.lemmas.List.Sums.{length-filter}
 
 -- those that are open at a later position are open before
 pub open_after : (first later : ℕ) (spans : List Span) → first ≤ later → still_open later (still_open first spans) ≡ still_open later spans
@@ -115,3 +121,143 @@ open_few position spans =
     let all = length-filter_both test (λ s. not (test s)) (λ s. refl) spans in
     let same = length-map (filter test spans) span_open in
     rw (← still position spans) (omega arith)
+
+-- all pass, or none
+all_pass : {X : Type 0} (xs : List X) → filter (λ x. true) xs ≡ xs
+all_pass [] = refl
+all_pass (x ∷ xs) = ap (λ l. x ∷ l) (all_pass xs)
+
+module _ {X : Type 0} (end : X → ℕ) (position : ℕ) where
+  below : ℕ → Bool
+  below e = nat_lt e position
+
+  none_below : (xs : List X) → All (λ x. position ≤ end x) xs → length (filter (λ x. nat_lt (end x) position) xs) ≡ 0
+  none_below [] all = refl
+  none_below (x ∷ xs) all =
+      let mine : position ≤ end x = All-head (λ x. position ≤ end x) x xs all in
+      rw (le-ltb (end x) position mine) (none_below xs (All-tail (λ x. position ≤ end x) x xs all))
+
+  below_none : (xs : List X) → length (filter (λ x. nat_lt (end x) position) xs) ≡ 0 → All (λ x. position ≤ end x) xs
+  below_none [] none = All-nil (λ x. position ≤ end x)
+  below_none (x ∷ xs) none = elim (cases_lt (end x) position) [
+    | inl l ↦
+        let some : suc (length (filter (λ x. nat_lt (end x) position) xs)) ≡ 0 = sym (rw (lt-ltb (end x) position l) refl) ∙ none in
+        absurd (omega arith)
+    | inr l ↦
+        let rest : length (filter (λ x. nat_lt (end x) position) xs) ≡ 0 = sym (rw (le-ltb (end x) position l) refl) ∙ none in
+        All-cons (λ x. position ≤ end x) x xs l (below_none xs rest)
+  ]
+
+module _ (ends : List ℕ) (spans : List Span) (counts : CountsEnds ends spans) where
+  -- there are as many
+  pub as_many : length ends ≡ length spans
+  as_many = ap length (sym (all_pass ends)) ∙ counts (λ e. true) ∙ ap length (all_pass spans)
+
+  -- where no end lies before a position, no record ends before it
+  pub ends_left : (position : ℕ) → All (λ e. position ≤ e) ends → All (λ s. position ≤ s.stop) spans
+  ends_left position all = below_none (λ s. s.stop) position spans (sym (counts (λ e. nat_lt e position)) ∙ none_below (λ e. e) position ends all)
+
+  pub left_ends : (position : ℕ) → All (λ s. position ≤ s.stop) spans → All (λ e. position ≤ e) ends
+  left_ends position all = below_none (λ e. e) position ends (counts (λ e. nat_lt e position) ∙ none_below (λ s. s.stop) position spans all)
+
+-- an order of the ends doesn't matter
+pub same_count : (test : ℕ → Bool) (xs ys : List ℕ) → IsPermutation xs ys → length (filter test ys) ≡ length (filter test xs)
+same_count test xs ys moved = length-filter test ys ∙ sum_by-IsPermutation (λ x. cond (test x) 1 0) xs ys moved ∙ sym (length-filter test xs)
+
+pub ends_permuted : (xs ys : List (Reverse ℕ)) → IsPermutation xs ys → IsPermutation (ends_of xs) (ends_of ys)
+ends_permuted xs ys moved = IsPermutation-map (λ (e : Reverse ℕ). e.0) xs ys moved
+
+-- one more record
+pub ends_more : (ends : List ℕ) (spans : List Span) (s : Span) (new : List ℕ) → CountsEnds ends spans → IsPermutation (s.stop ∷ ends) new → CountsEnds new (spans ++ s ∷ [])
+ends_more ends spans s new counts moved test =
+    let count : length (filter test (s.stop ∷ ends)) ≡ length (filter (λ s. test s.stop) spans) + length (filter (λ s. test s.stop) (s ∷ [])) = elim (cases_Bool (test s.stop)) [
+      | inl t ↦ rw t (let rest = counts test in omega arith)
+      | inr f ↦ rw f (let rest = counts test in omega arith)
+    ] in
+    same_count test (s.stop ∷ ends) new moved ∙ count
+    ∙ sym (ap length (filter-append (λ s. test s.stop) spans (s ∷ [])) ∙ length-append (filter (λ s. test s.stop) spans) (filter (λ s. test s.stop) (s ∷ [])))
+
+-- an end before the position is taken out
+pub counts_less : (position e : ℕ) (old ends new : List ℕ) → e < position → CountsFrom position old ends → IsPermutation ends (e ∷ new) → CountsFrom position old new
+counts_less position e old ends new ended counts moved test =
+    let from : ℕ → Bool = λ e. nat_le position e && test e in
+    let same : length (filter from (e ∷ new)) ≡ length (filter from ends) = same_count from ends (e ∷ new) moved in
+    let one : length (filter from (e ∷ new)) ≡ length (filter from new) = rw (lt-leb position e ended) refl in
+    sym one ∙ same ∙ counts test
+
+all_from : (position : ℕ) (test : ℕ → Bool) (ends : List ℕ) → All (λ e. position ≤ e) ends → filter (λ e. nat_le position e && test e) ends ≡ filter test ends
+all_from position test [] all = refl
+all_from position test (e ∷ es) all =
+    let mine : position ≤ e = All-head (λ e. position ≤ e) e es all in
+    let rest = all_from position test es (All-tail (λ e. position ≤ e) e es all) in
+    elim (cases_Bool (test e)) [
+      | inl t ↦ rw (le-leb position e mine, t) (ap (λ l. e ∷ l) rest)
+      | inr f ↦ rw (le-leb position e mine, f) rest
+    ]
+
+open_tested : (first position : ℕ) (test : ℕ → Bool) (spans : List Span) → first ≤ position → filter (λ s. nat_le position s.stop && test s.stop) (still_open first spans) ≡ filter (λ s. test s.stop) (still_open position spans)
+open_tested first position test [] up = refl
+open_tested first position test (s ∷ ss) up =
+    let rest = open_tested first position test ss up in
+    elim (cases_lt s.stop first) [
+      | inl ended ↦ rw (lt-leb first s.stop ended, lt-leb position s.stop (omega arith)) rest
+      | inr left ↦ elim (cases_lt s.stop position) [
+        | inl now ↦ rw (le-leb first s.stop left, lt-leb position s.stop now) rest
+        | inr still ↦ elim (cases_Bool (test s.stop)) [
+          | inl t ↦ rw (le-leb first s.stop left, le-leb position s.stop still, t) (ap (λ l. s ∷ l) rest)
+          | inr f ↦ rw (le-leb first s.stop left, le-leb position s.stop still, f) rest
+        ]
+      ]
+    ]
+
+-- once those before the position are out, the ends are those of the records that are open there
+pub ends_later : (first position : ℕ) (spans : List Span) (ends new : List ℕ) → first ≤ position → CountsEnds ends (still_open first spans) → CountsFrom position ends new → All (λ e. position ≤ e) new → CountsEnds new (still_open position spans)
+ends_later first position spans ends new up counts from all test =
+    sym (ap length (all_from position test new all))
+    ∙ from test
+    ∙ counts (λ e. nat_le position e && test e)
+    ∙ ap length (open_tested first position test spans up)
+
+-- the top of a heap whose least is the first
+pub top_least : (xs : List (Reverse ℕ)) (x : Reverse ℕ) → IsUpperBound (λ x y. nat_cmp y.0 x.0) x xs → All (λ e. x.0 ≤ e) (ends_of xs)
+top_least [] x h = All-nil (λ e. x.0 ≤ e)
+top_least (y ∷ ys) x h = elim (cases_lt y.0 x.0) [
+  | inl l ↦
+      let less : is_lt (nat_cmp y.0 x.0) ≡ true = rw (lt-ltb y.0 x.0 l) refl in
+      let other : is_lt (nat_cmp y.0 x.0) ≡ false = h.0 in
+      cc
+  | inr l ↦ All-cons (λ e. x.0 ≤ e) y.0 (ends_of ys) l (top_least ys x h.1)
+]
+
+pub top_in : (at : ℕ) (xs : List (Reverse ℕ)) (x : Reverse ℕ) → 0 < length xs → x ≡ slice_index_or xs 0 x → All (λ e. at ≤ e) (ends_of xs) → at ≤ x.0
+top_in at [] x some is all = absurd (omega arith)
+top_in at (y ∷ ys) x some is all =
+    let mine : at ≤ y.0 = All-head (λ e. at ≤ e) y.0 (ends_of ys) all in
+    subst (λ (e : Reverse ℕ). at ≤ e.0) (sym is) mine
+
+-- whether it lies before a position
+pub top_before : (position : ℕ) (xs : List (Reverse ℕ)) (x : Reverse ℕ) → 0 < length xs → x ≡ slice_index_or xs 0 x → IsUpperBound (λ x y. nat_cmp y.0 x.0) x xs
+    → MatchBool (nat_lt x.0 position) (StartsBelow position (ends_of xs)) (All (λ e. position ≤ e) (ends_of xs))
+top_before position [] x some is h = absurd (omega arith)
+top_before position (y ∷ ys) x some is h = elim (cases_lt x.0 position) [
+  | inl l ↦ rw (lt-ltb x.0 position l) (subst (λ (e : Reverse ℕ). e.0 < position) is l)
+  | inr l ↦ rw (le-ltb x.0 position l) (All-weaker (λ e. x.0 ≤ e) (λ e. position ≤ e) (λ e low. omega arith) (ends_of (y ∷ ys)) (top_least (y ∷ ys) x h))
+]
+
+pub some_before : (position : ℕ) (xs : List (Reverse ℕ)) → StartsBelow position (ends_of xs) → 0 < length xs
+some_before position [] below = absurd below
+some_before position (y ∷ ys) below = omega arith
+
+-- the top is taken out where it lies before the position
+top_below : (position : ℕ) (xs : List (Reverse ℕ)) (x : Reverse ℕ) → StartsBelow position (ends_of xs) → x ≡ slice_index_or xs 0 x → x.0 < position
+top_below position [] x below is = absurd below
+top_below position (y ∷ ys) x below is = subst (λ (e : Reverse ℕ). e.0 < position) (sym is) below
+
+module _ (position : ℕ) (first : List ℕ) (old new : List (Reverse ℕ)) (below : StartsBelow position (ends_of old)) (order : IsLeastFirst old) (counts : CountsFrom position first (ends_of old)) where
+  pub popped_order : (r : Option (Reverse ℕ)) → IsSome r → IfSome r (λ x. PopsGreatest (λ x y. nat_cmp y.0 x.0) old x new) → IsLeastFirst new
+  popped_order None some pops = let none : false ≡ true = some in cc
+  popped_order (Some x) some pops = (pops order).0
+
+  pub popped_counts : (r : Option (Reverse ℕ)) → IsSome r → IfSome r (λ x. x ≡ slice_index_or old 0 x) → IfSome r (λ x. IsPermutation old (x ∷ new)) → CountsFrom position first (ends_of new)
+  popped_counts None some top moved = let none : false ≡ true = some in cc
+  popped_counts (Some x) some top moved = counts_less position x.0 first (ends_of old) (ends_of new) (top_below position old x below top) counts (ends_permuted old (x ∷ new) moved)

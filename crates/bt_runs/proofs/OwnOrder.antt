@@ -11,7 +11,7 @@ use Rattle.bt_bed.proofs.NameLemmas.{cases_name, name_ne-sym}
 use Rattle.bt_runs.specs.Merged.{chromosomes, without}
 use Rattle.bt_runs.proofs.ChromosomeLemmas.{among_chromosomes, among_without, without-here, without-other}
 use Rattle.bt_runs.proofs.FileOrder.{rank_of-here, rank_of-later, same_chromosome, without_absent}
-use Rattle.bt_runs.proofs.Keys.{cmp_less, less_cmp}
+use Rattle.bt_runs.proofs.Standing.{cmp_less, less_cmp}
 
 -- a name that was left out isn't among the others
 absent_without : (name : List ℕ) (names : List (List ℕ)) → is_among (without name names) name ≡ false

@@ -9,7 +9,7 @@ use Rattle.bt_runs.specs.Depth.{depth_at, depth_of}
 use Rattle.bt_runs.specs.Levels.{Begun, Level, begun_after, ended_after, ended_at, levels_of, next_begun, next_ended}
 use Rattle.bt_runs.specs.Plain.{spans_in}
 use Rattle.bt_runs.specs.PlainLevels.{level_in, levels_in, with_value, with_value_after}
-use Rattle.bt_runs.proofs.ScanLemmas.{StopIn, begun_split, ended_after-stop, ended_split}
+use Rattle.bt_runs.proofs.LevelLemmas.{StopIn, begun_split, ended_after-stop, ended_split}
 
 -- the program's test of a span counts what the definition counts
 pub covering_spans : (spans : List PlainSpan) (p : ℕ) → length (filter (λ s. nat_le s.start p && nat_lt p s.stop) spans) ≡ depth_at (spans_in spans) p

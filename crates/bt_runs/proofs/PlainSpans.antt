@@ -1,5 +1,5 @@
--- What the plain program asks of its spans, against the definitions.
-use Rattle.std.proofs.Common.{◌≡◌, ℕ, ◌+◌, ◌-◌, ◌<◌, ◌≤◌, ◌⊎◌, inl, inr, List, [], ◌∷◌, ◌++◌, append_assoc, refl, sym, ap, ◌∙◌, subst, arith, Bool, true, false, ◌&&◌, Decides, nat_le, nat_lt, leb-true, le-leb, All, ◌==◌}
+-- What the plain programs ask of their spans, and the scans of a chromosome's positions, against the definitions of runs and gaps.
+use Rattle.std.proofs.Common.{◌≡◌, ℕ, ◌+◌, ◌-◌, ◌<◌, ◌≤◌, ◌⊎◌, inl, inr, List, [], ◌∷◌, ◌++◌, append_assoc, refl, sym, ap, ◌∙◌, subst, arith, Bool, true, false, ◌&&◌, Decides, nat_le, nat_lt, All, ◌==◌}
 use Rattle.std.specs.List.{list_any}
 use Rattle.std.proofs.lemmas.Bool.{cases_eq, false≢true, cond-true, cond-false, eq-eqb, ne_eqb}
 use Rattle.std.proofs.lemmas.Bool.Decides.{Decides-and, Decides-or, Decides-ltb}
@@ -10,10 +10,9 @@ use Rattle.bt_bed.specs.Interval.{Span}
 use Rattle.bt_bed.specs.Stretches.{IsCovered, AreApartFrom, AreStretchesOf}
 use Rattle.bt_runs.specs.Merged.{Bridged, runs_of}
 use Rattle.bt_runs.specs.Plain.{span_in, spans_in, with_next_after, with_next}
-use Rattle.bt_runs.proofs.Bridging.{only_runs}
-
-Decides-le : (a b : ℕ) → Decides (nat_le a b) (a ≤ b)
-Decides-le a b = (leb-true a b, le-leb a b)
+use Rattle.bt_runs.proofs.Bridging.{Decides-le, only_runs}
+use Rattle.bt_runs.specs.Gaps.{gaps_of}
+use Rattle.bt_runs.proofs.OneGap.{only_gaps}
 
 -- the program's test of a covered position
 pub covers-Decides : (spans : List PlainSpan) (p : ℕ) → Decides (list_any (λ s. nat_le s.start p && nat_lt p s.stop) spans) (IsCovered (spans_in spans) p)
@@ -147,3 +146,14 @@ pub next_apart : (front : List PlainSpan) (run : PlainSpan) (p : ℕ) → (run.s
 next_apart front run p other =
     let apart = cond-false (run.stop == p) (record { start = run.start; stop = p + 1 } ∷ []) (span_in run ∷ record { start = p; stop = p + 1 } ∷ []) (ne_eqb run.stop p other) in
     map-append span_in (front ++ run ∷ []) (record { start = p; stop = p + 1 } ∷ []) ∙ ap (λ zs. zs ++ record { start = p; stop = p + 1 } ∷ []) (map-append span_in front (run ∷ [])) ∙ append_assoc (spans_in front) (span_in run ∷ []) (record { start = p; stop = p + 1 } ∷ []) ∙ ap (λ zs. spans_in front ++ zs) (sym apart) ∙ sym (with_next-last (spans_in front) (span_in run) p) ∙ ap (λ zs. with_next zs p) (sym (map-append span_in front (run ∷ [])))
+
+-- the stretches of the bare positions below n
+abbrev pub AreGapsBelow : List Span → ℕ → List Span → Type 0
+AreGapsBelow spans n gaps = AreBelow (λ p. IsCovered spans p → ⊥) n gaps
+
+pub gaps_below-all : (size n : ℕ) (spans gaps : List Span) → n ≡ size → AreGapsBelow spans n gaps → gaps ≡ gaps_of size spans
+gaps_below-all size n spans gaps all g = only_gaps size spans gaps (record {
+  apart = g.apart;
+  within = λ p c. let h = g.within p c in record { within = omega (arith, h.0); bare = h.1 };
+  whole = λ p b. let low = b.within in g.whole p (omega arith, b.bare);
+})

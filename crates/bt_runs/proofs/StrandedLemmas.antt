@@ -1,10 +1,10 @@
 -- What a merge that keeps the strands apart does with one more record is what the definitions say, whatever the past.
-use Rattle.std.proofs.Common.{◌≡◌, ◌⊎◌, ℕ, ◌+◌, ◌-◌, ◌≤◌, List, [], ◌∷◌, ◌++◌, length, length-append, inl, inr, not, cond, ◌||◌, drop, get_or, map, set, take, Bool, true, false, bytes_eq, nat_lt, lt-ltb, le-ltb, Option, None, Some, zero, suc, Result, Ok, Err, refl, sym, ap, ap₂, ◌∙◌, subst, arith}
+use Rattle.std.proofs.Common.{◌≡◌, ◌⊎◌, ℕ, ◌+◌, ◌-◌, ◌≤◌, List, [], ◌∷◌, ◌++◌, length, length-append, inl, inr, not, cond, ◌||◌, drop, get_or, map, set, take, Bool, true, false, bytes_eq, nat_lt, lt-ltb, le-ltb, Option, None, Some, Result, Ok, Err, refl, sym, ap, ap₂, ◌∙◌, subst, arith}
 use Rattle.std.specs.List.{prefix_len, slice_get}
 use Rattle.std.proofs.lemmas.Bool.{cases_Bool, cases_lt, cond-true, cond-false, false≢true, not_from_true}
 use Rattle.std.proofs.lemmas.Grind.{flat_map-append}
-use Rattle.std.proofs.lemmas.List.{length-map, map-append, map-set}
-use Rattle.std.proofs.lemmas.Option.{slice_get-get_or}
+use Rattle.std.proofs.lemmas.List.{drop-map, get_or-map, length-map, map-append, map-set, take-map}
+use Rattle.std.proofs.lemmas.Option.{get_or_from_slice_get, slice_get-get_or, slice_get_within}
 use Rattle.bt_lines.specs.Fault.{Told, no_memory}
 use Rattle.bt_lines.specs.declared.fault.Kind.TheVariants.{WriteFailed, NoMemory}
 use Rattle.bt_lines.specs.Names.{told}
@@ -27,10 +27,9 @@ use Rattle.bt_runs.specs.declared.failure.Failure.{Failure}
 use Rattle.bt_runs.specs.declared.failure.Failure.TheVariants.{Write, Memory}
 use Rattle.bt_runs.specs.declared.waiting.Waiting.{Waiting}
 use Rattle.bt_runs.proofs.EngineLemmas.{feeds_cut, feeds_short, feeds_taken, finishes_by, quiet_none}
-use Rattle.bt_runs.proofs.PassedRuns.{left_none, passed_every}
+use Rattle.bt_runs.proofs.WaitingLemmas.{left_none, passed_every, last_place_within}
 use Rattle.bt_runs.proofs.PooledLemmas.{no_lines}
 use Rattle.bt_runs.proofs.StrandSettling.{strand_next, strand_runs_are_all}
-use Rattle.bt_runs.proofs.WaitingLemmas.{last_place_within}
 
 -- tests that agree
 prefix_same : {A : Type 0} (test other : A → Bool) → ((x : A) → test x ≡ other x) → (xs : List A) → prefix_len test xs ≡ prefix_len other xs
@@ -41,24 +40,12 @@ prefix_map : {A B : Type 0} (test : B → Bool) (f : A → B) (xs : List A) → 
 prefix_map test f [] = refl
 prefix_map test f (x ∷ xs) = ap (λ n. cond (test (f x)) (1 + n) 0) (prefix_map test f xs)
 
-take_map : {A B : Type 0} (f : A → B) (n : ℕ) (xs : List A) → take n (map f xs) ≡ map f (take n xs)
-take_map f zero xs = refl
-take_map f (suc n) [] = refl
-take_map f (suc n) (x ∷ xs) = ap (λ l. f x ∷ l) (take_map f n xs)
-
-drop_map : {A B : Type 0} (f : A → B) (n : ℕ) (xs : List A) → drop n (map f xs) ≡ map f (drop n xs)
-drop_map f zero xs = refl
-drop_map f (suc n) [] = refl
-drop_map f (suc n) (x ∷ xs) = drop_map f n xs
-
 last_place_map : {A B : Type 0} (test : B → Bool) (f : A → B) (xs : List A) → last_place test (map f xs) ≡ last_place (λ x. test (f x)) xs
 last_place_map test f [] = refl
 last_place_map test f (x ∷ xs) = ap (place_among (test (f x))) (last_place_map test f xs)
 
 get_map : {A B : Type 0} (f : A → B) (xs : List A) (i : ℕ) (x : A) (d : B) → slice_get xs i ≡ Some x → get_or (map f xs) i d ≡ f x
-get_map f [] i x d e = absurd (cc)
-get_map f (y ∷ ys) zero x d e = let is : y ≡ x = cc in ap f is
-get_map f (y ∷ ys) (suc i) x d e = get_map f ys i x d e
+get_map f xs i x d e = get_or-map f xs i x d (slice_get_within xs i x e) ∙ ap f (get_or_from_slice_get xs i x x e)
 
 -- a run ends more than the gap below a start where it ends below the start less the gap
 below_reach : (stop gap start : ℕ) → nat_lt (stop + gap) start ≡ nat_lt stop (start - gap)
@@ -85,13 +72,13 @@ module _ (gap : ℕ) (chrom : List ℕ) (r : Feature) where
   -- the runs that the record settles, and those that stay
   pub front_placed : (runs : List Waiting) → front_settled gap (placed_runs chrom runs) r ≡ placed_runs chrom (passed_runs here reach runs)
   front_placed runs =
-      ap (λ n. take n (placed_runs chrom runs)) (prefix_placed runs) ∙ take_map (placed_run chrom) (prefix_len (λ (w : Waiting). not here || nat_lt w.stop reach) runs) runs
+      ap (λ n. take n (placed_runs chrom runs)) (prefix_placed runs) ∙ take-map (placed_run chrom) (prefix_len (λ (w : Waiting). not here || nat_lt w.stop reach) runs) runs
 
   pub behind_placed : (runs : List Waiting) → behind_settled gap (placed_runs chrom runs) r ≡ placed_runs chrom (left_runs here reach runs)
   behind_placed runs =
       ap (λ (l : List StrandRun). drop (length l) (placed_runs chrom runs)) (front_placed runs)
       ∙ ap (λ n. drop n (placed_runs chrom runs)) (length-map (passed_runs here reach runs) (placed_run chrom))
-      ∙ drop_map (placed_run chrom) (length (passed_runs here reach runs)) runs
+      ∙ drop-map (placed_run chrom) (length (passed_runs here reach runs)) runs
 
   -- the record lies on the chromosome of the runs, or there are none
   abbrev pub Fits : List Waiting → Type 0

@@ -10,7 +10,7 @@ use Rattle.bt_runs.specs.Gaps.{AreTaken}
 use Rattle.bt_runs.specs.Settling.{Settles}
 use Rattle.bt_runs.specs.Walk.{AreReached, IsPlaced, Place, Walk, entry_at, going, going_at, is_on, left_before, places, step_from, taking, walk_step}
 use Rattle.bt_runs.proofs.ByChromosome.{Begun, Form, InOrder, Moves, Owes, Standing, Written, begun, full_last, goes_first, goes_next, goes_on, goes_to, order_front, parts_none, settling, whole_left}
-use Rattle.bt_runs.proofs.GapRanks.{entry_there, name_at, slice_between}
+use Rattle.bt_runs.proofs.GenomeRanks.{entry_there, name_at, slice_between}
 use Rattle.bt_runs.proofs.Standing.{GoesTo, begins_at, last_rank, none_at_first}
 
 -- what such an engine says of its items: how it walks, and what else its `Form` has
@@ -47,6 +47,13 @@ taken_front entries past more t =
 -- the chromosome of a rank among the others
 pub rank_entry : (entries before : List Entry) (key : Entry) (after : List Entry) (rank : ℕ) → entries ≡ before ++ key ∷ after → rank ≡ length before → entry_at entries rank ≡ key
 rank_entry entries before key after rank split at = rw split (entry_there before key after rank (sym at))
+
+-- the chromosomes behind one, up to another or to the last
+slice_behind : (entries before : List Entry) (key : Entry) (middle rest : List Entry) (rank stop : ℕ) → entries ≡ before ++ key ∷ (middle ++ rest) → rank ≡ length before → stop ≡ length (before ++ key ∷ middle) → slice_range entries (rank + 1) stop ≡ middle
+slice_behind entries before key middle rest rank stop split at end =
+    let one_more = length-append before (key ∷ []) in
+    let long = length-append before (key ∷ middle) in
+    ap (λ l. slice_range l (rank + 1) stop) (split ∙ sym (append_assoc before (key ∷ []) (middle ++ rest))) ∙ slice_between (before ++ key ∷ []) middle rest (rank + 1) stop (omega arith) (omega arith)
 
 -- two places that show the same are on the same chromosome
 pub same_place : {S : Type 0} (to : S → ℕ) (entries : List Entry) (a b : Place S) → IsPlaced entries a.rank → IsPlaced entries b.rank → places to entries (Some a) ≡ places to entries (Some b) → (a.rank ≡ b.rank) × (to a.known ≡ to b.known)
@@ -154,10 +161,7 @@ module _ {T S : Type 0} (e : Walked T S) (Own : Entry → List Feature → ℕ �
       step_to g =
           let k = length (before ++ key ∷ g.middle) in
           let off : is_on entries (Some place) r.chrom ≡ false = rw is g.other in
-          let long = length-append before (key ∷ g.middle) in
-          let parts_is : entries ≡ (before ++ key ∷ []) ++ (g.middle ++ (g.next ∷ g.behind)) = s.stand.split ∙ ap (λ l. before ++ key ∷ l) g.rest ∙ sym (append_assoc before (key ∷ []) (g.middle ++ g.next ∷ g.behind)) in
-          let one_more = length-append before (key ∷ []) in
-          let slice : slice_range entries (place.rank + 1) k ≡ g.middle = ap (λ l. slice_range l (place.rank + 1) k) parts_is ∙ slice_between (before ++ key ∷ []) g.middle (g.next ∷ g.behind) (place.rank + 1) k (omega arith) (omega arith) in
+          let slice : slice_range entries (place.rank + 1) k ≡ g.middle = slice_behind entries before key g.middle (g.next ∷ g.behind) place.rank k (s.stand.split ∙ ap (λ l. before ++ key ∷ l) g.rest) rank refl in
           let next : Place S = record { rank = k; known = e.walk.fresh } in
           let first = e.walk.left key place.known ++ flat_map e.walk.bare g.middle in
           let goes : going e.walk entries (Some place) r.chrom ≡ (Some next, first) = going_to e.walk entries (Some place) r.chrom (Some k) off (sym g.rank) ∙ ap₂ (λ (key : Entry) (es : List Entry). (Some next, e.walk.left key place.known ++ flat_map e.walk.bare es)) is slice in
@@ -181,10 +185,7 @@ module _ {T S : Type 0} (e : Walked T S) (Own : Entry → List Feature → ℕ �
         ∙ ap (λ l. l ++ flat_map bare (slice_range entries 0 (length entries))) (sym owes.nothing))
     ends past (Some place) distinct (before, key, after, s, rank) =
         let is = rank_entry entries before key after place.rank s.stand.split rank in
-        let parts_is : entries ≡ (before ++ key ∷ []) ++ (after ++ []) = s.stand.split ∙ sym (append_assoc before (key ∷ []) after) ∙ ap (λ l. (before ++ key ∷ []) ++ l) (sym (append-nil after)) in
-        let one_more = length-append before (key ∷ []) in
-        let long = ap length s.stand.split ∙ length-append before (key ∷ after) in
-        let slice : slice_range entries (place.rank + 1) (length entries) ≡ after = ap (λ l. slice_range l (place.rank + 1) (length entries)) parts_is ∙ slice_between (before ++ key ∷ []) after [] (place.rank + 1) (length entries) (omega arith) (omega arith) in
+        let slice = slice_behind entries before key after [] place.rank (length entries) (s.stand.split ∙ ap (λ l. before ++ key ∷ l) (sym (append-nil after))) rank (ap length s.stand.split) in
         whole_left (form_of e) Own entries owes distinct past before key after place.known s (written past)
         ∙ ap₂ (λ (key : Entry) (es : List Entry). e.settled past ++ (e.walk.left key place.known ++ flat_map e.walk.bare es)) (sym is) (sym slice)
 

@@ -6,7 +6,7 @@ use Rattle.bt_bed.proofs.IntervalLineLemmas.{cut_lines}
 use Rattle.bt_runs.specs.GapStep.{gap_walk, seen}
 use Rattle.bt_runs.specs.Walk.{going}
 use Rattle.bt_runs.specs.declared.complement.Reached.{Reached}
-use Rattle.bt_runs.proofs.GapLines.{step_reaches, step_writes}
+use Rattle.bt_runs.proofs.GapSteps.{step_reaches, step_writes}
 use Rattle.bt_runs.proofs.Walks.{step_starts}
 use Rattle.bt_runs.proofs.complement.advance.Goals as goal
 

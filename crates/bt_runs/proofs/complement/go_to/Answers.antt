@@ -1,6 +1,6 @@
 use Rattle.std.proofs.Common.{arith, sym}
 use Rattle.bt_bed.specs.GenomeTable.{entries}
-use Rattle.bt_runs.proofs.GapRanks.{found_at}
+use Rattle.bt_runs.proofs.GenomeRanks.{found_at}
 use Rattle.bt_runs.proofs.complement.go_to.Goals as goal
 
 pub put_before-requires-clause-within : goal.put_before-requires-clause-within

@@ -4,8 +4,8 @@ use Rattle.bt_bed.specs.GenomeTable.{entries}
 use Rattle.bt_bed.proofs.IntervalLineLemmas.{adds_lines, cut_lines}
 use Rattle.bt_runs.specs.GapStep.{bare_gap, last_gap, seen, whole_of}
 use Rattle.bt_runs.specs.Walk.{begun, left_of}
-use Rattle.bt_runs.proofs.GapLines.{before_all, before_limited}
-use Rattle.bt_runs.proofs.WalkLines.{bares_from}
+use Rattle.bt_runs.proofs.GapSteps.{before_all, before_limited}
+use Rattle.bt_runs.proofs.GenomeRanks.{bares_from}
 use Rattle.bt_runs.proofs.complement.put_before.Goals as goal
 
 pub returns-in_err-put_left : goal.returns-in_err-put_left

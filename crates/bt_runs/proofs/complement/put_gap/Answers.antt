@@ -1,7 +1,7 @@
 use Rattle.std.proofs.lemmas.Bool.{lt-ltb}
 use Rattle.bt_bed.specs.GenomeTable.{entries}
-use Rattle.bt_runs.proofs.GapRanks.{name_read}
-use Rattle.bt_runs.proofs.GapLines.{adds_gap}
+use Rattle.bt_runs.proofs.GenomeRanks.{name_read}
+use Rattle.bt_runs.proofs.GapSteps.{adds_gap}
 use Rattle.bt_runs.proofs.complement.put_gap.Goals as goal
 
 pub returns-then-reached-stop : goal.returns-then-reached-stop

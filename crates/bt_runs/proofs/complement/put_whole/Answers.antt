@@ -4,8 +4,7 @@ use Rattle.bt_bed.specs.GenomeTable.{entries}
 use Rattle.bt_bed.specs.IntervalLine.{interval_line, interval_lines}
 use Rattle.bt_lines.specs.Putting.{Adds, Grown}
 use Rattle.bt_runs.specs.GapStep.{gap_to, whole_of}
-use Rattle.bt_runs.proofs.GapRanks.{length_read}
-use Rattle.bt_runs.proofs.WalkLines.{bare_cut, one_bare}
+use Rattle.bt_runs.proofs.GenomeRanks.{length_read, bare_cut, one_bare}
 use Rattle.bt_runs.proofs.complement.put_whole.Goals as goal
 
 pub returns-in_err-put_gap : goal.returns-in_err-put_gap

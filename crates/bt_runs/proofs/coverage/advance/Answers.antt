@@ -5,7 +5,7 @@ use Rattle.bt_bed.specs.Rank.{rank_of}
 use Rattle.bt_runs.specs.CountSeen.{seen}
 use Rattle.bt_runs.specs.Walk.{AreReached, IsPlaced, entry_at}
 use Rattle.bt_runs.specs.declared.depths.Reached.{Reached}
-use Rattle.bt_runs.proofs.GapRanks.{name_read, size_ranked}
+use Rattle.bt_runs.proofs.GenomeRanks.{name_read, size_ranked}
 use Rattle.bt_runs.proofs.coverage.advance.Goals as goal
 
 pub returns-then-eq-clause-memory : goal.returns-then-eq-clause-memory

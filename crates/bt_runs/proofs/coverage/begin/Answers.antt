@@ -7,8 +7,8 @@ use Rattle.bt_runs.specs.DepthStep.{Known, bare_of, depth_walk, depths_left, unk
 use Rattle.bt_runs.specs.OpenRecords.{OpenAt}
 use Rattle.bt_runs.specs.Walk.{Place, left_before, taking}
 use Rattle.bt_runs.specs.declared.depths.Reached.{Reached}
-use Rattle.bt_runs.proofs.CoverageLemmas.{advances_more, begins_cut, count_begins}
-use Rattle.bt_runs.proofs.GapRanks.{found_at, size_ranked}
+use Rattle.bt_runs.proofs.DepthLines.{advances_more, begins_cut, count_begins}
+use Rattle.bt_runs.proofs.GenomeRanks.{found_at, size_ranked}
 use Rattle.bt_runs.proofs.coverage.begin.Goals as goal
 
 pub put_before-requires-clause-within : goal.put_before-requires-clause-within

@@ -1,8 +1,7 @@
 use Rattle.bt_bed.specs.GenomeTable.{entries}
 use Rattle.bt_runs.specs.Depth.{DepthInterval}
-use Rattle.bt_runs.proofs.CoverageLemmas.{bare_some}
-use Rattle.bt_runs.proofs.DepthLines.{adds_line}
-use Rattle.bt_runs.proofs.GapRanks.{length_read, name_read}
+use Rattle.bt_runs.proofs.DepthLines.{bare_some, adds_line}
+use Rattle.bt_runs.proofs.GenomeRanks.{length_read, name_read}
 use Rattle.bt_runs.proofs.coverage.put_bare.Goals as goal
 
 pub returns-then-length-gt0 : goal.returns-then-length-gt0

@@ -3,7 +3,7 @@ use Rattle.std.proofs.lemmas.Result.{err_from_is_err_and}
 use Rattle.bt_bed.specs.GenomeTable.{entries}
 use Rattle.bt_runs.specs.Depth.{depth_line}
 use Rattle.bt_runs.specs.DepthStep.{bare_of}
-use Rattle.bt_runs.proofs.WalkLines.{bare_cut, one_bare}
+use Rattle.bt_runs.proofs.GenomeRanks.{bare_cut, one_bare}
 use Rattle.bt_runs.proofs.coverage.put_bares.Goals as goal
 
 pub returns-in_err-put_bare : goal.returns-in_err-put_bare

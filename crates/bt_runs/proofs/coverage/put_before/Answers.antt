@@ -4,9 +4,8 @@ use Rattle.bt_bed.specs.GenomeTable.{entries}
 use Rattle.bt_runs.specs.CountSeen.{seen}
 use Rattle.bt_runs.specs.DepthStep.{bare_of, depths_left}
 use Rattle.bt_runs.specs.Walk.{begun, left_of}
-use Rattle.bt_runs.proofs.CoverageLemmas.{begun_same}
-use Rattle.bt_runs.proofs.DepthLines.{adds_lines, cut_lines}
-use Rattle.bt_runs.proofs.WalkLines.{bares_from, before_from}
+use Rattle.bt_runs.proofs.DepthLines.{begun_same, adds_lines, cut_lines}
+use Rattle.bt_runs.proofs.GenomeRanks.{bares_from, before_from}
 use Rattle.bt_runs.proofs.coverage.put_before.Goals as goal
 
 pub returns-in_err-put_current : goal.returns-in_err-put_current

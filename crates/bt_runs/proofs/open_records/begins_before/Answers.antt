@@ -1,6 +1,6 @@
 use Rattle.std.proofs.Common.{◌<◌, arith, refl}
 use Rattle.std.specs.BinaryHeap.{heap_items, heap_len}
-use Rattle.bt_runs.proofs.EndLemmas.{top_before}
+use Rattle.bt_runs.proofs.OpenLemmas.{top_before}
 use Rattle.bt_runs.proofs.open_records.begins_before.Goals as goal
 
 pub returns-in-Some : goal.returns-in-Some

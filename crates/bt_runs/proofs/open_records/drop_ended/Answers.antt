@@ -1,7 +1,7 @@
 use Rattle.std.proofs.Common.{arith}
 use Rattle.std.specs.BinaryHeap.{heap_items}
 use Rattle.bt_runs.specs.OpenRecords.{ends_of}
-use Rattle.bt_runs.proofs.EndLemmas.{popped_counts, popped_order, some_before}
+use Rattle.bt_runs.proofs.OpenLemmas.{popped_counts, popped_order, some_before}
 use Rattle.bt_runs.proofs.open_records.drop_ended.Goals as goal
 
 pub loop-ends-preserved : goal.loop-ends-preserved

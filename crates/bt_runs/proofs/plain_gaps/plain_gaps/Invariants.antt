@@ -1,5 +1,5 @@
 use Rattle.bt_runs.specs.Plain.{spans_in}
-use Rattle.bt_runs.proofs.PlainGaps.{AreGapsBelow}
+use Rattle.bt_runs.proofs.PlainSpans.{AreGapsBelow}
 use Rattle.bt_runs.proofs.plain_gaps.plain_gaps.Given as goal
 
 -- the gaps so far are those of the positions so far

@@ -1,7 +1,7 @@
 use Rattle.std.proofs.Common.{sym, ◌∙◌, ◌≡◌, inl, inr, Ok, true}
 use Rattle.std.proofs.lemmas.Result.{err_from_is_err_and}
 use Rattle.bt_lines.proofs.PuttingLemmas.{grown_none}
-use Rattle.bt_runs.proofs.PassedRuns.{all_left, all_written, is_over, line_cut, line_more, next_written, none_written, over_not, over_so, stopped_at}
+use Rattle.bt_runs.proofs.WaitingLemmas.{all_left, all_written, is_over, line_cut, line_more, next_written, none_written, over_not, over_so, stopped_at}
 use Rattle.bt_runs.proofs.stranded.put_passed.Goals as goal
 use Rattle.bt_runs.proofs.stranded.put_passed.Goals.{else-here-via-then-here+else-reach-run, else-here-via-else-here}
 

@@ -2,7 +2,7 @@ use Rattle.std.proofs.Common.{length}
 use Rattle.bt_lines.specs.Putting.{Grown}
 use Rattle.bt_runs.specs.Stranding.{strand_lines}
 use Rattle.bt_runs.specs.Waiting.{placed_runs}
-use Rattle.bt_runs.proofs.PassedRuns.{Written}
+use Rattle.bt_runs.proofs.WaitingLemmas.{Written}
 use Rattle.bt_runs.proofs.stranded.put_passed.Given as goal
 
 -- the runs that were taken off were written

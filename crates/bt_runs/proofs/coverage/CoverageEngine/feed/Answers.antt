@@ -2,7 +2,7 @@ use Rattle.std.proofs.Common.{ap, sym, ◌∙◌, option_map, refl}
 use Rattle.bt_bed.specs.Bed.{feature_lent}
 use Rattle.bt_bed.specs.GenomeTable.{entries}
 use Rattle.bt_runs.specs.Failure.{fault_of}
-use Rattle.bt_runs.proofs.CoverageSteps.{ends_for_record, feeds_ok, feeds_err}
+use Rattle.bt_runs.proofs.DepthSteps.{ends_for_record, feeds_ok, feeds_err}
 use Rattle.bt_runs.proofs.coverage.CoverageEngine.feed.Goals as goal
 
 pub returns-in-Ok-clause-feeds : goal.returns-in-Ok-clause-feeds

@@ -1,7 +1,7 @@
 use Rattle.std.proofs.Common.{ap, sym, ◌∙◌, option_map}
 use Rattle.bt_bed.specs.GenomeTable.{entries}
 use Rattle.bt_runs.specs.Failure.{fault_of}
-use Rattle.bt_runs.proofs.CoverageSteps.{finishes_left}
+use Rattle.bt_runs.proofs.DepthSteps.{finishes_left}
 use Rattle.bt_runs.proofs.coverage.CoverageEngine.finish.Goals as goal
 
 pub returns-in-None : goal.returns-in-None

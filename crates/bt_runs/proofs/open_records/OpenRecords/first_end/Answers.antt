@@ -4,8 +4,7 @@ use Rattle.std.proofs.lemmas.List.{length-map}
 use Rattle.std.specs.BinaryHeap.{heap_items, heap_len}
 use Rattle.bt_runs.specs.DepthStep.{still_open}
 use Rattle.bt_runs.specs.OpenRecords.{ends_of, spans_open}
-use Rattle.bt_runs.proofs.EndLemmas.{as_many, ends_left, left_ends, top_in, top_least}
-use Rattle.bt_runs.proofs.OpenLemmas.{all_open}
+use Rattle.bt_runs.proofs.OpenLemmas.{as_many, ends_left, left_ends, top_in, top_least, all_open}
 use Rattle.bt_runs.proofs.open_records.OpenRecords.first_end.Goals as goal
 
 pub returns-in-Some-clause-ends : goal.returns-in-Some-clause-ends

@@ -5,8 +5,7 @@ use Rattle.std.specs.BinaryHeap.{heap_items}
 use Rattle.bt_bed.specs.Interval.{Span}
 use Rattle.bt_runs.specs.DepthStep.{still_open}
 use Rattle.bt_runs.specs.OpenRecords.{OpenAt, ends_of, span_open, spans_open}
-use Rattle.bt_runs.proofs.EndLemmas.{as_many, ends_later}
-use Rattle.bt_runs.proofs.OpenLemmas.{open_after}
+use Rattle.bt_runs.proofs.OpenLemmas.{as_many, ends_later, open_after}
 use Rattle.bt_runs.proofs.open_records.OpenRecords.go_on.Goals as goal
 
 pub forget_ended-requires : goal.forget_ended-requires

@@ -3,7 +3,7 @@ use Rattle.std.proofs.lemmas.List.{length-map}
 use Rattle.std.specs.BinaryHeap.{heap_items}
 use Rattle.bt_runs.specs.DepthStep.{still_open}
 use Rattle.bt_runs.specs.OpenRecords.{ends_of, spans_open}
-use Rattle.bt_runs.proofs.EndLemmas.{as_many}
+use Rattle.bt_runs.proofs.OpenLemmas.{as_many}
 use Rattle.bt_runs.proofs.open_records.OpenRecords.len.Goals as goal
 
 pub returns : goal.returns

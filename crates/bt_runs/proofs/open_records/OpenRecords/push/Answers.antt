@@ -8,8 +8,7 @@ use Rattle.std.specs.declared.cmp.Reverse.{Reverse}
 use Rattle.bt_bed.specs.Interval.{Span}
 use Rattle.bt_runs.specs.DepthStep.{still_open}
 use Rattle.bt_runs.specs.OpenRecords.{ends_of, span_open, spans_open}
-use Rattle.bt_runs.proofs.EndLemmas.{ends_more, ends_permuted}
-use Rattle.bt_runs.proofs.OpenLemmas.{open_more}
+use Rattle.bt_runs.proofs.OpenLemmas.{ends_more, ends_permuted, open_more}
 use Rattle.bt_runs.proofs.open_records.OpenRecords.push.Goals as goal
 
 pub invariant_of-self-2 : goal.invariant_of-self-2
