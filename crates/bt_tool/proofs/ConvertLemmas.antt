@@ -9,13 +9,13 @@ use Rattle.bt_lines.specs.Fault.{Told, no_memory, read_failed}
 use Rattle.bt_lines.specs.Given.{GivesFirst}
 use Rattle.bt_lines.specs.Lines.{TextLine, bytes_in, lines_from, text_lines}
 use Rattle.bt_lines.specs.Output.{Output, HoldsBlock, Grows, block_size}
-use Rattle.bt_lines.specs.Putting.{Grown, WorksAsBefore}
+use Rattle.bt_lines.specs.Putting.{Grown}
 use Rattle.bt_lines.specs.Reader.{FailsToRead, GivesEnd, GivesFault, GivesLine, Hands, IsSound, source_of, input_of, bytes_taken, fault_kept, feeds_taken, lines_given, lines_left}
 use Rattle.bt_lines.specs.declared.fault.Input.{Input}
 use Rattle.bt_lines.specs.declared.fault.Input.TheVariants.{First}
 use Rattle.bt_lines.specs.declared.fault.Kind.{Kind}
 use Rattle.bt_lines.specs.declared.line_reader.LineReader.{LineReader}
-use Rattle.bt_lines.proofs.ReaderLemmas.{given_drops, hands_none, hands_both, sound_near}
+use Rattle.bt_lines.proofs.ReaderLemmas.{given_drops, sound_near}
 use Rattle.bt_lines.proofs.TextLemmas.{lines_are_numbered}
 use Rattle.bt_bed.specs.Good.{Good, Member, ends_with, good_from, good_with, with_member}
 use Rattle.bt_bed.specs.GoodLines.{IsBeyond}
@@ -32,11 +32,11 @@ use Rattle.bt_tool.specs.Kinds.{IsOneOf}
 use Rattle.bt_tool.specs.Converted.{alignment_lines, bamtobed_report, bamtobed_settles}
 use Rattle.bt_tool.specs.Converting.{LineRefused, LineUnwritten, LineWritten, lines_if, sam_reader}
 use Rattle.bt_tool.specs.Driving.{WritesInput}
-use Rattle.bt_tool.specs.Feeding.{ComeFirst, FeedsAll, FeedsUpTo, IsFresh, KeepsNear, PutsLines, StopCause, Took, member_items}
+use Rattle.bt_tool.specs.Feeding.{ComeFirst, FeedsAll, FeedsUpTo, IsFresh, StopCause, Took, member_items}
 use Rattle.bt_tool.specs.RecordReport.{members_report, members_settle, report_by}
 use Rattle.bt_tool.specs.Written.{Written}
 use Rattle.bt_tool.proofs.DrivingLemmas.{Starts, drives_all, drives_fault}
-use Rattle.bt_tool.proofs.FeedLemmas.{begins_beyond, begins_more, begins_with, come_more, come_none, cuts_both, first_members, front_all, grows_both, lines_on, near_from_start, none_passed, numbered_lines, settles_by, text_grows, took_later, took_lines, up_to, whole_with, works_both}
+use Rattle.bt_tool.proofs.FeedLemmas.{Fed, at_growth, at_line, at_read, at_write, come_more, fed_all, fed_more, fed_none, fed_up_to, none_grows, taken, up_to}
 use Rattle.bt_tool.proofs.StopLemmas.{coming_is}
 use Rattle.bt_tool.proofs.WriteLemmas.{writes_same}
 
@@ -127,122 +127,56 @@ module _ {S : Type 0} (split cigar : Bool) (left : S → Option (List ℕ)) (fai
   -- the lines so far were read, and their alignments written
   pub record Going (old : LineReader S) (out : Output) (now : LineReader S) (grown : Output) : Type 0 where
     pub past : List (Member Alignment)
-    pub bytes : (bytes : List ℕ) × Hands left old bytes now
-    pub grows : Grows out.took grown.took
-    pub come : ComeFirst (coming left old) past (coming left now)
-    pub behind : All (λ m. m.line ≤ lines_given now) past
-    pub lines : IfSome (lines_left left old) (λ lines. lines_left left now ≡ Some (drop (lines_given now) lines))
-    pub going : fault_kept now ≡ None
-    pub sound : IsSound left end now
-    pub puts : PutsLines out (lines_of (member_items past)) grown
-    pub works : WorksAsBefore out grown
-    pub block : HoldsBlock grown.took grown.put
-    pub served : failed (source_of now) ≡ failed (source_of old)
+    pub fed : Fed lines_of left failed end (sam_reader old) out past now (coming left now) grown
 
   module _ (old : LineReader S) (out : Output) (fresh : IsFresh left end (sam_reader old)) where
     pub going_start : fault_kept old ≡ None → HoldsBlock out.took out.put → Going old out old out
-    going_start going block = record {
-      past = [];
-      bytes = ([], hands_none left old);
-      grows = ([], Appends-nil out.took);
-      come = come_none (coming left old);
-      behind = λ k d h. absurd (omega arith);
-      lines = none_passed (lines_left left old) (lines_given old) fresh.none_given.0;
-      going = going;
-      sound = fresh.sound;
-      puts = λ before e. e ∙ ap Some (sym (append-nil before));
-      works = record { served = refl; sink_served = refl; put = ([], Appends-nil out.put); block = λ h. h };
-      block = block;
-      served = refl;
-    }
+    going_start going block = record { past = []; fed = fed_none lines_of left failed end (sam_reader old) out fresh going refl block }
 
     module _ (now : LineReader S) (grown : Output) (g : Going old out now grown) where
       coming_now : coming left now ≡ good_in (input_of now) (lines_left left now)
       coming_now = coming_is left (sam_reader now) refl refl
 
-      same_input : input_of now ≡ input_of old
-      same_input = g.bytes.1.same_input
-
       beyond_now : IfSome (coming left now) (IsBeyond (lines_given now))
       unfolding good_coming
       beyond_now = beyond_in (input_of now) (lines_given now) _
 
-      -- how far the input was read where the next line is asked for
-      near_at : (new : LineReader S) (later : Output) → NearBehind (lines_left left now) (left (source_of new)) → Grows grown.took later.took
-          → KeepsNear left lines_of (sam_reader old) out new later
-      near_at new later near grows =
-          let lines = lines_left left old in
-          let count = lines_given now in
-          let one : 1 ≡ suc count - count = omega arith in
-          let members = first_members sam_format (input_of old) tt lines (coming left old) (coming left now) g.past count
-          (coming_is left (sam_reader old) refl refl) (numbered_lines left old _ fresh.none_given.0) g.come beyond_now g.behind in
-          record {
-            count = count;
-            near = near_from_start lines (lines_left left now) (left (source_of new)) count count (omega arith) g.lines
-                (subst (λ n. IfSome (lines_left left now) (λ lines. IfSome (left (source_of new)) (λ rest. bytes_in (drop n lines) ≤ length rest + block_size))) one near);
-            settles = settles_by sam_format (input_of old) tt lines_of lines g.past count out later members
-                (took_later out grown later (lines_of (member_items g.past)) g.grows grows (took_lines out grown (lines_of (member_items g.past)) g.puts g.block));
-          }
-
+      -- so many alignments were taken, where the next line is asked for
       took_by : (new : LineReader S) (past : List (Member Alignment)) (later : Output) → (bytes : List ℕ) × Hands left now bytes new → NearBehind (lines_left left now) (left (source_of new))
           → Grows grown.took later.took → Took lines_of (IsOneOf is_sam_kind) Any left failed (sam_reader old) out past new later
-      took_by new past later hands near grows = record {
-        bytes = (g.bytes.0 ++ hands.0, hands_both left old now new g.bytes.0 hands.0 g.bytes.1 hands.1);
-        sorted = tt;
-        grows = grows_both out.took grown.took later.took g.grows grows;
-        near = near_at new later near grows;
-      }
-
-      none_more : Grows grown.took grown.took
-      none_more = ([], Appends-nil grown.took)
+      took_by new past later hands near grows =
+          let count = lines_given now in
+          let one : 1 ≡ suc count - count = omega arith in
+          taken lines_of (IsOneOf is_sam_kind) Any left failed end (sam_reader old) out fresh g.past now (coming left now) grown g.fed count new past later hands tt beyond_now (omega arith)
+          (subst (λ n. IfSome (lines_left left now) (λ lines. IfSome (left (source_of new)) (λ rest. bytes_in (drop n lines) ≤ length rest + block_size))) one near) grows
 
       -- after the last line
       pub converts_all : (new : LineReader S) → GivesEnd left failed now new → IsSound left end new
           → FeedsAll lines_of (IsOneOf is_sam_kind) Any left failed Any (sam_reader old) out new grown
-      converts_all new ends sound = record {
-        past = g.past;
-        took = took_by new g.past grown (ends.bytes.0, ends.bytes.1) (near_none (lines_left left now) (left (source_of new)) ends.none_left) none_more;
-        whole = whole_with (coming left old) (coming left now) g.past None g.come
-            (subst (λ o. IfSome o (λ good. good ≡ ends_with None)) (sym coming_now) (none_in (input_of now) (lines_left left now) ends.none_left));
-        stands = tt;
-        puts = g.puts;
-        works = g.works;
-        served = ends.served ∙ g.served;
-        within = sound.within ends.goes;
-      }
+      converts_all new ends sound =
+          fed_all lines_of (IsOneOf is_sam_kind) Any left failed end (sam_reader old) out fresh g.past now (coming left now) grown g.fed Any new
+          (took_by new g.past grown (ends.bytes.0, ends.bytes.1) (near_none (lines_left left now) (left (source_of new)) ends.none_left) (none_grows grown.took)) tt
+          (subst (λ o. IfSome o (λ good. good ≡ ends_with None)) (sym coming_now) (none_in (input_of now) (lines_left left now) ends.none_left)) ends.served (sound.within ends.goes)
 
       near_fault : (new : LineReader S) (fault : Told) → GivesFault left failed now fault new → NearBehind (lines_left left now) (left (source_of new))
       near_fault new fault gives =
           let one : suc (lines_given new) - lines_given now ≡ 1 = omega (arith, gives.counted) in
-          subst (λ n. IfSome (lines_left left now) (λ lines. IfSome (left (source_of new)) (λ rest. bytes_in (drop n lines) ≤ length rest + block_size))) one (gives.near g.going)
+          subst (λ n. IfSome (lines_left left now) (λ lines. IfSome (left (source_of new)) (λ rest. bytes_in (drop n lines) ≤ length rest + block_size))) one (gives.near g.fed.clear)
 
       unread_cause : (new : LineReader S) (fault : Told) → GivesFault left failed now fault new → FailsToRead left failed now fault new ⊎ (fault ≡ no_memory)
           → StopCause lines_of (IsOneOf is_sam_kind) Any left failed (sam_reader old) out g.past fault new grown
-      unread_cause new fault gives (inl fails) = inl (inr (record {
-        is = fails.is ∙ ap (λ i. read_failed i (suc (lines_given now))) same_input ∙ ap (λ n. read_failed (input_of old) (suc n)) (sym gives.counted);
-        cause = fails.cause;
-        cut = cuts_both left old now new g.bytes.0 g.bytes.1 (gives.before_end g.going) (g.sound.within g.going) (gives.cut_off g.going fails.is);
-        members = begins_beyond (coming left old) (coming left now) g.past (lines_given new) g.come (subst (λ n. IfSome (coming left now) (IsBeyond n)) (sym gives.counted) beyond_now);
-        behind = up_to (lines_given now) (lines_given new) g.past (omega (arith, gives.counted)) g.behind;
-        puts = g.puts;
-        works = g.works;
-      }))
-      unread_cause new fault gives (inr memory) = inr (inl (record {
-        is = memory;
-        puts = record { front = lines_of (member_items g.past); rest = []; parts = sym (append-nil (lines_of (member_items g.past))); puts = g.puts };
-        works = g.works;
-        served = gives.served memory ∙ g.served;
-      }))
+      unread_cause new fault gives (inl fails) =
+          at_read lines_of (IsOneOf is_sam_kind) Any left failed end (sam_reader old) out fresh g.past now (coming left now) grown g.fed fault new (fails.is ∙ ap (λ n. read_failed (input_of now) (suc n)) (sym gives.counted)) fails.cause (gives.before_end g.fed.clear) (gives.cut_off g.fed.clear fails.is)
+          (subst (λ n. IfSome (coming left now) (IsBeyond n)) (sym gives.counted) beyond_now) (omega (arith, gives.counted))
+      unread_cause new fault gives (inr memory) =
+          at_growth lines_of (IsOneOf is_sam_kind) Any left failed end (sam_reader old) out fresh g.past now (coming left now) grown g.fed fault new memory (gives.served memory)
 
       -- the reader told a fault
       pub stops_reading : (new : LineReader S) (fault : Told) → GivesFault left failed now fault new
           → FeedsUpTo lines_of (IsOneOf is_sam_kind) Any left failed (sam_reader old) out fault new grown
-      stops_reading new fault gives = record {
-        past = g.past;
-        took = took_by new g.past grown gives.bytes (near_fault new fault gives) none_more;
-        begins = begins_with (coming left old) (coming left now) g.past g.come;
-        cause = unread_cause new fault gives (gives.first g.going);
-      }
+      stops_reading new fault gives =
+          fed_up_to lines_of (IsOneOf is_sam_kind) Any left failed end (sam_reader old) out fresh g.past now (coming left now) grown g.fed fault new
+          (took_by new g.past grown gives.bytes (near_fault new fault gives) (none_grows grown.took)) (unread_cause new fault gives (gives.first g.fed.clear))
 
       -- a line was given
       module _ (new : LineReader S) (line : TextLine) (gives : GivesLine left failed now line new) (sound : IsSound left end new) where
@@ -257,33 +191,17 @@ module _ {S : Type 0} (split cigar : Bool) (left : S → Option (List ℕ)) (fai
             near_given (lines_left left now) (lines_left left new) (left (source_of new)) (given_drops (lines_left left now) line (lines_left left new) gives.first)
             (sound_near left end new sound gives.goes)
 
-        served_line : failed (source_of new) ≡ failed (source_of old)
-        served_line = gives.served ∙ g.served
-
         -- it is at fault
         pub stops_at_line : (fault : Told) (later : Output) → LineRefused (input_of old) line grown fault later
             → FeedsUpTo lines_of (IsOneOf is_sam_kind) Any left failed (sam_reader old) out fault new later
         stops_at_line fault later refused =
-            let place : fault_at_line (input_of now) line.number refused.kind ≡ fault = ap (λ i. fault_at_line i line.number refused.kind) same_input ∙ sym refused.is in
+            let place : fault_at_line (input_of now) line.number refused.kind ≡ fault = ap (λ i. fault_at_line i line.number refused.kind) g.fed.bytes.1.same_input ∙ sym refused.is in
             let none = subst (λ o. IfSome o (λ good. good ≡ ends_with (Some (fault_at_line (input_of now) line.number refused.kind)))) (sym coming_now)
             (wrong (input_of now) (lines_left left now) (lines_left left new) line refused.kind gives.first refused.says) in
-            subst (λ o. FeedsUpTo lines_of (IsOneOf is_sam_kind) Any left failed (sam_reader old) out fault new o) (sym refused.unchanged) (record {
-              past = g.past;
-              took = took_by new g.past grown hands_line near_line none_more;
-              begins = begins_with (coming left old) (coming left now) g.past g.come;
-              cause = inl (inl (record {
-                whole = whole_with (coming left old) (coming left now) g.past (Some fault) g.come
-                    (subst (λ f. IfSome (coming left now) (λ good. good ≡ ends_with (Some f))) place none);
-                line = line.number;
-                kind = refused.kind;
-                is = refused.is;
-                of_kind = wrong_kinds line.text refused.kind refused.says;
-                puts = g.puts;
-                works = g.works;
-                served = served_line;
-                within = sound.within gives.goes;
-              }));
-            })
+            subst (λ o. FeedsUpTo lines_of (IsOneOf is_sam_kind) Any left failed (sam_reader old) out fault new o) (sym refused.unchanged)
+            (fed_up_to lines_of (IsOneOf is_sam_kind) Any left failed end (sam_reader old) out fresh g.past now (coming left now) grown g.fed fault new (took_by new g.past grown hands_line near_line (none_grows grown.took))
+            (at_line lines_of (IsOneOf is_sam_kind) Any left failed end (sam_reader old) out fresh g.past now (coming left now) grown g.fed fault new line.number refused.kind refused.is (wrong_kinds line.text refused.kind refused.says)
+            (subst (λ f. IfSome (coming left now) (λ good. good ≡ ends_with (Some f))) place none) gives.served (sound.within gives.goes)))
 
         pushed : (a : Alignment) → lines_of (member_items (g.past ++ member_on line a ∷ [])) ≡ lines_of (member_items g.past) ++ bed_lines split cigar a
         pushed a =
@@ -298,59 +216,38 @@ module _ {S : Type 0} (split cigar : Bool) (left : S → Option (List ℕ)) (fai
             let fails = unwritten.fails.puts in
             let lines = bed_lines converting.split converting.with_cigar a in
             let is : lines ≡ bed_lines split cigar a = ap (λ s. bed_lines s converting.with_cigar a) same ∙ ap (λ c. bed_lines split c a) same_cigar in
-            record {
-              past = g.past ++ member_on line a ∷ [];
-              took = took_by new (g.past ++ member_on line a ∷ []) later hands_line near_line fails.grows;
-              begins = begins_more (coming left old) (coming left now) g.past (member_on line a) g.come
-                  (subst (λ o. IfSome o (λ good. (rest : List (Member Alignment)) × (good.members ≡ member_on line a ∷ rest))) (sym coming_now)
-                  (first_spoken (input_of now) (lines_left left now) (lines_left left new) line a gives.first unwritten.says));
-              cause = inr (inr (record {
-                is = fails.is;
-                cuts = record {
-                  front = λ before e. front_all later.took grown.put before (lines_of (member_items g.past)) lines (lines_of (member_items (g.past ++ member_on line a ∷ [])))
-                      (pushed a ∙ ap (λ l. lines_of (member_items g.past) ++ l) (sym is)) (g.puts before e) fails.front;
-                  failed = fails.failed;
-                  sink_failed = fails.sink_failed;
-                };
-                served = served_line;
-              }));
-            }
+            at_write lines_of (IsOneOf is_sam_kind) Any left failed end (sam_reader old) out fresh g.past now (coming left now) grown g.fed (member_on line a) fault new later lines
+            (took_by new (g.past ++ member_on line a ∷ []) later hands_line near_line fails.grows)
+            (subst (λ o. IfSome o (λ good. (rest : List (Member Alignment)) × (good.members ≡ member_on line a ∷ rest))) (sym coming_now)
+            (first_spoken (input_of now) (lines_left left now) (lines_left left new) line a gives.first unwritten.says))
+            (pushed a ∙ ap (λ l. lines_of (member_items g.past) ++ l) (sym is)) fails.is fails.front fails.failed fails.sink_failed gives.served
 
         -- these alignments came with it, and these lines were written
         goes_with : (past : List (Member Alignment)) (bytes : List ℕ) (later : Output) → ComeFirst (coming left old) past (coming left new) → All (λ m. m.line ≤ lines_given new) past
             → lines_of (member_items past) ≡ lines_of (member_items g.past) ++ bytes → Grown grown bytes later → Going old out new later
         goes_with past bytes later come behind is writes =
             let more : 1 ≡ lines_given new - lines_given now = omega (arith, gives.counted) in
+            let passed = subst (λ n. IfSome (lines_left left now) (λ lines. lines_left left new ≡ Some (drop n lines))) more (given_drops (lines_left left now) line (lines_left left new) gives.first) in
             record {
               past = past;
-              bytes = (g.bytes.0 ++ gives.bytes.0, hands_both left old now new g.bytes.0 gives.bytes.0 g.bytes.1 gives.bytes.1);
-              grows = grows_both out.took grown.took later.took g.grows writes.grows;
-              come = come;
-              behind = behind;
-              lines = lines_on (lines_left left old) (lines_left left now) (lines_left left new) (lines_given now) (lines_given new) (omega (arith, gives.counted)) g.lines
-                  (subst (λ n. IfSome (lines_left left now) (λ lines. lines_left left new ≡ Some (drop n lines))) more (given_drops (lines_left left now) line (lines_left left new) gives.first));
-              going = gives.goes;
-              sound = sound;
-              puts = λ before e. text_grows grown.put later.put before (lines_of (member_items g.past)) bytes (lines_of (member_items past)) is writes.appends (g.puts before e);
-              works = works_both out grown later g.works (record { served = writes.served; sink_served = writes.sink_served; put = (bytes, writes.appends); block = writes.block });
-              block = writes.block g.block;
-              served = served_line;
+              fed = fed_more lines_of (IsOneOf is_sam_kind) Any left failed end (sam_reader old) out fresh g.past now (coming left now) grown g.fed past new (coming left new) later bytes hands_line come behind (omega (arith, gives.counted)) passed gives.goes sound is writes.appends
+                  (record { served = writes.served; sink_served = writes.sink_served; put = (bytes, writes.appends); block = writes.block }) writes.grows gives.served;
             }
 
         behind_new : All (λ m. m.line ≤ lines_given new) g.past
-        behind_new = up_to (lines_given now) (lines_given new) g.past (omega (arith, gives.counted)) g.behind
+        behind_new = up_to (lines_given now) (lines_given new) g.past (omega (arith, gives.counted)) g.fed.behind
 
         goes_by : (said : Option Alignment) (later : Output) → alignment_of line.text ≡ Ok said → Grown grown (lines_if split cigar said) later → Going old out new later
         goes_by None later says writes =
             goes_with g.past [] later
-            (come_same (coming left old) (coming left now) (coming left new) g.past g.come
+            (come_same (coming left old) (coming left now) (coming left new) g.past g.fed.come
             (subst (λ o. Remains o (coming left new)) (sym coming_now) (subst (λ o. Remains (good_in (input_of now) (lines_left left now)) o) (sym coming_new)
             (silent (input_of now) (lines_left left now) (lines_left left new) line gives.first says))))
             behind_new (sym (append-nil (lines_of (member_items g.past)))) writes
         goes_by (Some a) later says writes =
             let m = member_on line a in
             goes_with (g.past ++ m ∷ []) (bed_lines split cigar a) later
-            (come_more (coming left old) (coming left now) (option_map (with_member m) (coming left new)) (coming left new) g.past m g.come
+            (come_more (coming left old) (coming left now) (option_map (with_member m) (coming left new)) (coming left new) g.past m g.fed.come
             (subst (λ o. Remains o (option_map (with_member m) (coming left new))) (sym coming_now)
             (subst (λ o. Remains (good_in (input_of now) (lines_left left now)) (option_map (with_member m) o)) (sym coming_new)
             (spoken (input_of now) (lines_left left now) (lines_left left new) line a gives.first says)))

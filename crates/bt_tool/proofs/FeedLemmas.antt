@@ -1,6 +1,6 @@
--- Lemmas on feeding an engine with the records of a reader.
+-- What was taken of a reader's members and written of them so far, whatever they are, and what is so where the reading stops; and so feeding an engine with the records of a reader.
 use Rattle.std.proofs.Common.{◌≡◌, ℕ, suc, ◌+◌, ◌-◌, ◌^◌, ◌<◌, ◌≤◌, Bool, true, false, List, [], ◌∷◌, ◌++◌, length, take, drop, Option, None, Some, Ok, Err, refl, sym, ap, ◌∙◌, subst, append-nil, append_assoc, length-append, arith, inl, inr}
-use Rattle.std.specs.Prelude.{All, IfSome, IsTrue, option_map}
+use Rattle.std.specs.Prelude.{◌⊎◌, All, IfSome, IsTrue, option_map}
 use Rattle.std.proofs.lemmas.List.{drop-drop, map-append}
 use Rattle.std.proofs.lemmas.List.Elements.{All-push}
 use Rattle.std.proofs.Math.Seq.{take-append-add}
@@ -12,6 +12,7 @@ use Rattle.bt_lines.specs.Output.{Output, HoldsBlock, IsFrontOf, Grows, block_si
 use Rattle.bt_lines.specs.Putting.{WorksAsBefore, PutsRest, PutsPart, CutsRest}
 use Rattle.bt_lines.specs.Reader.{CutsOff, Hands, IsSound, source_of, input_of, bytes_taken, end_told, fault_kept as line_fault, lines_given, lines_left}
 use Rattle.bt_lines.specs.declared.fault.Input.{Input}
+use Rattle.bt_lines.specs.declared.fault.Kind.{Kind}
 use Rattle.bt_lines.specs.declared.line_reader.LineReader.{LineReader}
 use Rattle.bt_lines.proofs.ReaderLemmas.{hands_none, hands_both}
 use Rattle.bt_lines.proofs.TextLemmas.{line_feeds-append, lines_are_numbered}
@@ -27,7 +28,7 @@ use Rattle.bt_bed.specs.LineKind.{fault_at_line, IsBedKind}
 use Rattle.bt_bed.specs.Interval.{Interval, AreNonEmpty, last_of}
 use Rattle.bt_bed.specs.Order.{Order}
 use Rattle.bt_bed.specs.Locus.{Locus, locus_of, IsUpTo, ArePlaced}
-use Rattle.bt_bed.specs.Reading.{AnswersFault, EndsMembers, Remains, Cause as PeekCause, good_coming}
+use Rattle.bt_bed.specs.Reading.{AnswersFault, EndsMembers, MemberReader, Remains, Cause as PeekCause, good_coming}
 use Rattle.bt_bed.specs.Records.{GivesRecord, PassesRecord, below, order_in, last_locus, fault_kept, view_of}
 use Rattle.bt_bed.specs.declared.order.ChromOrder.{Ghosts}
 use Rattle.bt_bed.specs.declared.records.Records.{Records}
@@ -203,34 +204,6 @@ or_none : (a b : Option Told) → or_else a b ≡ None → b ≡ None
 or_none None b e = e
 or_none (Some a) b e = cc
 
--- a reader of records without a fault has a reader of lines without one
-pub line_going : {S O : Type 0} {ghosts : Ghosts O} (records : Records S O ghosts) → fault_kept records ≡ None → line_fault (below records) ≡ None
-unfolding view_of view_with
-line_going records e = or_none (option_map told records.cursor.fault) (line_fault records.cursor.reader) e
-
-module _ {S O : Type 0} {ghosts : Ghosts O} (settled : List Feature → List ℕ) (Stands : List Feature → Type 0) (left : S → Option (List ℕ)) (failed : S → Bool) (end : S → Bool) where
-  -- the records so far were taken
-  pub record Going (old : Records S O ghosts) (out : Output) (now : Records S O ghosts) (grown : Output) : Type 0 where
-    pub past : List (Member Feature)
-    pub order : order_in now ≡ order_in old
-    pub format : (view_of now).format ≡ (view_of old).format
-    pub bytes : (bytes : List ℕ) × Hands left (below old) bytes (below now)
-    pub placed : ArePlaced (order_in old) (intervals_of (member_items past))
-    pub full : AreNonEmpty (intervals_of (member_items past))
-    pub grows : Grows out.took grown.took
-    pub come : ComeFirst (good_coming left (view_of old)) past (good_coming left (view_of now))
-    pub behind : All (λ m. m.line ≤ lines_given (below now)) past
-    pub lines : IfSome (lines_left left (below old)) (λ lines. lines_left left (below now) ≡ Some (drop (lines_given (below now)) lines))
-    pub stands : Stands (member_items past)
-    pub last : last_locus now ≡ option_map locus_of (last_of (intervals_of (member_items past)))
-    pub going : fault_kept now ≡ None
-    pub none_ahead : (view_of now).ahead ≡ None
-    pub sound : IsSound left end (below now)
-    pub puts : PutsLines out (settled (member_items past)) grown
-    pub works : WorksAsBefore out grown
-    pub block : HoldsBlock grown.took grown.put
-    pub served : failed (source_of (below now)) ≡ failed (source_of (below old))
-
 pub numbered_lines : {S : Type 0} (left : S → Option (List ℕ)) (reader : LineReader S) (bytes : Option (List ℕ)) → lines_given reader ≡ 0
     → IfSome (option_map (lines_from (suc (lines_given reader))) bytes) (AreNumbered 1)
 numbered_lines left reader None e = tt
@@ -265,95 +238,214 @@ none_passed (Some lines) given e = ap Some (ap (λ n. drop n lines) (sym e))
 pub up_to : {A : Type 0} (less more : ℕ) (past : List (Member A)) → less ≤ more → All (λ m. m.line ≤ less) past → All (λ m. m.line ≤ more) past
 up_to less more past h up k d i = omega (arith, up k d i)
 
-module _ {S O : Type 0} {ghosts : Ghosts O} (settled : List Feature → List ℕ) (Stands : List Feature → Type 0) (left : S → Option (List ℕ)) (failed : S → Bool) (end : S → Bool) (old : Records S O ghosts) (out : Output) (now : Records S O ghosts) (grown : Output)
-    (fresh : IsFresh left end (view_of old)) (is_bed : (view_of old).format ≡ bed_format (sorting_of (order_in old))) (g : Going settled Stands left failed end old out now grown) where
+-- members of a reader were taken, and what they settle was written: these of its members, up to here among its lines, and these are still to come
+pub record Fed {S A State : Type 0} (settled : List A → List ℕ) (left : S → Option (List ℕ)) (failed end : S → Bool) (old : MemberReader S A State) (out : Output) (past : List (Member A)) (now : LineReader S) (coming : Option (Good A)) (grown : Output) : Type 0 where
+  pub bytes : (bytes : List ℕ) × Hands left old.below bytes now
+  pub grows : Grows out.took grown.took
+  pub come : ComeFirst (good_coming left old) past coming
+  pub behind : All (λ m. m.line ≤ lines_given now) past
+  pub lines : IfSome (lines_left left old.below) (λ lines. lines_left left now ≡ Some (drop (lines_given now) lines))
+  pub clear : line_fault now ≡ None
+  pub sound : IsSound left end now
+  pub puts : PutsLines out (settled (member_items past)) grown
+  pub works : WorksAsBefore out grown
+  pub block : HoldsBlock grown.took grown.put
+  pub served : failed (source_of now) ≡ failed (source_of old.below)
+
+pub none_grows : (o : Option (List ℕ)) → Grows o o
+none_grows o = ([], Appends-nil o)
+
+-- none yet
+pub fed_none : {S A State : Type 0} (settled : List A → List ℕ) (left : S → Option (List ℕ)) (failed end : S → Bool) (old : MemberReader S A State) (out : Output) → IsFresh left end old → line_fault old.below ≡ None → settled [] ≡ [] → HoldsBlock out.took out.put
+    → Fed settled left failed end old out [] old.below (good_coming left old) out
+fed_none settled left failed end old out fresh clear nothing block = record {
+  bytes = ([], hands_none left old.below);
+  grows = none_grows out.took;
+  come = come_none (good_coming left old);
+  behind = λ k d h. absurd (omega arith);
+  lines = none_passed (lines_left left old.below) (lines_given old.below) fresh.none_given.0;
+  clear = clear;
+  sound = fresh.sound;
+  puts = λ before e. e ∙ ap Some (sym (ap (λ l. before ++ l) nothing ∙ append-nil before));
+  works = record { served = refl; sink_served = refl; put = none_grows out.put; block = λ h. h };
+  block = block;
+  served = refl;
+}
+
+module _ {S A State : Type 0} (settled : List A → List ℕ) (Kinds : Kind → Type 0) (Sorted : List A → Type 0) (left : S → Option (List ℕ)) (failed end : S → Bool) (old : MemberReader S A State) (out : Output) (fresh : IsFresh left end old)
+    (past : List (Member A)) (now : LineReader S) (coming : Option (Good A)) (grown : Output) (g : Fed settled left failed end old out past now coming grown) where
   -- how far the input was read where the reading stops
-  pub near_at : (new : LineReader S) (later : Output) → (count : ℕ) × StopsBehind left (view_of now) count new → Grows grown.took later.took
-      → KeepsNear left settled (view_of old) out new later
-  near_at new later (count, stops) grows =
-      let v = view_of old in
-      let lines = lines_left left (below old) in
-      let members = first_members v.format (input_of v.below) v.state lines (good_coming left v) (good_coming left (view_of now)) g.past count
-      (coming_is left v fresh.none_ahead fresh.going) (numbered_lines left (below old) _ fresh.none_given.0) g.come stops.passed
-      (up_to (lines_given (below now)) count g.past stops.from g.behind) in
+  near_at : (count : ℕ) (new : LineReader S) (later : Output) → IfSome coming (IsBeyond count) → lines_given now ≤ count
+      → IfSome (lines_left left now) (λ lines. IfSome (left (source_of new)) (λ rest. bytes_in (drop (suc count - lines_given now) lines) ≤ length rest + block_size))
+      → Grows grown.took later.took → KeepsNear left settled old out new later
+  near_at count new later passed from near grows =
+      let lines = lines_left left old.below in
+      let members = first_members old.format (input_of old.below) old.state lines (good_coming left old) coming past count
+      (coming_is left old fresh.none_ahead fresh.going) (numbered_lines left old.below _ fresh.none_given.0) g.come passed (up_to (lines_given now) count past from g.behind) in
       record {
         count = count;
-        near = near_from_start lines (lines_left left (below now)) (left (source_of new)) (lines_given (below now)) count stops.from g.lines stops.near;
-        settles = settles_by v.format (input_of v.below) v.state settled lines g.past count out later members
-            (took_later out grown later (settled (member_items g.past)) g.grows grows (took_lines out grown (settled (member_items g.past)) g.puts g.block));
+        near = near_from_start lines (lines_left left now) (left (source_of new)) (lines_given now) count from g.lines near;
+        settles = settles_by old.format (input_of old.below) old.state settled lines past count out later members
+            (took_later out grown later (settled (member_items past)) g.grows grows (took_lines out grown (settled (member_items past)) g.puts g.block));
       }
 
-  taken_more : (new : Records S O ghosts) → (bytes : List ℕ) × Hands left (below now) bytes (below new)
-      → (past : List (Member Feature)) → ArePlaced (order_in old) (intervals_of (member_items past)) → AreNonEmpty (intervals_of (member_items past))
-      → (later : Output) → Grows grown.took later.took → KeepsNear left settled (view_of old) out (below new) later
-      → Took settled (IsBedKind (order_in old)) (AreInOrder (order_in old)) left failed (view_of old) out past (below new) later
-  taken_more new hands past placed full later grows near = record {
-    bytes = (g.bytes.0 ++ hands.0, hands_both left (below old) (below now) (below new) g.bytes.0 hands.0 g.bytes.1 hands.1);
-    sorted = (placed, full);
+  -- these members were taken, of which some may be behind those
+  pub taken : (count : ℕ) (new : LineReader S) (given : List (Member A)) (later : Output) → (bytes : List ℕ) × Hands left now bytes new → Sorted (member_items given) → IfSome coming (IsBeyond count) → lines_given now ≤ count
+      → IfSome (lines_left left now) (λ lines. IfSome (left (source_of new)) (λ rest. bytes_in (drop (suc count - lines_given now) lines) ≤ length rest + block_size))
+      → Grows grown.took later.took → Took settled Kinds Sorted left failed old out given new later
+  taken count new given later hands sorted passed from near grows = record {
+    bytes = (g.bytes.0 ++ hands.0, hands_both left old.below now new g.bytes.0 hands.0 g.bytes.1 hands.1);
+    sorted = sorted;
     grows = grows_both out.took grown.took later.took g.grows grows;
-    near = near;
+    near = near_at count new later passed from near grows;
   }
 
-  none_more : Grows grown.took grown.took
-  none_more = ([], Appends-nil grown.took)
+  pub same_input : input_of now ≡ input_of old.below
+  same_input = g.bytes.1.same_input
+
+  -- the reading stops: at the end of the input, at a line, at a read that failed, or where memory ran out
+  pub fed_all : (Stands : List A → Type 0) (new : LineReader S) → Took settled Kinds Sorted left failed old out past new grown → Stands (member_items past) → IfSome coming (λ good. good ≡ ends_with None)
+      → failed (source_of new) ≡ failed (source_of now) → bytes_taken new < 2 ^ 63 → FeedsAll settled Kinds Sorted left failed Stands old out new grown
+  fed_all Stands new took stands none_left served within = record {
+    past = past;
+    took = took;
+    whole = whole_with (good_coming left old) coming past None g.come none_left;
+    stands = stands;
+    puts = g.puts;
+    works = g.works;
+    served = served ∙ g.served;
+    within = within;
+  }
+
+  pub at_line : (fault : Told) (new : LineReader S) (line : ℕ) (kind : Kind) → fault ≡ fault_at_line (input_of old.below) line kind → Kinds kind → IfSome coming (λ good. good ≡ ends_with (Some fault))
+      → failed (source_of new) ≡ failed (source_of now) → bytes_taken new < 2 ^ 63 → StopCause settled Kinds Sorted left failed old out past fault new grown
+  at_line fault new line kind is of_kind none_left served within = inl (inl (record {
+    whole = whole_with (good_coming left old) coming past (Some fault) g.come none_left;
+    line = line;
+    kind = kind;
+    is = is;
+    of_kind = of_kind;
+    puts = g.puts;
+    works = g.works;
+    served = served ∙ g.served;
+    within = within;
+  }))
+
+  pub at_read : (fault : Told) (new : LineReader S) → fault ≡ read_failed (input_of now) (suc (lines_given new)) → (failed (source_of new) ≡ true) ⊎ (2 ^ 63 ≤ bytes_taken new) → end_told now ≡ false → CutsOff left now new
+      → IfSome coming (IsBeyond (lines_given new)) → lines_given now ≤ lines_given new → StopCause settled Kinds Sorted left failed old out past fault new grown
+  at_read fault new is cause before_end cut passed rises = inl (inr (record {
+    is = is ∙ ap (λ input. read_failed input (suc (lines_given new))) same_input;
+    cause = cause;
+    cut = cuts_both left old.below now new g.bytes.0 g.bytes.1 before_end (g.sound.within g.clear) cut;
+    members = begins_beyond (good_coming left old) coming past (lines_given new) g.come passed;
+    behind = up_to (lines_given now) (lines_given new) past rises g.behind;
+    puts = g.puts;
+    works = g.works;
+  }))
+
+  pub at_growth : (fault : Told) (new : LineReader S) → fault ≡ no_memory → failed (source_of new) ≡ failed (source_of now) → StopCause settled Kinds Sorted left failed old out past fault new grown
+  at_growth fault new is served = inr (inl (record {
+    is = is;
+    puts = record { front = settled (member_items past); rest = []; parts = sym (append-nil (settled (member_items past))); puts = g.puts };
+    works = g.works;
+    served = served ∙ g.served;
+  }))
+
+  pub fed_up_to : (fault : Told) (new : LineReader S) → Took settled Kinds Sorted left failed old out past new grown → StopCause settled Kinds Sorted left failed old out past fault new grown
+      → FeedsUpTo settled Kinds Sorted left failed old out fault new grown
+  fed_up_to fault new took cause = record { past = past; took = took; begins = begins_with (good_coming left old) coming past g.come; cause = cause }
+
+  -- a member was given, and the lines that are settled with it couldn't be written
+  pub at_write : (m : Member A) (fault : Told) (new : LineReader S) (later : Output) (lines : List ℕ) → Took settled Kinds Sorted left failed old out (past ++ m ∷ []) new later
+      → IfSome coming (λ good. (rest : List (Member A)) × (good.members ≡ m ∷ rest)) → settled (member_items (past ++ m ∷ [])) ≡ settled (member_items past) ++ lines
+      → fault ≡ write_failed → IsFrontOf later.took grown.put lines → later.has_failed ≡ true → later.sink_has_failed ≡ true → failed (source_of new) ≡ failed (source_of now)
+      → FeedsUpTo settled Kinds Sorted left failed old out fault new later
+  at_write m fault new later lines took first more is front fails sink served = record {
+    past = past ++ m ∷ [];
+    took = took;
+    begins = begins_more (good_coming left old) coming past m g.come first;
+    cause = inr (inr (record {
+      is = is;
+      cuts = record {
+        front = λ before e. front_all later.took grown.put before (settled (member_items past)) lines (settled (member_items (past ++ m ∷ []))) more (g.puts before e) front;
+        failed = fails;
+        sink_failed = sink;
+      };
+      served = served ∙ g.served;
+    }));
+  }
+
+  -- more was taken, and its lines were written
+  pub fed_more : (more : List (Member A)) (new : LineReader S) (next : Option (Good A)) (later : Output) (lines : List ℕ) → (bytes : List ℕ) × Hands left now bytes new → ComeFirst (good_coming left old) more next → All (λ m. m.line ≤ lines_given new) more
+      → lines_given now ≤ lines_given new → IfSome (lines_left left now) (λ lines. lines_left left new ≡ Some (drop (lines_given new - lines_given now) lines)) → line_fault new ≡ None → IsSound left end new
+      → settled (member_items more) ≡ settled (member_items past) ++ lines → Appends grown.put later.put lines → WorksAsBefore grown later → Grows grown.took later.took → failed (source_of new) ≡ failed (source_of now)
+      → Fed settled left failed end old out more new next later
+  fed_more more new next later lines hands come behind rises passed clear sound is appends works grows served = record {
+    bytes = (g.bytes.0 ++ hands.0, hands_both left old.below now new g.bytes.0 hands.0 g.bytes.1 hands.1);
+    grows = grows_both out.took grown.took later.took g.grows grows;
+    come = come;
+    behind = behind;
+    lines = lines_on (lines_left left old.below) (lines_left left now) (lines_left left new) (lines_given now) (lines_given new) rises g.lines passed;
+    clear = clear;
+    sound = sound;
+    puts = λ before e. text_grows grown.put later.put before (settled (member_items past)) lines (settled (member_items more)) is appends (g.puts before e);
+    works = works_both out grown later g.works works;
+    block = works.block g.block;
+    served = served ∙ g.served;
+  }
+
+-- a reader of records without a fault has a reader of lines without one
+pub line_going : {S O : Type 0} {ghosts : Ghosts O} (records : Records S O ghosts) → fault_kept records ≡ None → line_fault (below records) ≡ None
+unfolding view_of view_with
+line_going records e = or_none (option_map told records.cursor.fault) (line_fault records.cursor.reader) e
+
+module _ {S O : Type 0} {ghosts : Ghosts O} (settled : List Feature → List ℕ) (Stands : List Feature → Type 0) (left : S → Option (List ℕ)) (failed : S → Bool) (end : S → Bool) where
+  -- the records so far were taken
+  pub record Going (old : Records S O ghosts) (out : Output) (now : Records S O ghosts) (grown : Output) : Type 0 where
+    pub past : List (Member Feature)
+    pub fed : Fed settled left failed end (view_of old) out past (below now) (good_coming left (view_of now)) grown
+    pub order : order_in now ≡ order_in old
+    pub format : (view_of now).format ≡ (view_of old).format
+    pub placed : ArePlaced (order_in old) (intervals_of (member_items past))
+    pub full : AreNonEmpty (intervals_of (member_items past))
+    pub stands : Stands (member_items past)
+    pub last : last_locus now ≡ option_map locus_of (last_of (intervals_of (member_items past)))
+    pub going : fault_kept now ≡ None
+    pub none_ahead : (view_of now).ahead ≡ None
+
+module _ {S O : Type 0} {ghosts : Ghosts O} (settled : List Feature → List ℕ) (Stands : List Feature → Type 0) (left : S → Option (List ℕ)) (failed : S → Bool) (end : S → Bool) (old : Records S O ghosts) (out : Output) (now : Records S O ghosts) (grown : Output)
+    (fresh : IsFresh left end (view_of old)) (is_bed : (view_of old).format ≡ bed_format (sorting_of (order_in old))) (g : Going settled Stands left failed end old out now grown) where
+  -- so many records were taken, where the reading stops behind so many lines
+  taken_more : (new : Records S O ghosts) (given : List (Member Feature)) (later : Output) → (bytes : List ℕ) × Hands left (below now) bytes (below new) → AreInOrder (order_in old) (member_items given)
+      → (count : ℕ) × StopsBehind left (view_of now) count (below new) → Grows grown.took later.took → Took settled (IsBedKind (order_in old)) (AreInOrder (order_in old)) left failed (view_of old) out given (below new) later
+  taken_more new given later hands sorted (count, stops) grows =
+      taken settled (IsBedKind (order_in old)) (AreInOrder (order_in old)) left failed end (view_of old) out fresh g.past (below now) (good_coming left (view_of now)) grown g.fed count (below new) given later hands sorted stops.passed stops.from stops.near grows
 
   -- after the last record
   pub feeds_all : (new : Records S O ghosts) → order_in new ≡ order_in now → IsSound left end (below new)
       → EndsMembers left failed (view_of now) (view_of new) → FeedsAll settled (IsBedKind (order_in old)) (AreInOrder (order_in old)) left failed Stands (view_of old) out (below new) grown
-  feeds_all new order sound ends = record {
-    past = g.past;
-    took = taken_more new ends.stays.bytes g.past g.placed g.full grown none_more
-        (near_at (below new) grown (stops_ended left failed end (view_of now) g.none_ahead g.going g.sound (view_of new) ends ends.rises) none_more);
-    whole = whole_with (good_coming left (view_of old)) (good_coming left (view_of now)) g.past None g.come ends.none_left;
-    stands = g.stands;
-    puts = g.puts;
-    works = g.works;
-    served = ends.served ∙ g.served;
-    within = sound.within (line_going new ends.goes);
-  }
-
-  same_input : input_of (below now) ≡ input_of (below old)
-  same_input = g.bytes.1.same_input
+  feeds_all new order sound ends =
+      fed_all settled (IsBedKind (order_in old)) (AreInOrder (order_in old)) left failed end (view_of old) out fresh g.past (below now) (good_coming left (view_of now)) grown g.fed Stands (below new)
+      (taken_more new g.past grown ends.stays.bytes (g.placed, g.full) (stops_ended left failed end (view_of now) g.none_ahead g.going g.fed.sound (view_of new) ends ends.rises) (none_grows grown.took))
+      g.stands ends.none_left ends.served (sound.within (line_going new ends.goes))
 
   cause_of : (new : Records S O ghosts) (fault : Told) → IsSound left end (below new) → AnswersFault left failed end (view_of now) fault (view_of new)
       → PeekCause left failed end (view_of now) fault (view_of new) → StopCause settled (IsBedKind (order_in old)) (AreInOrder (order_in old)) left failed (view_of old) out g.past fault (below new) grown
-  cause_of new fault sound answers (inl at) = inl (inl (record {
-    whole = whole_with (good_coming left (view_of old)) (good_coming left (view_of now)) g.past (Some fault) g.come at.none_left;
-    line = lines_given (below new);
-    kind = at.kind;
-    is = at.place ∙ ap (λ input. fault_at_line input (lines_given (below new)) at.kind) same_input;
-    of_kind = wrong_of_bed (order_in old) (view_of now).state at.line.text at.kind (ap (λ f. f.says (view_of now).state at.line) (sym (g.format ∙ is_bed)) ∙ at.says);
-    puts = g.puts;
-    works = g.works;
-    served = at.served ∙ g.served;
-    within = sound.within at.going;
-  }))
-  cause_of new fault sound answers (inr (inl unread)) = inl (inr (record {
-    is = unread.fails.is ∙ ap (λ input. read_failed input (suc (lines_given (below new)))) same_input;
-    cause = unread.fails.cause;
-    cut = cuts_both left (below old) (below now) (below new) g.bytes.0 g.bytes.1 unread.fails.before_end (g.sound.within (line_going now g.going)) (unread.fails.cut g.sound);
-    members = begins_beyond (good_coming left (view_of old)) (good_coming left (view_of now)) g.past (lines_given (below new)) g.come unread.passed;
-    behind = up_to (lines_given (below now)) (lines_given (below new)) g.past answers.rises g.behind;
-    puts = g.puts;
-    works = g.works;
-  }))
-  cause_of new fault sound answers (inr (inr ran)) = inr (inl (record {
-    is = ran.is;
-    puts = record { front = settled (member_items g.past); rest = []; parts = sym (append-nil (settled (member_items g.past))); puts = g.puts };
-    works = g.works;
-    served = ran.served ∙ g.served;
-  }))
+  cause_of new fault sound answers (inl at) =
+      at_line settled (IsBedKind (order_in old)) (AreInOrder (order_in old)) left failed end (view_of old) out fresh g.past (below now) (good_coming left (view_of now)) grown g.fed fault (below new) (lines_given (below new)) at.kind (at.place ∙ ap (λ input. fault_at_line input (lines_given (below new)) at.kind) g.fed.bytes.1.same_input)
+      (wrong_of_bed (order_in old) (view_of now).state at.line.text at.kind (ap (λ f. f.says (view_of now).state at.line) (sym (g.format ∙ is_bed)) ∙ at.says)) at.none_left at.served (sound.within at.going)
+  cause_of new fault sound answers (inr (inl unread)) =
+      at_read settled (IsBedKind (order_in old)) (AreInOrder (order_in old)) left failed end (view_of old) out fresh g.past (below now) (good_coming left (view_of now)) grown g.fed fault (below new) unread.fails.is unread.fails.cause unread.fails.before_end (unread.fails.cut g.fed.sound) unread.passed answers.rises
+  cause_of new fault sound answers (inr (inr ran)) =
+      at_growth settled (IsBedKind (order_in old)) (AreInOrder (order_in old)) left failed end (view_of old) out fresh g.past (below now) (good_coming left (view_of now)) grown g.fed fault (below new) ran.is ran.served
 
   -- the reader told a fault
   pub stops_reading : (new : Records S O ghosts) (fault : Told) → order_in new ≡ order_in now → IsSound left end (below new)
       → AnswersFault left failed end (view_of now) fault (view_of new) → FeedsUpTo settled (IsBedKind (order_in old)) (AreInOrder (order_in old)) left failed (view_of old) out fault (below new) grown
-  stops_reading new fault order sound answers = record {
-    past = g.past;
-    took = taken_more new answers.stays.bytes g.past g.placed g.full grown none_more
-        (near_at (below new) grown (stops_faulty left failed end (view_of now) g.none_ahead g.going g.sound (view_of new) fault answers sound) none_more);
-    begins = begins_with (good_coming left (view_of old)) (good_coming left (view_of now)) g.past g.come;
-    cause = cause_of new fault sound answers (answers.first g.going);
-  }
+  stops_reading new fault order sound answers =
+      fed_up_to settled (IsBedKind (order_in old)) (AreInOrder (order_in old)) left failed end (view_of old) out fresh g.past (below now) (good_coming left (view_of now)) grown g.fed fault (below new)
+      (taken_more new g.past grown answers.stays.bytes (g.placed, g.full) (stops_faulty left failed end (view_of now) g.none_ahead g.going g.fed.sound (view_of new) fault answers sound) (none_grows grown.took))
+      (cause_of new fault sound answers (answers.first g.going))
 
   -- a record is ahead
   module _ (peeked : Records S O ghosts) (r : Feature) (order : order_in peeked ≡ order_in now) (sound : IsSound left end (below peeked)) (gives : GivesRecord left failed now r peeked) where
@@ -387,15 +479,8 @@ module _ {S O : Type 0} {ghosts : Ghosts O} (settled : List Feature → List ℕ
 
     took_more : (later : Output) → Grows grown.took later.took → Took settled (IsBedKind (order_in old)) (AreInOrder (order_in old)) left failed (view_of old) out with_next (below peeked) later
     took_more later grows =
-        taken_more peeked gives.read.stays.bytes with_next placed_more full_more later grows
-        (near_at (below peeked) later (stops_given left failed end (view_of now) g.none_ahead g.going g.sound next_member (view_of peeked) gives.read sound
-        (line_going peeked (gives.read.goes ∙ g.going))) grows)
-
-    begins : IfSome (good_coming left (view_of old)) (λ good. (rest : List (Member Feature)) × (good.members ≡ with_next ++ rest))
-    begins = begins_more (good_coming left (view_of old)) (good_coming left (view_of now)) g.past next_member g.come gives.read.first
-
-    served_more : failed (source_of (below peeked)) ≡ failed (source_of (below old))
-    served_more = gives.read.served ∙ g.served
+        taken_more peeked with_next later gives.read.stays.bytes (placed_more, full_more)
+        (stops_given left failed end (view_of now) g.none_ahead g.going g.fed.sound next_member (view_of peeked) gives.read sound (line_going peeked (gives.read.goes ∙ g.going))) grows
 
     -- the lines that are settled with it, put behind those of the records so far
     abbrev settled_next : List ℕ
@@ -409,20 +494,8 @@ module _ {S O : Type 0} {ghosts : Ghosts O} (settled : List Feature → List ℕ
         → CutsRest (settled (member_items g.past)) (settled (member_items g.past ++ r ∷ [])) grown later
         → later.has_failed ≡ true → later.sink_has_failed ≡ true → Grows grown.took later.took
         → FeedsUpTo settled (IsBedKind (order_in old)) (AreInOrder (order_in old)) left failed (view_of old) out fault (below peeked) later
-    stops_writing fault later is cuts fails sink grows = record {
-      past = with_next;
-      took = took_more later grows;
-      begins = begins;
-      cause = inr (inr (record {
-        is = is;
-        cuts = record {
-          front = λ before e. front_all later.took grown.put before (settled (member_items g.past)) cuts.bytes settled_next (goes_on cuts.bytes cuts.goes_on) (g.puts before e) cuts.front;
-          failed = fails;
-          sink_failed = sink;
-        };
-        served = served_more;
-      }));
-    }
+    stops_writing fault later is cuts fails sink grows =
+        at_write settled (IsBedKind (order_in old)) (AreInOrder (order_in old)) left failed end (view_of old) out fresh g.past (below now) (good_coming left (view_of now)) grown g.fed next_member fault (below peeked) later cuts.bytes (took_more later grows) gives.read.first (goes_on cuts.bytes cuts.goes_on) is cuts.front fails sink gives.read.served
 
     -- the engine found no memory
     pub stops_growing : (fault : Told) (later : Output) → fault ≡ no_memory
@@ -432,17 +505,17 @@ module _ {S O : Type 0} {ghosts : Ghosts O} (settled : List Feature → List ℕ
     stops_growing fault later is part works grows = record {
       past = with_next;
       took = took_more later grows;
-      begins = begins;
+      begins = begins_more (good_coming left (view_of old)) (good_coming left (view_of now)) g.past next_member g.fed.come gives.read.first;
       cause = inr (inl (record {
         is = is;
         puts = record {
           front = settled (member_items g.past) ++ part.bytes;
           rest = part.unput;
           parts = goes_on (part.bytes ++ part.unput) part.goes_on ∙ sym (append_assoc (settled (member_items g.past)) part.bytes part.unput);
-          puts = λ before e. text_grows grown.put later.put before (settled (member_items g.past)) part.bytes (settled (member_items g.past) ++ part.bytes) refl part.appends (g.puts before e);
+          puts = λ before e. text_grows grown.put later.put before (settled (member_items g.past)) part.bytes (settled (member_items g.past) ++ part.bytes) refl part.appends (g.fed.puts before e);
         };
-        works = works_both out grown later g.works works;
-        served = served_more;
+        works = works_both out grown later g.fed.works works;
+        served = gives.read.served ∙ g.fed.served;
       }));
     }
 
@@ -452,35 +525,27 @@ module _ {S O : Type 0} {ghosts : Ghosts O} (settled : List Feature → List ℕ
         → PutsRest (settled (member_items g.past)) (settled (member_items g.past ++ r ∷ [])) grown later
         → WorksAsBefore grown later → Grows grown.took later.took → Going settled Next left failed end old out next later
     going_more Next next later passes stands puts works grows =
-        let taken = took_more later grows in
         let same = passes.passes.reads_nothing in
         let at = gives.read.at g.none_ahead in
         let rises = gives.read.rises g.none_ahead in
+        let come = come_more (good_coming left (view_of old)) (good_coming left (view_of now)) (good_coming left (view_of peeked)) (good_coming left (view_of next)) g.past next_member g.fed.come gives.read.good gives.read.first
+        (passes.passes.good next_member gives.read.ahead) in
+        let behind = All-push (λ m. m.line ≤ lines_given (below peeked)) g.past next_member
+        (up_to (lines_given (below now)) (lines_given (below peeked)) g.past (omega (arith, rises.0)) g.fed.behind) (omega (arith, at)) in
         record {
           past = with_next;
+          fed = subst (λ (reader : LineReader S). Fed settled left failed end (view_of old) out with_next reader (good_coming left (view_of next)) later) (sym same)
+              (fed_more settled (IsBedKind (order_in old)) (AreInOrder (order_in old)) left failed end (view_of old) out fresh g.past (below now) (good_coming left (view_of now)) grown g.fed with_next (below peeked) (good_coming left (view_of next)) later puts.bytes gives.read.stays.bytes come behind (omega (arith, rises.0)) gives.read.lines
+              (line_going peeked (gives.read.goes ∙ g.going)) sound (goes_on puts.bytes puts.goes_on) puts.appends works grows gives.read.served);
           order = passes.order ∙ order ∙ g.order;
           format = passes.passes.format ∙ gives.read.stays.format ∙ g.format;
-          bytes = subst (λ reader. (bytes : List ℕ) × Hands left (below old) bytes reader) (sym same) taken.bytes;
-          placed = taken.sorted.0;
-          full = taken.sorted.1;
-          grows = taken.grows;
-          come = come_more (good_coming left (view_of old)) (good_coming left (view_of now)) (good_coming left (view_of peeked)) (good_coming left (view_of next)) g.past next_member g.come gives.read.good gives.read.first
-              (passes.passes.good next_member gives.read.ahead);
-          behind = subst (λ reader. All (λ m. m.line ≤ lines_given reader) with_next) (sym same)
-              (All-push (λ m. m.line ≤ lines_given (below peeked)) g.past next_member
-              (up_to (lines_given (below now)) (lines_given (below peeked)) g.past (omega (arith, rises.0)) g.behind) (omega (arith, at)));
-          lines = subst (λ reader. IfSome (lines_left left (below old)) (λ lines. lines_left left reader ≡ Some (drop (lines_given reader) lines))) (sym same)
-              (lines_on (lines_left left (below old)) (lines_left left (below now)) (lines_left left (below peeked)) (lines_given (below now)) (lines_given (below peeked)) (omega (arith, rises.0)) g.lines gives.read.lines);
+          placed = placed_more;
+          full = full_more;
           stands = subst Next (sym items_more) stands;
           last = passes.last ∙ ap (option_map locus_at) (ap (option_map (λ m. m.item)) gives.read.ahead)
               ∙ ap (option_map locus_of) (sym (last_of-push (intervals_of (member_items g.past)) (interval_of r))) ∙ ap (λ l. option_map locus_of (last_of l)) (sym pushed);
           going = passes.passes.goes ∙ gives.read.goes ∙ g.going;
           none_ahead = passes.passes.none_ahead;
-          sound = subst (IsSound left end) (sym same) sound;
-          puts = λ before e. text_grows grown.put later.put before (settled (member_items g.past)) puts.bytes settled_next (goes_on puts.bytes puts.goes_on) puts.appends (g.puts before e);
-          works = works_both out grown later g.works works;
-          block = works.block g.block;
-          served = ap (λ reader. failed (source_of reader)) same ∙ served_more;
         }
 
 -- before the first record
@@ -489,24 +554,15 @@ module _ {S O : Type 0} {ghosts : Ghosts O} (settled : List Feature → List ℕ
       → Going settled Stands left failed end old out old out
   going_start fresh none_last stands nothing block = record {
     past = [];
+    fed = fed_none settled left failed end (view_of old) out fresh (line_going old fresh.going) nothing block;
     order = refl;
     format = refl;
-    bytes = ([], hands_none left (below old));
     placed = tt;
     full = λ k d h. absurd (omega arith);
-    grows = ([], Appends-nil out.took);
-    come = come_none (good_coming left (view_of old));
-    behind = λ k d h. absurd (omega arith);
-    lines = none_passed (lines_left left (below old)) (lines_given (below old)) fresh.none_given.0;
     stands = stands;
     last = none_last;
     going = fresh.going;
     none_ahead = fresh.none_ahead;
-    sound = fresh.sound;
-    puts = λ before e. e ∙ ap Some (sym (ap (λ l. before ++ l) nothing ∙ append-nil before));
-    works = record { served = refl; sink_served = refl; put = ([], Appends-nil out.put); block = λ h. h };
-    block = block;
-    served = refl;
   }
 
 -- the engine wasn't given the record

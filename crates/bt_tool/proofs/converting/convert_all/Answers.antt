@@ -31,7 +31,7 @@ loop-line-preserved g c =
     let written = c.in_ok-convert_line.ensures in
     record {
       going = going_line first.split first.with_cigar _ _ _ c.args.lines.now c.args.out.now c.requires.fresh c.loop-line.lines c.loop-line.out now.going c.next.follows.lender-at-none (line_seen c.in-Some.line) gives.answers
-          (gives.sound now.going.sound) c.loop-line.converter c.convert_line.new.converter (ap (λ (m : Converting). m.split) now.same) (ap (λ (m : Converting). m.with_cigar) now.same) c.convert_line.new.out written;
+          (gives.sound now.going.fed.sound) c.loop-line.converter c.convert_line.new.converter (ap (λ (m : Converting). m.split) now.same) (ap (λ (m : Converting). m.with_cigar) now.same) c.convert_line.new.out written;
       same = written.unchanged ∙ now.same;
       input = now.input;
     }
@@ -54,13 +54,13 @@ returns-in_err-convert_line g c =
     c.from_residual-in_err-convert_line.ensures.1
     (⊎_elim
     (λ refused. stops_at_line first.split first.with_cigar _ _ _ c.args.lines.now c.args.out.now c.requires.fresh c.loop-line.lines c.loop-line.out now.going c.next.follows.lender-at-none line gives.answers
-    (gives.sound now.going.sound) fault c.convert_line.new.out (subst (λ (i : Input). LineRefused i line c.loop-line.out fault c.convert_line.new.out) now.input refused))
+    (gives.sound now.going.fed.sound) fault c.convert_line.new.out (subst (λ (i : Input). LineRefused i line c.loop-line.out fault c.convert_line.new.out) now.input refused))
     (λ unwritten. stops_writing first.split first.with_cigar _ _ _ c.args.lines.now c.args.out.now c.requires.fresh c.loop-line.lines c.loop-line.out now.going c.next.follows.lender-at-none line gives.answers
-    (gives.sound now.going.sound) c.loop-line.converter (ap (λ (m : Converting). m.split) now.same) (ap (λ (m : Converting). m.with_cigar) now.same) fault c.convert_line.new.out unwritten)
+    (gives.sound now.going.fed.sound) c.loop-line.converter (ap (λ (m : Converting). m.split) now.same) (ap (λ (m : Converting). m.with_cigar) now.same) fault c.convert_line.new.out unwritten)
     c.in_err-convert_line.ensures)
 
 pub returns : goal.returns
 returns g c =
     let gives = rw (c.in_ok-line.was, c.in_default.is) at c.next.follows.holds-at-none in
     let now = c.loop-line.invariant in
-    converts_all _ _ _ _ _ c.args.lines.now c.args.out.now c.requires.fresh c.loop-line.lines c.loop-line.out now.going c.next.follows.lender-at-none gives.answers (gives.sound now.going.sound)
+    converts_all _ _ _ _ _ c.args.lines.now c.args.out.now c.requires.fresh c.loop-line.lines c.loop-line.out now.going c.next.follows.lender-at-none gives.answers (gives.sound now.going.fed.sound)

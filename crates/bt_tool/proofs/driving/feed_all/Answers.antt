@@ -16,7 +16,7 @@ returns-in_err-record g c =
     let now = c.loop-record.invariant in
     passed_on (λ r. FeedsRecords (g.E.Engine.settled c.args.engine.now) g.S.Source.left g.S.Source.has_failed (λ past. g.E.Engine.stands c.args.engine.now past c.loop-record.engine) c.args.records.now c.args.out.now r c.peek.follows.lender-at-none c.loop-record.out) c.from_residual.result c.in_err-record.field-0.0
     c.from_residual.ensures.1
-    (stops_reading _ _ _ _ _ c.args.records.now c.args.out.now c.loop-record.records c.loop-record.out c.requires.fresh c.requires.sorted now c.peek.follows.lender-at-none (told c.in_err-record.field-0.0) gives.order (gives.sound now.sound) gives.answers)
+    (stops_reading _ _ _ _ _ c.args.records.now c.args.out.now c.loop-record.records c.loop-record.out c.requires.fresh c.requires.sorted now c.peek.follows.lender-at-none (told c.in_err-record.field-0.0) gives.order (gives.sound now.fed.sound) gives.answers)
 
 pub returns-in_err-feed : goal.returns-in_err-feed
 returns-in_err-feed g c =
@@ -24,12 +24,12 @@ returns-in_err-feed g c =
     let r = feature_lent c.in-Some.record in
     let now = c.loop-record.invariant in
     let takes = c.requires.takes (member_items now.past ++ r ∷ [])
-    (placed_items _ _ _ _ _ c.args.records.now c.args.out.now c.loop-record.records c.loop-record.out c.requires.fresh c.requires.sorted now c.peek.follows.lender-at-none r gives.order (gives.sound now.sound) gives.answers)
-    (full_items _ _ _ _ _ c.args.records.now c.args.out.now c.loop-record.records c.loop-record.out c.requires.fresh c.requires.sorted now c.peek.follows.lender-at-none r gives.order (gives.sound now.sound) gives.answers) in
+    (placed_items _ _ _ _ _ c.args.records.now c.args.out.now c.loop-record.records c.loop-record.out c.requires.fresh c.requires.sorted now c.peek.follows.lender-at-none r gives.order (gives.sound now.fed.sound) gives.answers)
+    (full_items _ _ _ _ _ c.args.records.now c.args.out.now c.loop-record.records c.loop-record.out c.requires.fresh c.requires.sorted now c.peek.follows.lender-at-none r gives.order (gives.sound now.fed.sound) gives.answers) in
     passed_on (λ r. FeedsRecords (g.E.Engine.settled c.args.engine.now) g.S.Source.left g.S.Source.has_failed (λ past. g.E.Engine.stands c.args.engine.now past c.feed.new.self) c.args.records.now c.args.out.now r c.peek.follows.lender-at-none c.feed.new.out) c.from_residual-in_err-feed.result c.in_err-feed.field-0.0
     c.from_residual-in_err-feed.ensures.1
     (stops_feeding g.E.Engine.takes g.E.Engine.stands g.E.Engine.fault g.E.Engine.settled c.args.engine.now c.loop-record.engine _ _ _ c.args.records.now c.args.out.now c.loop-record.records c.loop-record.out
-    c.requires.fresh c.requires.sorted now c.peek.follows.lender-at-none r gives.order (gives.sound now.sound) gives.answers
+    c.requires.fresh c.requires.sorted now c.peek.follows.lender-at-none r gives.order (gives.sound now.fed.sound) gives.answers
     g.E.Engine.quiet c.in_err-feed.field-0.0 c.feed.new.self c.feed.new.out takes c.in_err-feed.ensures)
 
 pub loop-record-preserved : goal.loop-record-preserved
@@ -38,14 +38,14 @@ loop-record-preserved g c =
     let r = feature_lent c.in-Some.record in
     let now = c.loop-record.invariant in
     let takes = c.requires.takes (member_items now.past ++ r ∷ [])
-    (placed_items _ _ _ _ _ c.args.records.now c.args.out.now c.loop-record.records c.loop-record.out c.requires.fresh c.requires.sorted now c.peek.follows.lender-at-none r gives.order (gives.sound now.sound) gives.answers)
-    (full_items _ _ _ _ _ c.args.records.now c.args.out.now c.loop-record.records c.loop-record.out c.requires.fresh c.requires.sorted now c.peek.follows.lender-at-none r gives.order (gives.sound now.sound) gives.answers) in
+    (placed_items _ _ _ _ _ c.args.records.now c.args.out.now c.loop-record.records c.loop-record.out c.requires.fresh c.requires.sorted now c.peek.follows.lender-at-none r gives.order (gives.sound now.fed.sound) gives.answers)
+    (full_items _ _ _ _ _ c.args.records.now c.args.out.now c.loop-record.records c.loop-record.out c.requires.fresh c.requires.sorted now c.peek.follows.lender-at-none r gives.order (gives.sound now.fed.sound) gives.answers) in
     goes_feeding g.E.Engine.takes g.E.Engine.stands g.E.Engine.fault g.E.Engine.settled c.args.engine.now c.loop-record.engine _ _ _ c.args.records.now c.args.out.now c.loop-record.records c.loop-record.out
-    c.requires.fresh c.requires.sorted now c.peek.follows.lender-at-none r gives.order (gives.sound now.sound) gives.answers
+    c.requires.fresh c.requires.sorted now c.peek.follows.lender-at-none r gives.order (gives.sound now.fed.sound) gives.answers
     g.E.Engine.quiet _ c.feed.new.self c.feed.new.out c.advance.new.self takes c.in_ok-feed.ensures c.advance.ensures
 
 pub returns : goal.returns
 returns g c =
     let gives = rw (c.in_ok-record.was, c.in_default.is) at c.peek.follows.holds-at-none in
     let now = c.loop-record.invariant in
-    feeds_all _ _ _ _ _ c.args.records.now c.args.out.now c.loop-record.records c.loop-record.out c.requires.fresh c.requires.sorted now c.peek.follows.lender-at-none gives.order (gives.sound now.sound) gives.answers
+    feeds_all _ _ _ _ _ c.args.records.now c.args.out.now c.loop-record.records c.loop-record.out c.requires.fresh c.requires.sorted now c.peek.follows.lender-at-none gives.order (gives.sound now.fed.sound) gives.answers
