@@ -135,10 +135,3 @@ module _ {A B O : Type 0} {g : Ghosts O} (a_left : A → Option (List ℕ)) (a_f
 
     pub second_stops : (fault : Fault) (now : Records B O g) (swept : Sweeping) (later : Output) → SecondFails order (told fault) now swept later → Ends (Some (told fault)) first now later
     second_stops fault now swept later turn = stopped_second (told fault) now swept later (subst (λ (o : Order). SecondFails o (told fault) now swept later) is_order turn)
-
-  -- the order of the readers stays
-  pub order_first : order_in first ≡ order
-  order_first = s.first_placed.order ∙ sym is_order
-
-  pub order_second : order_in second ≡ order
-  order_second = s.second_placed.order ∙ same_order ∙ sym is_order
