@@ -11,7 +11,9 @@ use Rattle.bt_lines.specs.Handed.{Handed, whole_text}
 use Rattle.bt_lines.specs.Lines.{TextLine}
 use Rattle.bt_lines.specs.Output.{Output, IsFrontOf, block_size}
 use Rattle.bt_lines.specs.Reader.{input_of, lines_given, source_of}
+use Rattle.bt_lines.specs.declared.fault.Input.{Input}
 use Rattle.bt_lines.specs.declared.fault.Input.TheVariants.{First, Second}
+use Rattle.bt_lines.specs.declared.fault.Kind.{Kind}
 use Rattle.bt_lines.specs.declared.fault.Kind.TheVariants.{ReadFailed}
 use Rattle.bt_bed.specs.Good.{Format, Good, Member, good_handed, items_in, or_else}
 use Rattle.bt_bed.specs.GoodLines.{IsBeyond}
@@ -106,6 +108,11 @@ module _ {Y : Type 0} where
 pub from_known : {T : Type 0} (o : Option T) (P : Type 0) → IsSome o → IfSome o (λ x. P) → P
 from_known None P k h = absurd (false≢true k)
 from_known (Some x) P k h = h
+
+-- a fault of an input isn't a failed write
+tells_no_write : {S : Type 0} (left : S → Option (List ℕ)) (failed : S → Bool) (kinds : Kind → Type 0) (input : Input) (before after : S) → TellsInput left failed kinds input before after write_failed → ⊥
+tells_no_write left failed kinds input before after (inl line) = placed_no_write input line.line line.kind (sym line.is)
+tells_no_write left failed kinds input before after (inr read) = placed_no_write input read.line ReadFailed (sym read.is)
 
 module _ {A B X Y U V : Type 0} (making : Making X Y) (pair : Pair A B X Y U V) (out : Output)
     (first_format : Format X U) (second_format : Format Y V) (in_order : (two : Handed) → making.InOrder (items_in (good_handed second_format Second two)))
@@ -252,30 +259,6 @@ module _ {A B X Y U V : Type 0} (making : Making X Y) (pair : Pair A B X Y U V) 
       let rest = at_whole pair.a_left pair.a_failed pair.a_end first_format First one_before pair.first begins first one_after ended one e (λ good. (rest : List X) × (items_in good ≡ w.written ++ rest)) w.wrote.first_begins in
       meets_front making (good_one (whole_text one)) (good_two (whole_text two)) w.written w.bytes (here_by (whole_text two) (known_by two f) may) rest.0 rest.1
 
-  -- a fault of an input isn't a failed write
-  first_no_write : (past : List (Member X)) (other : Told) → FirstFails making pair out past first other → other ≡ write_failed → ⊥
-  first_no_write past other (inl wrong) e = placed_no_write (input_of pair.first.below) wrong.line wrong.kind (sym wrong.is ∙ e)
-  first_no_write past other (inr unread) e = placed_no_write (input_of pair.first.below) (suc (lines_given first.below)) ReadFailed (sym unread.is ∙ e)
-
-  second_no_write : (past : List (Member Y)) (other : Told) → SecondFails making pair out w.wrote.ended past second other → other ≡ write_failed → ⊥
-  second_no_write past other fails e =
-      elim fails.cause [
-        | inl wrong ↦ placed_no_write (input_of pair.second.below) wrong.line wrong.kind (sym wrong.is ∙ e)
-        | inr unread ↦ placed_no_write (input_of pair.second.below) (suc (lines_given second.below)) ReadFailed (sym unread.is ∙ e)
-      ]
-
-  inputs_no_write : InputsEnd making pair out w.written w.wrote.ended first second fault → fault ≡ Some write_failed → ⊥
-  inputs_no_write (inl stops) e = first_no_write stops.2.past stops.0 stops.2.cause (some_is stops.0 write_failed (sym stops.1 ∙ e))
-  inputs_no_write (inr (inl stops)) e = second_no_write stops.2.past stops.0 stops.2.fails (some_is stops.0 write_failed (sym stops.1 ∙ e))
-  inputs_no_write (inr (inr stops)) e =
-      elim stops.rest [
-        | inl end ↦ let apart : None ≡ Some write_failed = sym end.0 ∙ e in cc
-        | inr others ↦ elim others [
-          | inl told ↦ second_no_write stops.past_second told.0 told.2 (some_is told.0 write_failed (sym told.1 ∙ e))
-          | inr told ↦ placed_no_write Second told.2.line told.2.kind (sym told.2.is ∙ some_is told.0 write_failed (sym told.1 ∙ e))
-        ]
-      ]
-
   first_named : (past : List (Member X)) (other : Told) → FirstFails making pair out past first other → TellsInput pair.a_left pair.a_failed making.first_kinds First one_before one_after other
   first_named past other (inl wrong) = inl (record { line = wrong.line; kind = wrong.kind; of_kind = wrong.of_kind; is = wrong.is ∙ ap (λ i. fault_at_line i wrong.line wrong.kind) begins.input_is })
   first_named past other (inr unread) = inr (record {
@@ -297,25 +280,34 @@ module _ {A B X Y U V : Type 0} (making : Making X Y) (pair : Pair A B X Y U V) 
         })
       ]
 
-  abbrev Named : Told → Type 0
-  Named told =
-      (TellsInput pair.a_left pair.a_failed making.first_kinds First one_before one_after told ⊎ TellsInput pair.b_left pair.b_failed making.second_kinds Second two_before two_after told)
-      ⊎ TellsDevice grown.sink_has_failed told
-
   abbrev Because : Type 0
   Because = Why making pair out w.written w.bytes w.wrote.ended first second fault grown
 
-  named_by : (told : Told) → fault ≡ Some told → Because → Named told
-  named_by told e (inl ((inl stops), puts, works)) = subst Named (some_is stops.0 told (sym stops.1 ∙ e)) (inl (inl (first_named stops.2.past stops.0 stops.2.cause)))
-  named_by told e (inl ((inr (inl stops)), puts, works)) = subst Named (some_is stops.0 told (sym stops.1 ∙ e)) (inl (inr (second_named stops.2.past stops.0 stops.2.fails)))
-  named_by told e (inl ((inr (inr stops)), puts, works)) =
+  abbrev TellsBoth : Told → Type 0
+  TellsBoth told = TellsInput pair.a_left pair.a_failed making.first_kinds First one_before one_after told ⊎ TellsInput pair.b_left pair.b_failed making.second_kinds Second two_before two_after told
+
+  -- what the inputs tell
+  tells_by : (told : Told) → fault ≡ Some told → InputsEnd making pair out w.written w.wrote.ended first second fault → TellsBoth told
+  tells_by told e (inl stops) = subst TellsBoth (some_is stops.0 told (sym stops.1 ∙ e)) (inl (first_named stops.2.past stops.0 stops.2.cause))
+  tells_by told e (inr (inl stops)) = subst TellsBoth (some_is stops.0 told (sym stops.1 ∙ e)) (inr (second_named stops.2.past stops.0 stops.2.fails))
+  tells_by told e (inr (inr stops)) =
       elim stops.rest [
         | inl end ↦ absurd (let apart : None ≡ Some told = sym end.0 ∙ e in cc)
         | inr others ↦ elim others [
-          | inl other ↦ subst Named (some_is other.0 told (sym other.1 ∙ e)) (inl (inr (second_named stops.past_second other.0 other.2)))
-          | inr other ↦ subst Named (some_is other.0 told (sym other.1 ∙ e)) (inl (inr (inl (record { line = other.2.line; kind = other.2.kind; of_kind = other.2.of_kind; is = other.2.is }))))
+          | inl other ↦ subst TellsBoth (some_is other.0 told (sym other.1 ∙ e)) (inr (second_named stops.past_second other.0 other.2))
+          | inr other ↦ subst TellsBoth (some_is other.0 told (sym other.1 ∙ e)) (inr (inl (record { line = other.2.line; kind = other.2.kind; of_kind = other.2.of_kind; is = other.2.is })))
         ]
       ]
+
+  inputs_no_write : InputsEnd making pair out w.written w.wrote.ended first second fault → fault ≡ Some write_failed → ⊥
+  inputs_no_write end e =
+      elim (tells_by write_failed e end) [
+        | inl tells ↦ tells_no_write pair.a_left pair.a_failed making.first_kinds First one_before one_after tells
+        | inr tells ↦ tells_no_write pair.b_left pair.b_failed making.second_kinds Second two_before two_after tells
+      ]
+
+  named_by : (told : Told) → fault ≡ Some told → Because → TellsBoth told ⊎ TellsDevice grown.sink_has_failed told
+  named_by told e (inl (end, puts, works)) = inl (tells_by told e end)
   named_by told e (inr (inl ran)) = inr (inr (some_is told no_memory (sym e ∙ ran.0)))
   named_by told e (inr (inr cut)) = inr (inl (some_is told write_failed (sym e ∙ cut.0), cut.1.sink_failed))
 
