@@ -38,8 +38,11 @@ from chart import draw, write_rows
 
 PROGRAM = Path(__file__).resolve().parent.parent / "bin" / "bedtools"
 # The lengths of the human chromosomes in GRCh38, in million bases.
-LENGTHS = [249, 242, 198, 190, 182, 171, 159, 145, 138, 134, 135, 133, 114, 107, 102, 90, 83, 80, 59, 64, 47, 51, 156, 57]
-NAMES = [f"chr{name}" for name in [*range(1, 23), "X", "Y"]]
+GRCH38 = [249, 242, 198, 190, 182, 171, 159, 145, 138, 134, 135, 133, 114, 107, 102, 90, 83, 80, 59, 64, 47, 51, 156, 57]
+# The chromosomes in the order of their names' bytes, so that -g may be left out.
+CHROMOSOMES = sorted(zip((f"chr{name}" for name in [*range(1, 23), "X", "Y"]), GRCH38))
+NAMES = [name for name, _ in CHROMOSOMES]
+LENGTHS = [length for _, length in CHROMOSOMES]
 # Requests of Linux' ptrace(2), by which a process stops where it is about to end or becomes another program, and the
 # event of the first.
 LIBC = ctypes.CDLL(None, use_errno=True)
@@ -242,7 +245,8 @@ class Workload:
         return self.is_drawn if self.counted is None else program in self.counted
 
     def name(self):
-        return f"{' '.join(self.words)}, {self.data.name()}"
+        without = ", without -g" if self.words[0] in ("merge", "intersect", "subtract") and not self.genome_of else ""
+        return f"{' '.join(self.words)}, {self.data.name()}{without}"
 
 
 OURS = ("dunekettle",)
@@ -261,6 +265,16 @@ WORKLOADS = [
         Workload(["intersect", "-sorted", *shape], data, BOTH, None, None, 0.35, not shape)
         for data in (Pair(READS, EXONS), Pair(EXONS, PEAKS), Nested())
         for shape in SHAPES
+    ),
+    # In the order of the names' bytes, beside the same in that of a genome file.
+    *(Workload(["merge"], Touching(columns), (), ["--merge"], aim, part) for columns, aim, part in ((3, 450, 0.2), (6, 600, 0.3))),
+    *(
+        Workload(["intersect", "-sorted"], data, (), None, None, 0.35)
+        for data in (Pair(READS, EXONS), Pair(EXONS, PEAKS))
+    ),
+    *(
+        Workload(["subtract"], data, (), None, None, 0.3, words_of_bedtools=["subtract", "-sorted"])
+        for data in (Pair(READS, EXONS), Pair(EXONS, PEAKS))
     ),
     *(Workload(["intersect", "-sorted", *shape], Under(), BOTH, None, None, 0.35, False) for shape in ([], ["-u"], ["-c"])),
     Workload(["subtract"], Under(), BOTH, None, None, 0.3, False, ["subtract", "-sorted"]),

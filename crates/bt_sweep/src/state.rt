@@ -114,6 +114,7 @@ impl<H: Held> State<H> {
 
     // Takes the next record of the first input: it waits, or where the second input has ended its lines
     // are written.
+    #[inline(always)]
     pub(crate) fn take_a<K: Sink>(&mut self, a: &BedRef<'_>, out: &mut Out<K>) -> Result<(), Fault>
         ensures takes { AreRising (held_with self.old.last self.old.held (feature_lent a.now))
             → TakesA self.old (feature_lent a.now) out.old result self.new out.new }
