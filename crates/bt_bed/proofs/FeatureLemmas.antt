@@ -14,7 +14,8 @@ use Rattle.bt_bed.specs.Feature.{Feature}
 use Rattle.bt_bed.specs.Header.{is_header}
 use Rattle.bt_bed.specs.Record.{IsFeature, IsName, is_kept, record_of, not_skipped, columns_in, columns_say, feature_of, kept_columns, strand_of}
 use Rattle.bt_bed.specs.declared.strand.Strand.{Strand}
-use Rattle.bt_bed.proofs.Kept.{IsColumn, three_columns, kept_is_cut, pieces_are_columns, rest_of_three}
+use Rattle.bt_bed.proofs.Kept.{three_columns, kept_is_cut, pieces_are_columns, rest_of_three}
+use Rattle.bt_lines.proofs.ColumnLemmas.{IsColumn}
 
 last_of_both : (a b : Bool) → (a && b) ≡ true → b ≡ true
 last_of_both true b e = e

@@ -5,15 +5,8 @@ use Rattle.std.proofs.lemmas.List.Splits.{slice_split_at, slice_split_none, join
 use Rattle.std.proofs.lemmas.List.Elements.{All-cons}
 use Rattle.std.specs.List.{All, AllByRecursion, join_with_byte, onto_first}
 use Rattle.bt_lines.specs.Lines.{pieces}
+use Rattle.bt_lines.proofs.ColumnLemmas.{IsColumn, IsInside}
 use Rattle.bt_bed.specs.Record.{kept_columns}
-
--- not a tab
-abbrev pub IsInside : ℕ → Type 0
-IsInside byte = eqb byte 9 ≡ false
-
--- a column has no tab
-abbrev pub IsColumn : List ℕ → Type 0
-IsColumn column = All IsInside column
 
 -- a column and those behind it, each with a tab before it
 joined : (x : List ℕ) (xs : List (List ℕ)) → join_with_byte 9 (x ∷ xs) ≡ x ++ kept_columns xs

@@ -12,7 +12,7 @@ pub mod TableLemmas
 pub mod Kept
 pub mod HeaderLemmas
 pub mod FeatureLemmas
-pub mod PlainLemmas
+pub mod FirstColumnLemmas
 pub mod TabLemmas
 pub mod RoundTrip
 pub mod SaidLemmas

@@ -17,7 +17,8 @@ use Rattle.bt_bed.specs.Header.{ends_word, first_word, is_header, is_header_word
 use Rattle.bt_bed.specs.Record.{IsFeature, is_kept, bed_text, columns_in, columns_say, feature_of, kept_columns, not_skipped, read_are_rewritten, said_are_features, written_are_read}
 use Rattle.bt_bed.proofs.FeatureLemmas.{columns_of_line, record_said, said_is_feature, said_stands, whole}
 use Rattle.bt_bed.proofs.HeaderLemmas.{of_word}
-use Rattle.bt_bed.proofs.Kept.{IsColumn, IsInside, cut_and_kept, kept_is_cut, pieces_are_columns}
+use Rattle.bt_bed.proofs.Kept.{cut_and_kept, kept_is_cut, pieces_are_columns}
+use Rattle.bt_lines.proofs.ColumnLemmas.{IsColumn, IsInside}
 
 -- a decimal digit is a digit and no tab
 in_range_digit : (c : ℕ) → IsInRange 48 57 c → is_ascii_digit c ≡ true

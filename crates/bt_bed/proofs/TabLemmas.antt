@@ -7,9 +7,10 @@ use Rattle.std.proofs.lemmas.List.Sums.{prefix_len-le-length}
 use Rattle.std.specs.List.{prefix_len}
 use Rattle.std.specs.Simd.Lanes.{chunk, mask_l}
 use Rattle.bt_lines.specs.Lines.{pieces}
-use Rattle.bt_bed.proofs.Kept.{IsColumn}
-use Rattle.bt_bed.proofs.PlainLemmas.{cut_at}
-use Rattle.bt_bed.specs.Plain.{CutsTwo, IsFirstTab, is_tab}
+use Rattle.bt_lines.proofs.ColumnLemmas.{IsColumn}
+use Rattle.bt_lines.proofs.ColumnLemmas.{cut_at}
+use Rattle.bt_lines.specs.Columns.{IsFirstTab}
+use Rattle.bt_bed.specs.FirstColumns.{CutsTwo, is_tab}
 use lib.Count.{count_trailing_zeros}
 
 -- what is left of a mask without its lowest bits is that of the later bytes

@@ -12,7 +12,7 @@ pub mod Locus
 pub mod Together
 pub mod Header
 pub mod Record
-pub mod Plain
+pub mod FirstColumns
 pub mod Bed
 pub mod LineKind
 pub mod Sorting

@@ -4,13 +4,12 @@ ghost use Rattle.std.specs.Prelude.{◌≡◌, ◌+◌, ◌≤◌, ◌++◌, cod
 ghost use Rattle.bt_lines.specs.Putting.{Puts};
 ghost use Rattle.bt_bed.specs.IntervalLine.{bounds_text, interval_line, span_text};
 
-use bt_lines::{Fault, Out, Sink};
-use itoa::write_digits;
+use bt_lines::{COLUMN, Fault, Out, Sink, write_column};
 
-// The room for what stands behind the name: two tabs, two numbers of up to 20 digits and a line feed.
-const ROOM: usize = 43;
+// The room for what follows the name: two columns and a line feed.
+const ROOM: usize = 2 * COLUMN + 1;
 
-/// Puts the line of an interval: its name, and what stands behind it in one piece. It takes no memory.
+/// Puts the line of an interval: its name, and what follows it in one piece. It takes no memory.
 /// The start is zero-based, and the end isn't included.
 #[inline]
 pub fn put_interval<K: Sink>(
@@ -38,18 +37,15 @@ pub(crate) fn put_bounds<K: Sink>(start: u64, stop: u64, out: &mut Out<K>) -> Re
     out.put(&text[first..ROOM - 1])
 }
 
-// Writes what stands behind the name so that it ends where the text does, and gives where it begins.
+// Writes what follows the name so that it ends where the text does, and gives where it begins.
 #[inline]
 fn write_span(start: u64, stop: u64, text: &mut [u8; ROOM]) -> usize
     ensures within { result ≤ ROOM }
     ensures written { drop result text.new ≡ span_text start stop }
 {
     text[ROOM - 1] = b'\n';
-    let before_stop = write_digits(stop, text, ROOM - 1) - 1;
-    text[before_stop] = b'\t';
-    let before_start = write_digits(start, text, before_stop) - 1;
-    text[before_start] = b'\t';
-    before_start
+    let before_stop = write_column(stop, text, ROOM - 1);
+    write_column(start, text, before_stop)
 }
 
 #[cfg(test)]

@@ -47,7 +47,7 @@ mod names;
 mod neighbours;
 mod order;
 mod parsing;
-mod plain;
+mod direct;
 mod putting;
 mod rec;
 mod records;

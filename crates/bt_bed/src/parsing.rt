@@ -8,7 +8,7 @@ ghost use Rattle.bt_lines.specs.Number.{value_of};
 
 use crate::bed::BedRef;
 use crate::header::is_header;
-use crate::plain::{kept_strand, plain_feature};
+use crate::direct::{kept_strand, direct_feature};
 use crate::strand::Strand;
 use bt_lines::{Kind, columns, number};
 
@@ -25,7 +25,7 @@ pub fn parse_bed(text: &[u8]) -> Result<Option<BedRef<'_>>, Kind>
     if is_header(text) {
         return Ok(None);
     }
-    if let Some(feature) = plain_feature(text) {
+    if let Some(feature) = direct_feature(text) {
         return Ok(Some(feature));
     }
     let feature = first_columns(text)?;

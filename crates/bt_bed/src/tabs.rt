@@ -2,7 +2,8 @@
 
 ghost use Rattle.std.specs.Prelude.{◌≡◌, ◌≤◌, IfSome, drop, length, map};
 ghost use Rattle.std.specs.Simd.Lanes.{mask_l};
-ghost use Rattle.bt_bed.specs.Plain.{CutsTwo, IsFirstTab, is_tab};
+ghost use Rattle.bt_lines.specs.Columns.{IsFirstTab};
+ghost use Rattle.bt_bed.specs.FirstColumns.{CutsTwo, is_tab};
 
 use std::simd::prelude::*;
 

@@ -1,5 +1,6 @@
 pub mod PiecesLemmas
 pub mod BlockLemmas
+pub mod ColumnLemmas
 pub mod EightLemmas
 pub mod FillingLemmas
 pub mod NumberLemmas

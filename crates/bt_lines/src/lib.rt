@@ -27,6 +27,7 @@ mod fault;
 mod faults;
 mod filling;
 mod from_read;
+mod from_right;
 mod held_back;
 pub mod laws;
 mod line;
@@ -46,15 +47,16 @@ pub use device::{DeviceFailed, Sink, Source};
 pub use fault::{Fault, Input, Kind, Place};
 pub use faults::{no_memory, write_failed};
 pub use from_read::FromRead;
+pub use from_right::{COLUMN, write_column};
 pub use line::{Line, LineEnd};
 pub use line_reader::LineReader;
-pub use numbers::{MAX_NUMBER, eight_digits, number};
+pub use numbers::{MAX_DIGITS, MAX_NUMBER, eight_digits, number};
 pub use output::Out;
 pub use putting::{put_column, put_line, put_number};
 pub use report::{Names, fault_line};
 pub use script_sink::ScriptSink;
 pub use script_source::ScriptSource;
-pub use split::columns;
+pub use split::{columns, first_tab};
 pub use to_write::ToWrite;
 
 #[cfg(test)]

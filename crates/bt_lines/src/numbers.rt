@@ -6,8 +6,8 @@ ghost use Rattle.bt_lines.specs.Number.{value_of};
 /// The greatest number that a text may denote.
 pub const MAX_NUMBER: u64 = 999_999_999_999;
 
-// So many digits are within the greatest number, whatever they are.
-const SHORT: usize = 12;
+/// So many digits denote at most [`MAX_NUMBER`], whatever they are.
+pub const MAX_DIGITS: usize = 12;
 
 /// The number that a text of one or more decimal digits denotes, where it is at most
 /// [`MAX_NUMBER`]. Leading zeros are allowed, a sign or a space isn't.
@@ -17,7 +17,7 @@ pub fn number(text: &[u8]) -> Option<u64>
     if text.is_empty() {
         return None;
     }
-    if text.len() > SHORT {
+    if text.len() > MAX_DIGITS {
         return long_number(text);
     }
     let mut value: u64 = 0;
@@ -30,9 +30,9 @@ pub fn number(text: &[u8]) -> Option<u64>
     Some(value)
 }
 
-// Eight bytes as one number, the first in its lowest byte: the upper halves of all, where those of the
-// digits are `ZEROS`, and what leads from `9` to the end of its sixteen codes.
-const UPPER: u64 = 0xf0f0_f0f0_f0f0_f0f0;
+// Eight bytes as one number, the first in its lowest byte. The codes of the digits are 0x30 to 0x39: their
+// upper halves are 3, and stay 3 when 6 is added. No other byte is like that.
+const UPPER_HALVES: u64 = 0xf0f0_f0f0_f0f0_f0f0;
 
 const ZEROS: u64 = 0x3030_3030_3030_3030;
 
@@ -45,10 +45,10 @@ pub fn eight_digits(bytes: &[u8; 8]) -> Option<u64>
     ensures { result ≡ value_of bytes.now }
 {
     let word = u64::from_le_bytes(*bytes);
-    if word & UPPER != ZEROS {
+    if word & UPPER_HALVES != ZEROS {
         return None;
     }
-    if (word + SIXES) & UPPER != ZEROS {
+    if (word + SIXES) & UPPER_HALVES != ZEROS {
         return None;
     }
     let ones = word - ZEROS;

@@ -1,7 +1,7 @@
 //! Cutting a line into its columns.
 
-ghost use Rattle.std.specs.Prelude.{◌≡◌};
-ghost use Rattle.bt_lines.specs.Columns.{columns_left};
+ghost use Rattle.std.specs.Prelude.{◌≡◌, IfSome};
+ghost use Rattle.bt_lines.specs.Columns.{CutAt, IsFirstTab, columns_left};
 ghost use Rattle.bt_lines.specs.Lines.{pieces};
 
 use crate::column_iter::Columns;
@@ -11,4 +11,21 @@ pub fn columns(text: &[u8]) -> Columns<'_>
     ensures { columns_left result ≡ pieces 9 text.now }
 {
     Columns { rest: Some(text) }
+}
+
+/// Where the first tab of a text stands. It is looked for byte by byte, which for a short column takes
+/// less time than `find_byte`.
+#[inline]
+pub fn first_tab(text: &[u8]) -> Option<usize>
+    ensures first { IfSome result (IsFirstTab text.now) }
+    ensures cut { CutAt text.now result }
+{
+    let mut end = 0;
+    while end < text.len() {
+        if text[end] == b'\t' {
+            return Some(end);
+        }
+        end += 1;
+    }
+    None
 }

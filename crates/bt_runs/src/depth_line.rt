@@ -4,16 +4,12 @@ ghost use Rattle.std.specs.Prelude.{◌≡◌, ◌+◌, ◌≤◌, ◌++◌, cod
 ghost use Rattle.bt_lines.specs.Putting.{Puts};
 ghost use Rattle.bt_runs.specs.Depth.{depth_line};
 
-use bt_lines::{Fault, Out, Sink};
-use itoa::write_digits;
+use bt_lines::{COLUMN, Fault, Out, Sink, write_column};
 
-// The room for a number of up to 20 digits and the tab before it.
-const COLUMN: usize = 21;
+// The room for what follows the name: three columns and a line feed.
+const ROOM: usize = 3 * COLUMN + 1;
 
-// The room for what stands behind the name: three such columns and a line feed.
-const ROOM: usize = 64;
-
-// Puts the line of an interval: its name, and what stands behind it in one piece. It takes no memory.
+// Puts the line of an interval: its name, and what follows it in one piece. It takes no memory.
 #[inline]
 pub(crate) fn put_depth<K: Sink>(
     chrom: &[u8],
@@ -31,16 +27,4 @@ pub(crate) fn put_depth<K: Sink>(
     let before_stop = write_column(stop, &mut text, before_depth);
     let first = write_column(start, &mut text, before_stop);
     out.put(&text[first..])
-}
-
-// Writes a tab and a number so that they end where they are told to, and gives where they begin.
-#[inline]
-fn write_column(number: u64, text: &mut [u8; ROOM], end: usize) -> usize
-    requires { (COLUMN ≤ end) × (end ≤ ROOM) }
-    ensures within { (result ≤ end) × (end ≤ result + COLUMN) }
-    ensures written { drop result text.new ≡ codes "\t" ++ (decimal number ++ drop end text.old) }
-{
-    let first = write_digits(number, text, end) - 1;
-    text[first] = b'\t';
-    first
 }

@@ -7,11 +7,10 @@ ghost use Rattle.bt_seq.specs.LineEnds.{bounds_text, end_sign, line_tail, marks,
 ghost use Rattle.bt_seq.specs.Sam.{alignment_lent};
 
 use crate::sam::SamRef;
-use bt_lines::{Fault, Out, Sink, put_column};
-use itoa::write_digits;
+use bt_lines::{COLUMN, Fault, Out, Sink, put_column, write_column};
 
-// The room for what stands between chromosome and name: three tabs and two numbers of up to 20 digits.
-const BOUNDS_ROOM: usize = 43;
+// The room for what stands between chromosome and name: two columns and a tab.
+const BOUNDS_ROOM: usize = 2 * COLUMN + 1;
 
 // The room for what stands behind the name, but for the CIGAR: two marks of two bytes, a number of up to
 // 20 digits, the strand, two tabs, and what ends it.
@@ -71,11 +70,8 @@ fn write_bounds(start: u64, stop: u64, text: &mut [u8; BOUNDS_ROOM]) -> usize
     ensures written { drop result text.new ≡ bounds_text start stop }
 {
     text[BOUNDS_ROOM - 1] = b'\t';
-    let before_stop = write_digits(stop, text, BOUNDS_ROOM - 1) - 1;
-    text[before_stop] = b'\t';
-    let before_start = write_digits(start, text, before_stop) - 1;
-    text[before_start] = b'\t';
-    before_start
+    let before_stop = write_column(stop, text, BOUNDS_ROOM - 1);
+    write_column(start, text, before_stop)
 }
 
 // Writes what stands behind the marks so that it ends where the text does, and gives where it begins.
@@ -87,9 +83,7 @@ fn write_quality(sam: &SamRef<'_>, with_cigar: bool, text: &mut [u8; TAIL_ROOM])
     text[TAIL_ROOM - 1] = end_sign(with_cigar);
     text[TAIL_ROOM - 2] = strand_sign(sam.reverse);
     text[TAIL_ROOM - 3] = b'\t';
-    let before = write_digits(sam.quality, text, TAIL_ROOM - 3) - 1;
-    text[before] = b'\t';
-    before
+    write_column(sam.quality, text, TAIL_ROOM - 3)
 }
 
 // Writes the marks of the first and of the last segment up to an index, and gives where they begin.

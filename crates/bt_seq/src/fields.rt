@@ -2,14 +2,14 @@
 
 ghost use Rattle.std.specs.Prelude.{◌≡◌, length, nat_le, option_map};
 ghost use Rattle.bt_lines.specs.Lines.{pieces};
-ghost use Rattle.memchr.specs.Find.{IsFirstByte, is_byte};
 ghost use Rattle.bt_seq.specs.Alignment.{fields_of};
 ghost use Rattle.bt_seq.specs.Sam.{IsCut, fields_lent};
 
 use bstr::ByteSlice;
+use bt_lines::first_tab;
 
-// How many columns there are at least between CIGAR and SEQ: RNEXT, PNEXT and TLEN.
-const SHORT: usize = 3;
+// The columns between CIGAR and SEQ, which are short: RNEXT, PNEXT and TLEN.
+const SHORT_COLUMNS: usize = 3;
 
 // QNAME, FLAG, RNAME, POS, MAPQ and CIGAR as they stand (SAM specification, section 1.4).
 #[derive(Clone, Copy, Debug)]
@@ -50,7 +50,7 @@ fn has_counted(text: &[u8]) -> bool
     ensures { result ≡ nat_le 5 (length (pieces 9 text.now)) }
 {
     let mut rest = text;
-    for _column in 0..SHORT {
+    for _column in 0..SHORT_COLUMNS {
         let Some((_, behind)) = cut_short(rest) else {
             return false;
         };
@@ -73,19 +73,4 @@ fn cut_short(text: &[u8]) -> Option<(&[u8], &[u8])>
 {
     let end = first_tab(text)?;
     Some((&text[..end], &text[end + 1..]))
-}
-
-// Where the first tab of a text stands. It is looked for byte by byte, which for a short column takes
-// less time than `find_byte`.
-fn first_tab(text: &[u8]) -> Option<usize>
-    ensures { IsFirstByte (is_byte 9) text.now result }
-{
-    let mut end = 0;
-    while end < text.len() {
-        if text[end] == b'\t' {
-            return Some(end);
-        }
-        end += 1;
-    }
-    None
 }

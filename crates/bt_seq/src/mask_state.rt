@@ -15,8 +15,8 @@ use crate::mask_want::{MaskWant, Taken};
 use crate::matching::{Matching, Owner};
 use crate::put_text::{hold_text, put_text};
 use crate::window::{LIMIT, Window};
-use bt_bed::BedRef;
-use bt_lines::{Fault, Input, Kind, Line, LineEnd, Out, Place, Sink};
+use bt_bed::{BedRef, at_line};
+use bt_lines::{Fault, Input, Kind, Line, LineEnd, Out, Place, Sink, no_memory};
 use std::alloc::Global;
 use std::marker::Model;
 
@@ -365,38 +365,18 @@ impl MaskState {
     }
 }
 
-// The fault of a refused growth.
-fn no_memory() -> Fault
-    ensures { told result ≡ no_memory }
-{
-    Fault {
-        kind: Kind::NoMemory,
-        place: None,
-    }
-}
-
 // The fault of text before the first header.
 fn stray_text(line: u64) -> Fault
     ensures { told result ≡ fault_at_line Input.First line Kind.TextBeforeHeader }
 {
-    Fault {
-        kind: Kind::TextBeforeHeader,
-        place: Some(Place {
-            input: Input::First,
-            line,
-        }),
-    }
+    let input = Input::First;
+    at_line(Kind::TextBeforeHeader, Place { input, line })
 }
 
 // The fault of a record whose block belongs to no sequence.
 fn no_sequence(line: u64) -> Fault
     ensures { told result ≡ fault_at_line Input.Second line Kind.NoSequence }
 {
-    Fault {
-        kind: Kind::NoSequence,
-        place: Some(Place {
-            input: Input::Second,
-            line,
-        }),
-    }
+    let input = Input::Second;
+    at_line(Kind::NoSequence, Place { input, line })
 }

@@ -2,7 +2,7 @@ use Rattle.std.proofs.Common.{◌%◌, ◌^◌, ap, ◌∙◌, arith, eqb, repli
 use Rattle.std.proofs.lemmas.List.{length-map}
 use Rattle.std.proofs.lemmas.Simd.{mask_l-mod, tops_compared, zip2_splat}
 use Rattle.std.specs.Simd.Lanes.{mask_l}
-use Rattle.bt_bed.specs.Plain.{is_tab}
+use Rattle.bt_bed.specs.FirstColumns.{is_tab}
 use Rattle.bt_bed.proofs.tabs.tab_bits.Goals as goal
 
 pub returns : goal.returns

@@ -15,7 +15,7 @@ loop-byte-preserved c =
     let digit = sym c.is_ascii_digit.ensures.value ∙ c.if-not-is_ascii_digit.false in
     let more = value_more c.args.text.now c.loop-byte.byte-index c.loop-byte.value c.loop-byte-test.true c.loop-byte.invariant.0 digit in
     let below = value_below c.loop-byte.byte-index c.loop-byte.value _ c.loop-byte.invariant.3 (digit_small _ digit) in
-    let short : c.loop-byte.value * 10 + (get_or c.args.text.now c.loop-byte.byte-index 0 - 48) ≤ 999999999999 = value_short (c.loop-byte.byte-index + 1) _ below (omega (arith, c.loop-byte-test.true, c.if-text-gt-SHORT.false)) in
+    let short : c.loop-byte.value * 10 + (get_or c.args.text.now c.loop-byte.byte-index 0 - 48) ≤ 999999999999 = value_short (c.loop-byte.byte-index + 1) _ below (omega (arith, c.loop-byte-test.true, c.if-text-gt-MAX_DIGITS.false)) in
     (rw c.from.ensures more, digits_more c.args.text.now c.loop-byte.byte-index c.loop-byte-test.true c.loop-byte.invariant.1 digit, rw c.from.ensures short, rw c.from.ensures below)
 
 pub returns : goal.returns

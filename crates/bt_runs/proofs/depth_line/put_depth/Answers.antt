@@ -1,4 +1,4 @@
-use Rattle.std.proofs.Common.{◌≡◌, ℕ, ◌-◌, ◌++◌, List, Ok, Err, arith, subst, ap, ◌∙◌, codes, decimal, take, drop}
+use Rattle.std.proofs.Common.{◌≡◌, ℕ, ◌-◌, ◌++◌, List, length, Ok, Err, arith, subst, ap, ◌∙◌, codes, decimal, take, drop}
 use Rattle.std.proofs.lemmas.List.{length-drop, take_all}
 use Rattle.std.proofs.lemmas.Result.{err_from_is_err_and}
 use Rattle.bt_lines.specs.Putting.{Puts}
@@ -19,7 +19,7 @@ returns g c =
     let first = c.write_column-first.result in
     let text = c.write_column-first.new.text in
     let size = length-drop first text in
-    let long = c.write_column-first.array_long in
+    let long : length text ≡ 64 = omega (arith, c.write_column-before_depth.auto.text, c.write_column-before_stop.auto.text, c.write_column-first.auto.text) in
     let bytes = take (64 - first) (drop first text) in
     let is : bytes ≡ depth_text c.args.start c.args.stop c.args.depth =
     take_all (64 - first) (drop first text) (omega arith)

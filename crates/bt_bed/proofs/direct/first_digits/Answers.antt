@@ -1,6 +1,6 @@
 use Rattle.std.proofs.Common.{arith, take}
 use Rattle.bt_lines.proofs.NumberLemmas.{digits_denoting}
-use Rattle.bt_bed.proofs.plain.first_digits.Goals as goal
+use Rattle.bt_bed.proofs.direct.first_digits.Goals as goal
 
 pub returns-in-Some : goal.returns-in-Some
 returns-in-Some c =

@@ -15,18 +15,6 @@ pub record EndsName (text : List ℕ) (end : ℕ) : Type 0 where
   pub tab : get_or text end 0 ≡ 9
   pub column : All (λ byte. (byte == 9) ≡ false) (take end text)
 
--- the first tab stands here
-pub record IsFirstTab (text : List ℕ) (at : ℕ) : Type 0 where
-  pub within : at < length text
-  pub tab : get_or text at 0 ≡ 9
-  pub column : All (λ byte. (byte == 9) ≡ false) (take at text)
-
--- the first tab stands here, if there is one: it parts the first column from the others
-abbrev pub CutAt : List ℕ → Option ℕ → Type 0
-CutAt text None = pieces 9 text ≡ text ∷ []
-CutAt text (Some at) =
-    (at < length text) × (pieces 9 text ≡ take at text ∷ pieces 9 (drop (at + 1) text))
-
 -- the first column denotes the number, and ends here
 pub record Leads (text : List ℕ) (lead : Leading) : Type 0 where
   pub within : lead.end ≤ length text

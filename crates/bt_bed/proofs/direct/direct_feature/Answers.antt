@@ -1,7 +1,7 @@
 use Rattle.std.proofs.Common.{ℕ, List, ◌∙◌, ◌<◌, length, ap, arith}
-use Rattle.bt_bed.proofs.PlainLemmas.{plain_feature_is, plain_say, rest_stands}
+use Rattle.bt_bed.proofs.FirstColumnLemmas.{direct_feature_is, direct_say, rest_stands}
 use Rattle.bt_bed.specs.Record.{columns_in, strand_of}
-use Rattle.bt_bed.proofs.plain.plain_feature.Goals as goal
+use Rattle.bt_bed.proofs.direct.direct_feature.Goals as goal
 
 pub behind-first-requires : goal.behind-first-requires
 behind-first-requires c = let within = c.in_ok-name.ensures.within in omega arith
@@ -16,8 +16,8 @@ pub invariant_of-result : goal.invariant_of-result
 invariant_of-result c =
     let inside : c.in_ok-start.start.end < length c.behind-first.result.now = let within = c.in_ok-start.ensures.within in omega arith in
     let below : c.in_ok-start.start.value < c.in_ok-stop.stop.value = omega arith in
-    let said = plain_feature_is c.args.text.now _
-    (plain_say c.args.text.now c.behind-first.result.now c.behind-second.result.now
+    let said = direct_feature_is c.args.text.now _
+    (direct_say c.args.text.now c.behind-first.result.now c.behind-second.result.now
     c.behind-rest.result.now c.in_ok-name.name c.in_ok-start.start c.in_ok-stop.stop _
     c.behind-first.ensures c.behind-second.ensures c.behind-rest.ensures
     (c.kept_strand.ensures ∙ ap (λ (l : List ℕ). strand_of (columns_in l))
@@ -31,7 +31,7 @@ pub returns : goal.returns
 returns c =
     let inside : c.in_ok-start.start.end < length c.behind-first.result.now = let within = c.in_ok-start.ensures.within in omega arith in
     let below : c.in_ok-start.start.value < c.in_ok-stop.stop.value = omega arith in
-    plain_say c.args.text.now c.behind-first.result.now c.behind-second.result.now
+    direct_say c.args.text.now c.behind-first.result.now c.behind-second.result.now
     c.behind-rest.result.now c.in_ok-name.name c.in_ok-start.start c.in_ok-stop.stop _
     c.behind-first.ensures c.behind-second.ensures c.behind-rest.ensures
     (c.kept_strand.ensures ∙ ap (λ (l : List ℕ). strand_of (columns_in l))

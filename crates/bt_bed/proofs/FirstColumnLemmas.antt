@@ -9,27 +9,18 @@ use Rattle.std.proofs.lemmas.Bool.Decides.{nat_tests}
 use Rattle.std.proofs.lemmas.List.{take-append-drop, drop-drop, drop_more, drop_all, take_all, take_more}
 use Rattle.std.proofs.lemmas.List.Elements.{All-nil, All-cons, All-push}
 use Rattle.std.proofs.lemmas.List.Splits.{slice_split_at, slice_split_none, length-slice_split}
+use Rattle.bt_lines.proofs.ColumnLemmas.{cut_at}
 use Rattle.bt_lines.proofs.NumberLemmas.{digits_below, value_of_digits}
 use Rattle.bt_lines.specs.Lines.{pieces}
 use Rattle.bt_lines.specs.Number.{value_of}
-use Rattle.bt_bed.proofs.Kept.{IsColumn, IsInside, cut_and_kept}
+use Rattle.bt_bed.proofs.Kept.{cut_and_kept}
+use Rattle.bt_lines.proofs.ColumnLemmas.{IsColumn, IsInside}
 use Rattle.bt_bed.proofs.FeatureLemmas.{said_is_feature}
 use Rattle.bt_bed.specs.Feature.{Feature}
-use Rattle.bt_bed.specs.Plain.{BeginsWith, EndsName, Leads}
+use Rattle.bt_bed.specs.FirstColumns.{BeginsWith, EndsName, Leads}
 use Rattle.bt_bed.specs.Record.{IsFeature, columns_in, columns_say, feature_of, is_kept, kept_columns, strand_of}
 use Rattle.bt_bed.specs.declared.leading.Leading.{Leading}
 use Rattle.bt_bed.specs.declared.strand.Strand.{Strand}
-
--- a column with a tab behind it is the first
-pub cut_at : (text : List ℕ) (n : ℕ) → n < length text → get_or text n 0 ≡ 9 → IsColumn (take n text) → pieces 9 text ≡ take n text ∷ pieces 9 (drop (n + 1) text)
-cut_at text n within tab column =
-    let there : drop n text ≡ 9 ∷ drop (n + 1) text = drop_more text n 0 within ∙ ap (λ b. b ∷ drop (n + 1) text) tab in
-    let whole : text ≡ take n text ++ 9 ∷ drop (n + 1) text = sym (take-append-drop n text) ∙ ap (λ l. take n text ++ l) there in
-    ap (pieces 9) whole ∙ slice_split_at (λ byte. eqb byte 9) (take n text) 9 (drop (n + 1) text) column refl
-
--- a text without a tab is one column
-pub uncut : (text : List ℕ) (n : ℕ) → length text ≤ n → IsColumn (take n text) → pieces 9 text ≡ text ∷ []
-uncut text n past column = slice_split_none (λ byte. eqb byte 9) text (subst IsColumn (take_all n text past) column)
 
 cut_by : (text : List ℕ) (n : ℕ) → n ≤ length text → (n < length text → get_or text n 0 ≡ 9) → IsColumn (take n text) → (b : Bool) → ltb n (length text) ≡ b → pieces 9 text ≡ take n text ∷ columns_in (drop n text)
 cut_by text n within tab column true e =
@@ -70,10 +61,10 @@ numbers_say (byte ∷ bytes) b c start stop columns some p q below =
     rw (p, q, test) refl
 
 -- the three columns say a feature
-pub plain_say : (text first second kept : List ℕ) (name : ℕ) (start stop : Leading) (strand : Strand) → first ≡ drop (name + 1) text → second ≡ drop (start.end + 1) first → kept ≡ drop stop.end second → strand ≡ strand_of (columns_in kept)
+pub direct_say : (text first second kept : List ℕ) (name : ℕ) (start stop : Leading) (strand : Strand) → first ≡ drop (name + 1) text → second ≡ drop (start.end + 1) first → kept ≡ drop stop.end second → strand ≡ strand_of (columns_in kept)
     → EndsName text name → Leads first start → start.end < length first → Leads second stop → start.value < stop.value
     → Ok (record { chrom = take name text; start = start.value; stop = stop.value; strand = strand; rest = kept }) ≡ columns_say (pieces 9 text)
-plain_say text first second kept name start stop strand f s k t n p inside q below =
+direct_say text first second kept name start stop strand f s k t n p inside q below =
     let last = cut_by second stop.end q.within q.tab q.column (ltb stop.end (length second)) refl ∙ ap (λ l. take stop.end second ∷ columns_in l) (sym k) in
     let middle = cut_at first start.end inside (p.tab inside) p.column ∙ ap (λ l. take start.end first ∷ pieces 9 l) (sym s) ∙ ap (λ l. take start.end first ∷ l) last in
     let cut : pieces 9 text ≡ take name text ∷ take start.end first ∷ take stop.end second ∷ columns_in kept =
@@ -98,10 +89,6 @@ digits_column (byte ∷ bytes) e =
     let parts = both_true (is_ascii_digit byte) (list_all is_ascii_digit bytes) e in
     All-cons IsInside byte bytes (digit_inside byte parts.0) (digits_column bytes parts.1)
 
--- one more byte that is no tab
-pub column_more : (text : List ℕ) (i : ℕ) → i < length text → IsColumn (take i text) → IsInside (get_or text i 0) → IsColumn (take (i + 1) text)
-column_more text i within column inside = rw (take_more text i 0 within) (All-push IsInside (take i text) (get_or text i 0) column inside)
-
 -- the digits up to a tab or the end denote a number
 pub leads_by : (text : List ℕ) (value end : ℕ) → 0 < end → end ≤ length text → (end < length text → get_or text end 0 ≡ 9) → value ≡ digits_value 10 (take end text) → list_all is_ascii_digit (take end text) ≡ true → value ≤ 999999999999
     → Leads text (record { value = value; end = end })
@@ -115,8 +102,8 @@ leads_by text value end some within tab is digits small =
       value = sym (value_of_digits (take end text) size digits low) ∙ ap Some (sym is);
     }
 
-pub plain_feature_is : (text : List ℕ) (f : Feature) → Ok f ≡ columns_say (pieces 9 text) → IsFeature f
-plain_feature_is text f e = said_is_feature text f (sym e)
+pub direct_feature_is : (text : List ℕ) (f : Feature) → Ok f ≡ columns_say (pieces 9 text) → IsFeature f
+direct_feature_is text f e = said_is_feature text f (sym e)
 
 pub digit_bound : (byte : ℕ) → is_ascii_digit byte ≡ true → byte ≤ 57
 digit_bound byte digit = grind (arith, nat_tests)

@@ -1,6 +1,6 @@
 use Rattle.bt_lines.proofs.NumberLemmas.{value_short}
-use Rattle.bt_bed.proofs.PlainLemmas.{begins_below, leads_by}
-use Rattle.bt_bed.proofs.plain.leading_number.Goals as goal
+use Rattle.bt_bed.proofs.FirstColumnLemmas.{begins_below, leads_by}
+use Rattle.bt_bed.proofs.direct.leading_number.Goals as goal
 
 pub returns-then-ends_column : goal.returns-then-ends_column
 returns-then-ends_column c =

@@ -1,7 +1,7 @@
 use Rattle.std.proofs.Common.{◌≡◌, get_or, eqb, false, arith}
 use Rattle.std.proofs.lemmas.Bool.Decides.{nat_tests}
-use Rattle.bt_bed.proofs.PlainLemmas.{column_more, cut_at, uncut}
-use Rattle.bt_bed.proofs.plain.first_tab.Goals as goal
+use Rattle.bt_lines.proofs.ColumnLemmas.{column_more, cut_at, uncut}
+use Rattle.bt_lines.proofs.split.first_tab.Goals as goal
 
 pub loop-end-preserved : goal.loop-end-preserved
 loop-end-preserved c =
@@ -12,8 +12,13 @@ loop-end-preserved c =
     }
 
 pub returns-then-text-end-eq9 : goal.returns-then-text-end-eq9
-returns-then-text-end-eq9 c =
-    (c.loop-end-test.true, cut_at c.args.text.now c.loop-end.end c.loop-end-test.true c.if-text-end-eq9.true c.loop-end.invariant.column)
+returns-then-text-end-eq9 c = record {
+  first = record { within = c.loop-end-test.true; tab = c.if-text-end-eq9.true; column = c.loop-end.invariant.column };
+  cut = cut_at c.args.text.now c.loop-end.end c.loop-end-test.true c.if-text-end-eq9.true c.loop-end.invariant.column;
+}
 
 pub returns : goal.returns
-returns c = uncut c.args.text.now c.loop-end.end c.loop-end-test.false c.loop-end.invariant.column
+returns c = record {
+  first = tt;
+  cut = uncut c.args.text.now c.loop-end.end c.loop-end-test.false c.loop-end.invariant.column;
+}

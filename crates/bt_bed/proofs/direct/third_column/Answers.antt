@@ -1,6 +1,6 @@
 use Rattle.std.proofs.Common.{ℕ, ◌≡◌, ◌+◌, ◌∙◌, drop, sym, ap, arith}
 use Rattle.std.proofs.lemmas.List.{drop-drop}
-use Rattle.bt_bed.proofs.plain.third_column.Goals as goal
+use Rattle.bt_bed.proofs.direct.third_column.Goals as goal
 
 pub returns-in-Some : goal.returns-in-Some
 returns-in-Some c =

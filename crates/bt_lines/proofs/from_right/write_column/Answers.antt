@@ -1,7 +1,7 @@
 use Rattle.std.proofs.Common.{◌≡◌, ℕ, ◌+◌, ◌-◌, ◌^◌, ◌<◌, ◌≤◌, arith, length, decimal}
 use Rattle.std.proofs.lemmas.Fmt.{length-decimal-le}
 use Rattle.std.proofs.lemmas.List.{drop-set}
-use Rattle.bt_runs.proofs.depth_line.write_column.Goals as goal
+use Rattle.bt_lines.proofs.from_right.write_column.Goals as goal
 
 -- a number has at most twenty digits
 digits : (n : ℕ) → n < 2 ^ 64 → length (decimal n) ≤ 20
@@ -18,11 +18,16 @@ overflow_sub-first c =
     let at = c.write_digits-first.ensures.start in
     omega arith
 
-pub returns-clause-within : goal.returns-clause-within
-returns-clause-within c =
+pub returns-clause-high : goal.returns-clause-high
+returns-clause-high c =
+    let at = c.write_digits-first.ensures.start in
+    omega arith
+
+pub returns-clause-low : goal.returns-clause-low
+returns-clause-low c =
     let long = digits c.args.number (omega arith) in
     let at = c.write_digits-first.ensures.start in
-    (omega arith, omega arith)
+    omega arith
 
 pub returns-clause-written : goal.returns-clause-written
 returns-clause-written c =

@@ -1,7 +1,7 @@
 use Rattle.std.proofs.Common.{ℕ, List, ◌<◌, ◌∙◌, length, sym, ap, arith}
 use Rattle.std.proofs.lemmas.List.{drop_more}
 use Rattle.bt_bed.specs.Record.{columns_in, strand_of}
-use Rattle.bt_bed.proofs.plain.kept_strand.Goals as goal
+use Rattle.bt_bed.proofs.direct.kept_strand.Goals as goal
 
 pub returns : goal.returns
 returns c =

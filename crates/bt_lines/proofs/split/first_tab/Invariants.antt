@@ -1,6 +1,6 @@
 use Rattle.std.proofs.Common.{length, take, ◌-◌, ◌≤◌}
-use Rattle.bt_bed.proofs.Kept.{IsColumn}
-use Rattle.bt_bed.proofs.plain.first_tab.Given as goal
+use Rattle.bt_lines.proofs.ColumnLemmas.{IsColumn}
+use Rattle.bt_lines.proofs.split.first_tab.Given as goal
 
 -- no tab has come yet
 abbrev pub invariant-loop-end : goal.invariant-loop-end

@@ -2,7 +2,7 @@ use Rattle.std.proofs.Common.{◌≡◌, ◌<◌, ◌≤◌, ◌-◌, ◌^◌, t
 use Rattle.std.specs.Char.{is_ascii_digit}
 use Rattle.std.specs.List.{list_all}
 use Rattle.std.specs.Str.Parse.{digits_value}
-use Rattle.bt_bed.proofs.plain.more_digits.Given as goal
+use Rattle.bt_bed.proofs.direct.more_digits.Given as goal
 
 -- the value so far is that of the digits so far
 abbrev pub invariant-loop-end : goal.invariant-loop-end

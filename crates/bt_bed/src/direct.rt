@@ -2,7 +2,8 @@
 
 ghost use Rattle.std.specs.Prelude.{◌≡◌, ◌<◌, ◌≤◌, ◌∷◌, [], List, ℕ, Ok, Some, IfSome, IsTrue, drop, get_or, length, take};
 ghost use Rattle.bt_bed.specs.Bed.{feature_lent};
-ghost use Rattle.bt_bed.specs.Plain.{BeginsWith, CutAt, EndsName, IsFirstTab, Leads};
+ghost use Rattle.bt_lines.specs.Columns.{IsFirstTab};
+ghost use Rattle.bt_bed.specs.FirstColumns.{BeginsWith, EndsName, Leads};
 ghost use Rattle.bt_bed.specs.Record.{columns_in, columns_say, strand_named, strand_of};
 ghost use Rattle.bt_lines.specs.Lines.{pieces};
 ghost use Rattle.bt_lines.specs.Number.{value_of};
@@ -12,15 +13,12 @@ use crate::leading::Leading;
 use crate::parsing::behind;
 use crate::strand::Strand;
 use crate::tabs::{early_tab, second_tab};
-use bt_lines::eight_digits;
-
-// So many digits are within the greatest number, whatever they are.
-const SHORT: usize = 12;
+use bt_lines::{MAX_DIGITS, eight_digits, first_tab};
 
 // The feature of a text of which the first three columns are in order. There is none where something is
 // wrong with them, and for numbers with more than twelve digits.
 #[inline(always)]
-pub(crate) fn plain_feature(text: &[u8]) -> Option<BedRef<'_>>
+pub(crate) fn direct_feature(text: &[u8]) -> Option<BedRef<'_>>
     ensures { IfSome result (λ bed. Ok (feature_lent bed) ≡ columns_say (pieces 9 text.now)) }
 {
     let name = name_end(text)?;
@@ -61,14 +59,7 @@ fn name_end(text: &[u8]) -> Option<usize>
 fn late_tab(text: &[u8]) -> Option<usize>
     ensures { IfSome result (IsFirstTab text.now) }
 {
-    let mut end = 0;
-    while end < text.len() {
-        if text[end] == b'\t' {
-            return Some(end);
-        }
-        end += 1;
-    }
-    None
+    first_tab(text)
 }
 
 // The number that the first column denotes, and where that ends.
@@ -99,7 +90,7 @@ fn more_digits(text: &[u8], first: Leading) -> Option<Leading>
     requires { BeginsWith text.now first }
     ensures { IfSome result (Leads text.now) }
 {
-    let most = text.len().min(SHORT);
+    let most = text.len().min(MAX_DIGITS);
     let mut value = first.value;
     let mut end = first.end;
     while end < most && text[end].is_ascii_digit() {
@@ -169,20 +160,6 @@ fn late_column(text: &[u8]) -> Strand
         return Strand::Dot;
     };
     first_column(behind(text, second + 1))
-}
-
-// Where the first tab of a text stands.
-fn first_tab(text: &[u8]) -> Option<usize>
-    ensures { CutAt text.now result }
-{
-    let mut end = 0;
-    while end < text.len() {
-        if text[end] == b'\t' {
-            return Some(end);
-        }
-        end += 1;
-    }
-    None
 }
 
 // The strand that the first column of a text names, behind two others.

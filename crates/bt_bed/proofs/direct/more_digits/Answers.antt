@@ -1,8 +1,8 @@
 use Rattle.std.proofs.Common.{◌∙◌, ◌<◌, ◌≤◌, ◌+◌, ◌-◌, ◌*◌, ◌≡◌, length, get_or, sym, arith}
 use Rattle.bt_lines.proofs.NumberLemmas.{value_more, digits_more, value_below, value_short, digit_small}
-use Rattle.bt_bed.proofs.PlainLemmas.{begins_below, digit_bound, leads_by}
-use Rattle.bt_bed.proofs.plain.more_digits.Goals.{else-end-text-via-then-end-text+else-text-end-ne9, else-end-text-via-else-end-text}
-use Rattle.bt_bed.proofs.plain.more_digits.Goals as goal
+use Rattle.bt_bed.proofs.FirstColumnLemmas.{begins_below, digit_bound, leads_by}
+use Rattle.bt_bed.proofs.direct.more_digits.Goals.{else-end-text-via-then-end-text+else-text-end-ne9, else-end-text-via-else-end-text}
+use Rattle.bt_bed.proofs.direct.more_digits.Goals as goal
 
 pub overflow_mul-value : goal.overflow_mul-value
 overflow_mul-value c = let small = c.loop-end.invariant.small in omega arith
