@@ -4,6 +4,7 @@ ghost use Rattle.std.specs.Prelude.{◌≡◌, None};
 ghost use Rattle.bedtools.specs.Opened.{input_meant, file_named, opened_has_failed, opened_end_told};
 
 use bt_lines::{DeviceFailed, FromRead, Source};
+use bt_tool::is_standard_input;
 use std::fs::File;
 use std::io;
 use std::io::Stdin;
@@ -37,7 +38,7 @@ pub enum Input<'a> {
 pub fn input_named(name: &str) -> Input<'_>
     ensures { input_meant result ≡ file_named name.now }
 {
-    if name == "-" || name == "stdin" {
+    if is_standard_input(name) {
         return Input::Standard;
     }
     Input::File(name)

@@ -32,6 +32,7 @@ mod bed;
 mod blocks;
 mod byte_order;
 mod cursor;
+mod direct;
 mod entry;
 #[cfg(test)]
 mod example;
@@ -47,7 +48,6 @@ mod names;
 mod neighbours;
 mod order;
 mod parsing;
-mod direct;
 mod putting;
 mod rec;
 mod records;

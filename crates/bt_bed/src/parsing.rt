@@ -7,8 +7,8 @@ ghost use Rattle.bt_lines.specs.Lines.{pieces};
 ghost use Rattle.bt_lines.specs.Number.{value_of};
 
 use crate::bed::BedRef;
+use crate::direct::{direct_feature, kept_strand};
 use crate::header::is_header;
-use crate::direct::{kept_strand, direct_feature};
 use crate::strand::Strand;
 use bt_lines::{Kind, columns, number};
 

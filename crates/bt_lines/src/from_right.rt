@@ -33,7 +33,7 @@ mod tests {
         let before_last = write_column(u64::MAX, &mut text, 2 * COLUMN);
         let first = write_column(0, &mut text, before_last);
         let want: &[u8] = b"\t0\t18446744073709551615\n";
-        assert_eq!(rt; text[first..].as_slice(), want);
+        assert_eq!(rt; &text[first..], want);
         Ok(())
     }
 }

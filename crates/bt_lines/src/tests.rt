@@ -1,6 +1,6 @@
 use crate::{
     Fault, Input, Kind, LineEnd, LineReader, Names, Out, Place, ScriptSink, ScriptSource, Sink,
-    Source, columns, eight_digits, fault_line, number,
+    Source, columns, eight_digits, fault_line, first_tab, number,
 };
 use std::alloc::AllocError;
 use std::test::Fail;
@@ -36,6 +36,19 @@ fn eight_digits_at_once(rt: HostRuntime) {
     ];
     for (text, want) in cases {
         assert_eq!(rt; eight_digits(text), want);
+    }
+}
+
+#[test]
+fn first_tabs(rt: HostRuntime) {
+    let cases: [(&[u8], Option<usize>); 4] = [
+        (b"", None),
+        (b"chr1", None),
+        (b"\tchr1\t", Some(0)),
+        (b"chr1\t5\t9", Some(4)),
+    ];
+    for (text, want) in cases {
+        assert_eq!(rt; first_tab(text), want);
     }
 }
 

@@ -12,8 +12,8 @@ use crate::given::Given;
 use crate::names::{NamedFiles, names_of};
 use crate::usage::{Usage, UsageKind};
 
-// Whether a name means standard input.
-fn is_standard_input(name: &str) -> bool
+/// Whether the name of an input means standard input: `-` and `stdin` do.
+pub fn is_standard_input(name: &str) -> bool
     ensures { result ≡ is_standard_input name.now }
 {
     name == "-" || name == "stdin"

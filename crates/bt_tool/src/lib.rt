@@ -42,6 +42,7 @@ mod takes;
 mod tool;
 mod usage;
 
+pub use checking::is_standard_input;
 pub use options::plan;
 pub use outcome::Outcome;
 pub use plan_type::{Command, Plan};
