@@ -1,11 +1,13 @@
 #!/usr/bin/env python3
 """Checks that each link of the pages leads to a file, and to a heading of it where it names one, that the pages
-that name a version name the same one, and that README.md says how many definitions the report stands on.
+that name a version name the same one, that README.md says how many definitions the report stands on, and that
+ARCHITECTURE.md lists them.
 
-    docs/links.py
+    docs/links.py [--write]
 
-The pages are the Markdown files of this repository. Links to other hosts aren't followed. Ends with 1 where one
-leads nowhere, or where a number is another.
+The pages are the Markdown files of this repository. Links to other hosts aren't followed. With --write the list of
+ARCHITECTURE.md and the numbers of README.md are written anew. Ends with 1 where a link leads nowhere, or where a
+number or the list is another.
 """
 
 import re
@@ -29,6 +31,10 @@ VERSIONS = {
 # Where README.md says in how many files and lines the report is defined, and the file that names the others.
 DEFINITIONS = re.compile(r"definitions that it names: (\d+) files with some ([\d,]+) lines")
 REPORT = TOP / "crates" / "bt_tool" / "specs" / "Report.antt"
+
+# Where ARCHITECTURE.md lists these files: from one line to another.
+LIST_BEGINS = "<!-- docs/links.py --write writes this list -->\n"
+LIST_ENDS = "<!-- it ends here -->"
 
 
 def anchor(heading):
@@ -93,15 +99,40 @@ def lines_of(definition):
     return sum(1 for line in definition.read_text(encoding="utf-8").splitlines() if line.strip() and not line.startswith("use "))
 
 
-def definitions_differ():
-    """Whether README.md gives other numbers of files and lines than there are. Lines are rounded to tens there."""
+def as_said(files):
+    """The words of README.md on these files, whose lines are rounded to tens."""
+    return f"definitions that it names: {len(files)} files with some {round(sum(map(lines_of, files)), -1):,} lines"
+
+
+def as_list(files):
+    """The list of ARCHITECTURE.md: for each crate the names of its files."""
+    crates = {}
+    for file in sorted(files):
+        crates.setdefault(file.parent.parent.name, []).append(f"`{file.stem}`")
+    return "".join(f"- `{crate}/specs`: {', '.join(names)}\n" for crate, names in sorted(crates.items()))
+
+
+def is_renewed(page, old, new, is_written):
+    """Whether a page has to be written anew, since it doesn't have this text in the place of the old one."""
+    text = page.read_text(encoding="utf-8")
+    renewed = old.sub(lambda match: new, text, count=1)
+    if not old.search(text):
+        print(f"{page.relative_to(TOP)}: says nothing of the files that define the report")
+        return True
+    if renewed != text and is_written:
+        page.write_text(renewed, encoding="utf-8")
+    if renewed != text:
+        print(f"{page.relative_to(TOP)}: {'written anew' if is_written else 'the files that define the report are others: docs/links.py --write'}")
+    return renewed != text and not is_written
+
+
+def definitions_differ(is_written):
+    """Whether README.md or ARCHITECTURE.md says something else of the files that define the report."""
     files = definitions()
-    counts = (len(files), round(sum(map(lines_of, files)), -1))
-    match = DEFINITIONS.search((TOP / "README.md").read_text(encoding="utf-8"))
-    said = match and (int(match[1]), int(match[2].replace(",", "")))
-    if said != counts:
-        print(f"README.md: the report is defined in {counts[0]} files with some {counts[1]:,} lines")
-    return said != counts
+    between = re.compile(re.escape(LIST_BEGINS) + "(?:(?!<!--).*\n)*" + re.escape(LIST_ENDS))
+    said = is_renewed(TOP / "README.md", DEFINITIONS, as_said(files), is_written)
+    listed = is_renewed(TOP / "docs" / "ARCHITECTURE.md", between, LIST_BEGINS + as_list(files) + LIST_ENDS, is_written)
+    return said or listed
 
 
 def main():
@@ -113,7 +144,7 @@ def main():
     if len(set(found.values())) > 1:
         print("versions:", ", ".join(f"{name} {version}" for name, version in found.items()))
     print(f"{len(links)} links, {len(broken)} of them lead nowhere; version {found['README.md']}")
-    differ = definitions_differ()
+    differ = definitions_differ("--write" in sys.argv[1:])
     return 1 if broken or differ or len(set(found.values())) > 1 else 0
 
 
