@@ -22,7 +22,9 @@ use Rattle.bt_seq.proofs.NextLemmas.{decided_more, own_more}
 use Rattle.bt_seq.proofs.StandLemmas.{StandsBy, last_waits, stands_at, stands_by, wants_bed}
 use Rattle.bt_seq.specs.Held.{stretch_of}
 use Rattle.bt_seq.specs.Knows.{owner_by}
-use Rattle.bt_seq.specs.MaskStanding.{Counts, IsDecided, IsNext, KnowsLast, KnowsNone, MaskStage, MaskStandsAt, Waits, decided_up_to, given, held_by, kept_line, line_given_last, reached, want_of, with_bed_ended, with_decided, with_record}
+use Rattle.bt_seq.specs.MaskInside.{Counts, IsDecided, KnowsLast, KnowsNone, decided_up_to}
+use Rattle.bt_seq.specs.MaskStage.{IsNext, MaskStage, given, held_by, line_given_last, reached, want_of, with_bed_ended, with_decided, with_record}
+use Rattle.bt_seq.specs.MaskStanding.{MaskStandsAt, Waits, kept_line}
 use Rattle.bt_seq.specs.MaskSteps.{EndsRecords, GivesBed, HasSequence, LacksSequence, WritesLine}
 use Rattle.bt_seq.specs.Masked.{decided, held_for, masked_line}
 use Rattle.bt_seq.specs.Masking.{Masking, TakesBed, Waiting, Writes, decides, decides_by, decides_up_to, has_owner, holding, holds, holds_by, line_bytes, with_owner, with_stretch}
@@ -319,16 +321,16 @@ module _ (how : MaskHow) (full : Bool) (stage : MaskStage) (none : stage.waiting
     left_now = left_after names (stage.taken ++ r ∷ [])
 
     can_now : KnowsNone names stage.taken old.matched ⊎ (MayTake names stage.taken r old.matched ⊎ KnowsLast names (stage.taken ++ r ∷ []) old.matched)
-    can_now = next_can_be names stage.taken r old.matched (is_some stage.waiting) stage.ahead (stands.knows ended.1) next
+    can_now = next_can_be names stage.taken r old.matched (is_some stage.waiting) stage.ahead (stands.inside.knows ended.1) next
 
     owner_now : owner_of old.matched r.chrom ≡ owner_by left_now
-    owner_now = owner_next names stage.taken r old.matched can_now stands.name_is
+    owner_now = owner_next names stage.taken r old.matched can_now stands.inside.name_is
 
     abbrev last : Option SequenceLine
     last = line_given_last (given stage)
 
     decided_now : IsDecided last (stage.taken ++ r ∷ [])
-    decided_now = decided_next last stage.taken stage.ahead r next (stands.is_decided none ended.1)
+    decided_now = decided_next last stage.taken stage.ahead r next (stands.inside.is_decided none ended.1)
 
     checked_stands : is_some left_now ≡ true → MaskStandsAt how full (with_record stage r) (with_owner old r.chrom)
     checked_stands owned = record {
@@ -338,8 +340,6 @@ module _ (how : MaskHow) (full : Bool) (stage : MaskStage) (none : stage.waiting
       want_is = stands.want_is;
       bed_ended_is = stands.bed_ended_is;
       waits = λ l d. absurd (let apart : None ≡ Some l = sym none ∙ d in cc);
-      counts = stands.counts;
-      name_is = name_same old.matched r.chrom ∙ stands.name_is;
       holds = λ d. elim d [
         | inl lasts ↦ absurd (never (sym lasts ∙ ended.0))
         | inr placed ↦ stands.holds (inr (blocks_front stage.taken (r ∷ []) placed))
@@ -347,14 +347,18 @@ module _ (how : MaskHow) (full : Bool) (stage : MaskStage) (none : stage.waiting
             (held_next last stage.taken r decided_now placed))
       ];
       is_open = λ d. absurd (never (sym d ∙ ended.0));
-      is_decided = λ n going. subst (λ (rs : List Feature). IsDecided last rs)
-          (sym (append-nil (stage.taken ++ r ∷ []))) decided_now;
       owned = owned;
-      in_range = range_more stage.taken r stands.in_range range;
-      knows = λ d. inr (take_next names stage.taken r old.matched can_now owned);
-      has_ahead = λ d. absurd (let apart : Bed ≡ Line = sym wants ∙ stands.want_is ∙ d in cc);
-      ahead_in_range = λ a d. absurd (let apart : None ≡ Some a = d in cc);
-      decided_to_is = λ n going a d. absurd (let apart : None ≡ Some a = d in cc);
+      inside = record {
+        counts = stands.inside.counts;
+        name_is = name_same old.matched r.chrom ∙ stands.inside.name_is;
+        is_decided = λ n going. subst (λ (rs : List Feature). IsDecided last rs)
+            (sym (append-nil (stage.taken ++ r ∷ []))) decided_now;
+        in_range = range_more stage.taken r stands.inside.in_range range;
+        knows = λ d. inr (take_next names stage.taken r old.matched can_now owned);
+        has_ahead = λ d. absurd (let apart : Bed ≡ Line = sym wants ∙ stands.want_is ∙ d in cc);
+        ahead_in_range = λ a d. absurd (let apart : None ≡ Some a = d in cc);
+        decided_to_is = λ n going a d. absurd (let apart : None ≡ Some a = d in cc);
+      };
     }
 
     pub checks_bed : (number : ℕ) (out : Output) (new : Masking) → has_owner (owner_of old.matched r.chrom) → new ≡ with_owner old r.chrom → HasSequence how full stage r number out new out

@@ -11,7 +11,7 @@ use Rattle.bt_seq.proofs.TagLemmas.{next_left, own_in, own_tagged, tag_decides, 
 use Rattle.bt_seq.specs.Held.{stretch_of}
 use Rattle.bt_seq.specs.Knows.{owner_by}
 use Rattle.bt_seq.specs.MaskHow.{masked_byte}
-use Rattle.bt_seq.specs.MaskStanding.{AreInRange}
+use Rattle.bt_seq.specs.MaskInside.{AreInRange}
 use Rattle.bt_seq.specs.Masked.{held_for, masked_from, masked_text}
 use Rattle.bt_seq.specs.Masking.{decides_by}
 use Rattle.bt_seq.specs.Owners.{block_decides, items_if_last, own_records}

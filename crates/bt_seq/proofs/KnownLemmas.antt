@@ -7,7 +7,8 @@ use Rattle.bt_seq.proofs.KnowsLemmas.{found_by, last_goes_on, owner_is, owners_f
 use Rattle.bt_seq.proofs.LeftLemmas.{goes_on_or_begins}
 use Rattle.bt_seq.proofs.NextLemmas.{left_grows}
 use Rattle.bt_seq.specs.Knows.{Knows, KnowsEarlier, last_chrom, owner_by}
-use Rattle.bt_seq.specs.MaskStanding.{IsNext, KnowsAhead, KnowsLast, KnowsNext, KnowsNone, last_name}
+use Rattle.bt_seq.specs.MaskInside.{KnowsAhead, KnowsLast, KnowsNext, KnowsNone, last_name}
+use Rattle.bt_seq.specs.MaskStage.{IsNext}
 use Rattle.bt_seq.specs.Masked.{is_unnamed}
 use Rattle.bt_seq.specs.Matching.{Matched, begins_own, is_it, matched_with, named, owner_of}
 use Rattle.bt_seq.specs.Owners.{goes_on, left_after, left_by, names_behind}

@@ -18,7 +18,9 @@ use Rattle.bt_seq.proofs.NextLemmas.{decided_more, left_grows, named_more, none_
 use Rattle.bt_seq.proofs.StandLemmas.{last_more, last_name_more, last_name_none, stands_at, unnamed_are, unnamed_untaken, wants_line}
 use Rattle.bt_seq.proofs.TagLemmas.{own_tagged, tag_decides, tags_of}
 use Rattle.bt_seq.specs.Held.{stretch_of}
-use Rattle.bt_seq.specs.MaskStanding.{AreInRange, Counts, IsOpen, KnowsNext, MaskStage, MaskStandsAt, Waits, decided_up_to, given, held_by, is_written_ahead, is_written_at_once, kept_line, last_name, line_given_last, reached, reached_by, want_of, with_line}
+use Rattle.bt_seq.specs.MaskInside.{AreInRange, Counts, KnowsNext, decided_up_to, last_name}
+use Rattle.bt_seq.specs.MaskStage.{MaskStage, given, held_by, is_written_ahead, is_written_at_once, line_given_last, reached, reached_by, want_of, with_line}
+use Rattle.bt_seq.specs.MaskStanding.{IsOpen, MaskStandsAt, Waits, kept_line}
 use Rattle.bt_seq.specs.MaskSteps.{FailsWithLine, GivesNextLine, IsSettled, RefusesLine, TakesNextLine, bytes_with, may_need_memory}
 use Rattle.bt_seq.specs.Masked.{decided, held_for, is_unnamed, masked_line}
 use Rattle.bt_seq.specs.Masking.{Masking, TakesLine, Waiting, bytes_at_once, is_stray, line_bytes, may_grow, moved_to, writes_at_once}
@@ -202,14 +204,14 @@ module _ (how : MaskHow) (full : Bool) (stage : MaskStage) (old : Masking) (s : 
         → moved.decided_to ≡ decided_up_to (left_after item.names (stage.taken ++ r ∷ [])) r
 
   going_known : stage.bed_ended ≡ false → KnowsNext false names stage.taken stage.ahead old.matched
-  going_known going = subst (λ (w : Option SequenceLine). KnowsNext (is_some w) names stage.taken stage.ahead old.matched) asked.0 (s.knows going)
+  going_known going = subst (λ (w : Option SequenceLine). KnowsNext (is_some w) names stage.taken stage.ahead old.matched) asked.0 (s.inside.knows going)
 
   first_by : (u : Bool) → is_unnamed names ≡ u → (u ≡ false → is_some stage.ahead ≡ true) → is_some stage.ahead ≡ false → (names ≡ []) × (stage.taken ≡ [])
   first_by true e ahead none = (unnamed_are names e, unnamed_untaken (line_given_last (given stage)) stage.taken open_at e)
   first_by false e ahead none = absurd (never (sym none ∙ ahead refl))
 
   first_header : stage.bed_ended ≡ false → is_some stage.ahead ≡ false → (names ≡ []) × (stage.taken ≡ [])
-  first_header going none = first_by (is_unnamed names) refl (λ e. s.has_ahead (sym s.want_is ∙ wants) going e) none
+  first_header going none = first_by (is_unnamed names) refl (λ e. s.inside.has_ahead (sym s.want_is ∙ wants) going e) none
 
   -- whether a line to which it has moved is written at once
   once_by : (item : SequenceLine) (moved : Masking) → moved.bed_ended ≡ stage.bed_ended → moved.matched.name ≡ last_name item.names
@@ -269,22 +271,22 @@ module _ (how : MaskHow) (full : Bool) (stage : MaskStage) (old : Masking) (s : 
     plain_counts : is_header line.text ≡ false → Counts (Some plain_item) plain_moved.window
     plain_counts e =
         let count : bases_in line.text ≡ length line.text = ap (λ b. cond b 0 (length line.text)) e in
-        let bases : old.window.bases ≡ min (reached stage).bases limit = s.counts.bases in
+        let bases : old.window.bases ≡ min (reached stage).bases limit = s.inside.counts.bases in
         record { before = bases; bases = omega arith }
 
     -- whether the record ahead decides it is what is known
     plain_alike : is_header line.text ≡ false → stage.bed_ended ≡ false → is_unnamed names ≡ false → (o : Option Feature) → stage.ahead ≡ o
         → (not (is_header line.text) && nat_le plain_moved.window.bases old.decided_to) ≡ is_written_ahead o stage.taken plain_item
     plain_alike e going is_named None ahead =
-        absurd (never (sym (ap is_some ahead) ∙ s.has_ahead (sym s.want_is ∙ wants) going is_named))
+        absurd (never (sym (ap is_some ahead) ∙ s.inside.has_ahead (sym s.want_is ∙ wants) going is_named))
     plain_alike e going is_named (Some r) ahead =
         let known = subst (λ (o : Option Feature). KnowsNext false names stage.taken o old.matched) ahead (going_known going) in
         let left = left_after names (stage.taken ++ r ∷ []) in
-        let undecided = open_undecided plain_item stage.taken is_named (open_further stage.taken s.in_range line e (line_given_last (given stage)) open_at) in
+        let undecided = open_undecided plain_item stage.taken is_named (open_further stage.taken s.inside.in_range line e (line_given_last (given stage)) open_at) in
         let decides : nat_le plain_moved.window.bases old.decided_to ≡ decided plain_item (stage.taken ++ r ∷ []) =
         ap (λ (n : ℕ). nat_le n old.decided_to) (plain_counts e).bases
-        ∙ ap (λ (n : ℕ). nat_le (min (bases_up_to plain_item) limit) n) (s.decided_to_is asked.0 going r ahead)
-        ∙ ahead_decides (bases_up_to plain_item) left r (s.ahead_in_range r ahead) (ahead_left names stage.taken r old.matched known)
+        ∙ ap (λ (n : ℕ). nat_le (min (bases_up_to plain_item) limit) n) (s.inside.decided_to_is asked.0 going r ahead)
+        ∙ ahead_decides (bases_up_to plain_item) left r (s.inside.ahead_in_range r ahead) (ahead_left names stage.taken r old.matched known)
         ∙ sym (decided_more plain_item stage.taken r ∙ ap (λ b. b || block_decides (bases_up_to plain_item) left (r ∷ [])) undecided) in
         ap (λ b. not (is_header line.text) && b) decides
 
@@ -295,15 +297,15 @@ module _ (how : MaskHow) (full : Bool) (stage : MaskStage) (old : Masking) (s : 
           full_is = s.full_is;
           bed_ended_is = s.bed_ended_is;
           counts = plain_counts e;
-          name_is = s.name_is;
-          holds = held_further stage.taken s.in_range line e (line_given_last (given stage)) old.window s.counts open_at held_is;
-          is_open = open_further stage.taken s.in_range line e (line_given_last (given stage)) open_at;
+          name_is = s.inside.name_is;
+          holds = held_further stage.taken s.inside.in_range line e (line_given_last (given stage)) old.window s.inside.counts open_at held_is;
+          is_open = open_further stage.taken s.inside.in_range line e (line_given_last (given stage)) open_at;
           owned = s.owned;
           header = λ h. absurd (never (sym e ∙ h));
           waits_known = λ going u. with_plain names stage.taken stage.ahead old.matched (going_known going);
-          at_once = once_by plain_item plain_moved s.bed_ended_is s.name_is (λ going u. plain_alike e going u stage.ahead refl);
+          at_once = once_by plain_item plain_moved s.bed_ended_is s.inside.name_is (λ going u. plain_alike e going u stage.ahead refl);
           written_known = λ going now. going_known going;
-          written_to = λ going now. s.decided_to_is asked.0 going;
+          written_to = λ going now. s.inside.decided_to_is asked.0 going;
         }
 
     -- what a line says, and where the engine goes
@@ -334,7 +336,7 @@ module _ (how : MaskHow) (full : Bool) (stage : MaskStage) (old : Masking) (s : 
     stray_is : is_header line.text ≡ false → is_stray old line.text ≡ (is_unnamed names && nat_lt 0 (length line.text))
     stray_is e =
         ap (λ b. not b && (is_none old.matched.name && nat_lt 0 (length line.text))) e
-        ∙ ap (λ b. b && nat_lt 0 (length line.text)) (ap is_none s.name_is ∙ last_name_none names)
+        ∙ ap (λ b. b && nat_lt 0 (length line.text)) (ap is_none s.inside.name_is ∙ last_name_none names)
 
     plain_says : is_header line.text ≡ false → line_says full (reached stage) line ≡ cond (may_stand names line.text) (Ok (Some plain_item)) (Err TextBeforeHeader)
     plain_says e = ap (λ b. cond b (Ok (Some (header_behind full (reached stage) line))) (cond (may_stand names line.text) (Ok (Some plain_item)) (Err TextBeforeHeader))) e
@@ -377,7 +379,7 @@ module _ (how : MaskHow) (full : Bool) (stage : MaskStage) (old : Masking) (s : 
         (ap (λ (h : MaskHow). masked_in h moved.window.held moved.window.before item.text) m.how_is
         ∙ ap (λ (l : List Stretch). masked_in how l moved.window.before item.text) m.holds
         ∙ ap (λ b. masked_in how (map stretch_of (held_for item stage.taken)) b item.text) m.counts.before
-        ∙ text_masked how item stage.taken s.in_range m.header)
+        ∙ text_masked how item stage.taken s.inside.in_range m.header)
 
     waiting_stands : stage.bed_ended ≡ false → is_unnamed item.names ≡ false
         → MaskStandsAt how full (record stage { waiting = Some item }) (record moved { waiting = Some (kept_line item); want = Bed })
@@ -396,10 +398,10 @@ module _ (how : MaskHow) (full : Bool) (stage : MaskStage) (old : Masking) (s : 
           is_open = λ e. m.is_open;
           is_decided = λ e. absurd (let apart : Some item ≡ None = e in cc);
           owned = m.owned;
-          in_range = s.in_range;
+          in_range = s.inside.in_range;
           knows = λ e. m.waits_known going is_named;
           has_ahead = λ e. absurd (let apart : Bed ≡ Line = e in cc);
-          ahead_in_range = s.ahead_in_range;
+          ahead_in_range = s.inside.ahead_in_range;
           decided_to_is = λ e. absurd (let apart : Some item ≡ None = e in cc);
         })
 
@@ -434,12 +436,12 @@ module _ (how : MaskHow) (full : Bool) (stage : MaskStage) (old : Masking) (s : 
               decided_at_once (is_unnamed item.names) stage.ahead stage.taken item refl
               (or_rest stage.bed_ended (is_unnamed item.names || ahead) now going);
           owned = m.owned;
-          in_range = s.in_range;
+          in_range = s.inside.in_range;
           knows = λ going. subst (λ (w : Option SequenceLine). KnowsNext (is_some w) item.names stage.taken stage.ahead moved.matched) (sym asked.0)
               (m.written_known going now);
           has_ahead = λ e going u. decided_some stage.ahead stage.taken item
               (or_true stage.bed_ended (is_unnamed item.names) (is_written_ahead stage.ahead stage.taken item) now going u);
-          ahead_in_range = s.ahead_in_range;
+          ahead_in_range = s.inside.ahead_in_range;
           decided_to_is = λ e going. m.written_to going now;
         })
 

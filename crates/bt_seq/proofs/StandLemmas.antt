@@ -6,7 +6,9 @@ use Rattle.bt_bed.specs.Feature.{Feature}
 use Rattle.bt_bed.specs.GoodBlocks.{AreInBlocks}
 use Rattle.bt_seq.proofs.KnownLemmas.{never}
 use Rattle.bt_seq.specs.Held.{stretch_of}
-use Rattle.bt_seq.specs.MaskStanding.{AreInRange, Counts, IsDecided, IsOpen, KnowsNext, MaskStage, MaskStandsAt, Waits, decided_up_to, given, held_by, kept_line, last_name, line_given_last, reached_by, want_at, want_of}
+use Rattle.bt_seq.specs.MaskInside.{AreInRange, Counts, IsDecided, KnowsNext, decided_up_to, last_name}
+use Rattle.bt_seq.specs.MaskStage.{MaskStage, given, held_by, line_given_last, reached_by, want_at, want_of}
+use Rattle.bt_seq.specs.MaskStanding.{IsOpen, MaskStandsAt, Waits, kept_line}
 use Rattle.bt_seq.specs.Masked.{is_unnamed}
 use Rattle.bt_seq.specs.Masking.{Masking}
 use Rattle.bt_seq.specs.Owners.{Owned, block_decides, left_after, owned}
@@ -47,17 +49,17 @@ module _ (how : MaskHow) (full : Bool) (stage : MaskStage) (m : Masking) where
     want_is = s.want_is;
     bed_ended_is = s.bed_ended_is;
     waits = s.waits;
-    counts = s.counts;
-    name_is = s.name_is;
+    counts = s.inside.counts;
+    name_is = s.inside.name_is;
     holds = s.holds;
     is_open = s.is_open;
-    is_decided = s.is_decided;
+    is_decided = s.inside.is_decided;
     owned = s.owned;
-    in_range = s.in_range;
-    knows = s.knows;
-    has_ahead = s.has_ahead;
-    ahead_in_range = s.ahead_in_range;
-    decided_to_is = s.decided_to_is;
+    in_range = s.inside.in_range;
+    knows = s.inside.knows;
+    has_ahead = s.inside.has_ahead;
+    ahead_in_range = s.inside.ahead_in_range;
+    decided_to_is = s.inside.decided_to_is;
   }
 
   pub stands_at : (last : Option SequenceLine) → line_given_last (given stage) ≡ last → StandsBy how full stage last m → MaskStandsAt how full stage m
@@ -70,17 +72,19 @@ module _ (how : MaskHow) (full : Bool) (stage : MaskStage) (m : Masking) where
         want_is = s.want_is;
         bed_ended_is = s.bed_ended_is;
         waits = s.waits;
-        counts = s.counts;
-        name_is = s.name_is;
         holds = s.holds;
         is_open = s.is_open;
-        is_decided = s.is_decided;
         owned = s.owned;
-        in_range = s.in_range;
-        knows = s.knows;
-        has_ahead = s.has_ahead;
-        ahead_in_range = s.ahead_in_range;
-        decided_to_is = s.decided_to_is;
+        inside = record {
+          counts = s.counts;
+          name_is = s.name_is;
+          is_decided = s.is_decided;
+          in_range = s.in_range;
+          knows = s.knows;
+          has_ahead = s.has_ahead;
+          ahead_in_range = s.ahead_in_range;
+          decided_to_is = s.decided_to_is;
+        };
       }
 
 pub last_more : (lines : List SequenceLine) (line : SequenceLine) → line_given_last (lines ++ line ∷ []) ≡ Some line

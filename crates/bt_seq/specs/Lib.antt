@@ -23,6 +23,8 @@ pub mod Window
 pub mod Masking
 pub mod Held
 pub mod Knows
+pub mod MaskStage
+pub mod MaskInside
 pub mod MaskStanding
 pub mod MaskFronts
 pub mod MaskSteps

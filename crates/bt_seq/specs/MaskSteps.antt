@@ -12,8 +12,9 @@ use Rattle.bt_lines.specs.declared.fault.Fault.{Fault}
 use Rattle.bt_lines.specs.declared.fault.Input.TheVariants.{First, Second}
 use Rattle.bt_lines.specs.declared.fault.Kind.{Kind}
 use Rattle.bt_lines.specs.declared.fault.Kind.TheVariants.{NoSequence}
-use Rattle.bt_seq.specs.MaskStanding.{MaskStage, MaskStandsAt, is_written_at_once, reached}
-use Rattle.bt_seq.specs.MaskStanding.{with_bed_ended, with_decided, with_line, with_record}
+use Rattle.bt_seq.specs.MaskStage.{MaskStage, is_written_at_once, reached}
+use Rattle.bt_seq.specs.MaskStanding.{MaskStandsAt}
+use Rattle.bt_seq.specs.MaskStage.{with_bed_ended, with_decided, with_line, with_record}
 use Rattle.bt_seq.specs.MaskFronts.{LineBefore}
 use Rattle.bt_seq.specs.Masked.{decided, held_for, masked_line}
 use Rattle.bt_seq.specs.Masking.{Masking}

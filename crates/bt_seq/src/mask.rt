@@ -4,7 +4,8 @@ ghost use Rattle.std.specs.Prelude.{◌≡◌, ◌⊎◌, Bool, None, OnErr, Som
 ghost use Rattle.bt_bed.specs.Bed.{feature_lent};
 ghost use Rattle.bt_bed.specs.GoodBlocks.{AreInBlocks};
 ghost use Rattle.bt_lines.specs.Given.{line_seen};
-ghost use Rattle.bt_seq.specs.MaskStanding.{IsNext, MaskStage, MaskStandsAt, first_stage, given, held_by, line_given_last, want_at, with_lines_ended};
+ghost use Rattle.bt_seq.specs.MaskStage.{IsNext, MaskStage, first_stage, given, held_by, line_given_last, want_at, with_lines_ended};
+ghost use Rattle.bt_seq.specs.MaskStanding.{MaskStandsAt};
 ghost use Rattle.bt_seq.specs.MaskSteps.{ChecksRecord, EndsCheck, EndsRecords, GivesNextLine, GivesBed};
 ghost use Rattle.bt_seq.specs.Sequences.{SequenceLine};
 

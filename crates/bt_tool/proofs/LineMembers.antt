@@ -23,7 +23,8 @@ use Rattle.bt_bed.specs.declared.blocks.Blocks.{Blocks}
 use Rattle.bt_bed.proofs.ReadingLemmas.{Going, advanced, going_end, going_member, going_start, going_unread, going_wrong}
 use Rattle.bt_seq.specs.Sequences.{Reached, SequenceLine, is_header, line_says, may_stand, sequence_format}
 use Rattle.bt_lines.specs.Output.{Output}
-use Rattle.bt_seq.specs.MaskStanding.{MaskStage, MaskStandsAt}
+use Rattle.bt_seq.specs.MaskStage.{MaskStage}
+use Rattle.bt_seq.specs.MaskStanding.{MaskStandsAt}
 use Rattle.bt_seq.specs.MaskSteps.{EndsCheck, EndsRecords, GivesNextLine}
 use Rattle.bt_seq.specs.Masking.{Masking}
 use Rattle.bt_seq.specs.declared.mask_how.MaskHow.{MaskHow}

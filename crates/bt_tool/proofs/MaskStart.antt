@@ -15,7 +15,8 @@ use Rattle.bt_bed.specs.Locus.{Locus}
 use Rattle.bt_bed.specs.Reading.{MemberReader}
 use Rattle.bt_bed.specs.declared.blocks.Blocks.{Blocks}
 use Rattle.bt_bed.proofs.ReadingLemmas.{good_at_first}
-use Rattle.bt_seq.specs.MaskStanding.{MaskStandsAt, first_stage}
+use Rattle.bt_seq.specs.MaskStage.{first_stage}
+use Rattle.bt_seq.specs.MaskStanding.{MaskStandsAt}
 use Rattle.bt_seq.specs.Masking.{Masking}
 use Rattle.bt_seq.specs.Sequences.{Reached, SequenceLine, sequence_format}
 use Rattle.bt_seq.specs.declared.mask_how.MaskHow.{MaskHow}

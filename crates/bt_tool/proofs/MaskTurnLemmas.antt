@@ -16,7 +16,8 @@ use Rattle.bt_bed.specs.GoodBlocks.{block_format}
 use Rattle.bt_bed.specs.LineKind.{fault_at_line}
 use Rattle.bt_bed.specs.Locus.{Locus}
 use Rattle.bt_bed.specs.Reading.{MemberReader, room}
-use Rattle.bt_seq.specs.MaskStanding.{MaskStage, MaskStandsAt, is_written_at_once, kept_line, reached, want_of, with_bed_ended, with_decided, with_lines_ended, with_record}
+use Rattle.bt_seq.specs.MaskStage.{MaskStage, is_written_at_once, reached, want_of, with_bed_ended, with_decided, with_lines_ended, with_record}
+use Rattle.bt_seq.specs.MaskStanding.{MaskStandsAt, kept_line}
 use Rattle.bt_seq.specs.Masking.{Masking}
 use Rattle.bt_seq.specs.Sequences.{Reached, SequenceLine, line_says, sequence_format}
 use Rattle.bt_seq.specs.declared.mask_how.MaskHow.{MaskHow}

@@ -19,7 +19,8 @@ use Rattle.bt_bed.specs.Reading.{Advances, GivesMember, MemberReader, good_comin
 use Rattle.bt_seq.specs.MaskFronts.{LineBefore}
 use Rattle.bt_seq.proofs.MaskFrontLemmas.{decided_stays, masked_stay}
 use Rattle.bt_seq.proofs.MaskMetLemmas.{first_is_told, lack_none}
-use Rattle.bt_seq.specs.MaskStanding.{IsNext, IsOpen, MaskStage, MaskStandsAt, given, is_written_ahead, is_written_at_once, line_given_last, reached, reached_by, want_of, with_bed_ended, with_decided, with_lines_ended, with_record}
+use Rattle.bt_seq.specs.MaskStage.{IsNext, MaskStage, given, is_written_ahead, is_written_at_once, line_given_last, reached, reached_by, want_of, with_bed_ended, with_decided, with_lines_ended, with_record}
+use Rattle.bt_seq.specs.MaskStanding.{IsOpen, MaskStandsAt}
 use Rattle.bt_seq.specs.MaskSteps.{FailsToWriteLine, IsSettled, LacksSequence}
 use Rattle.bt_seq.specs.Masked.{decided, is_unnamed, masked_line, names_of, no_sequence}
 use Rattle.bt_seq.specs.Masking.{Masking}

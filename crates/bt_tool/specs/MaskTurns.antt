@@ -13,8 +13,9 @@ use Rattle.bt_bed.specs.Feature.{Feature}
 use Rattle.bt_bed.specs.Good.{Member}
 use Rattle.bt_bed.specs.Locus.{Locus}
 use Rattle.bt_bed.specs.Reading.{Advances, MemberReader}
-use Rattle.bt_seq.specs.MaskStanding.{IsNext, MaskStage, MaskStandsAt, with_bed_ended}
-use Rattle.bt_seq.specs.MaskStanding.{with_lines_ended}
+use Rattle.bt_seq.specs.MaskStage.{IsNext, MaskStage, with_bed_ended}
+use Rattle.bt_seq.specs.MaskStanding.{MaskStandsAt}
+use Rattle.bt_seq.specs.MaskStage.{with_lines_ended}
 use Rattle.bt_seq.specs.MaskSteps.{FailsToHoldRecord, FailsToWriteLine, FailsWithLine, HasSequence}
 use Rattle.bt_seq.specs.MaskSteps.{LacksSequence, RefusesLine, TakesNextLine, TakesRecord}
 use Rattle.bt_seq.specs.MaskSteps.{WritesLine}

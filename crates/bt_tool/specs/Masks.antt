@@ -13,7 +13,8 @@ use Rattle.bt_bed.specs.Good.{Member}
 use Rattle.bt_bed.specs.GoodBlocks.{AreInBlocks}
 use Rattle.bt_bed.specs.Locus.{Locus}
 use Rattle.bt_bed.specs.Reading.{MemberReader}
-use Rattle.bt_seq.specs.MaskStanding.{MaskStage, MaskStandsAt}
+use Rattle.bt_seq.specs.MaskStage.{MaskStage}
+use Rattle.bt_seq.specs.MaskStanding.{MaskStandsAt}
 use Rattle.bt_seq.specs.Masked.{decided, masked_line, names_of, no_sequence}
 use Rattle.bt_seq.specs.Masking.{Masking}
 use Rattle.bt_seq.specs.Owners.{left_after}
