@@ -4,7 +4,7 @@ use Rattle.std.specs.Prelude.{◌⊎◌, IsSome, IfSome, is_some, option_map}
 use Rattle.std.specs.Option.{option_to_list}
 use Rattle.std.proofs.lemmas.Bool.{false≢true}
 use Rattle.bt_lines.specs.Fault.{Told, read_failed, no_memory}
-use Rattle.bt_lines.specs.Given.{GivesFirst}
+use Rattle.bt_lines.specs.LentLine.{GivesFirst}
 use Rattle.bt_lines.specs.Lines.{TextLine, AreNumbered}
 use Rattle.bt_lines.specs.Reader.{Hands, IsSound, GivesLine, FailsToRead, GivesEnd, GivesFault, source_of, input_of, lines_given, end_told, has_ended, lines_left, room as line_room, fault_kept as line_fault}
 use Rattle.bt_lines.specs.declared.fault.Input.{Input}

@@ -7,7 +7,7 @@ use Rattle.std.proofs.lemmas.List.{map-append}
 use Rattle.std.proofs.lemmas.Option.{slice_get-map}
 use Rattle.std.proofs.Math.Seq.{take-append_seam}
 use Rattle.bt_lines.specs.Fault.{Told, read_failed, no_memory}
-use Rattle.bt_lines.specs.Given.{GivesFirst}
+use Rattle.bt_lines.specs.LentLine.{GivesFirst}
 use Rattle.bt_lines.specs.Lines.{TextLine, pieces}
 use Rattle.bt_lines.specs.Number.{value_of}
 use Rattle.bt_lines.specs.Reader.{Hands, IsSound, end_told, GivesLine, GivesEnd, GivesFault, FailsToRead, source_of, input_of, lines_given, fault_kept, lines_left}

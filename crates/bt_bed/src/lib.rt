@@ -55,6 +55,7 @@ mod sorted;
 mod spot;
 mod strand;
 mod tabs;
+mod taken;
 mod writing;
 
 pub use bed::BedRef;
@@ -70,4 +71,5 @@ pub use putting::{put_bed, put_cut};
 pub use rec::Rec;
 pub use records::Records;
 pub use strand::Strand;
+pub use taken::Taken;
 pub use writing::{write_bed, write_cut};

@@ -6,7 +6,7 @@ use Rattle.memchr.specs.Find.{IsFirstByte, is_byte}
 use Rattle.bt_lines.specs.Block.{IsFirstFeed, unread}
 use Rattle.bt_lines.specs.declared.block.Block.{Block}
 use Rattle.bt_lines.specs.Output.{block_size}
-use Rattle.bt_lines.specs.Given.{NoLineFeed}
+use Rattle.bt_lines.specs.LentLine.{NoLineFeed}
 
 not_true : (b : Bool) → (b ≡ true → ⊥) → b ≡ false
 not_true true h = absurd (h refl)

@@ -4,7 +4,7 @@ use Rattle.std.proofs.KnownBytes.{Consumes-nil, Consumes-trans}
 use Rattle.std.proofs.lemmas.List.Elements.{All-append, All-nil}
 use Rattle.std.specs.Io.KnownBytes.{Consumes}
 use Rattle.bt_lines.specs.Filling.{AsksMore, Fills, MovesPiece}
-use Rattle.bt_lines.specs.Given.{NoLineFeed}
+use Rattle.bt_lines.specs.LentLine.{NoLineFeed}
 use Rattle.bt_lines.specs.declared.filling.More.TheVariants.{Bytes, NoBytes, BadRead, PastBound}
 use Rattle.bt_lines.specs.declared.filling.Stop.TheVariants.{LineFeed, End, Failed, TooLong, NoMemory}
 

@@ -7,7 +7,7 @@ use Rattle.std.proofs.lemmas.List.{take-append-drop, drop_more, drop_all}
 use Rattle.std.proofs.lemmas.List.Splits.{slice_split_at, slice_split_none, length-slice_split, join_with_byte-slice_split}
 use Rattle.std.proofs.lemmas.Bool.{false≢true, eqb-true, ltb-true}
 use Rattle.bt_lines.specs.Lines.{pieces, fed_line, last_line, numbered, lines_from, spelled, end_bytes}
-use Rattle.bt_lines.specs.Given.{NoLineFeed}
+use Rattle.bt_lines.specs.LentLine.{NoLineFeed}
 use Rattle.bt_lines.specs.declared.line.LineEnd.TheVariants.{Absent, Lf, CrLf, Cr}
 
 -- a piece is followed by others

@@ -5,7 +5,7 @@ use Rattle.std.proofs.lemmas.Bool.{false≢true}
 use Rattle.std.proofs.KnownBytes.{Consumes-nil, Consumes-trans}
 use Rattle.bt_lines.proofs.TextLemmas.{line_feeds-append, bytes_in-lines}
 use Rattle.bt_lines.specs.Lines.{TextLine, lines_from, bytes_in}
-use Rattle.bt_lines.specs.Given.{GivesFirst}
+use Rattle.bt_lines.specs.LentLine.{GivesFirst}
 use Rattle.bt_lines.specs.Output.{block_size}
 use Rattle.bt_lines.specs.Reader.{left_at, Hands, IsSound, end_told, source_of, lines_given, lines_left, bytes_left, held, fault_kept}
 use Rattle.bt_lines.specs.declared.line_reader.LineReader.{LineReader}

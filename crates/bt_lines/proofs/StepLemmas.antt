@@ -17,7 +17,7 @@ use Rattle.bt_lines.specs.Lines.{TextLine, fed_line, last_line, lines_from, line
 use Rattle.bt_lines.specs.Fault.{Told, read_failed, no_memory}
 use Rattle.bt_lines.specs.Filling.{Fills}
 use Rattle.bt_lines.specs.Output.{block_size}
-use Rattle.bt_lines.specs.Given.{GivesFirst, NoLineFeed}
+use Rattle.bt_lines.specs.LentLine.{GivesFirst, NoLineFeed}
 use Rattle.bt_lines.specs.Names.{told}
 use Rattle.bt_lines.specs.Reader.{held_at, fault_at, ended_at, told_at, taken_at, going_at, is_going, StepsTo, Stepped, Hands, IsNear, FailsToRead, end_told, GivesLine, GivesEnd, line_at, source_of, input_of, lines_given, bytes_taken, held, fault_kept, has_ended, bytes_left, feeds_taken}
 use Rattle.bt_lines.specs.declared.fault.Fault.{Fault}

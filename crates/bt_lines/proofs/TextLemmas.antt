@@ -7,7 +7,7 @@ use Rattle.std.proofs.lemmas.List.Splits.{slice_split_at, slice_split_none, leng
 use Rattle.std.proofs.lemmas.Bool.{false≢true, eqb-true}
 use Rattle.bt_lines.proofs.LinesLemmas.{lines_from-fed, lines_from-last, lines_lose_nothing}
 use Rattle.bt_lines.specs.Lines.{TextLine, pieces, fed_line, last_line, lines_from, whole_lines_from, numbered_whole, line_feeds, bytes_in, spelled, AreNumbered}
-use Rattle.bt_lines.specs.Given.{NoLineFeed}
+use Rattle.bt_lines.specs.LentLine.{NoLineFeed}
 
 -- a text is a last piece, or a piece, its line feed and the rest: what holds of both, holds of each text
 module _ (P : ℕ → List ℕ → Type 0) (last : (n : ℕ) (piece : List ℕ) → NoLineFeed piece → P n piece)

@@ -9,7 +9,7 @@ pub mod Columns
 pub mod Output
 pub mod Putting
 pub mod Names
-pub mod Given
+pub mod LentLine
 pub mod Block
 pub mod Reader
 pub mod Filling

@@ -8,7 +8,7 @@ use Rattle.bt_lines.specs.Lines.{TextLine, lines_from, line_feeds, bytes_in, spe
 use Rattle.bt_lines.specs.Output.{block_size}
 use Rattle.bt_lines.specs.Fault.{Told, read_failed, no_memory}
 use Rattle.bt_lines.specs.Names.{told}
-use Rattle.bt_lines.specs.Given.{line_seen, GivesFirst}
+use Rattle.bt_lines.specs.LentLine.{line_seen, GivesFirst}
 use Rattle.bt_lines.specs.declared.fault.Input.{Input}
 use Rattle.bt_lines.specs.declared.fault.Fault.{Fault}
 use Rattle.bt_lines.specs.declared.line.Line.{Line}

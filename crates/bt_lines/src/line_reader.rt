@@ -65,7 +65,7 @@ impl<S: Source> LineReader<S> {
     ghost use Rattle.std.specs.Io.BufRead.{Rests};
     ghost use Rattle.bt_lines.specs.contracts.line_reader.LineReader.{the_row};
     ghost use Rattle.bt_lines.specs.Reader.{IsSound, NextLine, Stepped, line_at, feeds_taken, is_going, taken_ahead, source_of, input_of, lines_given, bytes_taken, held, fault_kept, has_ended, lines_left};
-    ghost use Rattle.bt_lines.specs.Given.{NoLineFeed, line_seen};
+    ghost use Rattle.bt_lines.specs.LentLine.{NoLineFeed, line_seen};
     ghost use Rattle.bt_lines.specs.Lines.{text_lines};
     ghost use Rattle.bt_lines.specs.Fault.{read_failed};
 

@@ -7,7 +7,7 @@ use Rattle.bt_runs.specs.declared.plain.PlainSpan.{PlainSpan}
 use Rattle.bt_runs.specs.declared.plain_depths.PlainDepth.{PlainDepth}
 use Rattle.bt_runs.specs.Depth.{depth_at, depth_of}
 use Rattle.bt_runs.specs.Levels.{Begun, Level, begun_after, ended_after, ended_at, levels_of, next_begun, next_ended}
-use Rattle.bt_runs.specs.Plain.{spans_in}
+use Rattle.bt_runs.specs.PlainRuns.{spans_in}
 use Rattle.bt_runs.specs.PlainLevels.{level_in, levels_in, with_value, with_value_after}
 use Rattle.bt_runs.proofs.LevelLemmas.{StopIn, begun_split, ended_after-stop, ended_split}
 

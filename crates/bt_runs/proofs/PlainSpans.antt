@@ -9,7 +9,7 @@ use Rattle.bt_runs.specs.declared.plain.PlainSpan.{PlainSpan}
 use Rattle.bt_bed.specs.Interval.{Span}
 use Rattle.bt_bed.specs.Stretches.{IsCovered, AreApartFrom, AreStretchesOf}
 use Rattle.bt_runs.specs.Merged.{Bridged, runs_of}
-use Rattle.bt_runs.specs.Plain.{span_in, spans_in, with_next_after, with_next}
+use Rattle.bt_runs.specs.PlainRuns.{span_in, spans_in, with_next_after, with_next}
 use Rattle.bt_runs.proofs.Bridging.{Decides-le, only_runs}
 use Rattle.bt_runs.specs.Gaps.{gaps_of}
 use Rattle.bt_runs.proofs.OneGap.{only_gaps}

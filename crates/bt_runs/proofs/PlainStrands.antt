@@ -12,7 +12,7 @@ use Rattle.bt_bed.specs.declared.strand.Strand.{Strand}
 use Rattle.bt_bed.proofs.NameLemmas.{name_eq}
 use Rattle.bt_runs.specs.Counted.{counted}
 use Rattle.bt_runs.specs.Merged.{chromosomes, merged, runs_of, runs_on, without}
-use Rattle.bt_runs.specs.Plain.{span_in, spans_in}
+use Rattle.bt_runs.specs.PlainRuns.{span_in, spans_in}
 use Rattle.bt_runs.specs.PlainStrands.{begun_in, feature_on, features_on, lies_in, run_on}
 use Rattle.bt_runs.specs.PlainStrands.{spans_of as plain_spans, strand_runs_on}
 use Rattle.bt_runs.specs.StrandRuns.{StrandRun, begun_by, is_in, listed_behind, runs_of_strand}

@@ -13,7 +13,7 @@ pub mod Stranding
 pub mod StrandTaking
 pub mod Merging
 pub mod KeptRuns
-pub mod Plain
+pub mod PlainRuns
 pub mod Pooling
 pub mod MergeStep
 pub mod Taking

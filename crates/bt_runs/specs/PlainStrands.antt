@@ -5,7 +5,7 @@ use Rattle.bt_bed.specs.Feature.{Feature}
 use Rattle.bt_bed.specs.Interval.{placed_on}
 use Rattle.bt_bed.specs.Strands.{is_strand}
 use Rattle.bt_bed.specs.declared.strand.Strand.{Strand}
-use Rattle.bt_runs.specs.Plain.{span_in}
+use Rattle.bt_runs.specs.PlainRuns.{span_in}
 use Rattle.bt_runs.specs.StrandRuns.{StrandRun}
 use Rattle.bt_runs.specs.declared.plain.PlainSpan.{PlainSpan}
 use Rattle.bt_runs.specs.declared.plain_strands.PlainStranded.{PlainStranded}

@@ -4,7 +4,7 @@
 ghost use Rattle.std.specs.Prelude.{◌≡◌, ◌+◌, ◌<◌, ◌^◌, ◌&&◌, ◌||◌, ◌==◌, filter, length, nat_le, nat_lt, IfOk, OnOk};
 ghost use Rattle.bt_runs.specs.Depth.{depth_of};
 ghost use Rattle.bt_runs.specs.Levels.{levels_of};
-ghost use Rattle.bt_runs.specs.Plain.{spans_in};
+ghost use Rattle.bt_runs.specs.PlainRuns.{spans_in};
 ghost use Rattle.bt_runs.specs.PlainLevels.{levels_in, with_value};
 
 use crate::plain::PlainSpan;

@@ -2,7 +2,7 @@
 //! Tests compare the complement with it.
 
 ghost use Rattle.bt_runs.specs.Gaps.{gaps_of};
-ghost use Rattle.bt_runs.specs.Plain.{spans_in};
+ghost use Rattle.bt_runs.specs.PlainRuns.{spans_in};
 ghost use Rattle.std.specs.Prelude.{◌≡◌, IfOk};
 
 use crate::plain::{PlainSpan, add_position, is_covered};

@@ -20,23 +20,23 @@ use Rattle.bt_seq.proofs.KnownLemmas.{MayTake, never, next_can_be, nobody_left, 
 use Rattle.bt_seq.proofs.MaskFrontLemmas.{blocks_front, decided_stays, held_before, masked_before}
 use Rattle.bt_seq.proofs.NextLemmas.{decided_more, own_more}
 use Rattle.bt_seq.proofs.StandLemmas.{StandsBy, last_waits, stands_at, stands_by, wants_bed}
-use Rattle.bt_seq.specs.Held.{stretch_of}
+use Rattle.bt_seq.specs.HeldMasks.{stretch_of}
 use Rattle.bt_seq.specs.Knows.{owner_by}
 use Rattle.bt_seq.specs.MaskInside.{Counts, IsDecided, KnowsLast, KnowsNone, decided_up_to}
 use Rattle.bt_seq.specs.MaskStage.{IsNext, MaskStage, given, held_by, line_given_last, reached, want_of, with_bed_ended, with_decided, with_record}
 use Rattle.bt_seq.specs.MaskStanding.{MaskStandsAt, Waits, kept_line}
 use Rattle.bt_seq.specs.MaskSteps.{EndsRecords, GivesBed, HasSequence, LacksSequence, WritesLine}
 use Rattle.bt_seq.specs.Masked.{decided, held_for, masked_line}
-use Rattle.bt_seq.specs.Masking.{Masking, TakesBed, Waiting, Writes, decides, decides_by, decides_up_to, has_owner, holding, holds, holds_by, line_bytes, with_owner, with_stretch}
+use Rattle.bt_seq.specs.MaskState.{Masking, TakesBed, Waiting, Writes, decides, decides_by, decides_up_to, has_owner, holding, holds, holds_by, line_bytes, with_owner, with_stretch}
 use Rattle.bt_seq.specs.Matching.{Matched, begins_own, is_it, matched_with, owner_of}
 use Rattle.bt_seq.specs.Owners.{block_decides, items_if_last, left_after, own_records}
 use Rattle.bt_seq.specs.Sequences.{SequenceLine, bases_up_to}
-use Rattle.bt_seq.specs.Stretches.{masked_in}
+use Rattle.bt_seq.specs.MaskedBases.{masked_in}
 use Rattle.bt_seq.specs.Window.{Bounds, limit}
 use Rattle.bt_seq.specs.declared.mask_how.MaskHow.{MaskHow}
 use Rattle.bt_seq.specs.declared.mask_want.MaskWant.TheVariants.{Line, Bed, Nothing}
-use Rattle.bt_seq.specs.declared.mask_want.Taken.{Taken}
-use Rattle.bt_seq.specs.declared.mask_want.Taken.TheVariants.{Yes, No}
+use Rattle.bt_bed.specs.declared.taken.Taken.{Taken}
+use Rattle.bt_bed.specs.declared.taken.Taken.TheVariants.{Yes, No}
 use Rattle.bt_seq.specs.declared.matching.Owner.TheVariants.{Nobody}
 use Rattle.bt_seq.specs.declared.stretch.Stretch.{Stretch}
 

@@ -5,7 +5,7 @@ use Rattle.std.proofs.lemmas.Bool.Decides.{nat_tests}
 use Rattle.std.proofs.lemmas.List.Sums.{sum_by-cons}
 use Rattle.bt_bed.specs.Interval.{Span}
 use Rattle.bt_seq.specs.Between.{AreBetween, blocks_are_within}
-use Rattle.bt_seq.specs.Blocks.{blocks_in, blocks_of, is_skip, with_bases}
+use Rattle.bt_seq.specs.AlignmentBlocks.{blocks_in, blocks_of, is_skip, with_bases}
 use Rattle.bt_seq.specs.Cigar.{covered_by, operations_of, reference_length}
 use Rattle.bt_seq.specs.declared.operation.Operation.{Operation}
 use Rattle.bt_seq.proofs.BlockLemmas.{blocks_open, open_blocks, skip_covers}

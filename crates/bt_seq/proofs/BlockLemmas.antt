@@ -6,7 +6,7 @@ use Rattle.std.proofs.lemmas.Bool.{false≢true}
 use Rattle.std.proofs.lemmas.Bool.Decides.{nat_tests}
 use Rattle.std.proofs.lemmas.List.Sums.{sum_by-cons, sum_by_push, take_while-cons}
 use Rattle.bt_bed.specs.Interval.{Span}
-use Rattle.bt_seq.specs.Blocks.{begins_block, block_at, blocks_in, blocks_of, cuts, is_skip, unskipped_are_one_block, up_to_skip, with_bases}
+use Rattle.bt_seq.specs.AlignmentBlocks.{begins_block, block_at, blocks_in, blocks_of, cuts, is_skip, unskipped_are_one_block, up_to_skip, with_bases}
 use Rattle.bt_seq.specs.Cigar.{covered_by, operations_in, reference_length, with_operation}
 use Rattle.bt_seq.proofs.CigarLemmas.{both_true}
 use Rattle.bt_seq.specs.CigarSteps.{none_left}

@@ -8,15 +8,15 @@ use Rattle.bt_seq.proofs.HeldLemmas.{held_alone}
 use Rattle.bt_seq.proofs.MaskFrontLemmas.{chrom_of}
 use Rattle.bt_seq.proofs.StretchLemmas.{none_masked}
 use Rattle.bt_seq.proofs.TagLemmas.{next_left, own_in, own_tagged, tag_decides, tags}
-use Rattle.bt_seq.specs.Held.{stretch_of}
+use Rattle.bt_seq.specs.HeldMasks.{stretch_of}
 use Rattle.bt_seq.specs.Knows.{owner_by}
 use Rattle.bt_seq.specs.MaskHow.{masked_byte}
 use Rattle.bt_seq.specs.MaskInside.{AreInRange}
 use Rattle.bt_seq.specs.Masked.{held_for, masked_from, masked_text}
-use Rattle.bt_seq.specs.Masking.{decides_by}
+use Rattle.bt_seq.specs.MaskState.{decides_by}
 use Rattle.bt_seq.specs.Owners.{block_decides, items_if_last, own_records}
 use Rattle.bt_seq.specs.Sequences.{SequenceLine, bases_up_to, is_header}
-use Rattle.bt_seq.specs.Stretches.{has_position, masked_in}
+use Rattle.bt_seq.specs.MaskedBases.{has_position, masked_in}
 use Rattle.bt_seq.specs.Window.{limit}
 use Rattle.bt_seq.specs.declared.mask_how.MaskHow.{MaskHow}
 use Rattle.bt_seq.specs.declared.stretch.Stretch.{Stretch}

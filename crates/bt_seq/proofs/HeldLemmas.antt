@@ -3,12 +3,12 @@ use Rattle.std.proofs.Common.{◌≡◌, ℕ, suc, ◌+◌, ◌<◌, ◌≤◌, 
 use Rattle.std.specs.List.{list_any}
 use Rattle.std.proofs.lemmas.Bool.Decides.{nat_tests}
 use Rattle.bt_bed.specs.Feature.{Feature}
-use Rattle.bt_seq.specs.Held.{held_mask_alone, stretch_of}
+use Rattle.bt_seq.specs.HeldMasks.{held_mask_alone, stretch_of}
 use Rattle.bt_seq.specs.MaskHow.{masked_byte}
 use Rattle.bt_seq.specs.Masked.{covers, held_for, masked_from}
 use Rattle.bt_seq.specs.Owners.{own_records}
 use Rattle.bt_seq.specs.Sequences.{bases_in}
-use Rattle.bt_seq.specs.Stretches.{has_position, masked_in}
+use Rattle.bt_seq.specs.MaskedBases.{has_position, masked_in}
 use Rattle.bt_seq.specs.declared.mask_how.MaskHow.{MaskHow}
 use Rattle.bt_seq.specs.declared.stretch.Stretch.{Stretch}
 

@@ -17,17 +17,17 @@ use Rattle.bt_seq.proofs.MaskFrontLemmas.{decided_by_tags, masked_before}
 use Rattle.bt_seq.proofs.NextLemmas.{decided_more, left_grows, named_more, none_own, undecided_header, undecided_next}
 use Rattle.bt_seq.proofs.StandLemmas.{last_more, last_name_more, last_name_none, stands_at, unnamed_are, unnamed_untaken, wants_line}
 use Rattle.bt_seq.proofs.TagLemmas.{own_tagged, tag_decides, tags_of}
-use Rattle.bt_seq.specs.Held.{stretch_of}
+use Rattle.bt_seq.specs.HeldMasks.{stretch_of}
 use Rattle.bt_seq.specs.MaskInside.{AreInRange, Counts, KnowsNext, decided_up_to, last_name}
 use Rattle.bt_seq.specs.MaskStage.{MaskStage, given, held_by, is_written_ahead, is_written_at_once, line_given_last, reached, reached_by, want_of, with_line}
 use Rattle.bt_seq.specs.MaskStanding.{IsOpen, MaskStandsAt, Waits, kept_line}
 use Rattle.bt_seq.specs.MaskSteps.{FailsWithLine, GivesNextLine, IsSettled, RefusesLine, TakesNextLine, bytes_with, may_need_memory}
 use Rattle.bt_seq.specs.Masked.{decided, held_for, is_unnamed, masked_line}
-use Rattle.bt_seq.specs.Masking.{Masking, TakesLine, Waiting, bytes_at_once, is_stray, line_bytes, may_grow, moved_to, writes_at_once}
+use Rattle.bt_seq.specs.MaskState.{Masking, TakesLine, Waiting, bytes_at_once, is_stray, line_bytes, may_grow, moved_to, writes_at_once}
 use Rattle.bt_seq.specs.Matching.{Matched, named}
 use Rattle.bt_seq.specs.Owners.{block_decides, left_after, own_records}
 use Rattle.bt_seq.specs.Sequences.{SequenceLine, bases_in, bases_up_to, header_behind, is_header, line_behind, line_says, may_stand, name_in}
-use Rattle.bt_seq.specs.Stretches.{masked_in}
+use Rattle.bt_seq.specs.MaskedBases.{masked_in}
 use Rattle.bt_seq.specs.Window.{Bounds, gone_on, limit, no_bases}
 use Rattle.bt_seq.specs.declared.mask_how.MaskHow.{MaskHow}
 use Rattle.bt_seq.specs.declared.mask_want.MaskWant.TheVariants.{Line, Bed, Nothing}

@@ -10,11 +10,11 @@ use Rattle.bt_lines.specs.Lines.{end_bytes}
 use Rattle.bt_lines.specs.Putting.{Adds, FailsToAdd, Grown}
 use Rattle.bt_lines.specs.declared.fault.Fault.{Fault}
 use Rattle.bt_seq.proofs.StretchLemmas.{none_masked}
-use Rattle.bt_seq.specs.Masking.{Keeps, Masking, PassesLine, TakesLine, Waiting, Writes, WritesGiven, decides, decides_by, decides_up_to, is_stray, line_bytes, may_grow, moved_to, with_owner, writes_at_once}
+use Rattle.bt_seq.specs.MaskState.{Keeps, Masking, PassesLine, TakesLine, Waiting, Writes, WritesGiven, decides, decides_by, decides_up_to, is_stray, line_bytes, may_grow, moved_to, with_owner, writes_at_once}
 use Rattle.bt_seq.specs.Matching.{Matched, matched_with, named, owner_of}
 use Rattle.bt_seq.specs.Sequences.{is_header, name_in}
 use Rattle.bt_seq.specs.Window.{gone_on, no_bases}
-use Rattle.bt_seq.specs.Stretches.{masked_in}
+use Rattle.bt_seq.specs.MaskedBases.{masked_in}
 use Rattle.bt_seq.specs.declared.mask_want.MaskWant.TheVariants.{Line, Bed, Nothing}
 use Rattle.bt_seq.specs.declared.matching.Owner.{Owner}
 use Rattle.bt_seq.specs.declared.stretch.Stretch.{Stretch}

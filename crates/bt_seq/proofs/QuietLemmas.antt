@@ -3,7 +3,7 @@ use Rattle.std.proofs.Common.{◌≡◌, ◌+◌, List, [], ◌∷◌, ◌++◌,
 use Rattle.std.proofs.lemmas.Bool.{false≢true}
 use Rattle.bt_bed.specs.Feature.{Feature}
 use Rattle.bt_seq.specs.MaskSteps.{quiet_records_are_taken}
-use Rattle.bt_seq.specs.declared.mask_want.Taken.TheVariants.{Yes, No}
+use Rattle.bt_bed.specs.declared.taken.Taken.TheVariants.{Yes, No}
 
 no_more : (rs : List Feature) (r : Feature) → rs ≡ rs ++ r ∷ [] → ⊥
 no_more rs r e =

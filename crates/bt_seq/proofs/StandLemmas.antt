@@ -5,12 +5,12 @@ use Rattle.std.specs.Prelude.{is_none, is_some, option_map, option_to_list}
 use Rattle.bt_bed.specs.Feature.{Feature}
 use Rattle.bt_bed.specs.GoodBlocks.{AreInBlocks}
 use Rattle.bt_seq.proofs.KnownLemmas.{never}
-use Rattle.bt_seq.specs.Held.{stretch_of}
+use Rattle.bt_seq.specs.HeldMasks.{stretch_of}
 use Rattle.bt_seq.specs.MaskInside.{AreInRange, Counts, IsDecided, KnowsNext, decided_up_to, last_name}
 use Rattle.bt_seq.specs.MaskStage.{MaskStage, given, held_by, line_given_last, reached_by, want_at, want_of}
 use Rattle.bt_seq.specs.MaskStanding.{IsOpen, MaskStandsAt, Waits, kept_line}
 use Rattle.bt_seq.specs.Masked.{is_unnamed}
-use Rattle.bt_seq.specs.Masking.{Masking}
+use Rattle.bt_seq.specs.MaskState.{Masking}
 use Rattle.bt_seq.specs.Owners.{Owned, block_decides, left_after, owned}
 use Rattle.bt_seq.specs.Sequences.{SequenceLine, bases_up_to}
 use Rattle.bt_seq.specs.Window.{limit}

@@ -4,7 +4,7 @@ use Rattle.std.specs.List.{list_any}
 use Rattle.std.proofs.lemmas.Bool.Decides.{nat_tests}
 use Rattle.std.proofs.lemmas.List.Folds.{list_any-append}
 use Rattle.bt_seq.specs.MaskHow.{is_upper_case, masked_byte}
-use Rattle.bt_seq.specs.Stretches.{has_position, masked_in}
+use Rattle.bt_seq.specs.MaskedBases.{has_position, masked_in}
 use Rattle.bt_seq.specs.declared.mask_how.MaskHow.{MaskHow}
 use Rattle.bt_seq.specs.declared.mask_how.MaskHow.TheVariants.{Soft, Hard}
 use Rattle.bt_seq.specs.declared.stretch.Stretch.{Stretch}

@@ -4,7 +4,7 @@ use Rattle.std.specs.Prelude.{ℕ, Bool, List, [], ◌∷◌, ◌++◌, codes, d
 use Rattle.std.specs.List.{join_with_byte}
 use Rattle.bt_bed.specs.Interval.{Span}
 use Rattle.bt_seq.specs.Alignment.{Alignment}
-use Rattle.bt_seq.specs.Blocks.{alignment_blocks}
+use Rattle.bt_seq.specs.AlignmentBlocks.{alignment_blocks}
 
 -- a text, where it is asked for
 abbrev pub text_if : Bool → List ℕ → List ℕ

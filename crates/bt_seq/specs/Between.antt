@@ -3,7 +3,7 @@ use Rattle.std.specs.Prelude.{ℕ, ◌<◌, ◌≤◌, Bool, List, [], ◌∷◌
 use Rattle.bt_bed.specs.Interval.{Span}
 use Rattle.bt_seq.specs.Alignment.{Alignment}
 use Rattle.bt_seq.specs.AlignmentEnd.{EndsAt}
-use Rattle.bt_seq.specs.Blocks.{alignment_blocks}
+use Rattle.bt_seq.specs.AlignmentBlocks.{alignment_blocks}
 
 -- these blocks lie one behind another from one place up to the other, each with a base
 abbrev pub AreBetween : ℕ → ℕ → List Span → Type 0

@@ -8,7 +8,7 @@ use Rattle.bt_lines.specs.Number.{max_number}
 use Rattle.bt_seq.specs.Knows.{Knows, KnowsEarlier}
 use Rattle.bt_seq.specs.MaskStage.{MaskStage, given, line_given_last, reached, reached_by, want_at}
 use Rattle.bt_seq.specs.Masked.{decided, is_unnamed}
-use Rattle.bt_seq.specs.Masking.{Masking}
+use Rattle.bt_seq.specs.MaskState.{Masking}
 use Rattle.bt_seq.specs.Matching.{Matched}
 use Rattle.bt_seq.specs.Owners.{goes_on, left_after, names_behind}
 use Rattle.bt_seq.specs.Sequences.{SequenceLine}

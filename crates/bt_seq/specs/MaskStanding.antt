@@ -3,11 +3,11 @@ use Rattle.std.specs.Prelude.{◌≡◌, ◌⊎◌, ℕ, Bool, true, false, List
 use Rattle.std.specs.Prelude.{option_map}
 use Rattle.bt_bed.specs.Feature.{Feature}
 use Rattle.bt_bed.specs.GoodBlocks.{AreInBlocks}
-use Rattle.bt_seq.specs.Held.{stretch_of}
+use Rattle.bt_seq.specs.HeldMasks.{stretch_of}
 use Rattle.bt_seq.specs.MaskInside.{KnowsStage}
 use Rattle.bt_seq.specs.MaskStage.{MaskStage, given, held_by, line_given_last, reached, want_at}
 use Rattle.bt_seq.specs.Masked.{decided, is_unnamed}
-use Rattle.bt_seq.specs.Masking.{Masking, Waiting}
+use Rattle.bt_seq.specs.MaskState.{Masking, Waiting}
 use Rattle.bt_seq.specs.Owners.{left_after}
 use Rattle.bt_seq.specs.Sequences.{SequenceLine, is_header}
 use Rattle.bt_seq.specs.declared.mask_how.MaskHow.{MaskHow}

@@ -17,13 +17,13 @@ use Rattle.bt_seq.specs.MaskStanding.{MaskStandsAt}
 use Rattle.bt_seq.specs.MaskStage.{with_bed_ended, with_decided, with_line, with_record}
 use Rattle.bt_seq.specs.MaskFronts.{LineBefore}
 use Rattle.bt_seq.specs.Masked.{decided, held_for, masked_line}
-use Rattle.bt_seq.specs.Masking.{Masking}
+use Rattle.bt_seq.specs.MaskState.{Masking}
 use Rattle.bt_seq.specs.Owners.{left_after}
 use Rattle.bt_seq.specs.Sequences.{SequenceLine, is_header, line_says}
 use Rattle.bt_seq.specs.declared.mask_how.MaskHow.{MaskHow}
 use Rattle.bt_seq.specs.declared.mask_want.MaskWant.TheVariants.{Nothing}
-use Rattle.bt_seq.specs.declared.mask_want.Taken.{Taken}
-use Rattle.bt_seq.specs.declared.mask_want.Taken.TheVariants.{Yes, No}
+use Rattle.bt_bed.specs.declared.taken.Taken.{Taken}
+use Rattle.bt_bed.specs.declared.taken.Taken.TheVariants.{Yes, No}
 
 -- the bytes that are written when a line is given: its own where it is written at once,
 -- and else none

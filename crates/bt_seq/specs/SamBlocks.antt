@@ -1,7 +1,7 @@
 -- The blocks that an iterator has left.
 use Rattle.std.specs.Prelude.{ℕ, List, [], ◌∷◌, ◌++◌, Option, Some, None}
 use Rattle.bt_bed.specs.Interval.{Span}
-use Rattle.bt_seq.specs.Blocks.{blocks_in}
+use Rattle.bt_seq.specs.AlignmentBlocks.{blocks_in}
 use Rattle.bt_seq.specs.Cigar.{operations_in}
 use Rattle.bt_seq.specs.declared.block_iter.SamBlocks.{SamBlocks}
 

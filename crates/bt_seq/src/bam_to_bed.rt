@@ -5,7 +5,7 @@ ghost use Rattle.bt_lines.specs.Fault.{Told, write_failed};
 ghost use Rattle.bt_lines.specs.Names.{told};
 ghost use Rattle.bt_lines.specs.Putting.{Adds};
 ghost use Rattle.bt_seq.specs.BedLines.{bed_lines};
-ghost use Rattle.bt_seq.specs.Converting.{bed_lines_by};
+ghost use Rattle.bt_seq.specs.BamToBedState.{bed_lines_by};
 ghost use Rattle.bt_seq.specs.Sam.{alignment_lent};
 
 use crate::bed_line::put_line;
@@ -29,7 +29,7 @@ pub struct BamToBed {
 impl Model for BamToBed {
     ghost use Rattle.std.specs.Prelude.{None, Some, if◌then◌else◌};
     ghost use Rattle.bt_lines.specs.Fault.{write_failed};
-    ghost use Rattle.bt_seq.specs.Converting.{Converting};
+    ghost use Rattle.bt_seq.specs.BamToBedState.{Converting};
 
     ghost Value = { Converting };
 

@@ -20,7 +20,7 @@ pub struct SamBlocks<'a> {
 
 impl<'a> SamBlocks<'a> {
     ghost use Rattle.std.specs.Prelude.{◌≡◌};
-    ghost use Rattle.bt_seq.specs.Blocks.{alignment_blocks};
+    ghost use Rattle.bt_seq.specs.AlignmentBlocks.{alignment_blocks};
     ghost use Rattle.bt_seq.specs.Sam.{alignment_lent};
     ghost use Rattle.bt_seq.specs.SamBlocks.{blocks_left};
 

@@ -1,7 +1,7 @@
 //! The first block of a text of operations.
 
 ghost use Rattle.std.specs.Prelude.{◌≡◌, ◌++◌, ◌<◌, length};
-ghost use Rattle.bt_seq.specs.Blocks.{blocks_in, with_bases};
+ghost use Rattle.bt_seq.specs.AlignmentBlocks.{blocks_in, with_bases};
 ghost use Rattle.bt_seq.specs.Cigar.{operations_in};
 ghost use Rattle.bt_seq.specs.Room.{FitBehind};
 

@@ -3,10 +3,10 @@
 ghost use Rattle.std.specs.Prelude.{◌≡◌, [], ◌∷◌, Some, None, Ok, Err, codes, true, false};
 ghost use Rattle.bt_seq.specs.Alignment.{alignment_of};
 ghost use Rattle.bt_seq.specs.Between.{blocks_are_within};
-ghost use Rattle.bt_seq.specs.Blocks.{blocks_in, unskipped_are_one_block};
+ghost use Rattle.bt_seq.specs.AlignmentBlocks.{blocks_in, unskipped_are_one_block};
 ghost use Rattle.bt_seq.specs.Cigar.{division_is_found, division_is_one, length_of, operations_are_divided, operations_of};
 ghost use Rattle.bt_bed.specs.LineKind.{fault_at_line};
-ghost use Rattle.bt_seq.specs.Held.{held_mask_alone};
+ghost use Rattle.bt_seq.specs.HeldMasks.{held_mask_alone};
 ghost use Rattle.bt_seq.specs.Knows.{owners_are_found};
 ghost use Rattle.bt_seq.specs.MaskFronts.{decided_lines_stay, faultless_are_masked, first_unowned_is_told, masked_are_a_front, masked_lines_are_before, masked_lines_stay, owned_lack_none};
 ghost use Rattle.bt_seq.specs.MaskSteps.{quiet_records_are_taken};
@@ -56,7 +56,7 @@ pub fn alignments_of_small_texts()
 {}
 
 /// The blocks of small CIGARs.
-#[tactic(auto, unfolding(crate::specs::Blocks::blocks_of, crate::specs::Cigar::operations_in, bt_lines::specs::Number::value_of))]
+#[tactic(auto, unfolding(crate::specs::AlignmentBlocks::blocks_of, crate::specs::Cigar::operations_in, bt_lines::specs::Number::value_of))]
 pub fn blocks_of_small_cigars()
     ensures one_skip { blocks_in 15 (operations_of (codes "6M14N5M"))
         ≡ record { start = 15; stop = 21 } ∷ record { start = 35; stop = 40 } ∷ [] }

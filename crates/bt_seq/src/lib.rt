@@ -49,10 +49,11 @@ mod window;
 
 pub use bam_to_bed::BamToBed;
 pub use block_iter::SamBlocks;
+pub use bt_bed::Taken;
 pub use cigar::cigar_span;
 pub use mask::Mask;
 pub use mask_how::{MaskHow, mask_slice};
-pub use mask_want::{MaskWant, Taken};
+pub use mask_want::MaskWant;
 pub use plain::plain_mask;
 pub use sam::SamRef;
 pub use sam_text::sam_line;

@@ -3,7 +3,7 @@
 ghost use Rattle.std.specs.Prelude.{◌≡◌, ◌⊎◌, Bool, None, OnErr, Some, false, length};
 ghost use Rattle.bt_bed.specs.Bed.{feature_lent};
 ghost use Rattle.bt_bed.specs.GoodBlocks.{AreInBlocks};
-ghost use Rattle.bt_lines.specs.Given.{line_seen};
+ghost use Rattle.bt_lines.specs.LentLine.{line_seen};
 ghost use Rattle.bt_seq.specs.MaskStage.{IsNext, MaskStage, first_stage, given, held_by, line_given_last, want_at, with_lines_ended};
 ghost use Rattle.bt_seq.specs.MaskStanding.{MaskStandsAt};
 ghost use Rattle.bt_seq.specs.MaskSteps.{ChecksRecord, EndsCheck, EndsRecords, GivesNextLine, GivesBed};
@@ -11,8 +11,8 @@ ghost use Rattle.bt_seq.specs.Sequences.{SequenceLine};
 
 use crate::mask_how::MaskHow;
 use crate::mask_state::MaskState;
-use crate::mask_want::{MaskWant, Taken};
-use bt_bed::BedRef;
+use crate::mask_want::MaskWant;
+use bt_bed::{BedRef, Taken};
 use bt_lines::{Fault, Line, Out, Sink};
 use std::alloc::Global;
 use std::marker::Model;
@@ -30,7 +30,7 @@ pub struct Mask {
 }
 
 impl Model for Mask {
-    ghost use Rattle.bt_seq.specs.Masking.{Masking};
+    ghost use Rattle.bt_seq.specs.MaskState.{Masking};
 
     ghost Value = { Masking };
 

@@ -5,17 +5,17 @@ ghost use Rattle.bt_lines.specs.Fault.{no_memory};
 ghost use Rattle.bt_lines.specs.Names.{told};
 ghost use Rattle.bt_bed.specs.Bed.{feature_lent};
 ghost use Rattle.bt_bed.specs.LineKind.{fault_at_line};
-ghost use Rattle.bt_seq.specs.Masking.{ChecksBed, Keeps, Moves, PassesLine, TakesBed, TakesLine, Waiting, Writes, WritesGiven, decides_by, decides_up_to, stays_as_given, with_stretch, writes_at_once};
+ghost use Rattle.bt_seq.specs.MaskState.{ChecksBed, Keeps, Moves, PassesLine, TakesBed, TakesLine, Waiting, Writes, WritesGiven, decides_by, decides_up_to, stays_as_given, with_stretch, writes_at_once};
 ghost use Rattle.bt_seq.specs.Sequences.{is_header};
 ghost use Rattle.bt_seq.specs.Window.{no_bases};
 
 use crate::header_name::{is_header, name_in};
 use crate::mask_how::MaskHow;
-use crate::mask_want::{MaskWant, Taken};
+use crate::mask_want::MaskWant;
 use crate::matching::{Matching, Owner};
 use crate::put_text::{hold_text, put_text};
 use crate::window::{LIMIT, Window};
-use bt_bed::{BedRef, at_line};
+use bt_bed::{BedRef, Taken, at_line};
 use bt_lines::{Fault, Input, Kind, Line, LineEnd, Out, Place, Sink, no_memory};
 use std::alloc::Global;
 use std::marker::Model;
@@ -48,7 +48,7 @@ pub(crate) struct MaskState {
 
 impl Model for MaskState {
     ghost use Rattle.std.specs.Prelude.{None, Some, if◌then◌else◌};
-    ghost use Rattle.bt_seq.specs.Masking.{Masking};
+    ghost use Rattle.bt_seq.specs.MaskState.{Masking};
 
     ghost Value = { Masking };
 

@@ -10,12 +10,3 @@ pub enum MaskWant {
     /// Nothing more: both inputs have ended, or a fault was answered.
     Nothing,
 }
-
-/// Whether a record was taken.
-#[derive(Clone, Copy, Debug, PartialEq, Eq)]
-pub enum Taken {
-    /// It was: the caller goes on to the next one.
-    Yes,
-    /// It wasn't: it decides the line that waits, and that is written. The record is given again.
-    No,
-}

@@ -1,7 +1,7 @@
 //! Cutting an alignment into its blocks.
 
 ghost use Rattle.std.specs.Prelude.{◌≡◌};
-ghost use Rattle.bt_seq.specs.Blocks.{alignment_blocks};
+ghost use Rattle.bt_seq.specs.AlignmentBlocks.{alignment_blocks};
 ghost use Rattle.bt_seq.specs.Sam.{alignment_lent};
 ghost use Rattle.bt_seq.specs.SamBlocks.{blocks_left};
 

@@ -1,7 +1,7 @@
 //! The stretches of a sequence that are masked.
 
 ghost use Rattle.std.specs.Prelude.{◌≡◌, ◌-◌, ◌<◌, ◌^◌, [], ◌∷◌, length, min};
-ghost use Rattle.bt_seq.specs.Stretches.{masked_in};
+ghost use Rattle.bt_seq.specs.MaskedBases.{masked_in};
 
 use crate::mask_how::{MaskHow, mask_slice};
 

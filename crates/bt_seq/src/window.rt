@@ -1,7 +1,7 @@
 //! The bases of the line given last, and the records that reach into them.
 
 ghost use Rattle.std.specs.Prelude.{◌≡◌, ◌+◌, ◌≤◌, [], ◌∷◌, ◌++◌, OnOk, OnErr, filter, length, min, nat_eq, nat_lt, true, if◌then◌else◌};
-ghost use Rattle.bt_seq.specs.Stretches.{masked_in};
+ghost use Rattle.bt_seq.specs.MaskedBases.{masked_in};
 ghost use Rattle.bt_seq.specs.Window.{gone_on, no_bases, limit};
 
 use crate::mask_how::MaskHow;

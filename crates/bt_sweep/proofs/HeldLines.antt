@@ -3,7 +3,7 @@ use Rattle.std.proofs.Common.{◌≡◌, true, List, ap, ltb, arith, filter, byt
 use Rattle.std.proofs.lemmas.Bool.{lt-ltb, and_from}
 use Rattle.bt_bed.specs.Feature.{Feature}
 use Rattle.bt_sweep.specs.Hits.{hits}
-use Rattle.bt_sweep.specs.Lines.{lines_of, lines_for}
+use Rattle.bt_sweep.specs.IntersectLines.{lines_of, lines_for}
 use Rattle.bt_sweep.specs.Standing.{is_held}
 use Rattle.bt_sweep.specs.declared.hit_rule.HitRule.{HitRule}
 use Rattle.bt_sweep.specs.declared.shape.Shape.{Shape}

@@ -13,7 +13,7 @@ use Rattle.bt_bed.proofs.NameLemmas.{same_name}
 use Rattle.bt_sweep.specs.Deciding.{decides}
 use Rattle.bt_sweep.specs.Held.{StartFrom}
 use Rattle.bt_sweep.specs.Hits.{hits, hits_among}
-use Rattle.bt_sweep.specs.Lines.{lines_of, lines_for, lines_stay, lines_are_before}
+use Rattle.bt_sweep.specs.IntersectLines.{lines_of, lines_for, lines_stay, lines_are_before}
 use Rattle.bt_sweep.specs.declared.hit_rule.HitRule.{HitRule}
 use Rattle.bt_sweep.specs.declared.shape.Shape.{Shape}
 use Rattle.bt_sweep.proofs.RuleLemmas.{apart_misses}

@@ -11,7 +11,7 @@ use Rattle.bt_bed.proofs.Apart.{stretches_are_same}
 use Rattle.bt_bed.proofs.Scan.{scan_finds}
 use Rattle.bt_sweep.specs.Held.{AreRising, AreRisingFrom}
 use Rattle.bt_sweep.specs.Hits.{hits, hits_among}
-use Rattle.bt_sweep.specs.Lines.{piece_line}
+use Rattle.bt_sweep.specs.IntersectLines.{piece_line}
 use Rattle.bt_sweep.specs.Pieces.{IsLeft, has_position, is_left, pieces, pieces_are, pieces_only, spans_of}
 use Rattle.bt_sweep.specs.Walking.{free_after, gap_lines, lines_before}
 use Rattle.bt_sweep.specs.declared.hit_rule.HitRule.{HitRule}

@@ -3,7 +3,7 @@ use Rattle.std.proofs.Common.{◌≡◌, ◌⊎◌, inl, inr, ℕ, List, [], ◌
 use Rattle.bt_bed.specs.Feature.{Feature}
 use Rattle.bt_bed.specs.Record.{bed_text}
 use Rattle.bt_sweep.specs.Hits.{hits_among}
-use Rattle.bt_sweep.specs.Lines.{hit_line, line_with, lines_for, lines_of, piece_line}
+use Rattle.bt_sweep.specs.IntersectLines.{hit_line, line_with, lines_for, lines_of, piece_line}
 use Rattle.bt_sweep.specs.Pieces.{pieces}
 use Rattle.bt_sweep.specs.declared.hit_rule.HitRule.{HitRule}
 use Rattle.bt_sweep.specs.declared.shape.Shape.{Shape}

@@ -7,9 +7,9 @@ use Rattle.bt_bed.specs.Feature.{Feature}
 use Rattle.bt_bed.specs.Interval.{Span}
 use Rattle.bt_bed.specs.Stretches.{stretches_from, with_position}
 use Rattle.bt_sweep.specs.Hits.{hits, hits_among}
-use Rattle.bt_sweep.specs.Lines.{piece_line}
+use Rattle.bt_sweep.specs.IntersectLines.{piece_line}
 use Rattle.bt_sweep.specs.Pieces.{has_position, is_left, pieces}
-use Rattle.bt_sweep.specs.Plain.{piece_in, pieces_in}
+use Rattle.bt_sweep.specs.PlainPieces.{piece_in, pieces_in}
 use Rattle.bt_sweep.specs.declared.hit_rule.HitRule.{HitRule}
 use Rattle.bt_sweep.specs.declared.plain_pieces.PlainPiece.{PlainPiece}
 

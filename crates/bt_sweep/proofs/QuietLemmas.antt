@@ -2,7 +2,7 @@
 use Rattle.std.proofs.Common.{inl, inr, Ok, Err, refl, sym, ◌∙◌}
 use Rattle.std.proofs.lemmas.Bool.{false≢true}
 use Rattle.bt_sweep.specs.Steps.{quiet_are_taken}
-use Rattle.bt_sweep.specs.declared.want.Taken.TheVariants.{Yes, No}
+use Rattle.bt_bed.specs.declared.taken.Taken.TheVariants.{Yes, No}
 
 pub quiet_taken : quiet_are_taken
 quiet_taken order shape rule stage a b out (Ok Yes) new grown gives undecided free = (refl, gives.same_output)

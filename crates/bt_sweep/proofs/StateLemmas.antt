@@ -12,9 +12,9 @@ use Rattle.bt_lines.proofs.PuttingLemmas.{grown_none}
 use Rattle.bt_bed.specs.Feature.{Feature}
 use Rattle.bt_bed.proofs.NameLemmas.{same_name}
 use Rattle.bt_sweep.specs.Held.{AreOn, AreRising, AreWith}
-use Rattle.bt_sweep.specs.Lines.{lines_for}
+use Rattle.bt_sweep.specs.IntersectLines.{lines_for}
 use Rattle.bt_sweep.specs.StateSteps.{NeedsHit, TakesA, WritesLast, held_with, is_held_by, moved_to}
-use Rattle.bt_sweep.specs.Sweeping.{Sweeping}
+use Rattle.bt_sweep.specs.SweepState.{Sweeping}
 use Rattle.bt_sweep.specs.declared.hit_rule.HitRule.{HitRule}
 use Rattle.bt_sweep.specs.declared.shape.Shape.{Shape}
 

@@ -11,11 +11,11 @@ use Rattle.bt_bed.specs.Locus.{ArePlaced}
 use Rattle.bt_bed.specs.Order.{Order, IsTotal}
 use Rattle.bt_sweep.specs.Deciding.{decides}
 use Rattle.bt_sweep.specs.Held.{AreRising}
-use Rattle.bt_sweep.specs.Lines.{lines_for}
+use Rattle.bt_sweep.specs.IntersectLines.{lines_for}
 use Rattle.bt_sweep.specs.Standing.{Stage, given, is_held, held_for, HoldsFor, StandsAt, IsInOrder, last_given, with_a, with_a_ended, with_b, with_lines, with_b_ended}
 use Rattle.bt_sweep.specs.StateSteps.{Holds, TakesA, WritesLast, held_with, holding, is_held_by, moved_to}
 use Rattle.bt_sweep.specs.Steps.{EndsB, Fails, FailsToHold, FailsToWriteA, GivesA, TakesB, WritesA, lines_with}
-use Rattle.bt_sweep.specs.Sweeping.{Sweeping, want_in, want_of}
+use Rattle.bt_sweep.specs.SweepState.{Sweeping, want_in, want_of}
 use Rattle.bt_sweep.specs.declared.hit_rule.HitRule.{HitRule}
 use Rattle.bt_sweep.specs.declared.shape.Shape.{Shape}
 use Rattle.bt_sweep.specs.declared.want.Want.TheVariants.{A, B, Nothing}

@@ -11,9 +11,9 @@ use Rattle.bt_bed.specs.Order.{Order, IsTotal}
 use Rattle.bt_bed.proofs.MeetingLemmas.{all_written, met_lines, written_begins}
 use Rattle.bt_sweep.specs.Deciding.{decided}
 use Rattle.bt_sweep.specs.Hits.{hits_among}
-use Rattle.bt_sweep.specs.Lines.{intersect, lines_for, lines_of}
+use Rattle.bt_sweep.specs.IntersectLines.{intersect, lines_for, lines_of}
 use Rattle.bt_sweep.specs.Subtract.{left_are_lines, left_lines, subtract, subtract_is_met, subtract_shape}
-use Rattle.bt_sweep.specs.Sweeps.{early_rule, faultless_are_all, sweep_rule, written_are_a_front}
+use Rattle.bt_sweep.specs.SweepMeeting.{early_rule, faultless_are_all, sweep_rule, written_are_a_front}
 use Rattle.bt_sweep.specs.declared.hit_rule.HitRule.{HitRule}
 use Rattle.bt_sweep.specs.declared.shape.Shape.{Shape}
 use Rattle.bt_sweep.specs.declared.shape.Shape.TheVariants.{Whole}

@@ -11,7 +11,7 @@ use Rattle.bt_lines.proofs.PuttingLemmas.{cut_off, fails_then, grown_more}
 use Rattle.bt_bed.specs.Feature.{Feature}
 use Rattle.bt_sweep.specs.Held.{AreRising}
 use Rattle.bt_sweep.specs.Hits.{hits, hits_among}
-use Rattle.bt_sweep.specs.Lines.{piece_line}
+use Rattle.bt_sweep.specs.IntersectLines.{piece_line}
 use Rattle.bt_sweep.specs.Pieces.{pieces}
 use Rattle.bt_sweep.specs.Walking.{free_after, gap_lines, lines_before}
 use Rattle.bt_sweep.specs.declared.hit_rule.HitRule.{HitRule}

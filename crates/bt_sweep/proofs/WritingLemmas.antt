@@ -8,7 +8,7 @@ use Rattle.bt_lines.proofs.PuttingLemmas.{adds_some}
 use Rattle.bt_bed.specs.Feature.{Feature}
 use Rattle.bt_bed.specs.Record.{bed_text}
 use Rattle.bt_sweep.specs.Hits.{hits, hits_among, shared_bases}
-use Rattle.bt_sweep.specs.Lines.{hit_line, line_with, lines_for, lines_of, piece_line}
+use Rattle.bt_sweep.specs.IntersectLines.{hit_line, line_with, lines_for, lines_of, piece_line}
 use Rattle.bt_sweep.specs.Pieces.{pieces}
 use Rattle.bt_sweep.proofs.PlainLemmas.{each_hit}
 use Rattle.bt_sweep.specs.declared.hit_rule.HitRule.{HitRule}

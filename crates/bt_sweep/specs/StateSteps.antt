@@ -7,10 +7,10 @@ use Rattle.bt_lines.specs.Output.{Output}
 use Rattle.bt_lines.specs.Putting.{FailsToAdd, Grown}
 use Rattle.bt_lines.specs.declared.fault.Fault.{Fault}
 use Rattle.bt_bed.specs.Feature.{Feature}
-use Rattle.bt_sweep.specs.Lines.{lines_for, lines_of}
+use Rattle.bt_sweep.specs.IntersectLines.{lines_for, lines_of}
 use Rattle.bt_sweep.specs.Standing.{is_held}
 use Rattle.bt_sweep.specs.Steps.{Fails}
-use Rattle.bt_sweep.specs.Sweeping.{Sweeping, want_in}
+use Rattle.bt_sweep.specs.SweepState.{Sweeping, want_in}
 use Rattle.bt_sweep.specs.declared.shape.Shape.{Shape}
 use Rattle.bt_sweep.specs.declared.want.Want.TheVariants.{Nothing}
 

@@ -8,14 +8,14 @@ use Rattle.bt_lines.specs.declared.fault.Fault.{Fault}
 use Rattle.bt_bed.specs.Feature.{Feature}
 use Rattle.bt_bed.specs.Order.{Order}
 use Rattle.bt_sweep.specs.Deciding.{decides}
-use Rattle.bt_sweep.specs.Lines.{LinesBefore, lines_for}
+use Rattle.bt_sweep.specs.IntersectLines.{LinesBefore, lines_for}
 use Rattle.bt_sweep.specs.Standing.{Stage, StandsAt, is_held, with_a, with_b, with_b_ended}
 use Rattle.bt_sweep.specs.Standing.{with_lines}
-use Rattle.bt_sweep.specs.Sweeping.{Sweeping, want_in}
+use Rattle.bt_sweep.specs.SweepState.{Sweeping, want_in}
 use Rattle.bt_sweep.specs.declared.hit_rule.HitRule.{HitRule}
 use Rattle.bt_sweep.specs.declared.shape.Shape.{Shape}
-use Rattle.bt_sweep.specs.declared.want.Taken.{Taken}
-use Rattle.bt_sweep.specs.declared.want.Taken.TheVariants.{Yes, No}
+use Rattle.bt_bed.specs.declared.taken.Taken.{Taken}
+use Rattle.bt_bed.specs.declared.taken.Taken.TheVariants.{Yes, No}
 use Rattle.bt_sweep.specs.declared.want.Want.TheVariants.{Nothing}
 
 -- why a call didn't put its lines: they couldn't be written, only where the sink failed, and a

@@ -6,9 +6,9 @@ use Rattle.bt_bed.specs.Meeting.{meet}
 use Rattle.bt_bed.specs.Order.{Order}
 use Rattle.bt_bed.specs.Record.{bed_text}
 use Rattle.bt_sweep.specs.Hits.{hits_among}
-use Rattle.bt_sweep.specs.Lines.{line_with, lines_for, piece_line}
+use Rattle.bt_sweep.specs.IntersectLines.{line_with, lines_for, piece_line}
 use Rattle.bt_sweep.specs.Pieces.{pieces}
-use Rattle.bt_sweep.specs.Sweeps.{sweep_rule}
+use Rattle.bt_sweep.specs.SweepMeeting.{sweep_rule}
 use Rattle.bt_sweep.specs.declared.hit_rule.HitRule.{HitRule}
 use Rattle.bt_sweep.specs.declared.shape.Shape.{Shape}
 use Rattle.bt_sweep.specs.declared.shape.Shape.TheVariants.{Pieces, Whole}

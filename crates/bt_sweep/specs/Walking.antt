@@ -1,7 +1,7 @@
 -- A walk over the records that hit one, by their starts: what it writes of the pieces between them.
 use Rattle.std.specs.Prelude.{ℕ, List, [], ◌∷◌, ◌++◌, cond, max, nat_lt}
 use Rattle.bt_bed.specs.Feature.{Feature}
-use Rattle.bt_sweep.specs.Lines.{piece_line}
+use Rattle.bt_sweep.specs.IntersectLines.{piece_line}
 
 -- the piece of a between two positions, if it has a base
 abbrev pub gap_lines : Feature → ℕ → ℕ → List ℕ

@@ -8,7 +8,7 @@ use Rattle.bt_bed.specs.Rank.{rank_order}
 use Rattle.bt_bed.specs.declared.strand.Strand.TheVariants.{Dot}
 use Rattle.bt_sweep.specs.Hits.{any_overlap}
 use Rattle.bt_sweep.specs.Subtract.{subtract}
-use Rattle.bt_sweep.specs.Sweeps.{intersect_met}
+use Rattle.bt_sweep.specs.SweepMeeting.{intersect_met}
 use Rattle.bt_sweep.specs.declared.hit_rule.HitRule.{HitRule}
 use Rattle.bt_sweep.specs.declared.shape.Shape.TheVariants.{Cut}
 

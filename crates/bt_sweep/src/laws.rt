@@ -2,13 +2,13 @@
 
 ghost use Rattle.bt_sweep.specs.Deciding.{decided_stays};
 ghost use Rattle.bt_sweep.specs.Hits.{both_of_nothing};
-ghost use Rattle.bt_sweep.specs.Lines.{lines_are_before, lines_stay};
+ghost use Rattle.bt_sweep.specs.IntersectLines.{lines_are_before, lines_stay};
 ghost use Rattle.bt_sweep.specs.Pieces.{pieces_are, pieces_only};
 ghost use Rattle.bt_sweep.specs.Standing.{taken_are_first};
 ghost use Rattle.bt_sweep.specs.Steps.{quiet_are_taken};
 ghost use Rattle.bt_sweep.specs.Subtract.{left_are_lines, subtract_is_met};
 ghost use Rattle.bt_sweep.specs.Worked.{fault_behind_undecided, fault_of_first, half_is_taken, parts_are_left, whole_is_left};
-ghost use Rattle.bt_sweep.specs.Sweeps.{faultless_are_all, written_are_a_front};
+ghost use Rattle.bt_sweep.specs.SweepMeeting.{faultless_are_all, written_are_a_front};
 
 /// What is decided stays decided, and its lines stay as they are, whatever comes after in order: the
 /// record that decides it included.

@@ -42,9 +42,10 @@ mod want;
 mod worked;
 mod writing;
 
+pub use bt_bed::Taken;
 pub use held::Held;
 pub use held_list::HeldList;
 pub use hit_rule::HitRule;
 pub use shape::Shape;
 pub use sweep::Sweep;
-pub use want::{Taken, Want};
+pub use want::Want;

@@ -5,7 +5,7 @@ ghost use Rattle.bt_lines.specs.Putting.{Adds};
 ghost use Rattle.bt_bed.specs.Bed.{feature_lent};
 ghost use Rattle.bt_sweep.specs.Held.{AreOn, AreRising};
 ghost use Rattle.bt_sweep.specs.Hits.{hits_among};
-ghost use Rattle.bt_sweep.specs.Lines.{piece_line};
+ghost use Rattle.bt_sweep.specs.IntersectLines.{piece_line};
 ghost use Rattle.bt_sweep.specs.Pieces.{pieces};
 ghost use Rattle.bt_sweep.specs.Walking.{free_after, gap_lines, lines_before};
 

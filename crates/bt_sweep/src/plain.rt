@@ -5,7 +5,7 @@ ghost use Rattle.std.specs.Prelude.{◌≡◌, ◌∷◌, ◌++◌, [], OnOk, If
 ghost use Rattle.bt_bed.specs.Bed.{feature_lent};
 ghost use Rattle.bt_bed.specs.Record.{bed_text, cut_to};
 ghost use Rattle.bt_sweep.specs.Hits.{hits, hits_among, shared_bases};
-ghost use Rattle.bt_sweep.specs.Lines.{hit_line, intersect, line_with, lines_for, piece_line};
+ghost use Rattle.bt_sweep.specs.IntersectLines.{hit_line, intersect, line_with, lines_for, piece_line};
 ghost use Rattle.bt_sweep.specs.Pieces.{pieces};
 
 use crate::hit::{is_enough, strands_agree};

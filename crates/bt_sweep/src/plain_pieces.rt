@@ -6,7 +6,7 @@ ghost use Rattle.bt_bed.specs.Bed.{feature_lent};
 ghost use Rattle.bt_bed.specs.Stretches.{with_position};
 ghost use Rattle.bt_sweep.specs.Hits.{hits, hits_among};
 ghost use Rattle.bt_sweep.specs.Pieces.{has_position, is_left, pieces};
-ghost use Rattle.bt_sweep.specs.Plain.{pieces_in};
+ghost use Rattle.bt_sweep.specs.PlainPieces.{pieces_in};
 
 use crate::hit_rule::HitRule;
 use crate::plain::hits;

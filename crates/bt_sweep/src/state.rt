@@ -6,9 +6,9 @@ ghost use Rattle.bt_bed.specs.Bed.{feature_lent};
 ghost use Rattle.bt_bed.specs.Feature.{Feature};
 ghost use Rattle.bt_sweep.specs.Deciding.{decides};
 ghost use Rattle.bt_sweep.specs.Held.{AreRising, AreWith};
-ghost use Rattle.bt_sweep.specs.Lines.{lines_for};
+ghost use Rattle.bt_sweep.specs.IntersectLines.{lines_for};
 ghost use Rattle.bt_sweep.specs.StateSteps.{Holds, KeepsLast, TakesA, WritesLast, held_with, is_held_by, moved_to};
-ghost use Rattle.bt_sweep.specs.Sweeping.{want_in};
+ghost use Rattle.bt_sweep.specs.SweepState.{want_in};
 
 use crate::held::Held;
 use crate::hit_rule::HitRule;
@@ -45,7 +45,7 @@ pub(crate) struct State<H: Held> {
 
 impl<H: Held> Model for State<H> {
     ghost use Rattle.bt_sweep.specs.Held.{AreWith};
-    ghost use Rattle.bt_sweep.specs.Sweeping.{Sweeping};
+    ghost use Rattle.bt_sweep.specs.SweepState.{Sweeping};
 
     ghost Value = { Sweeping };
 

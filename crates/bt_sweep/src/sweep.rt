@@ -7,8 +7,8 @@ use crate::held::Held;
 use crate::hit_rule::HitRule;
 use crate::shape::Shape;
 use crate::state::State;
-use crate::want::{Taken, Want};
-use bt_bed::{BedRef, ChromOrder};
+use crate::want::Want;
+use bt_bed::{BedRef, ChromOrder, Taken};
 use bt_lines::{Fault, Out, Sink};
 use std::alloc::Global;
 
@@ -36,8 +36,8 @@ impl<'o, H: Held, O: ChromOrder> Sweep<'o, H, O> {
     ghost use Rattle.bt_bed.specs.Order.{Order};
     ghost use Rattle.bt_sweep.specs.Standing.{IsInOrder, Stage, StandsAt, first_stage, given, held_for, last_given, want_at, with_a, with_a_ended};
     ghost use Rattle.bt_sweep.specs.Steps.{EndsB, GivesA, GivesB};
-    ghost use Rattle.bt_sweep.specs.Sweep.{order_of, state_of};
-    ghost use Rattle.bt_sweep.specs.Sweeping.{want_in};
+    ghost use Rattle.bt_sweep.specs.SweepView.{order_of, state_of};
+    ghost use Rattle.bt_sweep.specs.SweepState.{want_in};
 
     /// A sweep that was given nothing, over an empty list of held records. It takes no memory.
     pub fn new(alloc: Global, held: H, shape: Shape, rule: HitRule, order: &'o O) -> Sweep<'o, H, O>

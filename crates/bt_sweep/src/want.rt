@@ -10,13 +10,3 @@ pub enum Want {
     /// Nothing more: the first input has ended, or a fault was answered.
     Nothing,
 }
-
-/// Whether a record of the second input was taken.
-#[derive(Clone, Copy, Debug, PartialEq, Eq)]
-pub enum Taken {
-    /// It was: the caller goes on to the next one.
-    Yes,
-    /// It wasn't: it decides the current record of the first input, whose lines are written, and is
-    /// given again.
-    No,
-}

@@ -6,7 +6,7 @@ ghost use Rattle.bt_bed.specs.Bed.{feature_lent};
 ghost use Rattle.bt_bed.specs.Record.{bed_text, cut_to};
 ghost use Rattle.bt_sweep.specs.Held.{AreOn, AreRising};
 ghost use Rattle.bt_sweep.specs.Hits.{hits_among, shared_bases};
-ghost use Rattle.bt_sweep.specs.Lines.{hit_line, line_with, lines_for};
+ghost use Rattle.bt_sweep.specs.IntersectLines.{hit_line, line_with, lines_for};
 ghost use Rattle.bt_sweep.specs.StateSteps.{NeedsHit};
 
 use crate::held::Held;

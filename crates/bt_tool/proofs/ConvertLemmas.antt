@@ -6,7 +6,7 @@ use Rattle.std.proofs.lemmas.List.{map-append}
 use Rattle.std.proofs.lemmas.List.Elements.{All-push}
 use Rattle.std.proofs.KnownBytes.{Appends-nil}
 use Rattle.bt_lines.specs.Fault.{Told, no_memory, read_failed}
-use Rattle.bt_lines.specs.Given.{GivesFirst}
+use Rattle.bt_lines.specs.LentLine.{GivesFirst}
 use Rattle.bt_lines.specs.Lines.{TextLine, bytes_in, lines_from, text_lines}
 use Rattle.bt_lines.specs.Output.{Output, HoldsBlock, Grows, block_size}
 use Rattle.bt_lines.specs.Putting.{Grown}
@@ -24,13 +24,13 @@ use Rattle.bt_bed.specs.Reading.{Remains, good_coming}
 use Rattle.bt_bed.proofs.GoodLemmas.{beyond_from}
 use Rattle.bt_seq.specs.Alignment.{Alignment, alignment_of}
 use Rattle.bt_seq.specs.BedLines.{bed_lines}
-use Rattle.bt_seq.specs.Converting.{Converting}
+use Rattle.bt_seq.specs.BamToBedState.{Converting}
 use Rattle.bt_seq.specs.GoodSam.{sam_format}
 use Rattle.bt_seq.specs.SamKind.{is_sam_kind}
 use Rattle.bt_seq.proofs.SamKindLemmas.{wrong_kinds}
 use Rattle.bt_tool.specs.Kinds.{IsOneOf}
-use Rattle.bt_tool.specs.Converted.{alignment_lines, bamtobed_report, bamtobed_settles}
-use Rattle.bt_tool.specs.Converting.{LineRefused, LineUnwritten, LineWritten, lines_if, sam_reader}
+use Rattle.bt_tool.specs.ConvertReport.{alignment_lines, bamtobed_report, bamtobed_settles}
+use Rattle.bt_tool.specs.ConvertSteps.{LineRefused, LineUnwritten, LineWritten, lines_if, sam_reader}
 use Rattle.bt_tool.specs.Driving.{WritesInput}
 use Rattle.bt_tool.specs.Feeding.{ComeFirst, FeedsAll, FeedsUpTo, IsFresh, StopCause, Took, member_items}
 use Rattle.bt_tool.specs.RecordReport.{members_report, members_settle, report_by}

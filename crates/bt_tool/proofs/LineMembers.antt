@@ -26,10 +26,10 @@ use Rattle.bt_lines.specs.Output.{Output}
 use Rattle.bt_seq.specs.MaskStage.{MaskStage}
 use Rattle.bt_seq.specs.MaskStanding.{MaskStandsAt}
 use Rattle.bt_seq.specs.MaskSteps.{EndsCheck, EndsRecords, GivesNextLine}
-use Rattle.bt_seq.specs.Masking.{Masking}
+use Rattle.bt_seq.specs.MaskState.{Masking}
 use Rattle.bt_seq.specs.declared.mask_how.MaskHow.{MaskHow}
 use Rattle.bt_tool.specs.MaskTurns.{HasAsked, TurnsBed, TurnsLine}
-use Rattle.bt_tool.specs.Masks.{line_members}
+use Rattle.bt_tool.specs.MaskLoop.{line_members}
 use Rattle.bt_tool.specs.Passed.{IsAhead, IsOver, IsStopped}
 
 -- what is wrong with a line is the text before the first header

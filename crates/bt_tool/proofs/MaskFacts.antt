@@ -14,8 +14,8 @@ use Rattle.bt_seq.specs.declared.mask_how.MaskHow.{MaskHow}
 use Rattle.bt_seq.proofs.MaskFrontLemmas.{decided_stays}
 use Rattle.bt_tool.specs.Both.{bytes_up_to}
 use Rattle.bt_tool.specs.Feeding.{member_items}
-use Rattle.bt_tool.specs.Masked.{last_needed}
-use Rattle.bt_tool.specs.Masks.{leaves_some, mask_making}
+use Rattle.bt_tool.specs.MaskReport.{last_needed}
+use Rattle.bt_tool.specs.MaskLoop.{leaves_some, mask_making}
 use Rattle.bt_tool.proofs.PairNear.{AreNeeded, least_by, not_all, skip_by, take_whole}
 
 -- a line that more records leave undecided, fewer do too

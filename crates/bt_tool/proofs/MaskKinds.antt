@@ -11,7 +11,7 @@ use Rattle.bt_bed.specs.Header.{is_header}
 use Rattle.bt_bed.specs.Locus.{Locus}
 use Rattle.bt_bed.specs.Record.{columns_say, feature_of, not_skipped, record_of}
 use Rattle.bt_bed.specs.Sorting.{block_sorting, falls_in}
-use Rattle.bt_tool.specs.Masked.{is_mask_kind}
+use Rattle.bt_tool.specs.MaskReport.{is_mask_kind}
 
 same_kind : {T : Type 0} (was : Result T Kind) (a kind : Kind) → was ≡ Err a → was ≡ Err kind → is_mask_kind a ≡ true → is_mask_kind kind ≡ true
 same_kind was a kind p q placed = let is : a ≡ kind = cc in subst (λ (k : Kind). is_mask_kind k ≡ true) is placed

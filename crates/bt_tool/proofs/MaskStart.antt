@@ -17,12 +17,12 @@ use Rattle.bt_bed.specs.declared.blocks.Blocks.{Blocks}
 use Rattle.bt_bed.proofs.ReadingLemmas.{good_at_first}
 use Rattle.bt_seq.specs.MaskStage.{first_stage}
 use Rattle.bt_seq.specs.MaskStanding.{MaskStandsAt}
-use Rattle.bt_seq.specs.Masking.{Masking}
+use Rattle.bt_seq.specs.MaskState.{Masking}
 use Rattle.bt_seq.specs.Sequences.{Reached, SequenceLine, sequence_format}
 use Rattle.bt_seq.specs.declared.mask_how.MaskHow.{MaskHow}
 use Rattle.bt_tool.specs.Feeding.{IsFresh}
 use Rattle.bt_lines.specs.Fault.{Told}
-use Rattle.bt_tool.specs.Masks.{MaskEnds, Masks, line_members, mask_making, mask_pair}
+use Rattle.bt_tool.specs.MaskLoop.{MaskEnds, Masks, line_members, mask_making, mask_pair}
 use Rattle.bt_tool.proofs.CameMembers.{BeginsAt}
 use Rattle.bt_tool.proofs.LineMembers.{blocks_going}
 use Rattle.bt_tool.proofs.MemberLemmas.{passes_start, read_start}

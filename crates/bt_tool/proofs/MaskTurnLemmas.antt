@@ -18,13 +18,13 @@ use Rattle.bt_bed.specs.Locus.{Locus}
 use Rattle.bt_bed.specs.Reading.{MemberReader, room}
 use Rattle.bt_seq.specs.MaskStage.{MaskStage, is_written_at_once, reached, want_of, with_bed_ended, with_decided, with_lines_ended, with_record}
 use Rattle.bt_seq.specs.MaskStanding.{MaskStandsAt, kept_line}
-use Rattle.bt_seq.specs.Masking.{Masking}
+use Rattle.bt_seq.specs.MaskState.{Masking}
 use Rattle.bt_seq.specs.Sequences.{Reached, SequenceLine, line_says, sequence_format}
 use Rattle.bt_seq.specs.declared.mask_how.MaskHow.{MaskHow}
 use Rattle.bt_seq.specs.declared.mask_want.MaskWant.{MaskWant}
 use Rattle.bt_seq.specs.declared.mask_want.MaskWant.TheVariants.{Line as WantLine, Bed as WantBed, Nothing}
 use Rattle.bt_tool.specs.MaskTurns.{EndsBed, EndsLines, FailsAtEnd, FailsBed, FailsLine, GivesLines, HasAsked, LacksBed, LacksLine, LeavesBed, TakesBed}
-use Rattle.bt_tool.specs.Masks.{MaskEnds, Masks, line_members, mask_making}
+use Rattle.bt_tool.specs.MaskLoop.{MaskEnds, Masks, line_members, mask_making}
 use Rattle.bt_tool.specs.PairComes.{IsOpenAt}
 use Rattle.bt_tool.specs.Passed.{IsOver}
 use Rattle.bt_tool.proofs.LineMembers.{gives_advance, gives_ahead, gives_over, gives_unread, gives_wrong, line_ahead, member_given, stopped_lines}

@@ -23,14 +23,14 @@ use Rattle.bt_seq.specs.MaskStage.{IsNext, MaskStage, given, is_written_ahead, i
 use Rattle.bt_seq.specs.MaskStanding.{IsOpen, MaskStandsAt}
 use Rattle.bt_seq.specs.MaskSteps.{FailsToWriteLine, IsSettled, LacksSequence}
 use Rattle.bt_seq.specs.Masked.{decided, is_unnamed, masked_line, names_of, no_sequence}
-use Rattle.bt_seq.specs.Masking.{Masking}
+use Rattle.bt_seq.specs.MaskState.{Masking}
 use Rattle.bt_seq.specs.Owners.{left_after}
 use Rattle.bt_seq.specs.Sequences.{Reached, SequenceLine, is_header, line_says, sequence_format}
 use Rattle.bt_seq.specs.declared.mask_how.MaskHow.{MaskHow}
 use Rattle.bt_seq.specs.declared.mask_want.MaskWant.TheVariants.{Line as WantLine, Bed as WantBed, Nothing}
 use Rattle.bt_tool.specs.Feeding.{member_items}
-use Rattle.bt_tool.specs.Masked.{is_fasta_kind, is_mask_kind}
-use Rattle.bt_tool.specs.Masks.{AreOwned, MaskEnds, Masks, leaves_some, line_members, mask_making, mask_pair, stage_of}
+use Rattle.bt_tool.specs.MaskReport.{is_fasta_kind, is_mask_kind}
+use Rattle.bt_tool.specs.MaskLoop.{AreOwned, MaskEnds, Masks, leaves_some, line_members, mask_making, mask_pair, stage_of}
 use Rattle.bt_tool.specs.Pair.{Making, Pair, Settles, item_ahead}
 use Rattle.bt_tool.specs.PairComes.{IsOpenAt}
 use Rattle.bt_tool.specs.PairEnds.{IsKnown}

@@ -15,7 +15,7 @@ use Rattle.bt_bed.specs.declared.records.Records.{Records}
 use Rattle.bt_bed.proofs.TogetherLemmas.{last_of-push, grows_placed}
 use Rattle.bt_tool.specs.Feeding.{member_items}
 use Rattle.bt_tool.specs.Passed.{IsAhead, IsOver, IsStopped}
-use Rattle.bt_tool.specs.Swept.{IsPlaced}
+use Rattle.bt_tool.specs.SweepLoop.{IsPlaced}
 use Rattle.bt_tool.specs.Turns.{HasAhead, HasEnded, HasStopped}
 use Rattle.bt_tool.proofs.FeedLemmas.{last_up_to, line_going}
 

@@ -10,7 +10,7 @@ use Rattle.bt_lines.proofs.ReaderLemmas.{hands_none, hands_both}
 use Rattle.bt_bed.specs.Good.{Member}
 use Rattle.bt_bed.specs.Reading.{Advances, GivesMember, MemberReader}
 use Rattle.bt_tool.specs.Passed.{IsAhead, IsOver, IsStopped, Passes}
-use Rattle.bt_tool.specs.Swept.{ChecksAll, ChecksUpTo, IsReadOn}
+use Rattle.bt_tool.specs.SweepLoop.{ChecksAll, ChecksUpTo, IsReadOn}
 use Rattle.bt_tool.proofs.MemberLemmas.{fails_before_end, passes_all, passes_end, passes_more, passes_stop}
 
 rises_up : {S A State : Type 0} (left : S → Option (List ℕ)) (failed : S → Bool) (old new : MemberReader S A State) (m : Member A) (o : Option (Member A)) → old.ahead ≡ o

@@ -14,11 +14,11 @@ use Rattle.bt_bed.specs.Sorting.{sorting_of}
 use Rattle.bt_bed.specs.declared.order.ChromOrder.{Ghosts}
 use Rattle.bt_bed.specs.declared.records.Records.{Records}
 use Rattle.bt_sweep.specs.Standing.{StandsAt, first_stage}
-use Rattle.bt_sweep.specs.Sweeping.{Sweeping}
+use Rattle.bt_sweep.specs.SweepState.{Sweeping}
 use Rattle.bt_sweep.specs.declared.hit_rule.HitRule.{HitRule}
 use Rattle.bt_sweep.specs.declared.shape.Shape.{Shape}
 use Rattle.bt_tool.specs.Feeding.{IsFresh}
-use Rattle.bt_tool.specs.Swept.{Sweeps, records_pair, sweep_making}
+use Rattle.bt_tool.specs.SweepLoop.{Sweeps, records_pair, sweep_making}
 use Rattle.bt_tool.proofs.CameMembers.{BeginsAt}
 use Rattle.bt_tool.proofs.FeedLemmas.{line_going}
 use Rattle.bt_tool.proofs.MemberLemmas.{passes_start, read_start}

@@ -15,7 +15,7 @@ use Rattle.bt_sweep.specs.declared.hit_rule.HitRule.{HitRule}
 use Rattle.bt_sweep.specs.declared.shape.Shape.{Shape}
 use Rattle.bt_tool.specs.Both.{bytes_up_to, decider}
 use Rattle.bt_tool.specs.Feeding.{member_items}
-use Rattle.bt_tool.specs.Swept.{sweep_making}
+use Rattle.bt_tool.specs.SweepLoop.{sweep_making}
 use Rattle.bt_tool.proofs.PairNear.{AreNeeded, least_by, not_all, skip_by, take_whole}
 
 and_first : (a b : Bool) → (a && b) ≡ true → a ≡ true

@@ -11,11 +11,11 @@ use Rattle.bt_bed.specs.Records.{order_in, room, view_of}
 use Rattle.bt_bed.specs.Sorting.{sorting_of}
 use Rattle.bt_bed.specs.declared.order.ChromOrder.{Ghosts}
 use Rattle.bt_bed.specs.declared.records.Records.{Records}
-use Rattle.bt_sweep.specs.Sweeping.{Sweeping, want_in, want_of}
+use Rattle.bt_sweep.specs.SweepState.{Sweeping, want_in, want_of}
 use Rattle.bt_sweep.specs.declared.hit_rule.HitRule.{HitRule}
 use Rattle.bt_sweep.specs.declared.shape.Shape.{Shape}
 use Rattle.bt_sweep.specs.declared.want.Want.TheVariants.{A as WantA, B as WantB, Nothing}
-use Rattle.bt_tool.specs.Swept.{SweepEnds, Sweeps}
+use Rattle.bt_tool.specs.SweepLoop.{SweepEnds, Sweeps}
 use Rattle.bt_tool.specs.Turns.{EndsFirst, EndsSecond, FailsAtEnd, FailsFirst, FailsSecond, GivesFirst, LeavesSecond, StopsTurn, TakesSecond}
 use Rattle.bt_tool.proofs.SweptLemmas.{ends_first, ends_second, fails_at_end, fails_first, fails_second, goes_first, leaves_second, none_waits, placed_taken, stops_first, stops_second, takes_second, waiting}
 

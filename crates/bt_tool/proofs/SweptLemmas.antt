@@ -23,10 +23,10 @@ use Rattle.bt_bed.specs.declared.order.ChromOrder.{Ghosts}
 use Rattle.bt_bed.specs.declared.records.Records.{Records}
 use Rattle.bt_bed.proofs.NeighbourLemmas.{wrong_of_bed}
 use Rattle.bt_sweep.specs.Deciding.{decided, decides}
-use Rattle.bt_sweep.specs.Lines.{lines_for}
+use Rattle.bt_sweep.specs.IntersectLines.{lines_for}
 use Rattle.bt_sweep.specs.Standing.{IsInOrder, Stage, StandsAt, given, with_a, with_a_ended, with_b, with_b_ended, with_lines}
 use Rattle.bt_sweep.specs.Steps.{Fails}
-use Rattle.bt_sweep.specs.Sweeping.{Sweeping, want_in, want_of}
+use Rattle.bt_sweep.specs.SweepState.{Sweeping, want_in, want_of}
 use Rattle.bt_sweep.specs.declared.hit_rule.HitRule.{HitRule}
 use Rattle.bt_sweep.specs.declared.shape.Shape.{Shape}
 use Rattle.bt_sweep.specs.declared.want.Want.TheVariants.{A as WantA, B as WantB, Nothing}
@@ -37,7 +37,7 @@ use Rattle.bt_tool.specs.Feeding.{member_items}
 use Rattle.bt_tool.specs.Pair.{Making, Pair, Settles, item_ahead}
 use Rattle.bt_tool.specs.PairComes.{IsOpenAt}
 use Rattle.bt_tool.specs.PairEnds.{IsKnown}
-use Rattle.bt_tool.specs.Swept.{FinishesBoth, ReadsOn, SweepEnds, Sweeps, records_pair, stage_of, sweep_making}
+use Rattle.bt_tool.specs.SweepLoop.{FinishesBoth, ReadsOn, SweepEnds, Sweeps, records_pair, stage_of, sweep_making}
 use Rattle.bt_tool.specs.Turns.{EndsFirst, EndsSecond, FailsAtEnd, FailsFirst, FailsSecond, GivesFirst, HasAhead, LeavesSecond, StopsTurn, TakesSecond}
 use Rattle.bt_tool.proofs.PairSettles.{settles_with}
 use Rattle.bt_tool.proofs.PairStops as stop

@@ -14,10 +14,10 @@ use Rattle.bt_seq.specs.SamKind.{is_sam_kind}
 use Rattle.bt_seq.specs.declared.mask_how.MaskHow.{MaskHow}
 use Rattle.bt_sweep.specs.declared.hit_rule.HitRule.{HitRule}
 use Rattle.bt_sweep.specs.declared.shape.Shape.{Shape}
-use Rattle.bt_tool.specs.Converted.{bamtobed_report, bamtobed_settles}
+use Rattle.bt_tool.specs.ConvertReport.{bamtobed_report, bamtobed_settles}
 use Rattle.bt_tool.specs.Kinds.{IsNoKind, IsOneOf}
-use Rattle.bt_tool.specs.Masked.{is_fasta_kind, is_mask_kind, mask_reaches, mask_report}
-use Rattle.bt_tool.specs.Masked.{mask_settles}
+use Rattle.bt_tool.specs.MaskReport.{is_fasta_kind, is_mask_kind, mask_reaches, mask_report}
+use Rattle.bt_tool.specs.MaskReport.{mask_settles}
 use Rattle.bt_tool.specs.RecordReport.{Report, records_report, records_settle}
 use Rattle.bt_tool.specs.SweepReport.{intersect_reaches, intersect_report, intersect_settles}
 use Rattle.bt_tool.specs.SweepReport.{subtract_reaches, subtract_report, subtract_settles}

@@ -20,7 +20,7 @@ use Rattle.bt_seq.specs.MaskSteps.{FailsToHoldRecord, FailsToWriteLine, FailsWit
 use Rattle.bt_seq.specs.MaskSteps.{LacksSequence, RefusesLine, TakesNextLine, TakesRecord}
 use Rattle.bt_seq.specs.MaskSteps.{WritesLine}
 use Rattle.bt_seq.specs.Masked.{masked_line}
-use Rattle.bt_seq.specs.Masking.{Masking}
+use Rattle.bt_seq.specs.MaskState.{Masking}
 use Rattle.bt_seq.specs.Sequences.{SequenceLine}
 use Rattle.bt_seq.specs.declared.mask_how.MaskHow.{MaskHow}
 use Rattle.bt_tool.specs.Passed.{IsAhead, IsOver, IsStopped}

@@ -13,9 +13,9 @@ use Rattle.bt_bed.specs.Meeting.{Met}
 use Rattle.bt_bed.specs.Order.{Order}
 use Rattle.bt_bed.specs.Sorting.{sorting_of}
 use Rattle.bt_sweep.specs.Deciding.{decides}
-use Rattle.bt_sweep.specs.Lines.{intersect}
+use Rattle.bt_sweep.specs.IntersectLines.{intersect}
 use Rattle.bt_sweep.specs.Subtract.{subtract, subtract_shape}
-use Rattle.bt_sweep.specs.Sweeps.{intersect_met}
+use Rattle.bt_sweep.specs.SweepMeeting.{intersect_met}
 use Rattle.bt_sweep.specs.declared.hit_rule.HitRule.{HitRule}
 use Rattle.bt_sweep.specs.declared.shape.Shape.{Shape}
 use Rattle.bt_tool.specs.RecordReport.{Report}

@@ -13,10 +13,10 @@ use Rattle.bt_bed.specs.Reading.{AnswersFault, EndsMembers}
 use Rattle.bt_bed.specs.Records.{GivesRecord, PassesRecord, below, order_in, view_of}
 use Rattle.bt_bed.specs.declared.order.ChromOrder.{Ghosts}
 use Rattle.bt_bed.specs.declared.records.Records.{Records}
-use Rattle.bt_sweep.specs.Lines.{lines_for}
+use Rattle.bt_sweep.specs.IntersectLines.{lines_for}
 use Rattle.bt_sweep.specs.Standing.{IsInOrder, Stage, StandsAt, with_a, with_a_ended, with_b_ended}
 use Rattle.bt_sweep.specs.Steps.{Fails, FailsToHold, FailsToWriteA, TakesB, WritesA, lines_with}
-use Rattle.bt_sweep.specs.Sweeping.{Sweeping}
+use Rattle.bt_sweep.specs.SweepState.{Sweeping}
 use Rattle.bt_sweep.specs.declared.hit_rule.HitRule.{HitRule}
 use Rattle.bt_sweep.specs.declared.shape.Shape.{Shape}
 

@@ -1,14 +1,14 @@
 //! The loop over the alignments of a SAM input: each is written as soon as its line was read.
 
 ghost use Rattle.std.specs.Prelude.{◌≡◌, None, option_map};
-ghost use Rattle.bt_lines.specs.Given.{line_seen};
+ghost use Rattle.bt_lines.specs.LentLine.{line_seen};
 ghost use Rattle.bt_lines.specs.Names.{told};
 ghost use Rattle.bt_lines.specs.Output.{HoldsBlock};
 ghost use Rattle.bt_lines.specs.Reader.{fault_kept};
 ghost use Rattle.bt_seq.specs.SamKind.{is_sam_kind};
 ghost use Rattle.bt_tool.specs.Kinds.{IsOneOf};
-ghost use Rattle.bt_tool.specs.Converted.{bamtobed_report, bamtobed_settles};
-ghost use Rattle.bt_tool.specs.Converting.{ConvertsAll, ConvertsLine, sam_reader};
+ghost use Rattle.bt_tool.specs.ConvertReport.{bamtobed_report, bamtobed_settles};
+ghost use Rattle.bt_tool.specs.ConvertSteps.{ConvertsAll, ConvertsLine, sam_reader};
 ghost use Rattle.bt_tool.specs.Driving.{WritesInput};
 ghost use Rattle.bt_tool.specs.Feeding.{IsFresh};
 

@@ -6,8 +6,8 @@ ghost use Rattle.bt_lines.specs.Output.{HoldsBlock};
 ghost use Rattle.bt_lines.specs.Reader.{input_of};
 ghost use Rattle.bt_bed.specs.Blocks.{view_of};
 ghost use Rattle.bt_bed.specs.GoodBlocks.{block_format};
-ghost use Rattle.bt_tool.specs.Masked.{MasksBoth};
-ghost use Rattle.bt_tool.specs.Masks.{FinishesMask, Masks, line_members};
+ghost use Rattle.bt_tool.specs.MaskReport.{MasksBoth};
+ghost use Rattle.bt_tool.specs.MaskLoop.{FinishesMask, Masks, line_members};
 ghost use Rattle.bt_tool.specs.MaskTurns.{AsksLine, TurnsBed, TurnsLine};
 
 use bt_bed::Blocks;

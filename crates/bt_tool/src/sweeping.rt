@@ -8,10 +8,10 @@ ghost use Rattle.bt_bed.specs.LineKind.{IsBedKind};
 ghost use Rattle.bt_bed.specs.Order.{IsTotal};
 ghost use Rattle.bt_bed.specs.Records.{order_in, view_of};
 ghost use Rattle.bt_bed.specs.Sorting.{sorting_of};
-ghost use Rattle.bt_sweep.specs.Sweep.{order_of, state_of};
-ghost use Rattle.bt_sweep.specs.Sweeping.{want_in};
+ghost use Rattle.bt_sweep.specs.SweepView.{order_of, state_of};
+ghost use Rattle.bt_sweep.specs.SweepState.{want_in};
 ghost use Rattle.bt_tool.specs.Both.{Intersects};
-ghost use Rattle.bt_tool.specs.Swept.{FinishesBoth, ReadsOn, Sweeps, SweepsOrStops};
+ghost use Rattle.bt_tool.specs.SweepLoop.{FinishesBoth, ReadsOn, Sweeps, SweepsOrStops};
 ghost use Rattle.bt_tool.specs.Turns.{TurnsFirst, TurnsSecond};
 
 use bt_bed::{ChromOrder, Records};

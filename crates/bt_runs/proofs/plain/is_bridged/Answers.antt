@@ -1,6 +1,6 @@
 use Rattle.std.proofs.Common.{◌≡◌, ◌<◌, refl, inl, inr, arith}
 use Rattle.std.proofs.lemmas.Bool.{cases_lt, false≢true}
-use Rattle.bt_runs.specs.Plain.{spans_in}
+use Rattle.bt_runs.specs.PlainRuns.{spans_in}
 use Rattle.bt_runs.proofs.Bridging.{bridged_here}
 use Rattle.bt_runs.proofs.PlainSpans.{covered_at_true, bare_at_false}
 use Rattle.bt_runs.proofs.plain.is_bridged.Goals as goal

@@ -1,4 +1,4 @@
-use Rattle.bt_runs.specs.Plain.{spans_in}
+use Rattle.bt_runs.specs.PlainRuns.{spans_in}
 use Rattle.bt_runs.proofs.PlainSpans.{AreRunsBelow}
 use Rattle.bt_runs.proofs.plain.plain_runs.Given as goal
 

@@ -1,6 +1,6 @@
 use Rattle.std.proofs.Common.{sym, ap, ◌∙◌}
 use Rattle.bt_runs.specs.Depth.{depth_of}
-use Rattle.bt_runs.specs.Plain.{spans_in}
+use Rattle.bt_runs.specs.PlainRuns.{spans_in}
 use Rattle.bt_runs.specs.PlainLevels.{with_value}
 use Rattle.bt_runs.proofs.PlainDepths.{covering_spans, depth_reported, depth_unreported, levels_nothing, levels_same, levels_with}
 use Rattle.bt_runs.proofs.plain_depths.plain_depths.Goals as goal

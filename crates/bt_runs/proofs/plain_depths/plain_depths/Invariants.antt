@@ -1,7 +1,7 @@
 use Rattle.std.proofs.Common.{◌≡◌}
 use Rattle.bt_runs.specs.Depth.{depth_of}
 use Rattle.bt_runs.specs.Levels.{levels_of}
-use Rattle.bt_runs.specs.Plain.{spans_in}
+use Rattle.bt_runs.specs.PlainRuns.{spans_in}
 use Rattle.bt_runs.specs.PlainLevels.{levels_in}
 use Rattle.bt_runs.proofs.plain_depths.plain_depths.Given as goal
 

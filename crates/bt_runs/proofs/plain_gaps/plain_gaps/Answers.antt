@@ -1,6 +1,6 @@
 use Rattle.std.proofs.Common.{ℕ, arith}
 use Rattle.bt_bed.specs.Stretches.{IsCovered}
-use Rattle.bt_runs.specs.Plain.{spans_in}
+use Rattle.bt_runs.specs.PlainRuns.{spans_in}
 use Rattle.bt_runs.proofs.PlainSpans.{gaps_below-all, bare_at_false, below_with, below_without, covered_at_true}
 use Rattle.bt_runs.proofs.plain_gaps.plain_gaps.Goals as goal
 use Rattle.bt_runs.proofs.plain_gaps.plain_gaps.Goals.{then-not-is_covered+in_ok-add_position, else-not-is_covered}

@@ -1,4 +1,4 @@
-use Rattle.bt_runs.specs.Plain.{spans_in}
+use Rattle.bt_runs.specs.PlainRuns.{spans_in}
 use Rattle.bt_runs.proofs.PlainSpans.{AreGapsBelow}
 use Rattle.bt_runs.proofs.plain_gaps.plain_gaps.Given as goal
 

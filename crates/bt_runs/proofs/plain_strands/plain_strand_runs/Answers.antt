@@ -1,6 +1,6 @@
 use Rattle.std.proofs.Common.{ap, ◌∙◌, arith}
 use Rattle.bt_runs.specs.Merged.{runs_of}
-use Rattle.bt_runs.specs.Plain.{spans_in}
+use Rattle.bt_runs.specs.PlainRuns.{spans_in}
 use Rattle.bt_runs.proofs.PlainStrands.{listed_all, listed_more}
 use Rattle.bt_runs.proofs.plain_strands.plain_strand_runs.Goals as goal
 

@@ -1,6 +1,6 @@
 use Rattle.std.proofs.Common.{◌++◌, ◌∙◌, ap, sym, map}
 use Rattle.std.proofs.lemmas.Result.{err_from_is_err_and}
-use Rattle.bt_seq.specs.Blocks.{alignment_blocks}
+use Rattle.bt_seq.specs.AlignmentBlocks.{alignment_blocks}
 use Rattle.bt_seq.specs.Sam.{alignment_lent}
 use Rattle.bt_seq.specs.SamBlocks.{blocks_left, span_given}
 use Rattle.bt_seq.proofs.LineLemmas.{cut_line, grown_block, left_more}

@@ -1,6 +1,6 @@
 use Rattle.std.proofs.Common.{◌≡◌, ◌++◌, map}
 use Rattle.bt_lines.specs.Putting.{Grown}
-use Rattle.bt_seq.specs.Blocks.{alignment_blocks}
+use Rattle.bt_seq.specs.AlignmentBlocks.{alignment_blocks}
 use Rattle.bt_seq.specs.Sam.{alignment_lent}
 use Rattle.bt_seq.specs.SamBlocks.{blocks_left, span_given}
 use Rattle.bt_seq.proofs.LineLemmas.{lines_of}

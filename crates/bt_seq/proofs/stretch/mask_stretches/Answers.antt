@@ -1,5 +1,5 @@
 use Rattle.std.proofs.Common.{◌∙◌, [], ◌∷◌, get_or, ap, sym, take}
-use Rattle.bt_seq.specs.Stretches.{masked_in}
+use Rattle.bt_seq.specs.MaskedBases.{masked_in}
 use Rattle.bt_seq.specs.declared.stretch.Stretch.{Stretch}
 use Rattle.bt_seq.proofs.StretchLemmas.{next_taken, none_masked, one_behind}
 use Rattle.bt_seq.proofs.stretch.mask_stretches.Goals as goal

@@ -2,7 +2,7 @@ use Rattle.std.proofs.Common.{refl}
 use Rattle.std.specs.Fmt.{digits}
 use Rattle.bt_bed.specs.Stretches.{stretches_from, with_position}
 use Rattle.bt_sweep.specs.Hits.{has_fraction, hits, is_enough, strands_agree}
-use Rattle.bt_sweep.specs.Lines.{lines_for}
+use Rattle.bt_sweep.specs.IntersectLines.{lines_for}
 use Rattle.bt_sweep.specs.Pieces.{pieces}
 use Rattle.bt_sweep.proofs.laws.small_inputs_meet.Goals as goal
 

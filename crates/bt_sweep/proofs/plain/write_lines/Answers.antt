@@ -3,7 +3,7 @@ use Rattle.std.proofs.lemmas.Result.{on_ok_weaker}
 use Rattle.bt_bed.specs.Feature.{Feature}
 use Rattle.bt_bed.specs.Record.{bed_text}
 use Rattle.bt_sweep.specs.Hits.{hits_among}
-use Rattle.bt_sweep.specs.Lines.{hit_line, line_with, piece_line}
+use Rattle.bt_sweep.specs.IntersectLines.{hit_line, line_with, piece_line}
 use Rattle.bt_sweep.specs.Pieces.{pieces}
 use Rattle.bt_sweep.proofs.PlainLemmas.{all_pieces, count_all, each_hit, missing_none, missing_some, once_none, once_some}
 use Rattle.bt_sweep.proofs.plain.write_lines.Goals as goal

@@ -2,7 +2,7 @@ use Rattle.std.proofs.Common.{[], ◌∷◌, decimal}
 use Rattle.std.proofs.lemmas.Result.{on_ok_weaker}
 use Rattle.bt_bed.specs.Bed.{feature_lent}
 use Rattle.bt_bed.specs.Record.{bed_text}
-use Rattle.bt_sweep.specs.Lines.{line_with}
+use Rattle.bt_sweep.specs.IntersectLines.{line_with}
 use Rattle.bt_sweep.proofs.PlainLemmas.{tabbed}
 use Rattle.bt_sweep.proofs.plain.write_overlap.Goals as goal
 

@@ -1,7 +1,7 @@
 use Rattle.std.proofs.Common.{◌≡◌, ◌++◌, ◌∷◌, [], List, Option, ap, ap₂, sym, ◌∙◌, option_to_list, Vec, Global, arith}
 use Rattle.std.proofs.lemmas.List.{nil_from_length}
 use Rattle.bt_bed.specs.Stretches.{with_position}
-use Rattle.bt_sweep.specs.Plain.{pieces_in}
+use Rattle.bt_sweep.specs.PlainPieces.{pieces_in}
 use Rattle.bt_sweep.specs.declared.plain_pieces.PlainPiece.{PlainPiece}
 use Rattle.bt_sweep.proofs.PlainPieceLemmas.{first_found, next_apart, next_joined}
 use Rattle.bt_sweep.proofs.plain_pieces.add_position.Goals as goal

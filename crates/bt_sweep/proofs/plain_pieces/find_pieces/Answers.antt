@@ -2,7 +2,7 @@ use Rattle.std.proofs.Common.{◌-◌, List, true, false, Vec, Global, ap, sym, 
 use Rattle.bt_bed.specs.Bed.{feature_lent}
 use Rattle.bt_sweep.specs.Hits.{hits_among}
 use Rattle.bt_sweep.specs.Pieces.{is_left}
-use Rattle.bt_sweep.specs.Plain.{pieces_in}
+use Rattle.bt_sweep.specs.PlainPieces.{pieces_in}
 use Rattle.bt_sweep.specs.declared.plain_pieces.PlainPiece.{PlainPiece}
 use Rattle.bt_sweep.proofs.PlainPieceLemmas.{scan_all, scan_next, scan_none}
 use Rattle.bt_sweep.proofs.plain_pieces.find_pieces.Goals as goal

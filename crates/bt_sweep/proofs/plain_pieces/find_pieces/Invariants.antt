@@ -3,7 +3,7 @@ use Rattle.bt_bed.specs.Bed.{feature_lent}
 use Rattle.bt_bed.specs.Stretches.{stretches_from}
 use Rattle.bt_sweep.specs.Hits.{hits_among}
 use Rattle.bt_sweep.specs.Pieces.{is_left}
-use Rattle.bt_sweep.specs.Plain.{pieces_in}
+use Rattle.bt_sweep.specs.PlainPieces.{pieces_in}
 use Rattle.bt_sweep.proofs.plain_pieces.find_pieces.Given as goal
 
 -- the pieces of the positions so far, from the last one on

@@ -3,7 +3,7 @@ use Rattle.bt_lines.specs.Putting.{Puts}
 use Rattle.bt_bed.specs.Bed.{feature_lent}
 use Rattle.bt_bed.specs.Record.{bed_text}
 use Rattle.bt_sweep.specs.Hits.{shared_bases}
-use Rattle.bt_sweep.specs.Lines.{line_with}
+use Rattle.bt_sweep.specs.IntersectLines.{line_with}
 use Rattle.bt_sweep.proofs.WritingLemmas.{hit_shares, line_adds}
 use Rattle.bt_sweep.proofs.writing.put_hit.Goals as goal
 

@@ -4,7 +4,7 @@ use Rattle.bt_lines.specs.Putting.{Adds}
 use Rattle.bt_bed.specs.Bed.{feature_lent}
 use Rattle.bt_bed.specs.Feature.{Feature}
 use Rattle.bt_sweep.specs.Hits.{hits, hits_among}
-use Rattle.bt_sweep.specs.Lines.{hit_line}
+use Rattle.bt_sweep.specs.IntersectLines.{hit_line}
 use Rattle.bt_sweep.proofs.HeldLemmas.{get_took, lines_cut, lines_next}
 use Rattle.bt_sweep.proofs.writing.put_hits.Goals as goal
 

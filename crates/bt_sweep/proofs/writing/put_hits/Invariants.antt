@@ -2,7 +2,7 @@ use Rattle.std.proofs.Common.{flat_map, take}
 use Rattle.bt_lines.specs.Putting.{Grown}
 use Rattle.bt_bed.specs.Bed.{feature_lent}
 use Rattle.bt_sweep.specs.Hits.{hits_among}
-use Rattle.bt_sweep.specs.Lines.{hit_line}
+use Rattle.bt_sweep.specs.IntersectLines.{hit_line}
 use Rattle.bt_sweep.proofs.writing.put_hits.Given as goal
 
 -- the lines of those so far were put

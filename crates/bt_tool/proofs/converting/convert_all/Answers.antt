@@ -1,10 +1,10 @@
 use Rattle.std.proofs.Common.{◌∙◌, ap, refl, subst, ⊎_elim}
-use Rattle.bt_lines.specs.Given.{line_seen}
+use Rattle.bt_lines.specs.LentLine.{line_seen}
 use Rattle.bt_lines.specs.Names.{told}
 use Rattle.bt_lines.specs.declared.fault.Input.{Input}
 use Rattle.bt_bed.proofs.ResultLemmas.{passed_on}
-use Rattle.bt_seq.specs.Converting.{Converting}
-use Rattle.bt_tool.specs.Converting.{ConvertsAll, LineRefused}
+use Rattle.bt_seq.specs.BamToBedState.{Converting}
+use Rattle.bt_tool.specs.ConvertSteps.{ConvertsAll, LineRefused}
 use Rattle.bt_tool.proofs.ConvertLemmas.{converts_all, going_line, going_start, stops_at_line, stops_reading, stops_writing}
 use Rattle.bt_tool.proofs.converting.convert_all.Goals as goal
 

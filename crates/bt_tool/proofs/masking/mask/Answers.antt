@@ -6,8 +6,8 @@ use Rattle.bt_bed.specs.Blocks.{view_of}
 use Rattle.bt_bed.specs.GoodBlocks.{block_format}
 use Rattle.bt_bed.proofs.GoodBlocksLemmas.{good_in_blocks}
 use Rattle.bt_seq.specs.Sequences.{sequence_format}
-use Rattle.bt_tool.specs.Masked.{mask_reaches, mask_settles}
-use Rattle.bt_tool.specs.Masks.{line_members, mask_making, mask_pair}
+use Rattle.bt_tool.specs.MaskReport.{mask_reaches, mask_settles}
+use Rattle.bt_tool.specs.MaskLoop.{line_members, mask_making, mask_pair}
 use Rattle.bt_tool.proofs.MaskFacts.{mask_needs}
 use Rattle.bt_tool.proofs.MaskStart.{as_asked, begin_blocks, begin_lines, blocks_format, fresh_blocks, fresh_lines, masks_as_new, nothing_reached}
 use Rattle.bt_tool.proofs.PairMet.{writes_both}

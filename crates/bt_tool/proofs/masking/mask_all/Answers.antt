@@ -2,7 +2,7 @@ use Rattle.std.proofs.Common.{sym, ◌∙◌, []}
 use Rattle.bt_lines.specs.Names.{told}
 use Rattle.bt_bed.specs.Blocks.{view_of}
 use Rattle.bt_bed.proofs.ResultLemmas.{passed_on}
-use Rattle.bt_tool.specs.Masks.{FinishesMask}
+use Rattle.bt_tool.specs.MaskLoop.{FinishesMask}
 use Rattle.bt_tool.proofs.MaskTurnLemmas.{bed_stops, ends_all, line_stops, turns_bed, turns_line}
 use Rattle.bt_tool.proofs.masking.mask_all.Goals as goal
 

@@ -1,7 +1,7 @@
 use Rattle.std.specs.Prelude.{[]}
 use Rattle.bt_bed.specs.Blocks.{view_of}
 use Rattle.bt_seq.specs.Sequences.{Reached}
-use Rattle.bt_tool.specs.Masks.{Masks, line_members}
+use Rattle.bt_tool.specs.MaskLoop.{Masks, line_members}
 use Rattle.bt_tool.proofs.MaskTurnLemmas.{left_to_ask}
 use Rattle.bt_tool.proofs.masking.mask_all.Given as goal
 

@@ -1,4 +1,4 @@
-use Rattle.bt_lines.specs.Given.{line_seen}
+use Rattle.bt_lines.specs.LentLine.{line_seen}
 use Rattle.bt_tool.proofs.LineMembers.{line_turn}
 use Rattle.bt_tool.proofs.masking.turn_line.Goals as goal
 

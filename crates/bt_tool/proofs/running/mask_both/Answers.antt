@@ -4,7 +4,7 @@ use Rattle.bt_lines.specs.Names.{told}
 use Rattle.bt_tool.specs.Behaviour.{of_maskfasta}
 use Rattle.bt_tool.specs.Chromosomes.{WritesBy}
 use Rattle.bt_tool.specs.Kinds.{IsOneOf}
-use Rattle.bt_tool.specs.Masked.{is_fasta_kind, is_mask_kind, mask_reaches, mask_report, mask_settles}
+use Rattle.bt_tool.specs.MaskReport.{is_fasta_kind, is_mask_kind, mask_reaches, mask_report, mask_settles}
 use Rattle.bt_tool.proofs.WritingLemmas.{both_write}
 use Rattle.bt_tool.proofs.running.mask_both.Goals as goal
 

@@ -3,7 +3,7 @@ use Rattle.bt_bed.specs.Bed.{feature_lent}
 use Rattle.bt_bed.specs.LineKind.{IsBedKind}
 use Rattle.bt_bed.specs.Records.{order_in, view_of}
 use Rattle.bt_bed.proofs.ResultLemmas.{passed_on}
-use Rattle.bt_tool.specs.Swept.{ReadsOn}
+use Rattle.bt_tool.specs.SweepLoop.{ReadsOn}
 use Rattle.bt_tool.specs.Turns.{HasAhead}
 use Rattle.bt_tool.proofs.PassedLemmas.{is_ahead, is_over, is_stopped, member_ahead}
 use Rattle.bt_tool.proofs.RestLemmas.{reads_start, reads_more, reads_end, reads_stop}

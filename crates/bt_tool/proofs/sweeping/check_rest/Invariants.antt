@@ -1,5 +1,5 @@
 use Rattle.bt_bed.specs.Records.{room, view_of}
-use Rattle.bt_tool.specs.Swept.{IsReadOn}
+use Rattle.bt_tool.specs.SweepLoop.{IsReadOn}
 use Rattle.bt_tool.proofs.sweeping.check_rest.Given as goal
 
 -- the records so far were passed

@@ -1,4 +1,4 @@
-use Rattle.bt_sweep.specs.Sweep.{state_of}
+use Rattle.bt_sweep.specs.SweepView.{state_of}
 use Rattle.bt_tool.proofs.SweptLemmas.{finishes_both}
 use Rattle.bt_tool.proofs.sweeping.read_both.Goals as goal
 

@@ -8,11 +8,11 @@ use Rattle.bt_bed.specs.Records.{order_in, view_of}
 use Rattle.bt_bed.specs.Sorting.{sorting_of}
 use Rattle.bt_bed.proofs.GoodBedLemmas.{placed_good}
 use Rattle.bt_sweep.specs.Standing.{StandsAt, first_stage}
-use Rattle.bt_sweep.specs.Sweep.{state_of}
+use Rattle.bt_sweep.specs.SweepView.{state_of}
 use Rattle.bt_sweep.specs.declared.hit_rule.HitRule.{HitRule}
 use Rattle.bt_sweep.specs.declared.shape.Shape.{Shape}
 use Rattle.bt_tool.specs.Both.{intersect_reaches, intersect_settles}
-use Rattle.bt_tool.specs.Swept.{SweepEnds, records_pair, sweep_making}
+use Rattle.bt_tool.specs.SweepLoop.{SweepEnds, records_pair, sweep_making}
 use Rattle.bt_tool.proofs.PairMet.{writes_both}
 use Rattle.bt_tool.proofs.PairNear.{near_both}
 use Rattle.bt_tool.proofs.StartLemmas.{begins_by, sweeps_start}

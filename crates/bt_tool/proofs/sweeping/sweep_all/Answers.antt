@@ -1,8 +1,8 @@
 use Rattle.std.proofs.Common.{sym, ◌∙◌}
 use Rattle.bt_bed.specs.Records.{order_in}
 use Rattle.bt_bed.proofs.ResultLemmas.{passed_on}
-use Rattle.bt_sweep.specs.Sweep.{order_of, state_of}
-use Rattle.bt_tool.specs.Swept.{SweepsOrStops}
+use Rattle.bt_sweep.specs.SweepView.{order_of, state_of}
+use Rattle.bt_tool.specs.SweepLoop.{SweepsOrStops}
 use Rattle.bt_tool.proofs.SweepTurns.{first_stops, second_stops, turns_first, turns_second}
 use Rattle.bt_tool.proofs.sweeping.sweep_all.Goals as goal
 

@@ -1,7 +1,7 @@
 use Rattle.std.specs.Prelude.{◌≡◌}
 use Rattle.bt_bed.specs.Records.{order_in}
-use Rattle.bt_sweep.specs.Sweep.{order_of, state_of}
-use Rattle.bt_tool.specs.Swept.{Sweeps}
+use Rattle.bt_sweep.specs.SweepView.{order_of, state_of}
+use Rattle.bt_tool.specs.SweepLoop.{Sweeps}
 use Rattle.bt_tool.proofs.SweepTurns.{left_to_ask}
 use Rattle.bt_tool.proofs.sweeping.sweep_all.Given as goal
 

@@ -1,7 +1,7 @@
 use Rattle.std.proofs.Common.{inl, inr}
 use Rattle.bt_bed.specs.Bed.{feature_lent}
 use Rattle.bt_bed.proofs.ResultLemmas.{passed_on}
-use Rattle.bt_sweep.specs.Sweep.{order_of, state_of}
+use Rattle.bt_sweep.specs.SweepView.{order_of, state_of}
 use Rattle.bt_tool.specs.Turns.{TurnsFirst}
 use Rattle.bt_tool.proofs.sweeping.turn_first.Goals as goal
 

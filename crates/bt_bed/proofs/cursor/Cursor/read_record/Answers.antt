@@ -1,5 +1,5 @@
 use Rattle.std.proofs.Common.{◌≡◌, ◌∙◌, ap, refl, sym, subst, true, false, None}
-use Rattle.bt_lines.specs.Given.{line_seen}
+use Rattle.bt_lines.specs.LentLine.{line_seen}
 use Rattle.bt_lines.specs.Names.{told}
 use Rattle.bt_lines.specs.Reader.{input_of}
 use Rattle.bt_lines.specs.declared.fault.Input.{Input}

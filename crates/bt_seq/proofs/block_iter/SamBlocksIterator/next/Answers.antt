@@ -1,5 +1,5 @@
 use Rattle.std.proofs.Common.{rules, ◌++◌, sym, ◌∙◌, ap}
-use Rattle.bt_seq.specs.Blocks.{blocks_in}
+use Rattle.bt_seq.specs.AlignmentBlocks.{blocks_in}
 use Rattle.bt_seq.specs.Cigar.{operations_in}
 use Rattle.bt_seq.specs.SamBlocks.{spans_given}
 use Rattle.bt_seq.proofs.BlockLemmas.{no_blocks}

@@ -1,5 +1,5 @@
 use Rattle.std.proofs.Common.{◌≡◌, None, length}
-use Rattle.bt_seq.specs.Blocks.{blocks_in}
+use Rattle.bt_seq.specs.AlignmentBlocks.{blocks_in}
 use Rattle.bt_seq.specs.Cigar.{operations_in}
 use Rattle.bt_seq.proofs.block_iter.SamBlocksIterator.next.Given as goal
 

@@ -4,7 +4,7 @@ use Rattle.bt_bed.specs.Bed.{feature_lent}
 use Rattle.bt_seq.proofs.BedStepLemmas.{checks_bed, gives_bed, kept_is, lacks_sequence, stops_bed}
 use Rattle.bt_seq.proofs.mask.Mask.give_bed.Goals as goal
 use Rattle.bt_seq.specs.MaskStanding.{MaskStandsAt, kept_line}
-use Rattle.bt_seq.specs.Masking.{Masking}
+use Rattle.bt_seq.specs.MaskState.{Masking}
 
 pub returns-then-waits-clause-waits : goal.returns-then-waits-clause-waits
 returns-then-waits-clause-waits g c = λ how full stage waiting stands is next.

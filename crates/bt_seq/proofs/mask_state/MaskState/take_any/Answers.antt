@@ -1,5 +1,5 @@
 use Rattle.std.proofs.Common.{sym}
-use Rattle.bt_seq.specs.Masking.{Waiting}
+use Rattle.bt_seq.specs.MaskState.{Waiting}
 use Rattle.bt_seq.proofs.MaskingLemmas.{keeps_line, writes_line}
 use Rattle.bt_seq.proofs.mask_state.MaskState.take_any.Goals as goal
 

@@ -1,6 +1,6 @@
 use Rattle.std.proofs.Common.{◌∙◌, ap, sym}
 use Rattle.bt_bed.specs.Bed.{feature_lent}
-use Rattle.bt_seq.specs.Masking.{Masking}
+use Rattle.bt_seq.specs.MaskState.{Masking}
 use Rattle.bt_seq.proofs.MaskingLemmas.{wrote_line}
 use Rattle.bt_seq.proofs.mask_state.MaskState.take_bed.Goals as goal
 

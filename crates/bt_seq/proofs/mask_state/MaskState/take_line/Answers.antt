@@ -1,4 +1,4 @@
-use Rattle.bt_seq.specs.Masking.{Waiting}
+use Rattle.bt_seq.specs.MaskState.{Waiting}
 use Rattle.bt_seq.proofs.MaskingLemmas.{passes_line}
 use Rattle.bt_seq.proofs.mask_state.MaskState.take_line.Goals as goal
 

@@ -1,5 +1,5 @@
 use Rattle.std.proofs.Common.{◌≡◌, ◌∙◌, [], ap, sym}
-use Rattle.bt_seq.specs.Masking.{Masking, Waiting}
+use Rattle.bt_seq.specs.MaskState.{Masking, Waiting}
 use Rattle.bt_seq.proofs.MaskingLemmas.{none_held, wrote_given, wrote_kept}
 use Rattle.bt_seq.proofs.mask_state.MaskState.write_at_once.Goals as goal
 

@@ -3,7 +3,7 @@ use Rattle.bt_bed.specs.Bed.{feature_lent}
 use Rattle.bt_bed.specs.Feature.{Feature}
 use Rattle.bt_sweep.specs.Held.{AreWith}
 use Rattle.bt_sweep.specs.StateSteps.{is_held_by}
-use Rattle.bt_sweep.specs.Sweeping.{Sweeping}
+use Rattle.bt_sweep.specs.SweepState.{Sweeping}
 use Rattle.bt_sweep.proofs.StateLemmas.{added_with}
 use Rattle.bt_sweep.proofs.state.State.add.Goals as goal
 use Rattle.bt_sweep.proofs.state.State.add.Goals.{in-Ok, in-Err}

@@ -1,7 +1,7 @@
 use Rattle.std.proofs.Common.{◌≡◌, Some, ap, subst, sym, ◌∙◌}
 use Rattle.std.specs.Prelude.{IsTrue}
 use Rattle.bt_bed.specs.Feature.{Feature}
-use Rattle.bt_sweep.specs.Sweeping.{Sweeping}
+use Rattle.bt_sweep.specs.SweepState.{Sweeping}
 use Rattle.bt_sweep.proofs.state.State.is_decided_by.Goals as goal
 
 pub is_past-requires-clause-known_a : goal.is_past-requires-clause-known_a

@@ -1,6 +1,6 @@
 use Rattle.std.proofs.Common.{ap, sym, ◌∙◌}
 use Rattle.bt_bed.specs.Bed.{feature_lent}
-use Rattle.bt_sweep.specs.Sweeping.{Sweeping}
+use Rattle.bt_sweep.specs.SweepState.{Sweeping}
 use Rattle.bt_sweep.proofs.StateLemmas.{on_ok_of, takes_now}
 use Rattle.bt_sweep.proofs.state.State.take_a.Goals as goal
 

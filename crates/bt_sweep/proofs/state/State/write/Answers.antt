@@ -1,6 +1,6 @@
 use Rattle.std.proofs.Common.{ap, subst, sym, ◌∙◌}
 use Rattle.bt_sweep.specs.Held.{AreRising}
-use Rattle.bt_sweep.specs.Sweeping.{Sweeping}
+use Rattle.bt_sweep.specs.SweepState.{Sweeping}
 use Rattle.bt_sweep.proofs.StateLemmas.{stops_last, writes_last, writes_none}
 use Rattle.bt_sweep.proofs.state.State.write.Goals as goal
 

@@ -7,7 +7,7 @@ use Rattle.bt_bed.specs.Locus.{ArePlaced}
 use Rattle.bt_bed.specs.Meeting.{Rule, Met, meet, written}
 use Rattle.bt_bed.specs.Order.{Order, IsTotal}
 use Rattle.bt_sweep.specs.Deciding.{decided}
-use Rattle.bt_sweep.specs.Lines.{intersect, lines_for}
+use Rattle.bt_sweep.specs.IntersectLines.{intersect, lines_for}
 use Rattle.bt_sweep.specs.declared.hit_rule.HitRule.{HitRule}
 use Rattle.bt_sweep.specs.declared.shape.Shape.{Shape}
 

@@ -13,11 +13,11 @@ use Rattle.bt_bed.specs.LineKind.{fault_at_line}
 use Rattle.bt_bed.specs.Reading.{MemberReader}
 use Rattle.bt_seq.specs.Alignment.{Alignment, alignment_of}
 use Rattle.bt_seq.specs.BedLines.{bed_lines}
-use Rattle.bt_seq.specs.Converting.{Converting}
+use Rattle.bt_seq.specs.BamToBedState.{Converting}
 use Rattle.bt_seq.specs.GoodSam.{sam_format}
 use Rattle.bt_seq.specs.SamKind.{is_sam_kind}
 use Rattle.bt_tool.specs.Kinds.{IsOneOf}
-use Rattle.bt_tool.specs.Converted.{alignment_lines}
+use Rattle.bt_tool.specs.ConvertReport.{alignment_lines}
 use Rattle.bt_tool.specs.Feeding.{FeedsMembers}
 
 -- the BED lines of an alignment, if there is one

@@ -1,7 +1,7 @@
 -- What a sweep holds, and the order that it sweeps in.
 use Rattle.bt_bed.specs.Order.{Order}
 use Rattle.bt_bed.specs.declared.order.ChromOrder.{Ghosts}
-use Rattle.bt_sweep.specs.Sweeping.{Sweeping}
+use Rattle.bt_sweep.specs.SweepState.{Sweeping}
 use Rattle.bt_sweep.specs.declared.held.Held.{Ghosts as HeldGhosts}
 use Rattle.bt_sweep.specs.declared.sweep.Sweep.{Sweep}
 

@@ -21,9 +21,9 @@ use Rattle.bt_bed.specs.Records.{last_locus, order_in, view_of}
 use Rattle.bt_bed.specs.declared.order.ChromOrder.{Ghosts}
 use Rattle.bt_bed.specs.declared.records.Records.{Records}
 use Rattle.bt_sweep.specs.Deciding.{decided}
-use Rattle.bt_sweep.specs.Lines.{lines_for}
+use Rattle.bt_sweep.specs.IntersectLines.{lines_for}
 use Rattle.bt_sweep.specs.Standing.{Stage, StandsAt, leaves_some}
-use Rattle.bt_sweep.specs.Sweeping.{Sweeping, want_in}
+use Rattle.bt_sweep.specs.SweepState.{Sweeping, want_in}
 use Rattle.bt_sweep.specs.declared.hit_rule.HitRule.{HitRule}
 use Rattle.bt_sweep.specs.declared.shape.Shape.{Shape}
 use Rattle.bt_sweep.specs.declared.want.Want.TheVariants.{Nothing}

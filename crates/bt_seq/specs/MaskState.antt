@@ -1,8 +1,8 @@
 -- What a masking engine keeps, and its steps.
 use Rattle.bt_seq.specs.declared.matching.Owner.TheVariants.{Own, Earlier, Nobody}
 use Rattle.bt_seq.specs.declared.matching.Owner.{Owner}
-use Rattle.bt_seq.specs.declared.mask_want.Taken.TheVariants.{Yes, No}
-use Rattle.bt_seq.specs.declared.mask_want.Taken.{Taken}
+use Rattle.bt_bed.specs.declared.taken.Taken.TheVariants.{Yes, No}
+use Rattle.bt_bed.specs.declared.taken.Taken.{Taken}
 use Rattle.std.specs.Prelude.{◌≡◌, ◌⊎◌, ℕ, ◌&&◌, ◌||◌, not, Bool, true, false, List, ◌++◌, length}
 use Rattle.std.specs.Prelude.{nat_lt, Option, Some, None, is_none, ⊤, nat_le, Result, Ok, Err}
 use Rattle.std.specs.Prelude.{if◌then◌else◌, cond, [], ◌∷◌, is_some, nat_eq}
@@ -19,7 +19,7 @@ use Rattle.bt_lines.specs.declared.fault.Kind.TheVariants.{TextBeforeHeader, NoS
 use Rattle.bt_lines.specs.declared.line.LineEnd.{LineEnd}
 use Rattle.bt_seq.specs.Matching.{Matched, named, matched_with, owner_of}
 use Rattle.bt_seq.specs.Sequences.{is_header, name_in}
-use Rattle.bt_seq.specs.Stretches.{masked_in}
+use Rattle.bt_seq.specs.MaskedBases.{masked_in}
 use Rattle.bt_seq.specs.Window.{Bounds, gone_on, limit, no_bases}
 use Rattle.bt_seq.specs.declared.mask_how.MaskHow.{MaskHow}
 use Rattle.bt_seq.specs.declared.mask_want.MaskWant.{MaskWant}

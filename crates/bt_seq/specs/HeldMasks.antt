@@ -3,7 +3,7 @@ use Rattle.std.specs.Prelude.{◌≡◌, false, List, map}
 use Rattle.bt_bed.specs.Feature.{Feature}
 use Rattle.bt_seq.specs.Masked.{held_for, masked_text}
 use Rattle.bt_seq.specs.Sequences.{SequenceLine, is_header}
-use Rattle.bt_seq.specs.Stretches.{masked_in}
+use Rattle.bt_seq.specs.MaskedBases.{masked_in}
 use Rattle.bt_seq.specs.declared.mask_how.MaskHow.{MaskHow}
 use Rattle.bt_seq.specs.declared.stretch.Stretch.{Stretch}
 
