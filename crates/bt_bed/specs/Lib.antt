@@ -30,3 +30,4 @@ pub mod Records
 pub mod Blocks
 pub mod Meeting
 pub mod Rec
+pub mod OrderInUse

@@ -47,6 +47,7 @@ mod leading;
 mod names;
 mod neighbours;
 mod order;
+mod order_in_use;
 mod parsing;
 mod putting;
 mod rec;

@@ -13,8 +13,10 @@ use Rattle.bt_lines.specs.declared.line_reader.LineReader.{LineReader}
 use Rattle.bt_lines.proofs.TextLemmas.{whole_count, whole_front}
 use Rattle.bt_bed.specs.Genome.{Entry, genome_handed, genome_of}
 use Rattle.bt_bed.specs.GenomeTable.{EntryIsWrong, EntryUnread, ReadsAll, ReadsGenome, ReadingStops, StopCause, entries}
+use Rattle.bt_bed.specs.OrderInUse.{order_by}
 use Rattle.bt_bed.specs.LineKind.{fault_at_line, is_genome_kind}
 use Rattle.bt_bed.specs.declared.genome.Genome.{Genome}
+use Rattle.bt_tool.specs.Behaviour.{order_of}
 use Rattle.bt_tool.specs.Kinds.{IsOneOf}
 use Rattle.bt_tool.specs.Chromosomes.{KnowsChromosomes, LacksChromosomes, ReadsChromosomes}
 use Rattle.bt_tool.specs.Driving.{IsOfInput, TellsInput}
@@ -22,6 +24,11 @@ use Rattle.bt_tool.specs.Inputs.{HoldsIf, Reads, ReadsIf}
 use Rattle.bt_tool.specs.Report.{chromosomes_of, of_file}
 use Rattle.bt_tool.proofs.FaultLemmas.{memory_no_write, placed_no_write}
 use Rattle.bt_tool.proofs.HandedReader.{cut_text, handed_all, handed_part, passes_by}
+
+-- the order in use, by the genome file's entries
+pub order_is : (genome : Option Genome) → order_by genome ≡ order_of (option_map entries genome)
+order_is None = refl
+order_is (Some genome) = refl
 
 -- without a genome file there are no chromosomes
 none_read : {G : Type 0} (left : G → Option (List ℕ)) (failed : G → Bool) (handed : Option Handed) → ReadsIf left failed None None handed → chromosomes_of handed ≡ Ok None

@@ -44,8 +44,9 @@ module _ {G A B K : Type 0} (g_left : G → Option (List ℕ)) (g_failed : G →
     pub first_input : Holds a_left first inputs.first
     pub second_input : HoldsIf b_left second inputs.second
 
-  -- a fault of an input other than the genome file, of a kind that a line of it can have by some
-  -- chromosomes: without a genome file by none, in the order of the names' bytes
+  -- a fault of an input other than the genome file, of a kind that a line of it can have: with a
+  -- genome file by some list of its chromosomes, and without one in the order of the names' bytes,
+  -- where no chromosome is unknown
   pub record TellsOther (command : Command) (genome : Option G) (first first_after : A)
       (second second_after : Option B) (told : Told) : Type 0 where
     pub chromosomes : Option (List Entry)

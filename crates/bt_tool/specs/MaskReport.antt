@@ -18,7 +18,8 @@ use Rattle.bt_seq.specs.Masked.{decided, mask_met, masked_line}
 use Rattle.bt_seq.specs.Sequences.{SequenceLine, sequence_format, sequence_good}
 use Rattle.bt_seq.specs.declared.mask_how.MaskHow.{MaskHow}
 use Rattle.bt_tool.specs.Kinds.{IsOneOf}
-use Rattle.bt_tool.specs.Both.{WritesBoth, bytes_up_to, met_report}
+use Rattle.bt_tool.specs.Both.{WritesBoth}
+use Rattle.bt_tool.specs.SweepReport.{bytes_up_to, met_report}
 use Rattle.bt_tool.specs.RecordReport.{Report}
 
 -- the report of maskfasta on its inputs: with `full` a sequence's name is its whole header

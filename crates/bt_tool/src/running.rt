@@ -24,7 +24,7 @@ use crate::masking::mask;
 use crate::outcome::Outcome;
 use crate::plan_type::{Command, Plan};
 use crate::sweeping::sweep;
-use bt_bed::{ByteOrder, ChromOrder, Genome, Strand};
+use bt_bed::{Genome, Strand};
 use bt_lines::{Fault, Input, LineReader, Out, Sink, Source};
 use bt_runs::{Complement, Coverage, Merge, MergeStrand};
 use bt_seq::MaskHow;
@@ -43,8 +43,9 @@ pub struct Ended<G, A, B, K> {
 }
 
 /// Runs a plan: reads the genome file whole, if there is one, and then the other inputs once, from the
-/// front, and writes to the sink. Without a genome file chromosomes are sorted by the bytes of their names. A fault of the genome file ends the run before any other input
-/// is read. The output is flushed at every ending except after a failed write.
+/// front, and writes to the sink. Without a genome file the inputs have to come in the order of the bytes
+/// of their chromosomes' names. A fault of the genome file ends the run before any other input is read.
+/// The output is flushed at every ending except after a failed write.
 pub fn run<G: Source, A: Source, B: Source, K: Sink>(
     alloc: Global,
     plan: &Plan,
@@ -193,28 +194,8 @@ fn merge<A: Source, K: Sink>(
     ensures { WritesRecords A.left A.has_failed (merge_written (order_of (option_map entries genome.now)) d strand)
         (order_of (option_map entries genome.now)) first out.old (option_map told result.0) result.1 out.new }
 {
-    match genome {
-        Some(genome) => merge_in_order(alloc, genome, d, strand, first, out),
-        None => merge_in_order(alloc, &ByteOrder, d, strand, first, out),
-    }
-}
-
-// Merges the records of an input in an order of their chromosomes.
-fn merge_in_order<A: Source, O: ChromOrder, K: Sink>(
-    alloc: Global,
-    order: &O,
-    d: u64,
-    strand: MergeStrand,
-    first: A,
-    out: &mut Out<K>,
-) -> (Option<Fault>, A)
-    requires limit { d ≤ max_number }
-    requires block { HoldsBlock out.old.took out.old.put }
-    ensures { WritesRecords A.left A.has_failed (merge_written (O.order order.now) d strand) (O.order order.now)
-        first out.old (option_map told result.0) result.1 out.new }
-{
     let engine = Merge::new(alloc, d, strand);
-    drive(alloc, order, engine, first, out)
+    drive(alloc, genome, engine, first, out)
 }
 
 // Writes the gaps between the records of an input.
@@ -265,7 +246,8 @@ fn shape_left(whole: bool) -> Shape
     if whole { Shape::Whole } else { Shape::Pieces }
 }
 
-// Sweeps the two inputs of intersect, or of subtract in its shapes.
+// Sweeps the two inputs of intersect, or of subtract in its shapes, both in the order of the genome file,
+// or of the names' bytes without one.
 fn sweep_both<A: Source, B: Source, K: Sink>(
     alloc: Global,
     genome: &Option<Genome>,
@@ -283,29 +265,8 @@ fn sweep_both<A: Source, B: Source, K: Sink>(
     ensures second { is_some result.2 ≡ is_some second }
 {
     let Some(second) = second else { unreachable!() };
-    let (fault, first, second) = sweep_in_order(alloc, genome, shape, rule, first, second, out);
+    let (fault, first, second) = sweep(alloc, genome, shape, rule, first, second, out);
     (fault, first, Some(second))
-}
-
-// Sweeps two inputs, both in the order of the genome file, or of the names' bytes without one.
-fn sweep_in_order<A: Source, B: Source, K: Sink>(
-    alloc: Global,
-    genome: &Option<Genome>,
-    shape: Shape,
-    rule: HitRule,
-    first: A,
-    second: B,
-    out: &mut Out<K>,
-) -> (Option<Fault>, A, B)
-    requires block { HoldsBlock out.old.took out.old.put }
-    ensures { Intersects A.left A.has_failed A.end_told B.left B.has_failed
-        (order_of (option_map entries genome.now)) shape rule
-        first second out.old (option_map told result.0) result.1 result.2 out.new }
-{
-    match genome {
-        Some(genome) => sweep(alloc, genome, shape, rule, first, second, out),
-        None => sweep(alloc, &ByteOrder, shape, rule, first, second, out),
-    }
 }
 
 // Masks the lines of the first input by the records of the second.
