@@ -58,6 +58,8 @@ FAULT = re.compile(
 WITH_GENOME = [("-g", "g.txt", "genome")]
 ONE_INPUT = [("-i", "a.bed", "bed"), *WITH_GENOME]
 TWO_INPUTS = [("-a", "a.bed", "bed"), ("-b", "b.bed", "bed"), *WITH_GENOME]
+ONE_NAMED = [("-i", "a.bed", "named")]
+TWO_NAMED = [("-a", "a.bed", "named"), ("-b", "b.bed", "named")]
 
 
 @dataclass
@@ -71,9 +73,12 @@ class Command:
 
 COMMANDS = [
     Command("merge", ONE_INPUT, ["", "-d 3", "-s", "-s -d 7", "-S +", "-S -"]),
+    Command("merge", ONE_NAMED, ["", "-d 3", "-s", "-s -d 7", "-S +", "-S -"]),
     Command("complement", ONE_INPUT, ["", "-L"]),
     Command("intersect", TWO_INPUTS, ["", "-wa", "-wb", "-wa -wb", "-wo", "-u", "-v", "-c", "-s", "-f 0.5 -r", "-f 0.1 -s -v"]),
     Command("subtract", TWO_INPUTS, ["", "-A", "-f 0.5", "-s"]),
+    Command("intersect", TWO_NAMED, ["", "-wa", "-wb", "-wa -wb", "-wo", "-u", "-v", "-c", "-s", "-f 0.5 -r", "-f 0.1 -s -v"]),
+    Command("subtract", TWO_NAMED, ["", "-A", "-f 0.5", "-s"]),
     Command("genomecov", ONE_INPUT, ["-bg", "-bga", "-bg -strand +", "-bga -strand -"]),
     Command("bamtobed", [("-i", "a.sam", "sam")], ["", "-split", "-cigar", "-split -cigar"]),
     Command("maskfasta", [("-fi", "a.fa", "fasta"), ("-bed", "b.bed", "bed")], ["", "-soft", "-mc x", "-fullHeader"]),

@@ -21,10 +21,10 @@ class Fault(Exception):
 
 @dataclass
 class Record:
-    """A BED record, with its line and the rank of its chromosome."""
+    """A BED record, with its line and the rank of its chromosome, which without a genome file is its name."""
 
     line: int
-    rank: int
+    rank: object
     chrom: bytes
     start: int
     stop: int
@@ -81,7 +81,7 @@ def refuse_first(checks, name, at):
 
 
 def record_of(name, at, line, genome):
-    """The record of a BED line; None for a header or a blank line. Without a genome the rank is 0."""
+    """The record of a BED line; None for a header or a blank line."""
     if line == b"" or line.startswith(b"#") or re.match(rb"(track|browser)([ \t]|\Z)", line):
         return None
     columns = line.split(b"\t")
@@ -90,18 +90,19 @@ def record_of(name, at, line, genome):
                   (start is None, "start is not a number"), (stop is None, "end is not a number")], name, at)
     refuse_first([(start >= stop, "start is not below end"),
                   (genome is not None and columns[0] not in genome, "chromosome is not in the genome file")], name, at)
-    return Record(at, list(genome).index(columns[0]) if genome else 0, columns[0], start, stop, columns[3:])
+    return Record(at, columns[0] if genome is None else list(genome).index(columns[0]), columns[0], start, stop, columns[3:])
 
 
-def records_of(name, text, genome):
-    """The good records of a BED file up to its first fault, and that fault or None."""
+def records_of(name, text, genome, in_blocks=False):
+    """The good records of a BED file up to its first fault, and that fault or None. In blocks only the records of one
+    chromosome that stand together are in order."""
     found = []
     for at, line in enumerate(map(body, lines(text)), 1):
         try:
             record = record_of(name, at, line, genome)
             if record is None:
                 continue
-            is_before = found and (record.place() < found[-1].place()) and (genome is not None or found[-1].chrom == record.chrom)
+            is_before = found and (record.place() < found[-1].place()) and (not in_blocks or found[-1].chrom == record.chrom)
             refuse_first([(is_before, "record is out of order")], name, at)
         except Fault as fault:
             return found, fault
@@ -327,7 +328,7 @@ def maskfasta(text, records, options):
 
 def answer_of_maskfasta(files, options):
     """The output, whether it is all that may be written, and the fault; no output where the pages leave it open."""
-    records, fault = records_of("b.bed", files["b.bed"], None)
+    records, fault = records_of("b.bed", files["b.bed"], None, in_blocks=True)
     try:
         output, lost = maskfasta(files["a.fa"], records, options)
     except Fault as early:
@@ -345,7 +346,7 @@ def answer_of(command, files, options):
         output, fault = bamtobed(files["a.sam"], options)
         return output, True, fault
     try:
-        genome = genome_of("g.txt", files["g.txt"])
+        genome = genome_of("g.txt", files["g.txt"]) if "g.txt" in files else None
     except Fault as fault:
         return b"", True, fault
     first = records_of("a.bed", files["a.bed"], genome)
@@ -369,7 +370,7 @@ OPTIONS = {
     "bamtobed": {"-i": FILE, "-split": None, "-cigar": None},
     "maskfasta": {"-fi": FILE, "-bed": FILE, "-fo": FILE, "-soft": None, "-mc": CHARACTER, "-fullHeader": None},
 }
-REQUIRED = {"intersect": ["-a", "-b", "-g"], "subtract": ["-a", "-b", "-g"], "bamtobed": [], "maskfasta": ["-fi", "-bed"]}
+REQUIRED = {"complement": ["-g"], "intersect": ["-a", "-b"], "subtract": ["-a", "-b"], "genomecov": ["-g"], "maskfasta": ["-fi", "-bed"]}
 SHAPES = ["-wa", "-wb", "-wo", "-u", "-v", "-c"]
 TOGETHER = [{"-wa", "-wb"}, {"-wa", "-u"}, {"-wa", "-v"}, {"-wa", "-c"}]
 
@@ -415,9 +416,10 @@ def usage_of(words):
     if fault:
         return fault
     lacks_shape = command == "genomecov" and not {"-bg", "-bga"} & set(found)
-    if lacks_shape or any(option not in found for option in REQUIRED.get(command, ["-g"])):
+    if lacks_shape or any(option not in found for option in REQUIRED.get(command, [])):
         return "required option missing"
     if excludes(command, found):
         return "options exclude one another"
-    inputs = [found.get(option, "-") for option in ("-i", "-g", "-a", "-b", "-fi", "-bed") if option in OPTIONS[command]]
+    missing = {"-i": "-"}
+    inputs = [found.get(option, missing.get(option)) for option in ("-i", "-g", "-a", "-b", "-fi", "-bed") if option in OPTIONS[command]]
     return "standard input named twice" if sum(name in ("-", "stdin") for name in inputs) > 1 else None

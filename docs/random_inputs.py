@@ -54,7 +54,7 @@ def fasta_columns(numbers):
     return [b"".join(header) if numbers.random() < 0.3 else numbers.choice(BASES)]
 
 
-COLUMNS = {"bed": bed_columns, "sam": sam_columns, "genome": genome_columns, "fasta": fasta_columns}
+COLUMNS = {"bed": bed_columns, "named": bed_columns, "sam": sam_columns, "genome": genome_columns, "fasta": fasta_columns}
 
 
 def good_bed(numbers):
@@ -66,6 +66,11 @@ def good_bed(numbers):
     if numbers.random() < 0.2:
         lines.insert(numbers.randrange(len(lines) + 1), numbers.choice([b"# a", b"track name=x", b"", b"browser\tx"]))
     return lines
+
+
+def good_named_bed(numbers):
+    """The same with the chromosomes in the order of the bytes of their names."""
+    return sorted(good_bed(numbers), key=lambda line: line.split(b"\t")[0])
 
 
 def good_sam(numbers):
@@ -91,7 +96,7 @@ def good_genome(_):
     return [b"%s\t%d" % chromosome for chromosome in CHROMOSOMES]
 
 
-GOOD = {"bed": good_bed, "sam": good_sam, "genome": good_genome, "fasta": good_fasta}
+GOOD = {"bed": good_bed, "named": good_named_bed, "sam": good_sam, "genome": good_genome, "fasta": good_fasta}
 
 
 def good(numbers, form):
