@@ -22,7 +22,7 @@ import resource
 import subprocess
 import sys
 import tempfile
-from dataclasses import dataclass
+from dataclasses import dataclass, replace
 from pathlib import Path
 
 PROGRAM = str(Path(__file__).resolve().parent.parent / "bin" / "bedtools")
@@ -52,9 +52,17 @@ class Job:
     words: list
     files: dict
     bad: dict = None
+    # Whether it has a genome file, where it may be without one.
+    with_genome: bool = False
 
     def command(self):
         return self.words[0]
+
+    def asks_for_genome(self):
+        return self.command() in ("complement", "genomecov")
+
+    def may_have_genome(self):
+        return self.command() not in ("bamtobed", "maskfasta")
 
 
 def bed(chromosome, starts, length, further=""):
@@ -93,9 +101,17 @@ def jobs():
 
 
 def words_of(job, *further):
-    """The words of a job, in which every command that takes a genome file has one."""
-    genome = [] if job.command() in ("bamtobed", "maskfasta") else ["-g", "g"]
+    """The words of a job, with those of a genome file where it has one."""
+    genome = ["-g", "g"] if job.asks_for_genome() or job.with_genome else []
     return [PROGRAM, *job.words, *genome, *further]
+
+
+def in_both_orders(given):
+    """The jobs, and those again that may have a genome file or none, with one."""
+    for job in given:
+        yield job
+        if job.may_have_genome() and not job.asks_for_genome():
+            yield replace(job, name=f"{job.name}, by a genome file", with_genome=True)
 
 
 def write_files(files):
@@ -183,7 +199,7 @@ def lost_lines(job, refused):
 def small_spaces():
     """Runs all jobs in each space. Answers how many runs went wrong."""
     least = least_space()
-    counts = [(0, try_below(least)), *[try_spaces(job, least) for job in jobs()]]
+    counts = [(0, try_below(least)), *[try_spaces(job, least) for job in in_both_orders(jobs())]]
     refused, wrong = (sum(column) for column in zip(*counts))
     print(f"{(len(counts) - 1) * len(SPARE)} runs in address spaces of {least} kB (in less the program isn't started) to "
           f"{least + SPARE[-1]} kB, {refused} of them without enough memory, {wrong} went wrong")
