@@ -15,6 +15,7 @@ pub mod StrandedLemmas
 pub mod MergeLemmas
 pub mod FileOrder
 pub mod RunOrder
+pub mod NameOrder
 pub mod OwnOrder
 pub mod MergeForm
 pub mod EngineLemmas

@@ -1,11 +1,13 @@
 -- The merged runs in an order of the chromosomes, as that of a genome file or of the names' bytes.
-use Rattle.std.specs.Prelude.{◌≡◌, ℕ, List, [], ◌∷◌, if◌then◌else◌}
+use Rattle.std.specs.Prelude.{◌≡◌, ℕ, ⊤, IsTrue, List, [], ◌∷◌, if◌then◌else◌}
+use Rattle.std.specs.List.{AllByRecursion}
 use Rattle.std.specs.Ordering.{is_lt}
+use Rattle.std.specs.declared.cmp.Ordering.TheVariants.{Less}
 use Rattle.bt_bed.specs.Feature.{Feature, intervals_of}
 use Rattle.bt_bed.specs.Interval.{Interval}
 use Rattle.bt_bed.specs.Locus.{ArePlaced}
 use Rattle.bt_bed.specs.Order.{Order, IsTotal}
-use Rattle.bt_bed.specs.Rank.{AreDistinct, rank_order}
+use Rattle.bt_bed.specs.Rank.{AreDistinct, is_among, rank_order}
 use Rattle.bt_runs.specs.Counted.{counted}
 use Rattle.bt_runs.specs.Merged.{chromosomes, merged}
 use Rattle.bt_runs.specs.MergedRuns.{merged_runs}
@@ -21,6 +23,32 @@ put_in_order order name (n ∷ ns) =
 abbrev pub in_order : Order → List (List ℕ) → List (List ℕ)
 in_order order [] = []
 in_order order (n ∷ ns) = put_in_order order n (in_order order ns)
+
+-- each of these names is known to the order
+abbrev pub AreKnown : Order → List (List ℕ) → Type 0
+AreKnown order names = AllByRecursion (λ name. IsTrue (order.knows name)) names
+
+-- the name comes before the first of the others
+abbrev pub ComesBefore : Order → List ℕ → List (List ℕ) → Type 0
+ComesBefore order name [] = ⊤
+ComesBefore order name (n ∷ ns) = order.compare name n ≡ Less
+
+-- each name comes before the next
+abbrev pub AreAscending : Order → List (List ℕ) → Type 0
+AreAscending order [] = ⊤
+AreAscending order (n ∷ ns) = ComesBefore order n ns × AreAscending order ns
+
+-- in a total order different names that are known come one before the other, and no others do
+abbrev pub names_come_in_order : Type 0
+names_come_in_order =
+    (order : Order) (names : List (List ℕ)) → IsTotal order → AreKnown order names
+    → AreDistinct names
+    → AreAscending order (in_order order names)
+    × ((name : List ℕ) → is_among (in_order order names) name ≡ is_among names name)
+
+-- each chromosome that has records is named once
+abbrev pub chromosomes_are_named_once : Type 0
+chromosomes_are_named_once = (records : List Interval) → AreDistinct (chromosomes records)
 
 -- the merged runs of the records, their chromosomes in order
 unfoldable pub ordered_runs : Order → ℕ → MergeStrand → List Feature → List Interval

@@ -2,7 +2,7 @@
 
 ghost use Rattle.bt_runs.specs.Merged.{runs_are, runs_only};
 ghost use Rattle.bt_runs.specs.MergedRuns.{one_run_is_kept, runs_come_in_order, settled_runs_begin, settled_runs_stay};
-ghost use Rattle.bt_runs.specs.RunOrder.{file_runs_are_ordered, ordered_runs_come};
+ghost use Rattle.bt_runs.specs.RunOrder.{chromosomes_are_named_once, file_runs_are_ordered, names_come_in_order, ordered_runs_come};
 ghost use Rattle.bt_runs.specs.StrandRuns.{strand_runs_begin, strand_runs_divide, strand_runs_stay, strands_stay_in_order};
 
 /// The merged runs of a chromosome are the stretches of its bridged positions, and no other list is.
@@ -11,7 +11,14 @@ pub fn runs_are_determined()
     ensures only { runs_only }
 {}
 
-/// In a total order of the chromosomes the merged runs come in that order.
+/// Chromosomes that have records are named once each, and in a total order each of these names comes before
+/// the next.
+pub fn chromosomes_come_in_order()
+    ensures once { chromosomes_are_named_once }
+    ensures order { names_come_in_order }
+{}
+
+/// For records in a total order of the chromosomes the merged runs come in that order.
 pub fn runs_follow_the_order()
     ensures { ordered_runs_come }
 {}
