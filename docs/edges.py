@@ -75,6 +75,26 @@ CASES = [
      ">chr1\nACNNNNGT\n", "", 0),
     ("echo old > masked.fa; bedtools maskfasta -fi a.fa -bed none.bed -fo masked.fa; echo $?; cat masked.fa",
      "1\nold\n", "bedtools maskfasta: none.bed: cannot be opened\n", 0),
+    # An input under another name isn't emptied: another spelling, a symbolic link, a hard link, standard input.
+    ("cp a.fa b.fa; bedtools maskfasta -fi b.fa -bed a.bed -fo ./b.fa; echo $?; cat b.fa",
+     "1\n>chr1\nACGTACGT\n", "bedtools maskfasta: ./b.fa: cannot be opened\n", 0),
+    ("cp a.fa b.fa; ln -sf b.fa soft.fa; bedtools maskfasta -fi b.fa -bed a.bed -fo soft.fa; echo $?; cat b.fa",
+     "1\n>chr1\nACGTACGT\n", "bedtools maskfasta: soft.fa: cannot be opened\n", 0),
+    ("cp a.fa b.fa; ln -sf b.fa soft.fa; bedtools maskfasta -fi soft.fa -bed a.bed -fo b.fa; echo $?; cat b.fa",
+     "1\n>chr1\nACGTACGT\n", "bedtools maskfasta: b.fa: cannot be opened\n", 0),
+    ("cp a.fa b.fa; ln -f b.fa hard.fa; bedtools maskfasta -fi b.fa -bed a.bed -fo hard.fa; echo $?; cat b.fa",
+     "1\n>chr1\nACGTACGT\n", "bedtools maskfasta: hard.fa: cannot be opened\n", 0),
+    ("cp a.fa b.fa; bedtools maskfasta -fi - -bed a.bed -fo b.fa < b.fa; echo $?; cat b.fa",
+     "1\n>chr1\nACGTACGT\n", "bedtools maskfasta: b.fa: cannot be opened\n", 0),
+    ("cp a.bed b.bed; bedtools maskfasta -fi a.fa -bed b.bed -fo ./b.bed; echo $?; cat b.bed",
+     "1\nchr1\t2\t6\nchr1\t14\t17\n", "bedtools maskfasta: ./b.bed: cannot be opened\n", 0),
+    ("cp a.bed b.bed; ln -sf b.bed soft.bed; bedtools maskfasta -fi a.fa -bed b.bed -fo soft.bed; echo $?; cat b.bed",
+     "1\nchr1\t2\t6\nchr1\t14\t17\n", "bedtools maskfasta: soft.bed: cannot be opened\n", 0),
+    ("cp a.bed b.bed; ln -f b.bed hard.bed; bedtools maskfasta -fi a.fa -bed b.bed -fo hard.bed; echo $?; cat b.bed",
+     "1\nchr1\t2\t6\nchr1\t14\t17\n", "bedtools maskfasta: hard.bed: cannot be opened\n", 0),
+    # A link to another file is written through.
+    ("cp a.fa other.fa; ln -sf other.fa soft.fa; bedtools maskfasta -fi a.fa -bed a.bed -fo soft.fa && cat other.fa",
+     ">chr1\nACNNNNGT\n", "", 0),
     # A masked base that looks like the begin of a header.
     ("bedtools maskfasta -fi a.fa -bed a.bed -mc '>'", ">chr1\nAC>>>>GT\n", "", 0),
     # The reader of the pipe goes away.

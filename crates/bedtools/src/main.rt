@@ -24,12 +24,14 @@ ghost use Rattle.bt_tool.specs.declared.usage.Usage.{Usage};
 ghost use Rattle.bedtools.specs.Ending.{CannotBegin, Ends, ReportsRun, ReportsUnopened};
 ghost use Rattle.bedtools.specs.Message.{Says, line_seen};
 
+mod identity;
 mod message;
 mod opened;
 mod output;
 mod stand_ins;
 
 use bt_tool::{Outcome, Plan, Refusal, plan, run};
+use identity::is_input;
 use message::{Message, MessageLine, Obstacle};
 use opened::Opened;
 use output::Output;
@@ -104,7 +106,7 @@ fn run_opened(rt: &HostRuntime, plan: &Plan) -> Result<Outcome, Message>
 }
 
 // Creates the output file of a plan, or takes standard output where it has none. `Err` where it can't be
-// created.
+// created, or is one of the inputs: that isn't touched.
 fn open_output(rt: &HostRuntime, plan: &Plan) -> Result<Output, Message>
     ensures { IfErr result (λ message. (word : Word) × ((plan_seen plan.now).output ≡ Some word)
         × ReportsUnopened (plan_seen plan.now) word message) }
@@ -112,6 +114,9 @@ fn open_output(rt: &HostRuntime, plan: &Plan) -> Result<Output, Message>
     let Some(name) = &plan.output else {
         return Ok(Output::standard(rt));
     };
+    if is_input(rt, plan, name.as_str()) {
+        return Err(cannot_open(rt.alloc(), plan, name.as_str()));
+    }
     match Output::create(rt, name.as_str()) {
         Ok(output) => Ok(output),
         Err(error) if error.kind() == io::ErrorKind::OutOfMemory => Err(Message::no_memory()),
