@@ -59,7 +59,8 @@ impl<Q: Sorted> Neighbours<Q> {
         self.ahead.is_some()
     }
 
-    // The record ahead, if there is one, in the line of this text, which says it.
+    // The record ahead, if there is one. The text is that of its line, from which its further columns are
+    // lent.
     pub(crate) fn record<'t>(&'t self, text: &'t [u8]) -> Option<BedRef<'t>>
         requires { IsSaidBy text.now self.now }
         ensures { option_map feature_lent result
@@ -100,8 +101,8 @@ impl<Q: Sorted> Neighbours<Q> {
         self.ahead = None;
     }
 
-    // Takes a line behind the last record, and answers whether it has one. No record is ahead then, but
-    // for that.
+    // Takes the line that follows the last record's, and answers whether it has a record. If it has, that
+    // is ahead then, and else none is.
     pub(crate) fn take_line(&mut self, place: Place, text: &[u8]) -> Result<bool, Fault>
         requires none_ahead { has_ahead self.old ≡ false }
         requires known { IsKnownLast (Q.sorting self.old.rule) (last_in self.old) }

@@ -12,8 +12,8 @@ use memchr::memchr;
 /// How many bytes a reader takes ahead at most, and an output holds back.
 pub const BLOCK: usize = 8192;
 
-// The bytes from `start` to `end` were read and not yet taken. Those from `from` to `stop` are the
-// text of the line that was cut off last.
+// A block has two ranges of its bytes: `start..end` was read and not yet taken, and `from..stop` is the text of
+// the line that was cut off last, before them.
 #[derive(Drop)]
 pub(crate) struct Block {
     // Only the bytes that the bounds below name mean anything.

@@ -121,7 +121,7 @@ fn put_hit<K: Sink>(
     }
 }
 
-// Puts the record, if so.
+// Puts the record's line where it is to be written, and nothing else.
 fn put_where<K: Sink>(is_put: bool, a: &BedRef<'_>, out: &mut Out<K>) -> Result<(), Fault>
     ensures { Adds out.old (cond is_put (line_with (bed_text (feature_lent a.now) ∷ [])) []) result out.new }
 {
