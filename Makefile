@@ -33,6 +33,8 @@ $(PROGRAM): $(SOURCES)
 	@cd crates/bedtools && rt run -- merge -i /dev/null -g /dev/null > ../../$(LOG) 2>&1 || \
 	{ tail -n 20 ../../$(LOG); echo "Not built: see $(LOG)."; exit 1; }
 	@cp crates/bedtools/out/bedtools $@
+	@printf 'Dunekettle %s\n' '$(VERSION)' > bin/version.txt
+	@! command -v objcopy > /dev/null || objcopy --add-section .dunekettle=bin/version.txt $@
 	@echo "Built $@."
 
 example: $(PROGRAM)

@@ -35,6 +35,10 @@ in_zsh() { # what zsh shows behind a tab
 share=$folder/there/share
 make --silent install DESTDIR= PREFIX="$folder/there" NAME=trial-tools
 expect "the installed program" "chr1	2	9" "$(records | "$folder/there/bin/trial-tools" merge)"
+if has objcopy && has strings; then
+    version=$(sed -n 's/^## //p' CHANGELOG.md | head -n 1)
+    expect "its version" "Dunekettle $version" "$(strings -a "$folder/there/bin/trial-tools" | grep '^Dunekettle ')"
+fi
 expect "the docs of an installation" "yes" "$([ -f "$share/doc/trial-tools/docs/ERRORS.md" ] && echo yes)"
 if has man; then
     page=$(MANWIDTH=80 man -l "$share/man/man1/trial-tools.1" | col -b)
