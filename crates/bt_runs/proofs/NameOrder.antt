@@ -85,4 +85,3 @@ module _ (order : Order) where
 
 pub names_in_order : names_come_in_order
 names_in_order order names total known distinct = (ascending_order order total names known distinct, λ name. among_order order name names)
-
