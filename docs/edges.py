@@ -92,9 +92,26 @@ CASES = [
      "1\nchr1\t2\t6\nchr1\t14\t17\n", "bedtools maskfasta: soft.bed: cannot be opened\n", 0),
     ("cp a.bed b.bed; ln -f b.bed hard.bed; bedtools maskfasta -fi a.fa -bed b.bed -fo hard.bed; echo $?; cat b.bed",
      "1\nchr1\t2\t6\nchr1\t14\t17\n", "bedtools maskfasta: hard.bed: cannot be opened\n", 0),
-    # A link to another file is written through.
+    # Nor is it by way of a folder above, of a descriptor for either, or of standard output that goes on behind it.
+    ("cp a.fa b.fa; bedtools maskfasta -fi b.fa -bed a.bed -fo ../\"$(basename \"$PWD\")\"//b.fa 2> line.txt; echo $?; cat b.fa",
+     "1\n>chr1\nACGTACGT\n", "", 0),
+    ("cp a.fa b.fa; bedtools maskfasta -fi /dev/fd/5 -bed a.bed -fo b.fa 5< b.fa; echo $?; cat b.fa",
+     "1\n>chr1\nACGTACGT\n", "bedtools maskfasta: b.fa: cannot be opened\n", 0),
+    ("cp a.fa b.fa; bedtools maskfasta -fi b.fa -bed a.bed -fo /dev/fd/5 5<> b.fa; echo $?; cat b.fa",
+     "1\n>chr1\nACGTACGT\n", "bedtools maskfasta: /dev/fd/5: cannot be opened\n", 0),
+    ("cp a.fa b.fa; bedtools maskfasta -fi b.fa -bed a.bed -fo /dev/stdout >> b.fa; echo $?; cat b.fa",
+     "1\n>chr1\nACGTACGT\n", "bedtools maskfasta: /dev/stdout: cannot be opened\n", 0),
+    # Standard input that isn't read is no input.
+    ("cp a.fa b.fa; bedtools maskfasta -fi a.fa -bed a.bed -fo b.fa < b.fa && cat b.fa", ">chr1\nACNNNNGT\n", "", 0),
+    # A link to another file is written through, also where that isn't there yet.
     ("cp a.fa other.fa; ln -sf other.fa soft.fa; bedtools maskfasta -fi a.fa -bed a.bed -fo soft.fa && cat other.fa",
      ">chr1\nACNNNNGT\n", "", 0),
+    ("ln -s new.fa soft.fa; bedtools maskfasta -fi a.fa -bed a.bed -fo soft.fa && cat new.fa",
+     ">chr1\nACNNNNGT\n", "", 0),
+    # A pipe by its name, and a folder.
+    ("mkfifo pipe; cat pipe > read.fa & bedtools maskfasta -fi a.fa -bed a.bed -fo pipe && wait && cat read.fa",
+     ">chr1\nACNNNNGT\n", "", 0),
+    ("bedtools maskfasta -fi a.fa -bed a.bed -fo .", "", "bedtools maskfasta: .: cannot be opened\n", 1),
     # A masked base that looks like the begin of a header.
     ("bedtools maskfasta -fi a.fa -bed a.bed -mc '>'", ">chr1\nAC>>>>GT\n", "", 0),
     # The reader of the pipe goes away.

@@ -1,13 +1,13 @@
 #!/usr/bin/env python3
-"""Checks that each link of the pages leads to a file, and to a heading of it where it names one, that the pages
-that name a version name the same one, that README.md says how many definitions the report stands on, and that
-ARCHITECTURE.md lists them.
+"""Checks that each link of the pages leads to a file, and to a heading of it where it names one, that what is said
+to stand in a file of definitions does, that the pages that name a version name the same one, that README.md says how
+many definitions the report stands on, and that ARCHITECTURE.md lists them.
 
     docs/links.py [--write]
 
 The pages are the Markdown files of this repository. Links to other hosts aren't followed. With --write the list of
-ARCHITECTURE.md and the numbers of README.md are written anew. Ends with 1 where a link leads nowhere, or where a
-number or the list is another.
+ARCHITECTURE.md and the numbers of README.md are written anew. Ends with 1 where a link leads nowhere, a
+definition stands elsewhere, or a number or the list is another.
 """
 
 import re
@@ -19,6 +19,8 @@ PAGES = [*sorted(TOP.glob("*.md")), *sorted((TOP / "docs").glob("*.md")), *sorte
          *sorted((TOP / "packaging").glob("*.md"))]
 LINK = re.compile(r"\[[^\]]*\]\(([^)\s]+)\)")
 CODE = re.compile(r"`[^`]*`")
+# Definitions that stand in a file: their names, and the link to it.
+CITED = re.compile(r"((?:`\w+`(?:, | and ))*`\w+`) (?:in|of) \[\w+\.antt\]\(([^)\s#]+)\)")
 
 # Where the version stands: the first match of each is it.
 VERSIONS = {
@@ -65,6 +67,23 @@ def leads_nowhere(page, target):
     if not to.exists():
         return True
     return bool(heading) and to.suffix == ".md" and heading not in anchors_of(to)
+
+
+def stands_in(name, file):
+    """Whether a file of definitions has the one of this name."""
+    defined = rf"^\s*(?:abbrev |unfoldable )?pub (?:record )?{name}\b"
+    return bool(re.search(defined, file.read_text(encoding="utf-8"), re.MULTILINE))
+
+
+def misplaced():
+    """The definitions that a page says to stand in a file that lacks them, each with the page, its line and the file."""
+    for page in PAGES:
+        for number, line in enumerate(page.read_text(encoding="utf-8").splitlines(), 1):
+            for names, target in CITED.findall(line):
+                file = (page.parent / target).resolve()
+                for name in re.findall(r"`(\w+)`", names):
+                    if file.exists() and not stands_in(name, file):
+                        yield page, number, name, file
 
 
 def versions():
@@ -140,12 +159,15 @@ def main():
     broken = [link for link in links if leads_nowhere(link[0], link[2])]
     for page, number, target in broken:
         print(f"{page.relative_to(TOP)}:{number}: {target} leads nowhere")
+    elsewhere = list(misplaced())
+    for page, number, name, file in elsewhere:
+        print(f"{page.relative_to(TOP)}:{number}: {name} doesn't stand in {file.relative_to(TOP)}")
     found = versions()
     if len(set(found.values())) > 1:
         print("versions:", ", ".join(f"{name} {version}" for name, version in found.items()))
     print(f"{len(links)} links, {len(broken)} of them lead nowhere; version {found['README.md']}")
     differ = definitions_differ("--write" in sys.argv[1:])
-    return 1 if broken or differ or len(set(found.values())) > 1 else 0
+    return 1 if broken or elsewhere or differ or len(set(found.values())) > 1 else 0
 
 
 if __name__ == "__main__":
