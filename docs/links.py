@@ -1,7 +1,7 @@
 #!/usr/bin/env python3
 """Checks that each link of the pages leads to a file, and to a heading of it where it names one, that what is said
-to stand in a file of definitions does, that the pages that name a version name the same one, that README.md says how
-many definitions the report stands on, and that ARCHITECTURE.md lists them.
+to stand in a file of definitions does and each such file is there, that the pages that name a version name the same
+one, that README.md says how many definitions the report stands on, and that ARCHITECTURE.md lists them.
 
     docs/links.py [--write]
 
@@ -21,6 +21,9 @@ LINK = re.compile(r"\[[^\]]*\]\(([^)\s]+)\)")
 CODE = re.compile(r"`[^`]*`")
 # Definitions that stand in a file: their names, and the link to it.
 CITED = re.compile(r"((?:`\w+`(?:, | and ))*`\w+`) (?:in|of) \[\w+\.antt\]\(([^)\s#]+)\)")
+
+# Files of definitions that are named by their crate, as those of a question are in ARCHITECTURE.md.
+FILES = re.compile(r"`(bt_\w+)/specs/([A-Z]\w*`(?:,(?: [a-z ]+)? `[A-Z]\w*`)*)")
 
 # Where the version stands: the first match of each is it.
 VERSIONS = {
@@ -84,6 +87,16 @@ def misplaced():
                 for name in re.findall(r"`(\w+)`", names):
                     if file.exists() and not stands_in(name, file):
                         yield page, number, name, file
+
+
+def missing():
+    """The files of definitions that a page names and that aren't there, each with the page and its line."""
+    for page in PAGES:
+        for number, line in enumerate(page.read_text(encoding="utf-8").splitlines(), 1):
+            for crate, names in FILES.findall(line):
+                for name in re.findall(r"(\w+)`", names):
+                    if not (TOP / "crates" / crate / "specs" / f"{name}.antt").exists():
+                        yield page, number, f"{crate}/specs/{name}"
 
 
 def versions():
@@ -162,12 +175,15 @@ def main():
     elsewhere = list(misplaced())
     for page, number, name, file in elsewhere:
         print(f"{page.relative_to(TOP)}:{number}: {name} doesn't stand in {file.relative_to(TOP)}")
+    absent = list(missing())
+    for page, number, name in absent:
+        print(f"{page.relative_to(TOP)}:{number}: {name} isn't there")
     found = versions()
     if len(set(found.values())) > 1:
         print("versions:", ", ".join(f"{name} {version}" for name, version in found.items()))
     print(f"{len(links)} links, {len(broken)} of them lead nowhere; version {found['README.md']}")
     differ = definitions_differ("--write" in sys.argv[1:])
-    return 1 if broken or elsewhere or differ or len(set(found.values())) > 1 else 0
+    return 1 if broken or elsewhere or absent or differ or len(set(found.values())) > 1 else 0
 
 
 if __name__ == "__main__":
