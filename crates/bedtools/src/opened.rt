@@ -1,6 +1,6 @@
 //! An input that the program has opened: a file or standard input.
 
-ghost use Rattle.std.specs.Prelude.{◌≡◌, None};
+ghost use Rattle.std.specs.Prelude.{◌≡◌, None, true};
 ghost use Rattle.bedtools.specs.Opened.{input_meant, file_named, opened_has_failed, opened_end_told};
 
 use bt_lines::{DeviceFailed, FromRead, Source};
@@ -50,6 +50,8 @@ impl Source for Opened {
     ghost has_failed = { opened_has_failed };
 
     ghost end_told = { opened_end_told };
+
+    ghost read_fails = { λ _ after. opened_has_failed after ≡ true };
 
     fn read(&mut self, block: &mut [u8]) -> Result<usize, DeviceFailed> {
         match self {

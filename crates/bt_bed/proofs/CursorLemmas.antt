@@ -139,6 +139,10 @@ if_for : {A : Type 0} (o : Option A) (P : A → Type 0) → IfSome o P → ForSo
 if_for None P h x e = cc
 if_for (Some y) P h x e = let same : y ≡ x = cc in subst P same h
 
+of_some : {A : Type 0} (o : Option A) (P : Type 0) → IsSome o → ForSome o (λ x. P) → P
+of_some None P some h = absurd (false≢true some)
+of_some (Some x) P some h = h x refl
+
 said_item : {A : Type 0} (line : ℕ) (said : Option A) (m : Member A) → on_line line said ≡ Some m → said ≡ Some m.item
 said_item line None m e = cc
 said_item line (Some item) m e = let same : record { line = line; item = item } ≡ m = cc in ap (λ (m : Member _). Some m.item) same
@@ -160,7 +164,8 @@ module _ {S Q : Type 0} (left : S → Option (List ℕ)) (failed end : S → Boo
   unfolding view_with
   cursor_again own reader neighbours placed some =
       let view = view_with sorting own reader neighbours in
-      record { answers = steps_again left failed end view (some_in left failed end sorting own reader neighbours some) (said_ahead sorting view view.ahead placed.ahead); sound = λ was. was }
+      let there : IsSome view.ahead = some_in left failed end sorting own reader neighbours some in
+      record { answers = steps_again left failed end view (of_some view.ahead (view.fault ≡ None) there placed.going) there (said_ahead sorting view view.ahead placed.ahead); sound = λ was. was }
 
   -- a fault that is kept is the answer
   pub cursor_fault_again : (fault : Fault) (reader : LineReader S) (neighbours : Neighbours Q) → has_ahead neighbours ≡ false
@@ -192,16 +197,18 @@ module _ {S Q : Type 0} (left : S → Option (List ℕ)) (failed end : S → Boo
   placed_none own reader neighbours known none = record {
     last = if_for (last_in neighbours) (λ place. IsTrue (sorting.knows place.chrom)) known;
     ahead = λ m e. absurd (let apart : None ≡ Some m = sym (no_record (text_at (line_at reader)) neighbours none) ∙ e in cc);
+    going = λ m e. absurd (let apart : None ≡ Some m = sym (no_record (text_at (line_at reader)) neighbours none) ∙ e in cc);
   }
 
   -- a record that was taken is what its line says
-  pub placed_taken : (own : Option Told) (place : Place) (line : TextLine) (reader : LineReader S) (before after : Neighbours Q) (is_record : Bool) → IsKnownLast sorting (last_in before) → line_at reader ≡ Some line → LineTaken sorting place.line line.text before is_record after
-      → IsPlaced sorting (view_with sorting own reader after)
+  pub placed_taken : (place : Place) (line : TextLine) (reader : LineReader S) (before after : Neighbours Q) (is_record : Bool) → line_fault reader ≡ None → IsKnownLast sorting (last_in before) → line_at reader ≡ Some line → LineTaken sorting place.line line.text before is_record after
+      → IsPlaced sorting (view_with sorting None reader after)
   unfolding view_with
-  placed_taken own place line reader before after is_record known at taken = record {
+  placed_taken place line reader before after is_record going known at taken = record {
     last = if_for (last_in after) (λ place. IsTrue (sorting.knows place.chrom)) (rw taken.keeps.last known);
     ahead = λ m e.
         let text : text_at (line_at reader) ≡ line.text = ap text_at at in
         let here : on_line place.line taken.said ≡ Some m = sym taken.ahead ∙ ap (λ t. ahead_in t after) (sym text) ∙ e in
         rw (text, taken.keeps.last) (taken.says ∙ ap Ok (said_item place.line taken.said m here));
+    going = λ m e. going;
   }

@@ -112,8 +112,8 @@ module _ {S A State : Type 0} (left : S → Option (List ℕ)) (failed end : S �
   stays_same reader = record { bytes = ([], hands_none left reader.below); format = refl }
 
   -- the member ahead is given again
-  pub gives_again : (old : MemberReader S A State) (m : Member A) → old.ahead ≡ Some m → IsSaidBehind old.format old.state m.item → GivesMember left failed old m old
-  gives_again old m e said =
+  pub gives_again : (old : MemberReader S A State) (m : Member A) → old.fault ≡ None → old.ahead ≡ Some m → IsSaidBehind old.format old.state m.item → GivesMember left failed old m old
+  gives_again old m going e said =
       let no_none : old.ahead ≡ None → ⊥ = λ none. cc in
       record {
         ahead = e;
@@ -125,19 +125,20 @@ module _ {S A State : Type 0} (left : S → Option (List ℕ)) (failed end : S �
         at = λ none. absurd (no_none none);
         rises = λ none. absurd (no_none none);
         served = refl;
+        was_going = going;
         goes = refl;
         stays = stays_same old;
         lines = (passed_none left end old.below).lines;
         shrinks = omega arith;
       }
 
-  again_ahead : (old : MemberReader S A State) (ahead : Option (Member A)) → old.ahead ≡ ahead → is_some ahead ≡ true → IfSome ahead (λ m. IsSaidBehind old.format old.state m.item) → StepsTo left failed old ahead old
-  again_ahead old None e some said = absurd (false≢true some)
-  again_ahead old (Some m) e some said = gives_again old m e said
+  again_ahead : (old : MemberReader S A State) (ahead : Option (Member A)) → old.fault ≡ None → old.ahead ≡ ahead → is_some ahead ≡ true → IfSome ahead (λ m. IsSaidBehind old.format old.state m.item) → StepsTo left failed old ahead old
+  again_ahead old None going e some said = absurd (false≢true some)
+  again_ahead old (Some m) going e some said = gives_again old m going e said
 
   -- a member that is ahead is the answer
-  pub steps_again : (old : MemberReader S A State) → IsSome old.ahead → IfSome old.ahead (λ m. IsSaidBehind old.format old.state m.item) → StepsTo left failed old old.ahead old
-  steps_again old some said = again_ahead old old.ahead refl some said
+  pub steps_again : (old : MemberReader S A State) → old.fault ≡ None → IsSome old.ahead → IfSome old.ahead (λ m. IsSaidBehind old.format old.state m.item) → StepsTo left failed old old.ahead old
+  steps_again old going some said = again_ahead old old.ahead going refl some said
 
   -- a fault that is kept is the answer
   pub fault_again : (old : MemberReader S A State) (fault : Told) → old.fault ≡ Some fault → old.ahead ≡ None → AnswersFault left failed end old fault old
@@ -270,6 +271,7 @@ module _ {S A State : Type 0} (left : S → Option (List ℕ)) (failed end : S �
           at = λ none. gives.number ∙ sym gives.counted;
           rises = λ none. (omega (arith, g.passed.least, gives.counted), omega (arith, gives.below));
           served = gives.served ∙ g.served;
+          was_going = was_faultless now g gives.was_going.0;
           goes = rest ∙ gives.goes ∙ sym (was_faultless now g gives.was_going.0);
           stays = stays_more now new g (gives.bytes.0, gives.bytes.1) follows;
           lines = (passed_more now new line g gives sound).lines;
@@ -407,6 +409,7 @@ module _ {S A State : Type 0} (left : S → Option (List ℕ)) (failed end : S �
           lines = all_given (lines_left left old.below) (lines_left left now.below) (lines_given now.below - lines_given old.below) (lines_given new.below - lines_given old.below) g.passed.lines gives.none_left (ap (λ n. n - lines_given old.below) gives.counted);
           again = end_again now new g gives rest track g.begun;
           served = gives.served ∙ g.served;
+          was_going = was_faultless now g gives.was_going;
           goes = rest ∙ gives.goes;
           stays = stays_more now new g (gives.bytes.0, gives.bytes.1) follows;
           shrinks = omega (arith, no_room, falls, g.shrinks);

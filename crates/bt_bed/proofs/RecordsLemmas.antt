@@ -97,6 +97,7 @@ passed_placed sorting old new m placed e state none =
     record {
       last = λ place at. let same : Some (locus_at m.item) ≡ Some place = sym state ∙ at in let is : locus_at m.item ≡ place = cc in subst (λ (p : Locus). IsTrue (sorting.knows p.chrom)) is said.known;
       ahead = λ other at. cc;
+      going = λ other at. cc;
     }
 
 module _ {S O : Type 0} (g : Ghosts O) where

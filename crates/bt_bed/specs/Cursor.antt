@@ -22,13 +22,14 @@ abbrev pub fault_in : {T : Type 0} → Result T Fault → Option Told
 fault_in (Ok done) = None
 fault_in (Err fault) = Some (told fault)
 
--- the chromosome of the last record is known,
--- and the line that the reader is at says the record ahead
+-- the chromosome of the last record is known, the line that the reader is at says the record
+-- ahead, and no fault is kept while there is one
 pub record IsPlaced {S : Type 0} (sorting : Sorting)
     (reader : MemberReader S Feature (Option Locus)) : Type 0 where
   pub last : ForSome reader.state (λ place. IsTrue (sorting.knows place.chrom))
   pub ahead : ForSome reader.ahead (λ m.
       line_says sorting reader.state (text_at (line_at reader.below)) ≡ Ok (Some m.item))
+  pub going : ForSome reader.ahead (λ m. reader.fault ≡ None)
 
 module _ {S Q : Type 0} where
   -- a reader of lines and two neighbours, with a fault of their own, as a reader of records

@@ -112,6 +112,8 @@ module _ {S A State : Type 0} where
     pub rises : old.ahead ≡ None → (lines_given old.below < lines_given new.below) ×
         (lines_given new.below < 2 ^ 63)
     pub served : failed (source_of new.below) ≡ failed (source_of old.below)
+    -- after a fault none is given
+    pub was_going : old.fault ≡ None
     pub goes : new.fault ≡ old.fault
     pub stays : Stays left old new
     pub lines : LinesPass left old.below new.below
@@ -133,6 +135,8 @@ module _ {S A State : Type 0} where
     -- once the end is reached, nothing more is read
     pub again : has_ended old.below ≡ true → new ≡ old
     pub served : failed (source_of new.below) ≡ failed (source_of old.below)
+    -- after a fault no end is told
+    pub was_going : old.fault ≡ None
     pub goes : new.fault ≡ None
     pub stays : Stays left old new
     pub shrinks : room new ≤ room old

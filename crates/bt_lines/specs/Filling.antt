@@ -18,6 +18,11 @@ MovesPiece block text (Ok false) new_block new_text =
     NoLineFeed block × (new_block ≡ []) × (new_text ≡ text ++ block)
 MovesPiece block text (Err e) new_block new_text = (new_block ≡ block) × (new_text ≡ text)
 
+-- the last read of the source failed
+pub record LastReadFails {S : Type 0} (Fails : S → S → Type 0) (source : S) : Type 0 where
+  pub before : S
+  pub fails : Fails before source
+
 -- what came of asking for more bytes, with so many taken before
 abbrev pub MoreComes : More → Option (List ℕ) → Bool → Bool → Bool → List ℕ → List ℕ → ℕ → Type 0
 MoreComes Bytes left was_failed is_failed told bytes block taken =

@@ -1,5 +1,5 @@
 -- What a reader of lines holds, and what one call of `next` does.
-use Rattle.std.specs.Prelude.{◌≡◌, ℕ, suc, ◌+◌, ◌-◌, ◌^◌, ◌<◌, ◌≤◌, ◌⊎◌, Bool, true, false, List}
+use Rattle.std.specs.Prelude.{◌≡◌, ◌≢◌, ℕ, suc, ◌+◌, ◌-◌, ◌^◌, ◌<◌, ◌≤◌, ◌⊎◌, ⊤, Bool, true, false, List}
 use Rattle.std.specs.Prelude.{[], ◌++◌, length, Option, Some, None, option_map, Result, Ok, Err}
 use Rattle.std.specs.Prelude.{IfSome, nat_lt, if◌then◌else◌, take, drop}
 use Rattle.std.specs.Io.KnownBytes.{Consumes, IsAtEnd, prepend_known}
@@ -7,6 +7,7 @@ use Rattle.bt_lines.specs.Block.{unread, text_in}
 use Rattle.bt_lines.specs.Lines.{TextLine, lines_from, line_feeds, bytes_in, spelled}
 use Rattle.bt_lines.specs.Output.{block_size}
 use Rattle.bt_lines.specs.Fault.{Told, read_failed, no_memory}
+use Rattle.bt_lines.specs.Filling.{LastReadFails}
 use Rattle.bt_lines.specs.Names.{told}
 use Rattle.bt_lines.specs.LentLine.{line_seen, GivesFirst}
 use Rattle.bt_lines.specs.declared.fault.Input.{Input}
@@ -266,10 +267,20 @@ module _ {S : Type 0} where
   Answers left failed old (Ok None) new = GivesEnd left failed old new
   Answers left failed old (Err fault) new = GivesFault left failed old (told fault) new
 
+  -- A failed read is told for the first time only where a read of this call failed, whatever the
+  -- source did before, or where the text is too long.
+  abbrev pub TellsOwnFailure : {A : Type 0} → (S → S → Type 0) → LineReader S → Result A Fault
+      → LineReader S → Type 0
+  TellsOwnFailure Fails old (Ok done) new = ⊤
+  TellsOwnFailure Fails old (Err fault) new = fault_kept old ≡ None → told fault ≢ no_memory
+      → LastReadFails Fails (source_of new) ⊎ (2 ^ 63 ≤ bytes_taken new)
+
   -- one call of `next`
   pub record NextLine (left : S → Option (List ℕ)) (failed : S → Bool) (end : S → Bool)
-      (old : LineReader S) (answer : Result (Option Line) Fault) (new : LineReader S) : Type 0 where
+      (Fails : S → S → Type 0) (old : LineReader S) (answer : Result (Option Line) Fault)
+      (new : LineReader S) : Type 0 where
     pub answers : Answers left failed old answer new
+    pub own_failure : TellsOwnFailure Fails old answer new
     pub sound : IsSound left end old → IsSound left end new
 
   -- what a step to the next line gives, or to the end where there is none

@@ -20,6 +20,9 @@ pub trait Source {
     // Whether a read has answered the end, by 0 to a block with room.
     ghost end_told: { Self → Bool };
 
+    // A read made the one source the other, and failed. Only `read` gives it.
+    ghost read_fails: { Self → Self → Type 0 };
+
     /// Hands over the next bytes, as many as it likes of those that fit the block, and 0 for a block
     /// with room only at the end. An error isn't tried again.
     fn read(&mut self, block: &mut [u8]) -> Result<usize, DeviceFailed>
@@ -27,6 +30,7 @@ pub trait Source {
         ensures bytes { ReadConsumes (left self.old) (left self.new) result block.new }
         ensures served { OnOk result (has_failed self.new ≡ has_failed self.old) }
         ensures failed { OnErr result (has_failed self.new ≡ true) }
+        ensures refused { OnErr result (read_fails self.old self.new) }
         ensures end { TellsEnd (end_told self.old) (end_told self.new) result block.new };
 
     /// Whether a read has failed. Once true, it stays so.

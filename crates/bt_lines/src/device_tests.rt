@@ -1,4 +1,4 @@
-ghost use Rattle.std.specs.Prelude.{None, true};
+ghost use Rattle.std.specs.Prelude.{None, true, ⊤};
 
 use crate::{
     DeviceFailed, Fault, FromRead, Input, Kind, LineReader, Out, ScriptSink, Sink, Source, ToWrite,
@@ -80,6 +80,8 @@ impl Source for ServesAgain {
     ghost has_failed = { λ _. true };
 
     ghost end_told = { λ s. s.end_told };
+
+    ghost read_fails = { λ _ after. ⊤ };
 
     fn read(&mut self, block: &mut [u8]) -> Result<usize, DeviceFailed> {
         if block.is_empty() {

@@ -2,7 +2,9 @@
 
 ghost use Rattle.std.specs.Prelude.{◌≡◌, ◌<◌, ◌^◌, []};
 ghost use Rattle.bt_lines.specs.Block.{unread};
-ghost use Rattle.bt_lines.specs.Filling.{AsksMore, Fills, MovesPiece};
+ghost use Rattle.bt_lines.specs.Filling.{AsksMore, Fills, LastReadFails, MovesPiece};
+ghost use Rattle.bt_lines.specs.declared.filling.More.TheVariants.{BadRead};
+ghost use Rattle.bt_lines.specs.declared.filling.Stop.TheVariants.{Failed};
 
 use crate::block::{BLOCK, Block};
 use crate::device::Source;
@@ -49,8 +51,9 @@ pub(crate) fn fill<S: Source>(
 ) -> Stop
     requires counted { taken.old < 2 ^ 63 }
     requires empty { text.old.items ≡ [] }
-    ensures { Fills S.left S.has_failed S.end_told source.old (unread block.old) taken.old result
+    ensures fills { Fills S.left S.has_failed S.end_told source.old (unread block.old) taken.old result
         source.new (unread block.new) text.new.items taken.new }
+    ensures refused { result ≡ Failed → LastReadFails S.read_fails source.new }
 {
     'reads: loop {
         match move_piece(block, text) {
@@ -90,8 +93,9 @@ fn move_piece(block: &mut Block, text: &mut Vec<u8>) -> Result<bool, AllocError>
 // Asks for more bytes, and for one past the bound only once so many were taken.
 fn ask_more<S: Source>(source: &mut S, block: &mut Block, taken: &mut u64) -> More
     requires counted { taken.old < 2 ^ 63 }
-    ensures { AsksMore S.left S.has_failed S.end_told source.old taken.old result
+    ensures asks { AsksMore S.left S.has_failed S.end_told source.old taken.old result
         source.new (unread block.new) taken.new }
+    ensures refused { result ≡ BadRead → LastReadFails S.read_fails source.new }
 {
     let room = BOUND - *taken;
     let most = room.min(BLOCK as u64).max(1) as usize;

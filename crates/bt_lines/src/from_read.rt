@@ -54,14 +54,17 @@ impl<R: Read> Source for FromRead<R> {
 
     ghost end_told = { read_end_told };
 
+    ghost read_fails = { λ _ after. read_has_failed after ≡ true };
+
     fn read(&mut self, block: &mut [u8]) -> Result<usize, DeviceFailed>
         ensures within { IfOk result (λ n. n ≤ length block.new) }
         ensures bytes { ReadConsumes (R.remaining (reader_of self.old))
             (R.remaining (reader_of self.new)) result block.new }
         ensures served { OnOk result (read_has_failed self.new ≡ read_has_failed self.old) }
         ensures failed { OnErr result (read_has_failed self.new ≡ true) }
+        ensures refused { OnErr result (read_has_failed self.new ≡ true) }
         ensures end { TellsEnd (read_end_told self.old) (read_end_told self.new) result block.new }
-        ensures for_good { IsTrue (read_has_failed self.old) → IsErr result }
+        ensures for_good { IsTrue (read_has_failed self.old) → IsErr result × (self.new ≡ self.old) }
     {
         if self.has_failed {
             return Err(DeviceFailed);

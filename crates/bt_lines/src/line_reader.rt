@@ -64,7 +64,7 @@ impl<S: Source> LineReader<S> {
     ghost use Rattle.std.specs.Borrow.{sem};
     ghost use Rattle.std.specs.Io.BufRead.{Rests};
     ghost use Rattle.bt_lines.specs.contracts.line_reader.LineReader.{the_row};
-    ghost use Rattle.bt_lines.specs.Reader.{IsSound, NextLine, Stepped, line_at, feeds_taken, is_going, taken_ahead, source_of, input_of, lines_given, bytes_taken, held, fault_kept, has_ended, lines_left};
+    ghost use Rattle.bt_lines.specs.Reader.{IsSound, NextLine, Stepped, TellsOwnFailure, line_at, feeds_taken, is_going, taken_ahead, source_of, input_of, lines_given, bytes_taken, held, fault_kept, has_ended, lines_left};
     ghost use Rattle.bt_lines.specs.LentLine.{NoLineFeed, line_seen};
     ghost use Rattle.bt_lines.specs.Lines.{text_lines};
     ghost use Rattle.bt_lines.specs.Fault.{read_failed};
@@ -99,7 +99,7 @@ impl<S: Source> LineReader<S> {
     #[inline(always)]
     pub fn next(&mut self) -> Result<Option<Line<'_>>, Fault>
         ensures* after { sem 𝓛 (Rests (the_row S.row) self.entry (λ new.
-            NextLine S.left S.has_failed S.end_told self.old result new)) }
+            NextLine S.left S.has_failed S.end_told S.read_fails self.old result new)) }
     {
         if !self.cuts_line() {
             self.step()?;
@@ -179,7 +179,8 @@ impl<S: Source> LineReader<S> {
     #[inline(never)]
     fn step(&mut self) -> Result<(), Fault>
         requires { is_going self.old ≡ true → NoLineFeed (taken_ahead self.old) }
-        ensures { Stepped S.left S.has_failed S.end_told self.old result self.new }
+        ensures steps { Stepped S.left S.has_failed S.end_told self.old result self.new }
+        ensures own_failure { TellsOwnFailure S.read_fails self.old result self.new }
     {
         match self.state {
             State::Reading | State::Carried => self.read_on(),
@@ -197,7 +198,8 @@ impl<S: Source> LineReader<S> {
     fn read_on(&mut self) -> Result<(), Fault>
         requires going { is_going self.old ≡ true }
         requires no_line { NoLineFeed (taken_ahead self.old) }
-        ensures { Stepped S.left S.has_failed S.end_told self.old result self.new }
+        ensures steps { Stepped S.left S.has_failed S.end_told self.old result self.new }
+        ensures own_failure { TellsOwnFailure S.read_fails self.old result self.new }
     {
         self.carried.clear();
         let stop = fill(

@@ -102,7 +102,7 @@ impl Sink for ScriptSink {
             → n ≡ takes_of self.old (length bytes.now)) }
         ensures spent { IsTrue (is_spent self.old.good (length self.old.taken))
             → 0 < length bytes.now → IsErr result }
-        ensures for_good { IsTrue self.old.has_failed → IsErr result }
+        ensures for_good { IsTrue self.old.has_failed → IsErr result × (self.new ≡ self.old) }
         ensures nothing { self.old.has_failed ≡ false → length bytes.now ≡ 0 → IsOk result }
         ensures same_script { (self.new.step ≡ self.old.step) × (self.new.good ≡ self.old.good) }
     {

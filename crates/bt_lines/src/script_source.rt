@@ -117,12 +117,15 @@ impl Source for ScriptSource<'_> {
 
     ghost end_told = { λ s. s.end_told };
 
+    ghost read_fails = { λ _ after. after.has_failed ≡ true };
+
     fn read(&mut self, block: &mut [u8]) -> Result<usize, DeviceFailed>
         ensures within { IfOk result (λ n. n ≤ length block.new) }
         ensures bytes { ReadConsumes (Some (drop self.old.given self.old.bytes))
             (Some (drop self.new.given self.new.bytes)) result block.new }
         ensures served { OnOk result (self.new.has_failed ≡ self.old.has_failed) }
         ensures failed { OnErr result (self.new.has_failed ≡ true) }
+        ensures refused { OnErr result (self.new.has_failed ≡ true) }
         ensures end { TellsEnd self.old.end_told self.new.end_told result block.new }
 
         ensures spent { IsErr result ↔ IsTrue (is_spent self.old.good self.old.given) }

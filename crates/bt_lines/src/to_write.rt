@@ -60,7 +60,8 @@ impl<W: Write> Sink for ToWrite<W> {
             (W.contents (writer_of self.new)) result bytes.now }
         ensures served { OnOk result (write_has_failed self.new ≡ write_has_failed self.old) }
         ensures failed { OnErr result (write_has_failed self.new ≡ true) }
-        ensures for_good { IsTrue (write_has_failed self.old) → IsErr result }
+        ensures for_good { IsTrue (write_has_failed self.old)
+            → IsErr result × (self.new ≡ self.old) }
         ensures unflushed { write_has_failed self.old ≡ false
             → write_is_flushed self.new ≡ false }
     {
@@ -82,7 +83,8 @@ impl<W: Write> Sink for ToWrite<W> {
         ensures flushed { OnOk result (write_is_flushed self.new ≡ true) }
         ensures served { OnOk result (write_has_failed self.new ≡ write_has_failed self.old) }
         ensures failed { OnErr result (write_has_failed self.new ≡ true) }
-        ensures for_good { IsTrue (write_has_failed self.old) → IsErr result }
+        ensures for_good { IsTrue (write_has_failed self.old)
+            → IsErr result × (self.new ≡ self.old) }
     {
         if self.has_failed {
             return Err(DeviceFailed);

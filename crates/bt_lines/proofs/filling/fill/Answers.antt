@@ -5,27 +5,27 @@ use Rattle.bt_lines.proofs.filling.fill.Goals as goal
 pub reads-init : goal.reads-init
 reads-init g c = at_first _ _ _ _ _ _ _ c.requires.empty c.requires.counted
 
-pub returns-in-Err : goal.returns-in-Err
-returns-in-Err g c = at_refusal _ _ _ _ _ _ _ _ _ _ c.reads.invariant _ _ _ c.move_piece.ensures _ c.in-Err.is
+pub returns-in-Err-clause-fills : goal.returns-in-Err-clause-fills
+returns-in-Err-clause-fills g c = at_refusal _ _ _ _ _ _ _ _ _ _ c.reads.invariant _ _ _ c.move_piece.ensures _ c.in-Err.is
 
-pub returns-in-Ok-true : goal.returns-in-Ok-true
-returns-in-Ok-true g c = at_feed _ _ _ _ _ _ _ _ _ _ c.reads.invariant _ _ _ c.move_piece.ensures (c.in-Ok-true.is ∙ ap Ok c.in-Ok-true.field-0-test)
+pub returns-in-Ok-true-clause-fills : goal.returns-in-Ok-true-clause-fills
+returns-in-Ok-true-clause-fills g c = at_feed _ _ _ _ _ _ _ _ _ _ c.reads.invariant _ _ _ c.move_piece.ensures (c.in-Ok-true.is ∙ ap Ok c.in-Ok-true.field-0-test)
 
 pub ask_more-requires : goal.ask_more-requires
 ask_more-requires g c = record { counted = c.reads.invariant.within }
 
 pub reads-preserved : goal.reads-preserved
 reads-preserved g c =
-    more_came _ _ _ _ _ _ _ _ _ _ c.reads.invariant _ _ _ c.move_piece.ensures _ _ _ (c.in-Ok-false.is ∙ ap Ok c.in-Ok-false.field-0-test) c.in-Bytes.ensures
+    more_came _ _ _ _ _ _ _ _ _ _ c.reads.invariant _ _ _ c.move_piece.ensures _ _ _ (c.in-Ok-false.is ∙ ap Ok c.in-Ok-false.field-0-test) c.in-Bytes.ensures.asks
 
-pub returns-in-NoBytes : goal.returns-in-NoBytes
-returns-in-NoBytes g c =
-    none_came _ _ _ _ _ _ _ _ _ _ c.reads.invariant _ _ _ c.move_piece.ensures _ _ _ (c.in-Ok-false.is ∙ ap Ok c.in-Ok-false.field-0-test) c.in-NoBytes.ensures
+pub returns-in-NoBytes-clause-fills : goal.returns-in-NoBytes-clause-fills
+returns-in-NoBytes-clause-fills g c =
+    none_came _ _ _ _ _ _ _ _ _ _ c.reads.invariant _ _ _ c.move_piece.ensures _ _ _ (c.in-Ok-false.is ∙ ap Ok c.in-Ok-false.field-0-test) c.in-NoBytes.ensures.asks
 
-pub returns-in-BadRead : goal.returns-in-BadRead
-returns-in-BadRead g c =
-    read_failed _ _ _ _ _ _ _ _ _ _ c.reads.invariant _ _ _ c.move_piece.ensures _ _ _ (c.in-Ok-false.is ∙ ap Ok c.in-Ok-false.field-0-test) c.in-BadRead.ensures
+pub returns-in-BadRead-clause-fills : goal.returns-in-BadRead-clause-fills
+returns-in-BadRead-clause-fills g c =
+    read_failed _ _ _ _ _ _ _ _ _ _ c.reads.invariant _ _ _ c.move_piece.ensures _ _ _ (c.in-Ok-false.is ∙ ap Ok c.in-Ok-false.field-0-test) c.in-BadRead.ensures.asks
 
-pub returns-in-PastBound : goal.returns-in-PastBound
-returns-in-PastBound g c =
-    past_bound _ _ _ _ _ _ _ _ _ _ c.reads.invariant _ _ _ c.move_piece.ensures _ _ _ (c.in-Ok-false.is ∙ ap Ok c.in-Ok-false.field-0-test) c.in-PastBound.ensures
+pub returns-in-PastBound-clause-fills : goal.returns-in-PastBound-clause-fills
+returns-in-PastBound-clause-fills g c =
+    past_bound _ _ _ _ _ _ _ _ _ _ c.reads.invariant _ _ _ c.move_piece.ensures _ _ _ (c.in-Ok-false.is ∙ ap Ok c.in-Ok-false.field-0-test) c.in-PastBound.ensures.asks

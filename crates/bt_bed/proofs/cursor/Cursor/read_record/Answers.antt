@@ -113,7 +113,7 @@ returns-then-branch-clause-placed g c =
     let place : Place = record { input = c.input-input.result; line = c.in-Some.line.number } in
     let said = rw c.if-branch.true at c.in_ok-take_line.ensures in
     let taken = subst (λ rule. LineTaken (g.Q.Sorted.sorting rule) c.in-Some.line.number c.in-Some.line.text.now c.loop-line.self.neighbours true c.take_line.new.self) c.loop-line.invariant.rule said in
-    placed_taken g.S.Source.left g.S.Source.has_failed g.S.Source.end_told sorting None place (line_seen c.in-Some.line) c.next.follows.lender-at-none c.loop-line.self.neighbours c.take_line.new.self true
+    placed_taken g.S.Source.left g.S.Source.has_failed g.S.Source.end_told sorting place (line_seen c.in-Some.line) c.next.follows.lender-at-none c.loop-line.self.neighbours c.take_line.new.self true gives.answers.goes
     (rw c.loop-line.invariant.last (known_last g.S.Source.left g.S.Source.has_failed g.S.Source.end_told _ _ c.args.self.now.reader c.args.self.now.neighbours c.requires.placed)) gives.answers.at taken
 
 pub returns-clause-placed : goal.returns-clause-placed
