@@ -8,6 +8,9 @@ use std::os::unix::fs::MetadataExt;
 // The name by which the system knows what standard input reads.
 const STANDARD_INPUT: &str = "/dev/stdin";
 
+// The same on Linux where there is no `/dev`, as in some containers.
+const FIRST_DESCRIPTOR: &str = "/proc/self/fd/0";
+
 /// Whether a name leads to a regular file that is an input of the plan, as by a link or another spelling.
 /// To create the output there would empty that input.
 pub fn is_input(rt: &HostRuntime, plan: &Plan, name: &str) -> bool {
@@ -40,13 +43,21 @@ impl FileIdentity {
         })
     }
 
+    // That of standard input.
+    fn of_standard_input(rt: &HostRuntime) -> Option<FileIdentity> {
+        match FileIdentity::of(rt, STANDARD_INPUT) {
+            Some(file) => Some(file),
+            None => FileIdentity::of(rt, FIRST_DESCRIPTOR),
+        }
+    }
+
     // Whether the input of this name reads the file.
     fn is_read_as(self, rt: &HostRuntime, name: &str) -> bool {
-        let path = match input_named(name) {
-            Input::Standard => STANDARD_INPUT,
-            Input::File(name) => name,
+        let input = match input_named(name) {
+            Input::Standard => FileIdentity::of_standard_input(rt),
+            Input::File(name) => FileIdentity::of(rt, name),
         };
-        match FileIdentity::of(rt, path) {
+        match input {
             Some(read) => read.device == self.device && read.number == self.number,
             None => false,
         }
