@@ -2,6 +2,7 @@ pub mod PiecesLemmas
 pub mod BlockLemmas
 pub mod ColumnLemmas
 pub mod EightLemmas
+pub mod EarlyLemmas
 pub mod FillingLemmas
 pub mod NumberLemmas
 pub mod OutputLemmas

@@ -1,5 +1,6 @@
 pub mod Adapter
 pub mod Device
+pub mod Early
 pub mod Fault
 pub mod Script
 pub mod Lines

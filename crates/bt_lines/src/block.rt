@@ -6,8 +6,8 @@ ghost use Rattle.std.specs.Io.KnownBytes.{Consumes, IsAtEnd, Keeps};
 ghost use Rattle.bt_lines.specs.Output.{block_size};
 
 use crate::device::{DeviceFailed, Source};
+use crate::feeds::first_feed;
 use crate::line::LineEnd;
-use memchr::memchr;
 
 /// How many bytes a reader takes ahead at most, and an output holds back.
 pub const BLOCK: usize = 8192;
@@ -73,7 +73,7 @@ impl Block {
     pub(crate) fn find_feed(&self) -> Option<usize>
         ensures { IsFirstFeed (unread self.now) result }
     {
-        memchr(b'\n', self.unread())
+        first_feed(self.unread())
     }
 
     // Takes bytes from the front.

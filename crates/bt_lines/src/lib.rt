@@ -23,8 +23,10 @@
 mod block;
 mod column_iter;
 mod device;
+mod early;
 mod fault;
 mod faults;
+mod feeds;
 mod filling;
 mod from_read;
 mod from_right;

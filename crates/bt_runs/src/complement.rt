@@ -16,7 +16,7 @@ ghost use Rattle.bt_lines.specs.Putting.{Adds};
 
 use crate::engine::Engine;
 use crate::failure::Failure;
-use bt_bed::{BedRef, Genome, put_interval};
+use bt_bed::{BedRef, Genome, is_same_name, put_interval};
 use bt_lines::{Fault, Out, Sink};
 use std::marker::Model;
 
@@ -189,7 +189,7 @@ fn is_on(genome: &Genome, current: Option<Reached>, chrom: &[u8]) -> bool
 {
     match current {
         None => false,
-        Some(reached) => genome.name(reached.rank) == chrom,
+        Some(reached) => is_same_name(genome.name(reached.rank), chrom),
     }
 }
 

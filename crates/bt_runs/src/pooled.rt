@@ -15,7 +15,7 @@ ghost use Rattle.bt_runs.specs.Taking.{IsForRun, SettlesRuns, TakesNext, run_at}
 use crate::engine::Engine;
 use crate::failure::Failure;
 use crate::merge_strand::MergeStrand;
-use bt_bed::{BedRef, Strand, put_interval};
+use bt_bed::{BedRef, Strand, is_same_name, put_interval};
 use bt_lines::{Fault, Out, Sink};
 use std::alloc::{AllocError, Global};
 use std::marker::Model;
@@ -135,7 +135,7 @@ impl Pooled {
           kept = interval_of (feature_lent bed.now) ∷ [];
         }) }
     {
-        if self.chrom.as_slice() != bed.chrom {
+        if !is_same_name(self.chrom.as_slice(), bed.chrom) {
             self.chrom.clear();
             self.chrom.extend_from_slice(bed.chrom)?;
         }
@@ -218,5 +218,5 @@ fn has_passed(bed: &BedRef<'_>, chrom: &[u8], run: Run, gap: u64) -> bool
     requires gap_in_range { gap ≤ max_number }
     ensures { result ≡ is_passed gap (interval_of (feature_lent bed.now)) (run_at chrom.now run) }
 {
-    chrom != bed.chrom || run.stop + gap < bed.start
+    !is_same_name(chrom, bed.chrom) || run.stop + gap < bed.start
 }

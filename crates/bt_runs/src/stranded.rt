@@ -12,7 +12,7 @@ ghost use Rattle.bt_runs.specs.Waiting.{left_runs, passed_runs, placed_runs, wai
 use crate::engine::Engine;
 use crate::failure::Failure;
 use crate::waiting::{Waiting, WaitingRuns};
-use bt_bed::{BedRef, put_interval};
+use bt_bed::{BedRef, is_same_name, put_interval};
 use bt_lines::{Fault, Out, Sink};
 use std::alloc::{AllocError, Global};
 use std::marker::Model;
@@ -64,7 +64,7 @@ impl Stranded {
     fn take<K: Sink>(&mut self, bed: &BedRef<'_>, out: &mut Out<K>) -> Result<(), Failure>
         ensures { TakesNext self.old (feature_lent bed.now) out.old result self.new out.new }
     {
-        let here = self.chrom.as_slice() == bed.chrom;
+        let here = is_same_name(self.chrom.as_slice(), bed.chrom);
         let reach = bed.start.saturating_sub(self.gap);
         match put_passed(self.chrom.as_slice(), here, reach, &mut self.runs, out) {
             Err(_) => return Err(Failure::Write),
@@ -156,7 +156,7 @@ fn open(bed: &BedRef<'_>, chrom: &mut Vec<u8>, runs: &mut WaitingRuns) -> Result
     ensures { OnOk result ((chrom.new.items ≡ bed.now.chrom.now)
         × (runs.new ≡ runs.old ++ waiting_from (feature_lent bed.now) ∷ [])) }
 {
-    if chrom.as_slice() != bed.chrom {
+    if !is_same_name(chrom.as_slice(), bed.chrom) {
         chrom.clear();
         chrom.extend_from_slice(bed.chrom)?;
     }

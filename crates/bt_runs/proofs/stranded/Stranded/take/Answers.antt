@@ -7,14 +7,14 @@ use Rattle.bt_runs.proofs.stranded.Stranded.take.Goals.{in-Ok-open, in-Err-open}
 
 pub returns-in-Err : goal.returns-in-Err
 returns-in-Err g c =
-    let here : c.eq-here.result ≡ bytes_eq c.self.inside.chrom.items c.args.bed.now.chrom.now = search rules in
+    let here : c.is_same_name-here.result ≡ bytes_eq c.self.inside.chrom.items c.args.bed.now.chrom.now = search rules in
     let reach : c.saturating_sub-reach.result ≡ c.args.bed.now.start - c.self.inside.gap = search rules in
     let adds = rw (here, reach, c.as_slice-2.ensures.value) at c.in-Err.ensures.adds in
     rw (← c.self.view_is) (fails_settling c.self.inside.gap c.self.inside.chrom.items c.self.inside.runs (option_map fault_of c.self.inside.failure) (feature_lent c.args.bed.now) c.args.out.now c.put_passed.new.out _ _ adds)
 
 pub returns-then-join : goal.returns-then-join
 returns-then-join g c =
-    let here : c.eq-here.result ≡ bytes_eq c.self.inside.chrom.items c.args.bed.now.chrom.now = search rules in
+    let here : c.is_same_name-here.result ≡ bytes_eq c.self.inside.chrom.items c.args.bed.now.chrom.now = search rules in
     let reach : c.saturating_sub-reach.result ≡ c.args.bed.now.start - c.self.inside.gap = search rules in
     let grown = rw (here, reach, c.as_slice-2.ensures.value) at c.in-Ok.ensures.adds in
     let joined = rw (c.in-Ok.ensures.left, here, reach) at c.join.ensures in
@@ -22,7 +22,7 @@ returns-then-join g c =
 
 pub returns : goal.returns
 returns g c =
-    let here : c.eq-here.result ≡ bytes_eq c.self.inside.chrom.items c.args.bed.now.chrom.now = search rules in
+    let here : c.is_same_name-here.result ≡ bytes_eq c.self.inside.chrom.items c.args.bed.now.chrom.now = search rules in
     let reach : c.saturating_sub-reach.result ≡ c.args.bed.now.start - c.self.inside.gap = search rules in
     let grown = rw (here, reach, c.as_slice-2.ensures.value) at c.in-Ok.ensures.adds in
     let joined = rw (c.in-Ok.ensures.left, here, reach) at c.join.ensures in

@@ -1,0 +1,50 @@
+//! The line feed that ends a line.
+
+ghost use Rattle.bt_lines.specs.Block.{IsFirstFeed};
+
+use crate::early::{WIDTH, early_byte};
+use memchr::memchr;
+
+// Where the first line feed of a text stands. Most lines end in the first sixty-four bytes, which are
+// looked at without a call.
+#[inline(always)]
+pub(crate) fn first_feed(text: &[u8]) -> Option<usize>
+    ensures { IsFirstFeed text.now result }
+{
+    if text.len() < 2 * WIDTH {
+        return late_feed(text);
+    }
+    if let Some(at) = early_byte(text, 0, b'\n') {
+        return Some(at);
+    }
+    if let Some(at) = early_byte(text, WIDTH, b'\n') {
+        return Some(WIDTH + at);
+    }
+    late_feed(text)
+}
+
+// The same wherever it stands.
+fn late_feed(text: &[u8]) -> Option<usize>
+    ensures { IsFirstFeed text.now result }
+{
+    memchr(b'\n', text)
+}
+
+#[cfg(test)]
+mod tests {
+    use super::*;
+
+    // From the last byte to the first each becomes a line feed, so that the first is at each place once, with
+    // others behind it, or at the end of what is looked through.
+    #[test]
+    fn the_first_is_found_at_each_place(rt: HostRuntime) {
+        let mut text = [b'\r'; 130];
+        for behind in 0..130 {
+            let at = 129 - behind;
+            text[at] = b'\n';
+            assert_eq!(rt; first_feed(&text), Some(at));
+            assert_eq!(rt; first_feed(&text[..at]), None);
+            assert_eq!(rt; first_feed(&text[..at + 1]), Some(at));
+        }
+    }
+}
