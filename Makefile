@@ -1,6 +1,6 @@
 # make builds bin/bedtools, make example runs it, make test is the gate, make mutants tries further wrong bodies.
 # make check-docs checks the docs, make check-program the program at its edges, make check-speed its instructions,
-# make check-differences compares it with bedtools 2.30.0. make install PREFIX=.. NAME=.. copies the program, its docs,
+# make check-differences compares it with bedtools 2.30.0, make check-shards runs it in shards. make install PREFIX=.. NAME=.. copies the program, its docs,
 # its manual page and completions, make dist packs them into a tarball, make deb into a Debian package, and
 # make check-packages tries all three.
 PREFIX ?= /usr/local
@@ -19,9 +19,10 @@ PROGRAM := bin/bedtools
 LOG := bin/build.log
 SOURCES := crates.txt $(shell find crates -name out -prune -o -type f \( -name '*.rt' -o -name '*.antt' \) -print)
 
-DOCS := README.md CHANGELOG.md LICENSE $(wildcard docs/*.md docs/*.svg) bench/README.md bench/chart.svg
+DOCS := README.md CHANGELOG.md LICENSE $(wildcard docs/*.md docs/*.svg) bench/README.md bench/chart.svg \
+	$(shell find examples/shards -type f)
 
-.PHONY: all example test mutants check-docs check-program check-speed check-differences check-packages pictures completions \
+.PHONY: all example test mutants check-docs check-program check-speed check-differences check-shards check-packages pictures completions \
 	install dist deb clean
 
 all: $(PROGRAM)
@@ -75,6 +76,10 @@ check-speed: $(PROGRAM)
 check-differences: $(PROGRAM)
 	docs/differences.py
 	docs/recipes.py
+
+# The recipes of docs/SHARDS.md, whose bytes have to be those of the whole, and times with 1, 2 and 4 jobs.
+check-shards: $(PROGRAM)
+	docs/shards.py
 
 # What make install, make dist and make deb make, tried in folders of their own.
 check-packages: $(PROGRAM)

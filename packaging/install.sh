@@ -12,7 +12,9 @@ top=$(dirname "$0")/..
 commands='merge|complement|intersect|subtract|genomecov|bamtobed|maskfasta'
 
 for doc; do
-    install -D -m 644 "$top/$doc" "$share/doc/$name/$doc"
+    mode=644
+    [ ! -x "$top/$doc" ] || mode=755
+    install -D -m "$mode" "$top/$doc" "$share/doc/$name/$doc"
 done
 
 # In the examples `bedtools` followed by a command becomes the name; fault lines, as `bedtools merge: ..`, stay.
