@@ -1,6 +1,6 @@
 //! The engine of `bedtools genomecov -bg`: the records that are open, and the interval that isn't ended.
 
-ghost use Rattle.std.specs.Prelude.{◌≡◌, false, true, ◌<◌, ◌≤◌, ℕ, List, [], length, flat_map, min, slice_range, Option, Some, None, Ok, Err, IfOk, OnErr, OnOk};
+ghost use Rattle.std.specs.Prelude.{◌≡◌, false, true, ◌<◌, ◌≤◌, ◌*◌, ℕ, List, [], length, flat_map, min, slice_range, Option, Some, None, Ok, Err, IfOk, OnErr, OnOk};
 ghost use Rattle.bt_bed.specs.Bed.{feature_lent};
 ghost use Rattle.bt_bed.specs.GenomeTable.{entries};
 ghost use Rattle.bt_lines.specs.Putting.{Adds};
@@ -86,6 +86,14 @@ impl<'g> Coverage<'g> {
             held: OpenRecords::new(alloc),
             failure: None,
         }
+    }
+
+    /// How many records are in memory: those that are kept, and at most as many that have ended.
+    pub fn stored_len(&self) -> usize
+        ensures all { length self.now.kept ≤ result }
+        ensures few { result ≤ 2 * length self.now.kept }
+    {
+        self.held.stored()
     }
 }
 

@@ -71,6 +71,14 @@ impl OpenRecords {
         self.ends.len()
     }
 
+    // How many are in memory: those that are open, and some that have ended.
+    pub(crate) fn stored(&self) -> usize
+        ensures all { length self.now.spans ≤ result }
+        ensures few { result ≤ 2 * length self.now.spans }
+    {
+        self.spans.len()
+    }
+
     // Goes to a position at which none is open.
     pub(crate) fn clear(&mut self, at: u64)
         ensures { self.new ≡ none_open_at at }

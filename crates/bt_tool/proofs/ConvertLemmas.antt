@@ -32,11 +32,11 @@ use Rattle.bt_tool.specs.Kinds.{IsOneOf}
 use Rattle.bt_tool.specs.ConvertReport.{alignment_lines, bamtobed_report, bamtobed_settles}
 use Rattle.bt_tool.specs.ConvertSteps.{LineRefused, LineUnwritten, LineWritten, lines_if, sam_reader}
 use Rattle.bt_tool.specs.Driving.{WritesInput}
-use Rattle.bt_tool.specs.Feeding.{ComeFirst, FeedsAll, FeedsUpTo, IsFresh, StopCause, Took, member_items}
+use Rattle.bt_tool.specs.Feeding.{ComeFirst, FeedsAll, FeedsUpTo, GoesOn, IsFresh, StopCause, Took, member_items}
 use Rattle.bt_tool.specs.RecordReport.{members_report, members_settle, report_by}
 use Rattle.bt_tool.specs.Written.{Written}
 use Rattle.bt_tool.proofs.DrivingLemmas.{Starts, drives_all, drives_fault}
-use Rattle.bt_tool.proofs.FeedLemmas.{Fed, at_growth, at_line, at_read, at_write, come_more, fed_all, fed_more, fed_none, fed_up_to, none_grows, taken, up_to}
+use Rattle.bt_tool.proofs.FeedLemmas.{Fed, at_growth, at_line, at_read, at_write, come_more, fed_all, fed_more, fed_none, fed_up_to, goes_failed, goes_same, taken, up_to}
 use Rattle.bt_tool.proofs.StopLemmas.{coming_is}
 use Rattle.bt_tool.proofs.WriteLemmas.{writes_same}
 
@@ -143,7 +143,7 @@ module _ {S : Type 0} (split cigar : Bool) (left : S → Option (List ℕ)) (fai
 
       -- so many alignments were taken, where the next line is asked for
       took_by : (new : LineReader S) (past : List (Member Alignment)) (later : Output) → (bytes : List ℕ) × Hands left now bytes new → NearBehind (lines_left left now) (left (source_of new))
-          → Grows grown.took later.took → Took lines_of (IsOneOf is_sam_kind) Any left failed (sam_reader old) out past new later
+          → GoesOn grown later → Took lines_of (IsOneOf is_sam_kind) Any left failed (sam_reader old) out past new later
       took_by new past later hands near grows =
           let count = lines_given now in
           let one : 1 ≡ suc count - count = omega arith in
@@ -155,7 +155,7 @@ module _ {S : Type 0} (split cigar : Bool) (left : S → Option (List ℕ)) (fai
           → FeedsAll lines_of (IsOneOf is_sam_kind) Any left failed Any (sam_reader old) out new grown
       converts_all new ends sound =
           fed_all lines_of (IsOneOf is_sam_kind) Any left failed end (sam_reader old) out fresh g.past now (coming left now) grown g.fed Any new
-          (took_by new g.past grown (ends.bytes.0, ends.bytes.1) (near_none (lines_left left now) (left (source_of new)) ends.none_left) (none_grows grown.took)) tt
+          (took_by new g.past grown (ends.bytes.0, ends.bytes.1) (near_none (lines_left left now) (left (source_of new)) ends.none_left) (goes_same grown)) tt
           (subst (λ o. IfSome o (λ good. good ≡ ends_with None)) (sym coming_now) (none_in (input_of now) (lines_left left now) ends.none_left)) ends.served (sound.within ends.goes)
 
       near_fault : (new : LineReader S) (fault : Told) → GivesFault left failed now fault new → NearBehind (lines_left left now) (left (source_of new))
@@ -176,7 +176,7 @@ module _ {S : Type 0} (split cigar : Bool) (left : S → Option (List ℕ)) (fai
           → FeedsUpTo lines_of (IsOneOf is_sam_kind) Any left failed (sam_reader old) out fault new grown
       stops_reading new fault gives =
           fed_up_to lines_of (IsOneOf is_sam_kind) Any left failed end (sam_reader old) out fresh g.past now (coming left now) grown g.fed fault new
-          (took_by new g.past grown gives.bytes (near_fault new fault gives) (none_grows grown.took)) (unread_cause new fault gives (gives.first g.fed.clear))
+          (took_by new g.past grown gives.bytes (near_fault new fault gives) (goes_same grown)) (unread_cause new fault gives (gives.first g.fed.clear))
 
       -- a line was given
       module _ (new : LineReader S) (line : TextLine) (gives : GivesLine left failed now line new) (sound : IsSound left end new) where
@@ -199,7 +199,7 @@ module _ {S : Type 0} (split cigar : Bool) (left : S → Option (List ℕ)) (fai
             let none = subst (λ o. IfSome o (λ good. good ≡ ends_with (Some (fault_at_line (input_of now) line.number refused.kind)))) (sym coming_now)
             (wrong (input_of now) (lines_left left now) (lines_left left new) line refused.kind gives.first refused.says) in
             subst (λ o. FeedsUpTo lines_of (IsOneOf is_sam_kind) Any left failed (sam_reader old) out fault new o) (sym refused.unchanged)
-            (fed_up_to lines_of (IsOneOf is_sam_kind) Any left failed end (sam_reader old) out fresh g.past now (coming left now) grown g.fed fault new (took_by new g.past grown hands_line near_line (none_grows grown.took))
+            (fed_up_to lines_of (IsOneOf is_sam_kind) Any left failed end (sam_reader old) out fresh g.past now (coming left now) grown g.fed fault new (took_by new g.past grown hands_line near_line (goes_same grown))
             (at_line lines_of (IsOneOf is_sam_kind) Any left failed end (sam_reader old) out fresh g.past now (coming left now) grown g.fed fault new line.number refused.kind refused.is (wrong_kinds line.text refused.kind refused.says)
             (subst (λ f. IfSome (coming left now) (λ good. good ≡ ends_with (Some f))) place none) gives.served (sound.within gives.goes)))
 
@@ -217,7 +217,7 @@ module _ {S : Type 0} (split cigar : Bool) (left : S → Option (List ℕ)) (fai
             let lines = bed_lines converting.split converting.with_cigar a in
             let is : lines ≡ bed_lines split cigar a = ap (λ s. bed_lines s converting.with_cigar a) same ∙ ap (λ c. bed_lines split c a) same_cigar in
             at_write lines_of (IsOneOf is_sam_kind) Any left failed end (sam_reader old) out fresh g.past now (coming left now) grown g.fed (member_on line a) fault new later lines
-            (took_by new (g.past ++ member_on line a ∷ []) later hands_line near_line fails.grows)
+            (took_by new (g.past ++ member_on line a ∷ []) later hands_line near_line (goes_failed grown later fails.grows fails.failed))
             (subst (λ o. IfSome o (λ good. (rest : List (Member Alignment)) × (good.members ≡ member_on line a ∷ rest))) (sym coming_now)
             (first_spoken (input_of now) (lines_left left now) (lines_left left new) line a gives.first unwritten.says))
             (pushed a ∙ ap (λ l. lines_of (member_items g.past) ++ l) (sym is)) fails.is fails.front fails.failed fails.sink_failed gives.served
@@ -308,7 +308,7 @@ module _ {S : Type 0} (split cigar : Bool) (left : S → Option (List ℕ)) (fai
         let is = subst (λ (m : Converting). FeedsAll (alignment_lines m.split m.with_cigar) (IsOneOf is_sam_kind) (λ past. ⊤) left failed (λ past. ⊤) (sam_reader reader) out new grown) same fed in
         as_reported None
         (drives_all (bamtobed_written split cigar) (IsOneOf is_sam_kind) (λ past. ⊤) (λ past. ⊤) more_lines more_lines left failed sam_format (λ text. tt) (sam_reader reader) first out starts_reader new last ended
-        (λ past. ⊤) grown is grown ([], Appends-nil grown.took) [] (sym (append-nil _)) (Appends-nil grown.put) refl)
+        (λ past. ⊤) grown is grown (goes_same grown) [] (sym (append-nil _)) (Appends-nil grown.put) refl)
 
     -- or it was read up to a fault
     pub writes_up_to : (fault : Told) → FeedsUpTo (alignment_lines converting.split converting.with_cigar) (IsOneOf is_sam_kind) (λ past. ⊤) left failed (sam_reader reader) out fault new grown → Writes (Some fault)

@@ -32,11 +32,11 @@ use Rattle.bt_bed.specs.declared.order.ChromOrder.{Ghosts}
 use Rattle.bt_bed.specs.declared.records.Records.{Records}
 use Rattle.bt_bed.proofs.GoodBedLemmas.{placed_good, non_empty_good}
 use Rattle.bt_tool.specs.Driving.{IsOfInput, IsReported, ReadsNoFurther, TellsDevice, TellsInput, WritesInput}
-use Rattle.bt_tool.specs.Feeding.{StopCause, CutsLines, IsFresh, KeepsNear, PutsFront, PutsLines, FeedsAll, FeedsUpTo, StopsAtLine, StopsReading, TookButBlock, member_items}
+use Rattle.bt_tool.specs.Feeding.{StopCause, CutsLines, IsFresh, KeepsNear, PutsFront, PutsLines, FeedsAll, FeedsUpTo, GoesOn, StopsAtLine, StopsReading, TookButBlock, member_items}
 use Rattle.bt_tool.specs.Inputs.{Reads}
 use Rattle.bt_tool.specs.RecordReport.{good_report, members_report, members_settle, report_by}
 use Rattle.bt_tool.specs.Written.{Written}
-use Rattle.bt_tool.proofs.FeedLemmas.{front_all, grows_both, text_grows, took_later}
+use Rattle.bt_tool.proofs.FeedLemmas.{front_all, goes_works, grows_both, text_grows, took_later}
 use Rattle.bt_tool.proofs.FaultLemmas.{memory_no_write, placed_no_write, some_is}
 use Rattle.bt_tool.proofs.HandedLemmas.{cut_good, handed_near}
 use Rattle.bt_tool.proofs.HandedReader.{consumed_by, consumes_parts, cut_text, handed_all, handed_part, passes_by}
@@ -123,16 +123,21 @@ module _ {E : Type 0} (MayTake : E → List Feature → Type 0) (Stands : E → 
   pub finish_serves : {A : Type 0} {done : A} → Finishes MayTake Stands engine_fault settled whole last out (Ok done) grown → grown.sink_has_failed ≡ out.sink_has_failed
   finish_serves finished = finished.answers.works.sink_served
 
+  -- the output goes on
+  pub finish_goes : {A : Type 0} {done : A} → Finishes MayTake Stands engine_fault settled whole last out (Ok done) grown → GoesOn out grown
+  finish_goes finished = goes_works out grown finished.grows finished.answers.works
+
   -- the lines that were left couldn't be put
   pub record CutAtEnd (fault : Told) : Type 0 where
     pub is : fault ≡ write_failed
     pub cuts : CutsRest (settled first past) (whole first past) out grown
+    pub failed : grown.has_failed ≡ true
     pub sink_failed : grown.sink_has_failed ≡ true
 
   cut_at_end : (fault : Told) → Stands first past last → MayTake first past → engine_fault last ≡ None
       → RepeatsAtEnd MayTake Stands engine_fault settled whole last out fault grown ⊎ FailsToPutLeft MayTake Stands engine_fault settled whole last out fault grown → CutAtEnd fault
   cut_at_end fault stands takes going (inl again) = absurd (let apart : None ≡ Some fault = sym going ∙ again.is in cc)
-  cut_at_end fault stands takes going (inr fails) = record { is = fails.is; cuts = fails.cuts first past stands takes; sink_failed = fails.sink_failed }
+  cut_at_end fault stands takes going (inr fails) = record { is = fails.is; cuts = fails.cuts first past stands takes; failed = fails.failed; sink_failed = fails.sink_failed }
 
   pub finish_cut : {A : Type 0} (fault : Fault) → Stands first past last → MayTake first past → Finishes MayTake Stands engine_fault settled whole last out {A = A} (Err fault) grown
       → CutAtEnd (told fault)
@@ -181,7 +186,7 @@ module _ {S A State : Type 0} (written : Written A) (kinds : Kind → Type 0) (S
   -- how far the input was read
   near_by : (text before took : List ℕ) → left first ≡ Some text → out.put ≡ Some before → out.took ≡ Some took → (bytes : List ℕ) × Hands left old.below bytes new → (grown : Output)
       → KeepsNear left written.settled old out new grown
-      → ReadsNoFurther (λ lines. ⊤) (members_settle written format) text (left last) before grown.took
+      → ReadsNoFurther (λ lines. ⊤) (members_settle written format) text (left last) before grown.took (grown.has_failed ≡ true) grown.put
   near_by text before took e put known hands grown keeps =
       let handed = consumed hands.0 hands.1 in
       let parts = consumes_parts (left first) (left last) hands.0 text e handed in
@@ -200,7 +205,8 @@ module _ {S A State : Type 0} (written : Written A) (kinds : Kind → Type 0) (S
         handed = hands.0;
         consumed = subst (λ o. Consumes o (left last) hands.0) e handed;
         read = handed_near (suc keeps.count) text hands.0 parts.0 parts.2 near;
-        settled = rw less (settled before took put known);
+        settled = rw less (settled.took before took put known);
+        kept = rw less (elim settled.put [ inl failed ↦ inl failed | inr kept ↦ inr (kept before put) ]);
         beside = tt;
       }
 
@@ -303,7 +309,7 @@ module _ {S A State : Type 0} (written : Written A) (kinds : Kind → Type 0) (S
       named = λ told e. subst (λ t. TellsInput left failed kinds First first last t ⊎ TellsDevice grown.sink_has_failed t) (some_is fault told e) (named_by fed.past fed.took.bytes fed.cause);
     }
 
-  module _ (Stands : List A → Type 0) (grown : Output) (fed : FeedsAll written.settled kinds Sorted left failed Stands old out new grown) (finished : Output) (grows : Grows grown.took finished.took) where
+  module _ (Stands : List A → Type 0) (grown : Output) (fed : FeedsAll written.settled kinds Sorted left failed Stands old out new grown) (finished : Output) (goes : GoesOn grown finished) where
     abbrev Ends : Option Told → Type 0
     Ends fault = WritesInput left failed kinds (members_report written format) (members_settle written format) first out fault last finished
 
@@ -315,7 +321,7 @@ module _ {S A State : Type 0} (written : Written A) (kinds : Kind → Type 0) (S
 
     settles_later : (lines : Option (List TextLine)) (settled : List TextLine → List ℕ) → IfSome lines (λ lines. TookButBlock out (settled lines) grown) → IfSome lines (λ lines. TookButBlock out (settled lines) finished)
     settles_later None settled h = tt
-    settles_later (Some lines) settled h = took_later out grown finished (settled lines) fed.took.grows grows h
+    settles_later (Some lines) settled h = took_later out grown finished (settled lines) fed.took.grows goes h
 
     near_later : KeepsNear left written.settled old out new grown → KeepsNear left written.settled old out new finished
     near_later keeps = record {
@@ -324,7 +330,7 @@ module _ {S A State : Type 0} (written : Written A) (kinds : Kind → Type 0) (S
       settles = settles_later (lines_left left old.below) (λ lines. written.settled (member_items (good_from old.format (input_of old.below) old.state (take keeps.count lines)).members)) keeps.settles;
     }
 
-    near_end : (text before taken : List ℕ) → left first ≡ Some text → out.put ≡ Some before → out.took ≡ Some taken → ReadsNoFurther (λ lines. ⊤) (members_settle written format) text (left last) before finished.took
+    near_end : (text before taken : List ℕ) → left first ≡ Some text → out.put ≡ Some before → out.took ≡ Some taken → ReadsNoFurther (λ lines. ⊤) (members_settle written format) text (left last) before finished.took (finished.has_failed ≡ true) finished.put
     near_end text before taken e put known = near_by text before taken e put known fed.took.bytes finished (near_later fed.took.near)
 
     pub drives_all : (rest : List ℕ) → written.whole (member_items fed.past) ≡ written.settled (member_items fed.past) ++ rest → Appends grown.put finished.put rest → finished.sink_has_failed ≡ grown.sink_has_failed → Ends None
@@ -343,7 +349,7 @@ module _ {S A State : Type 0} (written : Written A) (kinds : Kind → Type 0) (S
               let report = report_whole text e in
               let now = text_grows grown.put finished.put before (written.settled (member_items fed.past)) rest (written.whole (member_items fed.past)) is appends (fed.puts before put) in
               (written.whole (member_items fed.past), [], ap (λ r. r.output) report ∙ sym (append-nil (written.whole (member_items fed.past))), now);
-          grows = grows_both out.took grown.took finished.took fed.took.grows grows;
+          grows = grows_both out.took grown.took finished.took fed.took.grows goes.took;
           served = λ e. (ap failed (sym ended) ∙ fed.served ∙ ap failed starts.source, works ∙ fed.works.sink_served);
           near = near_end;
           named = λ told e. cc;
@@ -362,7 +368,7 @@ module _ {S A State : Type 0} (written : Written A) (kinds : Kind → Type 0) (S
             front_all finished.took grown.put before (written.settled (member_items fed.past)) rest (written.whole (member_items fed.past)) whole (fed.puts before put) front,
           );
       kept = λ other. absurd (other (ap Some is));
-      grows = grows_both out.took grown.took finished.took fed.took.grows grows;
+      grows = grows_both out.took grown.took finished.took fed.took.grows goes.took;
       served = λ e. cc;
       near = near_end;
       named = λ told e. inr (inl (sym (some_is fault told e) ∙ is, sink));

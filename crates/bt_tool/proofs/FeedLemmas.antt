@@ -35,9 +35,10 @@ use Rattle.bt_bed.specs.declared.records.Records.{Records}
 use Rattle.bt_bed.proofs.GoodLemmas.{first_from}
 use Rattle.bt_bed.proofs.TogetherLemmas.{last_of-push, grows_placed}
 use Rattle.bt_tool.proofs.StopLemmas.{StopsBehind, coming_is, stops_ended, stops_faulty, stops_given}
+use Rattle.bt_tool.specs.Telling.{IsPutTo}
 use Rattle.bt_lines.specs.declared.fault.Fault.{Fault}
 use Rattle.bt_runs.specs.Engine.{Feeds as EngineFeeds, NotTaken}
-use Rattle.bt_tool.specs.Feeding.{AreInOrder, StopCause, ComeFirst, IsFresh, KeepsNear, PutsLines, Took, TookButBlock, FeedsAll, FeedsUpTo, member_items}
+use Rattle.bt_tool.specs.Feeding.{AreInOrder, StopCause, ComeFirst, GoesOn, IsFresh, KeepsNear, PutsLines, Took, TookButBlock, FeedsAll, FeedsUpTo, member_items}
 
 -- the first member of what is to come was passed
 pub come_more : {A : Type 0} (old now peeked next : Option (Good A)) (past : List (Member A)) (m : Member A)
@@ -140,16 +141,53 @@ took_more_than (Some first) (Some took) (Some more) taken size e f g h =
     let parts : more ≡ took ++ g.0 = g.1 in
     omega (arith, ap length parts, length-append took g.0, h)
 
--- what the sink took stays taken
-pub took_later : (out grown later : Output) (bytes : List ℕ) → Grows out.took grown.took → Grows grown.took later.took → TookButBlock out bytes grown
+pub none_grows : (o : Option (List ℕ)) → Grows o o
+none_grows o = ([], Appends-nil o)
+
+-- an output goes on as it is, after a failed write, or as it works
+pub goes_same : (out : Output) → GoesOn out out
+goes_same out = record { took = none_grows out.took; put = inr (none_grows out.put); stays_failed = λ failed. failed }
+
+pub goes_failed : (old new : Output) → Grows old.took new.took → new.has_failed ≡ true → GoesOn old new
+goes_failed old new grows failed = record { took = grows; put = inl failed; stays_failed = λ was. failed }
+
+pub goes_works : (old new : Output) → Grows old.took new.took → WorksAsBefore old new → GoesOn old new
+goes_works old new grows works = record { took = grows; put = inr works.put; stays_failed = λ was. works.served ∙ was }
+
+-- bytes that were put stay put
+put_more_than : (mid later : Option (List ℕ)) (size : ℕ) → Grows mid later → IsPutTo size mid → IsPutTo size later
+put_more_than None later size grows kept = cc
+put_more_than (Some mid) None size grows kept = absurd grows.1
+put_more_than (Some mid) (Some later) size grows kept =
+    let same : mid ≡ kept.0 = cc in
+    let parts : later ≡ mid ++ grows.0 = grows.1 in
+    (later, refl, omega (arith, ap length parts, length-append mid grows.0, ap length same, kept.2))
+
+keeps_later : (out grown later : Output) (bytes : List ℕ) → GoesOn grown later
+    → (grown.has_failed ≡ true) ⊎ ((before : List ℕ) → out.put ≡ Some before → IsPutTo (length (before ++ bytes)) grown.put)
+    → (later.has_failed ≡ true) ⊎ ((before : List ℕ) → out.put ≡ Some before → IsPutTo (length (before ++ bytes)) later.put)
+keeps_later out grown later bytes goes (inl failed) = inl (goes.stays_failed failed)
+keeps_later out grown later bytes goes (inr kept) =
+    elim goes.put [
+      | inl failed ↦ inl failed
+      | inr grows ↦ inr (λ before e. put_more_than grown.put later.put (length (before ++ bytes)) grows (kept before e))
+    ]
+
+-- what the sink took stays taken, and what was put stays put
+pub took_later : (out grown later : Output) (bytes : List ℕ) → Grows out.took grown.took → GoesOn grown later → TookButBlock out bytes grown
     → TookButBlock out bytes later
-took_later out grown later bytes f g h before taken e t =
-    took_more_than out.took grown.took later.took taken (length (before ++ bytes)) t f g (h before taken e t)
+took_later out grown later bytes f goes h = record {
+  took = λ before taken e t. took_more_than out.took grown.took later.took taken (length (before ++ bytes)) t f goes.took (h.took before taken e t);
+  put = keeps_later out grown later bytes goes h.put;
+}
 
 -- of lines that were put, the sink took all but a block
 pub took_lines : (out grown : Output) (lines : List ℕ) → PutsLines out lines grown → HoldsBlock grown.took grown.put
     → TookButBlock out lines grown
-took_lines out grown lines puts block before taken e t = took_held grown.took grown.put (before ++ lines) block (puts before e)
+took_lines out grown lines puts block = record {
+  took = λ before taken e t. took_held grown.took grown.put (before ++ lines) block (puts before e);
+  put = inr (λ before e. (before ++ lines, puts before e, omega arith));
+}
 
 -- the lines that are left after some calls, and after one more
 pub lines_on : (start now next : Option (List TextLine)) (given more : ℕ) → given ≤ more
@@ -252,9 +290,6 @@ pub record Fed {S A State : Type 0} (settled : List A → List ℕ) (left : S �
   pub block : HoldsBlock grown.took grown.put
   pub served : failed (source_of now) ≡ failed (source_of old.below)
 
-pub none_grows : (o : Option (List ℕ)) → Grows o o
-none_grows o = ([], Appends-nil o)
-
 -- none yet
 pub fed_none : {S A State : Type 0} (settled : List A → List ℕ) (left : S → Option (List ℕ)) (failed end : S → Bool) (old : MemberReader S A State) (out : Output) → IsFresh left end old → line_fault old.below ≡ None → settled [] ≡ [] → HoldsBlock out.took out.put
     → Fed settled left failed end old out [] old.below (good_coming left old) out
@@ -277,7 +312,7 @@ module _ {S A State : Type 0} (settled : List A → List ℕ) (Kinds : Kind → 
   -- how far the input was read where the reading stops
   near_at : (count : ℕ) (new : LineReader S) (later : Output) → IfSome coming (IsBeyond count) → lines_given now ≤ count
       → IfSome (lines_left left now) (λ lines. IfSome (left (source_of new)) (λ rest. bytes_in (drop (suc count - lines_given now) lines) ≤ length rest + block_size))
-      → Grows grown.took later.took → KeepsNear left settled old out new later
+      → GoesOn grown later → KeepsNear left settled old out new later
   near_at count new later passed from near grows =
       let lines = lines_left left old.below in
       let members = first_members old.format (input_of old.below) old.state lines (good_coming left old) coming past count
@@ -292,11 +327,11 @@ module _ {S A State : Type 0} (settled : List A → List ℕ) (Kinds : Kind → 
   -- these members were taken, of which some may be behind those
   pub taken : (count : ℕ) (new : LineReader S) (given : List (Member A)) (later : Output) → (bytes : List ℕ) × Hands left now bytes new → Sorted (member_items given) → IfSome coming (IsBeyond count) → lines_given now ≤ count
       → IfSome (lines_left left now) (λ lines. IfSome (left (source_of new)) (λ rest. bytes_in (drop (suc count - lines_given now) lines) ≤ length rest + block_size))
-      → Grows grown.took later.took → Took settled Kinds Sorted left failed old out given new later
+      → GoesOn grown later → Took settled Kinds Sorted left failed old out given new later
   taken count new given later hands sorted passed from near grows = record {
     bytes = (g.bytes.0 ++ hands.0, hands_both left old.below now new g.bytes.0 hands.0 g.bytes.1 hands.1);
     sorted = sorted;
-    grows = grows_both out.took grown.took later.took g.grows grows;
+    grows = grows_both out.took grown.took later.took g.grows grows.took;
     near = near_at count new later passed from near grows;
   }
 
@@ -417,7 +452,7 @@ module _ {S O : Type 0} {ghosts : Ghosts O} (settled : List Feature → List ℕ
     (fresh : IsFresh left end (view_of old)) (is_bed : (view_of old).format ≡ bed_format (sorting_of (order_in old))) (g : Going settled Stands left failed end old out now grown) where
   -- so many records were taken, where the reading stops behind so many lines
   taken_more : (new : Records S O ghosts) (given : List (Member Feature)) (later : Output) → (bytes : List ℕ) × Hands left (below now) bytes (below new) → AreInOrder (order_in old) (member_items given)
-      → (count : ℕ) × StopsBehind left (view_of now) count (below new) → Grows grown.took later.took → Took settled (IsBedKind (order_in old)) (AreInOrder (order_in old)) left failed (view_of old) out given (below new) later
+      → (count : ℕ) × StopsBehind left (view_of now) count (below new) → GoesOn grown later → Took settled (IsBedKind (order_in old)) (AreInOrder (order_in old)) left failed (view_of old) out given (below new) later
   taken_more new given later hands sorted (count, stops) grows =
       taken settled (IsBedKind (order_in old)) (AreInOrder (order_in old)) left failed end (view_of old) out fresh g.past (below now) (good_coming left (view_of now)) grown g.fed count (below new) given later hands sorted stops.passed stops.from stops.near grows
 
@@ -426,7 +461,7 @@ module _ {S O : Type 0} {ghosts : Ghosts O} (settled : List Feature → List ℕ
       → EndsMembers left failed (view_of now) (view_of new) → FeedsAll settled (IsBedKind (order_in old)) (AreInOrder (order_in old)) left failed Stands (view_of old) out (below new) grown
   feeds_all new order sound ends =
       fed_all settled (IsBedKind (order_in old)) (AreInOrder (order_in old)) left failed end (view_of old) out fresh g.past (below now) (good_coming left (view_of now)) grown g.fed Stands (below new)
-      (taken_more new g.past grown ends.stays.bytes (g.placed, g.full) (stops_ended left failed end (view_of now) g.none_ahead g.going g.fed.sound (view_of new) ends ends.rises) (none_grows grown.took))
+      (taken_more new g.past grown ends.stays.bytes (g.placed, g.full) (stops_ended left failed end (view_of now) g.none_ahead g.going g.fed.sound (view_of new) ends ends.rises) (goes_same grown))
       g.stands ends.none_left ends.served (sound.within (line_going new ends.goes))
 
   cause_of : (new : Records S O ghosts) (fault : Told) → IsSound left end (below new) → AnswersFault left failed end (view_of now) fault (view_of new)
@@ -444,7 +479,7 @@ module _ {S O : Type 0} {ghosts : Ghosts O} (settled : List Feature → List ℕ
       → AnswersFault left failed end (view_of now) fault (view_of new) → FeedsUpTo settled (IsBedKind (order_in old)) (AreInOrder (order_in old)) left failed (view_of old) out fault (below new) grown
   stops_reading new fault order sound answers =
       fed_up_to settled (IsBedKind (order_in old)) (AreInOrder (order_in old)) left failed end (view_of old) out fresh g.past (below now) (good_coming left (view_of now)) grown g.fed fault (below new)
-      (taken_more new g.past grown answers.stays.bytes (g.placed, g.full) (stops_faulty left failed end (view_of now) g.none_ahead g.going g.fed.sound (view_of new) fault answers sound) (none_grows grown.took))
+      (taken_more new g.past grown answers.stays.bytes (g.placed, g.full) (stops_faulty left failed end (view_of now) g.none_ahead g.going g.fed.sound (view_of new) fault answers sound) (goes_same grown))
       (cause_of new fault sound answers (answers.first g.going))
 
   -- a record is ahead
@@ -477,7 +512,7 @@ module _ {S O : Type 0} {ghosts : Ghosts O} (settled : List Feature → List ℕ
     pub full_items : AreNonEmpty (intervals_of (member_items g.past ++ r ∷ []))
     full_items = subst (λ rs. AreNonEmpty (intervals_of rs)) items_more full_more
 
-    took_more : (later : Output) → Grows grown.took later.took → Took settled (IsBedKind (order_in old)) (AreInOrder (order_in old)) left failed (view_of old) out with_next (below peeked) later
+    took_more : (later : Output) → GoesOn grown later → Took settled (IsBedKind (order_in old)) (AreInOrder (order_in old)) left failed (view_of old) out with_next (below peeked) later
     took_more later grows =
         taken_more peeked with_next later gives.read.stays.bytes (placed_more, full_more)
         (stops_given left failed end (view_of now) g.none_ahead g.going g.fed.sound next_member (view_of peeked) gives.read sound (line_going peeked (gives.read.goes ∙ g.going))) grows
@@ -495,7 +530,7 @@ module _ {S O : Type 0} {ghosts : Ghosts O} (settled : List Feature → List ℕ
         → later.has_failed ≡ true → later.sink_has_failed ≡ true → Grows grown.took later.took
         → FeedsUpTo settled (IsBedKind (order_in old)) (AreInOrder (order_in old)) left failed (view_of old) out fault (below peeked) later
     stops_writing fault later is cuts fails sink grows =
-        at_write settled (IsBedKind (order_in old)) (AreInOrder (order_in old)) left failed end (view_of old) out fresh g.past (below now) (good_coming left (view_of now)) grown g.fed next_member fault (below peeked) later cuts.bytes (took_more later grows) gives.read.first (goes_on cuts.bytes cuts.goes_on) is cuts.front fails sink gives.read.served
+        at_write settled (IsBedKind (order_in old)) (AreInOrder (order_in old)) left failed end (view_of old) out fresh g.past (below now) (good_coming left (view_of now)) grown g.fed next_member fault (below peeked) later cuts.bytes (took_more later (goes_failed grown later grows fails)) gives.read.first (goes_on cuts.bytes cuts.goes_on) is cuts.front fails sink gives.read.served
 
     -- the engine found no memory
     pub stops_growing : (fault : Told) (later : Output) → fault ≡ no_memory
@@ -504,7 +539,7 @@ module _ {S O : Type 0} {ghosts : Ghosts O} (settled : List Feature → List ℕ
         → FeedsUpTo settled (IsBedKind (order_in old)) (AreInOrder (order_in old)) left failed (view_of old) out fault (below peeked) later
     stops_growing fault later is part works grows = record {
       past = with_next;
-      took = took_more later grows;
+      took = took_more later (goes_works grown later grows works);
       begins = begins_more (good_coming left (view_of old)) (good_coming left (view_of now)) g.past next_member g.fed.come gives.read.first;
       cause = inr (inl (record {
         is = is;

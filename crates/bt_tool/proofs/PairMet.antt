@@ -349,7 +349,7 @@ module _ {A B X Y U V : Type 0} (making : Making X Y) (pair : Pair A B X Y U V) 
     abbrev pub NearBoth : Type 0
     NearBoth = (one two before taken : List ℕ) → pair.a_left one_before ≡ Some one → pair.b_left two_before ≡ Some two → out.put ≡ Some before → out.took ≡ Some taken
         → ReadsNoFurther (λ lines. pair.a_end one_after ≡ false → HandsUpTo pair.b_left (reaches (whole_text two) lines + block_size) two_before two_after)
-        (settles (whole_text two)) one (pair.a_left one_after) before grown.took
+        (settles (whole_text two)) one (pair.a_left one_after) before grown.took (grown.has_failed ≡ true) grown.put
 
     -- the report on how the inputs meet, by how far they were read
     pub writes_both : NearBoth → WritesBoth pair.a_left pair.a_failed pair.a_end pair.b_left pair.b_failed making.first_kinds making.second_kinds

@@ -188,7 +188,7 @@ module _ {A B X Y U V : Type 0} (making : Making X Y) (pair : Pair A B X Y U V) 
   -- how far both inputs were read
   pub near_both : (one two before taken : List ℕ) → pair.a_left one_before ≡ Some one → pair.b_left two_before ≡ Some two → out.put ≡ Some before → out.took ≡ Some taken
       → ReadsNoFurther (λ lines. pair.a_end one_after ≡ false → HandsUpTo pair.b_left (reaches (whole_text two) lines + block_size) two_before two_after)
-      (settles (whole_text two)) one (pair.a_left one_after) before grown.took
+      (settles (whole_text two)) one (pair.a_left one_after) before grown.took (grown.has_failed ≡ true) grown.put
   near_both one two before taken e f put took =
       let handed = handed_to pair.a_left pair.a_failed pair.a_end first_format First one_before pair.first begins first one_after ended count one e near.first_near.to.near near.wrote.first_bytes in
       let less : suc count - 1 ≡ count = omega arith in
@@ -199,6 +199,7 @@ module _ {A B X Y U V : Type 0} (making : Making X Y) (pair : Pair A B X Y U V) 
         handed = handed.0;
         consumed = subst (λ o. Consumes o (pair.a_left one_after) handed.0) e handed.1;
         read = handed.2;
-        settled = rw less (lines before taken put took);
+        settled = rw less (lines.took before taken put took);
+        kept = rw less (elim lines.put [ inl failed ↦ inl failed | inr kept ↦ inr (kept before put) ]);
         beside = λ open_end. beside one two e f open_end near.beside;
       }

@@ -13,12 +13,12 @@ use Rattle.bt_lines.specs.declared.fault.Input.{Input}
 use Rattle.bt_lines.specs.declared.fault.Kind.{Kind}
 use Rattle.bt_bed.specs.Good.{Good, Member, items_in}
 use Rattle.bt_bed.specs.Reading.{MemberReader, good_coming}
-use Rattle.bt_tool.specs.Feeding.{ComeFirst, member_items}
+use Rattle.bt_tool.specs.Feeding.{ComeFirst, GoesOn, member_items}
 use Rattle.bt_tool.specs.Pair.{Making, Pair, Serves, Settles, item_ahead}
 use Rattle.bt_tool.specs.PairComes.{Comes, IsOpenAt, Stage, given}
 use Rattle.bt_tool.specs.PairEnds.{AsksFor, Finishes, IsKnown, LastTold, SecondFails, StaysNear, Why, Wrote}
 use Rattle.bt_tool.specs.Passed.{AreAll, IsAhead, IsOver, IsReadFor, IsReadTo, IsStopped, Passes, StopsAfter}
-use Rattle.bt_tool.proofs.FeedLemmas.{begins_more, begins_with, grows_both, took_later, took_lines, up_to}
+use Rattle.bt_tool.proofs.FeedLemmas.{begins_more, begins_with, goes_failed, goes_same, grows_both, took_later, took_lines, up_to}
 use Rattle.bt_tool.proofs.MemberLemmas.{ahead_at, ahead_first, bytes_more, ended_at, no_ahead_at_end, no_ahead_at_stop, passes_all, passes_end, passes_peek, passes_stop, read_ahead, read_at, read_for, rises_now, stopped_at}
 use Rattle.bt_tool.proofs.PairSettles.{settles_end}
 use Rattle.bt_tool.proofs.PairTurns.{all_with, seen_peeked, settles_ended}
@@ -112,7 +112,7 @@ module _ {A B X Y U V : Type 0} (making : Making X Y) (pair : Pair A B X Y U V) 
     })
 
     -- the sink took all but a block of the bytes so far
-    near_by : (first_now : MemberReader A X U) (second_now : MemberReader B Y V) (now : Output) → Wrote making pair out stage.written s.bytes first_now second_now grown → Grows grown.took now.took
+    near_by : (first_now : MemberReader A X U) (second_now : MemberReader B Y V) (now : Output) → Wrote making pair out stage.written s.bytes first_now second_now grown → GoesOn grown now
         → (past : List (Member X)) → member_items past ≡ stage.written → IsReadFor pair.a_left pair.a_failed pair.a_end pair.first past past_first first_now
         → (pair.a_end (source_of first_now.below) ≡ true) ⊎ AsksFor making pair out past_first second_now → Near first_now second_now now
     near_by first_now second_now now wrote more past items first_near beside = record {
@@ -128,8 +128,8 @@ module _ {A B X Y U V : Type 0} (making : Making X Y) (pair : Pair A B X Y U V) 
       beside = beside;
     }
 
-    no_more : Grows grown.took grown.took
-    no_more = ([], Appends-nil grown.took)
+    no_more : GoesOn grown grown
+    no_more = goes_same grown
 
     -- where none waits, all are written
     all_done : stage.waiting ≡ None → stage.written ≡ member_items past_first
@@ -138,7 +138,7 @@ module _ {A B X Y U V : Type 0} (making : Making X Y) (pair : Pair A B X Y U V) 
     -- where a member is asked for of the first input
     module _ (none : stage.waiting ≡ None) (going : stage.first_ended ≡ false) where
       -- the first input was read on, and the second wasn't
-      near_first_by : (first_now : MemberReader A X U) (now : Output) → HandsFirst first_now → Grows grown.took now.took → (count : ℕ) × StopsBehind pair.a_left first count first_now.below → Near first_now second now
+      near_first_by : (first_now : MemberReader A X U) (now : Output) → HandsFirst first_now → GoesOn grown now → (count : ℕ) × StopsBehind pair.a_left first count first_now.below → Near first_now second now
       near_first_by first_now now handed more stops =
           near_by first_now second now (wrote_first first_now handed) more past_first (sym (all_done none))
           (read_for pair.a_left pair.a_failed pair.a_end pair.first past_first first s.first_passes first_now stops)
@@ -202,7 +202,7 @@ module _ {A B X Y U V : Type 0} (making : Making X Y) (pair : Pair A B X Y U V) 
                   (begins_more (good_coming pair.a_left pair.first) (good_coming pair.a_left first) past_first m s.first_passes.come ahead.read.first)))
                   ended_now (grows_both out.took grown.took now.took s.grows adds.puts.grows);
               why = inr (inr (ap Some adds.puts.is, cuts_more out grown now s.bytes more fault s.puts adds));
-              near = near_first_by first_now now handed_now adds.puts.grows (ahead_at pair.a_left pair.a_failed pair.a_end pair.first past_first first s.first_passes s.none_ahead m first_now ahead);
+              near = near_first_by first_now now handed_now (goes_failed grown now adds.puts.grows adds.puts.failed) (ahead_at pair.a_left pair.a_failed pair.a_end pair.first past_first first s.first_passes s.none_ahead m first_now ahead);
             }
 
     -- where all of the first input is written, and the second was read on
@@ -263,7 +263,7 @@ module _ {A B X Y U V : Type 0} (making : Making X Y) (pair : Pair A B X Y U V) 
       -- while one of the first waits
       module _ (a : X) (waits : stage.waiting ≡ Some a) where
         near_second_by : (second_now : MemberReader B Y V) (now : Output) → lines_given second.below ≤ lines_given second_now.below → HandsSecond second_now
-            → Grows grown.took now.took → (IsKnown pair → IsReadTo pair.b_left pair.b_failed pair.b_end pair.second past_second second_now) → Near first second_now now
+            → GoesOn grown now → (IsKnown pair → IsReadTo pair.b_left pair.b_failed pair.b_end pair.second past_second second_now) → Near first second_now now
         near_second_by second_now now rises handed more near =
             let read = s.near_first (inl (ap is_some waits)) in
             near_by first second_now now (wrote_second second_now rises handed) more read.0 read.1 read.2 (beside_by stage.first_ended refl second_now near)
@@ -367,7 +367,7 @@ module _ {A B X Y U V : Type 0} (making : Making X Y) (pair : Pair A B X Y U V) 
                 (seen_peeked making pair out stage past_first past_second first second grown s goes m second_now ahead ∙ ap (λ l. l ++ option_to_list (item_ahead second_now)) s.all_taken) (settles known))
                 begins_here (λ e. absurd (false≢true e)) (grows_both out.took grown.took now.took s.grows fails.puts.grows);
             why = inr (inr (ap Some fails.puts.is, cuts_more out grown now s.bytes more fault s.puts fails));
-            near = near_second_by second_now now rises p.bytes fails.puts.grows read;
+            near = near_second_by second_now now rises p.bytes (goes_failed grown now fails.puts.grows fails.puts.failed) read;
           }
 
           -- it wasn't held
@@ -391,7 +391,7 @@ module _ {A B X Y U V : Type 0} (making : Making X Y) (pair : Pair A B X Y U V) 
                   begins_here (λ e. (passes_all pair.b_left pair.b_failed pair.b_end pair.second past_second second s.second_passes second_now over, over.ends.none_ahead))
                   (grows_both out.took grown.took now.took s.grows fails.puts.grows);
               why = inr (inr (ap Some fails.puts.is, cuts_more out grown now s.bytes more fault s.puts fails));
-              near = near_second_by second_now now over.ends.rises p.bytes fails.puts.grows
+              near = near_second_by second_now now over.ends.rises p.bytes (goes_failed grown now fails.puts.grows fails.puts.failed)
                   (λ known. read_at pair.b_left pair.b_failed pair.b_end pair.second past_second second s.second_passes second_now
                   (ended_at pair.b_left pair.b_failed pair.b_end pair.second past_second second s.second_passes
                   (no_ahead_at_end pair.b_left pair.b_failed pair.b_end pair.second past_second second s.second_passes second_now over known) second_now over));

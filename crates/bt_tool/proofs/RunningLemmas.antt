@@ -24,6 +24,7 @@ use Rattle.bt_runs.specs.Gaps.{settled_gaps}
 use Rattle.bt_tool.specs.Kinds.{IsOneOf}
 use Rattle.bt_tool.specs.Chromosomes.{KnowsChromosomes, LacksChromosomes, ReadsChromosomes, StopsAtGenome, WritesBy, WritesOutput}
 use Rattle.bt_tool.specs.Driving.{IsOfInput, ReadsNoFurther, TellsDevice, TellsInput, TellsInputIf, TellsLine, TellsRead}
+use Rattle.bt_tool.specs.Telling.{IsPutTo}
 use Rattle.bt_tool.specs.Flushing.{Flushes, FlushesAll, FlushFails, StaysFailed}
 use Rattle.bt_tool.specs.Gives.{Runs, TellsOther, is_of_genome, lies_in_genome}
 use Rattle.bt_tool.specs.Inputs.{HandsUpToIf, Inputs}
@@ -91,6 +92,17 @@ module _ (out mid new : Output) (fault answer : Option Told) where
   told_by told whole gives is (inl (inr fails)) = absurd (is.no_write fails.is)
   told_by told whole gives is (inr stays) = absurd (is.no_write stays.is)
 
+  -- what was put before the flush was taken with it, unless a write failed
+  pub kept_by : (size : ℕ) → (mid.has_failed ≡ true) ⊎ IsPutTo size mid.put → (FlushesAll mid fault answer new ⊎ FlushFails mid fault answer new) ⊎ StaysFailed mid fault answer new
+      → (answer ≡ Some write_failed) ⊎ IsPutTo size new.took
+  kept_by size kept (inl (inl all)) =
+      elim kept [
+        | inl failed ↦ absurd (false≢true (sym all.was_served ∙ failed))
+        | inr put ↦ inr (put.0, kept_known mid.put new.took put.0 put.1 all.taken, put.2)
+      ]
+  kept_by size kept (inl (inr fails)) = inl fails.is
+  kept_by size kept (inr stays) = inl stays.is
+
   -- without a fault the sink has served in the flush too
   pub served_by : (FlushesAll mid fault answer new ⊎ FlushFails mid fault answer new) ⊎ StaysFailed mid fault answer new → answer ≡ None → (fault ≡ None) × (new.sink_has_failed ≡ mid.sink_has_failed)
   served_by (inl (inl all)) none = (sym all.same_fault ∙ none, all.sink_served)
@@ -125,14 +137,16 @@ later_known (Some first) (Some took) (Some more) known size e f g h =
 
 -- what the sink takes later only adds to it
 near_later : (Beside More : List TextLine → Type 0) → ((lines : List TextLine) → Beside lines → More lines) → (settles : List TextLine → List ℕ) (text : List ℕ) (left : Option (List ℕ)) (before : List ℕ) (first took more : Option (List ℕ)) (known : List ℕ) → first ≡ Some known
-    → Grows first took → Grows took more → ReadsNoFurther Beside settles text left before took → ReadsNoFurther More settles text left before more
-near_later Beside More adds settles text left before first took more known e f g near = record {
+    → (Cut Failed : Type 0) (put later : Option (List ℕ)) → ((size : ℕ) → Cut ⊎ IsPutTo size put → Failed ⊎ IsPutTo size later)
+    → Grows first took → Grows took more → ReadsNoFurther Beside settles text left before took Cut put → ReadsNoFurther More settles text left before more Failed later
+near_later Beside More adds settles text left before first took more known e Cut Failed put later carries f g near = record {
   n = near.n;
   some = near.some;
   handed = near.handed;
   consumed = near.consumed;
   read = near.read;
   settled = later_known first took more known (length (before ++ settles (take (near.n - 1) (text_lines text)))) e f g near.settled;
+  kept = carries (length (before ++ settles (take (near.n - 1) (text_lines text)))) near.kept;
   beside = adds (take near.n (text_lines text)) near.beside;
 }
 
@@ -204,8 +218,9 @@ write_of_if left failed kinds input (Some before) (Some after) tells = write_of_
 
 -- an input that wasn't touched was read no further than its first line
 near_untouched : (Beside : List TextLine → Type 0) → ((lines : List TextLine) → Beside lines) → (command : Command) (chromosomes : Result (Option (List Entry)) Told) (second : Option Handed) (text before : List ℕ) (left took more : Option (List ℕ)) → left ≡ Some text → took ≡ Some before → Grows took more
-    → ReadsNoFurther Beside (settles_on command chromosomes second) text left before more
-near_untouched Beside has command chromosomes second text before left took more e t g = record {
+    → (Failed : Type 0) (later : Option (List ℕ)) → Failed ⊎ IsPutTo (length (before ++ [])) later
+    → ReadsNoFurther Beside (settles_on command chromosomes second) text left before more Failed later
+near_untouched Beside has command chromosomes second text before left took more e t g Failed later kept = record {
   n = 1;
   some = omega arith;
   handed = [];
@@ -213,6 +228,7 @@ near_untouched Beside has command chromosomes second text before left took more 
   read = omega arith;
   beside = has (take 1 (text_lines text));
   settled = rw (none_settle_on command chromosomes second) (later_known took took more before (length (before ++ [])) t ([], Appends-nil took) g (taken_all took before t));
+  kept = rw (none_settle_on command chromosomes second) kept;
 }
 
 module _ {G A B K : Type 0} (g_left : G → Option (List ℕ)) (g_failed : G → Bool) (a_left : A → Option (List ℕ)) (a_failed a_end : A → Bool) (b_left : B → Option (List ℕ)) (b_failed : B → Bool) (k_took : K → Option (List ℕ)) (k_failed : K → Bool)
@@ -286,9 +302,9 @@ module _ {G A B K : Type 0} (g_left : G → Option (List ℕ)) (g_failed : G →
           let read = knows.told inputs.genome holds.genome_file in
           let later = near_later (λ lines. a_end first_after ≡ false → HandsUpToIf b_left ((behaviour_of command chromosomes).reaches inputs.second lines + block_size) second second_after) (Beside inputs)
           (λ lines beside. subst (λ c. a_end first_after ≡ false → HandsUpToIf b_left (reaches_on command c inputs.second lines + block_size) second second_after) (sym read) beside)
-          ((behaviour_of command chromosomes).settles inputs.second) inputs.first.text (a_left first_after) before begun.took mid.took new.took before (took ∙ known) writes.grows flushes.grows near in
-          subst (λ c. ReadsNoFurther (Beside inputs) (settles_on command c inputs.second) inputs.first.text (a_left first_after) before (k_took out_after)) (sym read)
-          (subst (ReadsNoFurther (Beside inputs) ((behaviour_of command chromosomes).settles inputs.second) inputs.first.text (a_left first_after) before) (sym took_after) later);
+          ((behaviour_of command chromosomes).settles inputs.second) inputs.first.text (a_left first_after) before begun.took mid.took new.took before (took ∙ known) (mid.has_failed ≡ true) (answer ≡ Some write_failed) mid.put new.took (λ size kept. kept_by begun mid new fault answer size kept flushes.ends) writes.grows flushes.grows near in
+          subst (λ c. ReadsNoFurther (Beside inputs) (settles_on command c inputs.second) inputs.first.text (a_left first_after) before (k_took out_after) (answer ≡ Some write_failed) (k_took out_after)) (sym read)
+          (subst (λ taken. ReadsNoFurther (Beside inputs) ((behaviour_of command chromosomes).settles inputs.second) inputs.first.text (a_left first_after) before taken (answer ≡ Some write_failed) taken) (sym took_after) later);
       served = λ none.
           let was = served_by begun mid new fault answer flushes.ends none in
           let devices = writes.served was.0 in
@@ -338,11 +354,12 @@ module _ {G A B K : Type 0} (g_left : G → Option (List ℕ)) (g_failed : G →
       near = λ inputs before holds known.
           let text = holds.first_input in
           let settles = settles_on command (chromosomes_of inputs.genome) inputs.second in
-          subst (λ (h : Handed). ReadsNoFurther (Beside inputs) settles h.text (a_left first_after) before (k_took out_after)) (sym text.is)
-          (subst (λ f. ReadsNoFurther (Beside inputs) settles text.text (a_left f) before (k_took out_after)) (sym stops.untouched)
-          (subst (ReadsNoFurther (Beside inputs) settles text.text (a_left first) before) (sym took_after)
+          subst (λ (h : Handed). ReadsNoFurther (Beside inputs) settles h.text (a_left first_after) before (k_took out_after) (answer ≡ Some write_failed) (k_took out_after)) (sym text.is)
+          (subst (λ f. ReadsNoFurther (Beside inputs) settles text.text (a_left f) before (k_took out_after) (answer ≡ Some write_failed) (k_took out_after)) (sym stops.untouched)
+          (subst (λ taken. ReadsNoFurther (Beside inputs) settles text.text (a_left first) before taken (answer ≡ Some write_failed) taken) (sym took_after)
           (near_untouched (Beside inputs) (λ lines end. subst (HandsUpToIf b_left (reaches_on command (chromosomes_of inputs.genome) inputs.second lines + block_size) second) (sym stops.other_untouched) (hands_none b_left second inputs.second (reaches_on command (chromosomes_of inputs.genome) inputs.second lines + block_size) holds.second_input))
-          command (chromosomes_of inputs.genome) inputs.second text.text before (a_left first) begun.took new.took text.known (took ∙ known) (grows_both begun.took mid.took new.took mid_grows flushes.grows))));
+          command (chromosomes_of inputs.genome) inputs.second text.text before (a_left first) begun.took new.took text.known (took ∙ known) (grows_both begun.took mid.took new.took mid_grows flushes.grows)
+          (answer ≡ Some write_failed) new.took (kept_by begun mid new fault answer (length (before ++ [])) (inr (before ++ [], begun_put before known, omega arith)) flushes.ends))));
       served = λ none.
           let was = served_by begun mid new fault answer flushes.ends none in
           absurd (let apart : None ≡ Some wrong = sym was.0 ∙ stops.is in cc);

@@ -1,6 +1,6 @@
 -- What subtract writes is what intersect would in the shapes of what is left.
-use Rattle.std.proofs.Common.{◌≡◌, ℕ, ◌≤◌, ◌+◌, ◌-◌, Bool, List, ◌++◌, length, take, Option, None, sym, subst, ◌∙◌}
-use Rattle.std.specs.Prelude.{IfSome}
+use Rattle.std.proofs.Common.{◌≡◌, ℕ, ◌≤◌, ◌+◌, ◌-◌, Bool, true, List, ◌++◌, length, take, Option, None, sym, subst, ◌∙◌}
+use Rattle.std.specs.Prelude.{◌⊎◌, IfSome}
 use Rattle.bt_lines.specs.Fault.{Told}
 use Rattle.bt_lines.specs.Handed.{Handed}
 use Rattle.bt_lines.specs.Lines.{TextLine, text_lines}
@@ -16,6 +16,7 @@ use Rattle.bt_tool.specs.Behaviour.{of_intersect, of_subtract, or_empty}
 use Rattle.bt_tool.specs.SweepReport.{intersect_settles, records_on, subtract_settles}
 use Rattle.bt_tool.specs.Chromosomes.{WritesBy}
 use Rattle.bt_tool.specs.Driving.{ReadsNoFurther}
+use Rattle.bt_tool.specs.Telling.{IsPutTo}
 
 -- what is left of the records on some lines, by either name
 settles_left : (order : Order) (whole : Bool) (rule : HitRule) (second : Handed) (lines : List TextLine)
@@ -27,15 +28,16 @@ settles_left order whole rule second lines =
 
 -- lines settle the same by two definitions that agree
 near_as : (Beside : List TextLine → Type 0) (mine yours : List TextLine → List ℕ) → ((lines : List TextLine) → mine lines ≡ yours lines)
-    → (text : List ℕ) (left : Option (List ℕ)) (before : List ℕ) (took : Option (List ℕ))
-    → ReadsNoFurther Beside mine text left before took → ReadsNoFurther Beside yours text left before took
-near_as Beside mine yours same text left before took near = record {
+    → (text : List ℕ) (left : Option (List ℕ)) (before : List ℕ) (took : Option (List ℕ)) (Cut : Type 0) (put : Option (List ℕ))
+    → ReadsNoFurther Beside mine text left before took Cut put → ReadsNoFurther Beside yours text left before took Cut put
+near_as Beside mine yours same text left before took Cut put near = record {
   n = near.n;
   some = near.some;
   handed = near.handed;
   consumed = near.consumed;
   read = near.read;
   settled = subst (λ lines. IfSome took (λ taken. length (before ++ lines) ≤ length taken + block_size)) (same (take (near.n - 1) (text_lines text))) near.settled;
+  kept = subst (λ lines. Cut ⊎ IsPutTo (length (before ++ lines)) put) (same (take (near.n - 1) (text_lines text))) near.kept;
   beside = near.beside;
 }
 
@@ -51,6 +53,6 @@ module _ {A B : Type 0} (a_left : A → Option (List ℕ)) (a_failed a_end : A �
     grows = w.grows;
     served = w.served;
     near = λ one two before taken holds holds_second put took.
-        near_as _ _ _ (settles_left order whole rule (or_empty two)) one.text (a_left first_after) before grown.took (w.near one two before taken holds holds_second put took);
+        near_as _ _ _ (settles_left order whole rule (or_empty two)) one.text (a_left first_after) before grown.took (grown.has_failed ≡ true) grown.put (w.near one two before taken holds holds_second put took);
     named = w.named;
   }

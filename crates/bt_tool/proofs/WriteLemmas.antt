@@ -1,6 +1,6 @@
 -- Lemmas on the lines that an engine writes, from its intervals, and on the report that they make.
-use Rattle.std.proofs.Common.{◌≡◌, ℕ, ◌+◌, ◌-◌, ◌≤◌, Bool, List, [], ◌++◌, length, take, Option, None, Some, refl, sym, ap, ◌∙◌, subst}
-use Rattle.std.specs.Prelude.{IfSome}
+use Rattle.std.proofs.Common.{◌≡◌, ℕ, ◌+◌, ◌-◌, ◌≤◌, Bool, true, List, [], ◌++◌, length, take, Option, None, Some, refl, sym, ap, ◌∙◌, subst}
+use Rattle.std.specs.Prelude.{◌⊎◌, IfSome}
 use Rattle.std.proofs.lemmas.Grind.{flat_map-append}
 use Rattle.std.proofs.lemmas.List.{map-append}
 use Rattle.bt_lines.specs.Fault.{Told}
@@ -30,6 +30,7 @@ use Rattle.bt_runs.specs.declared.merge_strand.MergeStrand.TheVariants.{All, Eac
 use Rattle.bt_runs.proofs.RunOrder.{ordered_come}
 use Rattle.bt_runs.proofs.SettledRuns.{runs_begin, runs_stay}
 use Rattle.bt_runs.proofs.StrandSettling.{begin, no_strand_settled, stay}
+use Rattle.bt_tool.specs.Telling.{IsPutTo}
 use Rattle.bt_tool.specs.Driving.{IsReported, WritesInput, WritesRecords}
 use Rattle.bt_tool.specs.RecordReport.{Report, records_report, records_settle, report_by}
 use Rattle.bt_tool.specs.Written.{Written, merge_written, pooled_written}
@@ -105,6 +106,7 @@ writes_same left failed kinds mine report mine_settle settles same same_settle f
         consumed = n.consumed;
         read = n.read;
         settled = subst (λ l. IfSome grown.took (λ taken. length (before ++ l) ≤ length taken + block_size)) (same_settle (take (n.n - 1) (text_lines text))) n.settled;
+        kept = subst (λ l. (grown.has_failed ≡ true) ⊎ IsPutTo (length (before ++ l)) grown.put) (same_settle (take (n.n - 1) (text_lines text))) n.kept;
         beside = n.beside;
       };
   named = w.named;

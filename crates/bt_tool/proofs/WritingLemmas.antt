@@ -1,6 +1,6 @@
 -- What a command of one input writes, and one of two, as what any command writes of its inputs.
 use Rattle.std.proofs.Common.{◌≡◌, ℕ, ◌+◌, Bool, List, [], ◌++◌, Option, None, Some, take, refl, sym, ap, ◌∙◌, subst, arith, inl, inr}
-use Rattle.std.specs.Prelude.{◌⊎◌, ◌≢◌, false}
+use Rattle.std.specs.Prelude.{◌⊎◌, ◌≢◌, false, true}
 use Rattle.std.proofs.KnownBytes.{Consumes-nil}
 use Rattle.bt_lines.specs.Fault.{Told, no_memory, write_failed}
 use Rattle.bt_lines.specs.Handed.{Handed}
@@ -52,7 +52,7 @@ module _ {A B : Type 0} (a_left : A → Option (List ℕ)) (a_failed a_end : A �
       near = λ one two before taken holds others put known.
           let n = w.near holds.text before taken holds.known put known in
           let Beside : List TextLine → Type 0 = λ lines. a_end first_after ≡ false → HandsUpToIf b_left (reaches two lines + block_size) second second in
-          let near : ReadsNoFurther Beside mine_settle holds.text (a_left first_after) before grown.took =
+          let near : ReadsNoFurther Beside mine_settle holds.text (a_left first_after) before grown.took (grown.has_failed ≡ true) grown.put =
           record {
             n = n.n;
             some = n.some;
@@ -60,10 +60,11 @@ module _ {A B : Type 0} (a_left : A → Option (List ℕ)) (a_failed a_end : A �
             consumed = n.consumed;
             read = n.read;
             settled = n.settled;
+            kept = n.kept;
             beside = λ end. hands_none b_left second two (reaches two (take n.n (text_lines holds.text)) + block_size) others;
           } in
-          subst (λ (h : Handed). ReadsNoFurther Beside (settles two) h.text (a_left first_after) before grown.took) (sym holds.is)
-          (subst (λ s. ReadsNoFurther Beside s holds.text (a_left first_after) before grown.took) (same_settle two) near);
+          subst (λ (h : Handed). ReadsNoFurther Beside (settles two) h.text (a_left first_after) before grown.took (grown.has_failed ≡ true) grown.put) (sym holds.is)
+          (subst (λ s. ReadsNoFurther Beside s holds.text (a_left first_after) before grown.took (grown.has_failed ≡ true) grown.put) (same_settle two) near);
       named = λ t e. named_alone t (w.named t e);
     }
 
@@ -100,7 +101,7 @@ module _ {A B : Type 0} (a_left : A → Option (List ℕ)) (a_failed a_end : A �
         → out.put ≡ Some before → out.took ≡ Some taken
         → ReadsNoFurther (λ lines. a_end first_after ≡ false
         → HandsUpToIf b_left (reaches (or_empty two) lines + block_size) (Some second) (Some second_after))
-        (settles (or_empty two)) one.text (a_left first_after) before grown.took
+        (settles (or_empty two)) one.text (a_left first_after) before grown.took (grown.has_failed ≡ true) grown.put
     near_of one None before taken holds others put known = absurd others
     near_of one (Some two) before taken holds others put known =
         rw (holds.is, others.is) (w.near holds.text others.text before taken holds.known others.known put known)

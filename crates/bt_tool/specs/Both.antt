@@ -1,5 +1,5 @@
 -- What a command of two inputs does, by what the inputs hand over.
-use Rattle.std.specs.Prelude.{◌≡◌, ◌≢◌, ℕ, ◌+◌, ◌⊎◌, Bool, false, List, [], ◌++◌, Option, Some, None}
+use Rattle.std.specs.Prelude.{◌≡◌, ◌≢◌, ℕ, ◌+◌, ◌⊎◌, Bool, true, false, List, [], ◌++◌, Option, Some, None}
 use Rattle.bt_lines.specs.Fault.{Told, no_memory, write_failed}
 use Rattle.bt_lines.specs.Handed.{Handed, whole_text}
 use Rattle.bt_lines.specs.Lines.{TextLine}
@@ -59,6 +59,7 @@ module _ {A B : Type 0} (a_left : A → Option (List ℕ)) (a_failed a_end : A �
         → ReadsNoFurther (λ lines. a_end first_after ≡ false
         → HandsUpTo b_left (reaches (whole_text two) lines + block_size) second second_after)
         (settles (whole_text two)) one (a_left first_after) before grown.took
+        (grown.has_failed ≡ true) grown.put
     -- what the fault may be, whatever the devices do
     pub named : (told : Told) → fault ≡ Some told
         → (TellsInput a_left a_failed FirstKinds First first first_after told

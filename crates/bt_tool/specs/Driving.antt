@@ -1,5 +1,5 @@
 -- What a command does with the members of an input, by what the input hands over.
-use Rattle.std.specs.Prelude.{◌≡◌, ◌≢◌, ℕ, ◌⊎◌, ⊤, Bool, List, [], ◌++◌, Option, Some, None}
+use Rattle.std.specs.Prelude.{◌≡◌, ◌≢◌, ℕ, ◌⊎◌, ⊤, Bool, true, List, [], ◌++◌, Option, Some, None}
 use Rattle.bt_lines.specs.Fault.{Told, no_memory, write_failed}
 use Rattle.bt_lines.specs.Handed.{Handed, whole_text}
 use Rattle.bt_lines.specs.Lines.{TextLine}
@@ -48,6 +48,7 @@ module _ {A : Type 0} (left : A → Option (List ℕ)) (failed : A → Bool) (Ki
     pub near : (text before taken : List ℕ) → left first ≡ Some text → out.put ≡ Some before
         → out.took ≡ Some taken
         → ReadsNoFurther (λ lines. ⊤) settles text (left new) before grown.took
+        (grown.has_failed ≡ true) grown.put
     -- what the fault may be, whatever the devices do
     pub named : (told : Told) → fault ≡ Some told
         → TellsInput left failed Kinds First first new told ⊎ TellsDevice grown.sink_has_failed told

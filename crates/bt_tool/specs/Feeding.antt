@@ -23,6 +23,7 @@ use Rattle.bt_bed.specs.Reading.{MemberReader, good_coming}
 use Rattle.bt_bed.specs.Records.{below, order_in, view_of}
 use Rattle.bt_bed.specs.declared.order.ChromOrder.{Ghosts}
 use Rattle.bt_bed.specs.declared.records.Records.{Records}
+use Rattle.bt_tool.specs.Telling.{IsPutTo}
 
 -- these members came first of what was to come, and the others are still to come
 abbrev pub ComeFirst : {A : Type 0} → Option (Good A) → List (Member A) → Option (Good A) → Type 0
@@ -53,10 +54,19 @@ pub record CutsLines (old : Output) (lines : List ℕ) (new : Output) : Type 0 w
   pub failed : new.has_failed ≡ true
   pub sink_failed : new.sink_has_failed ≡ true
 
--- of these bytes, put behind what was put before, the sink took all but a block
-abbrev pub TookButBlock : Output → List ℕ → Output → Type 0
-TookButBlock old bytes new = (before taken : List ℕ) → old.put ≡ Some before → old.took ≡ Some taken
-    → IfSome new.took (λ now. length (before ++ bytes) ≤ length now + block_size)
+-- an output later on: the sink took no less, and unless a write failed no less was put
+pub record GoesOn (old new : Output) : Type 0 where
+  pub took : Grows old.took new.took
+  pub put : (new.has_failed ≡ true) ⊎ Grows old.put new.put
+  pub stays_failed : old.has_failed ≡ true → new.has_failed ≡ true
+
+-- of these bytes, put behind what was put before, the sink took all but a block;
+-- and unless a write failed, all of them were put
+pub record TookButBlock (old : Output) (bytes : List ℕ) (new : Output) : Type 0 where
+  pub took : (before taken : List ℕ) → old.put ≡ Some before → old.took ≡ Some taken
+      → IfSome new.took (λ now. length (before ++ bytes) ≤ length now + block_size)
+  pub put : (new.has_failed ≡ true) ⊎ ((before : List ℕ) → old.put ≡ Some before
+      → IsPutTo (length (before ++ bytes)) new.put)
 
 module _ {S A State : Type 0} (left : S → Option (List ℕ)) (settled : List A → List ℕ) where
   -- How far an input was read: it handed over so many lines, one more and a block at most, and what

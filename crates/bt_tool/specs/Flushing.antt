@@ -1,5 +1,5 @@
 -- How a run ends at its output.
-use Rattle.std.specs.Prelude.{◌≡◌, ◌≢◌, true, [], ◌⊎◌, Option, Some}
+use Rattle.std.specs.Prelude.{◌≡◌, ◌≢◌, Bool, true, false, [], ◌⊎◌, Option, Some}
 use Rattle.std.specs.Io.KnownBytes.{Keeps}
 use Rattle.bt_lines.specs.Fault.{Told, write_failed}
 use Rattle.bt_lines.specs.Output.{Output, IsFrontOf, Grows}
@@ -10,6 +10,7 @@ pub record FlushesAll (old : Output) (fault : Option Told) (answer : Option Told
   pub was : fault ≢ Some write_failed
   pub same_fault : answer ≡ fault
   pub taken : Keeps old.put new.took
+  pub was_served : old.has_failed ≡ false
   pub sink_served : new.sink_has_failed ≡ old.sink_has_failed
 
 -- the sink failed now, and took a front of what was put

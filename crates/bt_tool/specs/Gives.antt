@@ -1,7 +1,7 @@
 -- What a run gives, by what its inputs hand over.
 use Rattle.std.specs.Prelude.{◌≡◌, ◌≢◌, ℕ, ◌+◌, ◌⊎◌, Bool, true, false, List, ◌++◌, Option, Some}
 use Rattle.std.specs.Prelude.{None, Err, is_some}
-use Rattle.bt_lines.specs.Fault.{Told, no_memory}
+use Rattle.bt_lines.specs.Fault.{Told, no_memory, write_failed}
 use Rattle.bt_lines.specs.Output.{block_size}
 use Rattle.bt_lines.specs.Handed.{Handed}
 use Rattle.bt_lines.specs.declared.fault.Input.{Input}
@@ -82,8 +82,9 @@ module _ {G A B K : Type 0} (g_left : G → Option (List ℕ)) (g_failed : G →
         → (front : List ℕ) × (rest : List ℕ) × (k_took out_after ≡ Some (before ++ front))
         × ((report_of command inputs).output ≡ front ++ rest)
     -- However the run ends, where the devices tell their bytes: for some n, the first input handed
-    -- over its first n lines and a block at most, and what its first n - 1 lines settle was written
-    -- but for a block. Where the first input's end wasn't told, the second handed over what those n
+    -- over its first n lines and a block at most, and what its first n - 1 lines settle was written,
+    -- but for a block where a write failed: any other fault, want of memory among them, loses none
+    -- of it. Where the first input's end wasn't told, the second handed over what those n
     -- lines ask for and a block at most.
     pub near : (inputs : Inputs) (before : List ℕ) → HoldInputs genome first second inputs
         → k_took out ≡ Some before
@@ -91,7 +92,7 @@ module _ {G A B K : Type 0} (g_left : G → Option (List ℕ)) (g_failed : G →
         → HandsUpToIf b_left (reaches_on command (chromosomes_of inputs.genome) inputs.second lines
         + block_size) second second_after)
         (settles_on command (chromosomes_of inputs.genome) inputs.second) inputs.first.text
-        (a_left first_after) before (k_took out_after)
+        (a_left first_after) before (k_took out_after) (fault ≡ Some write_failed) (k_took out_after)
     -- Whatever the devices do, known or not: a run that ends without a fault has met no failure of
     -- a device that it used. So a failed read or write never ends with status 0.
     pub served : fault ≡ None

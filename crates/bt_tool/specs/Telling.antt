@@ -53,12 +53,17 @@ abbrev pub TellsDevice : Bool → Told → Type 0
 TellsDevice sink_failed fault =
     ((fault ≡ write_failed) × (sink_failed ≡ true)) ⊎ (fault ≡ no_memory)
 
+-- the bytes put are known, and so many at least
+abbrev pub IsPutTo : ℕ → Option (List ℕ) → Type 0
+IsPutTo size put = (bytes : List ℕ) × (put ≡ Some bytes) × (size ≤ length bytes)
+
 -- How far an input was read beside what was written: for some n, at least 1, it handed over at most
 -- its first n lines and a block, and what its first n - 1 lines settle was taken but for a block.
--- What is said beside it of those n lines is how far another input was read.
+-- Unless a write failed, all of it was put. What is said beside it of those n lines is how far
+-- another input was read.
 pub record ReadsNoFurther (Beside : List TextLine → Type 0) (settles : List TextLine → List ℕ)
     (text : List ℕ) (left : Option (List ℕ)) (before : List ℕ)
-    (took : Option (List ℕ)) : Type 0 where
+    (took : Option (List ℕ)) (WriteFailed : Type 0) (put : Option (List ℕ)) : Type 0 where
   pub n : ℕ
   pub some : 1 ≤ n
   pub handed : List ℕ
@@ -66,6 +71,8 @@ pub record ReadsNoFurther (Beside : List TextLine → Type 0) (settles : List Te
   pub read : length handed ≤ bytes_in (take n (text_lines text)) + block_size
   pub settled : IfSome took (λ taken.
       length (before ++ settles (take (n - 1) (text_lines text))) ≤ length taken + block_size)
+  pub kept : WriteFailed
+      ⊎ IsPutTo (length (before ++ settles (take (n - 1) (text_lines text)))) put
   pub beside : Beside (take n (text_lines text))
 
 -- the report is what came: its fault, and its output behind what was put before

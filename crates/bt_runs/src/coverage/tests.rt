@@ -226,6 +226,7 @@ fn records_are_kept_until_one_starts_past_their_end(rt: HostRuntime) {
         assert_eq!(rt; feed_line(&mut coverage, line, &mut out), Ok(()));
         assert_eq!(rt; coverage.kept_len(), kept, "{line:?}");
     }
+    assert!(rt; coverage.stored_len() <= 2 * 3, "three are kept");
     assert_eq!(rt; end(coverage, &mut out), Ok(()));
     let want: &[u8] = b"chr1\t0\t1\t2\nchr1\t1\t2\t3\nchr1\t2\t3\t4\nchr1\t3\t4\t3\n\
         chr1\t4\t6\t4\nchr1\t6\t12\t3\nchr1\t12\t14\t2\nchr1\t14\t20\t1\n";

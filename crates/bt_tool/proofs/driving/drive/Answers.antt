@@ -12,7 +12,8 @@ use Rattle.bt_tool.specs.Feeding.{AreInOrder, member_items}
 use Rattle.bt_tool.specs.Driving.{WritesInput}
 use Rattle.bt_tool.specs.RecordReport.{records_report, records_settle}
 use Rattle.bt_tool.specs.Written.{Written}
-use Rattle.bt_tool.proofs.DrivingLemmas.{Starts, drives_all, drives_cut, drives_fault, finish_cut, finish_put, finish_serves, fresh_start, records_sorted, sorted_start, starts_by}
+use Rattle.bt_tool.proofs.FeedLemmas.{goes_failed}
+use Rattle.bt_tool.proofs.DrivingLemmas.{Starts, drives_all, drives_cut, drives_fault, finish_cut, finish_goes, finish_put, finish_serves, fresh_start, records_sorted, sorted_start, starts_by}
 use Rattle.bt_tool.proofs.driving.drive.Goals as goal
 
 pub feed_all-fed-requires-clause-fresh : goal.feed_all-fed-requires-clause-fresh
@@ -55,7 +56,7 @@ returns-in-Err-finish g c =
     subst (λ (o : Order). WritesInput left g.A.Source.has_failed (IsBedKind o) (records_report written order) (records_settle written order) c.args.first c.args.out.now (Some (told c.in-Err-finish.fault)) c.into_source-first.result c.finish.new.out) records.order
     (drives_cut written (IsBedKind (order_in c.new-records.result)) (AreInOrder (order_in c.new-records.result)) (g.E.Engine.takes c.args.engine) c.requires.stays c.requires.begins left g.A.Source.has_failed (bed_format (sorting_of order))
     (records_sorted (g.E.Engine.takes c.args.engine) order (g.met.O.ChromOrder.total c.args.order.now) c.requires.takes) (view_of c.new-records.result) c.args.first c.args.out.now starts (below c.feed_all-fed.new.records) c.into_source-first.result ended
-    (λ past. g.E.Engine.stands c.args.engine past c.feed_all-fed.new.engine) c.feed_all-fed.new.out fed c.finish.new.out c.in-Err-finish.ensures.grows
+    (λ past. g.E.Engine.stands c.args.engine past c.feed_all-fed.new.engine) c.feed_all-fed.new.out fed c.finish.new.out (goes_failed c.feed_all-fed.new.out c.finish.new.out c.in-Err-finish.ensures.grows said.failed)
     (told c.in-Err-finish.fault) said.is said.cuts.bytes said.cuts.goes_on said.cuts.front said.sink_failed)
 
 pub returns : goal.returns
@@ -74,6 +75,6 @@ returns g c =
     subst (λ (o : Order). WritesInput left g.A.Source.has_failed (IsBedKind o) (records_report written order) (records_settle written order) c.args.first c.args.out.now None c.into_source-first.result c.finish.new.out) records.order
     (drives_all written (IsBedKind (order_in c.new-records.result)) (AreInOrder (order_in c.new-records.result)) (g.E.Engine.takes c.args.engine) c.requires.stays c.requires.begins left g.A.Source.has_failed (bed_format (sorting_of order))
     (records_sorted (g.E.Engine.takes c.args.engine) order (g.met.O.ChromOrder.total c.args.order.now) c.requires.takes) (view_of c.new-records.result) c.args.first c.args.out.now starts (below c.feed_all-fed.new.records) c.into_source-first.result ended
-    (λ past. g.E.Engine.stands c.args.engine past c.feed_all-fed.new.engine) c.feed_all-fed.new.out fed c.finish.new.out c.in_default-finish.ensures.grows
+    (λ past. g.E.Engine.stands c.args.engine past c.feed_all-fed.new.engine) c.feed_all-fed.new.out fed c.finish.new.out (finish_goes g.E.Engine.takes g.E.Engine.stands g.E.Engine.fault g.E.Engine.settled g.E.Engine.whole c.args.engine c.feed_all-fed.new.engine (member_items fed.past) c.feed_all-fed.new.out c.finish.new.out c.in_default-finish.ensures)
     puts.bytes puts.goes_on puts.appends
     (finish_serves g.E.Engine.takes g.E.Engine.stands g.E.Engine.fault g.E.Engine.settled g.E.Engine.whole c.args.engine c.feed_all-fed.new.engine (member_items fed.past) c.feed_all-fed.new.out c.finish.new.out c.in_default-finish.ensures))
