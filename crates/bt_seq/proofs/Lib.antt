@@ -14,6 +14,9 @@ pub mod MaskingLemmas
 pub mod LeftLemmas
 pub mod QuietLemmas
 pub mod KnowsLemmas
+pub mod LaneLemmas
+pub mod AgreeLemmas
+pub mod TakenLemmas
 pub mod HeldLemmas
 pub mod TagLemmas
 pub mod MaskFrontLemmas

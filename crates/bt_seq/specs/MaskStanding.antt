@@ -1,6 +1,7 @@
 -- Where a masking engine stands.
-use Rattle.std.specs.Prelude.{◌≡◌, ◌⊎◌, ℕ, Bool, true, false, List, [], map, Option, Some, None, is_some}
-use Rattle.std.specs.Prelude.{option_map}
+use Rattle.std.specs.Prelude.{◌≡◌, ◌⊎◌, ℕ, Bool, true, false, List, [], ◌++◌, map, Option, Some}
+use Rattle.std.specs.Prelude.{None, is_some, option_map}
+use Rattle.std.specs.List.{AllByRecursion}
 use Rattle.bt_bed.specs.Feature.{Feature}
 use Rattle.bt_bed.specs.GoodBlocks.{AreInBlocks}
 use Rattle.bt_seq.specs.HeldMasks.{stretch_of}
@@ -48,3 +49,10 @@ pub record MaskStandsAt (how : MaskHow) (full : Bool) (stage : MaskStage)
   -- each block taken belongs to a sequence
   pub owned : is_some (left_after (reached stage).names stage.taken) ≡ true
   pub inside : KnowsStage stage m
+
+-- No front of the records taken decides all lines given: so none was taken behind the first record
+-- that did.
+abbrev pub taken_are_first : Type 0
+taken_are_first = (lines : List SequenceLine) (front rest : List Feature)
+    → IsOpen (line_given_last lines) (front ++ rest)
+    → (front ++ rest ≡ []) ⊎ (AllByRecursion (λ line. decided line front ≡ true) lines → ⊥)

@@ -122,3 +122,16 @@ next_goes_on_or_begins = (names : List (List ℕ)) (records : List Feature) (r :
     → left_after names (records ++ r ∷ [])
     ≡ (if goes_on records r then left_after names records
     else left_by (left_after names records) r.chrom)
+
+-- a block that belongs to a sequence among the first names belongs to it among all names too: behind
+-- it then come the names that come behind it there, and the others
+abbrev pub owners_stay : Type 0
+owners_stay = (names more : List (List ℕ)) (records : List Feature) (rest : List (List ℕ))
+    → left_after names records ≡ Some rest
+    → left_after (names ++ more) records ≡ Some (rest ++ more)
+
+-- and a block that among all names belongs to one of the first belongs to it among those alone
+abbrev pub owners_were : Type 0
+owners_were = (names more : List (List ℕ)) (records : List Feature) (rest : List (List ℕ))
+    → left_after (names ++ more) records ≡ Some (rest ++ more)
+    → left_after names records ≡ Some rest

@@ -9,9 +9,10 @@ ghost use Rattle.bt_bed.specs.LineKind.{fault_at_line};
 ghost use Rattle.bt_seq.specs.HeldMasks.{held_mask_alone};
 ghost use Rattle.bt_seq.specs.Knows.{owners_are_found};
 ghost use Rattle.bt_seq.specs.MaskFronts.{decided_lines_stay, faultless_are_masked, first_unowned_is_told, masked_are_a_front, masked_lines_are_before, masked_lines_stay, owned_lack_none};
+ghost use Rattle.bt_seq.specs.MaskStanding.{taken_are_first};
 ghost use Rattle.bt_seq.specs.MaskSteps.{quiet_records_are_taken};
 ghost use Rattle.bt_seq.specs.Masked.{mask_texts};
-ghost use Rattle.bt_seq.specs.Owners.{blocks_are_maximal_runs, next_goes_on_or_begins};
+ghost use Rattle.bt_seq.specs.Owners.{blocks_are_maximal_runs, next_goes_on_or_begins, owners_stay, owners_were};
 ghost use Rattle.bt_seq.specs.SamKind.{sam_kinds_are_of_lines, wrong_have_sam_kinds};
 
 use crate::mask_how::MaskHow;
@@ -101,6 +102,12 @@ pub fn quiet_records_are_taken()
     ensures { quiet_records_are_taken }
 {}
 
+/// Among the names up to a line and among all names, a block belongs to the same of those sequences.
+pub fn owners_agree_among_more_names()
+    ensures stay { owners_stay }
+    ensures were { owners_were }
+{}
+
 /// What is known line by line and record by record gives the sequence of a block.
 pub fn owners_of_blocks_are_found()
     ensures { owners_are_found }
@@ -125,6 +132,11 @@ pub fn masked_fronts_begin()
 pub fn first_unowned_is_told()
     ensures none { owned_lack_none }
     ensures first { first_unowned_is_told }
+{}
+
+/// Of the records that were taken, no front decides all lines given.
+pub fn taken_records_come_first()
+    ensures { taken_are_first }
 {}
 
 /// The records held by a line mask it as all records of the input do.

@@ -1,7 +1,13 @@
 //! Masked bases.
 
-ghost use Rattle.std.specs.Prelude.{◌≡◌, map};
+ghost use Rattle.std.specs.Prelude.{◌≡◌, ◌≤◌, ◌++◌, drop, length, map, take};
 ghost use Rattle.bt_seq.specs.MaskHow.{masked_byte};
+ghost use Rattle.bt_seq.specs.declared.mask_how.MaskHow.TheVariants.{Soft};
+
+use std::simd::prelude::*;
+
+// So many bases are masked at once.
+const LANES: usize = 32;
 
 /// What stands for a masked base.
 #[derive(Clone, Copy, Debug, PartialEq, Eq)]
@@ -14,6 +20,46 @@ pub enum MaskHow {
 
 /// Masks bases in place, each byte by itself. It takes no memory.
 pub fn mask_slice(bases: &mut [u8], how: MaskHow)
+    ensures { bases.new ≡ map (masked_byte how) bases.old }
+{
+    let at = mask_by_lanes(bases, how);
+    mask_each(&mut bases[at..], how);
+}
+
+// Masks as many bases as fill whole vectors, and answers how many those are.
+fn mask_by_lanes(bases: &mut [u8], how: MaskHow) -> usize
+    ensures within { result ≤ length bases.old }
+    ensures masked { bases.new ≡ map (masked_byte how) (take result bases.old) ++ drop result bases.old }
+{
+    let mut at = 0;
+    while bases.len() - at >= LANES {
+        let lanes = u8x32::from_slice(&bases[at..]);
+        mask_lanes(lanes, how).copy_to_slice(&mut bases[at..]);
+        at += LANES;
+    }
+    at
+}
+
+// Masks the lanes of a vector, each by itself.
+fn mask_lanes(lanes: u8x32, how: MaskHow) -> u8x32
+    ensures { result ≡ map (masked_byte how) lanes }
+{
+    match how {
+        MaskHow::Soft => lower_lanes(lanes),
+        MaskHow::Hard(mask) => u8x32::splat(mask),
+    }
+}
+
+// Makes `a` to `z` of `A` to `Z` in each lane.
+fn lower_lanes(lanes: u8x32) -> u8x32
+    ensures { result ≡ map (masked_byte Soft) lanes }
+{
+    let is_upper = (lanes - u8x32::splat(b'A')).simd_lt(u8x32::splat(26));
+    is_upper.select(lanes + u8x32::splat(32), lanes)
+}
+
+// Masks bases one by one.
+fn mask_each(bases: &mut [u8], how: MaskHow)
     ensures { bases.new ≡ map (masked_byte how) bases.old }
 {
     for base in bases.iter_mut() {
@@ -54,6 +100,46 @@ mod tests {
             assert_eq!(rt; masked, *want);
         }
         mask_slice(&mut [], MaskHow::Soft);
+        Ok(())
+    }
+
+    // The 256 values of a byte, twice over.
+    fn each_byte_twice() -> [u8; 512] {
+        let mut bytes = [0; 512];
+        let mut value = 0u8;
+        for byte in bytes.iter_mut() {
+            *byte = value;
+            value = value.wrapping_add(1);
+        }
+        bytes
+    }
+
+    // Whether a slice is masked as each of its bytes is by itself, in lower case and by an `x`.
+    fn masks_each_byte(slice: &[u8]) -> bool {
+        let mut soft = [0; 512];
+        let mut hard = [0; 512];
+        let count = slice.len().min(512);
+        soft[..count].copy_from_slice(&slice[..count]);
+        hard[..count].copy_from_slice(&slice[..count]);
+        mask_slice(&mut soft[..count], MaskHow::Soft);
+        mask_slice(&mut hard[..count], MaskHow::Hard(120));
+        for index in 0..count {
+            if soft[index] != slice[index].to_ascii_lowercase() || hard[index] != 120 {
+                return false;
+            }
+        }
+        // Behind the slice nothing is masked.
+        soft[count..].iter().all(|byte| *byte == 0) && hard[count..].iter().all(|byte| *byte == 0)
+    }
+
+    #[test]
+    fn slices_of_all_bytes_are_masked_byte_by_byte(rt: HostRuntime) -> Result<(), Fail> {
+        let bytes = each_byte_twice();
+        for length in 0..=100 {
+            for start in 0..256 {
+                assert!(rt; masks_each_byte(&bytes[start..start + length]));
+            }
+        }
         Ok(())
     }
 }

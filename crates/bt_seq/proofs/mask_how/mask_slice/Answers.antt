@@ -1,12 +1,8 @@
-use Rattle.std.proofs.Common.{◌∙◌, ap, slice_set, slice_index_or}
 use Rattle.bt_seq.specs.MaskHow.{masked_byte}
-use Rattle.bt_seq.proofs.MaskLemmas.{one_mapped}
+use Rattle.bt_seq.proofs.LaneLemmas.{masked_rest}
 use Rattle.bt_seq.proofs.mask_how.mask_slice.Goals as goal
 
-pub loop-base-preserved : goal.loop-base-preserved
-loop-base-preserved c =
-    let f = masked_byte c.args.how in
-    let i = c.loop-base.base-index in
-    ap (λ byte. slice_set c.loop-base.bases i byte) c.mask_byte.ensures
-    ∙ ap (λ bytes. slice_set bytes i (f (slice_index_or bytes i 0))) c.loop-base.invariant
-    ∙ one_mapped f c.args.bases.now i c.loop-base-test.true
+pub returns : goal.returns
+returns c =
+    masked_rest (masked_byte c.args.how) c.args.bases.now c.mask_by_lanes-at.new.bases c.mask_by_lanes-at.result c.mask_by_lanes-at.ensures.within c.mask_by_lanes-at.ensures.masked
+    c.mask_each.new.bases c.mask_each.ensures
