@@ -19,3 +19,4 @@ pub mod WalkLemmas
 pub mod PlainPieceLemmas
 pub mod StartedLemmas
 pub mod HeldListLemmas
+pub mod EndLemmas

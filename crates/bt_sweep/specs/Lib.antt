@@ -13,4 +13,6 @@ pub mod StateSteps
 pub mod PlainPieces
 pub mod Held
 pub mod HeldList
+pub mod Ends
+pub mod HeldIndex
 pub mod SweepView

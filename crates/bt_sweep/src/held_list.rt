@@ -24,8 +24,8 @@ pub struct HeldList {
 }
 
 impl HeldList {
-    ghost use Rattle.std.specs.Prelude.{◌≡◌, []};
-    ghost use Rattle.bt_sweep.specs.HeldList.{records_in};
+    ghost use Rattle.std.specs.Prelude.{◌≡◌, [], IsTrue};
+    ghost use Rattle.bt_sweep.specs.HeldList.{HasRoom, records_in};
 
     /// No record. It takes no memory.
     pub fn new(alloc: Global) -> HeldList
@@ -46,6 +46,23 @@ impl HeldList {
             Some(last) => self.rising && last.as_bed().start <= rec.as_bed().start,
         }
     }
+
+    // Makes room for one more. Answers whether there was memory for it.
+    pub(crate) fn make_room(&mut self) -> bool
+        ensures same { records_in self.new ≡ records_in self.old }
+        ensures room { IsTrue result → HasRoom self.new }
+    {
+        self.records.try_reserve(1).is_ok()
+    }
+
+    // Adds a record behind the others, for which there is room.
+    pub(crate) fn add(&mut self, rec: Rec)
+        requires { HasRoom self.old }
+        ensures { records_in self.new ≡ records_in self.old ++ rec ∷ [] }
+    {
+        self.rising = self.rises_to(&rec);
+        self.records.push_back_reserved(rec);
+    }
 }
 
 impl Held for HeldList {
@@ -54,14 +71,11 @@ impl Held for HeldList {
     ghost records = { records_in };
 
     fn push(&mut self, rec: Rec) -> Result<(), Rec> {
-        let rising = self.rises_to(&rec);
-        match self.records.push_back(rec) {
-            Ok(()) => {
-                self.rising = rising;
-                Ok(())
-            }
-            Err(failed) => Err(failed.value),
+        if !self.make_room() {
+            return Err(rec);
         }
+        self.add(rec);
+        Ok(())
     }
 
     fn drop_ended(&mut self, place: u64) {

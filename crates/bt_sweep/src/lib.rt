@@ -26,6 +26,7 @@
 #[cfg(test)]
 mod example;
 mod held;
+mod held_index;
 mod held_list;
 mod hit;
 mod hit_rule;
@@ -44,6 +45,7 @@ mod writing;
 
 pub use bt_bed::Taken;
 pub use held::Held;
+pub use held_index::HeldIndex;
 pub use held_list::HeldList;
 pub use hit_rule::HitRule;
 pub use shape::Shape;

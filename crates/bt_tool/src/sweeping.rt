@@ -16,7 +16,7 @@ ghost use Rattle.bt_tool.specs.Turns.{TurnsFirst, TurnsSecond};
 
 use bt_bed::{ChromOrder, Records};
 use bt_lines::{Fault, Input, LineReader, Out, Sink, Source};
-use bt_sweep::{Held, HeldList, HitRule, Shape, Sweep, Taken, Want};
+use bt_sweep::{Held, HeldIndex, HitRule, Shape, Sweep, Taken, Want};
 use std::alloc::Global;
 
 // Gives a sweep the next record of the first input, or its end.
@@ -140,7 +140,7 @@ pub(crate) fn sweep<A: Source, B: Source, O: ChromOrder, K: Sink>(
 {
     let mut firsts = Records::new(alloc, LineReader::new(alloc, first, Input::First), order);
     let mut seconds = Records::new(alloc, LineReader::new(alloc, second, Input::Second), order);
-    let mut sweep = Sweep::new(alloc, HeldList::new(alloc), shape, rule, order);
+    let mut sweep = Sweep::new(alloc, HeldIndex::new(alloc), shape, rule, order);
     let swept = read_both(&mut firsts, &mut seconds, &mut sweep, out);
     let first = firsts.into_reader().into_source();
     let second = seconds.into_reader().into_source();
