@@ -20,3 +20,4 @@ pub mod PlainPieceLemmas
 pub mod StartedLemmas
 pub mod HeldListLemmas
 pub mod EndLemmas
+pub mod OpenLemmas

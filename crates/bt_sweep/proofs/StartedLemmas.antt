@@ -1,10 +1,10 @@
 -- Lemmas on records that come by their starts, and where those begin that start at a place or behind it.
-use Rattle.std.proofs.Common.{◌≡◌, ℕ, ◌≤◌, Bool, true, false, ◌||◌, List, [], ◌∷◌, zero, suc, refl, arith, drop, nat_le, leb-true, option_to_list, take}
+use Rattle.std.proofs.Common.{◌≡◌, ℕ, ◌+◌, ◌<◌, ◌≤◌, Bool, true, false, ◌||◌, List, [], ◌∷◌, zero, suc, refl, add-one, arith, drop, length, nat_le, leb-true, option_to_list, take}
 use Rattle.std.specs.List.{AllByRecursion, list_any, slice_get}
-use Rattle.std.proofs.lemmas.Bool.{false≢true}
+use Rattle.std.proofs.lemmas.Bool.{false≢true, leb-false, or_parts}
 use Rattle.std.proofs.lemmas.List.Elements.{All-from_recursion}
 use Rattle.bt_bed.specs.Feature.{Feature}
-use Rattle.bt_sweep.specs.Held.{AreRising, AreRisingFrom, StartFrom}
+use Rattle.bt_sweep.specs.Held.{AreRising, AreRisingFrom, StartBefore, StartFrom}
 
 only_one : (c : Bool) → (c || false) ≡ true → c ≡ true
 only_one true e = refl
@@ -40,3 +40,21 @@ module _ (place : ℕ) where
   -- those from this one on start there or behind it
   pub start_behind : (bs : List Feature) (i : ℕ) → list_any (λ r. nat_le place r.start) (option_to_list (slice_get bs i)) ≡ true → AreRising bs → StartFrom place (drop i bs)
   start_behind bs i e rises = All-from_recursion Starts (drop i bs) (start_rec 0 bs i e rises)
+
+  abbrev StartsBefore : Feature → Type 0
+  StartsBefore b = b.start < place
+
+  only_before : (n : ℕ) → (nat_le place n || false) ≡ false → n < place
+  only_before n e = leb-false place n (or_parts (nat_le place n) false e).0
+
+  before_rec : (low : ℕ) (bs : List Feature) (i : ℕ) → i < length bs → list_any (λ r. nat_le place r.start) (option_to_list (slice_get bs i)) ≡ false → AreRisingFrom low bs → AllByRecursion StartsBefore (take (suc i) bs)
+  before_rec low [] i h e rises = absurd (omega (arith, h))
+  before_rec low (b ∷ bs) zero h e rises = (only_before b.start e, tt)
+  before_rec low (b ∷ []) (suc i) h e rises = absurd (omega (arith, h))
+  before_rec low (b ∷ next ∷ bs) (suc i) h e rises =
+      let rest = before_rec b.start (next ∷ bs) i (omega (arith, h)) e rises.1 in
+      (omega (arith, rest.0, rises.1.0), rest)
+
+  -- where this one starts before it, it and those before it do
+  pub start_ahead : (bs : List Feature) (i : ℕ) → i < length bs → list_any (λ r. nat_le place r.start) (option_to_list (slice_get bs i)) ≡ false → AreRising bs → StartBefore place (take (i + 1) bs)
+  start_ahead bs i h e rises = rw add-one (All-from_recursion StartsBefore (take (suc i) bs) (before_rec 0 bs i h e rises))

@@ -1,8 +1,8 @@
 -- Lemmas on what a sweep keeps.
-use Rattle.std.proofs.Common.{◌≡◌, ℕ, inl, Bool, true, false, cond, List, [], ◌∷◌, ◌++◌, length, Option, Some, None, Result, Ok, Err, refl, sym, ap, ◌∙◌, subst, ltb, arith, filter, bytes_eq}
-use Rattle.std.specs.Prelude.{OnOk, OnErr}
+use Rattle.std.proofs.Common.{◌≡◌, ◌<◌, ℕ, inl, Bool, true, false, cond, List, [], ◌∷◌, ◌++◌, length, Option, Some, None, Result, Ok, Err, refl, sym, ap, ◌∙◌, subst, ltb, arith, filter, bytes_eq}
+use Rattle.std.specs.Prelude.{All, OnOk, OnErr}
 use Rattle.std.specs.Result.{is_err}
-use Rattle.std.proofs.lemmas.Bool.{false≢true, and_parts}
+use Rattle.std.proofs.lemmas.Bool.{false≢true, and_parts, ltb-true}
 use Rattle.std.proofs.lemmas.List.Elements.{All-filter, All-push}
 use Rattle.bt_lines.specs.Names.{told}
 use Rattle.bt_lines.specs.Output.{Output}
@@ -11,7 +11,8 @@ use Rattle.bt_lines.specs.declared.fault.Fault.{Fault}
 use Rattle.bt_lines.proofs.PuttingLemmas.{grown_none}
 use Rattle.bt_bed.specs.Feature.{Feature}
 use Rattle.bt_bed.proofs.NameLemmas.{same_name}
-use Rattle.bt_sweep.specs.Held.{AreOn, AreRising, AreWith}
+use Rattle.bt_sweep.specs.Held.{AreRising, AreWith, CanHit}
+use Rattle.bt_sweep.proofs.OpenLemmas.{open_kept}
 use Rattle.bt_sweep.specs.IntersectLines.{lines_for}
 use Rattle.bt_sweep.specs.StateSteps.{NeedsHit, TakesA, WritesLast, held_with, is_held_by, moved_to}
 use Rattle.bt_sweep.specs.SweepState.{Sweeping}
@@ -21,36 +22,38 @@ use Rattle.bt_sweep.specs.declared.shape.Shape.{Shape}
 same_some : (a x : Feature) → Some a ≡ Some x → a ≡ x
 same_some a x e = cc
 
-held_on : (last : Option Feature) (b x : Feature) → is_held_by last b ≡ true → last ≡ Some x → b.chrom ≡ x.chrom
-held_on None b x h e = absurd (false≢true h)
-held_on (Some a) b x h e = sym (same_name a.chrom b.chrom (and_parts (bytes_eq a.chrom b.chrom) (ltb a.start b.stop) h).0) ∙ ap (λ (f : Feature). f.chrom) (same_some a x e)
+held_hits : (last : Option Feature) (b x : Feature) → b.start < b.stop → is_held_by last b ≡ true → last ≡ Some x → CanHit x b
+held_hits None b x some h e = absurd (false≢true h)
+held_hits (Some a) b x some h e =
+    let parts = and_parts (bytes_eq a.chrom b.chrom) (ltb a.start b.stop) h in
+    subst (λ (f : Feature). CanHit f b) (same_some a x e) (sym (same_name a.chrom b.chrom parts.0), ltb-true a.start b.stop parts.1, some)
 
--- a record that has to be held lies on the chromosome of the others
-pub added_with : (last : Option Feature) (b : Feature) (held : List Feature) → is_held_by last b ≡ true → AreWith last held → AreWith last (held ++ b ∷ [])
-added_with last b held h on = λ x e. All-push (λ f. f.chrom ≡ x.chrom) held b (on x e) (held_on last b x h e)
+-- a record that has to be held can hit the last one, as the others can
+pub added_with : (last : Option Feature) (b : Feature) (held : List Feature) → b.start < b.stop → is_held_by last b ≡ true → AreWith last held → AreWith last (held ++ b ∷ [])
+added_with last b held some h on = λ x e. All-push (CanHit x) held b (on x e) (held_hits last b x some h e)
 
-none_on : (name : List ℕ) → AreOn name []
-none_on name = λ k d h. absurd (omega arith)
+none_hit : (a : Feature) → All (CanHit a) []
+none_hit a = λ k d h. absurd (omega arith)
 
-kept_on : (c : Bool) (a : Feature) (name : List ℕ) (held : List Feature) → (c ≡ true → AreOn name held) → AreOn name (cond c (filter (λ b. ltb a.start b.stop) held) [])
-kept_on true a name held on = All-filter (λ b. ltb a.start b.stop) (λ f. f.chrom ≡ name) held (on refl)
-kept_on false a name held on = none_on name
+kept_hit : (c : Bool) (a x : Feature) (held : List Feature) → (c ≡ true → All (CanHit x) (filter (λ b. ltb a.start b.stop) held)) → All (CanHit x) (cond c (filter (λ b. ltb a.start b.stop) held) [])
+kept_hit true a x held on = on refl
+kept_hit false a x held on = none_hit x
 
 with_old : (last : Option Feature) (a : Feature) (held : List Feature) → AreWith last held → AreWith last (held_with last held a)
-with_old None a held on = λ x e. none_on x.chrom
-with_old (Some l) a held on = λ x e. kept_on (bytes_eq l.chrom a.chrom) a x.chrom held (λ t. on x e)
+with_old None a held on = λ x e. none_hit x
+with_old (Some l) a held on = λ x e. kept_hit (bytes_eq l.chrom a.chrom) a x held (λ t. All-filter (λ b. ltb a.start b.stop) (CanHit x) held (on x e))
 
-with_new : (last : Option Feature) (a : Feature) (held : List Feature) → AreWith last held → AreOn a.chrom (held_with last held a)
-with_new None a held on = none_on a.chrom
-with_new (Some l) a held on = kept_on (bytes_eq l.chrom a.chrom) a a.chrom held (λ t. subst (λ (n : List ℕ). AreOn n held) (same_name l.chrom a.chrom t) (on l refl))
+with_new : (last : Option Feature) (a : Feature) (held : List Feature) → AreWith last held → All (CanHit a) (held_with last held a)
+with_new None a held on = none_hit a
+with_new (Some l) a held on = kept_hit (bytes_eq l.chrom a.chrom) a a held (λ t. open_kept l a held (same_name l.chrom a.chrom t) (on l refl))
 
--- what is held once a is given lies on the chromosome of the last record, whether a became that or not
+-- what is held once a is given can hit the last record, whether a became that or not
 pub moved_with : {T E : Type 0} (r : Result T E) (old new : Option Feature) (held left : List Feature) (a : Feature) → AreWith old held → left ≡ held_with old held a → OnOk r (new ≡ Some a) → OnErr r (new ≡ old) → AreWith new left
 moved_with (Ok done) old new held left a on is now before =
-    λ x e. subst (λ (l : List Feature). AreOn x.chrom l) (sym is)
-    (subst (λ (f : Feature). AreOn f.chrom (held_with old held a)) (same_some a x (sym now ∙ e)) (with_new old a held on))
+    λ x e. subst (λ (l : List Feature). All (CanHit x) l) (sym is)
+    (subst (λ (f : Feature). All (CanHit f) (held_with old held a)) (same_some a x (sym now ∙ e)) (with_new old a held on))
 moved_with (Err f) old new held left a on is now before =
-    λ x e. subst (λ (l : List Feature). AreOn x.chrom l) (sym is) (with_old old a held on x (sym before ∙ e))
+    λ x e. subst (λ (l : List Feature). All (CanHit x) l) (sym is) (with_old old a held on x (sym before ∙ e))
 
 pub on_ok_of : {T E : Type 0} {P : Type 0} (r : Result T E) → is_err r ≡ false → OnOk r P → P
 on_ok_of (Ok done) e h = h

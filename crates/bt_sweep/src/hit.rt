@@ -1,11 +1,11 @@
 //! Which records hit one another.
 
-ghost use Rattle.std.specs.Prelude.{◌≡◌, length, option_copied, option_to_list, take};
+ghost use Rattle.std.specs.Prelude.{◌≡◌, ◌≤◌, All, length, option_copied, option_to_list, take};
 ghost use Rattle.std.specs.List.{list_any};
 ghost use Rattle.bt_bed.specs.Bed.{feature_lent};
 ghost use Rattle.bt_bed.specs.Strands.{is_strand};
 ghost use Rattle.bt_sweep.specs.Hits.{has_fraction, hits, hits_among, is_enough, shared_bases, strands_agree};
-ghost use Rattle.bt_sweep.specs.Held.{AreOn};
+ghost use Rattle.bt_sweep.specs.Held.{AreOn, CanHit, StartBefore};
 
 use crate::held::Held;
 use crate::hit_rule::HitRule;
@@ -100,8 +100,28 @@ pub(crate) fn is_any_hit<H: Held>(rule: HitRule, a: &BedRef<'_>, held: &H, count
     false
 }
 
+// How many of so many held records from the first hit the record, where they start before its end. If
+// one shared base is enough, all of them do, since those that ended before it aren't held any more.
+#[tactic(auto, using(crate::proofs::OpenLemmas::all_hit, crate::proofs::OpenLemmas::on_name))]
+pub(crate) fn count_started_hits<H: Held>(
+    rule: HitRule,
+    a: &BedRef<'_>,
+    held: &H,
+    count: usize,
+) -> usize
+    requires can_hit { All (CanHit (feature_lent a.now)) (H.records held.now) }
+    requires within { count ≤ length (H.records held.now) }
+    ensures { StartBefore a.now.stop (take count (H.records held.now))
+        → result ≡ length (hits_among rule (feature_lent a.now) (take count (H.records held.now))) }
+{
+    if rule.is_any_overlap() {
+        return count;
+    }
+    count_hits(rule, a, held, count)
+}
+
 // How many of so many held records from the first hit the record.
-pub(crate) fn count_hits<H: Held>(rule: HitRule, a: &BedRef<'_>, held: &H, count: usize) -> usize
+fn count_hits<H: Held>(rule: HitRule, a: &BedRef<'_>, held: &H, count: usize) -> usize
     requires { AreOn a.now.chrom.now (H.records held.now) }
     ensures { result ≡ length (hits_among rule (feature_lent a.now) (take count (H.records held.now))) }
 {

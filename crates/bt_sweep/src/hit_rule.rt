@@ -1,6 +1,6 @@
 //! What makes a hit.
 
-ghost use Rattle.std.specs.Prelude.{◌≡◌};
+ghost use Rattle.std.specs.Prelude.{◌≡◌, false, true};
 ghost use Rattle.bt_sweep.specs.Hits.{any_overlap};
 
 /// Which records hit one another: they share a base, and what the rule asks for beside that (bedtools
@@ -25,5 +25,13 @@ impl HitRule {
             both: false,
             same_strand: false,
         }
+    }
+
+    // Whether one shared base is all that it asks for. Without a fraction it doesn't matter whether that
+    // is asked of both.
+    pub(crate) fn is_any_overlap(&self) -> bool
+        ensures { result ≡ true → (self.now.billionths ≡ 0) × (self.now.same_strand ≡ false) }
+    {
+        self.billionths == 0 && !self.same_strand
     }
 }

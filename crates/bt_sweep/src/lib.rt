@@ -28,6 +28,8 @@ mod example;
 mod held;
 mod held_index;
 mod held_list;
+#[cfg(test)]
+mod held_tests;
 mod hit;
 mod hit_rule;
 pub mod laws;

@@ -1,21 +1,24 @@
 //! How many records that come by their starts begin before a position.
 
-ghost use Rattle.std.specs.Prelude.{◌≡◌, ◌≤◌, drop, length, nat_le, option_copied, option_to_list};
+ghost use Rattle.std.specs.Prelude.{◌≡◌, ◌≤◌, drop, length, nat_le, option_copied, option_to_list, take};
 ghost use Rattle.std.specs.List.{list_any};
-ghost use Rattle.bt_sweep.specs.Held.{AreRising, StartFrom};
+ghost use Rattle.bt_sweep.specs.Held.{AreRising, StartBefore, StartFrom};
 
 use crate::held::Held;
 use bt_bed::Rec;
 
 // How many held records stand before the first one that starts at the place or behind it, where they
-// come by their starts. The contract says no more than that those behind start there. The last record
-// is looked at first, since mostly it starts before the place.
+// come by their starts. The last record is looked at first, since mostly it starts before the place.
 pub(crate) fn count_started<H: Held>(held: &H, place: u64) -> usize
     ensures within { result ≤ length (H.records held.now) }
+    ensures before { AreRising (H.records held.now) → StartBefore place (take result (H.records held.now)) }
     ensures rest { AreRising (H.records held.now) → StartFrom place (drop result (H.records held.now)) }
 {
     let mut high = held.len();
-    if high == 0 || !starts_from(held.nth(high - 1), place) {
+    if high == 0 {
+        return 0;
+    }
+    if !starts_from(held.nth(high - 1), place) {
         return high;
     }
     let mut low = 0;

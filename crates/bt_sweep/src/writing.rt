@@ -1,16 +1,16 @@
 //! The lines of one record.
 
-ghost use Rattle.std.specs.Prelude.{◌≡◌, ◌∷◌, [], ◌<◌, IsTrue, cond, decimal, flat_map, option_copied, option_to_list, take};
+ghost use Rattle.std.specs.Prelude.{◌≡◌, ◌∷◌, [], ◌<◌, All, IsTrue, cond, decimal, flat_map, option_copied, option_to_list, take};
 ghost use Rattle.bt_lines.specs.Putting.{Adds, Puts};
 ghost use Rattle.bt_bed.specs.Bed.{feature_lent};
 ghost use Rattle.bt_bed.specs.Record.{bed_text, cut_to};
-ghost use Rattle.bt_sweep.specs.Held.{AreOn, AreRising};
+ghost use Rattle.bt_sweep.specs.Held.{AreOn, AreRising, CanHit};
 ghost use Rattle.bt_sweep.specs.Hits.{hits_among, shared_bases};
 ghost use Rattle.bt_sweep.specs.IntersectLines.{hit_line, line_with, lines_for};
 ghost use Rattle.bt_sweep.specs.StateSteps.{NeedsHit};
 
 use crate::held::Held;
-use crate::hit::{count_hits, is_any_hit, is_hit};
+use crate::hit::{count_started_hits, is_any_hit, is_hit};
 use crate::hit_rule::HitRule;
 use crate::pieces::put_pieces;
 use crate::shape::Shape;
@@ -33,8 +33,9 @@ pub(crate) fn needs_hit(shape: Shape) -> bool
     }
 }
 
-// Puts the lines of a record against these, which lie on its chromosome and come by their starts. Those
-// that start at its end or behind it are passed over. It takes no memory.
+// Puts the lines of a record against these, which can hit it and come by their starts. Those that start
+// at its end or behind it are passed over. It takes no memory.
+#[tactic(auto, using(crate::proofs::OpenLemmas::on_name))]
 pub(crate) fn put_lines<H: Held, K: Sink>(
     shape: Shape,
     rule: HitRule,
@@ -42,13 +43,13 @@ pub(crate) fn put_lines<H: Held, K: Sink>(
     held: &H,
     out: &mut Out<K>,
 ) -> Result<(), Fault>
-    requires { AreOn a.now.chrom.now (H.records held.now) }
+    requires { All (CanHit (feature_lent a.now)) (H.records held.now) }
     ensures { AreRising (H.records held.now)
         → Adds out.old (lines_for shape rule (feature_lent a.now) (H.records held.now)) result out.new }
 {
     let count = count_started(held, a.stop);
     match shape {
-        Shape::Count => put_counted(a, count_hits(rule, a, held, count) as u64, out),
+        Shape::Count => put_counted(a, count_started_hits(rule, a, held, count) as u64, out),
         Shape::Once => put_where(is_any_hit(rule, a, held, count), a, out),
         Shape::Missing | Shape::Whole => put_where(!is_any_hit(rule, a, held, count), a, out),
         Shape::Cut | Shape::OrigA | Shape::CutAndB | Shape::OrigBoth | Shape::Overlap => {

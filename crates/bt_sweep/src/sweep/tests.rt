@@ -1,4 +1,5 @@
 use super::*;
+use crate::held_index::HeldIndex;
 use crate::held_list::HeldList;
 use crate::plain::plain_intersect;
 use crate::worked::{FRACTIONS, RuledCase, STRANDS, SUBTRACTED};
@@ -288,24 +289,21 @@ fn worked_rows(rt: HostRuntime) {
         return;
     };
     for (name, shape, first, second, want) in CASES {
-        let mut sweep = any_overlap(rt.alloc(), shape, &genome);
-        let mut out = Out::new(ScriptSink::new(rt.alloc(), 3, None));
-        let swept = sweep_all(&mut sweep, first, second, &mut out);
-        assert_eq!(rt; swept, Ok(()), "{name}");
-        assert_eq!(rt; out.flush(), Ok(()), "{name}");
-        assert_eq!(rt; out.into_sink().taken(), want, "{name}");
+        let case = (name, shape, HitRule::any_overlap(), first, second, want);
+        assert!(rt; writes_in_both(&rt, &genome, &case, None), "{name}");
     }
 }
 
 // Whether a sweep writes what the case wants, to a sink that takes so many bytes.
-fn writes_ruled<O: ChromOrder>(
+fn writes_ruled<H: Held, O: ChromOrder>(
     rt: &HostRuntime,
+    held: H,
     order: &O,
     case: &RuledCase,
     good: Option<usize>,
 ) -> bool {
     let (_, shape, rule, first, second, want) = *case;
-    let mut sweep = Sweep::new(rt.alloc(), HeldList::new(rt.alloc()), shape, rule, order);
+    let mut sweep = Sweep::new(rt.alloc(), held, shape, rule, order);
     let mut out = Out::new(ScriptSink::new(rt.alloc(), 3, good));
     let swept = sweep_all(&mut sweep, first, second, &mut out);
     let ended = swept.is_ok() && out.flush().is_ok();
@@ -316,6 +314,17 @@ fn writes_ruled<O: ChromOrder>(
     }
 }
 
+// Whether it does so with either form of held records.
+fn writes_in_both<O: ChromOrder>(
+    rt: &HostRuntime,
+    order: &O,
+    case: &RuledCase,
+    good: Option<usize>,
+) -> bool {
+    writes_ruled(rt, HeldList::new(rt.alloc()), order, case, good)
+        && writes_ruled(rt, HeldIndex::new(rt.alloc()), order, case, good)
+}
+
 // The name of the first case that is written otherwise, on a sink that works and on those that fail.
 fn first_miswritten<O: ChromOrder>(
     rt: &HostRuntime,
@@ -323,11 +332,11 @@ fn first_miswritten<O: ChromOrder>(
     cases: &[RuledCase],
 ) -> Option<&'static str> {
     for case in cases {
-        if !writes_ruled(rt, order, case, None) {
+        if !writes_in_both(rt, order, case, None) {
             return Some(case.0);
         }
         for good in 0..case.5.len() {
-            if !writes_ruled(rt, order, case, Some(good)) {
+            if !writes_in_both(rt, order, case, Some(good)) {
                 return Some(case.0);
             }
         }
@@ -506,6 +515,53 @@ fn many_records_that_are_not_held(rt: HostRuntime) -> Result<(), Fail> {
         assert_eq!(rt; held_len(&sweep), 0);
     }
     Ok(())
+}
+
+// Counts the hits of three records in a thousand, each of which lies within the one before it.
+fn counts_in_nested<H: Held, O: ChromOrder>(
+    rt: &HostRuntime,
+    held: H,
+    order: &O,
+) -> Result<(), Fail> {
+    let mut sweep = Sweep::new(
+        rt.alloc(),
+        held,
+        Shape::Count,
+        HitRule::any_overlap(),
+        order,
+    );
+    let mut out = Out::new(ScriptSink::new(rt.alloc(), 100, None));
+    assert_eq!(rt;
+        give_first(&mut sweep, b"chr1\t0\t10000", &mut out),
+        Some(Ok(()))
+    );
+    for start in 0u32..1000 {
+        let line = format!(in rt.alloc(); "chr1\t{start}\t{}", 10_000 - start)?;
+        assert_eq!(rt;
+            give_second(&mut sweep, line.as_bytes(), &mut out),
+            Some(Ok(Taken::Yes))
+        );
+    }
+    assert_eq!(rt; end_second(&mut sweep, &mut out), Some(Ok(())));
+    for line in [b"chr1\t9500\t9600".as_slice(), b"chr1\t9999\t10000"] {
+        assert_eq!(rt; give_first(&mut sweep, line, &mut out), Some(Ok(())));
+    }
+    assert_eq!(rt; out.flush(), Ok(()));
+    assert_eq!(rt;
+        out.into_sink().taken(),
+        b"chr1\t0\t10000\t1000\nchr1\t9500\t9600\t500\nchr1\t9999\t10000\t1\n".as_slice()
+    );
+    Ok(())
+}
+
+#[test]
+fn nested_records_are_counted(rt: HostRuntime) -> Result<(), Fail> {
+    let Ok(genome) = read_genome(rt.alloc()) else {
+        assert!(rt; false);
+        return Ok(());
+    };
+    counts_in_nested(&rt, HeldList::new(rt.alloc()), &genome)?;
+    counts_in_nested(&rt, HeldIndex::new(rt.alloc()), &genome)
 }
 
 // The records of these lines.

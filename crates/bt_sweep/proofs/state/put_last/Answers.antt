@@ -1,8 +1,9 @@
 use Rattle.std.proofs.Common.{subst, sym}
 use Rattle.bt_bed.specs.Feature.{Feature}
-use Rattle.bt_sweep.specs.Held.{AreOn}
+use Rattle.std.specs.Prelude.{All}
+use Rattle.bt_sweep.specs.Held.{CanHit}
 use Rattle.bt_sweep.proofs.state.put_last.Goals as goal
 
 pub put_lines-requires : goal.put_lines-requires
 put_lines-requires g c =
-    subst (λ (f : Feature). AreOn f.chrom (g.H.Held.records c.args.held.now)) (sym c.as_bed.ensures) (c.requires c.in-Some.last c.in-Some.is)
+    subst (λ (f : Feature). All (CanHit f) (g.H.Held.records c.args.held.now)) (sym c.as_bed.ensures) (c.requires c.in-Some.last c.in-Some.is)

@@ -11,7 +11,7 @@ returns-in-Count g c = λ rises.
     let n = c.count_started-count.result in
     let a = feature_lent c.args.a.now in
     subst (λ (l : List ℕ). Adds c.args.out.now l c.put_counted.result c.put_counted.new.out) (took_lines c.args.rule a c.args.shape held n (c.count_started-count.ensures.rest rises))
-    (count_adds a (take n held) _ _ c.put_counted.result c.args.shape c.args.rule _ c.in-Count.is c.count_hits.ensures c.put_counted.ensures)
+    (count_adds a (take n held) _ _ c.put_counted.result c.args.shape c.args.rule _ c.in-Count.is (c.count_started_hits.ensures (c.count_started-count.ensures.before rises)) c.put_counted.ensures)
 
 pub returns-in-Once : goal.returns-in-Once
 returns-in-Once g c = λ rises.

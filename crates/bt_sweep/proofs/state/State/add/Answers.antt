@@ -1,4 +1,4 @@
-use Rattle.std.proofs.Common.{◌≡◌, true, [], ◌∷◌, ◌++◌, ap, subst, sym, ◌∙◌}
+use Rattle.std.proofs.Common.{◌≡◌, rules, true, [], ◌∷◌, ◌++◌, ap, subst, sym, ◌∙◌}
 use Rattle.bt_bed.specs.Bed.{feature_lent}
 use Rattle.bt_bed.specs.Feature.{Feature}
 use Rattle.bt_sweep.specs.Held.{AreWith}
@@ -17,6 +17,6 @@ invariant_of-self g c =
     elim c.match-push.branch [
       | in-Ok w ↦
           subst (AreWith last) (sym (w.in-Ok.ensures.pushed ∙ ap (λ (r : Feature). held ++ r ∷ []) c.in_ok-rec.ensures))
-          (added_with last b held to_hold c.self.invariant)
+          (added_with last b held (search rules) to_hold c.self.invariant)
       | in-Err w ↦ subst (AreWith last) (sym w.in-Err.ensures.back.1) c.self.invariant
     ]
