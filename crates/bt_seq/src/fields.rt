@@ -5,8 +5,8 @@ ghost use Rattle.bt_lines.specs.Lines.{pieces};
 ghost use Rattle.bt_seq.specs.Alignment.{fields_of};
 ghost use Rattle.bt_seq.specs.Sam.{IsCut, fields_lent};
 
+use crate::tabs::first_tab_by_lanes;
 use bstr::ByteSlice;
-use bt_lines::first_tab;
 
 // The columns between CIGAR and SEQ, which are short: RNEXT, PNEXT and TLEN.
 const SHORT_COLUMNS: usize = 3;
@@ -71,6 +71,6 @@ fn has_tab(text: &[u8]) -> bool
 fn cut_short(text: &[u8]) -> Option<(&[u8], &[u8])>
     ensures { IsCut text.now result }
 {
-    let end = first_tab(text)?;
+    let end = first_tab_by_lanes(text)?;
     Some((&text[..end], &text[end + 1..]))
 }

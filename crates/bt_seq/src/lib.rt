@@ -45,6 +45,7 @@ mod sam;
 mod sam_text;
 mod splitting;
 mod stretch;
+mod tabs;
 mod window;
 
 pub use bam_to_bed::BamToBed;

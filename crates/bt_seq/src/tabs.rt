@@ -1,0 +1,81 @@
+//! The first tab of a text, sixteen bytes at a time.
+
+ghost use Rattle.std.specs.Prelude.{◌≡◌, ◌+◌, ◌<◌, ◌≤◌, ◌==◌, false, IfSome, length, not, take};
+ghost use Rattle.std.specs.List.{All, prefix_len};
+ghost use Rattle.std.specs.Simd.Lanes.{chunk};
+ghost use Rattle.bt_lines.specs.Columns.{CutAt};
+
+use std::simd::prelude::*;
+
+// So many bytes are looked at together.
+const LANES: usize = 16;
+
+// Where the first tab of a text stands. Behind the first columns of an alignment stand its bases, so
+// that mostly there are as many bytes as are looked at together.
+pub(crate) fn first_tab_by_lanes(text: &[u8]) -> Option<usize>
+    ensures within { IfSome result (λ at. at < length text.now) }
+    ensures cut { CutAt text.now result }
+{
+    let mut at = 0;
+    while text.len() - at >= LANES {
+        let column = bytes_before_tab(text, at);
+        if column < LANES {
+            return Some(at + column);
+        }
+        at += LANES;
+    }
+    first_tab_from(text, at)
+}
+
+// The same where no tab stands before an index.
+fn first_tab_from(text: &[u8], from: usize) -> Option<usize>
+    requires within { from ≤ length text.now }
+    requires column { All (λ byte. (byte == 9) ≡ false) (take from text.now) }
+    ensures within { IfSome result (λ at. at < length text.now) }
+    ensures cut { CutAt text.now result }
+{
+    let mut at = from;
+    while at < text.len() {
+        if text[at] == b'\t' {
+            return Some(at);
+        }
+        at += 1;
+    }
+    None
+}
+
+// How many of sixteen bytes come before the first tab among them.
+fn bytes_before_tab(text: &[u8], at: usize) -> usize
+    requires { at + 16 ≤ length text.now }
+    ensures { result ≡ prefix_len (λ byte. not (byte == 9)) (chunk at 16 text.now) }
+{
+    let tabs = u8x16::from_slice(&text[at..])
+        .simd_eq(u8x16::splat(b'\t'))
+        .to_bitmask();
+    if tabs == 0 {
+        LANES
+    } else {
+        tabs.trailing_zeros() as usize
+    }
+}
+
+#[cfg(test)]
+mod tests {
+    use super::*;
+
+    // More bytes than are looked at together twice, and no tab.
+    const BYTES: [u8; 40] = *b"0123456789abcdef0123456789abcdef01234567";
+
+    #[test]
+    fn tabs_at_each_place(rt: HostRuntime) {
+        for size in 0..BYTES.len() {
+            assert_eq!(rt; first_tab_by_lanes(&BYTES[..size]), None, "of {size}");
+            for place in 0..size {
+                let mut text = BYTES;
+                text[place] = b'\t';
+                text[size - 1] = b'\t';
+                assert_eq!(rt; first_tab_by_lanes(&text[..size]), Some(place), "of {size}");
+            }
+        }
+    }
+}
