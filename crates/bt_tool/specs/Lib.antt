@@ -40,3 +40,6 @@ pub mod Report
 pub mod Chromosomes
 pub mod Gives
 pub mod Headline
+pub mod Parts
+pub mod SplitLaws
+pub mod GenomeSplitLaws

@@ -36,6 +36,7 @@ mod options;
 mod outcome;
 mod plan_type;
 mod running;
+pub mod split_laws;
 mod sweeping;
 mod table;
 mod takes;

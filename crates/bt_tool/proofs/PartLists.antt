@@ -1,0 +1,66 @@
+-- Lists of which all elements have a property, by recursion.
+use Rattle.std.proofs.Common.{◌≡◌, Bool, true, false, cond, List, [], ◌∷◌, ◌++◌, map, filter, refl, ap, ap₂, ◌∙◌}
+use Rattle.std.specs.Prelude.{flat_map}
+use Rattle.std.specs.List.{AllByRecursion}
+
+module _ {A : Type 0} where
+  pub all_front : (P : A → Type 0) (xs ys : List A) → AllByRecursion P (xs ++ ys) → AllByRecursion P xs
+  all_front P [] ys h = tt
+  all_front P (x ∷ xs) ys h = (h.0, all_front P xs ys h.1)
+
+  pub all_back : (P : A → Type 0) (xs ys : List A) → AllByRecursion P (xs ++ ys) → AllByRecursion P ys
+  all_back P [] ys h = h
+  all_back P (x ∷ xs) ys h = all_back P xs ys h.1
+
+  pub all_both : (P : A → Type 0) (xs ys : List A) → AllByRecursion P xs → AllByRecursion P ys → AllByRecursion P (xs ++ ys)
+  all_both P [] ys h k = k
+  all_both P (x ∷ xs) ys h k = (h.0, all_both P xs ys h.1 k)
+
+  pub all_so : (P Q : A → Type 0) (xs : List A) → ((x : A) → P x → Q x) → AllByRecursion P xs → AllByRecursion Q xs
+  all_so P Q [] f h = tt
+  all_so P Q (x ∷ xs) f h = (f x h.0, all_so P Q xs f h.1)
+
+  pub all_any : (P : A → Type 0) (xs : List A) → ((x : A) → P x) → AllByRecursion P xs
+  all_any P [] f = tt
+  all_any P (x ∷ xs) f = (f x, all_any P xs f)
+
+  filter_by : (P : A → Type 0) (b : Bool) (x : A) (xs : List A) → P x → AllByRecursion P xs → AllByRecursion P (cond b (x ∷ xs) xs)
+  filter_by P true x xs p h = (p, h)
+  filter_by P false x xs p h = h
+
+  pub all_filter : (P : A → Type 0) (t : A → Bool) (xs : List A) → AllByRecursion P xs → AllByRecursion P (filter t xs)
+  all_filter P t [] h = tt
+  all_filter P t (x ∷ xs) h = filter_by P (t x) x (filter t xs) h.0 (all_filter P t xs h.1)
+
+  pub filter_all : (t : A → Bool) (xs : List A) → AllByRecursion (λ x. t x ≡ true) xs → filter t xs ≡ xs
+  filter_all t [] h = refl
+  filter_all t (x ∷ xs) h = ap (λ b. cond b (x ∷ filter t xs) (filter t xs)) h.0 ∙ ap (λ l. x ∷ l) (filter_all t xs h.1)
+
+  pub filter_none : (t : A → Bool) (xs : List A) → AllByRecursion (λ x. t x ≡ false) xs → filter t xs ≡ []
+  filter_none t [] h = refl
+  filter_none t (x ∷ xs) h = ap (λ b. cond b (x ∷ filter t xs) (filter t xs)) h.0 ∙ filter_none t xs h.1
+
+  pub filter_same : (t u : A → Bool) (xs : List A) → AllByRecursion (λ x. t x ≡ u x) xs → filter t xs ≡ filter u xs
+  filter_same t u [] h = refl
+  filter_same t u (x ∷ xs) h = ap (λ b. cond b (x ∷ filter t xs) (filter t xs)) h.0 ∙ ap (λ l. cond (u x) (x ∷ l) l) (filter_same t u xs h.1)
+
+  pub flat_map_same : {B : Type 0} (f g : A → List B) (xs : List A) → AllByRecursion (λ x. f x ≡ g x) xs → flat_map f xs ≡ flat_map g xs
+  flat_map_same f g [] h = refl
+  flat_map_same f g (x ∷ xs) h = ap₂ (λ a b. a ++ b) h.0 (flat_map_same f g xs h.1)
+
+  pub map_same : {B : Type 0} (f g : A → B) (xs : List A) → AllByRecursion (λ x. f x ≡ g x) xs → map f xs ≡ map g xs
+  map_same f g [] h = refl
+  map_same f g (x ∷ xs) h = ap₂ (λ a b. a ∷ b) h.0 (map_same f g xs h.1)
+
+  pub all_map : {B : Type 0} (P : B → Type 0) (f : A → B) (xs : List A) → AllByRecursion (λ x. P (f x)) xs → AllByRecursion P (map f xs)
+  all_map P f [] h = tt
+  all_map P f (x ∷ xs) h = (h.0, all_map P f xs h.1)
+
+pub all_flat_map : {A B : Type 0} (P : B → Type 0) (f : A → List B) (xs : List A) → AllByRecursion (λ x. AllByRecursion P (f x)) xs → AllByRecursion P (flat_map f xs)
+all_flat_map P f [] h = tt
+all_flat_map P f (x ∷ xs) h = all_both P (f x) (flat_map f xs) h.0 (all_flat_map P f xs h.1)
+
+-- all pairs, the other way round
+pub all_swapped : {A B : Type 0} (P : A → B → Type 0) (xs : List A) (ys : List B) → AllByRecursion (λ x. AllByRecursion (P x) ys) xs → AllByRecursion (λ y. AllByRecursion (λ x. P x y) xs) ys
+all_swapped P xs [] h = tt
+all_swapped P xs (y ∷ ys) h = (all_so (λ x. AllByRecursion (P x) (y ∷ ys)) (λ x. P x y) xs (λ x k. k.0) h, all_swapped P xs ys (all_so (λ x. AllByRecursion (P x) (y ∷ ys)) (λ x. AllByRecursion (P x) ys) xs (λ x k. k.1) h))
