@@ -4,6 +4,7 @@ use crate::held_index::HeldIndex;
 use crate::held_list::HeldList;
 use bt_bed::parse_bed;
 use std::alloc::Global;
+use std::process::Abort;
 use std::test::Fail;
 
 // Adds the record of this line.

@@ -6,6 +6,7 @@ use crate::worked::{FRACTIONS, RuledCase, STRANDS, SUBTRACTED};
 use bt_bed::{ByteOrder, Genome, Rec, parse_bed};
 use bt_lines::{Input, Kind, LineReader, ScriptSink, ScriptSource};
 use std::alloc::AllocError;
+use std::process::Abort;
 use std::test::Fail;
 
 const GENOME: &[u8] = b"chr1\t1000\nchr2\t50\n";
@@ -519,24 +520,19 @@ fn many_records_that_are_not_held(rt: HostRuntime) -> Result<(), Fail> {
 
 // Counts the hits of three records in a thousand, each of which lies within the one before it.
 fn counts_in_nested<H: Held, O: ChromOrder>(
-    rt: &HostRuntime,
+    rt: &impl Abort,
+    alloc: Global,
     held: H,
     order: &O,
 ) -> Result<(), Fail> {
-    let mut sweep = Sweep::new(
-        rt.alloc(),
-        held,
-        Shape::Count,
-        HitRule::any_overlap(),
-        order,
-    );
-    let mut out = Out::new(ScriptSink::new(rt.alloc(), 100, None));
+    let mut sweep = Sweep::new(alloc, held, Shape::Count, HitRule::any_overlap(), order);
+    let mut out = Out::new(ScriptSink::new(alloc, 100, None));
     assert_eq!(rt;
         give_first(&mut sweep, b"chr1\t0\t10000", &mut out),
         Some(Ok(()))
     );
     for start in 0u32..1000 {
-        let line = format!(in rt.alloc(); "chr1\t{start}\t{}", 10_000 - start)?;
+        let line = format!(in alloc; "chr1\t{start}\t{}", 10_000 - start)?;
         assert_eq!(rt;
             give_second(&mut sweep, line.as_bytes(), &mut out),
             Some(Ok(Taken::Yes))
@@ -560,8 +556,8 @@ fn nested_records_are_counted(rt: HostRuntime) -> Result<(), Fail> {
         assert!(rt; false);
         return Ok(());
     };
-    counts_in_nested(&rt, HeldList::new(rt.alloc()), &genome)?;
-    counts_in_nested(&rt, HeldIndex::new(rt.alloc()), &genome)
+    counts_in_nested(&rt, rt.alloc(), HeldList::new(rt.alloc()), &genome)?;
+    counts_in_nested(&rt, rt.alloc(), HeldIndex::new(rt.alloc()), &genome)
 }
 
 // The records of these lines.
