@@ -27,6 +27,7 @@ pub fn mask_slice(bases: &mut [u8], how: MaskHow)
 }
 
 // Masks as many bases as fill whole vectors, and answers how many those are.
+#[inline(always)]
 fn mask_by_lanes(bases: &mut [u8], how: MaskHow) -> usize
     ensures within { result ≤ length bases.old }
     ensures masked { bases.new ≡ map (masked_byte how) (take result bases.old) ++ drop result bases.old }
@@ -59,6 +60,7 @@ fn lower_lanes(lanes: u8x32) -> u8x32
 }
 
 // Masks bases one by one.
+#[inline(always)]
 fn mask_each(bases: &mut [u8], how: MaskHow)
     ensures { bases.new ≡ map (masked_byte how) bases.old }
 {
