@@ -1,3 +1,5 @@
+ghost use Rattle.std.specs.Prelude.{◌≡◌, []};
+
 use super::*;
 use crate::held_index::HeldIndex;
 use crate::held_list::HeldList;
@@ -302,7 +304,9 @@ fn writes_ruled<H: Held, O: ChromOrder>(
     order: &O,
     case: &RuledCase,
     good: Option<usize>,
-) -> bool {
+) -> bool
+    requires { H.records held ≡ [] }
+{
     let (_, shape, rule, first, second, want) = *case;
     let mut sweep = Sweep::new(rt.alloc(), held, shape, rule, order);
     let mut out = Out::new(ScriptSink::new(rt.alloc(), 3, good));
@@ -524,7 +528,9 @@ fn counts_in_nested<H: Held, O: ChromOrder>(
     alloc: Global,
     held: H,
     order: &O,
-) -> Result<(), Fail> {
+) -> Result<(), Fail>
+    requires { H.records held ≡ [] }
+{
     let mut sweep = Sweep::new(alloc, held, Shape::Count, HitRule::any_overlap(), order);
     let mut out = Out::new(ScriptSink::new(alloc, 100, None));
     assert_eq!(rt;
