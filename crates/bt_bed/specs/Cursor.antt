@@ -22,6 +22,11 @@ abbrev pub fault_in : {T : Type 0} → Result T Fault → Option Told
 fault_in (Ok done) = None
 fault_in (Err fault) = Some (told fault)
 
+-- what a call answers that keeps this fault, if it has one
+abbrev pub answer_of : Option Fault → Result (Unit {0}) Fault
+answer_of None = Ok tt
+answer_of (Some fault) = Err fault
+
 -- the chromosome of the last record is known, the line that the reader is at says the record
 -- ahead, and no fault is kept while there is one
 pub record IsPlaced {S : Type 0} (sorting : Sorting)

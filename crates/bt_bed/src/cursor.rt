@@ -28,7 +28,7 @@ impl<S: Source, Q: Sorted + Drop> Cursor<S, Q> {
     ghost use Rattle.std.specs.Prelude.{◌≡◌, ℕ, List, None, Some, false, IsSome, option_map};
     ghost use Rattle.bt_lines.specs.Names.{told};
     ghost use Rattle.bt_bed.specs.Bed.{feature_lent};
-    ghost use Rattle.bt_bed.specs.Cursor.{IsPlaced, fault_in, view_in, view_with};
+    ghost use Rattle.bt_bed.specs.Cursor.{IsPlaced, answer_of, fault_in, view_in, view_with};
     ghost use Rattle.bt_bed.specs.Neighbours.{has_ahead, last_in};
     ghost use Rattle.bt_bed.specs.Reading.{Advances, Stepped, line_of_ahead};
 
@@ -82,11 +82,11 @@ impl<S: Source, Q: Sorted + Drop> Cursor<S, Q> {
         if let Some(fault) = self.fault {
             return Err(fault);
         }
-        let read = self.read_record();
-        if let Err(fault) = read {
-            self.fault = Some(fault);
+        self.read_ahead();
+        match self.fault {
+            Some(fault) => Err(fault),
+            None => Ok(()),
         }
-        read
     }
 
     // The record ahead, if there is one.
@@ -109,9 +109,28 @@ impl<S: Source, Q: Sorted + Drop> Cursor<S, Q> {
         reader
     }
 
-    // Reads on to the next record, if there is one. No record is ahead. It stands apart, so that a
-    // record that is ahead already is lent without a call.
+    // Reads on to the next record, if there is one, and keeps the fault. It stands apart, so that a record
+    // that is ahead already is lent without a call.
     #[inline(never)]
+    fn read_ahead(&mut self)
+        requires none_ahead { has_ahead self.old.neighbours ≡ false }
+        requires no_fault { self.old.fault ≡ None }
+        requires placed { IsPlaced (Q.sorting self.old.neighbours.rule)
+            (view_in (Q.sorting self.old.neighbours.rule) self.old) }
+        ensures rule { self.new.neighbours.rule ≡ self.old.neighbours.rule }
+        ensures step { Stepped S.left S.has_failed S.end_told
+            (view_in (Q.sorting self.old.neighbours.rule) self.old) (answer_of self.new.fault)
+            (view_in (Q.sorting self.old.neighbours.rule) self.new) }
+        ensures placed { IsPlaced (Q.sorting self.old.neighbours.rule)
+            (view_in (Q.sorting self.old.neighbours.rule) self.new) }
+    {
+        if let Err(fault) = self.read_record() {
+            self.fault = Some(fault);
+        }
+    }
+
+    // Reads on to the next record, if there is one. No record is ahead.
+    #[inline(always)]
     fn read_record(&mut self) -> Result<(), Fault>
         requires none_ahead { has_ahead self.old.neighbours ≡ false }
         requires placed { IsPlaced (Q.sorting self.old.neighbours.rule)

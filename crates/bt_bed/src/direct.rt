@@ -68,10 +68,37 @@ fn leading_number(text: &[u8]) -> Option<Leading>
     ensures { IfSome result (Leads text.now) }
 {
     let first = first_digits(text);
-    if first.end > 0 && ends_column(text, first.end) {
+    if first.end == 0 {
+        return more_digits(text, first);
+    }
+    if ends_column(text, first.end) {
         return Some(first);
     }
-    more_digits(text, first)
+    let further = with_digit(text, first);
+    if ends_column(text, further.end) {
+        return Some(further);
+    }
+    more_digits(text, further)
+}
+
+// The number of one digit more, if one follows and the number may have it.
+fn with_digit(text: &[u8], first: Leading) -> Leading
+    requires begins { BeginsWith text.now first }
+    requires short { first.end < 12 }
+    ensures begins { BeginsWith text.now result }
+    ensures some { first.end ≤ result.end }
+{
+    if first.end == text.len() {
+        return first;
+    }
+    let byte = text[first.end];
+    if !byte.is_ascii_digit() {
+        return first;
+    }
+    Leading {
+        value: first.value * 10 + u64::from(byte - b'0'),
+        end: first.end + 1,
+    }
 }
 
 // Whether a column that reaches so far ends there.
@@ -108,7 +135,8 @@ fn more_digits(text: &[u8], first: Leading) -> Option<Leading>
 
 // The number of the first eight digits, or that of none where fewer come first.
 fn first_digits(text: &[u8]) -> Leading
-    ensures { BeginsWith text.now result }
+    ensures begins { BeginsWith text.now result }
+    ensures short { result.end ≤ 8 }
 {
     match first_eight(text) {
         Some(value) => Leading { value, end: 8 },

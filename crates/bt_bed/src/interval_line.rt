@@ -4,7 +4,7 @@ ghost use Rattle.std.specs.Prelude.{◌≡◌, ◌+◌, ◌≤◌, ◌++◌, cod
 ghost use Rattle.bt_lines.specs.Putting.{Puts};
 ghost use Rattle.bt_bed.specs.IntervalLine.{bounds_text, interval_line, span_text};
 
-use bt_lines::{COLUMN, Fault, Out, Sink, write_column};
+use bt_lines::{COLUMN, Fault, Out, Sink, put_both, write_column};
 
 // The room for what follows the name: two columns and a line feed.
 const ROOM: usize = 2 * COLUMN + 1;
@@ -21,10 +21,9 @@ pub fn put_interval<K: Sink>(
     ensures { Puts out.old (interval_line (record { chrom = chrom.now; start = start; stop = stop }))
         result out.new }
 {
-    out.put(chrom)?;
     let mut text = [0; ROOM];
     let first = write_span(start, stop, &mut text);
-    out.put(&text[first..])
+    put_both(chrom, &text[first..], out)
 }
 
 // Puts the bounds of an interval behind its name, without a line feed.

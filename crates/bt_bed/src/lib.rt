@@ -40,6 +40,8 @@ mod faults;
 mod genome;
 mod genome_line;
 mod genome_order;
+#[cfg(test)]
+mod growth_tests;
 mod header;
 mod interval_line;
 pub mod laws;

@@ -30,6 +30,7 @@ impl<'o, S: Source, O: ChromOrder> Records<'o, S, O> {
     ghost use mir.Syntax.{named};
     ghost use Rattle.bt_lines.specs.Reader.{fault_kept as line_fault, input_of, lines_left};
     ghost use Rattle.bt_bed.specs.contracts.records.Records.{the_row};
+    ghost use Rattle.bt_bed.specs.Bed.{feature_lent};
     ghost use Rattle.bt_bed.specs.Good.{good};
     ghost use Rattle.bt_bed.specs.GoodBed.{bed_format};
     ghost use Rattle.bt_bed.specs.Order.{IsTotal};
@@ -90,11 +91,21 @@ impl<'o, S: Source, O: ChromOrder> Records<'o, S, O> {
         cursor.into_reader()
     }
 
-    // Reads on to the next record, if none is ahead and there is one.
-    fn step(&mut self) -> Result<(), Fault>
+    /// Reads on to the next record, if none is ahead and there is one, as `peek` does, but doesn't lend
+    /// it: with [`Records::record`] its line can be asked for while it is lent.
+    #[inline]
+    pub fn step(&mut self) -> Result<(), Fault>
         ensures { StepsRecord S.left S.has_failed S.end_told self.old result self.new }
     {
         self.cursor.step()
+    }
+
+    /// The record ahead, if `step` or `peek` found one.
+    #[inline]
+    pub fn record(&self) -> Option<BedRef<'_>>
+        ensures { option_map feature_lent result ≡ record_ahead self.now }
+    {
+        self.cursor.record()
     }
 }
 

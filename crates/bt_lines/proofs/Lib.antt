@@ -1,6 +1,7 @@
 pub mod PiecesLemmas
 pub mod BlockLemmas
 pub mod ColumnLemmas
+pub mod CopyLemmas
 pub mod EightLemmas
 pub mod EarlyLemmas
 pub mod FillingLemmas

@@ -7,8 +7,8 @@ use Rattle.bt_lines.specs.declared.fault.Kind.TheVariants.{BadStop, EmptyFeature
 use Rattle.bt_lines.specs.declared.fault.Kind.TheVariants.{OutOfOrder, BadLength, RepeatedChrom}
 use Rattle.bt_lines.specs.declared.fault.Kind.TheVariants.{BadFlag, BadPosition, BadQuality}
 use Rattle.bt_lines.specs.declared.fault.Kind.TheVariants.{BadCigar, StopTooLarge, TextBeforeHeader}
-use Rattle.bt_lines.specs.declared.fault.Kind.TheVariants.{NoSequence, ReadFailed, WriteFailed}
-use Rattle.bt_lines.specs.declared.fault.Kind.TheVariants.{NoMemory}
+use Rattle.bt_lines.specs.declared.fault.Kind.TheVariants.{NoSequence, TooManyHeld, ReadFailed}
+use Rattle.bt_lines.specs.declared.fault.Kind.TheVariants.{WriteFailed, NoMemory}
 use Rattle.bt_lines.specs.declared.fault.Input.{Input}
 use Rattle.bt_lines.specs.declared.fault.Input.TheVariants.{Genome, First, Second}
 use Rattle.bt_lines.specs.declared.fault.Place.{Place}
@@ -42,6 +42,7 @@ text_of BadCigar = codes "CIGAR is malformed"
 text_of StopTooLarge = codes "end is too large"
 text_of TextBeforeHeader = codes "text before the first header"
 text_of NoSequence = codes "no such sequence from here on"
+text_of TooManyHeld = codes "too many open records"
 text_of ReadFailed = codes "reading failed"
 text_of WriteFailed = codes "writing failed"
 text_of NoMemory = codes "no memory"

@@ -7,6 +7,7 @@ pub mod Lines
 pub mod Handed
 pub mod Number
 pub mod Columns
+pub mod Copying
 pub mod Output
 pub mod Putting
 pub mod Names

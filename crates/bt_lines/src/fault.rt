@@ -38,6 +38,8 @@ pub enum Kind {
     TextBeforeHeader,
     /// A record's chromosome isn't the name of a sequence that is still to come.
     NoSequence,
+    /// More records of the second input would have to be held than the limit allows.
+    TooManyHeld,
     /// The input couldn't be read further, or is longer than 2^63 - 1 bytes.
     ReadFailed,
     /// The output couldn't be written.
@@ -76,6 +78,7 @@ impl Kind {
             Kind::StopTooLarge => b"end is too large",
             Kind::TextBeforeHeader => b"text before the first header",
             Kind::NoSequence => b"no such sequence from here on",
+            Kind::TooManyHeld => b"too many open records",
             Kind::ReadFailed => b"reading failed",
             Kind::WriteFailed => b"writing failed",
             Kind::NoMemory => b"no memory",

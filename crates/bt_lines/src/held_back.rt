@@ -4,6 +4,7 @@ ghost use Rattle.std.specs.Prelude.{◌≡◌, ◌+◌, ◌-◌, ◌≤◌, ◌<
 ghost use Rattle.bt_lines.specs.Output.{block_size};
 
 use crate::block::BLOCK;
+use crate::copying::{copy_end, copy_short, is_end, is_short};
 use std::marker::Model;
 
 // Its first `len` bytes are held back.
@@ -52,6 +53,7 @@ impl HeldBack {
     }
 
     // Holds back a piece too.
+    #[inline]
     pub(crate) fn append(&mut self, piece: &[u8])
         requires { length self.old + length piece.now ≤ block_size }
         ensures { self.new ≡ self.old ++ piece.now }
@@ -61,24 +63,31 @@ impl HeldBack {
         self.len = len + piece.len();
     }
 
-    // Holds back a short piece too, which mostly is one byte.
-    pub(crate) fn append_short(&mut self, piece: &[u8])
-        requires { length self.old + length piece.now ≤ block_size }
-        ensures { self.new ≡ self.old ++ piece.now }
+    // Holds back two pieces too, of which the second may be a single byte.
+    #[inline(always)]
+    pub(crate) fn append_both(&mut self, piece: &[u8], end: &[u8])
+        requires { length self.old + (length piece.now + length end.now) ≤ block_size }
+        ensures { self.new ≡ self.old ++ (piece.now ++ end.now) }
     {
-        match piece {
-            [byte] => self.push(*byte),
-            _ => self.append(piece),
+        if !is_short(piece.len()) || !is_end(end.len()) {
+            return self.append_any(piece, end);
         }
+        let len = self.len;
+        let middle = len + piece.len();
+        let stop = middle + end.len();
+        copy_short(&mut self.bytes[len..middle], piece);
+        copy_end(&mut self.bytes[middle..stop], end);
+        self.len = stop;
     }
 
-    // Holds back a byte too.
-    fn push(&mut self, byte: u8)
-        requires { length self.old < block_size }
-        ensures { self.new ≡ self.old ++ byte ∷ [] }
+    // Holds back two pieces too, of any length.
+    #[inline(never)]
+    fn append_any(&mut self, piece: &[u8], end: &[u8])
+        requires { length self.old + (length piece.now + length end.now) ≤ block_size }
+        ensures { self.new ≡ self.old ++ (piece.now ++ end.now) }
     {
-        self.bytes[self.len] = byte;
-        self.len += 1;
+        self.append(piece);
+        self.append(end);
     }
 
     // Lets go of all.

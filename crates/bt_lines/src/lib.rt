@@ -22,6 +22,7 @@
 
 mod block;
 mod column_iter;
+mod copying;
 mod device;
 mod early;
 mod fault;
@@ -54,7 +55,7 @@ pub use line::{Line, LineEnd};
 pub use line_reader::LineReader;
 pub use numbers::{MAX_DIGITS, MAX_NUMBER, eight_digits, number};
 pub use output::Out;
-pub use putting::{put_column, put_line, put_number};
+pub use putting::{put_both, put_column, put_line, put_number};
 pub use report::{Names, fault_line};
 pub use script_sink::ScriptSink;
 pub use script_source::ScriptSource;

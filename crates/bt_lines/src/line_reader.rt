@@ -5,6 +5,7 @@ ghost use Rattle.std.specs.Io.BufRead.{ends_with_byte, strip_last};
 ghost use Rattle.bt_lines.specs.Block.{unread};
 ghost use Rattle.bt_lines.specs.Fault.{no_memory};
 ghost use Rattle.bt_lines.specs.Names.{told};
+ghost use Rattle.bt_lines.specs.declared.line_reader.State.TheVariants.{Reading};
 
 use crate::block::Block;
 use crate::device::Source;
@@ -101,9 +102,10 @@ impl<S: Source> LineReader<S> {
         ensures* after { sem 𝓛 (Rests (the_row S.row) self.entry (λ new.
             NextLine S.left S.has_failed S.end_told S.read_fails self.old result new)) }
     {
-        if !self.cuts_line() {
-            self.step()?;
+        if self.cuts_line() {
+            return Ok(Some(self.line_in_block()));
         }
+        self.step()?;
         Ok(self.line())
     }
 
@@ -148,6 +150,19 @@ impl<S: Source> LineReader<S> {
         source
     }
 
+    // The line that stands whole in the block.
+    fn line_in_block(&self) -> Line<'_>
+        requires reading { self.now.state ≡ Reading }
+        requires some { 0 < self.now.lines }
+        ensures { Some (line_seen result) ≡ line_at self.now }
+    {
+        Line {
+            number: self.lines,
+            text: self.block.text(),
+            ending: self.ending,
+        }
+    }
+
     // Whether neither the end nor a fault has come.
     fn is_going(&self) -> bool
         ensures { result ≡ is_going self.now }
@@ -159,6 +174,7 @@ impl<S: Source> LineReader<S> {
     #[inline(always)]
     fn cuts_line(&mut self) -> bool
         ensures cut { result ≡ true → Stepped S.left S.has_failed S.end_told self.old (Ok result) self.new }
+        ensures at_block { result ≡ true → (self.new.state ≡ Reading) × (0 < self.new.lines) }
         ensures unchanged { result ≡ false → self.new ≡ self.old }
         ensures none { result ≡ false → is_going self.old ≡ true → NoLineFeed (taken_ahead self.old) }
     {

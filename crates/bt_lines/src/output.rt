@@ -103,8 +103,7 @@ impl<K: Sink> Out<K> {
         if self.has_failed || self.held.room() < piece.len() + end.len() {
             return false;
         }
-        self.held.append(piece);
-        self.held.append_short(end);
+        self.held.append_both(piece, end);
         true
     }
 

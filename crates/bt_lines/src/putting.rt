@@ -1,7 +1,7 @@
 //! Columns put to an output.
 
-ghost use Rattle.std.specs.Prelude.{◌++◌, decimal};
-ghost use Rattle.bt_lines.specs.Putting.{Puts};
+ghost use Rattle.std.specs.Prelude.{◌≡◌, ◌++◌, decimal, false, true};
+ghost use Rattle.bt_lines.specs.Putting.{Puts, PutsAll};
 
 use crate::device::Sink;
 use crate::fault::Fault;
@@ -24,6 +24,35 @@ pub fn put_line<K: Sink>(text: &[u8], end: &[u8], out: &mut Out<K>) -> Result<()
     if out.hold_both(text, end) {
         return Ok(());
     }
+    put_across(text, end, out)
+}
+
+/// Puts two pieces of a line as [`put_line`] does, by a call that they share.
+#[inline(always)]
+pub fn put_both<K: Sink>(piece: &[u8], next: &[u8], out: &mut Out<K>) -> Result<(), Fault>
+    ensures { Puts out.old (piece.now ++ next.now) result out.new }
+{
+    if hold_pieces(piece, next, out) {
+        return Ok(());
+    }
+    put_across(piece, next, out)
+}
+
+// Puts both where there is room for them, and answers whether it did.
+#[inline(never)]
+fn hold_pieces<K: Sink>(piece: &[u8], next: &[u8], out: &mut Out<K>) -> bool
+    ensures held { result ≡ true → PutsAll out.old (piece.now ++ next.now) out.new }
+    ensures unchanged { result ≡ false → out.new ≡ out.old }
+{
+    out.hold_both(piece, next)
+}
+
+// Puts both where there is no room for them.
+#[cold]
+#[inline(never)]
+fn put_across<K: Sink>(text: &[u8], end: &[u8], out: &mut Out<K>) -> Result<(), Fault>
+    ensures { Puts out.old (text.now ++ end.now) result out.new }
+{
     put_column(text, end, out)
 }
 

@@ -197,7 +197,7 @@ fn a_sink_that_fails_at_each_byte(rt: HostRuntime) {
 }
 
 // The kinds of faults with their places, and the lines that report them.
-const FAULT_LINES: [(Kind, Option<(Input, u64)>, &[u8]); 12] = [
+const FAULT_LINES: [(Kind, Option<(Input, u64)>, &[u8]); 13] = [
     (
         Kind::OutOfOrder,
         Some((Input::First, 3)),
@@ -247,6 +247,11 @@ const FAULT_LINES: [(Kind, Option<(Input, u64)>, &[u8]); 12] = [
         Kind::NoSequence,
         Some((Input::Second, 1)),
         b"bedtools merge: b.bed:1: no such sequence from here on\n",
+    ),
+    (
+        Kind::TooManyHeld,
+        Some((Input::Second, 3)),
+        b"bedtools merge: b.bed:3: too many open records\n",
     ),
     (Kind::WriteFailed, None, b"bedtools merge: writing failed\n"),
     (Kind::NoMemory, None, b"bedtools merge: no memory\n"),

@@ -29,7 +29,7 @@ use Rattle.bt_runs.proofs.Walks.{going_to, step_goes}
 abbrev pub depth_text : ℕ → ℕ → ℕ → List ℕ
 depth_text start stop depth = codes "\t" ++ (decimal start ++ (codes "\t" ++ (decimal stop ++ (codes "\t" ++ (decimal depth ++ codes "\n")))))
 
-line_parts : (r : DepthInterval) → r.chrom ++ depth_text r.start r.stop r.depth ≡ depth_line r
+pub line_parts : (r : DepthInterval) → r.chrom ++ depth_text r.start r.stop r.depth ≡ depth_line r
 line_parts r =
     let tab = codes "\t" in
     let last = decimal r.depth ++ codes "\n" in

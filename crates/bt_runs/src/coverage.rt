@@ -17,7 +17,7 @@ use crate::depths::{Reached, Stretch, go_on, put_ended};
 use crate::engine::Engine;
 use crate::failure::Failure;
 use crate::open_records::OpenRecords;
-use bt_bed::{BedRef, Genome, Strand};
+use bt_bed::{BedRef, Genome, Strand, is_same_name};
 use bt_lines::{Fault, Out, Sink};
 use std::alloc::{AllocError, Global};
 use std::marker::Model;
@@ -181,7 +181,7 @@ fn advance<K: Sink>(
     ensures memory { OnWant (HasToKeep (entries genome.now) strand (feature_lent bed.now)) result }
 {
     if let Some(reached) = current {
-        if genome.name(reached.rank) == bed.chrom {
+        if is_same_name(genome.name(reached.rank), bed.chrom) {
             return count(genome, zeros, strand, reached, held, bed, out);
         }
     }
@@ -190,6 +190,8 @@ fn advance<K: Sink>(
 
 // Goes to the chromosome of a record, if the genome has it. It writes what is left before that, and
 // takes the record.
+#[cold]
+#[inline(never)]
 fn begin<K: Sink>(
     genome: &Genome,
     zeros: bool,
@@ -219,6 +221,7 @@ fn begin<K: Sink>(
 
 // Takes a record on the chromosome that was reached. It writes the intervals that the record settles
 // there.
+#[inline(always)]
 fn count<K: Sink>(
     genome: &Genome,
     zeros: bool,

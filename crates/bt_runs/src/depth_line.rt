@@ -4,7 +4,7 @@ ghost use Rattle.std.specs.Prelude.{◌≡◌, ◌+◌, ◌≤◌, ◌++◌, cod
 ghost use Rattle.bt_lines.specs.Putting.{Puts};
 ghost use Rattle.bt_runs.specs.Depth.{depth_line};
 
-use bt_lines::{COLUMN, Fault, Out, Sink, write_column};
+use bt_lines::{COLUMN, Fault, Out, Sink, put_both, write_column};
 
 // The room for what follows the name: three columns and a line feed.
 const ROOM: usize = 3 * COLUMN + 1;
@@ -20,11 +20,10 @@ pub(crate) fn put_depth<K: Sink>(
 ) -> Result<(), Fault>
     ensures { Puts out.old (depth_line (record { chrom = chrom.now; start = start; stop = stop; depth = depth })) result out.new }
 {
-    out.put(chrom)?;
     let mut text = [0; ROOM];
     text[ROOM - 1] = b'\n';
     let before_depth = write_column(depth, &mut text, ROOM - 1);
     let before_stop = write_column(stop, &mut text, before_depth);
     let first = write_column(start, &mut text, before_stop);
-    out.put(&text[first..])
+    put_both(chrom, &text[first..], out)
 }

@@ -32,6 +32,8 @@ mod engine;
 #[cfg(test)]
 mod example;
 mod failure;
+#[cfg(test)]
+mod growth_tests;
 pub mod laws;
 pub mod level_laws;
 mod merge;
@@ -44,6 +46,8 @@ pub mod plain_strands;
 mod pooled;
 pub mod strand_laws;
 mod stranded;
+#[cfg(test)]
+mod testing;
 mod waiting;
 
 pub use complement::Complement;

@@ -89,7 +89,22 @@ impl OpenRecords {
     }
 
     // Goes on to a position. The records that end before it are open no more.
+    #[inline(always)]
     pub(crate) fn go_on(&mut self, position: u64)
+        ensures left { self.new ≡ open_from (max self.old.at position) self.old }
+        ensures started { All (λ s. s.start ≤ self.old.at) self.old.spans }
+    {
+        let at = self.at.max(position);
+        if begins_before(&self.ends, at) {
+            self.pass_ended(position);
+        } else {
+            self.at = at;
+        }
+    }
+
+    // Goes on to a position before which some may have ended.
+    #[inline(never)]
+    fn pass_ended(&mut self, position: u64)
         ensures left { self.new ≡ open_from (max self.old.at position) self.old }
         ensures started { All (λ s. s.start ≤ self.old.at) self.old.spans }
     {

@@ -6,9 +6,9 @@ use Rattle.std.proofs.lemmas.List.{map-append}
 use Rattle.bt_bed.specs.Interval.{Span}
 use Rattle.bt_lines.specs.Fault.{Told}
 use Rattle.bt_lines.specs.Output.{Output}
-use Rattle.bt_lines.specs.Putting.{FailsToAdd, FailsToPut, Grown, Puts, PutsAll}
+use Rattle.bt_lines.specs.Putting.{Adds, FailsToAdd, FailsToPut, Grown, Puts, PutsAll}
 use Rattle.bt_lines.specs.declared.fault.Fault.{Fault}
-use Rattle.bt_lines.proofs.PuttingLemmas.{cut_off, fails_before, fails_behind, fails_then, grown_all, grown_more, puts_more}
+use Rattle.bt_lines.proofs.PuttingLemmas.{cut_off, adds_some, fails_before, fails_then, grown_all, grown_more, puts_more}
 use Rattle.bt_seq.specs.Alignment.{Alignment}
 use Rattle.bt_seq.specs.BedLines.{bed_line, text_if}
 use Rattle.bt_seq.specs.SamBlocks.{span_given}
@@ -20,44 +20,53 @@ line_parts true a s = simp append_assoc
 line_parts false a s = simp append_assoc
 
 module _ (with_cigar : Bool) (a : Alignment) where
-  -- the tail was cut off before the CIGAR
-  pub tail_cut : (piece : List ℕ) (old new : Output) (fault : Told) → piece ≡ marks a.first a.last ++ quality_text with_cigar a → FailsToPut old piece fault new → FailsToPut old (line_tail with_cigar a) fault new
-  tail_cut piece old new fault e p =
-      fails_before old new (marks a.first a.last ++ quality_text with_cigar a) (text_if with_cigar (a.cigar ++ codes "\n")) fault (subst (λ l. FailsToPut old l fault new) e p)
+  abbrev read_head : List ℕ
+  read_head = a.name ++ (marks a.first a.last ++ quality_text with_cigar a)
 
-  pub tail_alone : {A : Type 0} (piece : List ℕ) (old new : Output) (result : Result A Fault) → piece ≡ marks a.first a.last ++ quality_text with_cigar a → with_cigar ≡ false → Puts old piece result new → Puts old (line_tail with_cigar a) result new
-  tail_alone piece old new result e unasked p =
-      subst (λ l. Puts old l result new) (e ∙ sym (append-nil (marks a.first a.last ++ quality_text with_cigar a)) ∙ ap (λ b. (marks a.first a.last ++ quality_text with_cigar a) ++ text_if b (a.cigar ++ codes "\n")) (sym unasked)) p
+  read_parts : read_head ++ text_if with_cigar (a.cigar ++ codes "\n") ≡ a.name ++ line_tail with_cigar a
+  read_parts = append_assoc a.name (marks a.first a.last ++ quality_text with_cigar a) (text_if with_cigar (a.cigar ++ codes "\n"))
 
-  pub tail_puts : {A : Type 0} (piece : List ℕ) (old mid new : Output) (result : Result A Fault) → piece ≡ marks a.first a.last ++ quality_text with_cigar a → with_cigar ≡ true
-      → PutsAll old piece mid → Puts mid (a.cigar ++ codes "\n") result new → Puts old (line_tail with_cigar a) result new
-  tail_puts piece old mid new result e asked p q =
-      puts_more old mid new (marks a.first a.last ++ quality_text with_cigar a) (text_if with_cigar (a.cigar ++ codes "\n")) result
-      (subst (λ l. PutsAll old l mid) e p)
-      (subst (λ b. Puts mid (text_if b (a.cigar ++ codes "\n")) result new) (sym asked) q)
+  -- name and tail were cut off before the CIGAR
+  pub read_cut : (piece : List ℕ) (old new : Output) (fault : Told) → piece ≡ marks a.first a.last ++ quality_text with_cigar a → FailsToPut old (a.name ++ piece) fault new → FailsToPut old (a.name ++ line_tail with_cigar a) fault new
+  read_cut piece old new fault e p =
+      subst (λ l. FailsToPut old l fault new) read_parts
+      (fails_before old new read_head (text_if with_cigar (a.cigar ++ codes "\n")) fault (subst (λ l. FailsToPut old (a.name ++ l) fault new) e p))
+
+  pub read_alone : {A : Type 0} (piece : List ℕ) (old new : Output) (result : Result A Fault) → piece ≡ marks a.first a.last ++ quality_text with_cigar a → with_cigar ≡ false → Puts old (a.name ++ piece) result new → Puts old (a.name ++ line_tail with_cigar a) result new
+  read_alone piece old new result e unasked p =
+      subst (λ l. Puts old (a.name ++ l) result new) (e ∙ sym (append-nil (marks a.first a.last ++ quality_text with_cigar a)) ∙ ap (λ b. (marks a.first a.last ++ quality_text with_cigar a) ++ text_if b (a.cigar ++ codes "\n")) (sym unasked)) p
+
+  pub read_puts : {A : Type 0} (piece : List ℕ) (old mid new : Output) (result : Result A Fault) → piece ≡ marks a.first a.last ++ quality_text with_cigar a → with_cigar ≡ true
+      → PutsAll old (a.name ++ piece) mid → Puts mid (a.cigar ++ codes "\n") result new → Puts old (a.name ++ line_tail with_cigar a) result new
+  read_puts piece old mid new result e asked p q =
+      subst (λ l. Puts old l result new) read_parts
+      (puts_more old mid new read_head (text_if with_cigar (a.cigar ++ codes "\n")) result
+      (subst (λ l. PutsAll old (a.name ++ l) mid) e p)
+      (subst (λ b. Puts mid (text_if b (a.cigar ++ codes "\n")) result new) (sym asked) q))
 
   -- the line was cut off in one of its pieces
   module _ (s : Span) (o : Output) (fault : Told) where
     whole : (new : Output) → FailsToPut o (a.chrom ++ (bounds_text s.start s.stop ++ (a.name ++ line_tail with_cigar a))) fault new → FailsToPut o (bed_line with_cigar a s) fault new
     whole new p = subst (λ l. FailsToPut o l fault new) (line_parts with_cigar a s) p
 
-    pub cut_first : (p : Output) → FailsToPut o a.chrom fault p → FailsToPut o (bed_line with_cigar a s) fault p
-    cut_first p x = whole p (fails_before o p _ _ fault x)
+    pub cut_place : (p : Output) → FailsToPut o (a.chrom ++ bounds_text s.start s.stop) fault p → FailsToPut o (bed_line with_cigar a s) fault p
+    cut_place p x =
+        whole p (subst (λ l. FailsToPut o l fault p) (append_assoc a.chrom (bounds_text s.start s.stop) (a.name ++ line_tail with_cigar a))
+        (fails_before o p (a.chrom ++ bounds_text s.start s.stop) (a.name ++ line_tail with_cigar a) fault x))
 
-    pub cut_second : (p q : Output) → PutsAll o a.chrom p → FailsToPut p (bounds_text s.start s.stop) fault q → FailsToPut o (bed_line with_cigar a s) fault q
-    cut_second p q x y = whole q (fails_behind o p q _ _ fault x (fails_before p q _ _ fault y))
-
-    pub cut_third : (p q r : Output) → PutsAll o a.chrom p → PutsAll p (bounds_text s.start s.stop) q → FailsToPut q a.name fault r → FailsToPut o (bed_line with_cigar a s) fault r
-    cut_third p q r x y z = whole r (fails_behind o p r _ _ fault x (fails_behind p q r _ _ fault y (fails_before q r _ _ fault z)))
-
-  pub puts_line : {A : Type 0} (s : Span) (o p q r new : Output) (result : Result A Fault) → PutsAll o a.chrom p → PutsAll p (bounds_text s.start s.stop) q → PutsAll q a.name r → Puts r (line_tail with_cigar a) result new → Puts o (bed_line with_cigar a s) result new
-  puts_line s o p q r new result x y z v =
-      subst (λ l. Puts o l result new) (line_parts with_cigar a s) (puts_more o p new _ _ result x (puts_more p q new _ _ result y (puts_more q r new _ _ result z v)))
+  pub puts_line : {A : Type 0} (s : Span) (o p new : Output) (result : Result A Fault) → PutsAll o (a.chrom ++ bounds_text s.start s.stop) p → Puts p (a.name ++ line_tail with_cigar a) result new → Puts o (bed_line with_cigar a s) result new
+  puts_line s o p new result x y =
+      subst (λ l. Puts o l result new) (append_assoc a.chrom (bounds_text s.start s.stop) (a.name ++ line_tail with_cigar a) ∙ line_parts with_cigar a s)
+      (puts_more o p new (a.chrom ++ bounds_text s.start s.stop) (a.name ++ line_tail with_cigar a) result x y)
 
   pub line_has_bytes : (s : Span) → bed_line with_cigar a s ≡ [] → ⊥
   line_has_bytes s e =
       let size : length (bed_line with_cigar a s) ≡ 0 = ap length e in
       absurd (omega (arith, ap length (sym (line_parts with_cigar a s)), length-append a.chrom (bounds_text s.start s.stop ++ (a.name ++ line_tail with_cigar a))))
+
+  -- the line of a block alone
+  pub adds_line : {A : Type 0} (s : Span) (old new : Output) (result : Result A Fault) → Puts old (bed_line with_cigar a s) result new → Adds old (flat_map (bed_line with_cigar a) (s ∷ [])) result new
+  adds_line s old new result p = rw (append-nil (bed_line with_cigar a s)) (adds_some old new (bed_line with_cigar a s) result (line_has_bytes s) p)
 
   -- the lines of blocks
   abbrev pub lines_of : List Span → List ℕ

@@ -1,6 +1,6 @@
 //! The engine of `bedtools bamtobed`.
 
-ghost use Rattle.std.specs.Prelude.{◌≡◌, flat_map, IfErr, IsErr, OnOk, None, Some};
+ghost use Rattle.std.specs.Prelude.{◌≡◌, flat_map, IfErr, IsErr, OnOk, None, Some, true};
 ghost use Rattle.bt_lines.specs.Fault.{Told, write_failed};
 ghost use Rattle.bt_lines.specs.Names.{told};
 ghost use Rattle.bt_lines.specs.Putting.{Adds};
@@ -84,7 +84,18 @@ fn put_lines<K: Sink>(
 ) -> Result<(), Fault>
     ensures { Adds out.old (bed_lines split with_cigar (alignment_lent sam.now)) result out.new }
 {
-    for (start, stop) in blocks(sam, split) {
+    if !split {
+        return put_line(sam, sam.start, sam.stop, with_cigar, out);
+    }
+    put_blocks(sam, with_cigar, out)
+}
+
+// Puts the line of each block of an alignment that is cut at each N.
+#[inline(never)]
+fn put_blocks<K: Sink>(sam: &SamRef<'_>, with_cigar: bool, out: &mut Out<K>) -> Result<(), Fault>
+    ensures { Adds out.old (bed_lines true with_cigar (alignment_lent sam.now)) result out.new }
+{
+    for (start, stop) in blocks(sam, true) {
         put_line(sam, start, stop, with_cigar, out)?;
     }
     Ok(())

@@ -7,7 +7,7 @@ ghost use Rattle.bt_seq.specs.LineEnds.{bounds_text, end_sign, line_tail, marks,
 ghost use Rattle.bt_seq.specs.Sam.{alignment_lent};
 
 use crate::sam::SamRef;
-use bt_lines::{COLUMN, Fault, Out, Sink, put_column, write_column};
+use bt_lines::{COLUMN, Fault, Out, Sink, put_both, put_column, write_column};
 
 // The room for what stands between chromosome and name: two columns and a tab.
 const BOUNDS_ROOM: usize = 2 * COLUMN + 1;
@@ -28,40 +28,31 @@ pub(crate) fn put_line<K: Sink>(
     ensures { Puts out.old (bed_line with_cigar (alignment_lent sam.now)
         (record { start = start; stop = stop })) result out.new }
 {
-    put_piece(sam.chrom, out)?;
-    put_bounds(start, stop, out)?;
-    put_piece(sam.name, out)?;
-    put_tail(sam, with_cigar, out)
+    put_place(sam.chrom, start, stop, out)?;
+    put_read(sam, with_cigar, out)
 }
 
-// Puts the bounds of a block, with a tab before, between and behind them.
-fn put_bounds<K: Sink>(start: u64, stop: u64, out: &mut Out<K>) -> Result<(), Fault>
-    ensures { Puts out.old (bounds_text start stop) result out.new }
+// Puts the chromosome and the bounds of a block, with a tab between and behind them.
+fn put_place<K: Sink>(chrom: &[u8], start: u64, stop: u64, out: &mut Out<K>) -> Result<(), Fault>
+    ensures { Puts out.old (chrom.now ++ bounds_text start stop) result out.new }
 {
     let mut text = [0; BOUNDS_ROOM];
     let first = write_bounds(start, stop, &mut text);
-    put_piece(&text[first..], out)
+    put_both(chrom, &text[first..], out)
 }
 
-// Puts marks, mapping quality and strand, and the CIGAR where it is asked for.
-fn put_tail<K: Sink>(sam: &SamRef<'_>, with_cigar: bool, out: &mut Out<K>) -> Result<(), Fault>
-    ensures { Puts out.old (line_tail with_cigar (alignment_lent sam.now)) result out.new }
+// Puts name, marks, mapping quality and strand, and the CIGAR where it is asked for.
+fn put_read<K: Sink>(sam: &SamRef<'_>, with_cigar: bool, out: &mut Out<K>) -> Result<(), Fault>
+    ensures { Puts out.old (sam.now.name.now ++ line_tail with_cigar (alignment_lent sam.now)) result out.new }
 {
     let mut text = [0; TAIL_ROOM];
     let quality = write_quality(sam, with_cigar, &mut text);
     let first = write_marks(sam.first, sam.last, &mut text, quality);
     if !with_cigar {
-        return put_piece(&text[first..], out);
+        return put_both(sam.name, &text[first..], out);
     }
-    put_piece(&text[first..], out)?;
+    put_both(sam.name, &text[first..], out)?;
     put_column(sam.cigar, b"\n", out)
-}
-
-// Puts a piece of a line.
-fn put_piece<K: Sink>(piece: &[u8], out: &mut Out<K>) -> Result<(), Fault>
-    ensures { Puts out.old piece.now result out.new }
-{
-    out.put(piece)
 }
 
 // Writes the bounds so that they end where the text does, and gives where they begin.

@@ -1,11 +1,11 @@
 //! The columns of an alignment's line that are looked at.
 
-ghost use Rattle.std.specs.Prelude.{◌≡◌, length, nat_le, option_map};
+ghost use Rattle.std.specs.Prelude.{◌≡◌, ◌≤◌, length, nat_le, option_map, true};
 ghost use Rattle.bt_lines.specs.Lines.{pieces};
 ghost use Rattle.bt_seq.specs.Alignment.{fields_of};
 ghost use Rattle.bt_seq.specs.Sam.{IsCut, fields_lent};
 
-use crate::tabs::first_tab_by_lanes;
+use crate::tabs::{EARLY, early_tabs, first_tab_by_lanes};
 use bstr::ByteSlice;
 
 // The columns between CIGAR and SEQ, which are short: RNEXT, PNEXT and TLEN.
@@ -47,6 +47,27 @@ pub(crate) fn first_fields(text: &[u8]) -> Option<Fields<'_>>
 
 // Whether a text has five columns at least, of which the first three are short.
 fn has_counted(text: &[u8]) -> bool
+    ensures { result ≡ nat_le 5 (length (pieces 9 text.now)) }
+{
+    has_early(text) || has_late(text)
+}
+
+// Whether three of them end in the first thirty-two bytes, and another one behind these: so it is mostly.
+fn has_early(text: &[u8]) -> bool
+    ensures { result ≡ true → 5 ≤ length (pieces 9 text.now) }
+{
+    if text.len() < EARLY {
+        return false;
+    }
+    if early_tabs(text) < 3 {
+        return false;
+    }
+    has_tab(&text[EARLY..])
+}
+
+// Whether a text has five columns at least, wherever they end.
+#[inline(never)]
+fn has_late(text: &[u8]) -> bool
     ensures { result ≡ nat_le 5 (length (pieces 9 text.now)) }
 {
     let mut rest = text;

@@ -1,6 +1,7 @@
 //! What a line of a SAM file says.
 
-ghost use Rattle.std.specs.Prelude.{◌≡◌, Some};
+ghost use Rattle.std.specs.Prelude.{◌≡◌, ◌≤◌, Some, length, take};
+ghost use Rattle.bt_lines.specs.Number.{value_of};
 ghost use Rattle.bt_seq.specs.Alignment.{alignment_of, fields_say, gives_nothing, is_skipped, value_up_to};
 ghost use Rattle.bt_seq.specs.Flag.{has_bit};
 ghost use Rattle.bt_seq.specs.Sam.{alignment_seen, fields_lent};
@@ -8,7 +9,7 @@ ghost use Rattle.bt_seq.specs.Sam.{alignment_seen, fields_lent};
 use crate::cigar::cigar_span;
 use crate::fields::{Fields, first_fields};
 use crate::sam::SamRef;
-use bt_lines::{Kind, MAX_NUMBER, number};
+use bt_lines::{Kind, MAX_NUMBER, eight_digits, number};
 
 // The greatest FLAG, POS and MAPQ.
 const MAX_FLAG: u64 = 65_535;
@@ -92,11 +93,43 @@ fn alignment(fields: Fields<'_>) -> Result<Option<SamRef<'_>>, Kind>
     }))
 }
 
+// The number that a text denotes. Of eight or nine digits, as most positions have, eight are read at once.
+fn number_in(text: &[u8]) -> Option<u64>
+    ensures { result ≡ value_of text.now }
+{
+    match text.len() {
+        8 => first_eight(text),
+        9 => nine_digits(text),
+        _ => number(text),
+    }
+}
+
+// The number that nine digits denote.
+fn nine_digits(text: &[u8]) -> Option<u64>
+    requires { length text.now ≡ 9 }
+    ensures { result ≡ value_of text.now }
+{
+    let value = first_eight(text)?;
+    let last = text[8];
+    if !last.is_ascii_digit() {
+        return None;
+    }
+    Some(value * 10 + u64::from(last - b'0'))
+}
+
+// The number that the first eight digits denote.
+fn first_eight(text: &[u8]) -> Option<u64>
+    requires { 8 ≤ length text.now }
+    ensures { result ≡ value_of (take 8 text.now) }
+{
+    eight_digits(text.first_chunk::<8>()?)
+}
+
 // The number that a text denotes, where it is at most the limit.
 fn number_up_to(text: &[u8], limit: u64) -> Option<u64>
     ensures { result ≡ value_up_to limit text.now }
 {
-    let value = number(text)?;
+    let value = number_in(text)?;
     if value <= limit { Some(value) } else { None }
 }
 

@@ -1,14 +1,35 @@
 //! The first tab of a text, sixteen bytes at a time.
 
-ghost use Rattle.std.specs.Prelude.{◌≡◌, ◌+◌, ◌<◌, ◌≤◌, ◌==◌, false, IfSome, length, not, take};
+ghost use Rattle.std.specs.Prelude.{◌≡◌, ◌+◌, ◌<◌, ◌≤◌, ◌==◌, count_by, false, IfSome, length, map, not, take};
 ghost use Rattle.std.specs.List.{All, prefix_len};
-ghost use Rattle.std.specs.Simd.Lanes.{chunk};
+ghost use Rattle.std.specs.Simd.Lanes.{chunk, mask_l};
+ghost use Rattle.bt_bed.specs.FirstColumns.{is_tab};
 ghost use Rattle.bt_lines.specs.Columns.{CutAt};
 
 use std::simd::prelude::*;
 
 // So many bytes are looked at together.
 const LANES: usize = 16;
+
+// So many bytes are looked at together where tabs are counted.
+pub(crate) const EARLY: usize = 32;
+
+// How many tabs are among the first thirty-two bytes.
+#[inline]
+pub(crate) fn early_tabs(text: &[u8]) -> u32
+    requires { 32 ≤ length text.now }
+    ensures { result ≡ count_by is_tab (take 32 text.now) }
+{
+    tab_bits(u8x32::from_slice(text)).count_ones()
+}
+
+// The bits of the bytes that are tabs, the first byte's the lowest.
+#[inline]
+fn tab_bits(bytes: u8x32) -> u64
+    ensures { result ≡ mask_l (map is_tab bytes) }
+{
+    bytes.simd_eq(u8x32::splat(b'\t')).to_bitmask()
+}
 
 // Where the first tab of a text stands. Behind the first columns of an alignment stand its bases, so
 // that mostly there are as many bytes as are looked at together.

@@ -8,8 +8,8 @@ use Rattle.bt_runs.specs.declared.depths.Reached.{Reached}
 use Rattle.bt_runs.proofs.GenomeRanks.{name_read, size_ranked}
 use Rattle.bt_runs.proofs.coverage.advance.Goals as goal
 
-pub returns-then-eq-clause-memory : goal.returns-then-eq-clause-memory
-returns-then-eq-clause-memory g c =
+pub returns-then-is_same_name-clause-memory : goal.returns-then-is_same_name-clause-memory
+returns-then-is_same_name-clause-memory g c =
     let table = entries c.args.genome.now in
     let rank = c.in-Some.reached.rank in
     let chrom = c.args.bed.now.chrom.now in

@@ -3,8 +3,8 @@ use Rattle.std.proofs.lemmas.List.{length-drop, take_all}
 use Rattle.std.proofs.lemmas.Result.{err_from_is_err_and}
 use Rattle.bt_seq.specs.LineEnds.{marks, quality_text}
 use Rattle.bt_seq.specs.Sam.{alignment_lent}
-use Rattle.bt_seq.proofs.LineLemmas.{tail_alone, tail_cut, tail_puts}
-use Rattle.bt_seq.proofs.bed_line.put_tail.Goals as goal
+use Rattle.bt_seq.proofs.LineLemmas.{read_alone, read_cut, read_puts}
+use Rattle.bt_seq.proofs.bed_line.put_read.Goals as goal
 
 -- the piece is what was written
 piece_is : (text before : List ℕ) (first from : ℕ) (front tail : List ℕ) → length text ≡ 28 → drop first text ≡ front ++ drop from before → drop from before ≡ tail → take (28 - first) (drop first text) ≡ front ++ tail
@@ -18,18 +18,18 @@ returns-then-not-with_cigar g c =
     let m = c.write_marks-first in
     let kept = q.auto.text in
     let same = m.auto.text in
-    tail_alone c.args.with_cigar a _ _ _ c.put_piece.result (piece_is m.new.text q.new.text m.result q.result (marks a.first a.last) (quality_text c.args.with_cigar a) (omega arith) m.ensures.written q.ensures.written)
-    c.if-not-with_cigar.true c.put_piece.ensures
+    read_alone c.args.with_cigar a _ _ _ c.put_both.result (piece_is m.new.text q.new.text m.result q.result (marks a.first a.last) (quality_text c.args.with_cigar a) (omega arith) m.ensures.written q.ensures.written)
+    c.if-not-with_cigar.true c.put_both.ensures
 
-pub returns-in_err-put_piece : goal.returns-in_err-put_piece
-returns-in_err-put_piece g c =
+pub returns-in_err-put_both : goal.returns-in_err-put_both
+returns-in_err-put_both g c =
     let a = alignment_lent c.args.sam.now in
     let q = c.write_quality-quality in
     let m = c.write_marks-first in
     let kept = q.auto.text in
     let same = m.auto.text in
     let p = err_from_is_err_and c.from_residual.result c.from_residual.ensures.1 in
-    rw (p.1, p.2) (tail_cut c.args.with_cigar a _ _ _ _ (piece_is m.new.text q.new.text m.result q.result (marks a.first a.last) (quality_text c.args.with_cigar a) (omega arith) m.ensures.written q.ensures.written) c.in_err-put_piece.ensures)
+    rw (p.1, p.2) (read_cut c.args.with_cigar a _ _ _ _ (piece_is m.new.text q.new.text m.result q.result (marks a.first a.last) (quality_text c.args.with_cigar a) (omega arith) m.ensures.written q.ensures.written) c.in_err-put_both.ensures)
 
 pub returns : goal.returns
 returns g c =
@@ -38,5 +38,5 @@ returns g c =
     let m = c.write_marks-first in
     let kept = q.auto.text in
     let same = m.auto.text in
-    tail_puts c.args.with_cigar a _ _ _ _ c.put_column.result (piece_is m.new.text q.new.text m.result q.result (marks a.first a.last) (quality_text c.args.with_cigar a) (omega arith) m.ensures.written q.ensures.written)
-    c.if-not-with_cigar.false c.in_ok-put_piece.ensures c.put_column.ensures
+    read_puts c.args.with_cigar a _ _ _ _ c.put_column.result (piece_is m.new.text q.new.text m.result q.result (marks a.first a.last) (quality_text c.args.with_cigar a) (omega arith) m.ensures.written q.ensures.written)
+    c.if-not-with_cigar.false c.in_ok-put_both.ensures c.put_column.ensures

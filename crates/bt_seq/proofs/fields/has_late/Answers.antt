@@ -1,7 +1,7 @@
 use Rattle.std.proofs.Common.{arith, ◌≡◌, ◌+◌, length}
 use Rattle.std.proofs.lemmas.Bool.Decides.{nat_tests}
 use Rattle.bt_lines.specs.Lines.{pieces}
-use Rattle.bt_seq.proofs.fields.has_counted.Goals as goal
+use Rattle.bt_seq.proofs.fields.has_late.Goals as goal
 
 pub returns : goal.returns
 returns c =

@@ -1,6 +1,6 @@
 use Rattle.std.proofs.Common.{◌≡◌, ◌+◌, length}
 use Rattle.bt_lines.specs.Lines.{pieces}
-use Rattle.bt_seq.proofs.fields.has_counted.Given as goal
+use Rattle.bt_seq.proofs.fields.has_late.Given as goal
 
 -- so many columns were passed
 abbrev pub invariant-loop-column : goal.invariant-loop-column

@@ -1,0 +1,42 @@
+-- A piece that is copied by its first and its last bytes.
+use Rattle.std.proofs.Common.{◌≡◌, ℕ, ◌+◌, ◌-◌, ◌*◌, ◌≤◌, List, ◌++◌, length, take, drop, refl, sym, ap, ◌∙◌, append_assoc, arith, length-append, length-take, length-take-le}
+use Rattle.std.proofs.Math.Seq.{take-add}
+use Rattle.std.proofs.lemmas.List.{length-drop, take-take, take_all}
+use Rattle.std.proofs.lemmas.Simd.{length-chunk, length-put_chunk, take_more_put_chunk}
+use Rattle.std.proofs.lemmas.Slice.{take-put_mid}
+use Rattle.std.specs.Simd.Lanes.{chunk, put_chunk}
+use borrow.Rule.Slice.PartMut.{put_mid}
+
+-- the first bytes and the last ones, so many, are all of it
+pub both_ends : (width : ℕ) (to piece : List ℕ) → length to ≡ length piece → width ≤ length piece → length piece ≤ 2 * width
+    → put_chunk (length piece - width) (put_chunk 0 to (chunk 0 width piece)) (chunk (length piece - width) width piece) ≡ piece
+both_ends width to piece same low high =
+    let from = length piece - width in
+    let front = put_chunk 0 to (chunk 0 width piece) in
+    let last = chunk from width piece in
+    let all = put_chunk from front last in
+    let first_many : length (chunk 0 width piece) ≡ width = length-chunk 0 width piece (omega arith) in
+    let last_many : length last ≡ width = length-chunk from width piece (omega arith) in
+    let front_long : length front ≡ length piece = length-put_chunk 0 to (chunk 0 width piece) ∙ same in
+    let all_long : length all ≡ length piece = length-put_chunk from front last ∙ front_long in
+    let begins : take width front ≡ take width piece = take_more_put_chunk 0 to (chunk 0 width piece) width (omega arith) (omega arith) in
+    let kept : take from front ≡ take from piece =
+    sym (take-take from width front (omega arith)) ∙ ap (take from) begins ∙ take-take from width piece (omega arith) in
+    let whole : from + width ≡ length piece = omega arith in
+    sym (take_all (length piece) all (omega arith))
+    ∙ take_more_put_chunk from front last (length piece) (omega arith) (omega arith)
+    ∙ ap (λ l. l ++ last) kept
+    ∙ sym (take-add from width piece)
+    ∙ ap (λ n. take n piece) whole
+    ∙ take_all (length piece) piece (omega arith)
+
+-- two pieces are written behind the first bytes, one behind the other
+pub two_put : (bytes piece end : List ℕ) (len : ℕ) (k m : ℕ) → len + (length piece + length end) ≤ length bytes
+    → take (len + length piece + length end) (put_mid (len + length piece) m (put_mid len k bytes piece) end) ≡ take len bytes ++ (piece ++ end)
+two_put bytes piece end len k m room =
+    let first = put_mid len k bytes piece in
+    let long : len + length piece ≤ length first =
+    omega (arith, length-append (take len bytes) (piece ++ drop k (drop len bytes)), length-append piece (drop k (drop len bytes)), length-take-le len bytes (omega arith)) in
+    take-put_mid (len + length piece) m first end (len + length piece + length end) refl long
+    ∙ ap (λ l. l ++ end) (take-put_mid len k bytes piece (len + length piece) refl (omega arith))
+    ∙ append_assoc (take len bytes) piece end

@@ -1,0 +1,14 @@
+-- Pieces that are copied by their first and their last bytes.
+use Rattle.std.specs.Prelude.{◌≡◌, ℕ, ◌*◌, ◌≤◌, ◌⊎◌}
+
+-- a piece of so many bytes is copied by vectors
+abbrev pub IsShort : ℕ → Type 0
+IsShort size = (4 ≤ size) × (size ≤ 64)
+
+-- the same, or it is a single byte
+abbrev pub IsEnd : ℕ → Type 0
+IsEnd size = (size ≡ 1) ⊎ IsShort size
+
+-- the first bytes of a piece, so many, and as many of its last bytes are all of it
+abbrev pub Covers : ℕ → ℕ → Type 0
+Covers width size = (width ≤ size) × (size ≤ 2 * width)

@@ -1,0 +1,110 @@
+//! Short pieces, copied without a call.
+
+ghost use Rattle.std.specs.Prelude.{◌≡◌, length, true};
+ghost use Rattle.bt_lines.specs.Copying.{Covers, IsEnd, IsShort};
+
+use std::simd::prelude::*;
+
+// Whether a piece is copied by vectors: it has 4 to 64 bytes, as most have.
+#[inline(always)]
+pub(crate) fn is_short(size: usize) -> bool
+    ensures { result ≡ true → IsShort size }
+{
+    size >= 4 && size <= 64
+}
+
+// Whether a piece is copied by vectors, or is a single byte.
+#[inline(always)]
+pub(crate) fn is_end(size: usize) -> bool
+    ensures { result ≡ true → IsEnd size }
+{
+    size == 1 || is_short(size)
+}
+
+// Copies a short piece to as many bytes: its first ones and its last ones, by one vector each, which may overlap.
+#[inline(always)]
+pub(crate) fn copy_short(to: &mut [u8], piece: &[u8])
+    requires same { length to.old ≡ length piece.now }
+    requires short { IsShort (length piece.now) }
+    ensures { to.new ≡ piece.now }
+{
+    let size = piece.len();
+    if size > 16 {
+        if size > 32 {
+            copy_thirty_twos(to, piece);
+        } else {
+            copy_sixteens(to, piece);
+        }
+    } else if size > 8 {
+        copy_eights(to, piece);
+    } else {
+        copy_fours(to, piece);
+    }
+}
+
+// Copies a short piece or a single byte to as many bytes.
+#[inline(always)]
+pub(crate) fn copy_end(to: &mut [u8], piece: &[u8])
+    requires same { length to.old ≡ length piece.now }
+    requires end { IsEnd (length piece.now) }
+    ensures { to.new ≡ piece.now }
+{
+    if piece.len() == 1 {
+        copy_byte(to, piece);
+    } else {
+        copy_short(to, piece);
+    }
+}
+
+// Copies a single byte.
+fn copy_byte(to: &mut [u8], piece: &[u8])
+    requires to { length to.old ≡ 1 }
+    requires piece { length piece.now ≡ 1 }
+    ensures { to.new ≡ piece.now }
+{
+    to[0] = piece[0];
+}
+
+// Copies the first and the last four bytes.
+fn copy_fours(to: &mut [u8], piece: &[u8])
+    requires same { length to.old ≡ length piece.now }
+    requires covers { Covers 4 (length piece.now) }
+    ensures { to.new ≡ piece.now }
+{
+    let last = piece.len() - 4;
+    u8x4::from_slice(piece).copy_to_slice(to);
+    u8x4::from_slice(&piece[last..]).copy_to_slice(&mut to[last..]);
+}
+
+// Copies the first and the last eight bytes.
+fn copy_eights(to: &mut [u8], piece: &[u8])
+    requires same { length to.old ≡ length piece.now }
+    requires covers { Covers 8 (length piece.now) }
+    ensures { to.new ≡ piece.now }
+{
+    let last = piece.len() - 8;
+    u8x8::from_slice(piece).copy_to_slice(to);
+    u8x8::from_slice(&piece[last..]).copy_to_slice(&mut to[last..]);
+}
+
+// Copies the first and the last sixteen bytes.
+fn copy_sixteens(to: &mut [u8], piece: &[u8])
+    requires same { length to.old ≡ length piece.now }
+    requires covers { Covers 16 (length piece.now) }
+    ensures { to.new ≡ piece.now }
+{
+    let last = piece.len() - 16;
+    u8x16::from_slice(piece).copy_to_slice(to);
+    u8x16::from_slice(&piece[last..]).copy_to_slice(&mut to[last..]);
+}
+
+// Copies the first and the last thirty-two bytes.
+fn copy_thirty_twos(to: &mut [u8], piece: &[u8])
+    requires same { length to.old ≡ length piece.now }
+    requires covers { Covers 32 (length piece.now) }
+    ensures { to.new ≡ piece.now }
+{
+    let last = piece.len() - 32;
+    u8x32::from_slice(piece).copy_to_slice(to);
+    u8x32::from_slice(&piece[last..]).copy_to_slice(&mut to[last..]);
+}
