@@ -21,3 +21,4 @@ pub mod StartedLemmas
 pub mod HeldListLemmas
 pub mod EndLemmas
 pub mod OpenLemmas
+pub mod LimitLemmas

@@ -5,10 +5,13 @@ use Rattle.bt_sweep.specs.Steps.{quiet_are_taken}
 use Rattle.bt_bed.specs.declared.taken.Taken.TheVariants.{Yes, No}
 
 pub quiet_taken : quiet_are_taken
-quiet_taken order shape rule stage a b out (Ok Yes) new grown gives undecided free = (refl, gives.same_output)
-quiet_taken order shape rule stage a b out (Ok No) new grown gives undecided free = absurd (false≢true (sym undecided ∙ gives.decides))
-quiet_taken order shape rule stage a b out (Err f) new grown gives undecided free =
+quiet_taken order shape rule limit stage a b line out (Ok Yes) new grown gives undecided free = (refl, gives.same_output)
+quiet_taken order shape rule limit stage a b line out (Ok No) new grown gives undecided free = absurd (false≢true (sym undecided ∙ gives.decides))
+quiet_taken order shape rule limit stage a b line out (Err f) new grown gives undecided free =
     elim gives.1 [
       | inl cut ↦ absurd (false≢true (sym undecided ∙ cut.decides))
-      | inr refused ↦ absurd (false≢true (sym free ∙ refused.to_hold))
+      | inr refused ↦ elim refused [
+        | inl full ↦ absurd (false≢true (sym free ∙ full.to_hold))
+        | inr lacks ↦ absurd (false≢true (sym free ∙ lacks.to_hold))
+      ]
     ]

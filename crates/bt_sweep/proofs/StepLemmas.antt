@@ -1,5 +1,5 @@
 -- Lemmas on the steps of a sweep.
-use Rattle.std.proofs.Common.{◌≡◌, ◌⊎◌, inl, inr, ℕ, Bool, true, false, cond, List, [], ◌∷◌, ◌++◌, Option, Some, None, Result, Ok, Err, refl, sym, ap, ◌∙◌, subst, filter, append-nil, option_to_list}
+use Rattle.std.proofs.Common.{◌≡◌, ◌⊎◌, inl, inr, ℕ, Bool, true, false, cond, List, [], ◌∷◌, ◌++◌, Option, Some, None, Result, Ok, Err, refl, sym, ap, ◌∙◌, subst, filter, append-nil, length, option_to_list}
 use Rattle.std.specs.Prelude.{IsTrue, is_some}
 use Rattle.std.proofs.lemmas.Bool.{false≢true}
 use Rattle.bt_lines.specs.Names.{told}
@@ -13,8 +13,8 @@ use Rattle.bt_sweep.specs.Deciding.{decides}
 use Rattle.bt_sweep.specs.Held.{AreRising}
 use Rattle.bt_sweep.specs.IntersectLines.{lines_for}
 use Rattle.bt_sweep.specs.Standing.{Stage, given, is_held, held_for, HoldsFor, StandsAt, IsInOrder, last_given, with_a, with_a_ended, with_b, with_lines, with_b_ended}
-use Rattle.bt_sweep.specs.StateSteps.{Holds, TakesA, WritesLast, held_with, holding, is_held_by, moved_to}
-use Rattle.bt_sweep.specs.Steps.{EndsB, Fails, FailsToHold, FailsToWriteA, GivesA, TakesB, WritesA, lines_with}
+use Rattle.bt_sweep.specs.StateSteps.{Holds, TakesA, WritesLast, has_room_in, held_with, holding, is_held_by, moved_to}
+use Rattle.bt_sweep.specs.Steps.{EndsB, Fails, FailsToHold, FailsToWriteA, GivesA, PassesLimit, TakesB, WritesA, has_room, lines_with}
 use Rattle.bt_sweep.specs.SweepState.{Sweeping, want_in, want_of}
 use Rattle.bt_sweep.specs.declared.hit_rule.HitRule.{HitRule}
 use Rattle.bt_sweep.specs.declared.shape.Shape.{Shape}
@@ -22,6 +22,7 @@ use Rattle.bt_sweep.specs.declared.want.Want.TheVariants.{A, B, Nothing}
 use Rattle.bt_sweep.proofs.HeldLines.{held_lines}
 use Rattle.bt_sweep.proofs.HitLemmas.{before_lines}
 use Rattle.bt_sweep.proofs.HoldLemmas.{holds_a, holds_b, held_next}
+use Rattle.bt_sweep.proofs.LimitLemmas.{held_less, within_less, within_more}
 use Rattle.bt_sweep.proofs.PlacedLemmas.{last_given-push}
 use Rattle.bt_sweep.proofs.RisingLemmas.{rising_held}
 
@@ -46,16 +47,18 @@ no_wait true done wants = absurd (let apart : B ≡ A = wants in cc)
 no_wait false done wants = refl
 
 -- the first input has ended
-pub ends_a : (order : Order) (shape : Shape) (rule : HitRule) (stage : Stage) (sweep : Sweeping) → StandsAt order shape rule stage sweep → want_in sweep ≡ A
-    → StandsAt order shape rule (with_a_ended stage) (record sweep { done = true })
-ends_a order shape rule stage sweep stands wants = record {
+pub ends_a : (order : Order) (shape : Shape) (rule : HitRule) (limit : Option ℕ) (stage : Stage) (sweep : Sweeping) → StandsAt order shape rule limit stage sweep → want_in sweep ≡ A
+    → StandsAt order shape rule limit (with_a_ended stage) (record sweep { done = true })
+ends_a order shape rule limit stage sweep stands wants = record {
   shape_is = stands.shape_is;
   rule_is = stands.rule_is;
+  limit_is = stands.limit_is;
   last_is = stands.last_is;
   waits = stands.waits;
   done = refl;
   b_ended = stands.b_ended;
   holds = stands.holds;
+  within = stands.within;
   unended = λ some. absurd (false≢true (sym (no_wait sweep.waits sweep.done wants) ∙ stands.waits ∙ some));
 }
 
@@ -63,7 +66,7 @@ takes_at : {T : Type 0} (t : T) (sweep new : Sweeping) (a : Feature) (out grown 
     → (new ≡ record (moved_to sweep a) { waits = cond b false true }) × Grown out (cond b (lines_for sweep.shape sweep.rule a (held_with sweep.last sweep.held a)) []) grown
 takes_at t sweep new a out grown b e takes = subst (λ (b : Bool). (new ≡ record (moved_to sweep a) { waits = cond b false true }) × Grown out (cond b (lines_for sweep.shape sweep.rule a (held_with sweep.last sweep.held a)) []) grown) e takes
 
-module _ (order : Order) (shape : Shape) (rule : HitRule) (written taken : List Feature) (ended : Bool) (sweep : Sweeping) (a : Feature) (total : IsTotal order) where
+module _ (order : Order) (shape : Shape) (rule : HitRule) (limit : Option ℕ) (written taken : List Feature) (ended : Bool) (sweep : Sweeping) (a : Feature) (total : IsTotal order) where
   lines_next : ArePlaced order (intervals_of (written ++ a ∷ [])) → sweep.shape ≡ shape → sweep.rule ≡ rule → sweep.last ≡ last_given written → HoldsFor order written taken sweep.held
       → lines_for sweep.shape sweep.rule a (held_with sweep.last sweep.held a) ≡ lines_for shape rule a taken
   lines_next placed same ruled last holds =
@@ -84,46 +87,50 @@ module _ (order : Order) (shape : Shape) (rule : HitRule) (written taken : List 
       (rising_held order a taken total second)
 
   -- with one more record of the first input
-  pub goes_a : {T : Type 0} (t : T) (b : Bool) (w : Option Feature) (new : Sweeping) (out grown : Output) → StandsAt order shape rule (stage_of written w taken ended b) sweep → want_in sweep ≡ A
+  pub goes_a : {T : Type 0} (t : T) (b : Bool) (w : Option Feature) (new : Sweeping) (out grown : Output) → StandsAt order shape rule limit (stage_of written w taken ended b) sweep → want_in sweep ≡ A
       → IsInOrder order (with_a (stage_of written w taken ended b) a) → TakesA {A = T} sweep a out (Ok t) new grown
-      → StandsAt order shape rule (with_a (stage_of written w taken ended b) a) new × Grown out (lines_with shape rule (stage_of written w taken ended b) a) grown
+      → StandsAt order shape rule limit (with_a (stage_of written w taken ended b) a) new × Grown out (lines_with shape rule (stage_of written w taken ended b) a) grown
   goes_a t b (Some x) new out grown stands wants ordered takes = wants_a sweep x stands.waits wants
   goes_a t true None new out grown stands wants ordered takes =
       let both = takes_at t sweep new a out grown true stands.b_ended takes in
       let holds = subst (λ (gs : List Feature). HoldsFor order gs taken sweep.held) (append-nil written) stands.holds in
       let last = stands.last_is ∙ ap last_given (append-nil written) in
       let placed = subst (λ (gs : List Feature). ArePlaced order (intervals_of gs)) (append-nil (written ++ a ∷ [])) ordered.first in
-      let next : StandsAt order shape rule (stage_of (written ++ a ∷ []) None taken ended true) (moved_to sweep a) = record {
+      let next : StandsAt order shape rule limit (stage_of (written ++ a ∷ []) None taken ended true) (moved_to sweep a) = record {
         shape_is = stands.shape_is;
         rule_is = stands.rule_is;
+        limit_is = stands.limit_is;
         last_is = sym (ap last_given (append-nil (written ++ a ∷ [])) ∙ last_given-push written a);
         waits = refl;
         done = stands.done;
         b_ended = stands.b_ended;
         holds = subst (λ (gs : List Feature). HoldsFor order gs taken (held_with sweep.last sweep.held a)) (sym (append-nil (written ++ a ∷ []))) (holds_next placed last holds);
+        within = within_less limit (length sweep.held) (length (held_with sweep.last sweep.held a)) (held_less sweep.last sweep.held a) stands.within;
         unended = λ some. absurd (false≢true some);
       } in (
-        subst (StandsAt order shape rule (stage_of (written ++ a ∷ []) None taken ended true)) (sym both.0) next,
+        subst (StandsAt order shape rule limit (stage_of (written ++ a ∷ []) None taken ended true)) (sym both.0) next,
         subst (λ (l : List ℕ). Grown out l grown) (lines_next placed stands.shape_is stands.rule_is last holds) both.1,
       )
   goes_a t false None new out grown stands wants ordered takes =
       let both = takes_at t sweep new a out grown false stands.b_ended takes in
       let holds = subst (λ (gs : List Feature). HoldsFor order gs taken sweep.held) (append-nil written) stands.holds in
       let last = stands.last_is ∙ ap last_given (append-nil written) in
-      let next : StandsAt order shape rule (stage_of written (Some a) taken ended false) (record (moved_to sweep a) { waits = true }) = record {
+      let next : StandsAt order shape rule limit (stage_of written (Some a) taken ended false) (record (moved_to sweep a) { waits = true }) = record {
         shape_is = stands.shape_is;
         rule_is = stands.rule_is;
+        limit_is = stands.limit_is;
         last_is = sym (last_given-push written a);
         waits = refl;
         done = stands.done;
         b_ended = stands.b_ended;
         holds = holds_next ordered.first last holds;
+        within = within_less limit (length sweep.held) (length (held_with sweep.last sweep.held a)) (held_less sweep.last sweep.held a) stands.within;
         unended = λ some. (sym stands.done ∙ going sweep.waits sweep.done wants, refl);
       } in
-      (subst (StandsAt order shape rule (stage_of written (Some a) taken ended false)) (sym both.0) next, both.1)
+      (subst (StandsAt order shape rule limit (stage_of written (Some a) taken ended false)) (sym both.0) next, both.1)
 
   -- the lines that are written at once
-  lines_are : (b : Bool) (w : Option Feature) → StandsAt order shape rule (stage_of written w taken ended b) sweep → want_in sweep ≡ A
+  lines_are : (b : Bool) (w : Option Feature) → StandsAt order shape rule limit (stage_of written w taken ended b) sweep → want_in sweep ≡ A
       → IsInOrder order (with_a (stage_of written w taken ended b) a)
       → cond sweep.b_ended (lines_for sweep.shape sweep.rule a (held_with sweep.last sweep.held a)) [] ≡ lines_with shape rule (stage_of written w taken ended b) a
   lines_are b (Some x) stands wants ordered = wants_a sweep x stands.waits wants
@@ -135,7 +142,7 @@ module _ (order : Order) (shape : Shape) (rule : HitRule) (written taken : List 
   lines_are false None stands wants ordered = ap (λ (c : Bool). cond c (lines_for sweep.shape sweep.rule a (held_with sweep.last sweep.held a)) []) stands.b_ended
 
   -- what is held once a is given rises
-  pub next_rises : (b : Bool) (w : Option Feature) → StandsAt order shape rule (stage_of written w taken ended b) sweep → want_in sweep ≡ A
+  pub next_rises : (b : Bool) (w : Option Feature) → StandsAt order shape rule limit (stage_of written w taken ended b) sweep → want_in sweep ≡ A
       → IsInOrder order (with_a (stage_of written w taken ended b) a) → AreRising (held_with sweep.last sweep.held a)
   next_rises b (Some x) stands wants ordered = wants_a sweep x stands.waits wants
   next_rises true None stands wants ordered =
@@ -148,13 +155,13 @@ module _ (order : Order) (shape : Shape) (rule : HitRule) (written taken : List 
       let last = stands.last_is ∙ ap last_given (append-nil written) in
       held_rises ordered.first last holds ordered.second
 
-  pub gives_a : {T : Type 0} (r : Result T Fault) (b : Bool) (w : Option Feature) (new : Sweeping) (out grown : Output) → StandsAt order shape rule (stage_of written w taken ended b) sweep → want_in sweep ≡ A
-      → IsInOrder order (with_a (stage_of written w taken ended b) a) → TakesA sweep a out r new grown → GivesA order shape rule (stage_of written w taken ended b) a out r new grown
+  pub gives_a : {T : Type 0} (r : Result T Fault) (b : Bool) (w : Option Feature) (new : Sweeping) (out grown : Output) → StandsAt order shape rule limit (stage_of written w taken ended b) sweep → want_in sweep ≡ A
+      → IsInOrder order (with_a (stage_of written w taken ended b) a) → TakesA sweep a out r new grown → GivesA order shape rule limit (stage_of written w taken ended b) a out r new grown
   gives_a (Ok t) b w new out grown stands wants ordered takes = goes_a t b w new out grown stands wants ordered takes
   gives_a (Err f) b w new out grown stands wants ordered takes =
       (takes.0, subst (λ (l : List ℕ). Fails out l (told f) grown) (lines_are b w stands wants ordered) takes.1)
 
-module _ (order : Order) (shape : Shape) (rule : HitRule) (stage : Stage) (a : Feature) (e : stage.waiting ≡ Some a) (sweep : Sweeping) (stands : StandsAt order shape rule stage sweep) where
+module _ (order : Order) (shape : Shape) (rule : HitRule) (limit : Option ℕ) (stage : Stage) (a : Feature) (e : stage.waiting ≡ Some a) (sweep : Sweeping) (stands : StandsAt order shape rule limit stage sweep) where
   given_is : given stage ≡ stage.written ++ a ∷ []
   given_is = ap (λ (o : Option Feature). stage.written ++ option_to_list o) e
 
@@ -176,51 +183,57 @@ module _ (order : Order) (shape : Shape) (rule : HitRule) (stage : Stage) (a : F
       ∙ ap (lines_for shape rule a) held_is
       ∙ held_lines shape rule a stage.taken
 
-  stands_written : StandsAt order shape rule (with_lines stage) (record sweep { waits = false })
+  stands_written : StandsAt order shape rule limit (with_lines stage) (record sweep { waits = false })
   stands_written = record {
     shape_is = stands.shape_is;
     rule_is = stands.rule_is;
+    limit_is = stands.limit_is;
     last_is = stands.last_is ∙ ap last_given (sym (append-nil (given stage)));
     waits = refl;
     done = stands.done;
     b_ended = stands.b_ended;
     holds = subst (λ (gs : List Feature). HoldsFor order gs stage.taken sweep.held) (sym (append-nil (given stage))) stands.holds;
+    within = stands.within;
     unended = λ some. absurd (false≢true some);
   }
 
-  stands_ended : StandsAt order shape rule (with_b_ended stage) (record sweep { waits = false; b_ended = true })
+  stands_ended : StandsAt order shape rule limit (with_b_ended stage) (record sweep { waits = false; b_ended = true })
   stands_ended = record {
     shape_is = stands.shape_is;
     rule_is = stands.rule_is;
+    limit_is = stands.limit_is;
     last_is = stands.last_is ∙ ap last_given (sym (append-nil (given stage)));
     waits = refl;
     done = stands.done;
     b_ended = refl;
     holds = subst (λ (gs : List Feature). HoldsFor order gs stage.taken sweep.held) (sym (append-nil (given stage))) stands.holds;
+    within = stands.within;
     unended = λ some. absurd (false≢true some);
   }
 
   -- the record of the second input decides the one that waits
-  pub writes_a : {T : Type 0} (t : T) (b : Feature) (new : Sweeping) (out grown : Output) → IsTotal order → IsTrue (order.knows a.chrom) → decides order a b ≡ true → WritesLast {A = T} sweep a out (Ok t) new grown → WritesA order shape rule stage a b out new grown
-  writes_a t b new out grown total known told_so writes = record {
+  pub writes_a : {T : Type 0} (t : T) (b : Feature) (line : ℕ) (new : Sweeping) (out grown : Output) → IsTotal order → IsTrue (order.knows a.chrom) → decides order a b ≡ true → WritesLast {A = T} sweep a out (Ok t) new grown → WritesA order shape rule limit stage a b line out new grown
+  writes_a t b line new out grown total known told_so writes = record {
     decides = told_so;
-    stands = subst (StandsAt order shape rule (with_lines stage)) (sym writes.0) stands_written;
+    stands = subst (StandsAt order shape rule limit (with_lines stage)) (sym writes.0) stands_written;
     puts = subst (λ (l : List ℕ). Grown out l grown) waiting_lines writes.1;
     settled = before_lines order shape rule a b stage.taken total known told_so;
   }
 
-  pub cuts_a : (T : Type 0) (f : Fault) (b : Feature) (new : Sweeping) (out grown : Output) → decides order a b ≡ true → WritesLast {A = T} sweep a out (Err f) new grown
-      → (want_in new ≡ Nothing) × (FailsToWriteA order shape rule stage a b out (told f) grown ⊎ FailsToHold order shape rule stage a b out (told f) grown)
-  cuts_a T f b new out grown told_so writes =
+  pub cuts_a : (T : Type 0) (f : Fault) (b : Feature) (line : ℕ) (new : Sweeping) (out grown : Output) → decides order a b ≡ true → WritesLast {A = T} sweep a out (Err f) new grown
+      → (want_in new ≡ Nothing)
+      × (FailsToWriteA order shape rule limit stage a b line out (told f) grown ⊎ (PassesLimit order shape rule limit stage a b line out (told f) grown ⊎ FailsToHold order shape rule limit stage a b line out (told f) grown))
+  cuts_a T f b line new out grown told_so writes =
       (writes.0, inl (record { decides = told_so; fails = subst (λ (l : List ℕ). FailsToAdd out l (told f) grown) waiting_lines writes.1 }))
 
   -- it leaves it undecided, and is taken
-  pub takes_b : {T : Type 0} (t : T) (b : Feature) (new : Sweeping) (out : Output) → decides order a b ≡ false → Holds {A = T} sweep b (Ok t) new → TakesB order shape rule stage a b out new out
-  takes_b t b new out undecided holds =
+  pub takes_b : {T : Type 0} (t : T) (b : Feature) (line : ℕ) (new : Sweeping) (out : Output) → decides order a b ≡ false → Holds {A = T} sweep b line (Ok t) new → TakesB order shape rule limit stage a b line out new out
+  takes_b t b line new out undecided holds =
       let kept : sweep.held ++ filter (is_held_by sweep.last) (b ∷ []) ≡ sweep.held ++ filter (is_held a) (b ∷ []) = ap (λ (l : Option Feature). sweep.held ++ filter (is_held_by l) (b ∷ [])) last_waits in
-      let next : StandsAt order shape rule (with_b stage b) (holding sweep b) = record {
+      let next : StandsAt order shape rule limit (with_b stage b) (holding sweep b) = record {
         shape_is = stands.shape_is;
         rule_is = stands.rule_is;
+        limit_is = stands.limit_is;
         last_is = stands.last_is;
         waits = stands.waits;
         done = stands.done;
@@ -228,17 +241,29 @@ module _ (order : Order) (shape : Shape) (rule : HitRule) (stage : Stage) (a : F
         holds = subst (λ (gs : List Feature). HoldsFor order gs (stage.taken ++ b ∷ []) (sweep.held ++ filter (is_held_by sweep.last) (b ∷ []))) (sym given_is)
             (subst (λ (h : List Feature). HoldsFor order (stage.written ++ a ∷ []) (stage.taken ++ b ∷ []) h) (sym kept)
             (holds_b order stage.written stage.taken sweep.held a b (subst (λ (gs : List Feature). HoldsFor order gs stage.taken sweep.held) given_is stands.holds) undecided));
+        within = within_more limit sweep.last b sweep.held (λ h. ap (λ (l : Option ℕ). has_room l (length sweep.held)) (sym stands.limit_is) ∙ holds.1 h) stands.within;
         unended = stands.unended;
       } in
-      record { undecided = undecided; stands = subst (StandsAt order shape rule (with_b stage b)) (sym holds) next; same_output = refl }
+      record { undecided = undecided; stands = subst (StandsAt order shape rule limit (with_b stage b)) (sym holds.0) next; same_output = refl }
 
-  pub stops_b : (T : Type 0) (f : Fault) (b : Feature) (new : Sweeping) (out : Output) → decides order a b ≡ false → Holds {A = T} sweep b (Err f) new
-      → (want_in new ≡ Nothing) × (FailsToWriteA order shape rule stage a b out (told f) out ⊎ FailsToHold order shape rule stage a b out (told f) out)
-  stops_b T f b new out undecided holds =
-      (holds.0, inr (record { undecided = undecided; to_hold = ap (λ (l : Option Feature). is_held_by l b) (sym last_waits) ∙ holds.2; is = holds.1; same_output = refl }))
+  room_is : has_room limit (length (held_for (Some a) stage.taken)) ≡ has_room_in sweep
+  room_is = ap (λ (l : List Feature). has_room limit (length l)) (sym held_is) ∙ ap (λ (l : Option ℕ). has_room l (length sweep.held)) (sym stands.limit_is)
+
+  -- it has to be held, and can't be
+  pub stops_b : (T : Type 0) (f : Fault) (b : Feature) (line : ℕ) (new : Sweeping) (out : Output) → decides order a b ≡ false → Holds {A = T} sweep b line (Err f) new
+      → (want_in new ≡ Nothing)
+      × (FailsToWriteA order shape rule limit stage a b line out (told f) out ⊎ (PassesLimit order shape rule limit stage a b line out (told f) out ⊎ FailsToHold order shape rule limit stage a b line out (told f) out))
+  stops_b T f b line new out undecided holds =
+      let to_hold = ap (λ (l : Option Feature). is_held_by l b) (sym last_waits) ∙ holds.1 in (
+        holds.0,
+        inr (elim holds.2 [
+          | inl full ↦ inl (record { undecided = undecided; to_hold = to_hold; is_full = room_is ∙ full.0; is = full.1; same_output = refl })
+          | inr lacks ↦ inr (record { undecided = undecided; to_hold = to_hold; room = room_is ∙ lacks.0; is = lacks.1; same_output = refl })
+        ]),
+      )
 
   -- the second input has ended
-  pub ends_b : {T : Type 0} (r : Result T Fault) (new : Sweeping) (out grown : Output) → WritesLast (record sweep { b_ended = true }) a out r new grown → EndsB order shape rule stage a out r new grown
+  pub ends_b : {T : Type 0} (r : Result T Fault) (new : Sweeping) (out grown : Output) → WritesLast (record sweep { b_ended = true }) a out r new grown → EndsB order shape rule limit stage a out r new grown
   ends_b (Ok t) new out grown writes =
-      (subst (StandsAt order shape rule (with_b_ended stage)) (sym writes.0) stands_ended, subst (λ (l : List ℕ). Grown out l grown) waiting_lines writes.1)
+      (subst (StandsAt order shape rule limit (with_b_ended stage)) (sym writes.0) stands_ended, subst (λ (l : List ℕ). Grown out l grown) waiting_lines writes.1)
   ends_b (Err f) new out grown writes = (writes.0, subst (λ (l : List ℕ). FailsToAdd out l (told f) grown) waiting_lines writes.1)

@@ -3,6 +3,7 @@ pub mod Hits
 pub mod Pieces
 pub mod IntersectLines
 pub mod SweepMeeting
+pub mod Limit
 pub mod Subtract
 pub mod Worked
 pub mod SweepState

@@ -1,11 +1,12 @@
 -- Where a sweep stands: after which records of both inputs.
-use Rattle.std.specs.Prelude.{◌≡◌, Bool, true, false, not, ◌&&◌, IsTrue, cond, List, [], ◌∷◌, ◌++◌}
-use Rattle.std.specs.Prelude.{filter, nat_lt, bytes_eq, Option, Some, None, is_some, option_to_list}
+use Rattle.std.specs.Prelude.{◌≡◌, ℕ, ◌≤◌, Bool, true, false, not, IfSome, IsTrue, cond, List, []}
+use Rattle.std.specs.Prelude.{◌∷◌, ◌++◌, length, Option, Some, None, is_some, option_to_list}
 use Rattle.std.specs.List.{list_any, list_all, take_while}
 use Rattle.bt_bed.specs.Feature.{Feature, intervals_of}
 use Rattle.bt_bed.specs.Locus.{ArePlaced}
 use Rattle.bt_bed.specs.Order.{Order, IsTotal}
 use Rattle.bt_sweep.specs.Deciding.{decides, decided}
+pub use Rattle.bt_sweep.specs.Limit.{is_held, held_for}
 use Rattle.bt_sweep.specs.SweepState.{Sweeping, want_of}
 use Rattle.bt_sweep.specs.declared.hit_rule.HitRule.{HitRule}
 use Rattle.bt_sweep.specs.declared.shape.Shape.{Shape}
@@ -47,16 +48,6 @@ abbrev pub last_given : List Feature → Option Feature
 last_given [] = None
 last_given (a ∷ more) = Some (last_after a more)
 
--- whether a or a later record of the first input can be hit by b, as far as a tells: it lies on the
--- chromosome of a, and ends above its start
-abbrev pub is_held : Feature → Feature → Bool
-is_held a b = bytes_eq a.chrom b.chrom && nat_lt a.start b.stop
-
--- what is held, by the record of the first input that was given last
-abbrev pub held_for : Option Feature → List Feature → List Feature
-held_for None taken = []
-held_for (Some a) taken = filter (is_held a) taken
-
 -- whether b leaves one of the given records undecided
 abbrev pub leaves_some : Order → List Feature → Feature → Bool
 leaves_some order as_given b = list_any (λ a. not (decides order a b)) as_given
@@ -68,15 +59,18 @@ pub record HoldsFor (order : Order) (as_given taken held : List Feature) : Type 
   pub reached : IsTrue (list_all (leaves_some order as_given) taken)
 
 -- the sweep stands there
-pub record StandsAt (order : Order) (shape : Shape) (rule : HitRule) (stage : Stage)
-    (sweep : Sweeping) : Type 0 where
+pub record StandsAt (order : Order) (shape : Shape) (rule : HitRule) (limit : Option ℕ)
+    (stage : Stage) (sweep : Sweeping) : Type 0 where
   pub shape_is : sweep.shape ≡ shape
   pub rule_is : sweep.rule ≡ rule
+  pub limit_is : sweep.limit ≡ limit
   pub last_is : sweep.last ≡ last_given (given stage)
   pub waits : sweep.waits ≡ is_some stage.waiting
   pub done : sweep.done ≡ stage.a_ended
   pub b_ended : sweep.b_ended ≡ stage.b_ended
   pub holds : HoldsFor order (given stage) stage.taken sweep.held
+  -- no more records are held than the limit allows
+  pub within : IfSome limit (λ most. length sweep.held ≤ most)
   -- a record waits only while neither input has ended
   pub unended : is_some stage.waiting ≡ true → (stage.a_ended ≡ false) × (stage.b_ended ≡ false)
 

@@ -1,15 +1,18 @@
 -- What the steps of a sweep do to what it keeps. Callers know them by `Steps`.
-use Rattle.std.specs.Prelude.{◌≡◌, ◌⊎◌, Bool, true, false, cond, List, [], ◌∷◌, ◌++◌, Option}
-use Rattle.std.specs.Prelude.{Some, None, Result, Ok, Err, filter, nat_lt, bytes_eq}
+use Rattle.std.specs.Prelude.{◌≡◌, ◌⊎◌, ℕ, Bool, true, false, cond, List, [], ◌∷◌, ◌++◌, Option}
+use Rattle.std.specs.Prelude.{Some, None, Result, Ok, Err, filter, length, nat_lt, bytes_eq}
 use Rattle.bt_lines.specs.Fault.{no_memory}
 use Rattle.bt_lines.specs.Names.{told}
 use Rattle.bt_lines.specs.Output.{Output}
 use Rattle.bt_lines.specs.Putting.{FailsToAdd, Grown}
 use Rattle.bt_lines.specs.declared.fault.Fault.{Fault}
+use Rattle.bt_lines.specs.declared.fault.Input.TheVariants.{Second}
+use Rattle.bt_lines.specs.declared.fault.Kind.TheVariants.{TooManyHeld}
 use Rattle.bt_bed.specs.Feature.{Feature}
+use Rattle.bt_bed.specs.LineKind.{fault_at_line}
 use Rattle.bt_sweep.specs.IntersectLines.{lines_for, lines_of}
 use Rattle.bt_sweep.specs.Standing.{is_held}
-use Rattle.bt_sweep.specs.Steps.{Fails}
+use Rattle.bt_sweep.specs.Steps.{Fails, has_room}
 use Rattle.bt_sweep.specs.SweepState.{Sweeping, want_in}
 use Rattle.bt_sweep.specs.declared.shape.Shape.{Shape}
 use Rattle.bt_sweep.specs.declared.want.Want.TheVariants.{Nothing}
@@ -26,6 +29,7 @@ moved_to old a =
     record {
       shape = old.shape;
       rule = old.rule;
+      limit = old.limit;
       last = Some a;
       waits = false;
       held = held_with old.last old.held a;
@@ -70,8 +74,19 @@ is_held_by (Some a) b = is_held a b
 abbrev pub holding : Sweeping → Feature → Sweeping
 holding old b = record old { held = old.held ++ filter (is_held_by old.last) (b ∷ []) }
 
--- holding b
-abbrev pub Holds : {A : Type 0} → Sweeping → Feature → Result A Fault → Sweeping → Type 0
-Holds old b (Ok done) new = new ≡ holding old b
-Holds old b (Err fault) new =
-    (want_in new ≡ Nothing) × (told fault ≡ no_memory) × (is_held_by old.last b ≡ true)
+-- whether the limit leaves room for one more
+abbrev pub has_room_in : Sweeping → Bool
+has_room_in sweep = has_room sweep.limit (length sweep.held)
+
+-- why b, at a line, couldn't be held: for want of room, or of memory
+abbrev pub CannotHold : Sweeping → ℕ → Fault → Type 0
+CannotHold old line fault =
+    ((has_room_in old ≡ false) × (told fault ≡ fault_at_line Second line TooManyHeld))
+    ⊎ ((has_room_in old ≡ true) × (told fault ≡ no_memory))
+
+-- holding b, at a line
+abbrev pub Holds : {A : Type 0} → Sweeping → Feature → ℕ → Result A Fault → Sweeping → Type 0
+Holds old b line (Ok done) new =
+    (new ≡ holding old b) × (is_held_by old.last b ≡ true → has_room_in old ≡ true)
+Holds old b line (Err fault) new =
+    (want_in new ≡ Nothing) × (is_held_by old.last b ≡ true) × CannotHold old line fault

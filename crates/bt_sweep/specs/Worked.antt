@@ -1,16 +1,22 @@
 -- Small inputs, worked by hand: what is written and told of them.
 use Rattle.std.specs.Prelude.{◌≡◌, ℕ, false, true, [], ◌∷◌, codes, Option, Some, None}
 use Rattle.bt_lines.specs.Fault.{Told}
+use Rattle.bt_lines.specs.declared.fault.Input.TheVariants.{Second}
+use Rattle.bt_lines.specs.declared.fault.Kind.TheVariants.{TooManyHeld}
 use Rattle.bt_bed.specs.Feature.{Feature}
-use Rattle.bt_bed.specs.Good.{Good}
+use Rattle.bt_bed.specs.Good.{Good, items_in}
+use Rattle.bt_bed.specs.LineKind.{fault_at_line}
+use Rattle.bt_bed.specs.Meeting.{Met}
 use Rattle.bt_bed.specs.Order.{Order}
 use Rattle.bt_bed.specs.Rank.{rank_order}
 use Rattle.bt_bed.specs.declared.strand.Strand.TheVariants.{Dot}
 use Rattle.bt_sweep.specs.Hits.{any_overlap}
+use Rattle.bt_sweep.specs.Limit.{limited}
 use Rattle.bt_sweep.specs.Subtract.{subtract}
 use Rattle.bt_sweep.specs.SweepMeeting.{intersect_met}
 use Rattle.bt_sweep.specs.declared.hit_rule.HitRule.{HitRule}
-use Rattle.bt_sweep.specs.declared.shape.Shape.TheVariants.{Cut}
+use Rattle.bt_sweep.specs.declared.shape.Shape.{Shape}
+use Rattle.bt_sweep.specs.declared.shape.Shape.TheVariants.{Cut, Pieces}
 
 -- a record of chr1, without further columns
 abbrev pub at : ℕ → ℕ → Feature
@@ -63,3 +69,62 @@ half_is_taken =
 abbrev pub whole_is_left : Type 0
 whole_is_left =
     subtract true any_overlap (at 0 10 ∷ at 20 30 ∷ []) (at 5 20 ∷ []) ≡ codes "chr1\t20\t30\n"
+
+-- three records on three lines, and a fault behind them
+abbrev pub three : Feature → Feature → Feature → Option Told → Good Feature
+three first next last fault = record {
+  members = record { line = 1; item = first } ∷ record { line = 2; item = next }
+      ∷ record { line = 3; item = last } ∷ [];
+  fault = fault;
+}
+
+-- the meeting of two inputs on chr1, where no more records of the second are held than so many
+abbrev pub met_holding : Shape → ℕ → Good Feature → Good Feature → Met ℕ Told
+met_holding shape most first second =
+    intersect_met only_chr1 shape any_overlap first
+    (limited only_chr1 (Some most) (items_in first) second)
+
+-- Of 0 to 100 and 50 to 60 the first has three records within it: the third is too many for two,
+-- and not for three.
+abbrev pub third_is_too_many : Type 0
+third_is_too_many =
+    met_holding Cut 2 (two (at 0 100) (at 50 60) None) (three (at 10 20) (at 55 58) (at 90 95) None)
+    ≡ record { lines = []; fault = Some (fault_at_line Second 3 TooManyHeld) }
+
+abbrev pub three_are_enough : Type 0
+three_are_enough =
+    met_holding Cut 3 (two (at 0 100) (at 50 60) None) (three (at 10 20) (at 55 58) (at 90 95) None)
+    ≡ record {
+      lines = codes "chr1\t10\t20\nchr1\t55\t58\nchr1\t90\t95\nchr1\t55\t58\n";
+      fault = None;
+    }
+
+-- The second of 1 to 2, 30 to 40 and 50 to 60 decides 0 to 10, whose lines are written; with the
+-- third two are held for 20 to 100.
+abbrev pub decided_before_the_limit : Type 0
+decided_before_the_limit =
+    met_holding Cut 1 (two (at 0 10) (at 20 100) None) (three (at 1 2) (at 30 40) (at 50 60) None)
+    ≡ record { lines = codes "chr1\t1\t2\n"; fault = Some (fault_at_line Second 3 TooManyHeld) }
+
+-- none may be held: the first is too many, unless it ends before the undecided record,
+-- or decides it
+abbrev pub first_is_too_many : Type 0
+first_is_too_many =
+    met_holding Cut 0 (two (at 0 10) (at 20 100) None) (three (at 1 2) (at 30 40) (at 50 60) None)
+    ≡ record { lines = []; fault = Some (fault_at_line Second 1 TooManyHeld) }
+
+abbrev pub none_is_held : Type 0
+none_is_held =
+    met_holding Pieces 0 (one (at 20 30) None) (two (at 0 5) (at 30 40) None)
+    ≡ record { lines = codes "chr1\t20\t30\n"; fault = None }
+
+-- a fault behind the second of two records, of which one may be held, or two
+abbrev pub limit_before_the_fault : Type 0
+limit_before_the_fault = (fault : Told)
+    → met_holding Cut 1 (one (at 0 100) None) (two (at 10 20) (at 20 30) (Some fault))
+    ≡ record { lines = []; fault = Some (fault_at_line Second 2 TooManyHeld) }
+
+abbrev pub fault_within_the_limit : Type 0
+fault_within_the_limit = (fault : Told)
+    → met_holding Cut 2 (one (at 0 100) None) (two (at 10 20) (at 20 30) (Some fault))
+    ≡ record { lines = []; fault = Some fault }

@@ -3,11 +3,12 @@
 ghost use Rattle.bt_sweep.specs.Deciding.{decided_stays};
 ghost use Rattle.bt_sweep.specs.Hits.{both_of_nothing};
 ghost use Rattle.bt_sweep.specs.IntersectLines.{lines_are_before, lines_stay};
+ghost use Rattle.bt_sweep.specs.Limit.{limit_is_kept, limit_stops};
 ghost use Rattle.bt_sweep.specs.Pieces.{pieces_are, pieces_only};
 ghost use Rattle.bt_sweep.specs.Standing.{taken_are_first};
 ghost use Rattle.bt_sweep.specs.Steps.{quiet_are_taken};
 ghost use Rattle.bt_sweep.specs.Subtract.{left_are_lines, subtract_is_met};
-ghost use Rattle.bt_sweep.specs.Worked.{fault_behind_undecided, fault_of_first, half_is_taken, parts_are_left, whole_is_left};
+ghost use Rattle.bt_sweep.specs.Worked.{decided_before_the_limit, fault_behind_undecided, fault_of_first, fault_within_the_limit, first_is_too_many, half_is_taken, limit_before_the_fault, none_is_held, parts_are_left, third_is_too_many, three_are_enough, whole_is_left};
 ghost use Rattle.bt_sweep.specs.SweepMeeting.{faultless_are_all, written_are_a_front};
 
 /// What is decided stays decided, and its lines stay as they are, whatever comes after in order: the
@@ -56,6 +57,15 @@ pub fn taken_records_come_first()
     ensures { taken_are_first }
 {}
 
+/// Where the number of held records is limited, a run is refused exactly where more of the records up to
+/// a line of the second input would have to be held for the first record that they leave undecided, and
+/// at the first such line: the lines of the records before that one are written. Else the limit changes
+/// nothing.
+pub fn limits_stop_at_the_first_too_many()
+    ensures stops { limit_stops }
+    ensures kept { limit_is_kept }
+{}
+
 /// A record of the second input that neither decides the current record of the first nor has to be
 /// held is taken, so it needs no memory, and nothing is written.
 pub fn quiet_records_are_taken()
@@ -69,4 +79,15 @@ pub fn small_inputs_meet()
     ensures parts { parts_are_left }
     ensures half { half_is_taken }
     ensures whole { whole_is_left }
+{}
+
+/// The same, where the number of held records is limited.
+pub fn small_inputs_meet_within_a_limit()
+    ensures third { third_is_too_many }
+    ensures three { three_are_enough }
+    ensures decided { decided_before_the_limit }
+    ensures first { first_is_too_many }
+    ensures none { none_is_held }
+    ensures before { limit_before_the_fault }
+    ensures behind { fault_within_the_limit }
 {}

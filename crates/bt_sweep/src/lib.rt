@@ -6,14 +6,14 @@
 //! ```text
 //! fn sweep_two(rt: &impl Abort, alloc: Global, order: &impl ChromOrder) -> Result<(), Fail> {
 //!     let (held, rule) = (HeldList::new(alloc), HitRule::any_overlap());
-//!     let mut sweep = Sweep::new(alloc, held, Shape::Cut, rule, order);
+//!     let mut sweep = Sweep::new(alloc, held, Shape::Cut, rule, None, order);
 //!     let mut out = Out::new(ScriptSink::new(alloc, 7, None));
 //!     let a = parse_bed(b"chr1\t0\t10")?.ok_or("a record")?;
 //!     let b = parse_bed(b"chr1\t8\t14")?.ok_or("a record")?;
 //!     assert!(rt; sweep.want() == Want::A && order.knows(a.chrom));
 //!     sweep.give_a(&a, &mut out)?;
 //!     assert!(rt; sweep.want() == Want::B && order.knows(b.chrom));
-//!     sweep.give_b(&b, &mut out)?;
+//!     sweep.give_b(&b, 1, &mut out)?;
 //!     assert!(rt; sweep.want() == Want::B);
 //!     sweep.end_b(&mut out)?;
 //!     out.flush()?;
@@ -25,6 +25,8 @@
 
 #[cfg(test)]
 mod example;
+#[cfg(test)]
+mod growth_tests;
 mod held;
 mod held_index;
 mod held_list;

@@ -4,10 +4,12 @@ ghost use Rattle.std.specs.Prelude.{◌≡◌, ◌∷◌, ◌++◌, [], IsTrue, 
 ghost use Rattle.bt_lines.specs.Putting.{Adds};
 ghost use Rattle.bt_bed.specs.Bed.{feature_lent};
 ghost use Rattle.bt_bed.specs.Feature.{Feature};
+ghost use Rattle.bt_bed.specs.LineKind.{fault_at_line};
+ghost use Rattle.bt_lines.specs.Names.{told};
 ghost use Rattle.bt_sweep.specs.Deciding.{decides};
 ghost use Rattle.bt_sweep.specs.Held.{AreRising, AreWith};
 ghost use Rattle.bt_sweep.specs.IntersectLines.{lines_for};
-ghost use Rattle.bt_sweep.specs.StateSteps.{Holds, KeepsLast, TakesA, WritesLast, held_with, is_held_by, moved_to};
+ghost use Rattle.bt_sweep.specs.StateSteps.{Holds, KeepsLast, TakesA, WritesLast, has_room_in, held_with, is_held_by, moved_to};
 ghost use Rattle.bt_sweep.specs.SweepState.{want_in};
 
 use crate::held::Held;
@@ -15,8 +17,8 @@ use crate::hit_rule::HitRule;
 use crate::shape::Shape;
 use crate::want::Want;
 use crate::writing::{needs_hit, put_lines};
-use bt_bed::{BedRef, ChromOrder, Rec, is_same_name};
-use bt_lines::{Fault, Out, Sink, no_memory};
+use bt_bed::{BedRef, ChromOrder, Rec, at_line, is_same_name};
+use bt_lines::{Fault, Input, Kind, Out, Place, Sink, no_memory};
 use std::alloc::{AllocError, Global};
 use std::cmp::Ordering;
 use std::marker::Model;
@@ -31,6 +33,8 @@ pub(crate) struct State<H: Held> {
     shape: Shape,
     // What a hit is.
     rule: HitRule,
+    // How many records may be held, if that is limited.
+    limit: Option<u64>,
     // The record of the first input that was given last. Its buffer is used again.
     last: Option<Rec>,
     // Whether that record isn't written yet.
@@ -52,6 +56,7 @@ impl<H: Held> Model for State<H> {
     ghost view = { λ s. record {
       shape = s.shape;
       rule = s.rule;
+      limit = s.limit;
       last = s.last;
       waits = s.waits;
       held = H.records s.held;
@@ -63,11 +68,18 @@ impl<H: Held> Model for State<H> {
 }
 
 impl<H: Held> State<H> {
-    pub(crate) fn new(alloc: Global, held: H, shape: Shape, rule: HitRule) -> State<H>
+    pub(crate) fn new(
+        alloc: Global,
+        held: H,
+        shape: Shape,
+        rule: HitRule,
+        limit: Option<u64>,
+    ) -> State<H>
         requires { H.records held ≡ [] }
         ensures { result ≡ record {
           shape = shape;
           rule = rule;
+          limit = limit;
           last = None;
           waits = false;
           held = [];
@@ -79,6 +91,7 @@ impl<H: Held> State<H> {
             alloc,
             shape,
             rule,
+            limit,
             last: None,
             waits: false,
             held,
@@ -145,14 +158,19 @@ impl<H: Held> State<H> {
         }
     }
 
-    // Holds the record, if it can hit the last one of the first input or a later one.
-    pub(crate) fn hold(&mut self, b: &BedRef<'_>) -> Result<(), Fault>
-        ensures holds { Holds self.old (feature_lent b.now) result self.new }
+    // Holds the record, which is at a line of the second input, if it can hit the last one of the first
+    // or a later one. That there is room for it is tested before it is copied.
+    pub(crate) fn hold(&mut self, b: &BedRef<'_>, line: u64) -> Result<(), Fault>
+        ensures holds { Holds self.old (feature_lent b.now) line result self.new }
         ensures stops { OnErr result (want_in self.new ≡ Want.Nothing) }
         ensures last { self.new.last ≡ self.old.last }
     {
         if !is_to_be_held(&self.last, b) {
             return Ok(());
+        }
+        if !self.has_room() {
+            self.stop();
+            return Err(too_many_held(line));
         }
         if self.add(b).is_err() {
             self.stop();
@@ -190,6 +208,16 @@ impl<H: Held> State<H> {
         self.write(out)
     }
 
+    // Whether one more record may be held.
+    fn has_room(&self) -> bool
+        ensures { result ≡ has_room_in self.now }
+    {
+        match self.limit {
+            None => true,
+            Some(most) => (self.held.len() as u64) < most,
+        }
+    }
+
     // Asks for nothing from now on.
     fn stop(&mut self)
         ensures { self.new ≡ record self.old { waits = false; done = true } }
@@ -219,6 +247,14 @@ impl<H: Held> State<H> {
             Err(_) => Err(AllocError),
         }
     }
+}
+
+// The fault of a record that would be held beyond the limit.
+fn too_many_held(line: u64) -> Fault
+    ensures { told result ≡ fault_at_line Input.Second line Kind.TooManyHeld }
+{
+    let input = Input::Second;
+    at_line(Kind::TooManyHeld, Place { input, line })
 }
 
 // Makes the record the last one, and drops the held records that neither it nor a later one can hit.

@@ -29,7 +29,7 @@ pub struct Sweep<'o, H: Held, O: ChromOrder> {
 }
 
 impl<'o, H: Held, O: ChromOrder> Sweep<'o, H, O> {
-    ghost use Rattle.std.specs.Prelude.{◌≡◌, [], IsTrue, OnErr, Some};
+    ghost use Rattle.std.specs.Prelude.{◌≡◌, ℕ, [], IsTrue, OnErr, Option, Some};
     ghost use Rattle.bt_bed.specs.Bed.{feature_lent};
     ghost use Rattle.bt_bed.specs.Feature.{intervals_of};
     ghost use Rattle.bt_bed.specs.Locus.{ArePlaced};
@@ -39,23 +39,31 @@ impl<'o, H: Held, O: ChromOrder> Sweep<'o, H, O> {
     ghost use Rattle.bt_sweep.specs.SweepView.{order_of, state_of};
     ghost use Rattle.bt_sweep.specs.SweepState.{want_in};
 
-    /// A sweep that was given nothing, over an empty list of held records. It takes no memory.
-    pub fn new(alloc: Global, held: H, shape: Shape, rule: HitRule, order: &'o O) -> Sweep<'o, H, O>
+    /// A sweep that was given nothing, over an empty list of held records. Where there is a limit, no
+    /// more records than so many are held. It takes no memory.
+    pub fn new(
+        alloc: Global,
+        held: H,
+        shape: Shape,
+        rule: HitRule,
+        limit: Option<u64>,
+        order: &'o O,
+    ) -> Sweep<'o, H, O>
         requires { H.records held ≡ [] }
-        ensures stands { StandsAt (O.order order.now) shape rule first_stage (state_of result) }
+        ensures stands { StandsAt (O.order order.now) shape rule limit first_stage (state_of result) }
         ensures order { order_of result ≡ O.order order.now }
     {
         Sweep {
             order,
-            state: State::new(alloc, held, shape, rule),
+            state: State::new(alloc, held, shape, rule, limit),
         }
     }
 
     /// What it asks for next.
     pub fn want(&self) -> Want
         ensures is { result ≡ want_in (state_of self.now) }
-        ensures stage { (order : Order) (shape : Shape) (rule : HitRule) (stage : Stage)
-            → StandsAt order shape rule stage (state_of self.now) → result ≡ want_at stage }
+        ensures stage { (order : Order) (shape : Shape) (rule : HitRule) (limit : Option ℕ) (stage : Stage)
+            → StandsAt order shape rule limit stage (state_of self.now) → result ≡ want_at stage }
     {
         self.state.want()
     }
@@ -63,8 +71,8 @@ impl<'o, H: Held, O: ChromOrder> Sweep<'o, H, O> {
     /// The records of the second input that it holds.
     pub fn held(&self) -> &H
         ensures is { H.records result.now ≡ (state_of self.now).held }
-        ensures stage { (order : Order) (shape : Shape) (rule : HitRule) (stage : Stage)
-            → StandsAt order shape rule stage (state_of self.now)
+        ensures stage { (order : Order) (shape : Shape) (rule : HitRule) (limit : Option ℕ) (stage : Stage)
+            → StandsAt order shape rule limit stage (state_of self.now)
             → H.records result.now ≡ held_for (last_given (given stage)) stage.taken }
     {
         self.state.held()
@@ -77,9 +85,9 @@ impl<'o, H: Held, O: ChromOrder> Sweep<'o, H, O> {
     pub fn give_a<K: Sink>(&mut self, a: &BedRef<'_>, out: &mut Out<K>) -> Result<(), Fault>
         requires want { want_in (state_of self.old) ≡ Want.A }
         requires known { IsTrue ((order_of self.old).knows a.now.chrom.now) }
-        ensures gives { (shape : Shape) (rule : HitRule) (stage : Stage) → StandsAt (order_of self.old) shape rule stage (state_of self.old)
+        ensures gives { (shape : Shape) (rule : HitRule) (limit : Option ℕ) (stage : Stage) → StandsAt (order_of self.old) shape rule limit stage (state_of self.old)
             → IsInOrder (order_of self.old) (with_a stage (feature_lent a.now))
-            → GivesA (order_of self.old) shape rule stage (feature_lent a.now) out.old result
+            → GivesA (order_of self.old) shape rule limit stage (feature_lent a.now) out.old result
             (state_of self.new) out.new }
         ensures stops { OnErr result (want_in (state_of self.new) ≡ Want.Nothing) }
         ensures order { order_of self.new ≡ order_of self.old }
@@ -90,25 +98,31 @@ impl<'o, H: Held, O: ChromOrder> Sweep<'o, H, O> {
     /// Takes the end of the first input. Nothing is written, and nothing more is asked for.
     pub fn end_a(&mut self)
         requires { want_in (state_of self.old) ≡ Want.A }
-        ensures stands { (shape : Shape) (rule : HitRule) (stage : Stage) → StandsAt (order_of self.old) shape rule stage (state_of self.old)
-            → StandsAt (order_of self.old) shape rule (with_a_ended stage) (state_of self.new) }
+        ensures stands { (shape : Shape) (rule : HitRule) (limit : Option ℕ) (stage : Stage) → StandsAt (order_of self.old) shape rule limit stage (state_of self.old)
+            → StandsAt (order_of self.old) shape rule limit (with_a_ended stage) (state_of self.new) }
         ensures nothing { want_in (state_of self.new) ≡ Want.Nothing }
         ensures order { order_of self.new ≡ order_of self.old }
     {
         self.state.end_a();
     }
 
-    /// Takes the next record of the second input, unless it decides the current record of the first:
-    /// then that one's lines are written, and the record is to be given again. It fails with
-    /// `WriteFailed` where they can't be written, and with `NoMemory` where the record has to be held
-    /// and can't be. A record that neither decides nor has to be held takes no memory.
-    pub fn give_b<K: Sink>(&mut self, b: &BedRef<'_>, out: &mut Out<K>) -> Result<Taken, Fault>
+    /// Takes the next record of the second input, which is at this line, unless it decides the current
+    /// record of the first: then that one's lines are written, and the record is to be given again. It
+    /// fails with `WriteFailed` where they can't be written. Where the record has to be held, it fails with
+    /// `TooManyHeld` at the line if as many are held as the limit allows, and else with `NoMemory` if it
+    /// can't be. A record that neither decides nor has to be held takes no memory.
+    pub fn give_b<K: Sink>(
+        &mut self,
+        b: &BedRef<'_>,
+        line: u64,
+        out: &mut Out<K>,
+    ) -> Result<Taken, Fault>
         requires want { want_in (state_of self.old) ≡ Want.B }
         requires known { IsTrue ((order_of self.old).knows b.now.chrom.now) }
-        ensures gives { (shape : Shape) (rule : HitRule) (stage : Stage) (a : Feature)
-            → StandsAt (order_of self.old) shape rule stage (state_of self.old) → stage.waiting ≡ Some a
+        ensures gives { (shape : Shape) (rule : HitRule) (limit : Option ℕ) (stage : Stage) (a : Feature)
+            → StandsAt (order_of self.old) shape rule limit stage (state_of self.old) → stage.waiting ≡ Some a
             → ArePlaced (order_of self.old) (intervals_of stage.taken)
-            → GivesB (order_of self.old) shape rule stage a (feature_lent b.now) out.old result
+            → GivesB (order_of self.old) shape rule limit stage a (feature_lent b.now) line out.old result
             (state_of self.new) out.new }
         ensures stops { OnErr result (want_in (state_of self.new) ≡ Want.Nothing) }
         ensures order { order_of self.new ≡ order_of self.old }
@@ -117,7 +131,7 @@ impl<'o, H: Held, O: ChromOrder> Sweep<'o, H, O> {
             self.state.write(out)?;
             return Ok(Taken::No);
         }
-        self.state.hold(b)?;
+        self.state.hold(b, line)?;
         Ok(Taken::Yes)
     }
 
@@ -125,10 +139,10 @@ impl<'o, H: Held, O: ChromOrder> Sweep<'o, H, O> {
     /// fails with `WriteFailed` where they can't be written.
     pub fn end_b<K: Sink>(&mut self, out: &mut Out<K>) -> Result<(), Fault>
         requires { want_in (state_of self.old) ≡ Want.B }
-        ensures gives { (shape : Shape) (rule : HitRule) (stage : Stage) (a : Feature)
-            → StandsAt (order_of self.old) shape rule stage (state_of self.old) → stage.waiting ≡ Some a
+        ensures gives { (shape : Shape) (rule : HitRule) (limit : Option ℕ) (stage : Stage) (a : Feature)
+            → StandsAt (order_of self.old) shape rule limit stage (state_of self.old) → stage.waiting ≡ Some a
             → ArePlaced (order_of self.old) (intervals_of stage.taken)
-            → EndsB (order_of self.old) shape rule stage a out.old result (state_of self.new) out.new }
+            → EndsB (order_of self.old) shape rule limit stage a out.old result (state_of self.new) out.new }
         ensures stops { OnErr result (want_in (state_of self.new) ≡ Want.Nothing) }
         ensures order { order_of self.new ≡ order_of self.old }
     {

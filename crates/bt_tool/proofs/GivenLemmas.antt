@@ -4,13 +4,14 @@ use Rattle.std.specs.Prelude.{All, String, bytes_eq, option_and_then, unwrap_or}
 use Rattle.std.specs.Char.{is_ascii_digit}
 use Rattle.std.specs.List.{list_all}
 use Rattle.std.specs.Str.Parse.{digits_value}
-use Rattle.std.proofs.lemmas.Bool.{false≢true}
+use Rattle.std.proofs.lemmas.Bool.{false≢true, le-leb}
 use Rattle.std.specs.Option.{option_or}
 use Rattle.std.specs.declared.alloc.Global.{Global}
 use Rattle.std.proofs.lemmas.List.Elements.{All-head, All-tail}
 use Rattle.std.proofs.lemmas.Slice.Eq.{bytes_eq-Decides}
 use Rattle.bt_lines.specs.Number.{is_number, max_number, value_of as number_of}
 use Rattle.bt_tool.specs.Given.{items_in}
+use Rattle.bt_tool.specs.Limits.{is_limit}
 use Rattle.bt_tool.specs.Items.{Item, IsItem, items_of}
 use Rattle.bt_tool.specs.Options.{checked, command_of, fault_together, last_item, options, plan_of, value_of, word_fault}
 use Rattle.bt_tool.specs.Plan.{words_seen}
@@ -127,3 +128,11 @@ either (Some n) h = h n refl
 
 pub number-limit-or : (text : List ℕ) → unwrap_or (number_of text) 0 ≤ max_number
 number-limit-or text = either (number_of text) (number-limit text)
+
+limits : (o : Option ℕ) → ((n : ℕ) → o ≡ Some n → n ≤ max_number) → is_limit o ≡ true
+limits None h = refl
+limits (Some n) h = le-leb n max_number (h n refl)
+
+-- it can be the limit of what is held
+pub number-is_limit : (text : List ℕ) → is_limit (number_of text) ≡ true
+number-is_limit text = limits (number_of text) (number-limit text)

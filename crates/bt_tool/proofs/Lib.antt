@@ -15,11 +15,13 @@ pub mod RestLemmas
 pub mod SeenLemmas
 pub mod SweepTurns
 pub mod SweepFacts
+pub mod SweepLimits
 pub mod MaskStart
 pub mod MaskTurnLemmas
 pub mod CameMembers
 pub mod PairMet
 pub mod PairNear
+pub mod PairLimits
 pub mod PairSettles
 pub mod PairTurns
 pub mod PairStops
@@ -55,3 +57,12 @@ pub mod PartRanks
 pub mod PartGenomes
 pub mod PartChromosomes
 pub mod PartShards
+pub mod PartSequences
+pub mod PartOwners
+pub mod PartBlocks
+pub mod PartMasked
+pub mod PartMaskSound
+pub mod PartMaskFaults
+pub mod PartMaskLaws
+pub mod PartOwnGenomes
+pub mod PartSuffice

@@ -16,6 +16,7 @@ use Rattle.bt_tool.specs.Both.{bytes_up_to}
 use Rattle.bt_tool.specs.Feeding.{member_items}
 use Rattle.bt_tool.specs.MaskReport.{last_needed}
 use Rattle.bt_tool.specs.MaskLoop.{leaves_some, mask_making}
+use Rattle.bt_tool.proofs.PairLimits.{AreLimits}
 use Rattle.bt_tool.proofs.PairNear.{AreNeeded, least_by, not_all, skip_by, take_whole}
 
 -- a line that more records leave undecided, fewer do too
@@ -78,3 +79,13 @@ pub mask_needs : (how : MaskHow) → AreNeeded (mask_making how)
 mask_needs how given extra past rest lines count asked high =
     subst (λ o. bytes_in (take (suc count) lines) ≤ bytes_up_to lines o) (sym (needed_behind (given ++ extra) past rest (asked_by given extra past asked)))
     (reaches_least (given ++ extra) (member_items past) rest lines count high)
+
+-- masking has no limit on what is held
+pub mask_limits : (how : MaskHow) → AreLimits (mask_making how)
+mask_limits how = record {
+  more = λ given later past fits. tt;
+  whole = λ first past fault fits. refl;
+  keeps = λ first past ahead rest fault fits. (rest, refl);
+  done = λ first past ahead rest fault fits ordered all. refl;
+  ordered = λ first second ordered. ordered;
+}

@@ -280,18 +280,18 @@ module _ {A B : Type 0} (a_left : A → Option (List ℕ)) (a_failed a_end : A �
 
       -- the first input couldn't give a line
       pub stops_first : (fault : Told) (first_now : MemberReader A SequenceLine Reached) → IsStopped a_left a_failed a_end first fault first_now → Ends (Some fault) first_now second grown
-      stops_first fault first_now stopped = stop.stops_first making pair out wrong_first wrong_second (stage_of stage) s.past_first s.past_second first second grown s.comes asked none_waits no_line.1 fault first_now stopped
+      stops_first fault first_now stopped = stop.stops_first making pair out wrong_first wrong_second (stage_of stage) s.past_first s.past_second first second grown s.comes asked (λ known. tt) none_waits no_line.1 fault first_now stopped
 
       module _ (m : Member SequenceLine) (first_now : MemberReader A SequenceLine Reached) (ahead : IsAhead a_left a_failed a_end first m first_now) where
         -- there was no memory for its line
         pub lacks_first : (fault : Told) → fault ≡ no_memory → Ends (Some fault) first_now second grown
-        lacks_first fault is = stop.lacks_first making pair out wrong_first wrong_second (stage_of stage) s.past_first s.past_second first second grown s.comes asked none_waits no_line.1 m first_now ahead fault is
+        lacks_first fault is = stop.lacks_first making pair out wrong_first wrong_second (stage_of stage) s.past_first s.past_second first second grown s.comes asked (λ known. tt) none_waits no_line.1 m first_now ahead fault is
 
         -- its line wasn't written
         pub fails_first : IsSettled how stage m.item → (b : Bool) → is_written_at_once stage m.item ≡ b → (fault : Told) (now : Output) → FailsToAdd grown (cond b (masked_line how stage.taken m.item) []) fault now → Ends (Some fault) first_now second now
         fails_first settled false once fault now adds = absurd (adds.some refl)
         fails_first settled true once fault now adds =
-            stop.fails_first making pair out wrong_first wrong_second (stage_of stage) s.past_first s.past_second first second grown s.comes asked none_waits no_line.1 m first_now ahead (masked_line how stage.taken m.item)
+            stop.fails_first making pair out wrong_first wrong_second (stage_of stage) s.past_first s.past_second first second grown s.comes asked (λ known. tt) none_waits no_line.1 m first_now ahead (masked_line how stage.taken m.item)
             (settles_at_once m settled stage.bed_ended (is_unnamed m.item.names) refl refl once) fault now adds
 
     -- a record is asked for, only while they may come
@@ -362,11 +362,11 @@ module _ {A B : Type 0} (a_left : A → Option (List ℕ)) (a_failed a_end : A �
         -- that wasn't written
         pub fails_waiting : (a : SequenceLine) → stage.waiting ≡ Some a → (fault : Told) (now : Output) → FailsToWriteLine how full stage a m.item grown fault now → Ends (Some fault) first peeked now
         fails_waiting a waits fault now writes =
-            stop.fails_waiting making pair out wrong_first wrong_second (stage_of stage) s.past_first s.past_second first second grown s.comes asked goes a waits m peeked ahead (masked_line how stage.taken a) (settles_decided a writes.decides writes.settled) fault now writes.fails
+            stop.fails_waiting making pair out wrong_first wrong_second (stage_of stage) s.past_first s.past_second first second grown s.comes asked (λ known. tt) goes a waits m peeked ahead (masked_line how stage.taken a) (settles_decided a writes.decides writes.settled) fault now writes.fails
 
         -- the record wasn't held
         pub fails_to_hold : (a : SequenceLine) → stage.waiting ≡ Some a → (fault : Told) → fault ≡ no_memory → Ends (Some fault) first peeked grown
-        fails_to_hold a waits fault is = stop.lacks_second making pair out wrong_first wrong_second (stage_of stage) s.past_first s.past_second first second grown s.comes asked goes a waits m peeked ahead fault is
+        fails_to_hold a waits fault is = stop.lacks_second making pair out wrong_first wrong_second (stage_of stage) s.past_first s.past_second first second grown s.comes asked (λ known. tt) goes a waits m peeked ahead fault is
 
         unowned_by : (none : stage.waiting ≡ None) → left_after (reached stage).names (stage.taken ++ m.item ∷ []) ≡ None → left_after (names_of stage.written) (member_items (s.past_second ++ m ∷ [])) ≡ None
         unowned_by none e =
@@ -377,7 +377,7 @@ module _ {A B : Type 0} (a_left : A → Option (List ℕ)) (a_failed a_end : A �
         pub lacks_sequence : (none : stage.waiting ≡ None) (fault : Told) (now : Output) → LacksSequence how full stage m.item m.line grown fault now → Ends (Some fault) first peeked grown
         lacks_sequence none fault now lacks =
             let p = passes_peek b_left b_failed b_end old_second s.past_second second s.comes.second_passes m peeked ahead in
-            stop.ends_rest making pair out wrong_first wrong_second (stage_of stage) s.past_first s.past_second first second grown s.comes asked (lines_over none) peeked (rises_now b_left b_failed b_end old_second s.past_second second s.comes.second_passes m peeked ahead).1 p.bytes s.past_second (Some fault)
+            stop.ends_rest making pair out wrong_first wrong_second (stage_of stage) s.past_first s.past_second first second grown s.comes asked (λ known. tt) (lines_over none) peeked (rises_now b_left b_failed b_end old_second s.past_second second s.comes.second_passes m peeked ahead).1 p.bytes s.past_second (Some fault)
             (inr (inr (
               fault,
               refl,
@@ -419,8 +419,8 @@ module _ {A B : Type 0} (a_left : A → Option (List ℕ)) (a_failed a_end : A �
 
       -- the second input couldn't give a record
       stops_by : (o : Option SequenceLine) → stage.waiting ≡ o → (fault : Told) (second_now : MemberReader B Feature (Option Locus)) → IsStopped b_left b_failed b_end second fault second_now → Ends (Some fault) first second_now grown
-      stops_by None e fault second_now stopped = stop.stops_behind making pair out wrong_first wrong_second (stage_of stage) s.past_first s.past_second first second grown s.comes asked goes (lines_over e) (none_lacks e) fault second_now stopped
-      stops_by (Some a) e fault second_now stopped = stop.stops_second making pair out wrong_first wrong_second (stage_of stage) s.past_first s.past_second first second grown s.comes asked goes a e fault second_now stopped
+      stops_by None e fault second_now stopped = stop.stops_behind making pair out wrong_first wrong_second (stage_of stage) s.past_first s.past_second first second grown s.comes asked (λ known. tt) goes (lines_over e) (none_lacks e) fault second_now stopped
+      stops_by (Some a) e fault second_now stopped = stop.stops_second making pair out wrong_first wrong_second (stage_of stage) s.past_first s.past_second first second grown s.comes asked (λ known. tt) goes a e fault second_now stopped
 
       pub stops_second : (fault : Told) (second_now : MemberReader B Feature (Option Locus)) → IsStopped b_left b_failed b_end second fault second_now → Ends (Some fault) first second_now grown
       stops_second fault second_now stopped = stops_by stage.waiting refl fault second_now stopped
@@ -428,10 +428,10 @@ module _ {A B : Type 0} (a_left : A → Option (List ℕ)) (a_failed a_end : A �
       -- at its end the waiting line wasn't written
       pub fails_at_end : (a : SequenceLine) → stage.waiting ≡ Some a → (fault : Told) (second_now : MemberReader B Feature (Option Locus)) (now : Output) → IsOver b_left b_failed b_end second second_now
           → FailsToAdd grown (masked_line how stage.taken a) fault now → Ends (Some fault) first second_now now
-      fails_at_end a waits fault second_now now over fails = stop.fails_at_end making pair out wrong_first wrong_second (stage_of stage) s.past_first s.past_second first second grown s.comes asked goes a waits fault second_now now over fails
+      fails_at_end a waits fault second_now now over fails = stop.fails_at_end making pair out wrong_first wrong_second (stage_of stage) s.past_first s.past_second first second grown s.comes asked (λ known. tt) goes a waits fault second_now now over fails
 
     -- both inputs have ended
     pub finishes : mask.want ≡ Nothing → Ends None first second grown
     finishes wants =
         let ends = all_ended (is_some stage.waiting) stage.lines_ended stage.bed_ended (sym s.stands.want_is ∙ wants) in
-        stop.ends_all making pair out wrong_first wrong_second (stage_of stage) s.past_first s.past_second first second grown s.comes asked ends.1 ends.2 (none_lacks (s.comes.first_all ends.1).1)
+        stop.ends_all making pair out wrong_first wrong_second (stage_of stage) s.past_first s.past_second first second grown s.comes asked (λ known. tt) ends.1 ends.2 (none_lacks (s.comes.first_all ends.1).1)

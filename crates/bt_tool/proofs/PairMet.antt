@@ -1,6 +1,6 @@
 -- Lemmas from how a run over two readers of members ends to the report on how the inputs meet.
-use Rattle.std.proofs.Common.{◌≡◌, ℕ, suc, ◌+◌, ◌≤◌, ◌<◌, Bool, true, false, List, [], ◌∷◌, ◌++◌, Option, None, Some, refl, sym, ap, ◌∙◌, subst, append_assoc, arith, flat_map, inl, inr, ⊎_elim}
-use Rattle.std.specs.Prelude.{◌⊎◌, ◌≢◌, ◌||◌, All, IfSome, IsSome, is_none}
+use Rattle.std.proofs.Common.{◌≡◌, ℕ, suc, ◌+◌, ◌≤◌, ◌<◌, Bool, true, false, List, [], ◌∷◌, ◌++◌, Option, None, Some, refl, sym, ap, ◌∙◌, subst, append_assoc, append-nil, arith, flat_map, inl, inr, ⊎_elim}
+use Rattle.std.specs.Prelude.{◌⊎◌, ◌≢◌, ◌||◌, All, IfSome, IsSome, is_none, option_to_list}
 use Rattle.std.specs.List.{list_all}
 use Rattle.std.specs.Option.{option_or}
 use Rattle.std.proofs.lemmas.Bool.{false≢true, or_from}
@@ -26,17 +26,18 @@ use Rattle.bt_tool.specs.Coming.{Came}
 use Rattle.bt_tool.specs.Driving.{IsReported, ReadsNoFurther, TellsDevice, TellsInput}
 use Rattle.bt_tool.specs.Feeding.{PutsFront, PutsLines, member_items}
 use Rattle.bt_tool.specs.Inputs.{HandsUpTo}
-use Rattle.bt_tool.specs.Pair.{Making, MayCome, Pair, Serves, met_by, rule_of}
-use Rattle.bt_tool.specs.PairEnds.{Finishes, FirstFails, FirstStops, InputsEnd, RestStops, SecondFails, SecondStops, Why}
+use Rattle.bt_tool.specs.Pair.{Making, MayCome, Pair, Serves, met_by, met_whole, rule_of}
+use Rattle.bt_tool.specs.PairEnds.{Finishes, FirstFails, FirstStops, InputsEnd, LimitStops, RestStops, SecondFails, SecondStops, Why}
 use Rattle.bt_tool.proofs.CameMembers.{BeginsAt, at_whole, came_cut, came_whole, is_known, text_known}
 use Rattle.bt_tool.proofs.FaultLemmas.{memory_no_write, placed_no_write, some_is}
 use Rattle.bt_tool.proofs.HandedReader.{passes_by}
+use Rattle.bt_tool.proofs.PairLimits.{AreLimits}
 use Rattle.bt_tool.proofs.SeenLemmas.{puts_front}
 
 module _ {X Y : Type 0} (making : Making X Y) where
   -- what the lines and the fault of a meeting are
   abbrev MeetsAs : Good X → Good Y → List ℕ → Option Told → Type 0
-  MeetsAs first second bytes fault = ((met_by making first second).lines ≡ bytes) × ((met_by making first second).fault ≡ fault)
+  MeetsAs first second bytes fault = ((met_whole making first second).lines ≡ bytes) × ((met_whole making first second).fault ≡ fault)
 
   -- what is told where all of the first is written
   abbrev last_of : Good X → Good Y → Option Told
@@ -66,7 +67,7 @@ module _ {X Y : Type 0} (making : Making X Y) where
         )
 
     -- whatever comes after them
-    meets_front : (rest : List X) → items_in first ≡ xs ++ rest → (more : List ℕ) × ((met_by making first second).lines ≡ bytes ++ more)
+    meets_front : (rest : List X) → items_in first ≡ xs ++ rest → (more : List ℕ) × ((met_whole making first second).lines ≡ bytes ++ more)
     meets_front rest is =
         let made = rule_of making (items_in first) second in
         (written made rest, met_lines made (items_in first) first.fault ∙ ap (written made) is ∙ written_past made xs rest here.0 ∙ ap (λ l. l ++ written made rest) here.1)
@@ -97,6 +98,18 @@ module _ {Y : Type 0} where
     all = λ e. let whole = all e in (ap member_items whole.0, whole.1);
   }
 
+  good_is : (good : Good Y) (members : List (Member Y)) (fault : Option Told) → good.members ≡ members → good.fault ≡ fault → good ≡ record { members = members; fault = fault }
+  good_is good members fault e f = ap (λ ms. record { members = ms; fault = good.fault }) e ∙ ap (λ (o : Option Told). record { members = members; fault = o }) f
+
+  -- the members that were seen of a second input come first, and are all where it has ended
+  abbrev Sees : List (Member Y) → Bool → Good Y → Type 0
+  Sees seen ended good = ((rest : List (Member Y)) × (good.members ≡ seen ++ rest)) × (ended ≡ true → (good.members ≡ seen) × (good.fault ≡ None))
+
+  sees_by : (good : Option (Good Y)) (seen : List (Member Y)) (ended : Bool) → IfSome good (λ good. (rest : List (Member Y)) × (good.members ≡ seen ++ rest))
+      → (ended ≡ true → IfSome good (λ good. (good.members ≡ seen) × (good.fault ≡ None))) → IfSome good (Sees seen ended)
+  sees_by None seen ended b all = tt
+  sees_by (Some good) seen ended b all = (b, all)
+
   -- the members seen are among those that came before a failed read
   pub seen_in : (good : Option (Good Y)) (past seen : List (Member Y)) (count : ℕ) → IsSome good
       → IfSome good (λ good. (rest : List (Member Y)) × (good.members ≡ past ++ rest) × IsBeyond count (record { members = rest; fault = good.fault }))
@@ -115,7 +128,7 @@ tells_no_write left failed kinds input before after (inl line) = placed_no_write
 tells_no_write left failed kinds input before after (inr read) = placed_no_write input read.line ReadFailed (sym read.is)
 
 module _ {A B X Y U V : Type 0} (making : Making X Y) (pair : Pair A B X Y U V) (out : Output)
-    (first_format : Format X U) (second_format : Format Y V) (in_order : (two : Handed) → making.InOrder (items_in (good_handed second_format Second two)))
+    (first_format : Format X U) (second_format : Format Y V) (in_order : (two : Handed) → making.InOrder (items_in (good_handed second_format Second two))) (limits : AreLimits making)
     (one_before : A) (two_before : B) (begins : BeginsAt pair.a_left first_format First one_before pair.first) (begins_second : BeginsAt pair.b_left second_format Second two_before pair.second)
     (first : MemberReader A X U) (second : MemberReader B Y V) (one_after : A) (two_after : B) (ended : source_of first.below ≡ one_after) (ended_second : source_of second.below ≡ two_after)
     (fault : Option Told) (grown : Output) (w : Finishes making pair out fault first second grown) where
@@ -131,12 +144,84 @@ module _ {A B X Y U V : Type 0} (making : Making X Y) (pair : Pair A B X Y U V) 
   abbrev CameTwo : Option Told → Handed → Type 0
   CameTwo = Came pair.b_left pair.b_failed two_before two_after
 
+  -- what the first meets of the second
+  abbrev limit : Handed → Handed → Good Y
+  limit one two = making.limited (items_in (good_one one)) (good_two two)
+
   abbrev MayBe : Good Y → Type 0
   MayBe good = MayCome (member_items w.wrote.seen) w.wrote.ended (items_in good) good.fault
 
   -- what the second input may have
   second_may : IfSome (good_coming pair.b_left pair.second) MayBe
   second_may = may_come (good_coming pair.b_left pair.second) w.wrote.seen w.wrote.ended w.wrote.second_begins w.wrote.second_all
+
+  abbrev SeesTwo : Good Y → Type 0
+  SeesTwo = Sees w.wrote.seen w.wrote.ended
+
+  second_sees : IfSome (good_coming pair.b_left pair.second) SeesTwo
+  second_sees = sees_by (good_coming pair.b_left pair.second) w.wrote.seen w.wrote.ended w.wrote.second_begins w.wrote.second_all
+
+  abbrev Begins : Good X → Type 0
+  Begins good = (rest : List X) × (items_in good ≡ w.wrote.given ++ rest)
+
+  module _ (first_good : Good X) (second_good : Good Y) (known : IsSome (good_coming pair.b_left pair.second)) (begun : Begins first_good) where
+    abbrev firsts : List X
+    firsts = items_in first_good
+
+    fits_first : making.Fits firsts w.wrote.taken
+    fits_first = subst (λ (l : List X). making.Fits l w.wrote.taken) (sym begun.1) (limits.more w.wrote.given begun.0 w.wrote.taken (w.wrote.fits known))
+
+    abbrev seen_all : List (Member Y)
+    seen_all = w.wrote.taken ++ option_to_list w.wrote.ahead
+
+    parted : (rest : List (Member Y)) → second_good.members ≡ w.wrote.seen ++ rest → second_good ≡ record { members = seen_all ++ rest; fault = second_good.fault }
+    parted rest e = good_is second_good (seen_all ++ rest) second_good.fault (e ∙ ap (λ l. l ++ rest) w.wrote.sees) refl
+
+    ended_taken : w.wrote.ended ≡ true → w.wrote.seen ≡ w.wrote.taken
+    ended_taken e = w.wrote.sees ∙ ap (λ (o : Option (Member Y)). w.wrote.taken ++ option_to_list o) (w.wrote.none_ahead e) ∙ append-nil w.wrote.taken
+
+    whole_at : w.wrote.ended ≡ true → second_good.members ≡ w.wrote.seen → making.limited firsts second_good ≡ second_good
+    whole_at e all =
+        let is = good_is second_good w.wrote.taken second_good.fault (all ∙ ended_taken e) refl in
+        ap (making.limited firsts) is ∙ limits.whole firsts w.wrote.taken second_good.fault fits_first ∙ sym is
+
+    -- what the first meets of the second begins with what was seen
+    limited_may : SeesTwo second_good → MayBe (making.limited firsts second_good)
+    limited_may sees =
+        let is = parted sees.0.0 sees.0.1 in
+        let keeps = limits.keeps firsts w.wrote.taken w.wrote.ahead sees.0.0 second_good.fault fits_first in
+        record {
+          begins = (
+            member_items keeps.0,
+            ap (λ (g : Good Y). items_in (making.limited firsts g)) is ∙ ap member_items keeps.1 ∙ ap (λ l. member_items (l ++ keeps.0)) (sym w.wrote.sees) ∙ map-append (λ m. m.item) w.wrote.seen keeps.0,
+          );
+          all = λ e.
+              let same = whole_at e (sees.1 e).0 in
+              (ap items_in same ∙ ap member_items (sees.1 e).0, ap (λ (g : Good Y). g.fault) same ∙ (sees.1 e).1);
+        }
+
+    decided_all : w.wrote.ended ≡ false → firsts ≡ w.written → making.InOrder (member_items seen_all) → list_all (λ x. making.decided x (member_items seen_all)) firsts ≡ true
+    decided_all e all ordered =
+        let seen_is : member_items w.wrote.seen ≡ member_items seen_all = ap member_items w.wrote.sees in
+        let may : MayCome (member_items w.wrote.seen) w.wrote.ended (member_items seen_all) (Some no_memory) = record {
+          begins = ([], sym seen_is ∙ sym (append-nil (member_items w.wrote.seen)));
+          all = λ t. absurd (false≢true (sym e ∙ t));
+        } in
+        ap (list_all (λ x. making.decided x (member_items seen_all))) all ∙ ((w.wrote.settles known).whatever (member_items seen_all) (Some no_memory) ordered may).0
+
+    free_by : (b : Bool) → w.wrote.ended ≡ b → firsts ≡ w.written → making.InOrder (items_in second_good) → (rest : List (Member Y)) → second_good.members ≡ w.wrote.seen ++ rest
+        → (w.wrote.ended ≡ true → second_good.members ≡ w.wrote.seen) → making.limited firsts second_good ≡ second_good
+    free_by true e all ordered rest begins ends = whole_at e (ends e)
+    free_by false e all ordered rest begins ends =
+        let is = parted rest begins in
+        ap (making.limited firsts) is
+        ∙ limits.done firsts w.wrote.taken w.wrote.ahead rest second_good.fault fits_first (subst (λ (g : Good Y). making.InOrder (items_in g)) is ordered) (decided_all e all)
+        ∙ sym is
+
+    -- where all of the first is written, the limit changes nothing
+    free : firsts ≡ w.written → making.InOrder (items_in second_good) → (rest : List (Member Y)) → second_good.members ≡ w.wrote.seen ++ rest
+        → (w.wrote.ended ≡ true → second_good.members ≡ w.wrote.seen) → making.limited firsts second_good ≡ second_good
+    free all ordered rest begins ends = free_by w.wrote.ended refl all ordered rest begins ends
 
   first_whole : (other : Option Told) (one : Handed) → CameOne other one → Serves pair.a_failed pair.first first → (P : Good X → Type 0) → IfSome (good_coming pair.a_left pair.first) P → P (good_one one)
   first_whole other one came serves =
@@ -154,8 +239,8 @@ module _ {A B X Y U V : Type 0} (making : Making X Y) (pair : Pair A B X Y U V) 
       let text = text_known pair.b_left pair.b_failed pair.b_end second_format Second two_before pair.second begins_second second two_after ended_second other two came in
       known_by text.0 text.1
 
-  here_by : (two : Handed) → IsSome (good_coming pair.b_left pair.second) → MayBe (good_two two) → HereAs making (good_two two) w.written w.bytes
-  here_by two known may = (w.wrote.settles known).whatever (items_in (good_two two)) (good_two two).fault (in_order two) may
+  here_by : (one two : Handed) → IsSome (good_coming pair.b_left pair.second) → MayBe (limit one two) → HereAs making (limit one two) w.written w.bytes
+  here_by one two known may = (w.wrote.settles known).whatever (items_in (limit one two)) (limit one two).fault (limits.ordered (items_in (good_one one)) (good_two two) (in_order two)) may
 
   -- what the fault of an input says of it
   first_wrong : (past : List (Member X)) (other : Told) (one : Handed) → CameOne (Some other) one → FirstFails making pair out past first other
@@ -168,20 +253,27 @@ module _ {A B X Y U V : Type 0} (making : Making X Y) (pair : Pair A B X Y U V) 
 
   second_wrong : (past : List (Member Y)) (other : Told) (two : Handed) → CameTwo (Some other) two → SecondFails making pair out w.wrote.ended past second other
       → ((good_two two).members ≡ past) × ((good_two two).fault ≡ Some other) × MayBe (good_two two)
+      × ((rest : List (Member Y)) × ((good_two two).members ≡ w.wrote.seen ++ rest)) × (w.wrote.ended ≡ true → (good_two two).members ≡ w.wrote.seen)
   second_wrong past other two came fails =
       elim fails.cause [
         | inl wrong ↦
             let serves : Serves pair.b_failed pair.second second = record { served = wrong.served; within = wrong.within } in
             let is = second_whole (Some other) two came serves (λ good. (good.members ≡ past) × (good.fault ≡ Some other)) wrong.whole in
-            (is.0, is.1, second_whole (Some other) two came serves MayBe second_may)
+            let sees = second_whole (Some other) two came serves SeesTwo second_sees in
+            (is.0, is.1, second_whole (Some other) two came serves MayBe second_may, sees.0, λ e. (sees.1 e).0)
         | inr unread ↦
             let is = came_cut pair.b_left pair.b_failed pair.b_end second_format Second two_before pair.second begins_second second two_after ended_second past other two came unread in
             let k = seen_in (good_coming pair.b_left pair.second) past w.wrote.seen (lines_given second.below) (known_two (Some other) two came) unread.members w.wrote.second_begins w.wrote.low in
             let may : MayCome (member_items w.wrote.seen) w.wrote.ended (member_items past) (Some other) = record {
               begins = (member_items k.0, ap member_items k.1 ∙ map-append (λ m. m.item) w.wrote.seen k.0);
               all = λ e. absurd (fails.before_end e (input_of pair.second.below) (suc (lines_given second.below)) unread.is);
-            } in
-            (ap (λ (g : Good Y). g.members) is, ap (λ (g : Good Y). g.fault) is, subst MayBe (sym is) may)
+            } in (
+              ap (λ (g : Good Y). g.members) is,
+              ap (λ (g : Good Y). g.fault) is,
+              subst MayBe (sym is) may,
+              (k.0, ap (λ (g : Good Y). g.members) is ∙ k.1),
+              λ e. absurd (fails.before_end e (input_of pair.second.below) (suc (lines_given second.below)) unread.is),
+            )
       ]
 
   -- the inputs tell the end
@@ -190,23 +282,45 @@ module _ {A B X Y U V : Type 0} (making : Making X Y) (pair : Pair A B X Y U V) 
     known_now = known_two fault two came_second
 
     abbrev MeetsHere : Type 0
-    MeetsHere = MeetsAs making (good_one one) (good_two two) w.bytes fault
+    MeetsHere = MeetsAs making (good_one one) (limit one two) w.bytes fault
 
-    meets_first : (other : Told) → fault ≡ Some other → FirstStops making pair out w.written first second other → MeetsHere
+    meets_first : (other : Told) → fault ≡ Some other → FirstStops making pair out w.written w.wrote.given first second other → MeetsHere
     meets_first other is stops =
         let says = first_wrong stops.past other one (subst (λ f. CameOne f one) is came) stops.cause in
-        let may = second_whole fault two came_second stops.serves MayBe second_may in
-        let met = meets_all making (good_one one) (good_two two) w.written w.bytes (here_by two known_now may) (ap member_items says.0 ∙ sym stops.all) in
-        (met.0, met.1 ∙ ap (λ f. option_or f (last_of making (good_one one) (good_two two))) says.1 ∙ sym is)
+        let begun : Begins (good_one one) = ([], ap member_items says.0 ∙ sym stops.all_given ∙ sym (append-nil w.wrote.given)) in
+        let may = limited_may (good_one one) (good_two two) known_now begun (second_whole fault two came_second stops.serves SeesTwo second_sees) in
+        let met = meets_all making (good_one one) (limit one two) w.written w.bytes (here_by one two known_now may) (ap member_items says.0 ∙ sym stops.all) in
+        (met.0, met.1 ∙ ap (λ f. option_or f (last_of making (good_one one) (limit one two))) says.1 ∙ sym is)
 
     meets_second : (other : Told) → fault ≡ Some other → SecondStops making pair out w.written w.wrote.ended first second other → MeetsHere
     meets_second other is stops =
         let says = second_wrong stops.past other two (subst (λ f. CameTwo f two) is came_second) stops.fails in
         let waits = first_whole fault one came stops.serves (λ good. (rest : List X) × (items_in good ≡ w.written ++ stops.waiting ∷ rest)) stops.begins in
-        let undecided_by : making.decided stops.waiting (items_in (good_two two)) ≡ false =
-        ap (λ ms. making.decided stops.waiting (member_items ms)) says.0
+        let all = items_in (good_one one) in
+        let fits : making.Fits all stops.past = subst (λ (l : List X). making.Fits l stops.past) (append_assoc w.written (stops.waiting ∷ []) waits.0 ∙ sym waits.1)
+        (limits.more (w.written ++ stops.waiting ∷ []) waits.0 stops.past (stops.fits known_now)) in
+        let cut = good_is (good_two two) stops.past (Some other) says.0 says.1 in
+        let same : limit one two ≡ good_two two = ap (making.limited all) cut ∙ limits.whole all stops.past (Some other) fits ∙ sym cut in
+        let undecided_by : making.decided stops.waiting (items_in (limit one two)) ≡ false =
+        ap (λ (g : Good Y). making.decided stops.waiting (items_in g)) same
+        ∙ ap (λ ms. making.decided stops.waiting (member_items ms)) says.0
         ∙ from_known (good_coming pair.b_left pair.second) (making.decided stops.waiting (member_items stops.past) ≡ false) known_now stops.undecided in
-        let met = meets_stop making (good_one one) (good_two two) w.written w.bytes (here_by two known_now says.2) stops.waiting waits.0 other waits.1 says.1 undecided_by in
+        let told : (limit one two).fault ≡ Some other = ap (λ (g : Good Y). g.fault) same ∙ says.1 in
+        let met = meets_stop making (good_one one) (limit one two) w.written w.bytes (here_by one two known_now (subst MayBe (sym same) says.2)) stops.waiting waits.0 other waits.1 told undecided_by in
+        (met.0, met.1 ∙ sym is)
+
+    meets_limit : (other : Told) → fault ≡ Some other → LimitStops making pair out w.written first second other → MeetsHere
+    meets_limit other is stops =
+        let waits = first_whole fault one came stops.serves (λ good. (rest : List X) × (items_in good ≡ w.written ++ stops.waiting ∷ rest)) stops.begins in
+        let begun = first_whole fault one came stops.serves Begins w.wrote.given_begin in
+        let comes = second_whole fault two came_second stops.serves_second (λ good. (rest : List (Member Y)) × (good.members ≡ (stops.past ++ stops.m ∷ []) ++ rest)) stops.comes in
+        let may = limited_may (good_one one) (good_two two) known_now begun (second_whole fault two came_second stops.serves_second SeesTwo second_sees) in
+        let cut : limit one two ≡ record { members = stops.past ++ stops.m ∷ []; fault = Some other } =
+        ap (λ (l : List X). making.limited l (good_two two)) waits.1
+        ∙ ap (making.limited (w.written ++ stops.waiting ∷ waits.0)) (good_is (good_two two) ((stops.past ++ stops.m ∷ []) ++ comes.0) (good_two two).fault comes.1 refl)
+        ∙ stops.cuts known_now waits.0 comes.0 (good_two two).fault in
+        let met = meets_stop making (good_one one) (limit one two) w.written w.bytes (here_by one two known_now may) stops.waiting waits.0 other waits.1 (ap (λ (g : Good Y). g.fault) cut)
+        (ap (λ (g : Good Y). making.decided stops.waiting (items_in g)) cut ∙ stops.undecided) in
         (met.0, met.1 ∙ sym is)
 
     -- all of the first is written
@@ -217,9 +331,14 @@ module _ {A B X Y U V : Type 0} (making : Making X Y) (pair : Pair A B X Y U V) 
       every : items_in (good_one one) ≡ w.written
       every = ap member_items whole_first.0 ∙ sym stops.all
 
-      at_last : (told : Option Told) → making.last w.written (good_two two).members ≡ told → or_else told (good_two two).fault ≡ fault → MayBe (good_two two) → MeetsHere
-      at_last told is last may =
-          let met = meets_all making (good_one one) (good_two two) w.written w.bytes (here_by two known_now may) every in (
+      at_last : (told : Option Told) → making.last w.written (good_two two).members ≡ told → or_else told (good_two two).fault ≡ fault → MayBe (good_two two)
+          → (rest : List (Member Y)) × ((good_two two).members ≡ w.wrote.seen ++ rest) → (w.wrote.ended ≡ true → (good_two two).members ≡ w.wrote.seen) → MeetsHere
+      at_last told is last may begins ends =
+          let begun = first_whole fault one came stops.serves Begins w.wrote.given_begin in
+          let same = free (good_one one) (good_two two) known_now begun every (in_order two) begins.0 begins.1 ends in
+          let here : HereAs making (good_two two) w.written w.bytes = (w.wrote.settles known_now).whatever (items_in (good_two two)) (good_two two).fault (in_order two) may in
+          let met = meets_all making (good_one one) (good_two two) w.written w.bytes here every in
+          subst (λ (g : Good Y). MeetsAs making (good_one one) g w.bytes fault) (sym same) (
             met.0,
             met.1 ∙ ap (λ f. option_or f (last_of making (good_one one) (good_two two))) whole_first.1
                 ∙ ap (λ (xs : List X). or_else (making.last xs (good_two two).members) (good_two two).fault) every ∙ ap (λ t. or_else t (good_two two).fault) is ∙ last,
@@ -230,24 +349,27 @@ module _ {A B X Y U V : Type 0} (making : Making X Y) (pair : Pair A B X Y U V) 
           elim stops.rest [
             | inl end ↦
                 let says = second_whole fault two came_second end.2 (λ good. (good.members ≡ stops.past_second) × (good.fault ≡ None)) end.1 in
-                at_last None (ap (making.last w.written) says.0 ∙ end.3) (says.1 ∙ sym end.0) (second_whole fault two came_second end.2 MayBe second_may)
+                let sees = second_whole fault two came_second end.2 SeesTwo second_sees in
+                at_last None (ap (making.last w.written) says.0 ∙ end.3) (says.1 ∙ sym end.0) (second_whole fault two came_second end.2 MayBe second_may) sees.0 (λ e. (sees.1 e).0)
             | inr others ↦ elim others [
               | inl told ↦
                   let says = second_wrong stops.past_second told.0 two (subst (λ f. CameTwo f two) told.1 came_second) told.2 in
-                  at_last None (ap (making.last w.written) says.0 ∙ told.3) (says.1 ∙ sym told.1) says.2
+                  at_last None (ap (making.last w.written) says.0 ∙ told.3) (says.1 ∙ sym told.1) says.2 says.3 says.4
               | inr told ↦
                   let last = told.2 in
+                  let sees = second_whole fault two came_second last.serves SeesTwo second_sees in
                   at_last (Some told.0) (second_whole fault two came_second last.serves (λ good. making.last w.written good.members ≡ Some told.0) last.told) (sym told.1)
-                  (second_whole fault two came_second last.serves MayBe second_may)
+                  (second_whole fault two came_second last.serves MayBe second_may) sees.0 (λ e. (sees.1 e).0)
             ]
           ]
 
-    meets : InputsEnd making pair out w.written w.wrote.ended first second fault → MeetsHere
+    meets : InputsEnd making pair out w.written w.wrote.given w.wrote.ended first second fault → MeetsHere
     meets (inl stops) = meets_first stops.0 stops.1 stops.2
     meets (inr (inl stops)) = meets_second stops.0 stops.1 stops.2
-    meets (inr (inr stops)) = meets_rest stops
+    meets (inr (inr (inl stops))) = meets_rest stops
+    meets (inr (inr (inr stops))) = meets_limit stops.0 stops.1 stops.2
 
-    reported : (before : List ℕ) → out.put ≡ Some before → InputsEnd making pair out w.written w.wrote.ended first second fault → PutsLines out w.bytes grown
+    reported : (before : List ℕ) → out.put ≡ Some before → InputsEnd making pair out w.written w.wrote.given w.wrote.ended first second fault → PutsLines out w.bytes grown
         → IsReported (met_report (met_by making (good_one one) (good_two two))) before fault grown
     reported before put end puts = let met = meets end in (sym met.1, puts before put ∙ ap (λ l. Some (before ++ l)) (sym met.0))
 
@@ -255,9 +377,11 @@ module _ {A B X Y U V : Type 0} (making : Making X Y) (pair : Pair A B X Y U V) 
   front_of : (one two : List ℕ) → pair.a_left one_before ≡ Some one → pair.b_left two_before ≡ Some two
       → (more : List ℕ) × ((met_by making (good_one (whole_text one)) (good_two (whole_text two))).lines ≡ w.bytes ++ more)
   front_of one two e f =
-      let may = at_whole pair.b_left pair.b_failed pair.b_end second_format Second two_before pair.second begins_second second two_after ended_second two f MayBe second_may in
+      let sees = at_whole pair.b_left pair.b_failed pair.b_end second_format Second two_before pair.second begins_second second two_after ended_second two f SeesTwo second_sees in
+      let begun = at_whole pair.a_left pair.a_failed pair.a_end first_format First one_before pair.first begins first one_after ended one e Begins w.wrote.given_begin in
+      let may = limited_may (good_one (whole_text one)) (good_two (whole_text two)) (known_by two f) begun sees in
       let rest = at_whole pair.a_left pair.a_failed pair.a_end first_format First one_before pair.first begins first one_after ended one e (λ good. (rest : List X) × (items_in good ≡ w.written ++ rest)) w.wrote.first_begins in
-      meets_front making (good_one (whole_text one)) (good_two (whole_text two)) w.written w.bytes (here_by (whole_text two) (known_by two f) may) rest.0 rest.1
+      meets_front making (good_one (whole_text one)) (limit (whole_text one) (whole_text two)) w.written w.bytes (here_by (whole_text one) (whole_text two) (known_by two f) may) rest.0 rest.1
 
   first_named : (past : List (Member X)) (other : Told) → FirstFails making pair out past first other → TellsInput pair.a_left pair.a_failed making.first_kinds First one_before one_after other
   first_named past other (inl wrong) = inl (record { line = wrong.line; kind = wrong.kind; of_kind = wrong.of_kind; is = wrong.is ∙ ap (λ i. fault_at_line i wrong.line wrong.kind) begins.input_is })
@@ -281,16 +405,18 @@ module _ {A B X Y U V : Type 0} (making : Making X Y) (pair : Pair A B X Y U V) 
       ]
 
   abbrev Because : Type 0
-  Because = Why making pair out w.written w.bytes w.wrote.ended first second fault grown
+  Because = Why making pair out w.written w.bytes w.wrote.given w.wrote.ended first second fault grown
 
   abbrev TellsBoth : Told → Type 0
   TellsBoth told = TellsInput pair.a_left pair.a_failed making.first_kinds First one_before one_after told ⊎ TellsInput pair.b_left pair.b_failed making.second_kinds Second two_before two_after told
 
   -- what the inputs tell
-  tells_by : (told : Told) → fault ≡ Some told → InputsEnd making pair out w.written w.wrote.ended first second fault → TellsBoth told
+  tells_by : (told : Told) → fault ≡ Some told → InputsEnd making pair out w.written w.wrote.given w.wrote.ended first second fault → TellsBoth told
   tells_by told e (inl stops) = subst TellsBoth (some_is stops.0 told (sym stops.1 ∙ e)) (inl (first_named stops.2.past stops.0 stops.2.cause))
   tells_by told e (inr (inl stops)) = subst TellsBoth (some_is stops.0 told (sym stops.1 ∙ e)) (inr (second_named stops.2.past stops.0 stops.2.fails))
-  tells_by told e (inr (inr stops)) =
+  tells_by told e (inr (inr (inr stops))) =
+      subst TellsBoth (some_is stops.0 told (sym stops.1 ∙ e)) (inr (inl (record { line = stops.2.m.line; kind = stops.2.kind; of_kind = stops.2.of_kind; is = stops.2.is })))
+  tells_by told e (inr (inr (inl stops))) =
       elim stops.rest [
         | inl end ↦ absurd (let apart : None ≡ Some told = sym end.0 ∙ e in cc)
         | inr others ↦ elim others [
@@ -299,7 +425,7 @@ module _ {A B X Y U V : Type 0} (making : Making X Y) (pair : Pair A B X Y U V) 
         ]
       ]
 
-  inputs_no_write : InputsEnd making pair out w.written w.wrote.ended first second fault → fault ≡ Some write_failed → ⊥
+  inputs_no_write : InputsEnd making pair out w.written w.wrote.given w.wrote.ended first second fault → fault ≡ Some write_failed → ⊥
   inputs_no_write end e =
       elim (tells_by write_failed e end) [
         | inl tells ↦ tells_no_write pair.a_left pair.a_failed making.first_kinds First one_before one_after tells
@@ -315,7 +441,8 @@ module _ {A B X Y U V : Type 0} (making : Making X Y) (pair : Pair A B X Y U V) 
       → ((pair.a_failed one_after ≡ pair.a_failed one_before) × (pair.b_failed two_after ≡ pair.b_failed two_before)) × (grown.sink_has_failed ≡ out.sink_has_failed)
   served_by e (inl ((inl stops), puts, works)) = absurd (let apart : None ≡ Some stops.0 = sym e ∙ stops.1 in cc)
   served_by e (inl ((inr (inl stops)), puts, works)) = absurd (let apart : None ≡ Some stops.0 = sym e ∙ stops.1 in cc)
-  served_by e (inl ((inr (inr stops)), puts, works)) =
+  served_by e (inl ((inr (inr (inr stops))), puts, works)) = absurd (let apart : None ≡ Some stops.0 = sym e ∙ stops.1 in cc)
+  served_by e (inl ((inr (inr (inl stops))), puts, works)) =
       elim stops.rest [
         | inl end ↦ (
           (ap pair.a_failed (sym ended) ∙ stops.serves.served ∙ ap pair.a_failed begins.source, ap pair.b_failed (sym ended_second) ∙ end.2.served ∙ ap pair.b_failed begins_second.source),

@@ -10,8 +10,10 @@ use Rattle.bt_lines.specs.Output.{Output, Grows}
 use Rattle.bt_lines.specs.Putting.{FailsToAdd}
 use Rattle.bt_lines.specs.Reader.{Hands, lines_given, source_of}
 use Rattle.bt_lines.specs.declared.fault.Input.{Input}
+use Rattle.bt_lines.specs.declared.fault.Input.TheVariants.{Second}
 use Rattle.bt_lines.specs.declared.fault.Kind.{Kind}
 use Rattle.bt_bed.specs.Good.{Good, Member, items_in}
+use Rattle.bt_bed.specs.LineKind.{fault_at_line}
 use Rattle.bt_bed.specs.Reading.{MemberReader, good_coming}
 use Rattle.bt_tool.specs.Feeding.{ComeFirst, GoesOn, member_items}
 use Rattle.bt_tool.specs.Pair.{Making, Pair, Serves, Settles, item_ahead}
@@ -21,7 +23,7 @@ use Rattle.bt_tool.specs.Passed.{AreAll, IsAhead, IsOver, IsReadFor, IsReadTo, I
 use Rattle.bt_tool.proofs.FeedLemmas.{begins_more, begins_with, goes_failed, goes_same, grows_both, took_later, took_lines, up_to}
 use Rattle.bt_tool.proofs.MemberLemmas.{ahead_at, ahead_first, bytes_more, ended_at, no_ahead_at_end, no_ahead_at_stop, passes_all, passes_end, passes_peek, passes_stop, read_ahead, read_at, read_for, rises_now, stopped_at}
 use Rattle.bt_tool.proofs.PairSettles.{settles_end}
-use Rattle.bt_tool.proofs.PairTurns.{all_with, seen_peeked, settles_ended}
+use Rattle.bt_tool.proofs.PairTurns.{all_with, seen_peeked, settles_ended, with_waiting}
 use Rattle.bt_tool.proofs.SeenLemmas.{cuts_more, if_known, items_begin, items_first, puts_front, seen_items, seen_low}
 use Rattle.bt_tool.proofs.StopLemmas.{StopsBehind}
 
@@ -54,8 +56,9 @@ module _ {A B X Y U V : Type 0} (making : Making X Y) (pair : Pair A B X Y U V) 
       → HandsSecond new → (first : MemberReader A X U) → HandsFirst first → (written : List X) (bytes : List ℕ) (ended : Bool) (grown : Output)
       → (IsKnown pair → Settles making written bytes (member_items past ++ option_to_list (item_ahead now)) ended)
       → BeginsWith written → (ended ≡ true → AreAll pair.b_left pair.b_failed pair.b_end pair.second past × (now.ahead ≡ None)) → Grows out.took grown.took
+      → (given : List X) → BeginsWith given → (IsKnown pair → making.Fits given past)
       → Wrote making pair out written bytes first new grown
-  wrote_by past now new p rises handed first first_bytes written bytes ended grown settles begins all grows = record {
+  wrote_by past now new p rises handed first first_bytes written bytes ended grown settles begins all grows given given_begin fits = record {
     seen = past ++ option_to_list now.ahead;
     ended = ended;
     settles = λ known. subst (λ (l : List Y). Settles making written bytes l ended) (sym (seen_items past now.ahead)) (settles known);
@@ -66,13 +69,20 @@ module _ {A B X Y U V : Type 0} (making : Making X Y) (pair : Pair A B X Y U V) 
     second_all = λ e.
         let whole = all e in
         subst (AreAll pair.b_left pair.b_failed pair.b_end pair.second) (sym (ap (λ (o : Option (Member Y)). past ++ option_to_list o) whole.1 ∙ append-nil past)) whole.0;
+    given = given;
+    taken = past;
+    ahead = now.ahead;
+    sees = refl;
+    none_ahead = λ e. (all e).1;
+    given_begin = given_begin;
+    fits = fits;
     first_bytes = first_bytes;
     second_bytes = handed;
     grows = grows;
   }
 
   module _ (stage : Stage X Y) (past_first : List (Member X)) (past_second : List (Member Y)) (first : MemberReader A X U) (second : MemberReader B Y V) (grown : Output) (s : Comes making pair out stage past_first past_second first second grown)
-      (asks : stage.first_ended ≡ false → making.Asks (given stage) stage.taken) where
+      (asks : stage.first_ended ≡ false → making.Asks (given stage) stage.taken) (fits : IsKnown pair → making.Fits (given stage) past_second) where
     second_serves : Serves pair.b_failed pair.second second
     second_serves = record { served = s.second_passes.served; within = s.second_passes.sound.within s.second_passes.clear }
 
@@ -88,18 +98,25 @@ module _ {A B X Y U V : Type 0} (making : Making X Y) (pair : Pair A B X Y U V) 
         (items_begin (good_coming pair.a_left pair.first) past_first stage.written (option_to_list stage.waiting) (sym s.all_given)
         (begins_with (good_coming pair.a_left pair.first) (good_coming pair.a_left first) past_first s.first_passes.come))
 
+    -- the good members of the first input begin with those that were given
+    given_now : BeginsWith (given stage)
+    given_now =
+        items_first (good_coming pair.a_left pair.first) (given stage) []
+        (items_begin (good_coming pair.a_left pair.first) past_first (given stage) [] (sym s.all_given ∙ sym (append-nil (given stage)))
+        (begins_with (good_coming pair.a_left pair.first) (good_coming pair.a_left first) past_first s.first_passes.come))
+
     ended_now : stage.second_ended ≡ true → AreAll pair.b_left pair.b_failed pair.b_end pair.second past_second × (second.ahead ≡ None)
     ended_now e = let all = s.second_all e in (all.0, all.2)
 
     -- the bytes so far, and what was read of the first input later
     wrote_first : (first_now : MemberReader A X U) → HandsFirst first_now → Wrote making pair out stage.written s.bytes first_now second grown
     wrote_first first_now handed =
-        wrote_by past_second second second s.second_passes (omega arith) s.second_passes.bytes first_now handed stage.written s.bytes stage.second_ended grown settled_now begins_now ended_now s.grows
+        wrote_by past_second second second s.second_passes (omega arith) s.second_passes.bytes first_now handed stage.written s.bytes stage.second_ended grown settled_now begins_now ended_now s.grows (given stage) given_now fits
 
     -- and of the second
     wrote_second : (second_now : MemberReader B Y V) → lines_given second.below ≤ lines_given second_now.below → HandsSecond second_now → Wrote making pair out stage.written s.bytes first second_now grown
     wrote_second second_now rises handed =
-        wrote_by past_second second second_now s.second_passes rises handed first s.first_passes.bytes stage.written s.bytes stage.second_ended grown settled_now begins_now ended_now s.grows
+        wrote_by past_second second second_now s.second_passes rises handed first s.first_passes.bytes stage.written s.bytes stage.second_ended grown settled_now begins_now ended_now s.grows (given stage) given_now fits
 
     -- of the second input was taken what the first asks for, or the first has told its end
     beside_by : (b : Bool) → stage.first_ended ≡ b → (second_now : MemberReader B Y V) → (IsKnown pair → IsReadTo pair.b_left pair.b_failed pair.b_end pair.second past_second second_now)
@@ -149,12 +166,12 @@ module _ {A B X Y U V : Type 0} (making : Making X Y) (pair : Pair A B X Y U V) 
           }))
 
       stops_first_by : (fault : Told) (first_now : MemberReader A X U) → StopsAfter pair.a_left pair.a_failed pair.a_end pair.first making.first_kinds past_first fault first_now
-          → Why making pair out stage.written s.bytes stage.second_ended first_now second (Some fault) grown
+          → Why making pair out stage.written s.bytes (given stage) stage.second_ended first_now second (Some fault) grown
       stops_first_by fault first_now stops =
           elim stops.cause [
-            | inl wrong ↦ inl (inl (fault, refl, record { past = past_first; all = all_done none; cause = inl wrong; serves = second_serves }), s.puts, s.works)
+            | inl wrong ↦ inl (inl (fault, refl, record { past = past_first; all = all_done none; all_given = s.all_given; cause = inl wrong; serves = second_serves }), s.puts, s.works)
             | inr other ↦ elim other [
-              | inl unread ↦ inl (inl (fault, refl, record { past = past_first; all = all_done none; cause = inr unread; serves = second_serves }), s.puts, s.works)
+              | inl unread ↦ inl (inl (fault, refl, record { past = past_first; all = all_done none; all_given = s.all_given; cause = inr unread; serves = second_serves }), s.puts, s.works)
               | inr ran ↦ inr (inl (ap Some ran.is, puts_front out s.bytes grown s.puts))
             ]
           ]
@@ -200,7 +217,7 @@ module _ {A B X Y U V : Type 0} (making : Making X Y) (pair : Pair A B X Y U V) 
                   (items_first (good_coming pair.a_left pair.first) (stage.written ++ m.item ∷ []) []
                   (items_begin (good_coming pair.a_left pair.first) (past_first ++ m ∷ []) (stage.written ++ m.item ∷ []) [] items
                   (begins_more (good_coming pair.a_left pair.first) (good_coming pair.a_left first) past_first m s.first_passes.come ahead.read.first)))
-                  ended_now (grows_both out.took grown.took now.took s.grows adds.puts.grows);
+                  ended_now (grows_both out.took grown.took now.took s.grows adds.puts.grows) (given stage) given_now fits;
               why = inr (inr (ap Some adds.puts.is, cuts_more out grown now s.bytes more fault s.puts adds));
               near = near_first_by first_now now handed_now (goes_failed grown now adds.puts.grows adds.puts.failed) (ahead_at pair.a_left pair.a_failed pair.a_end pair.first past_first first s.first_passes s.none_ahead m first_now ahead);
             }
@@ -221,7 +238,7 @@ module _ {A B X Y U V : Type 0} (making : Making X Y) (pair : Pair A B X Y U V) 
           bytes = s.bytes;
           wrote = wrote_second second_now rises handed;
           why = inl (
-            inr (inr (record { past = past_first; past_second = past; all = all_done whole.1; whole = whole.0; serves = first_serves; rest = rest })),
+            inr (inr (inl (record { past = past_first; past_second = past; all = all_done whole.1; whole = whole.0; serves = first_serves; rest = rest }))),
             s.puts,
             s.works,
           );
@@ -304,7 +321,7 @@ module _ {A B X Y U V : Type 0} (making : Making X Y) (pair : Pair A B X Y U V) 
               (stopped_at pair.b_left pair.b_failed pair.b_end pair.second past_second second s.second_passes
               (no_ahead_at_stop pair.b_left pair.b_failed pair.b_end pair.second past_second second s.second_passes second_now fault stopped known) second_now fault stopped))
 
-          stops_why : SecondFails making pair out stage.second_ended past_second second_now fault → Why making pair out stage.written s.bytes stage.second_ended first second_now (Some fault) grown
+          stops_why : SecondFails making pair out stage.second_ended past_second second_now fault → Why making pair out stage.written s.bytes (given stage) stage.second_ended first second_now (Some fault) grown
           stops_why fails =
               inl (
                 inr (inl (
@@ -317,6 +334,7 @@ module _ {A B X Y U V : Type 0} (making : Making X Y) (pair : Pair A B X Y U V) 
                     undecided = if_known (good_coming pair.b_left pair.second) (making.decided a (member_items past_second) ≡ false)
                         (λ known. open_by (no_ahead_at_stop pair.b_left pair.b_failed pair.b_end pair.second past_second second s.second_passes second_now fault stopped known));
                     fails = fails;
+                    fits = λ known. subst (λ (l : List X). making.Fits l past_second) (with_waiting making pair out stage past_first past_second first second grown s a waits) (fits known);
                     serves = first_serves;
                   },
                 )),
@@ -324,7 +342,7 @@ module _ {A B X Y U V : Type 0} (making : Making X Y) (pair : Pair A B X Y U V) 
                 s.works,
               )
 
-          stops_by : StopsAfter pair.b_left pair.b_failed pair.b_end pair.second making.second_kinds past_second fault second_now → Why making pair out stage.written s.bytes stage.second_ended first second_now (Some fault) grown
+          stops_by : StopsAfter pair.b_left pair.b_failed pair.b_end pair.second making.second_kinds past_second fault second_now → Why making pair out stage.written s.bytes (given stage) stage.second_ended first second_now (Some fault) grown
           stops_by stops =
               elim stops.cause [
                 | inl wrong ↦ stops_why (record { cause = inl wrong; before_end = λ e. absurd (false≢true (sym goes ∙ e)) })
@@ -365,9 +383,44 @@ module _ {A B X Y U V : Type 0} (making : Making X Y) (pair : Pair A B X Y U V) 
             wrote = wrote_by past_second second_now second_now p (omega arith) p.bytes first s.first_passes.bytes (stage.written ++ a ∷ []) (s.bytes ++ more) false now
                 (λ known. subst (λ (l : List Y). Settles making (stage.written ++ a ∷ []) (s.bytes ++ more) l false)
                 (seen_peeked making pair out stage past_first past_second first second grown s goes m second_now ahead ∙ ap (λ l. l ++ option_to_list (item_ahead second_now)) s.all_taken) (settles known))
-                begins_here (λ e. absurd (false≢true e)) (grows_both out.took grown.took now.took s.grows fails.puts.grows);
+                begins_here (λ e. absurd (false≢true e)) (grows_both out.took grown.took now.took s.grows fails.puts.grows) (given stage) given_now fits;
             why = inr (inr (ap Some fails.puts.is, cuts_more out grown now s.bytes more fault s.puts fails));
             near = near_second_by second_now now rises p.bytes (goes_failed grown now fails.puts.grows fails.puts.failed) read;
+          }
+
+          -- with it too many would be held
+          pub passes_limit : (kind : Kind) → making.second_kinds kind → (fault : Told) → fault ≡ fault_at_line Second m.line kind → making.decided a (member_items (past_second ++ m ∷ [])) ≡ false
+              → (IsKnown pair → (later : List X) (more : List (Member Y)) (other : Option Told)
+              → making.limited (stage.written ++ a ∷ later) (record { members = (past_second ++ m ∷ []) ++ more; fault = other }) ≡ record { members = past_second ++ m ∷ []; fault = Some fault })
+              → Ends (Some fault) first second_now grown
+          unfolding wrote_second wrote_by
+          passes_limit kind of_kind fault is undecided cuts = record {
+            written = stage.written;
+            bytes = s.bytes;
+            wrote = wrote_second second_now rises p.bytes;
+            why = inl (
+              inr (inr (inr (
+                fault,
+                refl,
+                record {
+                  past = past_second;
+                  m = m;
+                  waiting = a;
+                  begins = begins_before;
+                  comes = begins_more (good_coming pair.b_left pair.second) (good_coming pair.b_left second) past_second m s.second_passes.come ahead.read.first;
+                  undecided = undecided;
+                  cuts = cuts;
+                  kind = kind;
+                  is = is;
+                  of_kind = of_kind;
+                  serves = first_serves;
+                  serves_second = record { served = p.served; within = p.sound.within p.clear };
+                },
+              ))),
+              s.puts,
+              s.works,
+            );
+            near = near_second_by second_now grown rises p.bytes no_more read;
           }
 
           -- it wasn't held
@@ -389,7 +442,7 @@ module _ {A B X Y U V : Type 0} (making : Making X Y) (pair : Pair A B X Y U V) 
                   (λ known. subst (λ (l : List Y). Settles making (stage.written ++ a ∷ []) (s.bytes ++ more) l true) seen
                   (settles_end making stage.written s.bytes stage.taken false a (settles_ended making pair out stage past_first past_second first second grown s goes second_now over known)))
                   begins_here (λ e. (passes_all pair.b_left pair.b_failed pair.b_end pair.second past_second second s.second_passes second_now over, over.ends.none_ahead))
-                  (grows_both out.took grown.took now.took s.grows fails.puts.grows);
+                  (grows_both out.took grown.took now.took s.grows fails.puts.grows) (given stage) given_now fits;
               why = inr (inr (ap Some fails.puts.is, cuts_more out grown now s.bytes more fault s.puts fails));
               near = near_second_by second_now now over.ends.rises p.bytes (goes_failed grown now fails.puts.grows fails.puts.failed)
                   (λ known. read_at pair.b_left pair.b_failed pair.b_end pair.second past_second second s.second_passes second_now

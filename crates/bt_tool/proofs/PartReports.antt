@@ -1,9 +1,10 @@
 -- The reports on two parts and on the whole, and from them those on any number of parts.
 use Rattle.std.proofs.Common.{◌≡◌, ℕ, true, false, List, [], ◌∷◌, ◌++◌, map, append-nil, append_assoc, Option, Some, None, refl, sym, ap, ap₂, ◌∙◌, subst}
-use Rattle.std.specs.Prelude.{is_none}
+use Rattle.std.specs.Prelude.{flat_map, is_none}
+use Rattle.std.proofs.lemmas.Grind.{flat_map-append}
 use Rattle.bt_lines.specs.Fault.{Told}
 use Rattle.bt_bed.specs.Good.{Good, items_in}
-use Rattle.bt_tool.specs.Parts.{AddUp, StopWithin, outputs_to_fault, unless_fault}
+use Rattle.bt_tool.specs.Parts.{AddUp, StopWithin, fronts_begin, outputs_to_fault, unless_fault}
 use Rattle.bt_tool.specs.RecordReport.{Report, good_report, report_by}
 use Rattle.bt_tool.specs.Written.{Written}
 use Rattle.bt_tool.proofs.PartGood.{IsJoint, IsJointBy}
@@ -154,3 +155,11 @@ splits_as one two whole one_too two_too whole_too ones twos a b c d e f g splits
   first = f ∙ splits.first ∙ sym b;
   begin = (splits.begin.0, ap₂ (λ x y. x ++ y) a d ∙ splits.begin.1 ∙ ap (λ x. x ++ splits.begin.0) (sym g));
 }
+
+-- a front of what one part writes
+pub fronts_begin_whole : fronts_begin
+fronts_begin_whole before later part whole front rest add none is = (
+  rest ++ flat_map (λ p. p.output) later,
+  add.output none ∙ flat_map-append (λ (p : Report). p.output) before (part ∷ later)
+      ∙ ap (λ l. flat_map (λ (p : Report). p.output) before ++ l) (ap (λ l. l ++ flat_map (λ (p : Report). p.output) later) is ∙ append_assoc front rest (flat_map (λ (p : Report). p.output) later)),
+)

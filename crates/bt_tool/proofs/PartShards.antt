@@ -251,7 +251,7 @@ file_is : (result : Result (List Entry) Told) (entries : List Entry) → of_file
 file_is (Ok more) entries e = cc
 file_is (Err fault) entries e = cc
 
-distinct_in : (genome : Handed) (entries : List Entry) → chromosomes_of (Some genome) ≡ Ok (Some entries) → AreDistinct (genome_names entries)
+pub distinct_in : (genome : Handed) (entries : List Entry) → chromosomes_of (Some genome) ≡ Ok (Some entries) → AreDistinct (genome_names entries)
 distinct_in genome entries e =
     distinct_genome Genome (lines_handed genome) entries (cut_none (cut_fault Genome genome) (genome_of Genome (lines_handed genome)) entries (file_is (genome_handed Genome genome) entries e))
 

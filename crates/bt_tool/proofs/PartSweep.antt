@@ -31,7 +31,7 @@ use Rattle.bt_tool.proofs.PartReports.{Adds, Stops, Together, together_all, toge
 
 -- ---- lists up to the first that fails a test
 
-take_none : {A : Type 0} (t : A → Bool) (xs : List A) → AllByRecursion (λ x. t x ≡ false) xs → take_while t xs ≡ []
+pub take_none : {A : Type 0} (t : A → Bool) (xs : List A) → AllByRecursion (λ x. t x ≡ false) xs → take_while t xs ≡ []
 take_none t [] h = refl
 take_none t (x ∷ xs) h = take_while-cons t x xs ∙ ap (λ b. cond b (x ∷ take_while t xs) []) h.0
 
@@ -39,7 +39,7 @@ take_before : {A : Type 0} (t : A → Bool) (xs ys : List A) → AllByRecursion 
 take_before t [] ys h = take_none t ys h
 take_before t (x ∷ xs) ys h = take_while-cons t x (xs ++ ys) ∙ ap (λ l. cond (t x) (x ∷ l) []) (take_before t xs ys h) ∙ sym (take_while-cons t x xs)
 
-take_same : {A : Type 0} (t u : A → Bool) (xs : List A) → AllByRecursion (λ x. t x ≡ u x) xs → take_while t xs ≡ take_while u xs
+pub take_same : {A : Type 0} (t u : A → Bool) (xs : List A) → AllByRecursion (λ x. t x ≡ u x) xs → take_while t xs ≡ take_while u xs
 take_same t u [] h = refl
 take_same t u (x ∷ xs) h = take_while-cons t x xs ∙ ap₂ (λ b l. cond b (x ∷ l) []) h.0 (take_same t u xs h.1) ∙ sym (take_while-cons u x xs)
 
@@ -47,15 +47,15 @@ front_by : {A : Type 0} (l : A → List ℕ) (x : A) (xs kept : List A) (b : Boo
 front_by l x xs kept true more = (more.0, ap (λ r. l x ++ r) more.1 ∙ sym (append_assoc (l x) (flat_map l kept) more.0))
 front_by l x xs kept false more = (flat_map l (x ∷ xs), refl)
 
-take_front : {A : Type 0} (t : A → Bool) (l : A → List ℕ) (xs : List A) → (rest : List ℕ) × (flat_map l xs ≡ flat_map l (take_while t xs) ++ rest)
+pub take_front : {A : Type 0} (t : A → Bool) (l : A → List ℕ) (xs : List A) → (rest : List ℕ) × (flat_map l xs ≡ flat_map l (take_while t xs) ++ rest)
 take_front t l [] = ([], refl)
 take_front t l (x ∷ xs) = let more = front_by l x xs (take_while t xs) (t x) (take_front t l xs) in (more.0, more.1 ∙ ap (λ k. flat_map l k ++ more.0) (sym (take_while-cons t x xs)))
 
-all_true : {A : Type 0} (t : A → Bool) (xs : List A) → AllByRecursion (λ x. t x ≡ true) xs → list_all t xs ≡ true
+pub all_true : {A : Type 0} (t : A → Bool) (xs : List A) → AllByRecursion (λ x. t x ≡ true) xs → list_all t xs ≡ true
 all_true t [] h = refl
 all_true t (x ∷ xs) h = ap (λ b. b && list_all t xs) h.0 ∙ all_true t xs h.1
 
-any_false : {A : Type 0} (t : A → Bool) (xs : List A) → AllByRecursion (λ x. t x ≡ false) xs → list_any t xs ≡ false
+pub any_false : {A : Type 0} (t : A → Bool) (xs : List A) → AllByRecursion (λ x. t x ≡ false) xs → list_any t xs ≡ false
 any_false t [] h = refl
 any_false t (x ∷ xs) h = ap (λ b. b || list_any t xs) h.0 ∙ any_false t xs h.1
 
@@ -79,12 +79,12 @@ all_kept : {A : Type 0} (P : A → Type 0) (t : A → Bool) (xs : List A) → Al
 all_kept P t [] h = tt
 all_kept P t (x ∷ xs) h = subst (AllByRecursion P) (sym (take_while-cons t x xs)) (kept_by P x (take_while t xs) (t x) h.0 (all_kept P t xs h.1))
 
-written_same : {A : Type 0} (mine yours : Rule A ℕ Told) (xs : List A) → AllByRecursion (λ x. (mine.decided x ≡ yours.decided x) × (mine.lines x ≡ yours.lines x)) xs → written mine xs ≡ written yours xs
+pub written_same : {A : Type 0} (mine yours : Rule A ℕ Told) (xs : List A) → AllByRecursion (λ x. (mine.decided x ≡ yours.decided x) × (mine.lines x ≡ yours.lines x)) xs → written mine xs ≡ written yours xs
 written_same mine yours xs h =
     ap (flat_map mine.lines) (take_same mine.decided yours.decided xs (all_so _ _ xs (λ x k. k.0) h))
     ∙ flat_map_same mine.lines yours.lines (take_while yours.decided xs) (all_kept _ yours.decided xs (all_so _ _ xs (λ x k. k.1) h))
 
-written_before : {A : Type 0} (rule : Rule A ℕ Told) (xs ys : List A) → AllByRecursion (λ y. rule.decided y ≡ false) ys → written rule (xs ++ ys) ≡ written rule xs
+pub written_before : {A : Type 0} (rule : Rule A ℕ Told) (xs ys : List A) → AllByRecursion (λ y. rule.decided y ≡ false) ys → written rule (xs ++ ys) ≡ written rule xs
 written_before rule xs ys h = ap (flat_map rule.lines) (take_before rule.decided xs ys h)
 
 -- ---- what decides, and what hits
@@ -146,7 +146,7 @@ unless_some : (f : Option Told) (output : List ℕ) → (f ≡ None → ⊥) →
 unless_some None output h = absurd (h refl)
 unless_some (Some f) output h = refl
 
-unless_none : (f : Option Told) (output : List ℕ) → f ≡ None → unless_fault f output ≡ output
+pub unless_none : (f : Option Told) (output : List ℕ) → f ≡ None → unless_fault f output ≡ output
 unless_none None output h = refl
 unless_none (Some f) output h = cc
 

@@ -133,17 +133,17 @@ module _ (genome : Option Handed) (chromosomes : Option (List Entry)) (has : chr
       ap (λ c. report_on (Merge d strand) c (whole_text text) None) has
       ∙ ap (good_report (merge_written (order_of chromosomes) d strand)) (good_whole (bed_format (sorting_of (order_of chromosomes))) First text)
 
-  pub intersect_is : (shape : Shape) (rule : HitRule) (texts : Texts) → on_texts (Intersect shape rule) genome texts ≡ pair_report (order_of chromosomes) (order_total chromosomes) shape rule texts.first texts.second
+  pub intersect_is : (shape : Shape) (rule : HitRule) (texts : Texts) → on_texts (Intersect shape rule None) genome texts ≡ pair_report (order_of chromosomes) (order_total chromosomes) shape rule texts.first texts.second
   unfolding report_of
   intersect_is shape rule texts =
-      ap (λ c. report_on (Intersect shape rule) c (whole_text texts.first) (Some (whole_text texts.second))) has
+      ap (λ c. report_on (Intersect shape rule None) c (whole_text texts.first) (Some (whole_text texts.second))) has
       ∙ ap₂ (λ (a b : Good Feature). sweep_report (order_of chromosomes) shape rule (items_in a) a.fault (items_in b) b.fault)
       (good_whole (bed_format (sorting_of (order_of chromosomes))) First texts.first) (good_whole (bed_format (sorting_of (order_of chromosomes))) Second texts.second)
 
-  pub subtract_is : (whole : Bool) (rule : HitRule) (texts : Texts) → on_texts (Subtract whole rule) genome texts ≡ pair_report (order_of chromosomes) (order_total chromosomes) (subtract_shape whole) rule texts.first texts.second
+  pub subtract_is : (whole : Bool) (rule : HitRule) (texts : Texts) → on_texts (Subtract whole rule None) genome texts ≡ pair_report (order_of chromosomes) (order_total chromosomes) (subtract_shape whole) rule texts.first texts.second
   unfolding report_of
   subtract_is whole rule texts =
-      ap (λ c. report_on (Subtract whole rule) c (whole_text texts.first) (Some (whole_text texts.second))) has
+      ap (λ c. report_on (Subtract whole rule None) c (whole_text texts.first) (Some (whole_text texts.second))) has
       ∙ ap₂ (λ (a b : Good Feature). sweep_report (order_of chromosomes) (subtract_shape whole) rule (items_in a) a.fault (items_in b) b.fault)
       (good_whole (bed_format (sorting_of (order_of chromosomes))) First texts.first) (good_whole (bed_format (sorting_of (order_of chromosomes))) Second texts.second)
 
@@ -165,7 +165,7 @@ pairs_less order part parts fit = record {
   ascend = fit.ascend.1;
 }
 
-join_one : (part : Texts) → joined_texts (part ∷ []) ≡ part
+pub join_one : (part : Texts) → joined_texts (part ∷ []) ≡ part
 join_one part = ap₂ (λ a b. record { first = a; second = b }) (append-nil part.first) (append-nil part.second)
 
 module _ (order : Order) (total : IsTotal order) where
@@ -194,8 +194,8 @@ pub intersect_parts : intersect_divides
 intersect_parts shape rule genome chromosomes parts has lines ascend =
     let order = order_of chromosomes in
     let total = order_total chromosomes in
-    let is : (texts : Texts) → on_texts (Intersect shape rule) genome texts ≡ pair_report order total shape rule texts.first texts.second = intersect_is genome chromosomes has shape rule in
-    parts_both joined_texts (on_texts (Intersect shape rule) genome) (ArePairsFit order) (is (joined_texts []) ∙ pair_empty order total shape rule) (λ t. ap (on_texts (Intersect shape rule) genome) (join_one t)) (pairs_less order)
+    let is : (texts : Texts) → on_texts (Intersect shape rule None) genome texts ≡ pair_report order total shape rule texts.first texts.second = intersect_is genome chromosomes has shape rule in
+    parts_both joined_texts (on_texts (Intersect shape rule None) genome) (ArePairsFit order) (is (joined_texts []) ∙ pair_empty order total shape rule) (λ t. ap (on_texts (Intersect shape rule None) genome) (join_one t)) (pairs_less order)
     (λ t u ts f.
     let more = joined_texts (u ∷ ts) in
     rw (is t, is more, is (joined_texts (t ∷ u ∷ ts))) (
@@ -209,8 +209,8 @@ subtract_parts whole rule genome chromosomes parts has lines ascend =
     let order = order_of chromosomes in
     let total = order_total chromosomes in
     let shape = subtract_shape whole in
-    let is : (texts : Texts) → on_texts (Subtract whole rule) genome texts ≡ pair_report order total shape rule texts.first texts.second = subtract_is genome chromosomes has whole rule in
-    parts_both joined_texts (on_texts (Subtract whole rule) genome) (ArePairsFit order) (is (joined_texts []) ∙ pair_empty order total shape rule) (λ t. ap (on_texts (Subtract whole rule) genome) (join_one t)) (pairs_less order)
+    let is : (texts : Texts) → on_texts (Subtract whole rule None) genome texts ≡ pair_report order total shape rule texts.first texts.second = subtract_is genome chromosomes has whole rule in
+    parts_both joined_texts (on_texts (Subtract whole rule None) genome) (ArePairsFit order) (is (joined_texts []) ∙ pair_empty order total shape rule) (λ t. ap (on_texts (Subtract whole rule None) genome) (join_one t)) (pairs_less order)
     (λ t u ts f.
     let more = joined_texts (u ∷ ts) in
     rw (is t, is more, is (joined_texts (t ∷ u ∷ ts))) (

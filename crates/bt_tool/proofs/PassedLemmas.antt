@@ -1,5 +1,5 @@
 -- Lemmas on the records that a reader has passed, in an order of the chromosomes.
-use Rattle.std.proofs.Common.{◌≡◌, ℕ, Bool, List, [], ◌∷◌, ◌++◌, Option, None, refl, sym, ap, ◌∙◌, subst}
+use Rattle.std.proofs.Common.{◌≡◌, ℕ, Bool, List, [], ◌∷◌, ◌++◌, Option, None, Some, refl, sym, ap, ◌∙◌, subst}
 use Rattle.std.specs.Prelude.{IfSome, IsTrue, option_map}
 use Rattle.std.proofs.lemmas.List.{map-append}
 use Rattle.bt_lines.specs.Fault.{Told}
@@ -9,7 +9,8 @@ use Rattle.bt_bed.specs.GoodBed.{locus_at}
 use Rattle.bt_bed.specs.Interval.{last_of}
 use Rattle.bt_bed.specs.Locus.{ArePlaced, IsUpTo, locus_of}
 use Rattle.bt_bed.specs.Order.{Order}
-use Rattle.bt_bed.specs.Records.{PassesRecord, last_locus, order_in, view_of}
+use Rattle.bt_bed.specs.Reading.{EndsMembers}
+use Rattle.bt_bed.specs.Records.{GivesRecord, PassesRecord, StepsTo, last_locus, line_ahead, order_in, record_ahead, view_of}
 use Rattle.bt_bed.specs.declared.order.ChromOrder.{Ghosts}
 use Rattle.bt_bed.specs.declared.records.Records.{Records}
 use Rattle.bt_bed.proofs.TogetherLemmas.{last_of-push, grows_placed}
@@ -32,6 +33,31 @@ module _ {S O : Type 0} {ghosts : Ghosts O} (left : S → Option (List ℕ)) (fa
 
   pub is_stopped : (fault : Told) → HasStopped left failed end now fault new → IsStopped left failed end (view_of now) fault (view_of new)
   is_stopped fault stopped = record { answers = stopped.answers; sound = stopped.sound }
+
+-- what one step of a reader comes to, by the record that it has ahead then
+module _ {S O : Type 0} {ghosts : Ghosts O} (left : S → Option (List ℕ)) (failed : S → Bool) (old new : Records S O ghosts) where
+  step_gives : (o : Option (Member Feature)) (r : Feature) → Some r ≡ option_map (λ m. m.item) o → StepsTo left failed old o new → GivesRecord left failed old r new
+  step_gives None r e steps = absurd (let apart : Some r ≡ None = e in cc)
+  step_gives (Some m) r e steps = let same : m.item ≡ r = cc in subst (λ (x : Feature). GivesRecord left failed old x new) same steps
+
+  step_ends : (o : Option (Member Feature)) → None ≡ option_map (λ m. m.item) o → StepsTo left failed old o new → EndsMembers left failed (view_of old) (view_of new)
+  step_ends None e steps = steps
+  step_ends (Some m) e steps = absurd (let apart : None ≡ Some m.item = e in cc)
+
+  -- a record
+  pub has_stepped : (r : Feature) → Some r ≡ record_ahead new → StepsTo left failed old (view_of new).ahead new → GivesRecord left failed old r new
+  has_stepped r e steps = step_gives (view_of new).ahead r e steps
+
+  -- or the end
+  pub has_run_out : None ≡ record_ahead new → StepsTo left failed old (view_of new).ahead new → EndsMembers left failed (view_of old) (view_of new)
+  has_run_out e steps = step_ends (view_of new).ahead e steps
+
+  -- the line of the record
+  pub its_line : (r : Feature) (gives : GivesRecord left failed old r new) (line : ℕ) → line_ahead new ≡ Some line → line ≡ gives.line
+  its_line r gives line e =
+      let here : line_ahead new ≡ Some gives.line = ap (option_map (λ m. m.line)) gives.read.ahead in
+      let both : Some line ≡ Some gives.line = sym e ∙ here in
+      cc
 
 module _ {S O : Type 0} {ghosts : Ghosts O} (left : S → Option (List ℕ)) (failed end : S → Bool) (old : Records S O ghosts) where
   -- before the first record

@@ -155,8 +155,8 @@ none_settle : (command : Command) (chromosomes : Option (List Entry)) (second : 
 unfolding good_from settled_gaps settled_depths
 none_settle (Merge d strand) chromosomes second = merge_settles_none (order_of chromosomes) d strand
 none_settle (Complement limit) chromosomes second = refl
-none_settle (Intersect shape rule) chromosomes second = refl
-none_settle (Subtract whole rule) chromosomes second = refl
+none_settle (Intersect shape rule held) chromosomes second = refl
+none_settle (Subtract whole rule held) chromosomes second = refl
 none_settle (Coverage zeros strand) chromosomes second = refl
 none_settle (BamToBed split cigar) chromosomes second = refl
 none_settle (MaskFasta how full) chromosomes second = refl

@@ -24,24 +24,26 @@ use Rattle.bt_tool.proofs.FeedLemmas.{line_going}
 use Rattle.bt_tool.proofs.MemberLemmas.{passes_start, read_start}
 use Rattle.bt_tool.proofs.PairTurns.{comes_start}
 use Rattle.bt_tool.proofs.PassedLemmas.{placed_start}
+use Rattle.bt_tool.proofs.SweepLimits.{within_start}
 
 module _ {A B O : Type 0} {g : Ghosts O} (a_left : A → Option (List ℕ)) (a_failed a_end : A → Bool) (b_left : B → Option (List ℕ)) (b_failed b_end : B → Bool)
-    (shape : Shape) (rule : HitRule) (first : Records A O g) (second : Records B O g) (out : Output) where
+    (shape : Shape) (rule : HitRule) (limit : Option ℕ) (first : Records A O g) (second : Records B O g) (out : Output) where
   -- nothing was given yet
   pub sweeps_start : IsFresh a_left a_end (view_of first) → last_locus first ≡ None → IsFresh b_left b_end (view_of second) → last_locus second ≡ None
-      → HoldsBlock out.took out.put → (sweep : Sweeping) → StandsAt (order_in first) shape rule first_stage sweep
-      → Sweeps a_left a_failed a_end b_left b_failed b_end (order_in first) shape rule first second out first second sweep out
+      → HoldsBlock out.took out.put → (sweep : Sweeping) → StandsAt (order_in first) shape rule limit first_stage sweep
+      → Sweeps a_left a_failed a_end b_left b_failed b_end (order_in first) shape rule limit first second out first second sweep out
   sweeps_start fresh none fresh_second none_second block sweep stands = record {
     past_first = [];
     past_second = [];
     stage = first_stage;
     stands = stands;
-    comes = comes_start (sweep_making (order_in first) shape rule) (records_pair a_left a_failed a_end b_left b_failed b_end first second) out
+    comes = comes_start (sweep_making (order_in first) shape rule limit) (records_pair a_left a_failed a_end b_left b_failed b_end first second) out
         (passes_start a_left a_failed a_end (view_of first) fresh (line_going first fresh.going)) fresh.none_ahead
         (passes_start b_left b_failed b_end (view_of second) fresh_second (line_going second fresh_second.going))
         (read_start b_left b_failed b_end (view_of second) fresh_second (line_going second fresh_second.going)) block;
     first_placed = placed_start a_left a_failed a_end first none;
     second_placed = placed_start b_left b_failed b_end second none_second;
+    fits = λ known. within_start (order_in first) limit [];
   }
 
 module _ {S O : Type 0} {ghosts : Ghosts O} (left : S → Option (List ℕ)) (order : Order) (input : Input) (first : S) (reader : LineReader S) (records : Records S O ghosts) where

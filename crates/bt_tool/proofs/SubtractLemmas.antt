@@ -42,9 +42,9 @@ near_as Beside mine yours same text left before took Cut put near = record {
 }
 
 module _ {A B : Type 0} (a_left : A → Option (List ℕ)) (a_failed a_end : A → Bool) (b_left : B → Option (List ℕ)) (b_failed : B → Bool)
-    (order : Order) (whole : Bool) (rule : HitRule) (first : A) (second : Option B) (out : Output) (fault : Option Told) (first_after : A) (second_after : Option B) (grown : Output) where
-  pub subtract_writes : WritesBy a_left a_failed a_end b_left b_failed (of_intersect order (subtract_shape whole) rule) first second out fault first_after second_after grown
-      → WritesBy a_left a_failed a_end b_left b_failed (of_subtract order whole rule) first second out fault first_after second_after grown
+    (order : Order) (whole : Bool) (rule : HitRule) (limit : Option ℕ) (first : A) (second : Option B) (out : Output) (fault : Option Told) (first_after : A) (second_after : Option B) (grown : Output) where
+  pub subtract_writes : WritesBy a_left a_failed a_end b_left b_failed (of_intersect order (subtract_shape whole) rule limit) first second out fault first_after second_after grown
+      → WritesBy a_left a_failed a_end b_left b_failed (of_subtract order whole rule limit) first second out fault first_after second_after grown
   subtract_writes w = record {
     whole = w.whole;
     told = w.told;

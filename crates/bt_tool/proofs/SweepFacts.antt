@@ -1,5 +1,5 @@
 -- The facts of a sweep that its report and its reading rest on.
-use Rattle.std.proofs.Common.{◌≡◌, ℕ, suc, ◌<◌, ◌≤◌, Bool, true, false, ◌&&◌, not, List, [], ◌∷◌, ◌++◌, take, refl, sym, ◌∙◌, subst}
+use Rattle.std.proofs.Common.{◌≡◌, ℕ, suc, ◌<◌, ◌≤◌, Bool, true, false, ◌&&◌, not, List, [], ◌∷◌, ◌++◌, Option, take, refl, sym, ◌∙◌, subst}
 use Rattle.std.specs.Prelude.{All, IsTrue}
 use Rattle.std.specs.List.{list_all}
 use Rattle.std.proofs.lemmas.Bool.{false≢true, and_from, or_left}
@@ -56,7 +56,7 @@ module _ (order : Order) where
       (reaches_least as_given ms lines count (All-tail (λ (m : Member Feature). count < m.line) m ms high))
 
   -- what records of the first ask for lies behind those that were taken for them
-  pub sweep_needs : (shape : Shape) (rule : HitRule) → AreNeeded (sweep_making order shape rule)
-  sweep_needs shape rule given extra past rest lines count reached high =
+  pub sweep_needs : (shape : Shape) (rule : HitRule) (limit : Option ℕ) → AreNeeded (sweep_making order shape rule limit)
+  sweep_needs shape rule limit given extra past rest lines count reached high =
       subst (λ o. bytes_in (take (suc count) lines) ≤ bytes_up_to lines o) (sym (decider_behind (given ++ extra) past rest (leaves_more given extra (member_items past) reached)))
       (reaches_least (given ++ extra) rest lines count high)

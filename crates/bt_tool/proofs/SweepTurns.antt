@@ -54,15 +54,15 @@ abbrev pub left_to_ask : {A B O : Type 0} {g : Ghosts O} → Records A O g → R
 left_to_ask first second sweep = 2 * (room first + room second) + asks sweep.waits sweep.done
 
 module _ {A B O : Type 0} {g : Ghosts O} (a_left : A → Option (List ℕ)) (a_failed a_end : A → Bool) (b_left : B → Option (List ℕ)) (b_failed b_end : B → Bool)
-    (shape : Shape) (rule : HitRule) (old_first : Records A O g) (old_second : Records B O g) (out : Output) (total : IsTotal (order_in old_first)) (same_order : order_in old_second ≡ order_in old_first)
+    (shape : Shape) (rule : HitRule) (limit : Option ℕ) (old_first : Records A O g) (old_second : Records B O g) (out : Output) (total : IsTotal (order_in old_first)) (same_order : order_in old_second ≡ order_in old_first)
     (is_bed : (view_of old_first).format ≡ bed_format (sorting_of (order_in old_first))) (is_bed_second : (view_of old_second).format ≡ bed_format (sorting_of (order_in old_second)))
     (first : Records A O g) (second : Records B O g) (sweep : Sweeping) (grown : Output) (order : Order) (is_order : order ≡ order_in old_first)
-    (s : Sweeps a_left a_failed a_end b_left b_failed b_end (order_in old_first) shape rule old_first old_second out first second sweep grown) where
+    (s : Sweeps a_left a_failed a_end b_left b_failed b_end (order_in old_first) shape rule limit old_first old_second out first second sweep grown) where
   abbrev Going : Records A O g → Records B O g → Sweeping → Output → Type 0
-  Going = Sweeps a_left a_failed a_end b_left b_failed b_end (order_in old_first) shape rule old_first old_second out
+  Going = Sweeps a_left a_failed a_end b_left b_failed b_end (order_in old_first) shape rule limit old_first old_second out
 
   abbrev Ends : Option Told → Records A O g → Records B O g → Output → Type 0
-  Ends = SweepEnds a_left a_failed a_end b_left b_failed b_end (order_in old_first) shape rule old_first old_second out
+  Ends = SweepEnds a_left a_failed a_end b_left b_failed b_end (order_in old_first) shape rule limit old_first old_second out
 
   abbrev Less : Records A O g → Records B O g → Sweeping → Type 0
   Less first_now second_now swept = left_to_ask first_now second_now swept < left_to_ask first second sweep
@@ -86,19 +86,19 @@ module _ {A B O : Type 0} {g : Ghosts O} (a_left : A → Option (List ℕ)) (a_f
   module _ (wants : want_in sweep ≡ WantA) where
     turned_first : (now : Records A O g) (swept : Sweeping) (later : Output) → GoesFirst (order_in old_first) now swept later → Going now second swept later × Less now second swept
     turned_first now swept later (inl turn) = (
-      goes_first a_left a_failed a_end b_left b_failed b_end shape rule old_first old_second out total same_order is_bed is_bed_second first second sweep grown s wants now swept later turn,
+      goes_first a_left a_failed a_end b_left b_failed b_end shape rule limit old_first old_second out total same_order is_bed is_bed_second first second sweep grown s wants now swept later turn,
       omega (arith, turn.passes.passes.shrinks, turn.ahead.gives.read.shrinks, asks_first sweep.waits sweep.done wants, asks_most swept.waits swept.done),
     )
     turned_first now swept later (inr turn) =
-        let stands = turn.given shape rule s.stage s.stands in
-        let none = none_waits a_left a_failed a_end b_left b_failed b_end shape rule old_first old_second out total same_order is_bed is_bed_second first second sweep grown s wants in (
-          ends_first a_left a_failed a_end b_left b_failed b_end shape rule old_first old_second out total same_order is_bed is_bed_second first second sweep grown s wants now swept later turn,
+        let stands = turn.given shape rule limit s.stage s.stands in
+        let none = none_waits a_left a_failed a_end b_left b_failed b_end shape rule limit old_first old_second out total same_order is_bed is_bed_second first second sweep grown s wants in (
+          ends_first a_left a_failed a_end b_left b_failed b_end shape rule limit old_first old_second out total same_order is_bed is_bed_second first second sweep grown s wants now swept later turn,
           omega (arith, turn.ended.ends.shrinks, asks_first sweep.waits sweep.done wants, asks_none swept.waits swept.done (stands.waits ∙ ap is_some none) stands.done),
         )
 
     stopped_first : (fault : Told) (now : Records A O g) (swept : Sweeping) (later : Output) → FirstFails (order_in old_first) fault now swept later → Ends (Some fault) now second later
-    stopped_first fault now swept later (inl turn) = stops_first a_left a_failed a_end b_left b_failed b_end shape rule old_first old_second out total same_order is_bed is_bed_second first second sweep grown s wants fault now swept later turn
-    stopped_first fault now swept later (inr turn) = fails_first a_left a_failed a_end b_left b_failed b_end shape rule old_first old_second out total same_order is_bed is_bed_second first second sweep grown s wants fault now swept later turn
+    stopped_first fault now swept later (inl turn) = stops_first a_left a_failed a_end b_left b_failed b_end shape rule limit old_first old_second out total same_order is_bed is_bed_second first second sweep grown s wants fault now swept later turn
+    stopped_first fault now swept later (inr turn) = fails_first a_left a_failed a_end b_left b_failed b_end shape rule limit old_first old_second out total same_order is_bed is_bed_second first second sweep grown s wants fault now swept later turn
 
     pub turns_first : (now : Records A O g) (swept : Sweeping) (later : Output) → GoesFirst order now swept later → Going now second swept later × Less now second swept
     turns_first now swept later turn = turned_first now swept later (subst (λ (o : Order). GoesFirst o now swept later) is_order turn)
@@ -109,26 +109,26 @@ module _ {A B O : Type 0} {g : Ghosts O} (a_left : A → Option (List ℕ)) (a_f
   module _ (wants : want_in sweep ≡ WantB) where
     turned_second : (now : Records B O g) (swept : Sweeping) (later : Output) → GoesSecond (order_in old_first) now swept later → Going first now swept later × Less first now swept
     turned_second now swept later (inl turn) = (
-      takes_second a_left a_failed a_end b_left b_failed b_end shape rule old_first old_second out total same_order is_bed is_bed_second first second sweep grown s wants now swept later turn,
+      takes_second a_left a_failed a_end b_left b_failed b_end shape rule limit old_first old_second out total same_order is_bed is_bed_second first second sweep grown s wants now swept later turn,
       omega (arith, turn.passes.passes.shrinks, turn.ahead.gives.read.shrinks, asks_second sweep.waits sweep.done wants, asks_most swept.waits swept.done),
     )
     turned_second now swept later (inr (inl turn)) =
-        let held = waiting a_left a_failed a_end b_left b_failed b_end shape rule old_first old_second out total same_order is_bed is_bed_second first second sweep grown s wants in
-        let writes = turn.given shape rule s.stage held.0 s.stands held.1 (placed_taken a_left a_failed a_end b_left b_failed b_end shape rule old_first old_second out total same_order is_bed is_bed_second first second sweep grown s) in (
-          leaves_second a_left a_failed a_end b_left b_failed b_end shape rule old_first old_second out total same_order is_bed is_bed_second first second sweep grown s wants now swept later turn,
+        let held = waiting a_left a_failed a_end b_left b_failed b_end shape rule limit old_first old_second out total same_order is_bed is_bed_second first second sweep grown s wants in
+        let writes = turn.given shape rule limit s.stage held.0 s.stands held.1 (placed_taken a_left a_failed a_end b_left b_failed b_end shape rule limit old_first old_second out total same_order is_bed is_bed_second first second sweep grown s) in (
+          leaves_second a_left a_failed a_end b_left b_failed b_end shape rule limit old_first old_second out total same_order is_bed is_bed_second first second sweep grown s wants now swept later turn,
           omega (arith, turn.ahead.gives.read.shrinks, asks_second sweep.waits sweep.done wants, asks_few swept.waits swept.done writes.stands.waits),
         )
     turned_second now swept later (inr (inr turn)) =
-        let held = waiting a_left a_failed a_end b_left b_failed b_end shape rule old_first old_second out total same_order is_bed is_bed_second first second sweep grown s wants in
-        let ends = turn.given shape rule s.stage held.0 s.stands held.1 (placed_taken a_left a_failed a_end b_left b_failed b_end shape rule old_first old_second out total same_order is_bed is_bed_second first second sweep grown s) in (
-          ends_second a_left a_failed a_end b_left b_failed b_end shape rule old_first old_second out total same_order is_bed is_bed_second first second sweep grown s wants now swept later turn,
+        let held = waiting a_left a_failed a_end b_left b_failed b_end shape rule limit old_first old_second out total same_order is_bed is_bed_second first second sweep grown s wants in
+        let ends = turn.given shape rule limit s.stage held.0 s.stands held.1 (placed_taken a_left a_failed a_end b_left b_failed b_end shape rule limit old_first old_second out total same_order is_bed is_bed_second first second sweep grown s) in (
+          ends_second a_left a_failed a_end b_left b_failed b_end shape rule limit old_first old_second out total same_order is_bed is_bed_second first second sweep grown s wants now swept later turn,
           omega (arith, turn.ended.ends.shrinks, asks_second sweep.waits sweep.done wants, asks_few swept.waits swept.done ends.0.waits),
         )
 
     stopped_second : (fault : Told) (now : Records B O g) (swept : Sweeping) (later : Output) → SecondFails (order_in old_first) fault now swept later → Ends (Some fault) first now later
-    stopped_second fault now swept later (inl turn) = stops_second a_left a_failed a_end b_left b_failed b_end shape rule old_first old_second out total same_order is_bed is_bed_second first second sweep grown s wants fault now swept later turn
-    stopped_second fault now swept later (inr (inl turn)) = fails_second a_left a_failed a_end b_left b_failed b_end shape rule old_first old_second out total same_order is_bed is_bed_second first second sweep grown s wants fault now swept later turn
-    stopped_second fault now swept later (inr (inr turn)) = fails_at_end a_left a_failed a_end b_left b_failed b_end shape rule old_first old_second out total same_order is_bed is_bed_second first second sweep grown s wants fault now swept later turn
+    stopped_second fault now swept later (inl turn) = stops_second a_left a_failed a_end b_left b_failed b_end shape rule limit old_first old_second out total same_order is_bed is_bed_second first second sweep grown s wants fault now swept later turn
+    stopped_second fault now swept later (inr (inl turn)) = fails_second a_left a_failed a_end b_left b_failed b_end shape rule limit old_first old_second out total same_order is_bed is_bed_second first second sweep grown s wants fault now swept later turn
+    stopped_second fault now swept later (inr (inr turn)) = fails_at_end a_left a_failed a_end b_left b_failed b_end shape rule limit old_first old_second out total same_order is_bed is_bed_second first second sweep grown s wants fault now swept later turn
 
     pub turns_second : (now : Records B O g) (swept : Sweeping) (later : Output) → GoesSecond order now swept later → Going first now swept later × Less first now swept
     turns_second now swept later turn = turned_second now swept later (subst (λ (o : Order). GoesSecond o now swept later) is_order turn)

@@ -1,20 +1,23 @@
 -- Lemmas on the turns of a sweep over two readers: what it takes, writes and fails at.
-use Rattle.std.proofs.Common.{◌≡◌, ℕ, Bool, true, false, cond, List, [], ◌∷◌, ◌++◌, Option, None, Some, Result, Ok, Err, refl, sym, ap, ◌∙◌, subst, append-nil, append_assoc, option_to_list, inl, inr}
-use Rattle.std.specs.Prelude.{IsTrue, is_some}
-use Rattle.std.proofs.lemmas.Bool.{or_left, or_right}
+use Rattle.std.proofs.Common.{◌≡◌, ℕ, Bool, true, false, cond, List, [], ◌∷◌, ◌++◌, Option, None, Some, Result, Ok, Err, refl, sym, ap, ◌∙◌, subst, append-nil, append_assoc, option_to_list, inl, inr, filter, length, ◌≤◌}
+use Rattle.std.specs.Prelude.{IfSome, IsTrue, is_some}
+use Rattle.std.specs.List.{list_all}
+use Rattle.std.proofs.lemmas.Bool.{false≢true, or_left, or_right}
 use Rattle.std.proofs.lemmas.List.{map-append}
 use Rattle.std.proofs.lemmas.List.Folds.{list_any-append}
-use Rattle.bt_lines.specs.Fault.{Told}
+use Rattle.bt_lines.specs.Fault.{Told, no_memory}
 use Rattle.bt_lines.specs.Lines.{TextLine}
 use Rattle.bt_lines.specs.Names.{told}
 use Rattle.bt_lines.specs.Output.{Output}
 use Rattle.bt_lines.specs.Putting.{Grown}
 use Rattle.bt_lines.specs.declared.fault.Fault.{Fault}
+use Rattle.bt_lines.specs.declared.fault.Input.TheVariants.{Second}
 use Rattle.bt_lines.specs.declared.fault.Kind.{Kind}
+use Rattle.bt_lines.specs.declared.fault.Kind.TheVariants.{TooManyHeld}
 use Rattle.bt_bed.specs.Feature.{Feature, intervals_of}
 use Rattle.bt_bed.specs.Good.{Format, Member}
 use Rattle.bt_bed.specs.GoodBed.{bed_format}
-use Rattle.bt_bed.specs.LineKind.{IsBedKind}
+use Rattle.bt_bed.specs.LineKind.{IsBedKind, fault_at_line}
 use Rattle.bt_bed.specs.Locus.{ArePlaced, Locus}
 use Rattle.bt_bed.specs.Order.{Order, IsTotal}
 use Rattle.bt_bed.specs.Records.{order_in, view_of}
@@ -24,8 +27,9 @@ use Rattle.bt_bed.specs.declared.records.Records.{Records}
 use Rattle.bt_bed.proofs.NeighbourLemmas.{wrong_of_bed}
 use Rattle.bt_sweep.specs.Deciding.{decided, decides}
 use Rattle.bt_sweep.specs.IntersectLines.{lines_for}
-use Rattle.bt_sweep.specs.Standing.{IsInOrder, Stage, StandsAt, given, with_a, with_a_ended, with_b, with_b_ended, with_lines}
-use Rattle.bt_sweep.specs.Steps.{Fails}
+use Rattle.bt_sweep.specs.Limit.{are_too_many, held_for, is_held, limited}
+use Rattle.bt_sweep.specs.Standing.{IsInOrder, Stage, StandsAt, given, last_given, with_a, with_a_ended, with_b, with_b_ended, with_lines}
+use Rattle.bt_sweep.specs.Steps.{Fails, has_room}
 use Rattle.bt_sweep.specs.SweepState.{Sweeping, want_in, want_of}
 use Rattle.bt_sweep.specs.declared.hit_rule.HitRule.{HitRule}
 use Rattle.bt_sweep.specs.declared.shape.Shape.{Shape}
@@ -33,15 +37,19 @@ use Rattle.bt_sweep.specs.declared.want.Want.TheVariants.{A as WantA, B as WantB
 use Rattle.bt_sweep.proofs.DecidingLemmas.{none_before}
 use Rattle.bt_sweep.proofs.HitLemmas.{before_lines}
 use Rattle.bt_sweep.proofs.HoldLemmas.{last_known}
+use Rattle.bt_sweep.proofs.PlacedLemmas.{last_given-push}
 use Rattle.bt_tool.specs.Feeding.{member_items}
 use Rattle.bt_tool.specs.Pair.{Making, Pair, Settles, item_ahead}
 use Rattle.bt_tool.specs.PairComes.{IsOpenAt}
 use Rattle.bt_tool.specs.PairEnds.{IsKnown}
-use Rattle.bt_tool.specs.SweepLoop.{FinishesBoth, ReadsOn, SweepEnds, Sweeps, records_pair, stage_of, sweep_making}
+use Rattle.bt_tool.specs.SweepLoop.{AreWithin, FinishesBoth, ReadsOn, SweepEnds, Sweeps, records_pair, stage_of, sweep_making}
+use Rattle.bt_bed.specs.Reading.{MemberReader}
+use Rattle.bt_tool.specs.Passed.{StopsAfter}
 use Rattle.bt_tool.specs.Turns.{EndsFirst, EndsSecond, FailsAtEnd, FailsFirst, FailsSecond, GivesFirst, HasAhead, LeavesSecond, StopsTurn, TakesSecond}
 use Rattle.bt_tool.proofs.PairSettles.{settles_with}
 use Rattle.bt_tool.proofs.PairStops as stop
 use Rattle.bt_tool.proofs.PairTurns as turned
+use Rattle.bt_tool.proofs.SweepLimits.{cuts_at, held_few, some_limit, within_given, within_taken}
 use Rattle.bt_tool.proofs.PassedLemmas.{is_ahead, is_over, is_stopped, member_ahead, placed_end, placed_more, placed_next, placed_peek}
 
 -- what is asked for tells what waits
@@ -76,29 +84,43 @@ not_true false h = refl
 says_bed : (order : Order) (format : Format Feature (Option Locus)) → format ≡ bed_format (sorting_of order) → (state : Option Locus) (line : TextLine) (kind : Kind) → format.says state line ≡ Err kind → IsBedKind order kind
 says_bed order format is state line kind e = wrong_of_bed order state line.text kind (ap (λ (f : Format Feature (Option Locus)). f.says state line) (sym is) ∙ e)
 
+-- a fault of some kinds is one of wider kinds
+stops_wider : {S A State : Type 0} (left : S → Option (List ℕ)) (failed end : S → Bool) (old : MemberReader S A State) (Narrow Wide : Kind → Type 0) → ((kind : Kind) → Narrow kind → Wide kind)
+    → (past : List (Member A)) (fault : Told) (new : MemberReader S A State) → StopsAfter left failed end old Narrow past fault new → StopsAfter left failed end old Wide past fault new
+stops_wider left failed end old Narrow Wide wider past fault new stops = record {
+  bytes = stops.bytes;
+  cause = elim stops.cause [
+    | inl wrong ↦ inl (record { whole = wrong.whole; line = wrong.line; kind = wrong.kind; is = wrong.is; of_kind = wider wrong.kind wrong.of_kind; served = wrong.served; within = wrong.within })
+    | inr others ↦ inr others
+  ];
+}
+
 module _ {A B O : Type 0} {g : Ghosts O} (a_left : A → Option (List ℕ)) (a_failed a_end : A → Bool) (b_left : B → Option (List ℕ)) (b_failed b_end : B → Bool)
-    (shape : Shape) (rule : HitRule) (old_first : Records A O g) (old_second : Records B O g) (out : Output) (total : IsTotal (order_in old_first)) (same_order : order_in old_second ≡ order_in old_first)
+    (shape : Shape) (rule : HitRule) (limit : Option ℕ) (old_first : Records A O g) (old_second : Records B O g) (out : Output) (total : IsTotal (order_in old_first)) (same_order : order_in old_second ≡ order_in old_first)
     (is_bed : (view_of old_first).format ≡ bed_format (sorting_of (order_in old_first))) (is_bed_second : (view_of old_second).format ≡ bed_format (sorting_of (order_in old_second))) where
   abbrev order : Order
   order = order_in old_first
 
   abbrev making : Making Feature Feature
-  making = sweep_making order shape rule
+  making = sweep_making order shape rule limit
 
   abbrev pair : Pair A B Feature Feature (Option Locus) (Option Locus)
   pair = records_pair a_left a_failed a_end b_left b_failed b_end old_first old_second
 
   abbrev Going : Records A O g → Records B O g → Sweeping → Output → Type 0
-  Going = Sweeps a_left a_failed a_end b_left b_failed b_end order shape rule old_first old_second out
+  Going = Sweeps a_left a_failed a_end b_left b_failed b_end order shape rule limit old_first old_second out
 
   abbrev Ends : Option Told → Records A O g → Records B O g → Output → Type 0
-  Ends = SweepEnds a_left a_failed a_end b_left b_failed b_end order shape rule old_first old_second out
+  Ends = SweepEnds a_left a_failed a_end b_left b_failed b_end order shape rule limit old_first old_second out
 
   wrong : (state : Option Locus) (line : TextLine) (kind : Kind) → (view_of old_first).format.says state line ≡ Err kind → IsBedKind order kind
   wrong = says_bed order (view_of old_first).format is_bed
 
-  wrong_second : (state : Option Locus) (line : TextLine) (kind : Kind) → (view_of old_second).format.says state line ≡ Err kind → IsBedKind order kind
-  wrong_second state line kind e = subst (λ (o : Order). IsBedKind o kind) same_order (says_bed (order_in old_second) (view_of old_second).format is_bed_second state line kind e)
+  wrong_bed : (state : Option Locus) (line : TextLine) (kind : Kind) → (view_of old_second).format.says state line ≡ Err kind → IsBedKind order kind
+  wrong_bed state line kind e = subst (λ (o : Order). IsBedKind o kind) same_order (says_bed (order_in old_second) (view_of old_second).format is_bed_second state line kind e)
+
+  wrong_second : (state : Option Locus) (line : TextLine) (kind : Kind) → (view_of old_second).format.says state line ≡ Err kind → making.second_kinds kind
+  wrong_second state line kind e = inl (wrong_bed state line kind e)
 
   module _ (first : Records A O g) (second : Records B O g) (sweep : Sweeping) (grown : Output) (s : Going first second sweep grown) where
     abbrev stage : Stage
@@ -115,6 +137,13 @@ module _ {A B O : Type 0} {g : Ghosts O} (a_left : A → Option (List ℕ)) (a_f
     module _ (wants : want_in sweep ≡ WantA) where
       pub none_waits : stage.waiting ≡ None
       none_waits = none_by stage.waiting sweep.waits sweep.done s.stands.waits wants
+
+      given_none : given stage ≡ stage.written
+      given_none = ap (λ (o : Option Feature). stage.written ++ option_to_list o) none_waits ∙ append-nil stage.written
+
+      -- with one more of the first input the limit lies as far
+      fits_given : (r : Feature) → IsKnown pair → AreWithin order limit (stage.written ++ r ∷ []) s.past_second
+      fits_given r known = within_given order limit stage.written (r ∷ []) s.past_second (subst (λ (gs : List Feature). AreWithin order limit gs s.past_second) given_none (s.fits known))
 
       not_ended : stage.a_ended ≡ false
       not_ended = sym s.stands.done ∙ going_by sweep.waits sweep.done wants
@@ -148,7 +177,7 @@ module _ {A B O : Type 0} {g : Ghosts O} (a_left : A → Option (List ℕ)) (a_f
         settles_here e known = turned.settles_at_end making pair out (stage_of stage) s.past_first s.past_second (view_of first) (view_of second) grown s.comes e r known
 
       gave_by : (b : Bool) → stage.b_ended ≡ b → (first_now : Records A O g) (swept : Sweeping) (now : Output) → (turn : GivesFirst a_left a_failed a_end order first sweep grown first_now swept now)
-          → StandsAt order shape rule (cond b (record stage { written = stage.written ++ turn.item ∷ [] }) (record stage { waiting = Some turn.item })) swept
+          → StandsAt order shape rule limit (cond b (record stage { written = stage.written ++ turn.item ∷ [] }) (record stage { waiting = Some turn.item })) swept
           → Grown grown (cond b (lines_for shape rule turn.item stage.taken) []) now → Going first_now second swept now
       gave_by true e first_now swept now turn stands adds = record {
         past_first = s.past_first ++ next turn.item turn.peeked turn.ahead ∷ [];
@@ -159,6 +188,7 @@ module _ {A B O : Type 0} {g : Ghosts O} (a_left : A → Option (List ℕ)) (a_f
             (is_ahead a_left a_failed a_end first turn.peeked turn.item turn.ahead) turn.passes.passes (lines_for shape rule turn.item stage.taken) now (settles_here turn.item turn.peeked turn.ahead e) adds;
         first_placed = placed_more a_left a_failed a_end old_first s.past_first first s.first_placed turn.item turn.peeked turn.ahead first_now turn.passes;
         second_placed = s.second_placed;
+        fits = λ known. subst (λ (gs : List Feature). AreWithin order limit gs s.past_second) (sym (given_with turn.item turn.peeked turn.ahead true)) (fits_given turn.item known);
       }
       gave_by false e first_now swept now turn stands adds = record {
         past_first = s.past_first ++ next turn.item turn.peeked turn.ahead ∷ [];
@@ -169,12 +199,13 @@ module _ {A B O : Type 0} {g : Ghosts O} (a_left : A → Option (List ℕ)) (a_f
             (is_ahead a_left a_failed a_end first turn.peeked turn.item turn.ahead) turn.passes.passes e refl now adds;
         first_placed = placed_more a_left a_failed a_end old_first s.past_first first s.first_placed turn.item turn.peeked turn.ahead first_now turn.passes;
         second_placed = s.second_placed;
+        fits = fits_given turn.item;
       }
 
       -- a record of the first input was given
       pub goes_first : (first_now : Records A O g) (swept : Sweeping) (now : Output) → GivesFirst a_left a_failed a_end order first sweep grown first_now swept now → Going first_now second swept now
       goes_first first_now swept now turn =
-          let gives = turn.given shape rule stage s.stands (ordered turn.item turn.peeked turn.ahead) in
+          let gives = turn.given shape rule limit stage s.stands (ordered turn.item turn.peeked turn.ahead) in
           gave_by stage.b_ended refl first_now swept now turn gives.0 gives.1
 
       -- and its end
@@ -185,34 +216,35 @@ module _ {A B O : Type 0} {g : Ghosts O} (a_left : A → Option (List ℕ)) (a_f
             past_first = s.past_first;
             past_second = s.past_second;
             stage = with_a_ended stage;
-            stands = turn.given shape rule stage s.stands;
+            stands = turn.given shape rule limit stage s.stands;
             comes = turned.ends_first making pair out (stage_of stage) s.past_first s.past_second (view_of first) (view_of second) grown s.comes none_waits not_ended (view_of first_now) (is_over a_left a_failed a_end first first_now turn.ended);
             first_placed = placed_end a_left a_failed a_end old_first s.past_first first s.first_placed first_now turn.ended;
             second_placed = s.second_placed;
+            fits = s.fits;
           })
 
       -- the first input couldn't give a record
       pub stops_first : (fault : Told) (first_now : Records A O g) (swept : Sweeping) (now : Output) → StopsTurn a_left a_failed a_end order first sweep grown fault first_now swept now → Ends (Some fault) first_now second now
       stops_first fault first_now swept now turn =
           subst (λ o. Ends (Some fault) first_now second o) (sym turn.same_output)
-          (stop.stops_first making pair out wrong wrong_second (stage_of stage) s.past_first s.past_second (view_of first) (view_of second) grown s.comes asked none_waits not_ended fault (view_of first_now)
+          (stop.stops_first making pair out wrong wrong_second (stage_of stage) s.past_first s.past_second (view_of first) (view_of second) grown s.comes asked s.fits none_waits not_ended fault (view_of first_now)
           (is_stopped a_left a_failed a_end first first_now fault turn.stopped))
 
       fails_first_by : (b : Bool) → stage.b_ended ≡ b → (fault : Told) (first_now : Records A O g) (swept : Sweeping) (now : Output) (turn : FailsFirst a_left a_failed a_end order first sweep grown fault first_now swept now)
           → Fails grown (cond b (lines_for shape rule turn.item stage.taken) []) fault now → Ends (Some fault) first_now second now
       fails_first_by b e fault first_now swept now turn (inr ran) =
           subst (λ o. Ends (Some fault) first_now second o) (sym ran.1)
-          (stop.lacks_first making pair out wrong wrong_second (stage_of stage) s.past_first s.past_second (view_of first) (view_of second) grown s.comes asked none_waits not_ended (next turn.item first_now turn.ahead) (view_of first_now)
+          (stop.lacks_first making pair out wrong wrong_second (stage_of stage) s.past_first s.past_second (view_of first) (view_of second) grown s.comes asked s.fits none_waits not_ended (next turn.item first_now turn.ahead) (view_of first_now)
           (is_ahead a_left a_failed a_end first first_now turn.item turn.ahead) fault ran.0)
       fails_first_by false e fault first_now swept now turn (inl adds) = absurd (adds.some refl)
       fails_first_by true e fault first_now swept now turn (inl adds) =
-          stop.fails_first making pair out wrong wrong_second (stage_of stage) s.past_first s.past_second (view_of first) (view_of second) grown s.comes asked none_waits not_ended (next turn.item first_now turn.ahead) (view_of first_now)
+          stop.fails_first making pair out wrong wrong_second (stage_of stage) s.past_first s.past_second (view_of first) (view_of second) grown s.comes asked s.fits none_waits not_ended (next turn.item first_now turn.ahead) (view_of first_now)
           (is_ahead a_left a_failed a_end first first_now turn.item turn.ahead) (lines_for shape rule turn.item stage.taken) (settles_here turn.item first_now turn.ahead e) fault now adds
 
       -- its record wasn't taken, or not written
       pub fails_first : (fault : Told) (first_now : Records A O g) (swept : Sweeping) (now : Output) → FailsFirst a_left a_failed a_end order first sweep grown fault first_now swept now → Ends (Some fault) first_now second now
       fails_first fault first_now swept now turn =
-          fails_first_by stage.b_ended refl fault first_now swept now turn (turn.fails shape rule stage s.stands (ordered turn.item first_now turn.ahead))
+          fails_first_by stage.b_ended refl fault first_now swept now turn (turn.fails shape rule limit stage s.stands (ordered turn.item first_now turn.ahead))
 
     -- a record of the second input is asked for, while a waits
     module _ (wants : want_in sweep ≡ WantB) where
@@ -252,10 +284,43 @@ module _ {A B O : Type 0} {g : Ghosts O} (a_left : A → Option (List ℕ)) (a_f
                   ∙ before_lines order shape rule a r stage.taken total is_known d rest (subst (λ (l : List Feature). ArePlaced order (intervals_of l)) parts ordered),
             ))
 
+        -- with it those that are written are decided
+        decided_written : IsKnown pair → list_all (λ x. decided order x (stage.taken ++ r ∷ [])) stage.written ≡ true
+        decided_written known =
+            ((turned.settles_peeked making pair out (stage_of stage) s.past_first s.past_second (view_of first) (view_of second) grown s.comes goes next_second (view_of peeked) (is_ahead b_left b_failed b_end second peeked r ahead) known).whatever
+            (stage.taken ++ r ∷ []) (Some no_memory) placed_with (record { begins = ([], sym (append-nil (stage.taken ++ r ∷ []))); all = λ e. absurd (false≢true e) })).0
+
+        taken_is : stage.taken ++ r ∷ [] ≡ member_items (s.past_second ++ next_second ∷ [])
+        taken_is = turned.taken_next making pair out (stage_of stage) s.past_first s.past_second (view_of first) (view_of second) grown s.comes goes next_second (view_of peeked) (is_ahead b_left b_failed b_end second peeked r ahead)
+
+        given_is : given stage ≡ stage.written ++ a ∷ []
+        given_is = ap (λ (o : Option Feature). stage.written ++ option_to_list o) waiting.1
+
+        -- where it was held, the limit lies behind it
+        fits_taken : (swept : Sweeping) → decides order a r ≡ false → StandsAt order shape rule limit (with_b stage r) swept → IsKnown pair → AreWithin order limit (given stage) (s.past_second ++ next_second ∷ [])
+        fits_taken swept undecided stands known =
+            let held : swept.held ≡ filter (is_held a) (stage.taken ++ r ∷ []) =
+            stands.holds.held_is ∙ ap (λ (gs : List Feature). held_for (last_given gs) (stage.taken ++ r ∷ [])) given_is ∙ ap (λ (o : Option Feature). held_for o (stage.taken ++ r ∷ [])) (last_given-push stage.written a) in
+            within_taken order limit (given stage) s.past_second next_second (s.fits known)
+            (subst (λ (gs : List Feature). IfSome limit (λ most. (later : List Feature) → are_too_many order most (gs ++ later) (member_items (s.past_second ++ next_second ∷ [])) ≡ false)) (sym given_is)
+            (subst (λ (l : List Feature). IfSome limit (λ most. (later : List Feature) → are_too_many order most ((stage.written ++ a ∷ []) ++ later) l ≡ false)) taken_is
+            (held_few order limit stage.written a (stage.taken ++ r ∷ []) (decided_written known) (none_before order a stage.taken r total is_known placed_with undecided)
+            (subst (λ (l : List Feature). IfSome limit (λ most. length l ≤ most)) held stands.within))))
+
+        -- where the limit left no room for it, it lies there
+        cuts_here : (fault : Told) → fault ≡ fault_at_line Second next_second.line TooManyHeld → decides order a r ≡ false → is_held a r ≡ true → has_room limit (length (held_for (Some a) stage.taken)) ≡ false → IsKnown pair
+            → (later : List Feature) (more : List (Member Feature)) (other : Option Told)
+            → limited order limit (stage.written ++ a ∷ later) (record { members = (s.past_second ++ next_second ∷ []) ++ more; fault = other }) ≡ record { members = s.past_second ++ next_second ∷ []; fault = Some fault }
+        cuts_here fault is undecided to_hold full known =
+            cuts_at order limit stage.written a s.past_second next_second fault is (subst (λ (gs : List Feature). AreWithin order limit gs s.past_second) given_is (s.fits known))
+            (subst (λ (l : List Feature). list_all (λ x. decided order x l) stage.written ≡ true) taken_is (decided_written known))
+            (subst (λ (l : List Feature). decided order a l ≡ false) taken_is (none_before order a stage.taken r total is_known placed_with undecided))
+            to_hold (subst (λ (l : List Feature). has_room limit (length (filter (is_held a) l)) ≡ false) s.comes.all_taken full)
+
       -- a record of the second input was taken
       pub takes_second : (second_now : Records B O g) (swept : Sweeping) (now : Output) → TakesSecond b_left b_failed b_end order second sweep grown second_now swept now → Going first second_now swept now
       takes_second second_now swept now turn =
-          let takes = turn.given shape rule stage a s.stands waiting.1 placed_taken in
+          let takes = turn.given shape rule limit stage a s.stands waiting.1 placed_taken in
           let r = turn.item in
           subst (λ o. Going first second_now swept o) (sym takes.same_output)
           (record {
@@ -269,12 +334,13 @@ module _ {A B O : Type 0} {g : Ghosts O} (a_left : A → Option (List ℕ)) (a_f
                 (none_before order a stage.taken r total is_known (placed_with r turn.peeked turn.ahead) takes.undecided));
             first_placed = s.first_placed;
             second_placed = placed_more b_left b_failed b_end old_second s.past_second second s.second_placed r turn.peeked turn.ahead second_now turn.passes;
+            fits = fits_taken r turn.peeked turn.ahead swept takes.undecided takes.stands;
           })
 
       -- it made the lines of a be written
       pub leaves_second : (second_now : Records B O g) (swept : Sweeping) (now : Output) → LeavesSecond b_left b_failed b_end order second sweep grown second_now swept now → Going first second_now swept now
       leaves_second second_now swept now turn =
-          let writes = turn.given shape rule stage a s.stands waiting.1 placed_taken in
+          let writes = turn.given shape rule limit stage a s.stands waiting.1 placed_taken in
           record {
             past_first = s.past_first;
             past_second = s.past_second;
@@ -284,12 +350,13 @@ module _ {A B O : Type 0} {g : Ghosts O} (a_left : A → Option (List ℕ)) (a_f
                 (is_ahead b_left b_failed b_end second second_now turn.item turn.ahead) a waiting.1 (lines_for shape rule a stage.taken) now (settles_decided turn.item second_now turn.ahead writes.decides) writes.puts;
             first_placed = s.first_placed;
             second_placed = placed_peek b_left b_failed b_end old_second s.past_second second s.second_placed turn.item second_now turn.ahead;
+            fits = λ known. subst (λ (gs : List Feature). AreWithin order limit gs s.past_second) (sym (append-nil (given stage))) (s.fits known);
           }
 
       -- its end made them be written
       pub ends_second : (second_now : Records B O g) (swept : Sweeping) (now : Output) → EndsSecond b_left b_failed b_end order second sweep grown second_now swept now → Going first second_now swept now
       ends_second second_now swept now turn =
-          let ends = turn.given shape rule stage a s.stands waiting.1 placed_taken in
+          let ends = turn.given shape rule limit stage a s.stands waiting.1 placed_taken in
           record {
             past_first = s.past_first;
             past_second = s.past_second;
@@ -298,31 +365,39 @@ module _ {A B O : Type 0} {g : Ghosts O} (a_left : A → Option (List ℕ)) (a_f
             comes = turned.ends_waiting making pair out (stage_of stage) s.past_first s.past_second (view_of first) (view_of second) grown s.comes goes (view_of second_now) (is_over b_left b_failed b_end second second_now turn.ended) a waiting.1 now ends.1;
             first_placed = s.first_placed;
             second_placed = placed_end b_left b_failed b_end old_second s.past_second second s.second_placed second_now turn.ended;
+            fits = λ known. subst (λ (gs : List Feature). AreWithin order limit gs s.past_second) (sym (append-nil (given stage))) (s.fits known);
           }
 
       -- the second input couldn't give a record
       pub stops_second : (fault : Told) (second_now : Records B O g) (swept : Sweeping) (now : Output) → StopsTurn b_left b_failed b_end order second sweep grown fault second_now swept now → Ends (Some fault) first second_now now
       stops_second fault second_now swept now turn =
           subst (λ o. Ends (Some fault) first second_now o) (sym turn.same_output)
-          (stop.stops_second making pair out wrong wrong_second (stage_of stage) s.past_first s.past_second (view_of first) (view_of second) grown s.comes asked goes a waiting.1 fault (view_of second_now)
+          (stop.stops_second making pair out wrong wrong_second (stage_of stage) s.past_first s.past_second (view_of first) (view_of second) grown s.comes asked s.fits goes a waiting.1 fault (view_of second_now)
           (is_stopped b_left b_failed b_end second second_now fault turn.stopped))
 
       -- its record wasn't held, or the lines of a weren't written
       pub fails_second : (fault : Told) (second_now : Records B O g) (swept : Sweeping) (now : Output) → FailsSecond b_left b_failed b_end order second sweep grown fault second_now swept now → Ends (Some fault) first second_now now
       fails_second fault second_now swept now turn =
-          elim (turn.fails shape rule stage a s.stands waiting.1 placed_taken) [
-            | inl writes ↦ stop.fails_waiting making pair out wrong wrong_second (stage_of stage) s.past_first s.past_second (view_of first) (view_of second) grown s.comes asked goes a waiting.1 (next_second turn.item second_now turn.ahead) (view_of second_now)
+          elim (turn.fails shape rule limit stage a s.stands waiting.1 placed_taken) [
+            | inl writes ↦ stop.fails_waiting making pair out wrong wrong_second (stage_of stage) s.past_first s.past_second (view_of first) (view_of second) grown s.comes asked s.fits goes a waiting.1 (next_second turn.item second_now turn.ahead) (view_of second_now)
                 (is_ahead b_left b_failed b_end second second_now turn.item turn.ahead) (lines_for shape rule a stage.taken) (settles_decided turn.item second_now turn.ahead writes.decides) fault now writes.fails
-            | inr holds ↦ subst (λ o. Ends (Some fault) first second_now o) (sym holds.same_output)
-                (stop.lacks_second making pair out wrong wrong_second (stage_of stage) s.past_first s.past_second (view_of first) (view_of second) grown s.comes asked goes a waiting.1 (next_second turn.item second_now turn.ahead) (view_of second_now)
-                (is_ahead b_left b_failed b_end second second_now turn.item turn.ahead) fault holds.is)
+            | inr others ↦ elim others [
+              | inl full ↦ subst (λ o. Ends (Some fault) first second_now o) (sym full.same_output)
+                  (stop.passes_limit making pair out wrong wrong_second (stage_of stage) s.past_first s.past_second (view_of first) (view_of second) grown s.comes asked s.fits goes a waiting.1 (next_second turn.item second_now turn.ahead) (view_of second_now)
+                  (is_ahead b_left b_failed b_end second second_now turn.item turn.ahead) TooManyHeld (inr (some_limit limit (length (held_for (Some a) stage.taken)) full.is_full, refl)) fault full.is
+                  (subst (λ (l : List Feature). decided order a l ≡ false) (taken_is turn.item second_now turn.ahead) (none_before order a stage.taken turn.item total is_known (placed_with turn.item second_now turn.ahead) full.undecided))
+                  (cuts_here turn.item second_now turn.ahead fault full.is full.undecided full.to_hold full.is_full))
+              | inr holds ↦ subst (λ o. Ends (Some fault) first second_now o) (sym holds.same_output)
+                  (stop.lacks_second making pair out wrong wrong_second (stage_of stage) s.past_first s.past_second (view_of first) (view_of second) grown s.comes asked s.fits goes a waiting.1 (next_second turn.item second_now turn.ahead) (view_of second_now)
+                  (is_ahead b_left b_failed b_end second second_now turn.item turn.ahead) fault holds.is)
+            ]
           ]
 
       -- at its end the lines of a weren't written
       pub fails_at_end : (fault : Told) (second_now : Records B O g) (swept : Sweeping) (now : Output) → FailsAtEnd b_left b_failed b_end order second sweep grown fault second_now swept now → Ends (Some fault) first second_now now
       fails_at_end fault second_now swept now turn =
-          stop.fails_at_end making pair out wrong wrong_second (stage_of stage) s.past_first s.past_second (view_of first) (view_of second) grown s.comes asked goes a waiting.1 fault (view_of second_now) now
-          (is_over b_left b_failed b_end second second_now turn.ended) (turn.fails shape rule stage a s.stands waiting.1 placed_taken)
+          stop.fails_at_end making pair out wrong wrong_second (stage_of stage) s.past_first s.past_second (view_of first) (view_of second) grown s.comes asked s.fits goes a waiting.1 fault (view_of second_now) now
+          (is_over b_left b_failed b_end second second_now turn.ended) (turn.fails shape rule limit stage a s.stands waiting.1 placed_taken)
 
     -- the first input has ended, and the second was read to its end
     module _ (wants : want_in sweep ≡ Nothing) where
@@ -330,12 +405,13 @@ module _ {A B O : Type 0} {g : Ghosts O} (a_left : A → Option (List ℕ)) (a_f
       done = sym s.stands.done ∙ done_by sweep.waits sweep.done wants
 
       pub finishes_both : {T : Type 0} (result : Result T Fault) (second_now : Records B O g) → ReadsOn b_left b_failed b_end (IsBedKind (order_in second)) (view_of second) result (view_of second_now)
-          → FinishesBoth a_left a_failed a_end b_left b_failed b_end order shape rule old_first old_second out result first second_now grown
+          → FinishesBoth a_left a_failed a_end b_left b_failed b_end order shape rule limit old_first old_second out result first second_now grown
       finishes_both {T} (Ok unit) second_now reads =
-          let checks = subst (λ (o : Order). ReadsOn {T = T} b_left b_failed b_end (IsBedKind o) (view_of second) (Ok unit) (view_of second_now)) (s.second_placed.order ∙ same_order) reads (view_of old_second) s.past_second s.comes.second_passes wrong_second in
-          stop.ends_rest making pair out wrong wrong_second (stage_of stage) s.past_first s.past_second (view_of first) (view_of second) grown s.comes asked done (view_of second_now) checks.rises checks.passes.bytes (s.past_second ++ checks.more) None
+          let checks = subst (λ (o : Order). ReadsOn {T = T} b_left b_failed b_end (IsBedKind o) (view_of second) (Ok unit) (view_of second_now)) (s.second_placed.order ∙ same_order) reads (view_of old_second) s.past_second s.comes.second_passes wrong_bed in
+          stop.ends_rest making pair out wrong wrong_second (stage_of stage) s.past_first s.past_second (view_of first) (view_of second) grown s.comes asked s.fits done (view_of second_now) checks.rises checks.passes.bytes (s.past_second ++ checks.more) None
           (inl (refl, checks.all, record { served = checks.passes.served; within = checks.passes.sound.within checks.passes.clear }, refl))
       finishes_both {T} (Err fault) second_now reads =
-          let checks = subst (λ (o : Order). ReadsOn {T = T} b_left b_failed b_end (IsBedKind o) (view_of second) (Err fault) (view_of second_now)) (s.second_placed.order ∙ same_order) reads (view_of old_second) s.past_second s.comes.second_passes wrong_second in
-          stop.stops_rest making pair out wrong wrong_second (stage_of stage) s.past_first s.past_second (view_of first) (view_of second) grown s.comes asked done (view_of second_now) checks.rises (s.past_second ++ checks.more) (told fault) checks.stops
+          let checks = subst (λ (o : Order). ReadsOn {T = T} b_left b_failed b_end (IsBedKind o) (view_of second) (Err fault) (view_of second_now)) (s.second_placed.order ∙ same_order) reads (view_of old_second) s.past_second s.comes.second_passes wrong_bed in
+          stop.stops_rest making pair out wrong wrong_second (stage_of stage) s.past_first s.past_second (view_of first) (view_of second) grown s.comes asked s.fits done (view_of second_now) checks.rises (s.past_second ++ checks.more) (told fault)
+          (stops_wider b_left b_failed b_end (view_of old_second) (IsBedKind order) making.second_kinds (λ kind of_bed. inl of_bed) (s.past_second ++ checks.more) (told fault) (view_of second_now) checks.stops)
           (λ e. checks.before_end (s.comes.second_all e).3) refl

@@ -19,7 +19,8 @@ use Rattle.bt_tool.specs.Kinds.{IsNoKind, IsOneOf}
 use Rattle.bt_tool.specs.MaskReport.{is_fasta_kind, is_mask_kind, mask_reaches, mask_report}
 use Rattle.bt_tool.specs.MaskReport.{mask_settles}
 use Rattle.bt_tool.specs.RecordReport.{Report, records_report, records_settle}
-use Rattle.bt_tool.specs.SweepReport.{intersect_reaches, intersect_report, intersect_settles}
+use Rattle.bt_tool.specs.SweepReport.{IsSweptKind, intersect_reaches, intersect_report}
+use Rattle.bt_tool.specs.SweepReport.{intersect_settles}
 use Rattle.bt_tool.specs.SweepReport.{subtract_reaches, subtract_report, subtract_settles}
 use Rattle.bt_tool.specs.Written.{Written, complement_written, coverage_written, merge_written}
 use Rattle.bt_tool.specs.declared.plan_type.Command.{Command}
@@ -55,22 +56,22 @@ of_records order written = record {
 }
 
 -- intersect, and what subtract does by the same records
-abbrev pub of_intersect : Order → Shape → HitRule → Behaviour
-of_intersect order shape rule = record {
-  report = λ first second. intersect_report order shape rule first (or_empty second);
+abbrev pub of_intersect : Order → Shape → HitRule → Option ℕ → Behaviour
+of_intersect order shape rule limit = record {
+  report = λ first second. intersect_report order shape rule limit first (or_empty second);
   settles = λ second. intersect_settles order shape rule (or_empty second);
   reaches = λ second. intersect_reaches order (or_empty second);
   FirstKinds = IsBedKind order;
-  SecondKinds = IsBedKind order;
+  SecondKinds = IsSweptKind order limit;
 }
 
-abbrev pub of_subtract : Order → Bool → HitRule → Behaviour
-of_subtract order whole rule = record {
-  report = λ first second. subtract_report order whole rule first (or_empty second);
+abbrev pub of_subtract : Order → Bool → HitRule → Option ℕ → Behaviour
+of_subtract order whole rule limit = record {
+  report = λ first second. subtract_report order whole rule limit first (or_empty second);
   settles = λ second. subtract_settles order whole rule (or_empty second);
   reaches = λ second. subtract_reaches order (or_empty second);
   FirstKinds = IsBedKind order;
-  SecondKinds = IsBedKind order;
+  SecondKinds = IsSweptKind order limit;
 }
 
 abbrev pub of_bamtobed : Bool → Bool → Behaviour
@@ -108,7 +109,9 @@ behaviour_of (Complement limit) chromosomes =
     of_records (order_of chromosomes) (complement_written (entries_in chromosomes) limit)
 behaviour_of (Coverage zeros strand) chromosomes =
     of_records (order_of chromosomes) (coverage_written (entries_in chromosomes) zeros strand)
-behaviour_of (Intersect shape rule) chromosomes = of_intersect (order_of chromosomes) shape rule
-behaviour_of (Subtract whole rule) chromosomes = of_subtract (order_of chromosomes) whole rule
+behaviour_of (Intersect shape rule held) chromosomes =
+    of_intersect (order_of chromosomes) shape rule held
+behaviour_of (Subtract whole rule held) chromosomes =
+    of_subtract (order_of chromosomes) whole rule held
 behaviour_of (BamToBed split cigar) chromosomes = of_bamtobed split cigar
 behaviour_of (MaskFasta how full) chromosomes = of_maskfasta how full

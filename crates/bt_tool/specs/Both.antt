@@ -13,7 +13,7 @@ use Rattle.bt_sweep.specs.declared.shape.Shape.{Shape}
 use Rattle.bt_tool.specs.Driving.{IsOfInput, IsReported, ReadsNoFurther, TellsDevice, TellsInput}
 use Rattle.bt_tool.specs.Inputs.{HandsUpTo, Reads}
 use Rattle.bt_tool.specs.RecordReport.{Report}
-pub use Rattle.bt_tool.specs.SweepReport.{bytes_up_to, decider, intersect_reaches}
+pub use Rattle.bt_tool.specs.SweepReport.{IsSweptKind, bytes_up_to, decider, intersect_reaches}
 pub use Rattle.bt_tool.specs.SweepReport.{intersect_report, intersect_settles, met_report}
 pub use Rattle.bt_tool.specs.SweepReport.{records_on, subtract_reaches, subtract_report}
 pub use Rattle.bt_tool.specs.SweepReport.{subtract_settles}
@@ -69,8 +69,8 @@ module _ {A B : Type 0} (a_left : A → Option (List ℕ)) (a_failed a_end : A �
 -- two inputs were swept, in an order of their chromosomes
 abbrev pub Intersects : {A B : Type 0} → (A → Option (List ℕ)) → (A → Bool) → (A → Bool)
     → (B → Option (List ℕ)) → (B → Bool)
-    → Order → Shape → HitRule → A → B → Output → Option Told → A → B → Output → Type 0
-Intersects a_left a_failed a_end b_left b_failed order shape rule =
-    WritesBoth a_left a_failed a_end b_left b_failed (IsBedKind order) (IsBedKind order)
-    (intersect_report order shape rule) (intersect_settles order shape rule)
+    → Order → Shape → HitRule → Option ℕ → A → B → Output → Option Told → A → B → Output → Type 0
+Intersects a_left a_failed a_end b_left b_failed order shape rule limit =
+    WritesBoth a_left a_failed a_end b_left b_failed (IsBedKind order) (IsSweptKind order limit)
+    (intersect_report order shape rule limit) (intersect_settles order shape rule)
     (intersect_reaches order)

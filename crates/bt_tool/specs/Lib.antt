@@ -43,3 +43,5 @@ pub mod Headline
 pub mod Parts
 pub mod SplitLaws
 pub mod GenomeSplitLaws
+pub mod MaskSplitLaws
+pub mod OwnGenomeLaws

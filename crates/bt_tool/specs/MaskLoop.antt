@@ -1,5 +1,5 @@
 -- How far masking the lines of a reader by the records of another has come, and how it ends.
-use Rattle.std.specs.Prelude.{◌≡◌, ℕ, ◌⊎◌, Bool, true, false, not, List, [], Option, Some, None}
+use Rattle.std.specs.Prelude.{◌≡◌, ℕ, ◌⊎◌, ⊤, Bool, true, false, not, List, [], Option, Some, None}
 use Rattle.std.specs.Prelude.{IsTrue, is_some, Result, Ok, Err}
 use Rattle.std.specs.List.{list_any}
 use Rattle.bt_lines.specs.Fault.{Told}
@@ -51,6 +51,8 @@ abbrev pub mask_making : MaskHow → Making SequenceLine Feature
 mask_making how = record {
   decided = decided;
   bytes = λ line records. masked_line how records line;
+  limited = λ lines second. second;
+  Fits = λ lines members. ⊤;
   -- the first record without a sequence
   last = λ lines members. no_sequence (names_of lines) members;
   reaches = λ lines members text. bytes_up_to text (last_needed lines [] members);

@@ -106,6 +106,10 @@ counted_strand_by value = option_map strand_named value
 abbrev pub number_by : Option Word → ℕ
 number_by value = unwrap_or (option_and_then number_of value) 0
 
+-- how many records may be held, by the value of -held; without one that isn't limited
+abbrev pub limit_by : Option Word → Option ℕ
+limit_by value = option_and_then number_of value
+
 -- the fraction that the value of an option denotes, in billionths, 0 without one
 abbrev pub billionths_by : Option Word → ℕ
 billionths_by value = unwrap_or (option_and_then fraction_of value) 0
@@ -152,7 +156,10 @@ command_by Merge items =
 command_by Complement items = ComplementWith (is_given items (codes "-L"))
 command_by Intersect items =
     IntersectWith (shape_by items) (rule_by items (is_given items (codes "-r")))
-command_by Subtract items = SubtractWith (is_given items (codes "-A")) (rule_by items false)
+    (limit_by (value_of items (codes "-held")))
+command_by Subtract items =
+    SubtractWith (is_given items (codes "-A")) (rule_by items false)
+    (limit_by (value_of items (codes "-held")))
 command_by Coverage items =
     CoverageWith (is_given items (codes "-bga"))
     (counted_strand_by (value_of items (codes "-strand")))

@@ -17,6 +17,10 @@ pub record Making (X Y : Type 0) : Type 1 where
   pub decided : X → List Y → Bool
   -- its bytes against them
   pub bytes : X → List Y → List ℕ
+  -- what of the second input these members of the first meet, by a limit on what is held of it
+  pub limited : List X → Good Y → Good Y
+  -- by these members of the first, no limit lies among these of the second
+  pub Fits : List X → List (Member Y) → Type 0
   -- what is told where all members of the first input are written, before the fault of the second
   pub last : List X → List (Member Y) → Option Told
   -- how many bytes of the lines of the second input these members of the first ask for
@@ -68,8 +72,12 @@ module _ {X Y : Type 0} (making : Making X Y) where
   }
 
   -- what is written of two inputs, and the fault that is told
+  abbrev pub met_whole : Good X → Good Y → Met ℕ Told
+  met_whole first second = meet (rule_of (items_in first) second) (items_in first) first.fault
+
+  -- the same, by what the first meets of the second
   abbrev pub met_by : Good X → Good Y → Met ℕ Told
-  met_by first second = meet (rule_of (items_in first) second) (items_in first) first.fault
+  met_by first second = met_whole first (making.limited (items_in first) second)
 
   -- whatever the second input still has, these members of the first are decided and have these bytes
   pub record Settles (written : List X) (bytes : List ℕ) (seen : List Y)

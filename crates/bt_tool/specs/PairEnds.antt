@@ -1,6 +1,6 @@
 -- How a run over two readers of members ends.
-use Rattle.std.specs.Prelude.{◌≡◌, ℕ, ◌≤◌, ◌⊎◌, All, Bool, true, false, List, ◌∷◌, ◌++◌, Option}
-use Rattle.std.specs.Prelude.{Some, None, IfSome, IsSome}
+use Rattle.std.specs.Prelude.{◌≡◌, ℕ, ◌≤◌, ◌⊎◌, All, Bool, true, false, List, [], ◌∷◌, ◌++◌, Option}
+use Rattle.std.specs.Prelude.{Some, None, IfSome, IsSome, option_to_list}
 use Rattle.bt_lines.specs.Fault.{Told, no_memory, read_failed, write_failed}
 use Rattle.bt_lines.specs.Output.{Output, Grows}
 use Rattle.bt_lines.specs.Putting.{WorksAsBefore}
@@ -33,6 +33,15 @@ module _ {A B X Y U V : Type 0} (making : Making X Y) (pair : Pair A B X Y U V)
         (λ good. (rest : List (Member Y)) × (good.members ≡ seen ++ rest))
     pub low : All (λ m. m.line ≤ lines_given second.below) seen
     pub second_all : ended ≡ true → AreAll pair.b_left pair.b_failed pair.b_end pair.second seen
+    -- the members that were given, those that were taken, and the one ahead
+    pub given : List X
+    pub taken : List (Member Y)
+    pub ahead : Option (Member Y)
+    pub sees : seen ≡ taken ++ option_to_list ahead
+    pub none_ahead : ended ≡ true → ahead ≡ None
+    pub given_begin : IfSome (good_coming pair.a_left pair.first)
+        (λ good. (rest : List X) × (items_in good ≡ given ++ rest))
+    pub fits : IsKnown pair → making.Fits given taken
     pub first_bytes : (bytes : List ℕ) × Hands pair.a_left pair.first.below bytes first.below
     pub second_bytes : (bytes : List ℕ) × Hands pair.b_left pair.second.below bytes second.below
     pub grows : Grows out.took grown.took
@@ -45,10 +54,11 @@ module _ {A B X Y U V : Type 0} (making : Making X Y) (pair : Pair A B X Y U V)
       ⊎ IsUnreadBehind pair.a_left pair.a_failed pair.a_end pair.first past fault first
 
   -- all good members of the first input are written, and its fault is told
-  pub record FirstStops (written : List X) (first : MemberReader A X U)
+  pub record FirstStops (written given : List X) (first : MemberReader A X U)
       (second : MemberReader B Y V) (fault : Told) : Type 0 where
     pub past : List (Member X)
     pub all : written ≡ member_items past
+    pub all_given : given ≡ member_items past
     pub cause : FirstFails past first fault
     pub serves : Serves pair.b_failed pair.second second
 
@@ -71,7 +81,30 @@ module _ {A B X Y U V : Type 0} (making : Making X Y) (pair : Pair A B X Y U V)
     pub undecided : IfSome (good_coming pair.b_left pair.second)
         (λ good. making.decided waiting (member_items past) ≡ false)
     pub fails : SecondFails ended past second fault
+    pub fits : IsKnown pair → making.Fits (written ++ waiting ∷ []) past
     pub serves : Serves pair.a_failed pair.first first
+
+  -- a member of the first waits that the members of the second up to one don't decide, and the
+  -- limit's fault is told at the line of that one
+  pub record LimitStops (written : List X) (first : MemberReader A X U)
+      (second : MemberReader B Y V) (fault : Told) : Type 0 where
+    pub past : List (Member Y)
+    pub m : Member Y
+    pub waiting : X
+    pub begins : IfSome (good_coming pair.a_left pair.first)
+        (λ good. (rest : List X) × (items_in good ≡ written ++ waiting ∷ rest))
+    pub comes : IfSome (good_coming pair.b_left pair.second)
+        (λ good. (rest : List (Member Y)) × (good.members ≡ (past ++ m ∷ []) ++ rest))
+    pub undecided : making.decided waiting (member_items (past ++ m ∷ [])) ≡ false
+    pub cuts : IsKnown pair → (later : List X) (more : List (Member Y)) (other : Option Told)
+        → making.limited (written ++ waiting ∷ later)
+        (record { members = (past ++ m ∷ []) ++ more; fault = other })
+        ≡ record { members = past ++ m ∷ []; fault = Some fault }
+    pub kind : Kind
+    pub is : fault ≡ fault_at_line Second m.line kind
+    pub of_kind : making.second_kinds kind
+    pub serves : Serves pair.a_failed pair.first first
+    pub serves_second : Serves pair.b_failed pair.second second
 
   -- what is told at last, at a line of the second input
   pub record LastTold (written : List X) (second : MemberReader B Y V) (fault : Told) : Type 0 where
@@ -100,18 +133,19 @@ module _ {A B X Y U V : Type 0} (making : Making X Y) (pair : Pair A B X Y U V)
         ⊎ ((other : Told) × (fault ≡ Some other) × LastTold written second other))
 
   -- the inputs say how it ends
-  abbrev pub InputsEnd : List X → Bool → MemberReader A X U → MemberReader B Y V → Option Told
-      → Type 0
-  InputsEnd written ended first second fault =
-      ((other : Told) × (fault ≡ Some other) × FirstStops written first second other)
+  abbrev pub InputsEnd : List X → List X → Bool → MemberReader A X U → MemberReader B Y V
+      → Option Told → Type 0
+  InputsEnd written given ended first second fault =
+      ((other : Told) × (fault ≡ Some other) × FirstStops written given first second other)
       ⊎ (((other : Told) × (fault ≡ Some other) × SecondStops written ended first second other)
-      ⊎ RestStops written ended first second fault)
+      ⊎ (RestStops written ended first second fault
+      ⊎ ((other : Told) × (fault ≡ Some other) × LimitStops written first second other)))
 
   -- why it ends
-  abbrev pub Why : List X → List ℕ → Bool → MemberReader A X U → MemberReader B Y V → Option Told
-      → Output → Type 0
-  Why written bytes ended first second fault grown =
-      (InputsEnd written ended first second fault × PutsLines out bytes grown
+  abbrev pub Why : List X → List ℕ → List X → Bool → MemberReader A X U → MemberReader B Y V
+      → Option Told → Output → Type 0
+  Why written bytes given ended first second fault grown =
+      (InputsEnd written given ended first second fault × PutsLines out bytes grown
       × WorksAsBefore out grown)
       ⊎ (((fault ≡ Some no_memory) × PutsFront out bytes grown)
       ⊎ ((fault ≡ Some write_failed) × CutsLines out bytes grown))
@@ -142,5 +176,5 @@ module _ {A B X Y U V : Type 0} (making : Making X Y) (pair : Pair A B X Y U V)
     pub written : List X
     pub bytes : List ℕ
     pub wrote : Wrote written bytes first second grown
-    pub why : Why written bytes wrote.ended first second fault grown
+    pub why : Why written bytes wrote.given wrote.ended first second fault grown
     pub near : StaysNear first second grown

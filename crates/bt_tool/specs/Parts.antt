@@ -65,3 +65,17 @@ pub record AddUp (parts : List Report) (whole : Report) : Type 0 where
 -- it may be shorter, since a chromosome is settled by a record behind it
 abbrev pub StopWithin : List Report → Report → Type 0
 StopWithin parts whole = (rest : List ℕ) × (outputs_to_fault parts ≡ whole.output ++ rest)
+
+-- where the runs of all parts are without a fault, so is that of the whole, and its output is theirs
+abbrev pub Suffice : List Report → Report → Type 0
+Suffice parts whole =
+    AllByRecursion (λ part. part.fault ≡ None) parts
+    → (whole.fault ≡ None) × (whole.output ≡ flat_map (λ part. part.output) parts)
+
+-- what the parts before one wrote, and a front of what this one writes, begin what the whole writes
+abbrev pub fronts_begin : Type 0
+fronts_begin =
+    (before later : List Report) (part whole : Report) (front rest : List ℕ)
+    → AddUp (before ++ part ∷ later) whole → whole.fault ≡ None → part.output ≡ front ++ rest
+    → (more : List ℕ)
+    × (whole.output ≡ flat_map (λ earlier. earlier.output) before ++ (front ++ more))

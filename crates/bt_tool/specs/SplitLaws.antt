@@ -84,14 +84,14 @@ PairsAscend order [] = ⊤
 PairsAscend order (part ∷ parts) =
     ComeBefore order (records_of part) (records_of (joined_texts parts)) × PairsAscend order parts
 
--- intersect: both inputs divided at the same chromosomes, with one genome file for each part, or in
--- bytewise order
+-- intersect, without a limit on held records: both inputs divided at the same chromosomes, with one
+-- genome file for each part, or in bytewise order
 abbrev pub intersect_divides : Type 0
 intersect_divides =
     (shape : Shape) (rule : HitRule) (genome : Option Handed) (chromosomes : Option (List Entry))
     (parts : List Texts)
     → chromosomes_of genome ≡ Ok chromosomes → ArePairs parts
-    → PairsAscend (order_of chromosomes) parts → PairsAddUp (Intersect shape rule) genome parts
+    → PairsAscend (order_of chromosomes) parts → PairsAddUp (Intersect shape rule None) genome parts
 
 -- subtract: the same
 abbrev pub subtract_divides : Type 0
@@ -99,4 +99,4 @@ subtract_divides =
     (whole : Bool) (rule : HitRule) (genome : Option Handed) (chromosomes : Option (List Entry))
     (parts : List Texts)
     → chromosomes_of genome ≡ Ok chromosomes → ArePairs parts
-    → PairsAscend (order_of chromosomes) parts → PairsAddUp (Subtract whole rule) genome parts
+    → PairsAscend (order_of chromosomes) parts → PairsAddUp (Subtract whole rule None) genome parts

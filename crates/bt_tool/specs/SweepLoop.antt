@@ -1,6 +1,6 @@
 -- How far a sweep over two readers has come, and how it ends.
 use Rattle.std.specs.Prelude.{◌≡◌, ℕ, ◌≤◌, Bool, true, List, ◌++◌, Option, Some, None, Result, Ok, Err}
-use Rattle.std.specs.Prelude.{IsTrue, option_map}
+use Rattle.std.specs.Prelude.{⊤, [], IsTrue, option_map}
 use Rattle.std.specs.List.{list_all}
 use Rattle.bt_lines.specs.Fault.{Told, read_failed}
 use Rattle.bt_lines.specs.Lines.{TextLine}
@@ -22,30 +22,42 @@ use Rattle.bt_bed.specs.declared.order.ChromOrder.{Ghosts}
 use Rattle.bt_bed.specs.declared.records.Records.{Records}
 use Rattle.bt_sweep.specs.Deciding.{decided}
 use Rattle.bt_sweep.specs.IntersectLines.{lines_for}
-use Rattle.bt_sweep.specs.Standing.{Stage, StandsAt, leaves_some}
+use Rattle.bt_sweep.specs.Limit.{are_too_many, cut_behind, limited}
+use Rattle.bt_sweep.specs.Standing.{Stage, StandsAt, given, leaves_some}
 use Rattle.bt_sweep.specs.SweepState.{Sweeping, want_in}
 use Rattle.bt_sweep.specs.declared.hit_rule.HitRule.{HitRule}
 use Rattle.bt_sweep.specs.declared.shape.Shape.{Shape}
 use Rattle.bt_sweep.specs.declared.want.Want.TheVariants.{Nothing}
-use Rattle.bt_tool.specs.Both.{bytes_up_to, decider}
+use Rattle.bt_tool.specs.Both.{IsSweptKind, bytes_up_to, decider}
 use Rattle.bt_tool.specs.Feeding.{member_items}
 use Rattle.bt_tool.specs.Pair.{Making, Pair}
 use Rattle.bt_tool.specs.PairComes.{Comes, Stage as PairStage}
-use Rattle.bt_tool.specs.PairEnds.{Finishes}
+use Rattle.bt_tool.specs.PairEnds.{Finishes, IsKnown}
 use Rattle.bt_tool.specs.Passed.{AreAll, Passes, StopsAfter}
 
+-- Whatever comes behind them of either input, by these records of the first the limit doesn't lie
+-- among these of the second.
+abbrev pub AreWithin : Order → Option ℕ → List Feature → List (Member Feature) → Type 0
+AreWithin order None as_given past = ⊤
+AreWithin order (Some most) as_given past =
+    (later : List Feature) (more : List (Member Feature)) (fault : Option Told)
+    → cut_behind (are_too_many order most (as_given ++ later)) [] (past ++ more) fault
+    ≡ cut_behind (are_too_many order most (as_given ++ later)) past more fault
+
 -- what a sweep makes of a record of the first input by records of the second
-abbrev pub sweep_making : Order → Shape → HitRule → Making Feature Feature
-sweep_making order shape rule = record {
+abbrev pub sweep_making : Order → Shape → HitRule → Option ℕ → Making Feature Feature
+sweep_making order shape rule limit = record {
   decided = decided order;
   bytes = lines_for shape rule;
+  limited = limited order limit;
+  Fits = AreWithin order limit;
   last = λ all second. None;
   reaches = λ as_given members lines. bytes_up_to lines (decider order as_given members);
   -- each record that was taken leaves one of those given undecided
   Asks = λ as_given taken. IsTrue (list_all (leaves_some order as_given) taken);
   InOrder = λ second. ArePlaced order (intervals_of second);
   first_kinds = IsBedKind order;
-  second_kinds = IsBedKind order;
+  second_kinds = IsSweptKind order limit;
 }
 
 -- what a stage of a sweep is as one of two readers
@@ -82,11 +94,11 @@ module _ {A B O : Type 0} {g : Ghosts O} (a_left : A → Option (List ℕ)) (a_f
 
 module _ {A B O : Type 0} {g : Ghosts O} (a_left : A → Option (List ℕ)) (a_failed a_end : A → Bool)
     (b_left : B → Option (List ℕ)) (b_failed b_end : B → Bool)
-    (order : Order) (shape : Shape) (rule : HitRule) (old_first : Records A O g)
+    (order : Order) (shape : Shape) (rule : HitRule) (limit : Option ℕ) (old_first : Records A O g)
     (old_second : Records B O g) (out : Output) where
   abbrev pub SweepEnds : Option Told → Records A O g → Records B O g → Output → Type 0
   SweepEnds fault first second grown =
-      Finishes (sweep_making order shape rule)
+      Finishes (sweep_making order shape rule limit)
       (records_pair a_left a_failed a_end b_left b_failed b_end old_first old_second) out fault
       (view_of first) (view_of second) grown
 
@@ -96,12 +108,14 @@ module _ {A B O : Type 0} {g : Ghosts O} (a_left : A → Option (List ℕ)) (a_f
     pub past_first : List (Member Feature)
     pub past_second : List (Member Feature)
     pub stage : Stage
-    pub stands : StandsAt order shape rule stage sweep
-    pub comes : Comes (sweep_making order shape rule)
+    pub stands : StandsAt order shape rule limit stage sweep
+    pub comes : Comes (sweep_making order shape rule limit)
         (records_pair a_left a_failed a_end b_left b_failed b_end old_first old_second) out
         (stage_of stage) past_first past_second (view_of first) (view_of second) grown
     pub first_placed : IsPlaced old_first past_first first
     pub second_placed : IsPlaced old_second past_second second
+    pub fits : IsKnown (records_pair a_left a_failed a_end b_left b_failed b_end old_first old_second)
+        → AreWithin order limit (given stage) past_second
 
   -- what giving a sweep all that it asks for does
   abbrev pub SweepsOrStops : {T : Type 0} → Result T Fault → Records A O g → Records B O g

@@ -1,19 +1,24 @@
 -- The reports of intersect and subtract: what two inputs make them write, and how much of the
 -- second the first lines of the first ask for.
-use Rattle.std.specs.Prelude.{ℕ, Bool, List, [], ◌∷◌, take, Option, Some, None, if◌then◌else◌}
+use Rattle.std.specs.Prelude.{◌≡◌, ◌⊎◌, ℕ, Bool, true, List, [], ◌∷◌, take, Option, Some, None}
+use Rattle.std.specs.Prelude.{if◌then◌else◌, is_some}
 use Rattle.std.specs.List.{list_all}
 use Rattle.bt_lines.specs.Fault.{Told}
 use Rattle.bt_lines.specs.Handed.{Handed}
 use Rattle.bt_lines.specs.Lines.{TextLine, bytes_in, text_lines}
 use Rattle.bt_lines.specs.declared.fault.Input.TheVariants.{First, Second}
+use Rattle.bt_lines.specs.declared.fault.Kind.{Kind}
+use Rattle.bt_lines.specs.declared.fault.Kind.TheVariants.{TooManyHeld}
 use Rattle.bt_bed.specs.Feature.{Feature}
-use Rattle.bt_bed.specs.Good.{Member, good, items_in}
+use Rattle.bt_bed.specs.Good.{Good, Member, good, items_in}
 use Rattle.bt_bed.specs.GoodBed.{bed_format, bed_good}
+use Rattle.bt_bed.specs.LineKind.{IsBedKind}
 use Rattle.bt_bed.specs.Meeting.{Met}
 use Rattle.bt_bed.specs.Order.{Order}
 use Rattle.bt_bed.specs.Sorting.{sorting_of}
 use Rattle.bt_sweep.specs.Deciding.{decides}
 use Rattle.bt_sweep.specs.IntersectLines.{intersect}
+use Rattle.bt_sweep.specs.Limit.{limited}
 use Rattle.bt_sweep.specs.Subtract.{subtract, subtract_shape}
 use Rattle.bt_sweep.specs.SweepMeeting.{intersect_met}
 use Rattle.bt_sweep.specs.declared.hit_rule.HitRule.{HitRule}
@@ -24,11 +29,24 @@ use Rattle.bt_tool.specs.RecordReport.{Report}
 abbrev pub met_report : Met ℕ Told → Report
 met_report met = record { output = met.lines; fault = met.fault }
 
+-- what intersect makes of the good records of two inputs, where no more of the second are held than
+-- the limit allows
+abbrev pub met_within : Order → Shape → HitRule → Option ℕ → Good Feature → Good Feature
+    → Met ℕ Told
+met_within order shape rule limit first second =
+    intersect_met order shape rule first (limited order limit (items_in first) second)
+
 -- the report of intersect on its inputs, in an order of their chromosomes
-abbrev pub intersect_report : Order → Shape → HitRule → Handed → Handed → Report
-intersect_report order shape rule first second =
-    met_report (intersect_met order shape rule (bed_good First order first)
+abbrev pub intersect_report : Order → Shape → HitRule → Option ℕ → Handed → Handed → Report
+intersect_report order shape rule limit first second =
+    met_report (met_within order shape rule limit (bed_good First order first)
     (bed_good Second order second))
+
+-- A line of the second input can be at fault as one of any BED input, or where held records are
+-- limited, as the one with which they are too many.
+abbrev pub IsSweptKind : Order → Option ℕ → Kind → Type 0
+IsSweptKind order limit kind =
+    IsBedKind order kind ⊎ ((is_some limit ≡ true) × (kind ≡ TooManyHeld))
 
 -- the good records on these lines of the first input
 abbrev pub records_on : Order → List TextLine → List Feature
@@ -40,8 +58,8 @@ intersect_settles order shape rule second lines =
     intersect shape rule (records_on order lines) (items_in (bed_good Second order second))
 
 -- the report of subtract on its inputs: what is left in pieces, or of whole records
-abbrev pub subtract_report : Order → Bool → HitRule → Handed → Handed → Report
-subtract_report order whole rule = intersect_report order (subtract_shape whole) rule
+abbrev pub subtract_report : Order → Bool → HitRule → Option ℕ → Handed → Handed → Report
+subtract_report order whole rule limit = intersect_report order (subtract_shape whole) rule limit
 
 -- what is left of the records on these lines, by all of the second input
 abbrev pub subtract_settles : Order → Bool → HitRule → Handed → List TextLine → List ℕ
@@ -61,7 +79,7 @@ bytes_up_to lines None = bytes_in lines
 bytes_up_to lines (Some member) = bytes_in (take member.line lines)
 
 -- how much of the second input the records on these lines of the first ask for: its lines up to the
--- first record that decides all of them
+-- first record that decides all of them; a limit on what is held makes it no more
 abbrev pub intersect_reaches : Order → Handed → List TextLine → ℕ
 intersect_reaches order second lines =
     bytes_up_to (text_lines second.text)

@@ -1,6 +1,6 @@
 -- The commands, and for each its options, those that it requires, and what their values name.
--- The options are those of the tool's page in the bedtools manual; that merge has `-g` is this
--- program's own rule. A later command is a row of `commands` and a table.
+-- The options are those of the tool's page in the bedtools manual; that merge has `-g`, and intersect
+-- and subtract `-held`, is this program's own rule. A later command is a row of `commands` and a table.
 use Rattle.std.specs.Prelude.{ℕ, Bool, false, true, ◌||◌, List, [], ◌∷◌, Option, Some, None}
 use Rattle.std.specs.Prelude.{bytes_eq, codes, find, is_some, length, nat_lt, option_map, IsTrue}
 use Rattle.std.specs.Prelude.{IsSome, IsNone}
@@ -125,6 +125,7 @@ intersect_table = record {
       ∷ record { option = codes "-r"; takes = Nothing }
       ∷ record { option = codes "-s"; takes = Nothing }
       ∷ record { option = codes "-sorted"; takes = Nothing }
+      ∷ record { option = codes "-held"; takes = Number }
       ∷ [];
   required = codes "-a" ∷ codes "-b" ∷ [];
   one_of = [];
@@ -147,6 +148,7 @@ subtract_table = record {
       ∷ record { option = codes "-A"; takes = Nothing }
       ∷ record { option = codes "-f"; takes = Fraction }
       ∷ record { option = codes "-s"; takes = Nothing }
+      ∷ record { option = codes "-held"; takes = Number }
       ∷ [];
   required = codes "-a" ∷ codes "-b" ∷ [];
   one_of = [];
@@ -241,8 +243,8 @@ tool_name MaskFasta = codes "maskfasta"
 abbrev pub tool_of : Command → Tool
 tool_of (MergeWith d strand) = Merge
 tool_of (ComplementWith limit) = Complement
-tool_of (IntersectWith shape rule) = Intersect
-tool_of (SubtractWith whole rule) = Subtract
+tool_of (IntersectWith shape rule held) = Intersect
+tool_of (SubtractWith whole rule held) = Subtract
 tool_of (CoverageWith zeros strand) = Coverage
 tool_of (BamToBedWith split cigar) = BamToBed
 tool_of (MaskFastaWith how full) = MaskFasta

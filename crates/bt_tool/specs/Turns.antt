@@ -15,7 +15,8 @@ use Rattle.bt_bed.specs.declared.order.ChromOrder.{Ghosts}
 use Rattle.bt_bed.specs.declared.records.Records.{Records}
 use Rattle.bt_sweep.specs.IntersectLines.{lines_for}
 use Rattle.bt_sweep.specs.Standing.{IsInOrder, Stage, StandsAt, with_a, with_a_ended, with_b_ended}
-use Rattle.bt_sweep.specs.Steps.{Fails, FailsToHold, FailsToWriteA, TakesB, WritesA, lines_with}
+use Rattle.bt_sweep.specs.Steps.{Fails, FailsToHold, FailsToWriteA, PassesLimit, TakesB, WritesA}
+use Rattle.bt_sweep.specs.Steps.{lines_with}
 use Rattle.bt_sweep.specs.SweepState.{Sweeping}
 use Rattle.bt_sweep.specs.declared.hit_rule.HitRule.{HitRule}
 use Rattle.bt_sweep.specs.declared.shape.Shape.{Shape}
@@ -47,17 +48,17 @@ module _ {S O : Type 0} {g : Ghosts O} (left : S → Option (List ℕ)) (failed 
       pub peeked : Records S O g
       pub ahead : HasAhead old item peeked
       pub passes : PassesRecord left peeked new
-      pub given : (shape : Shape) (rule : HitRule) (stage : Stage)
-          → StandsAt order shape rule stage sweep → IsInOrder order (with_a stage item)
-          → StandsAt order shape rule (with_a stage item) swept
+      pub given : (shape : Shape) (rule : HitRule) (limit : Option ℕ) (stage : Stage)
+          → StandsAt order shape rule limit stage sweep → IsInOrder order (with_a stage item)
+          → StandsAt order shape rule limit (with_a stage item) swept
           × Grown out (lines_with shape rule stage item) grown
 
     -- its end was given
     pub record EndsFirst (new : Records S O g) (swept : Sweeping) (grown : Output) : Type 0 where
       pub ended : HasEnded old new
-      pub given : (shape : Shape) (rule : HitRule) (stage : Stage)
-          → StandsAt order shape rule stage sweep
-          → StandsAt order shape rule (with_a_ended stage) swept
+      pub given : (shape : Shape) (rule : HitRule) (limit : Option ℕ) (stage : Stage)
+          → StandsAt order shape rule limit stage sweep
+          → StandsAt order shape rule limit (with_a_ended stage) swept
       pub same_output : grown ≡ out
 
     -- a record of the first input wasn't taken, or its lines weren't written
@@ -65,8 +66,8 @@ module _ {S O : Type 0} {g : Ghosts O} (left : S → Option (List ℕ)) (failed 
         (grown : Output) : Type 0 where
       pub item : Feature
       pub ahead : HasAhead old item new
-      pub fails : (shape : Shape) (rule : HitRule) (stage : Stage)
-          → StandsAt order shape rule stage sweep → IsInOrder order (with_a stage item)
+      pub fails : (shape : Shape) (rule : HitRule) (limit : Option ℕ) (stage : Stage)
+          → StandsAt order shape rule limit stage sweep → IsInOrder order (with_a stage item)
           → Fails out (lines_with shape rule stage item) fault grown
 
     -- the input couldn't give one
@@ -89,27 +90,27 @@ module _ {S O : Type 0} {g : Ghosts O} (left : S → Option (List ℕ)) (failed 
       pub peeked : Records S O g
       pub ahead : HasAhead old item peeked
       pub passes : PassesRecord left peeked new
-      pub given : (shape : Shape) (rule : HitRule) (stage : Stage) (a : Feature)
-          → StandsAt order shape rule stage sweep → stage.waiting ≡ Some a
+      pub given : (shape : Shape) (rule : HitRule) (limit : Option ℕ) (stage : Stage) (a : Feature)
+          → StandsAt order shape rule limit stage sweep → stage.waiting ≡ Some a
           → ArePlaced order (intervals_of stage.taken)
-          → TakesB order shape rule stage a item out swept grown
+          → TakesB order shape rule limit stage a item ahead.gives.line out swept grown
 
     -- it made the waiting record of the first be written, and stays ahead
     pub record LeavesSecond (new : Records S O g) (swept : Sweeping) (grown : Output) : Type 0 where
       pub item : Feature
       pub ahead : HasAhead old item new
-      pub given : (shape : Shape) (rule : HitRule) (stage : Stage) (a : Feature)
-          → StandsAt order shape rule stage sweep → stage.waiting ≡ Some a
+      pub given : (shape : Shape) (rule : HitRule) (limit : Option ℕ) (stage : Stage) (a : Feature)
+          → StandsAt order shape rule limit stage sweep → stage.waiting ≡ Some a
           → ArePlaced order (intervals_of stage.taken)
-          → WritesA order shape rule stage a item out swept grown
+          → WritesA order shape rule limit stage a item ahead.gives.line out swept grown
 
     -- the end of the second input was given
     pub record EndsSecond (new : Records S O g) (swept : Sweeping) (grown : Output) : Type 0 where
       pub ended : HasEnded old new
-      pub given : (shape : Shape) (rule : HitRule) (stage : Stage) (a : Feature)
-          → StandsAt order shape rule stage sweep → stage.waiting ≡ Some a
+      pub given : (shape : Shape) (rule : HitRule) (limit : Option ℕ) (stage : Stage) (a : Feature)
+          → StandsAt order shape rule limit stage sweep → stage.waiting ≡ Some a
           → ArePlaced order (intervals_of stage.taken)
-          → StandsAt order shape rule (with_b_ended stage) swept
+          → StandsAt order shape rule limit (with_b_ended stage) swept
           × Grown out (lines_for shape rule a stage.taken) grown
 
     -- a record of the second input wasn't taken, or the lines of the waiting one weren't written
@@ -117,18 +118,19 @@ module _ {S O : Type 0} {g : Ghosts O} (left : S → Option (List ℕ)) (failed 
         (grown : Output) : Type 0 where
       pub item : Feature
       pub ahead : HasAhead old item new
-      pub fails : (shape : Shape) (rule : HitRule) (stage : Stage) (a : Feature)
-          → StandsAt order shape rule stage sweep → stage.waiting ≡ Some a
+      pub fails : (shape : Shape) (rule : HitRule) (limit : Option ℕ) (stage : Stage) (a : Feature)
+          → StandsAt order shape rule limit stage sweep → stage.waiting ≡ Some a
           → ArePlaced order (intervals_of stage.taken)
-          → FailsToWriteA order shape rule stage a item out fault grown
-          ⊎ FailsToHold order shape rule stage a item out fault grown
+          → FailsToWriteA order shape rule limit stage a item ahead.gives.line out fault grown
+          ⊎ (PassesLimit order shape rule limit stage a item ahead.gives.line out fault grown
+          ⊎ FailsToHold order shape rule limit stage a item ahead.gives.line out fault grown)
 
     -- at its end the lines of the waiting record weren't written
     pub record FailsAtEnd (fault : Told) (new : Records S O g) (swept : Sweeping)
         (grown : Output) : Type 0 where
       pub ended : HasEnded old new
-      pub fails : (shape : Shape) (rule : HitRule) (stage : Stage) (a : Feature)
-          → StandsAt order shape rule stage sweep → stage.waiting ≡ Some a
+      pub fails : (shape : Shape) (rule : HitRule) (limit : Option ℕ) (stage : Stage) (a : Feature)
+          → StandsAt order shape rule limit stage sweep → stage.waiting ≡ Some a
           → ArePlaced order (intervals_of stage.taken)
           → FailsToAdd out (lines_for shape rule a stage.taken) fault grown
 

@@ -1,4 +1,4 @@
-use crate::tests::{Answer, Script, failed_line, failing, failing_by, line_of, run_words, whole};
+use crate::tests::{Answer, Script, expect, run_words, whole};
 use std::alloc::Global;
 use std::process::Abort;
 use std::test::Fail;
@@ -184,18 +184,12 @@ fn check(rt: &impl Abort, alloc: Global, case: &Case, step: usize) -> Result<(),
     let first = text(alloc, case.first)?;
     let output = text(alloc, case.output)?;
     let answer = bamtobed(alloc, case.options, (first.as_slice(), script), script)?;
-    assert_eq!(rt;
-        answer.output.as_slice(),
+    expect(
+        rt,
+        &answer,
         output.as_slice(),
-        "{}",
-        case.name
-    );
-    assert_eq!(rt; line_of(&answer), case.line.as_bytes(), "{}", case.name);
-    assert_eq!(rt;
-        answer.status,
-        u8::from(!case.line.is_empty()),
-        "{}",
-        case.name
+        case.line.as_bytes(),
+        case.name,
     );
     Ok(())
 }
@@ -210,29 +204,31 @@ fn worked_cases(rt: HostRuntime) -> Result<(), Fail> {
     Ok(())
 }
 
-fn check_edge(rt: &impl Abort, alloc: Global, edge: Edge) -> Result<(), Fail> {
-    let (columns, options, output, told) = edge;
+fn check_edge(rt: &impl Abort, alloc: Global, edge: &Edge) -> Result<(), Fail> {
+    let (columns, options, output, told) = *edge;
     let row = format!(in alloc; "r {columns} * 0 0 * *")?;
     let first = text(alloc, row.as_str())?;
     let output = text(alloc, output)?;
     let answer = bamtobed(alloc, options, (first.as_slice(), whole(7)), whole(7))?;
-    assert_eq!(rt; answer.output.as_slice(), output.as_slice(), "{columns}");
-    assert_eq!(rt; answer.status, u8::from(!told.is_empty()), "{columns}");
     if told.is_empty() {
-        assert_eq!(rt; line_of(&answer), b"".as_slice(), "{columns}");
+        expect(rt, &answer, output.as_slice(), b"", columns);
         return Ok(());
     }
     let line = format!(in alloc; "bedtools bamtobed: a.sam:1: {told}\n")?;
-    assert_eq!(rt; line_of(&answer), line.as_bytes(), "{columns}");
+    expect(rt, &answer, output.as_slice(), line.as_bytes(), columns);
+    Ok(())
+}
+
+fn check_edges(rt: &impl Abort, alloc: Global, edges: &[Edge]) -> Result<(), Fail> {
+    for edge in edges {
+        check_edge(rt, alloc, edge)?;
+    }
     Ok(())
 }
 
 #[test]
 fn single_lines(rt: HostRuntime) -> Result<(), Fail> {
-    for edge in EDGES {
-        check_edge(&rt, rt.alloc(), edge)?;
-    }
-    Ok(())
+    check_edges(&rt, rt.alloc(), &EDGES)
 }
 
 // Inputs with the line ends as they stand: a name, the input, and its BED lines.
@@ -271,20 +267,18 @@ const LINE_ENDS: [Ends; 6] = [
     ),
 ];
 
-fn check_ends(rt: &impl Abort, alloc: Global, ends: Ends, step: usize) -> Result<(), Fail> {
-    let (name, first, output) = ends;
+fn check_ends(rt: &impl Abort, alloc: Global, ends: &Ends, step: usize) -> Result<(), Fail> {
+    let (name, first, output) = *ends;
     let script = whole(step.max(1));
     let answer = bamtobed(alloc, &[], (first, script), script)?;
-    assert_eq!(rt; answer.output.as_slice(), output, "{name}");
-    assert_eq!(rt; line_of(&answer), b"".as_slice(), "{name}");
-    assert_eq!(rt; answer.status, 0, "{name}");
+    expect(rt, &answer, output, b"", name);
     Ok(())
 }
 
 #[test]
 fn line_ends_and_order(rt: HostRuntime) -> Result<(), Fail> {
     for step in [1, 7, 8192] {
-        for ends in LINE_ENDS {
+        for ends in &LINE_ENDS {
             check_ends(&rt, rt.alloc(), ends, step)?;
         }
     }
@@ -298,61 +292,7 @@ fn a_missing_name(rt: HostRuntime) -> Result<(), Fail> {
     let first = text(alloc, "@CO x ; r001 99 ref 7 30 *")?;
     let inputs = ((b"".as_slice(), whole(1)), (first.as_slice(), whole(7)));
     let answer = run_words(alloc, &["bamtobed"], inputs.0, inputs.1, whole(7))?;
-    assert_eq!(rt; answer.output.len(), 0);
-    assert_eq!(rt;
-        line_of(&answer),
-        b"bedtools bamtobed: stdin:2: too few columns\n".as_slice()
-    );
-    assert_eq!(rt; answer.status, 1);
-    Ok(())
-}
-
-// Two lines, and what they give.
-const TWO: &[u8] = b"a\t0\ts\t1\t9\t5M2N5M\t*\t0\t0\t*\t*\nb\t16\ts\t4\t8\t3M\t*\t0\t0\t*\t*\n";
-
-const FIRST: &[u8] = b"s\t0\t5\ta\t9\t+\ns\t7\t12\ta\t9\t+\n";
-
-const BOTH: &[u8] = b"s\t0\t5\ta\t9\t+\ns\t7\t12\ta\t9\t+\ns\t3\t6\tb\t8\t-\n";
-
-// Whatever byte of the input fails to come: the lines of the whole lines before it, and the failed read
-// at the line after them.
-#[test]
-fn an_input_that_fails_at_each_byte(rt: HostRuntime) -> Result<(), Fail> {
-    for step in [1, 7] {
-        for good in 0..=TWO.len() {
-            let first = (TWO, failing_by(step, good));
-            let answer = bamtobed(rt.alloc(), &["-split"], first, whole(step))?;
-            let (output, line): (&[u8], &[u8]) = match failed_line(TWO, good) {
-                1 => (b"", b"bedtools bamtobed: a.sam:1: reading failed\n"),
-                2 => (FIRST, b"bedtools bamtobed: a.sam:2: reading failed\n"),
-                _ => (BOTH, b"bedtools bamtobed: a.sam:3: reading failed\n"),
-            };
-            assert_eq!(rt; answer.output.as_slice(), output);
-            assert_eq!(rt; line_of(&answer), line);
-            assert_eq!(rt; answer.status, 1);
-        }
-    }
-    Ok(())
-}
-
-#[test]
-fn an_output_that_fails_at_each_byte(rt: HostRuntime) -> Result<(), Fail> {
-    for good in 0..BOTH.len() {
-        let answer = bamtobed(rt.alloc(), &["-split"], (TWO, whole(7)), failing(good))?;
-        assert_eq!(rt; answer.output.as_slice(), &BOTH[..good]);
-        assert_eq!(rt;
-            line_of(&answer),
-            b"bedtools bamtobed: writing failed\n".as_slice()
-        );
-        assert_eq!(rt; answer.status, 1);
-    }
-    let answer = bamtobed(
-        rt.alloc(),
-        &["-split"],
-        (TWO, whole(7)),
-        failing(BOTH.len()),
-    )?;
-    assert_eq!(rt; answer.output.as_slice(), BOTH);
-    assert_eq!(rt; answer.status, 0);
+    let line = b"bedtools bamtobed: stdin:2: too few columns\n";
+    expect(&rt, &answer, b"", line, "standard input");
     Ok(())
 }

@@ -1,4 +1,4 @@
-use crate::tests::{GENOME, failed_line, failing, failing_by, line_of, run_words, whole};
+use crate::tests::{GENOME, expect, run_words, whole};
 use std::alloc::Global;
 use std::process::Abort;
 use std::test::Fail;
@@ -216,79 +216,30 @@ const COMPLEMENT: [Row; 15] = [
     ),
 ];
 
-fn check(rt: &impl Abort, alloc: Global, row: Row, step: usize) -> Result<(), Fail> {
-    let (words, first, output, line) = row;
+fn check(rt: &impl Abort, alloc: Global, row: &Row, step: usize) -> Result<(), Fail> {
+    let (words, first, output, line) = *row;
     let script = whole(step.max(1));
     let answer = run_words(alloc, words, (GENOME, script), (first, script), script)?;
-    assert_eq!(rt; answer.output.as_slice(), output, "{words:?}");
-    assert_eq!(rt; line_of(&answer), line, "{words:?}");
-    assert_eq!(rt; answer.status, u8::from(!line.is_empty()), "{words:?}");
+    let name = format!(in alloc; "{words:?}")?;
+    expect(rt, &answer, output, line, name.as_str());
+    Ok(())
+}
+
+fn check_all(rt: &impl Abort, alloc: Global, rows: &[Row]) -> Result<(), Fail> {
+    for row in rows {
+        for step in [1, 7, 8192] {
+            check(rt, alloc, row, step)?;
+        }
+    }
     Ok(())
 }
 
 #[test]
 fn merge_with_its_options(rt: HostRuntime) -> Result<(), Fail> {
-    for row in MERGE {
-        for step in [1, 7, 8192] {
-            check(&rt, rt.alloc(), row, step)?;
-        }
-    }
-    Ok(())
+    check_all(&rt, rt.alloc(), &MERGE)
 }
 
 #[test]
 fn complement_with_its_options(rt: HostRuntime) -> Result<(), Fail> {
-    for row in COMPLEMENT {
-        for step in [1, 7, 8192] {
-            check(&rt, rt.alloc(), row, step)?;
-        }
-    }
-    Ok(())
-}
-
-#[test]
-fn complement_on_an_output_that_fails_at_each_byte(rt: HostRuntime) -> Result<(), Fail> {
-    let words = ["complement", "-g", "g.txt"];
-    let output = b"chr1\t10\t900\nchr2\t0\t50\n";
-    for good in 0..output.len() {
-        let answer = run_words(
-            rt.alloc(),
-            &words,
-            (GENOME, whole(7)),
-            (ENDS, whole(7)),
-            failing(good),
-        )?;
-        assert_eq!(rt; answer.output.as_slice(), &output[..good]);
-        assert_eq!(rt;
-            line_of(&answer),
-            b"bedtools complement: writing failed\n".as_slice()
-        );
-    }
-    Ok(())
-}
-
-#[test]
-fn complement_of_an_input_that_fails_at_each_byte(rt: HostRuntime) -> Result<(), Fail> {
-    let words = ["complement", "-g", "g.txt"];
-    for step in [1, 7] {
-        for good in 0..=ENDS.len() {
-            let line = failed_line(ENDS, good);
-            // The second record settles the gap before it.
-            let settled: &[u8] = if line == 3 { b"chr1\t10\t900\n" } else { b"" };
-            let answer = run_words(
-                rt.alloc(),
-                &words,
-                (GENOME, whole(step)),
-                (ENDS, failing_by(step, good)),
-                whole(step),
-            )?;
-            let told = format!(in rt.alloc();
-                "bedtools complement: stdin:{}: reading failed\n",
-                line
-            )?;
-            assert_eq!(rt; answer.output.as_slice(), settled);
-            assert_eq!(rt; line_of(&answer), told.as_bytes());
-        }
-    }
-    Ok(())
+    check_all(&rt, rt.alloc(), &COMPLEMENT)
 }

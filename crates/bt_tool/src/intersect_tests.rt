@@ -1,6 +1,4 @@
-use crate::tests::{
-    Answer, GENOME, Script, failed_line, failing, failing_by, line_of, run_both, whole,
-};
+use crate::tests::{Answer, GENOME, Script, expect, run_both, whole};
 use std::alloc::Global;
 use std::process::Abort;
 use std::test::Fail;
@@ -438,8 +436,8 @@ const RULES: [Case; 23] = [
     },
 ];
 
-/// Runs a command of two inputs with these options.
-pub(crate) fn run_on(
+// Runs a command of two inputs with these options.
+fn run_on(
     alloc: Global,
     command: &'static str,
     options: &[&'static str],
@@ -471,25 +469,8 @@ pub(crate) fn check(
     let first = (case.first, script);
     let second = (case.second, script);
     let answer = run_on(alloc, command, case.options, first, second, script)?;
-    assert_eq!(rt; answer.output.as_slice(), case.output, "{}", case.name);
-    assert_eq!(rt; line_of(&answer), case.line, "{}", case.name);
-    assert_eq!(rt;
-        answer.status,
-        u8::from(!case.line.is_empty()),
-        "{}",
-        case.name
-    );
+    expect(rt, &answer, case.output, case.line, case.name);
     Ok(())
-}
-
-// Runs intersect without options.
-fn intersect(
-    alloc: Global,
-    first: (&[u8], Script),
-    second: (&[u8], Script),
-    out: Script,
-) -> Result<Answer, Fail> {
-    run_on(alloc, "intersect", &[], first, second, out)
 }
 
 #[test]
@@ -508,94 +489,6 @@ fn worked_rules(rt: HostRuntime) -> Result<(), Fail> {
         for case in &RULES {
             check(&rt, rt.alloc(), "intersect", case, step)?;
         }
-    }
-    Ok(())
-}
-
-// Two inputs that fail, the second behind what decides the first record.
-const FIRST: &[u8] = b"chr1\t0\t10\nchr1\t100\t110\n";
-
-const SECOND: &[u8] = b"chr1\t2\t4\nchr1\t50\t60\nchr1\tx\t9\n";
-
-const SHARED: &[u8] = b"chr1\t2\t4\n";
-
-// Whatever byte of the first input fails to come: the lines of its whole lines that are decided. The
-// second record asks for the faulty line of the second input.
-#[test]
-fn a_first_input_that_fails_at_each_byte(rt: HostRuntime) -> Result<(), Fail> {
-    for step in [1, 7] {
-        for good in 0..=FIRST.len() {
-            let first = (FIRST, failing_by(step, good));
-            let answer = intersect(rt.alloc(), first, (SECOND, whole(step)), whole(step))?;
-            let (output, line): (&[u8], &[u8]) = match failed_line(FIRST, good) {
-                1 => (b"", b"bedtools intersect: a.bed:1: reading failed\n"),
-                2 => (SHARED, b"bedtools intersect: a.bed:2: reading failed\n"),
-                _ => (
-                    SHARED,
-                    b"bedtools intersect: b.bed:3: start is not a number\n",
-                ),
-            };
-            assert_eq!(rt; answer.output.as_slice(), output);
-            assert_eq!(rt; line_of(&answer), line);
-        }
-    }
-    Ok(())
-}
-
-// Whatever byte of the second fails to come: a record is written once a whole line decides it.
-#[test]
-fn a_second_input_that_fails_at_each_byte(rt: HostRuntime) -> Result<(), Fail> {
-    for step in [1, 7] {
-        for good in 0..=SECOND.len() {
-            let second = (SECOND, failing_by(step, good));
-            let answer = intersect(rt.alloc(), (FIRST, whole(step)), second, whole(step))?;
-            let (output, line): (&[u8], &[u8]) = match failed_line(SECOND, good) {
-                1 => (b"", b"bedtools intersect: b.bed:1: reading failed\n"),
-                2 => (b"", b"bedtools intersect: b.bed:2: reading failed\n"),
-                3 => (SHARED, b"bedtools intersect: b.bed:3: reading failed\n"),
-                _ => (
-                    SHARED,
-                    b"bedtools intersect: b.bed:3: start is not a number\n",
-                ),
-            };
-            assert_eq!(rt; answer.output.as_slice(), output);
-            assert_eq!(rt; line_of(&answer), line);
-        }
-    }
-    Ok(())
-}
-
-// A fault of the first input is reported before one of the second that no record asks for.
-#[test]
-fn a_second_input_that_fails_beside_a_faulty_first(rt: HostRuntime) -> Result<(), Fail> {
-    let first = b"chr1\t0\t10\nchr1\tx\t5\n";
-    for good in 0..=SECOND.len() {
-        let second = (SECOND, failing(good));
-        let answer = intersect(rt.alloc(), (first, whole(7)), second, whole(7))?;
-        let (output, line): (&[u8], &[u8]) = match failed_line(SECOND, good) {
-            1 => (b"", b"bedtools intersect: b.bed:1: reading failed\n"),
-            2 => (b"", b"bedtools intersect: b.bed:2: reading failed\n"),
-            _ => (
-                SHARED,
-                b"bedtools intersect: a.bed:2: start is not a number\n",
-            ),
-        };
-        assert_eq!(rt; answer.output.as_slice(), output);
-        assert_eq!(rt; line_of(&answer), line);
-    }
-    Ok(())
-}
-
-#[test]
-fn an_output_that_fails_at_each_byte(rt: HostRuntime) -> Result<(), Fail> {
-    for good in 0..SHARED.len() {
-        let inputs = ((FIRST, whole(7)), (SECOND, whole(7)));
-        let answer = intersect(rt.alloc(), inputs.0, inputs.1, failing(good))?;
-        assert_eq!(rt; answer.output.as_slice(), &SHARED[..good]);
-        assert_eq!(rt;
-            line_of(&answer),
-            b"bedtools intersect: writing failed\n".as_slice()
-        );
     }
     Ok(())
 }

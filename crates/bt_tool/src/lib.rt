@@ -58,9 +58,15 @@ mod command_tests;
 #[cfg(test)]
 mod example;
 #[cfg(test)]
+mod failing_tests;
+#[cfg(test)]
 mod fault_tests;
 #[cfg(test)]
 mod genomecov_tests;
+#[cfg(test)]
+mod held_tests;
+#[cfg(test)]
+mod hostile_tests;
 #[cfg(test)]
 mod intersect_tests;
 #[cfg(test)]

@@ -1,5 +1,5 @@
 use crate::intersect_tests::Case;
-use crate::tests::{Answer, Script, failed_line, failing, failing_by, line_of, run_both, whole};
+use crate::tests::{Answer, Script, expect, run_both, whole};
 use std::alloc::Global;
 use std::process::Abort;
 use std::test::Fail;
@@ -518,14 +518,7 @@ fn check(rt: &impl Abort, alloc: Global, case: &Case, step: usize) -> Result<(),
     let first = (case.first, script);
     let second = (case.second, script);
     let answer = maskfasta(alloc, case.options, first, second, script)?;
-    assert_eq!(rt; answer.output.as_slice(), case.output, "{}", case.name);
-    assert_eq!(rt; line_of(&answer), case.line, "{}", case.name);
-    assert_eq!(rt;
-        answer.status,
-        u8::from(!case.line.is_empty()),
-        "{}",
-        case.name
-    );
+    expect(rt, &answer, case.output, case.line, case.name);
     Ok(())
 }
 
@@ -566,148 +559,4 @@ fn records_further_ahead(rt: HostRuntime) -> Result<(), Fail> {
 #[test]
 fn lines_stay_as_they_are(rt: HostRuntime) -> Result<(), Fail> {
     check_all(&rt, rt.alloc(), &LINES)
-}
-
-// One sequence whose last line has no line feed.
-const ONE: &[u8] = b">s d\nACGTAC\nGTAC";
-
-const ONE_RECORD: &[u8] = b"s\t4\t8\n";
-
-const ONE_MASKED: &[u8] = b">s d\nACGTNN\nNNAC";
-
-// Three sequences, and what becomes of their lines.
-const THREE: &[u8] = b">s\nAAAA\n>t\nCCCC\n>s\nGGGG\n";
-
-const THREE_RECORDS: &[u8] = b"s\t0\t1\nt\t0\t1\ns\t0\t1\n";
-
-const THREE_MASKED: &[u8] = b">s\nNAAA\n>t\nNCCC\n>s\nNGGG\n";
-
-// Whatever byte of the lines fails to come: the whole lines are written, and the failed read is told
-// behind them.
-#[test]
-fn lines_that_fail_at_each_byte(rt: HostRuntime) -> Result<(), Fail> {
-    for step in [1, 7] {
-        for good in 0..=ONE.len() {
-            let first = (ONE, failing_by(step, good));
-            let second = (ONE_RECORD, whole(step));
-            let answer = maskfasta(rt.alloc(), &[], first, second, whole(step))?;
-            let (output, line): (&[u8], &[u8]) = match failed_line(ONE, good) {
-                1 => (b"", b"bedtools maskfasta: a.fa:1: reading failed\n"),
-                2 => (b">s d\n", b"bedtools maskfasta: a.fa:2: reading failed\n"),
-                _ => (
-                    b">s d\nACGTNN\n",
-                    b"bedtools maskfasta: a.fa:3: reading failed\n",
-                ),
-            };
-            assert_eq!(rt; answer.output.as_slice(), output);
-            assert_eq!(rt; line_of(&answer), line);
-        }
-    }
-    Ok(())
-}
-
-#[test]
-fn sequences_that_fail_at_each_byte(rt: HostRuntime) -> Result<(), Fail> {
-    for step in [1, 7] {
-        for good in 0..=THREE.len() {
-            let first = (THREE, failing_by(step, good));
-            let second = (THREE_RECORDS, whole(step));
-            let answer = maskfasta(rt.alloc(), &[], first, second, whole(step))?;
-            let line = failed_line(THREE, good);
-            let output: &[u8] = match line {
-                1 => b"",
-                2 => b">s\n",
-                3 => b">s\nNAAA\n",
-                4 => b">s\nNAAA\n>t\n",
-                5 => b">s\nNAAA\n>t\nNCCC\n",
-                6 => b">s\nNAAA\n>t\nNCCC\n>s\n",
-                _ => THREE_MASKED,
-            };
-            let told = format!(in rt.alloc(); "bedtools maskfasta: a.fa:{line}: reading failed\n")?;
-            assert_eq!(rt; answer.output.as_slice(), output);
-            assert_eq!(rt; line_of(&answer), told.as_bytes());
-        }
-    }
-    Ok(())
-}
-
-// Whatever byte of the records fails to come: a line is written once a whole record decides it.
-#[test]
-fn a_record_that_fails_at_each_byte(rt: HostRuntime) -> Result<(), Fail> {
-    for step in [1, 7] {
-        for good in 0..=ONE_RECORD.len() {
-            let first = (ONE, whole(step));
-            let second = (ONE_RECORD, failing_by(step, good));
-            let answer = maskfasta(rt.alloc(), &[], first, second, whole(step))?;
-            let (output, line): (&[u8], &[u8]) = match failed_line(ONE_RECORD, good) {
-                1 => (b"", b"bedtools maskfasta: b.bed:1: reading failed\n"),
-                _ => (b">s d\n", b"bedtools maskfasta: b.bed:2: reading failed\n"),
-            };
-            assert_eq!(rt; answer.output.as_slice(), output);
-            assert_eq!(rt; line_of(&answer), line);
-        }
-    }
-    Ok(())
-}
-
-#[test]
-fn records_that_fail_at_each_byte(rt: HostRuntime) -> Result<(), Fail> {
-    for step in [1, 7] {
-        for good in 0..=THREE_RECORDS.len() {
-            let first = (THREE, whole(step));
-            let second = (THREE_RECORDS, failing_by(step, good));
-            let answer = maskfasta(rt.alloc(), &[], first, second, whole(step))?;
-            let line = failed_line(THREE_RECORDS, good);
-            let output: &[u8] = match line {
-                1 => b"",
-                2 => b">s\n",
-                3 => b">s\nNAAA\n>t\n",
-                _ => b">s\nNAAA\n>t\nNCCC\n>s\n",
-            };
-            let told = format!(in rt.alloc();
-                "bedtools maskfasta: b.bed:{line}: reading failed\n"
-            )?;
-            assert_eq!(rt; answer.output.as_slice(), output);
-            assert_eq!(rt; line_of(&answer), told.as_bytes());
-        }
-    }
-    Ok(())
-}
-
-// A sink that takes so many bytes takes the first of the output.
-fn check_output(
-    rt: &impl Abort,
-    alloc: Global,
-    first: &'static [u8],
-    second: &'static [u8],
-    output: &'static [u8],
-) -> Result<(), Fail> {
-    for good in 0..output.len() {
-        let inputs = ((first, whole(7)), (second, whole(7)));
-        let answer = maskfasta(alloc, &[], inputs.0, inputs.1, failing(good))?;
-        assert_eq!(rt; answer.output.as_slice(), &output[..good]);
-        assert_eq!(rt;
-            line_of(&answer),
-            b"bedtools maskfasta: writing failed\n".as_slice()
-        );
-    }
-    let inputs = ((first, whole(7)), (second, whole(7)));
-    let answer = maskfasta(alloc, &[], inputs.0, inputs.1, failing(output.len()))?;
-    assert_eq!(rt; answer.output.as_slice(), output);
-    assert_eq!(rt; answer.status, 0);
-    Ok(())
-}
-
-#[test]
-fn an_output_that_fails_at_each_byte(rt: HostRuntime) -> Result<(), Fail> {
-    check_output(&rt, rt.alloc(), ONE, ONE_RECORD, ONE_MASKED)?;
-    check_output(&rt, rt.alloc(), THREE, THREE_RECORDS, THREE_MASKED)
-}
-
-// Lines of which the third is masked; the record decides those before it.
-const LATER: &[u8] = b">s\nAC\nGT\nAC\n";
-
-#[test]
-fn an_output_that_fails_before_a_record_ahead(rt: HostRuntime) -> Result<(), Fail> {
-    check_output(&rt, rt.alloc(), LATER, b"s\t5\t6\n", b">s\nAC\nGT\nAN\n")
 }

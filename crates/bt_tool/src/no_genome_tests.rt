@@ -1,5 +1,6 @@
-use crate::tests::{Answer, Script, failing, line_of, run_both, whole};
+use crate::tests::{expect, failing, run_both, whole};
 use std::alloc::Global;
+use std::process::Abort;
 use std::test::Fail;
 
 // A run without a genome file over inputs named `a.bed` and `b.bed`, and what it gives.
@@ -234,48 +235,26 @@ const CASES: [Case; 26] = [
     },
 ];
 
-// Runs words that name no genome file.
-fn run_without(
-    alloc: Global,
-    words: &[&str],
-    first: &[u8],
-    second: &[u8],
-    script: Script,
-    out: Script,
-) -> Result<Answer, Fail> {
-    run_both(
+// The genome file that the test has at hand isn't named, and would fail.
+fn check(rt: &impl Abort, alloc: Global, case: &Case, step: usize) -> Result<(), Fail> {
+    let script = whole(step.max(1));
+    let answer = run_both(
         alloc,
-        words,
+        case.words,
         (b"chr2\t1\nchr10\t1\n", failing(0)),
-        (first, script),
-        (second, script),
-        out,
-    )
+        (case.first, script),
+        (case.second, script),
+        script,
+    )?;
+    expect(rt, &answer, case.output, case.line, case.name);
+    Ok(())
 }
 
-// Each case, over sources and a sink of these steps. The genome file that the test has at hand isn't named, and
-// would fail.
 #[test]
 fn worked_cases(rt: HostRuntime) -> Result<(), Fail> {
     for step in [1, 7, 8192] {
         for case in &CASES {
-            let script = whole(step);
-            let answer = run_without(
-                rt.alloc(),
-                case.words,
-                case.first,
-                case.second,
-                script,
-                script,
-            )?;
-            assert_eq!(rt; answer.output.as_slice(), case.output, "{}", case.name);
-            assert_eq!(rt; line_of(&answer), case.line, "{}", case.name);
-            assert_eq!(rt;
-                answer.status,
-                u8::from(!case.line.is_empty()),
-                "{}",
-                case.name
-            );
+            check(&rt, rt.alloc(), case, step)?;
         }
     }
     Ok(())
@@ -293,26 +272,7 @@ fn a_genome_file_decides_where_it_is_named(rt: HostRuntime) -> Result<(), Fail> 
         (b"chr10\t0\t9\nchr2\t2\t9\n", whole(7)),
         whole(7),
     )?;
-    assert_eq!(rt; answer.output.len(), 0);
-    assert_eq!(rt;
-        line_of(&answer),
-        b"bedtools intersect: b.bed:2: record is out of order\n".as_slice()
-    );
-    Ok(())
-}
-
-// Whatever byte of the output fails to be written, those before it are.
-#[test]
-fn an_output_that_fails_at_each_byte(rt: HostRuntime) -> Result<(), Fail> {
-    let output = b"chr1\t100\t500\nchr1\t501\t1000\n";
-    for good in 0..output.len() {
-        let answer = run_without(rt.alloc(), MERGE, TOUCHING, b"", whole(7), failing(good))?;
-        assert_eq!(rt; answer.output.as_slice(), &output[..good]);
-        assert_eq!(rt;
-            line_of(&answer),
-            b"bedtools merge: writing failed\n".as_slice()
-        );
-        assert_eq!(rt; answer.status, 1);
-    }
+    let line = b"bedtools intersect: b.bed:2: record is out of order\n";
+    expect(&rt, &answer, b"", line, "chr10 behind chr2");
     Ok(())
 }

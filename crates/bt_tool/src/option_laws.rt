@@ -87,7 +87,7 @@ pub fn worked_cases()
     ensures fraction_of_both_on_one_strand { options (codes "intersect" ∷ codes "-a" ∷ codes "x" ∷ codes "-b"
         ∷ codes "y" ∷ codes "-g" ∷ codes "g" ∷ codes "-f" ∷ codes ".5" ∷ codes "-r" ∷ codes "-s" ∷ [])
         ≡ Ok (record {
-          command = Command.Intersect Shape.Cut (record { billionths = 500000000; both = true; same_strand = true });
+          command = Command.Intersect Shape.Cut (record { billionths = 500000000; both = true; same_strand = true }) None;
           genome = Some (codes "g");
           first = codes "x";
           second = Some (codes "y");
@@ -96,7 +96,7 @@ pub fn worked_cases()
     ensures whole_records_by_a_fraction { options (codes "subtract" ∷ codes "-A" ∷ codes "-a" ∷ codes "x" ∷ codes "-b"
         ∷ codes "y" ∷ codes "-g" ∷ codes "g" ∷ codes "-f" ∷ codes "1" ∷ [])
         ≡ Ok (record {
-          command = Command.Subtract true (record { billionths = 1000000000; both = false; same_strand = false });
+          command = Command.Subtract true (record { billionths = 1000000000; both = false; same_strand = false }) None;
           genome = Some (codes "g");
           first = codes "x";
           second = Some (codes "y");

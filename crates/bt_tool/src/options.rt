@@ -2,10 +2,10 @@
 
 ghost use Rattle.std.specs.Prelude.{◌≡◌, ◌≤◌, Ok, Err, Some, None, string_bytes, IsTrue, MatchResult, IfOk, IfErr, length, option_map};
 ghost use Rattle.bt_tool.specs.Character.{is_printable};
-ghost use Rattle.bt_tool.specs.Limits.{is_shown_as, is_within_limits};
+ghost use Rattle.bt_tool.specs.Limits.{is_limit, is_shown_as, is_within_limits};
 ghost use Rattle.bt_tool.specs.Fraction.{one_in_billionths};
 ghost use Rattle.bt_tool.specs.Given.{items_in};
-ghost use Rattle.bt_tool.specs.Options.{billionths_by, command_by, command_of, counted_strand_by, fault_together, hit_shape, mask_by, mask_how_by, number_by, options, plan_of, rule_by, shape_by, strand_by};
+ghost use Rattle.bt_tool.specs.Options.{billionths_by, command_by, command_of, counted_strand_by, fault_together, hit_shape, limit_by, mask_by, mask_how_by, number_by, options, plan_of, rule_by, shape_by, strand_by};
 ghost use Rattle.bt_tool.specs.Plan.{plan_seen, words_seen};
 ghost use Rattle.bt_tool.specs.Refusal.{CanBeTold, IsRefusalOf};
 ghost use Rattle.bt_tool.specs.Report.{ReportsPlan, ReportsRefusal};
@@ -56,10 +56,12 @@ fn command(tool: Tool, given: Given<'_>) -> Command
         Tool::Intersect => Command::Intersect {
             shape: shape_of(given),
             rule: rule_of(given, given.has("-r")),
+            held: limit_of(given.value_of("-held")),
         },
         Tool::Subtract => Command::Subtract {
             whole: given.has("-A"),
             rule: rule_of(given, false),
+            held: limit_of(given.value_of("-held")),
         },
         Tool::Coverage => Command::Coverage {
             zeros: given.has("-bga"),
@@ -84,6 +86,17 @@ fn number_of(value: Option<&str>) -> u64
     match value {
         Some(value) => number(value.as_bytes()).unwrap_or(0),
         None => 0,
+    }
+}
+
+// How many records may be held, by a value; without one that isn't limited.
+fn limit_of(value: Option<&str>) -> Option<u64>
+    ensures value { result ≡ limit_by (option_map (λ value. value.now) value.entry) }
+    ensures limit { IsTrue (is_limit result) }
+{
+    match value {
+        Some(value) => number(value.as_bytes()),
+        None => None,
     }
 }
 

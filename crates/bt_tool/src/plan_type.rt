@@ -14,25 +14,48 @@ use bt_sweep::{HitRule, Shape};
 #[derive(Clone, Copy, Debug, PartialEq, Eq)]
 pub enum Command {
     /// Features that overlap or touch are merged, and those up to `d` bases apart.
-    Merge { d: u64, strand: MergeStrand },
+    Merge {
+        d: u64,
+        strand: MergeStrand,
+    },
     /// The parts of each chromosome that no feature covers; with `limit` only of those chromosomes that
     /// have records.
-    Complement { limit: bool },
+    Complement {
+        limit: bool,
+    },
     /// What the records of the second input make of those of the first, in this shape and by this rule
-    /// of what hits a record.
-    Intersect { shape: Shape, rule: HitRule },
+    /// of what hits a record. With `held` no more records of the second input are held than so many.
+    Intersect {
+        shape: Shape,
+        rule: HitRule,
+        held: Option<u64>,
+    },
     /// What is left of the records of the first input by those of the second that hit them: pieces, or
-    /// with `whole` the records that none hits.
-    Subtract { whole: bool, rule: HitRule },
+    /// with `whole` the records that none hits. With `held` no more records of the second input are held
+    /// than so many.
+    Subtract {
+        whole: bool,
+        rule: HitRule,
+        held: Option<u64>,
+    },
     /// The intervals of equal depth, with their depths: those above 0, and with `zeros` also those of
     /// depth 0. With a strand the records of that strand alone are counted.
-    Coverage { zeros: bool, strand: Option<Strand> },
+    Coverage {
+        zeros: bool,
+        strand: Option<Strand>,
+    },
     /// The alignments of SAM text as BED lines: with `split` a line for each block, and with `cigar` the
     /// CIGAR as a seventh column.
-    BamToBed { split: bool, cigar: bool },
+    BamToBed {
+        split: bool,
+        cigar: bool,
+    },
     /// The lines of a FASTA text with the bases masked that records cover; with `full` a sequence's name is
     /// its whole header.
-    MaskFasta { how: MaskHow, full: bool },
+    MaskFasta {
+        how: MaskHow,
+        full: bool,
+    },
 }
 
 impl Command {

@@ -165,12 +165,12 @@ fn write_records<A: Source, B: Source, K: Sink>(
             let (fault, first) = cover(alloc, genome, zeros, strand, first, out);
             (fault, first, second)
         }
-        Command::Intersect { shape, rule } => {
-            sweep_both(alloc, genome, shape, rule, first, second, out)
+        Command::Intersect { shape, rule, held } => {
+            sweep_both(alloc, genome, shape, rule, held, first, second, out)
         }
-        Command::Subtract { whole, rule } => {
+        Command::Subtract { whole, rule, held } => {
             let shape = shape_left(whole);
-            sweep_both(alloc, genome, shape, rule, first, second, out)
+            sweep_both(alloc, genome, shape, rule, held, first, second, out)
         }
         Command::BamToBed { split, cigar } => {
             let (fault, first) = convert(alloc, split, cigar, first, out);
@@ -253,6 +253,7 @@ fn sweep_both<A: Source, B: Source, K: Sink>(
     genome: &Option<Genome>,
     shape: Shape,
     rule: HitRule,
+    limit: Option<u64>,
     first: A,
     second: Option<B>,
     out: &mut Out<K>,
@@ -260,12 +261,12 @@ fn sweep_both<A: Source, B: Source, K: Sink>(
     requires second { IsSome second }
     requires block { HoldsBlock out.old.took out.old.put }
     ensures written { WritesBy A.left A.has_failed A.end_told B.left B.has_failed
-        (of_intersect (order_of (option_map entries genome.now)) shape rule)
+        (of_intersect (order_of (option_map entries genome.now)) shape rule limit)
         first second out.old (option_map told result.0) result.1 result.2 out.new }
     ensures second { is_some result.2 ≡ is_some second }
 {
     let Some(second) = second else { unreachable!() };
-    let (fault, first, second) = sweep(alloc, genome, shape, rule, first, second, out);
+    let (fault, first, second) = sweep(alloc, genome, shape, rule, limit, first, second, out);
     (fault, first, Some(second))
 }
 

@@ -1,6 +1,4 @@
-use crate::intersect_tests::{Case, check, run_on};
-use crate::tests::{Answer, Script, failed_line, failing, failing_by, line_of, whole};
-use std::alloc::Global;
+use crate::intersect_tests::{Case, check};
 use std::test::Fail;
 
 const CASES: [Case; 23] = [
@@ -190,83 +188,12 @@ const CASES: [Case; 23] = [
     },
 ];
 
-// Runs subtract without options.
-fn subtract(
-    alloc: Global,
-    first: (&[u8], Script),
-    second: (&[u8], Script),
-    out: Script,
-) -> Result<Answer, Fail> {
-    run_on(alloc, "subtract", &[], first, second, out)
-}
-
 #[test]
 fn worked_cases(rt: HostRuntime) -> Result<(), Fail> {
     for step in [1, 7, 8192] {
         for case in &CASES {
             check(&rt, rt.alloc(), "subtract", case, step)?;
         }
-    }
-    Ok(())
-}
-
-// Two inputs that fail, the second behind what decides the first record.
-const FIRST: &[u8] = b"chr1\t0\t10\nchr1\t100\t110\n";
-
-const SECOND: &[u8] = b"chr1\t2\t4\nchr1\t50\t60\nchr1\tx\t9\n";
-
-const LEFT: &[u8] = b"chr1\t0\t2\nchr1\t4\t10\n";
-
-// Whatever byte of the first input fails to come: what is left of the records on its whole lines that
-// are decided.
-#[test]
-fn a_first_input_that_fails_at_each_byte(rt: HostRuntime) -> Result<(), Fail> {
-    for step in [1, 7] {
-        for good in 0..=FIRST.len() {
-            let first = (FIRST, failing_by(step, good));
-            let answer = subtract(rt.alloc(), first, (SECOND, whole(step)), whole(step))?;
-            let (output, line): (&[u8], &[u8]) = match failed_line(FIRST, good) {
-                1 => (b"", b"bedtools subtract: a.bed:1: reading failed\n"),
-                2 => (LEFT, b"bedtools subtract: a.bed:2: reading failed\n"),
-                _ => (LEFT, b"bedtools subtract: b.bed:3: start is not a number\n"),
-            };
-            assert_eq!(rt; answer.output.as_slice(), output);
-            assert_eq!(rt; line_of(&answer), line);
-        }
-    }
-    Ok(())
-}
-
-// Whatever byte of the second fails to come: a record is written once a whole line decides it.
-#[test]
-fn a_second_input_that_fails_at_each_byte(rt: HostRuntime) -> Result<(), Fail> {
-    for step in [1, 7] {
-        for good in 0..=SECOND.len() {
-            let second = (SECOND, failing_by(step, good));
-            let answer = subtract(rt.alloc(), (FIRST, whole(step)), second, whole(step))?;
-            let (output, line): (&[u8], &[u8]) = match failed_line(SECOND, good) {
-                1 => (b"", b"bedtools subtract: b.bed:1: reading failed\n"),
-                2 => (b"", b"bedtools subtract: b.bed:2: reading failed\n"),
-                3 => (LEFT, b"bedtools subtract: b.bed:3: reading failed\n"),
-                _ => (LEFT, b"bedtools subtract: b.bed:3: start is not a number\n"),
-            };
-            assert_eq!(rt; answer.output.as_slice(), output);
-            assert_eq!(rt; line_of(&answer), line);
-        }
-    }
-    Ok(())
-}
-
-#[test]
-fn an_output_that_fails_at_each_byte(rt: HostRuntime) -> Result<(), Fail> {
-    for good in 0..LEFT.len() {
-        let inputs = ((FIRST, whole(7)), (SECOND, whole(7)));
-        let answer = subtract(rt.alloc(), inputs.0, inputs.1, failing(good))?;
-        assert_eq!(rt; answer.output.as_slice(), &LEFT[..good]);
-        assert_eq!(rt;
-            line_of(&answer),
-            b"bedtools subtract: writing failed\n".as_slice()
-        );
     }
     Ok(())
 }

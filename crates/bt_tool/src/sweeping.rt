@@ -53,8 +53,9 @@ fn turn_second<B: Source, O: ChromOrder, H: Held, K: Sink>(
         result second.new (state_of sweep.new) out.new }
     ensures order { order_of sweep.new ≡ order_of sweep.old }
 {
-    match second.peek()? {
-        Some(record) => match sweep.give_b(&record, out)? {
+    second.step()?;
+    match second.record() {
+        Some(record) => match sweep.give_b(&record, second.line(), out)? {
             Taken::Yes => second.advance(),
             Taken::No => {}
         },
@@ -76,9 +77,9 @@ fn sweep_all<A: Source, B: Source, O: ChromOrder, H: Held, K: Sink>(
     requires sorted { (view_of first.old).format ≡ bed_format (sorting_of (order_in first.old)) }
     requires sorted_second { (view_of second.old).format ≡ bed_format (sorting_of (order_in second.old)) }
     requires starts { Sweeps A.left A.has_failed A.end_told B.left B.has_failed B.end_told (order_in first.old)
-        (state_of sweep.old).shape (state_of sweep.old).rule first.old second.old out.old first.old second.old (state_of sweep.old) out.old }
+        (state_of sweep.old).shape (state_of sweep.old).rule (state_of sweep.old).limit first.old second.old out.old first.old second.old (state_of sweep.old) out.old }
     ensures { SweepsOrStops A.left A.has_failed A.end_told B.left B.has_failed B.end_told (order_in first.old)
-        (state_of sweep.old).shape (state_of sweep.old).rule first.old second.old out.old result first.new second.new (state_of sweep.new) out.new }
+        (state_of sweep.old).shape (state_of sweep.old).rule (state_of sweep.old).limit first.old second.old out.old result first.new second.new (state_of sweep.new) out.new }
 {
     loop {
         match sweep.want() {
@@ -112,35 +113,36 @@ fn read_both<A: Source, B: Source, O: ChromOrder, H: Held, K: Sink>(
     requires sorted { (view_of first.old).format ≡ bed_format (sorting_of (order_in first.old)) }
     requires sorted_second { (view_of second.old).format ≡ bed_format (sorting_of (order_in second.old)) }
     requires starts { Sweeps A.left A.has_failed A.end_told B.left B.has_failed B.end_told (order_in first.old)
-        (state_of sweep.old).shape (state_of sweep.old).rule first.old second.old out.old first.old second.old (state_of sweep.old) out.old }
+        (state_of sweep.old).shape (state_of sweep.old).rule (state_of sweep.old).limit first.old second.old out.old first.old second.old (state_of sweep.old) out.old }
     ensures { FinishesBoth A.left A.has_failed A.end_told B.left B.has_failed B.end_told (order_in first.old)
-        (state_of sweep.old).shape (state_of sweep.old).rule first.old second.old out.old result first.new second.new out.new }
+        (state_of sweep.old).shape (state_of sweep.old).rule (state_of sweep.old).limit first.old second.old out.old result first.new second.new out.new }
 {
     sweep_all(first, second, sweep, out)?;
     check_rest(second)
 }
 
 /// Sweeps two inputs, in an order of their chromosomes, and writes the lines of this shape by this rule of
-/// what hits a record. It gives the sources back, and the fault that the run ends with, if there is one.
-/// The second input is read no further than the records of the first ask for, and where those are all
-/// written, to its end.
+/// what hits a record. Where there is a limit, no more records of the second are held than so many. It
+/// gives the sources back, and the fault that the run ends with, if there is one. The second input is read
+/// no further than the records of the first ask for, and where those are all written, to its end.
 pub(crate) fn sweep<A: Source, B: Source, O: ChromOrder, K: Sink>(
     alloc: Global,
     order: &O,
     shape: Shape,
     rule: HitRule,
+    limit: Option<u64>,
     first: A,
     second: B,
     out: &mut Out<K>,
 ) -> (Option<Fault>, A, B)
     requires total { IsTotal (O.order order.now) }
     requires block { HoldsBlock out.old.took out.old.put }
-    ensures { Intersects A.left A.has_failed A.end_told B.left B.has_failed (O.order order.now) shape rule
+    ensures { Intersects A.left A.has_failed A.end_told B.left B.has_failed (O.order order.now) shape rule limit
         first second out.old (option_map told result.0) result.1 result.2 out.new }
 {
     let mut firsts = Records::new(alloc, LineReader::new(alloc, first, Input::First), order);
     let mut seconds = Records::new(alloc, LineReader::new(alloc, second, Input::Second), order);
-    let mut sweep = Sweep::new(alloc, HeldIndex::new(alloc), shape, rule, order);
+    let mut sweep = Sweep::new(alloc, HeldIndex::new(alloc), shape, rule, limit, order);
     let swept = read_both(&mut firsts, &mut seconds, &mut sweep, out);
     let first = firsts.into_reader().into_source();
     let second = seconds.into_reader().into_source();

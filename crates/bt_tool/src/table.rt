@@ -140,6 +140,10 @@ pub(crate) const INTERSECT: Table = Table {
             option: "-sorted",
             takes: Takes::Nothing,
         },
+        Row {
+            option: "-held",
+            takes: Takes::Number,
+        },
     ],
     required: &["-a", "-b"],
     one_of: &[],
@@ -188,6 +192,10 @@ pub(crate) const SUBTRACT: Table = Table {
         Row {
             option: "-s",
             takes: Takes::Nothing,
+        },
+        Row {
+            option: "-held",
+            takes: Takes::Number,
         },
     ],
     required: &["-a", "-b"],

@@ -1,8 +1,9 @@
-ghost use Rattle.std.specs.Prelude.{◌≡◌, ◌<◌, ◌≤◌, is_some, length};
+ghost use Rattle.std.specs.Prelude.{◌≡◌, ◌<◌, is_some};
 
 use crate::{plan, run};
 use bt_lines::{ScriptSink, ScriptSource};
 use std::alloc::{AllocError, Global};
+use std::process::Abort;
 use std::test::Fail;
 
 // The genome file of the cases that name no other.
@@ -274,7 +275,12 @@ pub(crate) fn source_if<'a>(
     if name.is_none() {
         return None;
     }
-    Some(ScriptSource::new(bytes, script.step, script.good))
+    Some(source_of(bytes, script))
+}
+
+// A source of these bytes.
+pub(crate) fn source_of(bytes: &[u8], script: Script) -> ScriptSource<'_> {
+    ScriptSource::new(bytes, script.step, script.good)
 }
 
 // What a run gives, or what its plan is refused with.
@@ -322,7 +328,7 @@ pub(crate) fn run_both(
         alloc,
         &plan,
         source_if(&plan.genome, genome.0, genome.1),
-        ScriptSource::new(first.0, first.1.step, first.1.good),
+        source_of(first.0, first.1),
         source_if(&plan.second, second.0, second.1),
         ScriptSink::new(alloc, out.step, out.good),
     );
@@ -341,179 +347,32 @@ pub(crate) fn line_of(answer: &Answer) -> &[u8] {
     }
 }
 
+// An answer has to be this output and this line, an empty one for none, with the status of that.
+pub(crate) fn expect(rt: &impl Abort, answer: &Answer, output: &[u8], line: &[u8], name: &str) {
+    assert_eq!(rt; answer.output.as_slice(), output, "{name}");
+    assert_eq!(rt; line_of(answer), line, "{name}");
+    assert_eq!(rt; answer.status, u8::from(!line.is_empty()), "{name}");
+}
+
+// The number has to be this one.
+pub(crate) fn expect_size(rt: &impl Abort, given: usize, wanted: usize) {
+    assert_eq!(rt; given, wanted);
+}
+
+fn check(rt: &impl Abort, alloc: Global, case: &Case, step: usize) -> Result<(), Fail> {
+    let script = whole(step.max(1));
+    let answer = merge(alloc, (case.genome, script), (case.first, script), script)?;
+    let line = case.line.unwrap_or(b"");
+    expect(rt, &answer, case.output, line, case.name);
+    Ok(())
+}
+
 #[test]
 fn worked_cases(rt: HostRuntime) -> Result<(), Fail> {
-    for script in [whole(1), whole(7), whole(8192)] {
+    for step in [1, 7, 8192] {
         for case in &CASES {
-            let answer = merge(
-                rt.alloc(),
-                (case.genome, script),
-                (case.first, script),
-                script,
-            )?;
-            assert_eq!(rt; answer.output.as_slice(), case.output, "{}", case.name);
-            assert_eq!(rt; line_of(&answer), case.line.unwrap_or(b""), "{}", case.name);
-            assert_eq!(rt;
-                answer.status,
-                u8::from(case.line.is_some()),
-                "{}",
-                case.name
-            );
+            check(&rt, rt.alloc(), case, step)?;
         }
     }
-    Ok(())
-}
-
-const TOUCHING: &[u8] = b"chr1\t100\t200\nchr1\t180\t250\nchr1\t250\t500\nchr1\t501\t1000\n";
-
-const OUT_OF_ORDER: &[u8] = b"chr1\t0\t10\nchr1\t20\t30\nchr1\t5\t8\n";
-
-// The line at which reading fails behind so many good bytes of a text: the one behind its whole lines.
-pub(crate) fn failed_line(text: &[u8], good: usize) -> usize
-    requires { good ≤ length text.now }
-{
-    text[..good].split(|byte| *byte == b'\n').count()
-}
-
-// Whatever byte of an input fails to come: the lines settled by the whole lines before it, and the failed
-// read at the line after them.
-#[test]
-fn an_input_that_fails_at_each_byte(rt: HostRuntime) -> Result<(), Fail> {
-    for step in [1, 7] {
-        for good in 0..=TOUCHING.len() {
-            let line = failed_line(TOUCHING, good);
-            // The last record begins behind the run of the others.
-            let settled: &[u8] = if line == 5 { b"chr1\t100\t500\n" } else { b"" };
-            let answer = merge(
-                rt.alloc(),
-                (GENOME, whole(step)),
-                (TOUCHING, failing_by(step, good)),
-                whole(step),
-            )?;
-            let told = format!(in rt.alloc(); "bedtools merge: a.bed:{}: reading failed\n", line)?;
-            assert_eq!(rt; answer.output.as_slice(), settled);
-            assert_eq!(rt; line_of(&answer), told.as_bytes());
-            assert_eq!(rt; answer.status, 1);
-        }
-    }
-    Ok(())
-}
-
-#[test]
-fn an_earlier_fault_comes_before_a_failed_read(rt: HostRuntime) -> Result<(), Fail> {
-    // The good bytes, the output and the fault line: the third record is out of order.
-    let cases: [(usize, &[u8], &[u8]); 3] = [
-        (
-            21,
-            b"chr1\t0\t10\n",
-            b"bedtools merge: a.bed:3: reading failed\n",
-        ),
-        (
-            29,
-            b"chr1\t0\t10\n",
-            b"bedtools merge: a.bed:3: reading failed\n",
-        ),
-        (
-            30,
-            b"chr1\t0\t10\n",
-            b"bedtools merge: a.bed:3: record is out of order\n",
-        ),
-    ];
-    for (good, output, line) in cases {
-        let answer = merge(
-            rt.alloc(),
-            (GENOME, whole(7)),
-            (OUT_OF_ORDER, failing(good)),
-            whole(7),
-        )?;
-        assert_eq!(rt; answer.output.as_slice(), output);
-        assert_eq!(rt; line_of(&answer), line);
-        assert_eq!(rt; answer.status, 1);
-    }
-    Ok(())
-}
-
-#[test]
-fn a_genome_file_that_fails_at_each_byte(rt: HostRuntime) -> Result<(), Fail> {
-    for step in [1, 7] {
-        for good in 0..=GENOME.len() {
-            let line = failed_line(GENOME, good);
-            let answer = merge(
-                rt.alloc(),
-                (GENOME, failing_by(step, good)),
-                (TOUCHING, whole(step)),
-                whole(step),
-            )?;
-            let told = format!(in rt.alloc(); "bedtools merge: g.txt:{}: reading failed\n", line)?;
-            assert_eq!(rt; answer.output.len(), 0);
-            assert_eq!(rt; line_of(&answer), told.as_bytes());
-            assert_eq!(rt; answer.status, 1);
-        }
-    }
-    Ok(())
-}
-
-#[test]
-fn an_output_that_fails_at_each_byte(rt: HostRuntime) -> Result<(), Fail> {
-    let output = b"chr1\t100\t500\nchr1\t501\t1000\n";
-    for good in 0..output.len() {
-        let answer = merge(
-            rt.alloc(),
-            (GENOME, whole(7)),
-            (TOUCHING, whole(7)),
-            failing(good),
-        )?;
-        assert_eq!(rt; answer.output.as_slice(), &output[..good]);
-        assert_eq!(rt;
-            line_of(&answer),
-            b"bedtools merge: writing failed\n".as_slice()
-        );
-        assert_eq!(rt; answer.status, 1);
-    }
-    let answer = merge(
-        rt.alloc(),
-        (GENOME, whole(7)),
-        (TOUCHING, whole(7)),
-        failing(output.len()),
-    )?;
-    assert_eq!(rt; answer.output.as_slice(), output.as_slice());
-    assert_eq!(rt; answer.status, 0);
-    Ok(())
-}
-
-#[test]
-fn nothing_to_write(rt: HostRuntime) -> Result<(), Fail> {
-    let answer = merge(rt.alloc(), (GENOME, whole(1)), (b"", whole(1)), failing(0))?;
-    assert_eq!(rt; answer.status, 0);
-    assert!(rt; answer.line.is_none());
-    Ok(())
-}
-
-// Ten thousand records on a sink that takes nothing: the run stops once a block of output is full, and
-// has read little more than was needed for it.
-#[test]
-fn a_failed_write_stops_the_reading(rt: HostRuntime) -> Result<(), Fail> {
-    let alloc = rt.alloc();
-    let mut text = Vec::new(alloc);
-    for i in 0..10_000u64 {
-        let line = format!(in alloc; "chr1\t{}\t{}\n", 20 * i, 20 * i + 10)?;
-        text.extend_from_slice(line.as_bytes())?;
-    }
-    let words = strings(alloc, &["merge", "-i", "a.bed", "-g", "g.txt"])?;
-    let plan = plan(alloc, words.as_slice()).ok().ok_or("a plan")?;
-    let ended = run(
-        alloc,
-        &plan,
-        source_if(&plan.genome, b"chr1\t1000000\n", whole(8192)),
-        ScriptSource::new(text.as_slice(), 8192, None),
-        source_if(&plan.second, b"", whole(1)),
-        ScriptSink::new(alloc, 8192, Some(0)),
-    );
-    let line = ended.outcome.fault_line(alloc, &plan)?.ok_or("a fault")?;
-    assert_eq!(rt;
-        line.as_slice(),
-        b"bedtools merge: writing failed\n".as_slice()
-    );
-    assert!(rt; ended.first.given() <= 24_576);
     Ok(())
 }

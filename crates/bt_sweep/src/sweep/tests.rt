@@ -168,6 +168,7 @@ fn any_overlap<O: ChromOrder>(alloc: Global, shape: Shape, order: &O) -> Sweep<'
         HeldList::new(alloc),
         shape,
         HitRule::any_overlap(),
+        None,
         order,
     )
 }
@@ -190,9 +191,19 @@ fn give_first<H: Held, O: ChromOrder, K: Sink>(
     }
 }
 
-// Gives a record of the second input. None: it isn't asked for.
+// Gives a record of the second input, as that of its first line. None: it isn't asked for.
 fn give_second<H: Held, O: ChromOrder, K: Sink>(
     sweep: &mut Sweep<'_, H, O>,
+    line: &[u8],
+    out: &mut Out<K>,
+) -> Option<Result<Taken, Fault>> {
+    give_second_at(sweep, 1, line, out)
+}
+
+// Gives a record of the second input, as that of the line of this number. None: it isn't asked for.
+fn give_second_at<H: Held, O: ChromOrder, K: Sink>(
+    sweep: &mut Sweep<'_, H, O>,
+    number: u64,
     line: &[u8],
     out: &mut Out<K>,
 ) -> Option<Result<Taken, Fault>> {
@@ -203,7 +214,7 @@ fn give_second<H: Held, O: ChromOrder, K: Sink>(
         return None;
     }
     match sweep.want() {
-        Want::B => Some(sweep.give_b(&b, out)),
+        Want::B => Some(sweep.give_b(&b, number, out)),
         _ => None,
     }
 }
@@ -245,20 +256,22 @@ fn go_on_first<H: Held, O: ChromOrder, K: Sink>(
     }
 }
 
-// The same for the second input.
+// The same for the second input, and its line of this index.
 fn go_on_second<H: Held, O: ChromOrder, K: Sink>(
     sweep: &mut Sweep<'_, H, O>,
-    line: Option<&&[u8]>,
+    lines: &[&[u8]],
+    index: usize,
     out: &mut Out<K>,
 ) -> Result<usize, Option<Fault>> {
-    let Some(line) = line else {
+    let Some(line) = lines.get(index) else {
         return match end_second(sweep, out) {
             Some(Ok(())) => Ok(0),
             Some(Err(fault)) => Err(Some(fault)),
             None => Err(None),
         };
     };
-    match give_second(sweep, line, out) {
+    let number = (index as u64).saturating_add(1);
+    match give_second_at(sweep, number, line, out) {
         Some(Ok(Taken::Yes)) => Ok(1),
         Some(Ok(Taken::No)) => Ok(0),
         Some(Err(fault)) => Err(Some(fault)),
@@ -278,7 +291,7 @@ fn sweep_all<H: Held, O: ChromOrder, K: Sink>(
     for _ in 0..100 {
         match sweep.want() {
             Want::A => i = i.saturating_add(go_on_first(sweep, first.get(i), out)?),
-            Want::B => j = j.saturating_add(go_on_second(sweep, second.get(j), out)?),
+            Want::B => j = j.saturating_add(go_on_second(sweep, second, j, out)?),
             Want::Nothing => return Ok(()),
         }
     }
@@ -308,7 +321,7 @@ fn writes_ruled<H: Held, O: ChromOrder>(
     requires { H.records held ≡ [] }
 {
     let (_, shape, rule, first, second, want) = *case;
-    let mut sweep = Sweep::new(rt.alloc(), held, shape, rule, order);
+    let mut sweep = Sweep::new(rt.alloc(), held, shape, rule, None, order);
     let mut out = Out::new(ScriptSink::new(rt.alloc(), 3, good));
     let swept = sweep_all(&mut sweep, first, second, &mut out);
     let ended = swept.is_ok() && out.flush().is_ok();
@@ -531,7 +544,8 @@ fn counts_in_nested<H: Held, O: ChromOrder>(
 ) -> Result<(), Fail>
     requires { H.records held ≡ [] }
 {
-    let mut sweep = Sweep::new(alloc, held, Shape::Count, HitRule::any_overlap(), order);
+    let rule = HitRule::any_overlap();
+    let mut sweep = Sweep::new(alloc, held, Shape::Count, rule, None, order);
     let mut out = Out::new(ScriptSink::new(alloc, 100, None));
     assert_eq!(rt;
         give_first(&mut sweep, b"chr1\t0\t10000", &mut out),

@@ -5,11 +5,15 @@ use std::process::Abort;
 use std::test::Fail;
 
 /// The words, and the plan or the line on standard error that they give.
-const CASES: [(&[&str], &str); 43] = [
+const CASES: [(&[&str], &str); 44] = [
     (&[], "bedtools: no or unknown command\n"),
     (&["", "-g", "g"], "bedtools: no or unknown command\n"),
     (&["-g", "g", "merge"], "bedtools: no or unknown command\n"),
     (&["merge", "-q"], "bedtools: unknown option: -q\n"),
+    (
+        &["merge", "-held", "1"],
+        "bedtools: unknown option: -held\n",
+    ),
     (
         &["merge", "-s", "-g", "g"],
         "Merge { d: 0, strand: Each } Some(\"g\") stdin None None",
@@ -142,7 +146,7 @@ const INTERSECT: [(&[&str], &str); 24] = [
     ),
     (
         &["-a", "x", "-b", "y"],
-        "Intersect { shape: Cut, rule: HitRule { billionths: 0, both: false, same_strand: false } } None x Some(\"y\") None",
+        "Intersect { shape: Cut, rule: HitRule { billionths: 0, both: false, same_strand: false }, held: None } None x Some(\"y\") None",
     ),
     (
         &["-b", "y", "-g", "g"],
@@ -188,40 +192,40 @@ const INTERSECT: [(&[&str], &str); 24] = [
     (&["-a", "x", "-b"], "bedtools: value missing: -b\n"),
     (
         &["-a", "x", "-b", "y", "-g", "g"],
-        "Intersect { shape: Cut, rule: HitRule { billionths: 0, both: false, same_strand: false } } Some(\"g\") x Some(\"y\") None",
+        "Intersect { shape: Cut, rule: HitRule { billionths: 0, both: false, same_strand: false }, held: None } Some(\"g\") x Some(\"y\") None",
     ),
     (
         &["-sorted", "-a", "x", "-b", "y", "-g", "g", "-wa", "-wa"],
-        "Intersect { shape: OrigA, rule: HitRule { billionths: 0, both: false, same_strand: false } } Some(\"g\") x Some(\"y\") None",
+        "Intersect { shape: OrigA, rule: HitRule { billionths: 0, both: false, same_strand: false }, held: None } Some(\"g\") x Some(\"y\") None",
     ),
     (
         &["-a", "x", "-b", "y", "-g", "g", "-wb"],
-        "Intersect { shape: CutAndB, rule: HitRule { billionths: 0, both: false, same_strand: false } } Some(\"g\") x Some(\"y\") None",
+        "Intersect { shape: CutAndB, rule: HitRule { billionths: 0, both: false, same_strand: false }, held: None } Some(\"g\") x Some(\"y\") None",
     ),
     (
         &["-wb", "-a", "x", "-b", "y", "-wa", "-g", "g"],
-        "Intersect { shape: OrigBoth, rule: HitRule { billionths: 0, both: false, same_strand: false } } Some(\"g\") x Some(\"y\") None",
+        "Intersect { shape: OrigBoth, rule: HitRule { billionths: 0, both: false, same_strand: false }, held: None } Some(\"g\") x Some(\"y\") None",
     ),
     (
         &["-a", "x", "-b", "y", "-g", "g", "-wo"],
-        "Intersect { shape: Overlap, rule: HitRule { billionths: 0, both: false, same_strand: false } } Some(\"g\") x Some(\"y\") None",
+        "Intersect { shape: Overlap, rule: HitRule { billionths: 0, both: false, same_strand: false }, held: None } Some(\"g\") x Some(\"y\") None",
     ),
     (
         &["-a", "x", "-b", "y", "-g", "g", "-u", "-wa"],
-        "Intersect { shape: Once, rule: HitRule { billionths: 0, both: false, same_strand: false } } Some(\"g\") x Some(\"y\") None",
+        "Intersect { shape: Once, rule: HitRule { billionths: 0, both: false, same_strand: false }, held: None } Some(\"g\") x Some(\"y\") None",
     ),
     (
         &["-a", "x", "-b", "y", "-g", "g", "-v", "-sorted"],
-        "Intersect { shape: Missing, rule: HitRule { billionths: 0, both: false, same_strand: false } } Some(\"g\") x Some(\"y\") None",
+        "Intersect { shape: Missing, rule: HitRule { billionths: 0, both: false, same_strand: false }, held: None } Some(\"g\") x Some(\"y\") None",
     ),
     (
         &["-a", "-", "-b", "y", "-g", "g", "-c"],
-        "Intersect { shape: Count, rule: HitRule { billionths: 0, both: false, same_strand: false } } Some(\"g\") - Some(\"y\") None",
+        "Intersect { shape: Count, rule: HitRule { billionths: 0, both: false, same_strand: false }, held: None } Some(\"g\") - Some(\"y\") None",
     ),
 ];
 
 /// The same for what makes a hit.
-const RULES: [(&[&str], &str); 14] = [
+const RULES: [(&[&str], &str); 19] = [
     (
         &["-a", "x", "-b", "y", "-g", "g", "-f", "1.5"],
         "bedtools: bad value: -f\n",
@@ -260,19 +264,19 @@ const RULES: [(&[&str], &str); 14] = [
     ),
     (
         &["-a", "x", "-b", "y", "-g", "g", "-f", "0.5"],
-        "Intersect { shape: Cut, rule: HitRule { billionths: 500000000, both: false, same_strand: false } } Some(\"g\") x Some(\"y\") None",
+        "Intersect { shape: Cut, rule: HitRule { billionths: 500000000, both: false, same_strand: false }, held: None } Some(\"g\") x Some(\"y\") None",
     ),
     (
         &["-a", "x", "-b", "y", "-g", "g", "-f", ".5", "-r", "-s"],
-        "Intersect { shape: Cut, rule: HitRule { billionths: 500000000, both: true, same_strand: true } } Some(\"g\") x Some(\"y\") None",
+        "Intersect { shape: Cut, rule: HitRule { billionths: 500000000, both: true, same_strand: true }, held: None } Some(\"g\") x Some(\"y\") None",
     ),
     (
         &["-r", "-a", "x", "-b", "y", "-g", "g", "-f", "1"],
-        "Intersect { shape: Cut, rule: HitRule { billionths: 1000000000, both: true, same_strand: false } } Some(\"g\") x Some(\"y\") None",
+        "Intersect { shape: Cut, rule: HitRule { billionths: 1000000000, both: true, same_strand: false }, held: None } Some(\"g\") x Some(\"y\") None",
     ),
     (
         &["-a", "x", "-b", "y", "-g", "g", "-s", "-u", "-s"],
-        "Intersect { shape: Once, rule: HitRule { billionths: 0, both: false, same_strand: true } } Some(\"g\") x Some(\"y\") None",
+        "Intersect { shape: Once, rule: HitRule { billionths: 0, both: false, same_strand: true }, held: None } Some(\"g\") x Some(\"y\") None",
     ),
     (
         &[
@@ -287,12 +291,29 @@ const RULES: [(&[&str], &str); 14] = [
             "-f",
             "0.000000001",
         ],
-        "Intersect { shape: Cut, rule: HitRule { billionths: 1, both: false, same_strand: false } } Some(\"g\") x Some(\"y\") None",
+        "Intersect { shape: Cut, rule: HitRule { billionths: 1, both: false, same_strand: false }, held: None } Some(\"g\") x Some(\"y\") None",
+    ),
+    (
+        &["-a", "x", "-b", "y", "-held", "x"],
+        "bedtools: bad value: -held\n",
+    ),
+    (
+        &["-a", "x", "-b", "y", "-held", "1000000000000"],
+        "bedtools: bad value: -held\n",
+    ),
+    (&["-held"], "bedtools: value missing: -held\n"),
+    (
+        &["-a", "x", "-b", "y", "-held", "0"],
+        "Intersect { shape: Cut, rule: HitRule { billionths: 0, both: false, same_strand: false }, held: Some(0) } None x Some(\"y\") None",
+    ),
+    (
+        &["-a", "x", "-b", "y", "-held", "3", "-held", "999999999999"],
+        "Intersect { shape: Cut, rule: HitRule { billionths: 0, both: false, same_strand: false }, held: Some(999999999999) } None x Some(\"y\") None",
     ),
 ];
 
 /// The same for subtract.
-const SUBTRACT: [(&[&str], &str); 17] = [
+const SUBTRACT: [(&[&str], &str); 18] = [
     (&["-a", "x"], "bedtools: required option missing\n"),
     (
         &["-b", "x", "-g", "g"],
@@ -300,7 +321,7 @@ const SUBTRACT: [(&[&str], &str); 17] = [
     ),
     (
         &["-a", "x", "-b", "y"],
-        "Subtract { whole: false, rule: HitRule { billionths: 0, both: false, same_strand: false } } None x Some(\"y\") None",
+        "Subtract { whole: false, rule: HitRule { billionths: 0, both: false, same_strand: false }, held: None } None x Some(\"y\") None",
     ),
     (
         &["-a", "-", "-b", "stdin", "-g", "g"],
@@ -344,19 +365,23 @@ const SUBTRACT: [(&[&str], &str); 17] = [
     ),
     (
         &["-a", "x", "-b", "y", "-g", "g"],
-        "Subtract { whole: false, rule: HitRule { billionths: 0, both: false, same_strand: false } } Some(\"g\") x Some(\"y\") None",
+        "Subtract { whole: false, rule: HitRule { billionths: 0, both: false, same_strand: false }, held: None } Some(\"g\") x Some(\"y\") None",
     ),
     (
         &["-a", "x", "-b", "y", "-g", "g", "-A"],
-        "Subtract { whole: true, rule: HitRule { billionths: 0, both: false, same_strand: false } } Some(\"g\") x Some(\"y\") None",
+        "Subtract { whole: true, rule: HitRule { billionths: 0, both: false, same_strand: false }, held: None } Some(\"g\") x Some(\"y\") None",
     ),
     (
         &["-a", "x", "-b", "y", "-g", "g", "-s", "-f", "00.5", "-A"],
-        "Subtract { whole: true, rule: HitRule { billionths: 500000000, both: false, same_strand: true } } Some(\"g\") x Some(\"y\") None",
+        "Subtract { whole: true, rule: HitRule { billionths: 500000000, both: false, same_strand: true }, held: None } Some(\"g\") x Some(\"y\") None",
+    ),
+    (
+        &["-A", "-a", "x", "-b", "y", "-held", "007"],
+        "Subtract { whole: true, rule: HitRule { billionths: 0, both: false, same_strand: false }, held: Some(7) } None x Some(\"y\") None",
     ),
     (
         &["-f", "0.5", "-a", "x", "-b", "y", "-g", "g", "-f", "1"],
-        "Subtract { whole: false, rule: HitRule { billionths: 1000000000, both: false, same_strand: false } } Some(\"g\") x Some(\"y\") None",
+        "Subtract { whole: false, rule: HitRule { billionths: 1000000000, both: false, same_strand: false }, held: None } Some(\"g\") x Some(\"y\") None",
     ),
 ];
 
@@ -548,14 +573,23 @@ fn answer(alloc: Global, words: &[String]) -> Result<String, Fail> {
     }
 }
 
-#[test]
-fn words_give_a_plan_or_a_usage_line(rt: HostRuntime) -> Result<(), Fail> {
-    for (texts, wanted) in CASES {
-        let words = owned(rt.alloc(), texts)?;
-        let given = answer(rt.alloc(), words.as_slice())?;
-        assert_eq!(rt; given.as_str(), wanted, "at {texts:?}");
+// The same of whole command lines.
+fn check_words(
+    rt: &impl Abort,
+    alloc: Global,
+    cases: &[(&'static [&'static str], &'static str)],
+) -> Result<(), Fail> {
+    for (texts, wanted) in cases {
+        let words = owned(alloc, texts)?;
+        let given = answer(alloc, words.as_slice())?;
+        assert_eq!(rt; given.as_str(), *wanted, "at {texts:?}");
     }
     Ok(())
+}
+
+#[test]
+fn words_give_a_plan_or_a_usage_line(rt: HostRuntime) -> Result<(), Fail> {
+    check_words(&rt, rt.alloc(), &CASES)
 }
 
 // Each command line of a table gives what stands there.

@@ -100,7 +100,8 @@ fn is_plain<O: ChromOrder>(
         records.as_slice(),
         others.as_slice(),
     )?;
-    let mut sweep = Sweep::new(rt.alloc(), HeldList::new(rt.alloc()), shape, rule, order);
+    let held = HeldList::new(rt.alloc());
+    let mut sweep = Sweep::new(rt.alloc(), held, shape, rule, None, order);
     let mut out = Out::new(ScriptSink::new(rt.alloc(), 8192, None));
     let swept = sweep_all(&mut sweep, first, second, &mut out);
     let ended = swept.is_ok() && out.flush().is_ok();

@@ -8,7 +8,7 @@ use Rattle.bt_bed.proofs.GoodBlocksLemmas.{good_in_blocks}
 use Rattle.bt_seq.specs.Sequences.{sequence_format}
 use Rattle.bt_tool.specs.MaskReport.{mask_reaches, mask_settles}
 use Rattle.bt_tool.specs.MaskLoop.{line_members, mask_making, mask_pair}
-use Rattle.bt_tool.proofs.MaskFacts.{mask_needs}
+use Rattle.bt_tool.proofs.MaskFacts.{mask_limits, mask_needs}
 use Rattle.bt_tool.proofs.MaskStart.{as_asked, begin_blocks, begin_lines, blocks_format, fresh_blocks, fresh_lines, masks_as_new, nothing_reached}
 use Rattle.bt_tool.proofs.PairMet.{writes_both}
 use Rattle.bt_tool.proofs.PairNear.{near_both}
@@ -42,7 +42,7 @@ returns-in-Ok g c =
     let ended_second = sym (c.into_source-second.ensures ∙ ap source_of c.into_reader.ensures) in
     let making = mask_making c.args.how in
     let pair = mask_pair g.A.Source.left g.A.Source.has_failed g.A.Source.end_told g.B.Source.left g.B.Source.has_failed g.B.Source.end_told c.args.how c.args.full (line_members c.args.full nothing_reached c.new-lines.result) (view_of c.new-records.result) in
-    writes_both making pair c.args.out.now (sequence_format c.args.full) block_format (λ two. good_in_blocks Second two) c.args.first c.args.second begins begins_second
+    writes_both making pair c.args.out.now (sequence_format c.args.full) block_format (λ two. good_in_blocks Second two) (mask_limits c.args.how) c.args.first c.args.second begins begins_second
     ends.0 (view_of c.mask_all-masked.new.records) c.into_source-first.result c.into_source-second.result ended ended_second fault c.mask_all-masked.new.out ends.2
     (mask_settles c.args.how c.args.full) (mask_reaches c.args.full)
     (near_both making pair c.args.out.now (sequence_format c.args.full) block_format (λ two. good_in_blocks Second two) (mask_needs c.args.how) c.args.first c.args.second begins begins_second
@@ -63,7 +63,7 @@ returns g c =
     let ended_second = sym (c.into_source-second.ensures ∙ ap source_of c.into_reader.ensures) in
     let making = mask_making c.args.how in
     let pair = mask_pair g.A.Source.left g.A.Source.has_failed g.A.Source.end_told g.B.Source.left g.B.Source.has_failed g.B.Source.end_told c.args.how c.args.full (line_members c.args.full nothing_reached c.new-lines.result) (view_of c.new-records.result) in
-    writes_both making pair c.args.out.now (sequence_format c.args.full) block_format (λ two. good_in_blocks Second two) c.args.first c.args.second begins begins_second
+    writes_both making pair c.args.out.now (sequence_format c.args.full) block_format (λ two. good_in_blocks Second two) (mask_limits c.args.how) c.args.first c.args.second begins begins_second
     ends.0 (view_of c.mask_all-masked.new.records) c.into_source-first.result c.into_source-second.result ended ended_second fault c.mask_all-masked.new.out ends.2
     (mask_settles c.args.how c.args.full) (mask_reaches c.args.full)
     (near_both making pair c.args.out.now (sequence_format c.args.full) block_format (λ two. good_in_blocks Second two) (mask_needs c.args.how) c.args.first c.args.second begins begins_second

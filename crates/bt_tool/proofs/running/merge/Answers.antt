@@ -1,5 +1,5 @@
 use Rattle.std.specs.Prelude.{option_map}
-use Rattle.std.proofs.Common.{subst, sym}
+use Rattle.std.proofs.Common.{subst}
 use Rattle.bt_lines.specs.Names.{told}
 use Rattle.bt_bed.specs.Feature.{intervals_of}
 use Rattle.bt_bed.specs.Order.{Order}

@@ -2,10 +2,10 @@ use Rattle.std.proofs.Common.{None, refl, subst, sym}
 use Rattle.std.specs.Prelude.{option_map}
 use Rattle.bt_lines.specs.Names.{told}
 use Rattle.bt_bed.specs.GenomeTable.{entries}
-use Rattle.bt_tool.specs.Behaviour.{Behaviour, behaviour_of, of_bamtobed, of_intersect, of_maskfasta, order_of}
+use Rattle.bt_tool.specs.Behaviour.{behaviour_of, of_intersect, order_of}
 use Rattle.bt_tool.specs.Chromosomes.{WritesBy}
 use Rattle.bt_tool.specs.declared.plan_type.Command.{Command}
-use Rattle.bt_tool.specs.declared.plan_type.Command.TheVariants.{Merge, Complement, Coverage, BamToBed, MaskFasta, Subtract}
+use Rattle.bt_tool.specs.declared.plan_type.Command.TheVariants.{Merge, Complement, Coverage, BamToBed}
 use Rattle.bt_tool.proofs.SubtractLemmas.{subtract_writes}
 use Rattle.bt_tool.proofs.WritingLemmas.{alone_writes}
 use Rattle.bt_tool.proofs.running.write_records.Goals as goal
@@ -60,6 +60,6 @@ returns-in-Subtract-clause-written g c =
     let chromosomes = option_map entries c.args.genome.now in
     let order = order_of chromosomes in
     subst (λ (command : Command). WritesBy g.A.Source.left g.A.Source.has_failed g.A.Source.end_told g.B.Source.left g.B.Source.has_failed (behaviour_of command chromosomes) c.args.first c.args.second c.args.out.now (option_map told swept.result.0) swept.result.1 swept.result.2 swept.new.out) (sym c.in-Subtract.is)
-    (subtract_writes g.A.Source.left g.A.Source.has_failed g.A.Source.end_told g.B.Source.left g.B.Source.has_failed order c.in-Subtract.whole c.in-Subtract.rule c.args.first c.args.second c.args.out.now (option_map told swept.result.0) swept.result.1 swept.result.2 swept.new.out
-    (subst (λ shape. WritesBy g.A.Source.left g.A.Source.has_failed g.A.Source.end_told g.B.Source.left g.B.Source.has_failed (of_intersect order shape c.in-Subtract.rule) c.args.first c.args.second c.args.out.now (option_map told swept.result.0) swept.result.1 swept.result.2 swept.new.out)
+    (subtract_writes g.A.Source.left g.A.Source.has_failed g.A.Source.end_told g.B.Source.left g.B.Source.has_failed order c.in-Subtract.whole c.in-Subtract.rule c.in-Subtract.held c.args.first c.args.second c.args.out.now (option_map told swept.result.0) swept.result.1 swept.result.2 swept.new.out
+    (subst (λ shape. WritesBy g.A.Source.left g.A.Source.has_failed g.A.Source.end_told g.B.Source.left g.B.Source.has_failed (of_intersect order shape c.in-Subtract.rule c.in-Subtract.held) c.args.first c.args.second c.args.out.now (option_map told swept.result.0) swept.result.1 swept.result.2 swept.new.out)
     c.shape_left-shape.ensures swept.ensures.written))

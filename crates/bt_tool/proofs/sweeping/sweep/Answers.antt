@@ -1,4 +1,4 @@
-use Rattle.std.proofs.Common.{sym, ◌∙◌, subst, ap, None, Some}
+use Rattle.std.proofs.Common.{ℕ, Option, sym, ◌∙◌, subst, ap, None, Some}
 use Rattle.bt_lines.specs.Names.{told}
 use Rattle.bt_lines.specs.Reader.{source_of}
 use Rattle.bt_lines.specs.declared.fault.Input.TheVariants.{First, Second}
@@ -17,6 +17,7 @@ use Rattle.bt_tool.proofs.PairMet.{writes_both}
 use Rattle.bt_tool.proofs.PairNear.{near_both}
 use Rattle.bt_tool.proofs.StartLemmas.{begins_by, sweeps_start}
 use Rattle.bt_tool.proofs.SweepFacts.{sweep_needs}
+use Rattle.bt_tool.proofs.SweepLimits.{sweep_limits}
 use Rattle.bt_tool.proofs.DrivingLemmas.{fresh_start, sorted_start}
 use Rattle.bt_tool.proofs.sweeping.sweep.Goals as goal
 
@@ -33,13 +34,14 @@ read_both-swept-requires-clause-starts g c =
     let reader_2 = c.new-2.ensures in
     let records_2 = c.new-seconds.ensures in
     let stands = c.new-sweep.ensures.stands in
-    sweeps_start g.A.Source.left g.A.Source.has_failed g.A.Source.end_told g.B.Source.left g.B.Source.has_failed g.B.Source.end_told (state_of c.new-sweep.result).shape (state_of c.new-sweep.result).rule c.new-firsts.result c.new-seconds.result c.args.out.now
+    sweeps_start g.A.Source.left g.A.Source.has_failed g.A.Source.end_told g.B.Source.left g.B.Source.has_failed g.B.Source.end_told (state_of c.new-sweep.result).shape (state_of c.new-sweep.result).rule (state_of c.new-sweep.result).limit c.new-firsts.result c.new-seconds.result c.args.out.now
     (fresh_start _ _ c.new.result c.new-firsts.result records.below reader.none_given reader.none_taken.0 reader.none_fed (records.fault ∙ reader.going.0) records.none_ahead reader.sound) records.none_last
     (fresh_start _ _ c.new-2.result c.new-seconds.result records_2.below reader_2.none_given reader_2.none_taken.0 reader_2.none_fed (records_2.fault ∙ reader_2.going.0) records_2.none_ahead reader_2.sound) records_2.none_last
     c.requires.block (state_of c.new-sweep.result)
-    (subst (λ (r : HitRule). StandsAt (order_in c.new-firsts.result) (state_of c.new-sweep.result).shape r first_stage (state_of c.new-sweep.result)) (sym stands.rule_is)
-    (subst (λ (s : Shape). StandsAt (order_in c.new-firsts.result) s c.args.rule first_stage (state_of c.new-sweep.result)) (sym stands.shape_is)
-    (subst (λ (o : Order). StandsAt o c.args.shape c.args.rule first_stage (state_of c.new-sweep.result)) (sym records.order) stands)))
+    (subst (λ (l : Option ℕ). StandsAt (order_in c.new-firsts.result) (state_of c.new-sweep.result).shape (state_of c.new-sweep.result).rule l first_stage (state_of c.new-sweep.result)) (sym stands.limit_is)
+    (subst (λ (r : HitRule). StandsAt (order_in c.new-firsts.result) (state_of c.new-sweep.result).shape r c.args.limit first_stage (state_of c.new-sweep.result)) (sym stands.rule_is)
+    (subst (λ (s : Shape). StandsAt (order_in c.new-firsts.result) s c.args.rule c.args.limit first_stage (state_of c.new-sweep.result)) (sym stands.shape_is)
+    (subst (λ (o : Order). StandsAt o c.args.shape c.args.rule c.args.limit first_stage (state_of c.new-sweep.result)) (sym records.order) stands))))
 
 pub returns-in-Ok : goal.returns-in-Ok
 returns-in-Ok g c =
@@ -48,20 +50,21 @@ returns-in-Ok g c =
     let reader_2 = c.new-2.ensures in
     let records_2 = c.new-seconds.ensures in
     let order = g.O.ChromOrder.order c.args.order.now in
-    let ends = subst (λ (r : HitRule). SweepEnds g.A.Source.left g.A.Source.has_failed g.A.Source.end_told g.B.Source.left g.B.Source.has_failed g.B.Source.end_told order c.args.shape r c.new-firsts.result c.new-seconds.result c.args.out.now None c.read_both-swept.new.first c.read_both-swept.new.second c.read_both-swept.new.out) c.new-sweep.ensures.stands.rule_is
-    (subst (λ (s : Shape). SweepEnds g.A.Source.left g.A.Source.has_failed g.A.Source.end_told g.B.Source.left g.B.Source.has_failed g.B.Source.end_told order s (state_of c.new-sweep.result).rule c.new-firsts.result c.new-seconds.result c.args.out.now None c.read_both-swept.new.first c.read_both-swept.new.second c.read_both-swept.new.out) c.new-sweep.ensures.stands.shape_is
-    (subst (λ (o : Order). SweepEnds g.A.Source.left g.A.Source.has_failed g.A.Source.end_told g.B.Source.left g.B.Source.has_failed g.B.Source.end_told o (state_of c.new-sweep.result).shape (state_of c.new-sweep.result).rule c.new-firsts.result c.new-seconds.result c.args.out.now None c.read_both-swept.new.first c.read_both-swept.new.second c.read_both-swept.new.out) records.order c.in-Ok.ensures)) in
-    let making = sweep_making order c.args.shape c.args.rule in
+    let ends = subst (λ (l : Option ℕ). SweepEnds g.A.Source.left g.A.Source.has_failed g.A.Source.end_told g.B.Source.left g.B.Source.has_failed g.B.Source.end_told order c.args.shape c.args.rule l c.new-firsts.result c.new-seconds.result c.args.out.now None c.read_both-swept.new.first c.read_both-swept.new.second c.read_both-swept.new.out) c.new-sweep.ensures.stands.limit_is
+    (subst (λ (r : HitRule). SweepEnds g.A.Source.left g.A.Source.has_failed g.A.Source.end_told g.B.Source.left g.B.Source.has_failed g.B.Source.end_told order c.args.shape r (state_of c.new-sweep.result).limit c.new-firsts.result c.new-seconds.result c.args.out.now None c.read_both-swept.new.first c.read_both-swept.new.second c.read_both-swept.new.out) c.new-sweep.ensures.stands.rule_is
+    (subst (λ (s : Shape). SweepEnds g.A.Source.left g.A.Source.has_failed g.A.Source.end_told g.B.Source.left g.B.Source.has_failed g.B.Source.end_told order s (state_of c.new-sweep.result).rule (state_of c.new-sweep.result).limit c.new-firsts.result c.new-seconds.result c.args.out.now None c.read_both-swept.new.first c.read_both-swept.new.second c.read_both-swept.new.out) c.new-sweep.ensures.stands.shape_is
+    (subst (λ (o : Order). SweepEnds g.A.Source.left g.A.Source.has_failed g.A.Source.end_told g.B.Source.left g.B.Source.has_failed g.B.Source.end_told o (state_of c.new-sweep.result).shape (state_of c.new-sweep.result).rule (state_of c.new-sweep.result).limit c.new-firsts.result c.new-seconds.result c.args.out.now None c.read_both-swept.new.first c.read_both-swept.new.second c.read_both-swept.new.out) records.order c.in-Ok.ensures))) in
+    let making = sweep_making order c.args.shape c.args.rule c.args.limit in
     let pair = records_pair g.A.Source.left g.A.Source.has_failed g.A.Source.end_told g.B.Source.left g.B.Source.has_failed g.B.Source.end_told c.new-firsts.result c.new-seconds.result in
     let format = bed_format (sorting_of order) in
     let begins = begins_by g.A.Source.left order First c.args.first c.new.result c.new-firsts.result records.below reader.source reader.input reader.none_taken.0 reader.none_fed reader.going.0 reader.lines records.good in
     let begins_second = begins_by g.B.Source.left order Second c.args.second c.new-2.result c.new-seconds.result records_2.below reader_2.source reader_2.input reader_2.none_taken.0 reader_2.none_fed reader_2.going.0 reader_2.lines records_2.good in
     let ended = sym (c.into_source-first.ensures ∙ ap source_of c.into_reader.ensures) in
     let ended_second = sym (c.into_source-second.ensures ∙ ap source_of c.into_reader-2.ensures) in
-    writes_both making pair c.args.out.now format format (λ two. placed_good Second order two c.requires.total) c.args.first c.args.second begins begins_second
+    writes_both making pair c.args.out.now format format (λ two. placed_good Second order two c.requires.total) (sweep_limits order c.args.shape c.args.rule c.args.limit) c.args.first c.args.second begins begins_second
     (view_of c.read_both-swept.new.first) (view_of c.read_both-swept.new.second) c.into_source-first.result c.into_source-second.result ended ended_second None c.read_both-swept.new.out ends
     (intersect_settles order c.args.shape c.args.rule) (intersect_reaches order)
-    (near_both making pair c.args.out.now format format (λ two. placed_good Second order two c.requires.total) (sweep_needs order c.args.shape c.args.rule) c.args.first c.args.second begins begins_second
+    (near_both making pair c.args.out.now format format (λ two. placed_good Second order two c.requires.total) (sweep_needs order c.args.shape c.args.rule c.args.limit) c.args.first c.args.second begins begins_second
     (view_of c.read_both-swept.new.first) (view_of c.read_both-swept.new.second) c.into_source-first.result c.into_source-second.result ended ended_second c.read_both-swept.new.out ends.near)
 
 pub returns : goal.returns
@@ -72,18 +75,19 @@ returns g c =
     let records_2 = c.new-seconds.ensures in
     let order = g.O.ChromOrder.order c.args.order.now in
     let fault = Some (told c.in-Err.fault) in
-    let ends = subst (λ (r : HitRule). SweepEnds g.A.Source.left g.A.Source.has_failed g.A.Source.end_told g.B.Source.left g.B.Source.has_failed g.B.Source.end_told order c.args.shape r c.new-firsts.result c.new-seconds.result c.args.out.now fault c.read_both-swept.new.first c.read_both-swept.new.second c.read_both-swept.new.out) c.new-sweep.ensures.stands.rule_is
-    (subst (λ (s : Shape). SweepEnds g.A.Source.left g.A.Source.has_failed g.A.Source.end_told g.B.Source.left g.B.Source.has_failed g.B.Source.end_told order s (state_of c.new-sweep.result).rule c.new-firsts.result c.new-seconds.result c.args.out.now fault c.read_both-swept.new.first c.read_both-swept.new.second c.read_both-swept.new.out) c.new-sweep.ensures.stands.shape_is
-    (subst (λ (o : Order). SweepEnds g.A.Source.left g.A.Source.has_failed g.A.Source.end_told g.B.Source.left g.B.Source.has_failed g.B.Source.end_told o (state_of c.new-sweep.result).shape (state_of c.new-sweep.result).rule c.new-firsts.result c.new-seconds.result c.args.out.now fault c.read_both-swept.new.first c.read_both-swept.new.second c.read_both-swept.new.out) records.order c.in-Err.ensures)) in
-    let making = sweep_making order c.args.shape c.args.rule in
+    let ends = subst (λ (l : Option ℕ). SweepEnds g.A.Source.left g.A.Source.has_failed g.A.Source.end_told g.B.Source.left g.B.Source.has_failed g.B.Source.end_told order c.args.shape c.args.rule l c.new-firsts.result c.new-seconds.result c.args.out.now fault c.read_both-swept.new.first c.read_both-swept.new.second c.read_both-swept.new.out) c.new-sweep.ensures.stands.limit_is
+    (subst (λ (r : HitRule). SweepEnds g.A.Source.left g.A.Source.has_failed g.A.Source.end_told g.B.Source.left g.B.Source.has_failed g.B.Source.end_told order c.args.shape r (state_of c.new-sweep.result).limit c.new-firsts.result c.new-seconds.result c.args.out.now fault c.read_both-swept.new.first c.read_both-swept.new.second c.read_both-swept.new.out) c.new-sweep.ensures.stands.rule_is
+    (subst (λ (s : Shape). SweepEnds g.A.Source.left g.A.Source.has_failed g.A.Source.end_told g.B.Source.left g.B.Source.has_failed g.B.Source.end_told order s (state_of c.new-sweep.result).rule (state_of c.new-sweep.result).limit c.new-firsts.result c.new-seconds.result c.args.out.now fault c.read_both-swept.new.first c.read_both-swept.new.second c.read_both-swept.new.out) c.new-sweep.ensures.stands.shape_is
+    (subst (λ (o : Order). SweepEnds g.A.Source.left g.A.Source.has_failed g.A.Source.end_told g.B.Source.left g.B.Source.has_failed g.B.Source.end_told o (state_of c.new-sweep.result).shape (state_of c.new-sweep.result).rule (state_of c.new-sweep.result).limit c.new-firsts.result c.new-seconds.result c.args.out.now fault c.read_both-swept.new.first c.read_both-swept.new.second c.read_both-swept.new.out) records.order c.in-Err.ensures))) in
+    let making = sweep_making order c.args.shape c.args.rule c.args.limit in
     let pair = records_pair g.A.Source.left g.A.Source.has_failed g.A.Source.end_told g.B.Source.left g.B.Source.has_failed g.B.Source.end_told c.new-firsts.result c.new-seconds.result in
     let format = bed_format (sorting_of order) in
     let begins = begins_by g.A.Source.left order First c.args.first c.new.result c.new-firsts.result records.below reader.source reader.input reader.none_taken.0 reader.none_fed reader.going.0 reader.lines records.good in
     let begins_second = begins_by g.B.Source.left order Second c.args.second c.new-2.result c.new-seconds.result records_2.below reader_2.source reader_2.input reader_2.none_taken.0 reader_2.none_fed reader_2.going.0 reader_2.lines records_2.good in
     let ended = sym (c.into_source-first.ensures ∙ ap source_of c.into_reader.ensures) in
     let ended_second = sym (c.into_source-second.ensures ∙ ap source_of c.into_reader-2.ensures) in
-    writes_both making pair c.args.out.now format format (λ two. placed_good Second order two c.requires.total) c.args.first c.args.second begins begins_second
+    writes_both making pair c.args.out.now format format (λ two. placed_good Second order two c.requires.total) (sweep_limits order c.args.shape c.args.rule c.args.limit) c.args.first c.args.second begins begins_second
     (view_of c.read_both-swept.new.first) (view_of c.read_both-swept.new.second) c.into_source-first.result c.into_source-second.result ended ended_second fault c.read_both-swept.new.out ends
     (intersect_settles order c.args.shape c.args.rule) (intersect_reaches order)
-    (near_both making pair c.args.out.now format format (λ two. placed_good Second order two c.requires.total) (sweep_needs order c.args.shape c.args.rule) c.args.first c.args.second begins begins_second
+    (near_both making pair c.args.out.now format format (λ two. placed_good Second order two c.requires.total) (sweep_needs order c.args.shape c.args.rule c.args.limit) c.args.first c.args.second begins begins_second
     (view_of c.read_both-swept.new.first) (view_of c.read_both-swept.new.second) c.into_source-first.result c.into_source-second.result ended ended_second c.read_both-swept.new.out ends.near)

@@ -9,14 +9,14 @@ use Rattle.bt_tool.proofs.sweeping.sweep_all.Goals as goal
 pub loop-first-smaller-in-Continue-1 : goal.loop-first-smaller-in-Continue-1
 loop-first-smaller-in-Continue-1 g c =
     let now = c.loop-first.invariant in
-    (turns_first g.A.Source.left g.A.Source.has_failed g.A.Source.end_told g.B.Source.left g.B.Source.has_failed g.B.Source.end_told (state_of c.args.sweep.now).shape (state_of c.args.sweep.now).rule c.args.first.now c.args.second.now c.args.out.now
+    (turns_first g.A.Source.left g.A.Source.has_failed g.A.Source.end_told g.B.Source.left g.B.Source.has_failed g.B.Source.end_told (state_of c.args.sweep.now).shape (state_of c.args.sweep.now).rule (state_of c.args.sweep.now).limit c.args.first.now c.args.second.now c.args.out.now
     c.requires.total c.requires.second c.requires.sorted c.requires.sorted_second c.loop-first.first c.loop-first.second (state_of c.loop-first.sweep) c.loop-first.out (order_of c.loop-first.sweep) now.1 now.0
     (sym c.want.ensures.is ∙ c.in-A.is) c.turn_first.new.first (state_of c.turn_first.new.sweep) c.turn_first.new.out c.in_ok-turn_first-in-A.ensures.turns).1
 
 pub loop-first-preserved-in-Continue-1 : goal.loop-first-preserved-in-Continue-1
 loop-first-preserved-in-Continue-1 g c =
     let now = c.loop-first.invariant in (
-      (turns_first g.A.Source.left g.A.Source.has_failed g.A.Source.end_told g.B.Source.left g.B.Source.has_failed g.B.Source.end_told (state_of c.args.sweep.now).shape (state_of c.args.sweep.now).rule c.args.first.now c.args.second.now c.args.out.now
+      (turns_first g.A.Source.left g.A.Source.has_failed g.A.Source.end_told g.B.Source.left g.B.Source.has_failed g.B.Source.end_told (state_of c.args.sweep.now).shape (state_of c.args.sweep.now).rule (state_of c.args.sweep.now).limit c.args.first.now c.args.second.now c.args.out.now
           c.requires.total c.requires.second c.requires.sorted c.requires.sorted_second c.loop-first.first c.loop-first.second (state_of c.loop-first.sweep) c.loop-first.out (order_of c.loop-first.sweep) now.1 now.0
           (sym c.want.ensures.is ∙ c.in-A.is) c.turn_first.new.first (state_of c.turn_first.new.sweep) c.turn_first.new.out c.in_ok-turn_first-in-A.ensures.turns).0,
       c.turn_first.ensures.order ∙ now.1,
@@ -25,23 +25,23 @@ loop-first-preserved-in-Continue-1 g c =
 pub returns-in_err-turn_first-in-A : goal.returns-in_err-turn_first-in-A
 returns-in_err-turn_first-in-A g c =
     let now = c.loop-first.invariant in
-    passed_on (λ r. SweepsOrStops g.A.Source.left g.A.Source.has_failed g.A.Source.end_told g.B.Source.left g.B.Source.has_failed g.B.Source.end_told (order_in c.args.first.now) (state_of c.args.sweep.now).shape (state_of c.args.sweep.now).rule c.args.first.now c.args.second.now c.args.out.now r c.turn_first.new.first c.loop-first.second (state_of c.turn_first.new.sweep) c.turn_first.new.out)
+    passed_on (λ r. SweepsOrStops g.A.Source.left g.A.Source.has_failed g.A.Source.end_told g.B.Source.left g.B.Source.has_failed g.B.Source.end_told (order_in c.args.first.now) (state_of c.args.sweep.now).shape (state_of c.args.sweep.now).rule (state_of c.args.sweep.now).limit c.args.first.now c.args.second.now c.args.out.now r c.turn_first.new.first c.loop-first.second (state_of c.turn_first.new.sweep) c.turn_first.new.out)
     c.from_residual.result c.in_err-turn_first-in-A.field-0.0 c.from_residual.ensures.1
-    (first_stops g.A.Source.left g.A.Source.has_failed g.A.Source.end_told g.B.Source.left g.B.Source.has_failed g.B.Source.end_told (state_of c.args.sweep.now).shape (state_of c.args.sweep.now).rule c.args.first.now c.args.second.now c.args.out.now
+    (first_stops g.A.Source.left g.A.Source.has_failed g.A.Source.end_told g.B.Source.left g.B.Source.has_failed g.B.Source.end_told (state_of c.args.sweep.now).shape (state_of c.args.sweep.now).rule (state_of c.args.sweep.now).limit c.args.first.now c.args.second.now c.args.out.now
     c.requires.total c.requires.second c.requires.sorted c.requires.sorted_second c.loop-first.first c.loop-first.second (state_of c.loop-first.sweep) c.loop-first.out (order_of c.loop-first.sweep) now.1 now.0
     (sym c.want.ensures.is ∙ c.in-A.is) c.in_err-turn_first-in-A.field-0.0 c.turn_first.new.first (state_of c.turn_first.new.sweep) c.turn_first.new.out c.in_err-turn_first-in-A.ensures.turns)
 
 pub loop-first-smaller : goal.loop-first-smaller
 loop-first-smaller g c =
     let now = c.loop-first.invariant in
-    (turns_second g.A.Source.left g.A.Source.has_failed g.A.Source.end_told g.B.Source.left g.B.Source.has_failed g.B.Source.end_told (state_of c.args.sweep.now).shape (state_of c.args.sweep.now).rule c.args.first.now c.args.second.now c.args.out.now
+    (turns_second g.A.Source.left g.A.Source.has_failed g.A.Source.end_told g.B.Source.left g.B.Source.has_failed g.B.Source.end_told (state_of c.args.sweep.now).shape (state_of c.args.sweep.now).rule (state_of c.args.sweep.now).limit c.args.first.now c.args.second.now c.args.out.now
     c.requires.total c.requires.second c.requires.sorted c.requires.sorted_second c.loop-first.first c.loop-first.second (state_of c.loop-first.sweep) c.loop-first.out (order_of c.loop-first.sweep) now.1 now.0
     (sym c.want.ensures.is ∙ c.in-B.is) c.turn_second.new.second (state_of c.turn_second.new.sweep) c.turn_second.new.out c.in_ok-turn_second-in-B.ensures.turns).1
 
 pub loop-first-preserved : goal.loop-first-preserved
 loop-first-preserved g c =
     let now = c.loop-first.invariant in (
-      (turns_second g.A.Source.left g.A.Source.has_failed g.A.Source.end_told g.B.Source.left g.B.Source.has_failed g.B.Source.end_told (state_of c.args.sweep.now).shape (state_of c.args.sweep.now).rule c.args.first.now c.args.second.now c.args.out.now
+      (turns_second g.A.Source.left g.A.Source.has_failed g.A.Source.end_told g.B.Source.left g.B.Source.has_failed g.B.Source.end_told (state_of c.args.sweep.now).shape (state_of c.args.sweep.now).rule (state_of c.args.sweep.now).limit c.args.first.now c.args.second.now c.args.out.now
           c.requires.total c.requires.second c.requires.sorted c.requires.sorted_second c.loop-first.first c.loop-first.second (state_of c.loop-first.sweep) c.loop-first.out (order_of c.loop-first.sweep) now.1 now.0
           (sym c.want.ensures.is ∙ c.in-B.is) c.turn_second.new.second (state_of c.turn_second.new.sweep) c.turn_second.new.out c.in_ok-turn_second-in-B.ensures.turns).0,
       c.turn_second.ensures.order ∙ now.1,
@@ -50,8 +50,8 @@ loop-first-preserved g c =
 pub returns-in_err-turn_second-in-B : goal.returns-in_err-turn_second-in-B
 returns-in_err-turn_second-in-B g c =
     let now = c.loop-first.invariant in
-    passed_on (λ r. SweepsOrStops g.A.Source.left g.A.Source.has_failed g.A.Source.end_told g.B.Source.left g.B.Source.has_failed g.B.Source.end_told (order_in c.args.first.now) (state_of c.args.sweep.now).shape (state_of c.args.sweep.now).rule c.args.first.now c.args.second.now c.args.out.now r c.loop-first.first c.turn_second.new.second (state_of c.turn_second.new.sweep) c.turn_second.new.out)
+    passed_on (λ r. SweepsOrStops g.A.Source.left g.A.Source.has_failed g.A.Source.end_told g.B.Source.left g.B.Source.has_failed g.B.Source.end_told (order_in c.args.first.now) (state_of c.args.sweep.now).shape (state_of c.args.sweep.now).rule (state_of c.args.sweep.now).limit c.args.first.now c.args.second.now c.args.out.now r c.loop-first.first c.turn_second.new.second (state_of c.turn_second.new.sweep) c.turn_second.new.out)
     c.from_residual-in_err-turn_second-in-B.result c.in_err-turn_second-in-B.field-0.0 c.from_residual-in_err-turn_second-in-B.ensures.1
-    (second_stops g.A.Source.left g.A.Source.has_failed g.A.Source.end_told g.B.Source.left g.B.Source.has_failed g.B.Source.end_told (state_of c.args.sweep.now).shape (state_of c.args.sweep.now).rule c.args.first.now c.args.second.now c.args.out.now
+    (second_stops g.A.Source.left g.A.Source.has_failed g.A.Source.end_told g.B.Source.left g.B.Source.has_failed g.B.Source.end_told (state_of c.args.sweep.now).shape (state_of c.args.sweep.now).rule (state_of c.args.sweep.now).limit c.args.first.now c.args.second.now c.args.out.now
     c.requires.total c.requires.second c.requires.sorted c.requires.sorted_second c.loop-first.first c.loop-first.second (state_of c.loop-first.sweep) c.loop-first.out (order_of c.loop-first.sweep) now.1 now.0
     (sym c.want.ensures.is ∙ c.in-B.is) c.in_err-turn_second-in-B.field-0.0 c.turn_second.new.second (state_of c.turn_second.new.sweep) c.turn_second.new.out c.in_err-turn_second-in-B.ensures.turns)

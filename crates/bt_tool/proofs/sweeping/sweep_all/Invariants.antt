@@ -9,7 +9,7 @@ use Rattle.bt_tool.proofs.sweeping.sweep_all.Given as goal
 abbrev pub invariant-loop-first : goal.invariant-loop-first
 invariant-loop-first g l =
     Sweeps g.A.Source.left g.A.Source.has_failed g.A.Source.end_told g.B.Source.left g.B.Source.has_failed g.B.Source.end_told (order_in l.initial.first)
-    (state_of l.initial.sweep).shape (state_of l.initial.sweep).rule l.initial.first l.initial.second l.initial.out l.first l.second (state_of l.sweep) l.out
+    (state_of l.initial.sweep).shape (state_of l.initial.sweep).rule (state_of l.initial.sweep).limit l.initial.first l.initial.second l.initial.out l.first l.second (state_of l.sweep) l.out
     × (order_of l.sweep ≡ order_in l.initial.first)
 
 abbrev pub decreases-loop-first : goal.decreases-loop-first

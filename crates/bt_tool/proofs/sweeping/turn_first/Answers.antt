@@ -13,7 +13,7 @@ returns-in_err-give_a-in-Some-clause-turns g c =
     (inr (record {
       item = feature_lent c.in-Some.record;
       ahead = record { gives = peek.answers; sound = peek.sound; order = peek.order };
-      fails = λ shape rule stage stands ordered. (c.in_err-give_a-in-Some.ensures.gives shape rule stage stands ordered).1;
+      fails = λ shape rule limit stage stands ordered. (c.in_err-give_a-in-Some.ensures.gives shape rule limit stage stands ordered).1;
     }))
 
 pub returns-in_ok-give_a-in-Some-clause-turns : goal.returns-in_ok-give_a-in-Some-clause-turns
@@ -24,5 +24,5 @@ returns-in_ok-give_a-in-Some-clause-turns g c =
       peeked = c.peek.follows.lender-at-none;
       ahead = record { gives = peek.answers; sound = peek.sound; order = peek.order };
       passes = c.advance.ensures;
-      given = λ shape rule stage stands ordered. c.in_ok-give_a-in-Some.ensures.gives shape rule stage stands ordered;
+      given = λ shape rule limit stage stands ordered. c.in_ok-give_a-in-Some.ensures.gives shape rule limit stage stands ordered;
     })

@@ -1,0 +1,8 @@
+use Rattle.std.proofs.Common.{sym, subst}
+use Rattle.std.specs.Prelude.{IsTrue}
+use Rattle.bt_tool.specs.Limits.{is_limit}
+use Rattle.bt_tool.proofs.GivenLemmas.{number-is_limit}
+use Rattle.bt_tool.proofs.options.limit_of.Goals as goal
+
+pub returns-in-Some-clause-limit : goal.returns-in-Some-clause-limit
+returns-in-Some-clause-limit c = subst (λ o. IsTrue (is_limit o)) (sym c.number.ensures) (number-is_limit c.as_bytes.result.now)

@@ -1,0 +1,357 @@
+//! Inputs and outputs that fail at each byte.
+
+ghost use Rattle.std.specs.Prelude.{None, true};
+
+use self::runs::{
+    BACK_RUN, Cut, FAULTY_RUN, HIT, MASKED, MERGE, ONE_INPUT, Row, SWEPT, TOUCHING, TOUCHING_RUN,
+};
+use crate::tests::{
+    Answer, GENOME, Script, expect, expect_size, failing_by, run_both, source_if, source_of,
+    strings, whole,
+};
+use crate::{plan, run};
+use bt_lines::{DeviceFailed, Input, Sink};
+use std::alloc::Global;
+use std::process::Abort;
+use std::test::Fail;
+
+mod runs;
+
+// The word at this place; an empty one where there are fewer.
+fn word<'a>(row: &Row, at: usize) -> &'a str {
+    row.words.get(at).copied().unwrap_or("")
+}
+
+// How an input is read where one of them is cut off: that one serves so many bytes.
+fn script_for(input: Input, cut: Option<(Input, usize)>, step: usize) -> Script {
+    match cut {
+        Some((of, good)) if of == input => failing_by(step.max(1), good),
+        _ => whole(step.max(1)),
+    }
+}
+
+fn run_row(
+    alloc: Global,
+    row: &Row,
+    cut: Option<(Input, usize)>,
+    step: usize,
+    out: Script,
+) -> Result<Answer, Fail> {
+    run_both(
+        alloc,
+        row.words,
+        (row.genome, script_for(Input::Genome, cut, step)),
+        (row.first, script_for(Input::First, cut, step)),
+        (row.second, script_for(Input::Second, cut, step)),
+        out,
+    )
+}
+
+// What is written and reported where reading this input fails behind so many whole lines.
+fn wanted_of(row: &Row, input: Input, lines: usize) -> Cut {
+    let cut = match input {
+        Input::Genome => None,
+        Input::First => row.first_cut.get(lines),
+        Input::Second => row.second_cut.get(lines),
+    };
+    match cut {
+        Some((output, line)) => (*output, *line),
+        None => (b"", ""),
+    }
+}
+
+// The bytes of an input of a row, and its name.
+fn input_of(row: &Row, input: Input) -> (&'static [u8], &'static str) {
+    match input {
+        Input::Genome => (row.genome, "g.txt"),
+        Input::First => (row.first, word(row, 2)),
+        Input::Second => (row.second, "b.bed"),
+    }
+}
+
+fn check_cut(
+    rt: &impl Abort,
+    alloc: Global,
+    row: &Row,
+    (input, good): (Input, usize),
+    step: usize,
+) -> Result<(), Fail> {
+    let (text, name) = input_of(row, input);
+    let lines = text
+        .iter()
+        .take(good)
+        .filter(|byte| **byte == b'\n')
+        .count();
+    let (output, line) = wanted_of(row, input, lines);
+    let answer = run_row(alloc, row, Some((input, good)), step, whole(7))?;
+    if !line.is_empty() {
+        expect(rt, &answer, output, line.as_bytes(), row.name);
+        return Ok(());
+    }
+    let command = word(row, 0);
+    let told = format!(in alloc;
+        "bedtools {command}: {name}:{}: reading failed\n",
+        lines + 1
+    )?;
+    expect(rt, &answer, output, told.as_bytes(), row.name);
+    Ok(())
+}
+
+// Whatever byte of an input fails to come. An input without a byte isn't cut, but for the first.
+fn check_cuts(
+    rt: &impl Abort,
+    alloc: Global,
+    row: &Row,
+    input: Input,
+    step: usize,
+) -> Result<(), Fail> {
+    let (text, _) = input_of(row, input);
+    if text.is_empty() && input != Input::First {
+        return Ok(());
+    }
+    for good in 0..=text.len() {
+        check_cut(rt, alloc, row, (input, good), step)?;
+    }
+    Ok(())
+}
+
+// A sink that takes so many bytes takes the first of the output; where these are all, the run is whole.
+fn check_outputs(rt: &impl Abort, alloc: Global, row: &Row, step: usize) -> Result<(), Fail> {
+    let command = word(row, 0);
+    let failed = format!(in alloc; "bedtools {command}: writing failed\n")?;
+    for good in 0..=row.output.len() {
+        let answer = run_row(alloc, row, None, step, failing_by(step.max(1), good))?;
+        if good < row.output.len() {
+            expect(
+                rt,
+                &answer,
+                &row.output[..good],
+                failed.as_bytes(),
+                row.name,
+            );
+        } else {
+            expect(rt, &answer, row.output, row.line.as_bytes(), row.name);
+        }
+    }
+    Ok(())
+}
+
+fn check_row(rt: &impl Abort, alloc: Global, row: &Row, step: usize) -> Result<(), Fail> {
+    check_cuts(rt, alloc, row, Input::Genome, step)?;
+    check_cuts(rt, alloc, row, Input::First, step)?;
+    check_cuts(rt, alloc, row, Input::Second, step)?;
+    check_outputs(rt, alloc, row, step)
+}
+
+fn check_rows(rt: &impl Abort, alloc: Global, rows: &[Row]) -> Result<(), Fail> {
+    for row in rows {
+        check_row(rt, alloc, row, 1)?;
+        check_row(rt, alloc, row, 7)?;
+    }
+    Ok(())
+}
+
+#[test]
+fn devices_of_merge_fail(rt: HostRuntime) -> Result<(), Fail> {
+    check_rows(&rt, rt.alloc(), &MERGE)
+}
+
+#[test]
+fn devices_of_other_commands_of_one_input_fail(rt: HostRuntime) -> Result<(), Fail> {
+    check_rows(&rt, rt.alloc(), &ONE_INPUT)
+}
+
+#[test]
+fn devices_of_a_sweep_fail(rt: HostRuntime) -> Result<(), Fail> {
+    check_rows(&rt, rt.alloc(), &SWEPT)
+}
+
+#[test]
+fn devices_of_masking_fail(rt: HostRuntime) -> Result<(), Fail> {
+    check_rows(&rt, rt.alloc(), &MASKED)
+}
+
+// A run with one input that serves so many bytes, or a sink that takes so many.
+struct Named {
+    name: &'static str,
+    row: Row,
+    cut: Option<(Input, usize)>,
+    out: (usize, Option<usize>),
+    output: &'static [u8],
+    line: &'static str,
+}
+
+const EMPTY: Row = Row {
+    name: "an empty input",
+    words: &["merge", "-i", "a.bed", "-g", "g.txt"],
+    genome: GENOME,
+    first: b"",
+    second: b"",
+    output: b"",
+    line: "",
+    first_cut: &[(b"", "")],
+    second_cut: &[],
+};
+
+const NAMED: [Named; 10] = [
+    Named {
+        name: "three lines of four",
+        row: TOUCHING_RUN,
+        cut: Some((Input::First, 39)),
+        out: (7, None),
+        output: b"",
+        line: "bedtools merge: a.bed:4: reading failed\n",
+    },
+    Named {
+        name: "all but the last line feed",
+        row: TOUCHING_RUN,
+        cut: Some((Input::First, 52)),
+        out: (7, None),
+        output: b"",
+        line: "bedtools merge: a.bed:4: reading failed\n",
+    },
+    Named {
+        name: "two lines before one out of order",
+        row: BACK_RUN,
+        cut: Some((Input::First, 21)),
+        out: (7, None),
+        output: b"chr1\t0\t10\n",
+        line: "bedtools merge: a.bed:3: reading failed\n",
+    },
+    Named {
+        name: "the second input up to its faulty line",
+        row: FAULTY_RUN,
+        cut: Some((Input::Second, 20)),
+        out: (7, None),
+        output: HIT,
+        line: "bedtools intersect: b.bed:3: reading failed\n",
+    },
+    Named {
+        name: "the second input inside its second line",
+        row: FAULTY_RUN,
+        cut: Some((Input::Second, 15)),
+        out: (7, None),
+        output: b"",
+        line: "bedtools intersect: b.bed:2: reading failed\n",
+    },
+    Named {
+        name: "one line of the genome file",
+        row: TOUCHING_RUN,
+        cut: Some((Input::Genome, 10)),
+        out: (7, None),
+        output: b"",
+        line: "bedtools merge: g.txt:2: reading failed\n",
+    },
+    Named {
+        name: "a failed write comes before a record out of order",
+        row: BACK_RUN,
+        cut: None,
+        out: (7, Some(4)),
+        output: b"chr1",
+        line: "bedtools merge: writing failed\n",
+    },
+    Named {
+        name: "a sink of five bytes",
+        row: TOUCHING_RUN,
+        cut: None,
+        out: (7, Some(5)),
+        output: b"chr1\t",
+        line: "bedtools merge: writing failed\n",
+    },
+    Named {
+        name: "nothing to write",
+        row: EMPTY,
+        cut: None,
+        out: (7, Some(0)),
+        output: b"",
+        line: "",
+    },
+    Named {
+        name: "a sink that takes byte by byte",
+        row: TOUCHING_RUN,
+        cut: None,
+        out: (1, None),
+        output: b"chr1\t100\t500\nchr1\t501\t1000\n",
+        line: "",
+    },
+];
+
+fn check_named(rt: &impl Abort, alloc: Global, case: &Named) -> Result<(), Fail> {
+    let out = match case.out {
+        (step, Some(good)) => failing_by(step.max(1), good),
+        (step, None) => whole(step.max(1)),
+    };
+    let answer = run_row(alloc, &case.row, case.cut, 7, out)?;
+    expect(rt, &answer, case.output, case.line.as_bytes(), case.name);
+    Ok(())
+}
+
+fn check_all_named(rt: &impl Abort, alloc: Global, cases: &[Named]) -> Result<(), Fail> {
+    for case in cases {
+        check_named(rt, alloc, case)?;
+    }
+    Ok(())
+}
+
+#[test]
+fn devices_that_fail_somewhere(rt: HostRuntime) -> Result<(), Fail> {
+    check_all_named(&rt, rt.alloc(), &NAMED)
+}
+
+// A sink that takes everything, and whose flush fails.
+#[derive(Drop)]
+struct FlushFails {
+    taken: usize,
+    has_failed: bool,
+}
+
+impl Sink for FlushFails {
+    ghost took = { λ _. None };
+
+    ghost has_failed = { λ s. s.has_failed };
+
+    ghost is_flushed = { λ _. true };
+
+    fn write(&mut self, bytes: &[u8]) -> Result<usize, DeviceFailed> {
+        self.taken = self.taken.saturating_add(bytes.len());
+        Ok(bytes.len())
+    }
+
+    fn flush(&mut self) -> Result<(), DeviceFailed> {
+        self.has_failed = true;
+        Err(DeviceFailed)
+    }
+
+    fn failed(&self) -> bool {
+        self.has_failed
+    }
+}
+
+#[test]
+fn a_flush_that_fails(rt: HostRuntime) -> Result<(), Fail> {
+    let words = strings(rt.alloc(), TOUCHING_RUN.words)?;
+    let plan = plan(rt.alloc(), words.as_slice()).ok().ok_or("a plan")?;
+    let ended = run(
+        rt.alloc(),
+        &plan,
+        source_if(&plan.genome, GENOME, whole(7)),
+        source_of(TOUCHING, whole(7)),
+        source_if(&plan.second, b"", whole(7)),
+        FlushFails {
+            taken: 0,
+            has_failed: false,
+        },
+    );
+    let output = Vec::new(rt.alloc());
+    let line = ended.outcome.fault_line(rt.alloc(), &plan)?;
+    let status = ended.outcome.status();
+    let answer = Answer {
+        output,
+        line,
+        status,
+    };
+    expect_size(&rt, ended.out.taken, TOUCHING_RUN.output.len());
+    let line = b"bedtools merge: writing failed\n";
+    expect(&rt, &answer, b"", line, "a flush that fails");
+    Ok(())
+}

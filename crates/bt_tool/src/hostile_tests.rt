@@ -1,0 +1,110 @@
+//! Inputs that are large where others are small.
+
+use crate::tests::{
+    Answer, GENOME, expect, expect_size, run_words, source_if, source_of, strings, whole,
+};
+use crate::{plan, run};
+use bt_lines::ScriptSink;
+use std::alloc::{AllocError, Global};
+use std::process::Abort;
+use std::test::Fail;
+
+// A line of so many tabs.
+fn tabs(alloc: Global, count: usize) -> Result<Vec<u8>, AllocError> {
+    let mut text = Vec::new(alloc);
+    for _ in 0..count {
+        text.push(b'\t')?;
+    }
+    text.push(b'\n')?;
+    Ok(text)
+}
+
+#[test]
+fn a_line_of_tabs(rt: HostRuntime) -> Result<(), Fail> {
+    let text = tabs(rt.alloc(), 100_000)?;
+    let words = ["merge", "-i", "a.bed", "-g", "g.txt"];
+    let inputs = ((GENOME, whole(8192)), (text.as_slice(), whole(8192)));
+    let answer = run_words(rt.alloc(), &words, inputs.0, inputs.1, whole(7))?;
+    let line = b"bedtools merge: a.bed:1: empty chromosome name\n";
+    expect(&rt, &answer, b"", line, "a line of tabs");
+    Ok(())
+}
+
+// An alignment at the first position, of so many of the longest operations.
+fn long_alignment(alloc: Global, flag: &str, count: usize) -> Result<Vec<u8>, AllocError> {
+    let mut text = Vec::new(alloc);
+    text.extend_from_slice(b"r\t")?;
+    text.extend_from_slice(flag.as_bytes())?;
+    text.extend_from_slice(b"\ts\t1\t30\t")?;
+    for _ in 0..count {
+        text.extend_from_slice(b"999999999999M")?;
+    }
+    text.extend_from_slice(b"\t*\t0\t0\t*\t*\n")?;
+    Ok(text)
+}
+
+fn check_long(rt: &impl Abort, alloc: Global, flag: &str, line: &[u8]) -> Result<(), Fail> {
+    let text = long_alignment(alloc, flag, 1000)?;
+    let inputs = ((b"".as_slice(), whole(1)), (text.as_slice(), whole(8192)));
+    let answer = run_words(
+        alloc,
+        &["bamtobed", "-i", "a.sam"],
+        inputs.0,
+        inputs.1,
+        whole(7),
+    )?;
+    expect(rt, &answer, b"", line, flag);
+    Ok(())
+}
+
+#[test]
+fn an_alignment_of_a_thousand_operations(rt: HostRuntime) -> Result<(), Fail> {
+    check_long(
+        &rt,
+        rt.alloc(),
+        "0",
+        b"bedtools bamtobed: a.sam:1: end is too large\n",
+    )?;
+    check_long(&rt, rt.alloc(), "4", b"")
+}
+
+// Records that each make a run.
+fn many_runs(alloc: Global, count: u64) -> Result<Vec<u8>, AllocError> {
+    let mut text = Vec::new(alloc);
+    for i in 0..count.min(10_000) {
+        let line = format!(in alloc; "chr1\t{}\t{}\n", 20 * i, 20 * i + 10)?;
+        text.extend_from_slice(line.as_bytes())?;
+    }
+    Ok(text)
+}
+
+// A run over many records, on a sink that takes nothing: what it gives, and how many bytes it read.
+fn run_many(alloc: Global, text: &[u8]) -> Result<(Answer, usize), Fail> {
+    let words = strings(alloc, &["merge", "-i", "a.bed", "-g", "g.txt"])?;
+    let plan = plan(alloc, words.as_slice()).ok().ok_or("a plan")?;
+    let ended = run(
+        alloc,
+        &plan,
+        source_if(&plan.genome, b"chr1\t1000000\n", whole(8192)),
+        source_of(text, whole(8192)),
+        source_if(&plan.second, b"", whole(1)),
+        ScriptSink::new(alloc, 8192, Some(0)),
+    );
+    let answer = Answer {
+        output: Vec::new(alloc),
+        line: ended.outcome.fault_line(alloc, &plan)?,
+        status: ended.outcome.status(),
+    };
+    Ok((answer, ended.first.given()))
+}
+
+// The run stops once a block of output is full, and has read little more than was needed for it.
+#[test]
+fn a_failed_write_stops_the_reading(rt: HostRuntime) -> Result<(), Fail> {
+    let text = many_runs(rt.alloc(), 10_000)?;
+    let (answer, given) = run_many(rt.alloc(), text.as_slice())?;
+    let line = b"bedtools merge: writing failed\n";
+    expect(&rt, &answer, b"", line, "a sink that takes nothing");
+    expect_size(&rt, given.max(24_576), 24_576);
+    Ok(())
+}
