@@ -16,7 +16,7 @@ _dunekettle_bedtools() {
         case $command:${COMP_WORDS[COMP_CWORD - 1]} in
         merge:-i | merge:-g | complement:-i | complement:-g | intersect:-a | intersect:-b | intersect:-g | subtract:-a | subtract:-b | subtract:-g | genomecov:-i | genomecov:-g | bamtobed:-i | maskfasta:-fi | maskfasta:-bed | maskfasta:-fo) compopt -o default; return ;;
         merge:-S | genomecov:-strand) lines=(+ -) ;;
-        merge:-d | intersect:-f | subtract:-f | maskfasta:-mc) return ;;
+        merge:-d | intersect:-f | intersect:-held | subtract:-f | subtract:-held | maskfasta:-mc) return ;;
         merge:*) lines=(
             '-i  (the features, from standard input where it is missing, - or stdin)'
             '-g  (the chromosomes in their order)'
@@ -43,6 +43,7 @@ _dunekettle_bedtools() {
             '-r  (the same fraction is asked of the bases of B)'
             '-s  (a hit has the strand of A)'
             '-sorted  (nothing: all input has to be sorted)'
+            '-held  (at most N features B are kept in memory)'
         ) ;;
         subtract:*) lines=(
             '-a  (the features A and B)'
@@ -51,6 +52,7 @@ _dunekettle_bedtools() {
             '-A  (A as it is where nothing hits it, and nothing of it where anything does)'
             '-f  (a hit shares at least the fraction F of the bases of A, as in intersect)'
             '-s  (a hit has the strand of A)'
+            '-held  (at most N features B are kept in memory, as in intersect)'
         ) ;;
         genomecov:*) lines=(
             '-i  (the features, from standard input where it is missing, - or stdin)'

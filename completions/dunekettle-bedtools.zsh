@@ -44,7 +44,8 @@ intersect)
         '-f[a hit shares at least the fraction F of the bases of A]:F: ' \
         '-r[the same fraction is asked of the bases of B]' \
         '-s[a hit has the strand of A]' \
-        '-sorted[nothing\: all input has to be sorted]' ;;
+        '-sorted[nothing\: all input has to be sorted]' \
+        '-held[at most N features B are kept in memory]:N: ' ;;
 subtract)
     _arguments \
         '-a[the features A and B]:FILE:_files' \
@@ -52,7 +53,8 @@ subtract)
         '-g[the chromosomes in their order]:GENOME:_files' \
         '-A[A as it is where nothing hits it, and nothing of it where anything does]' \
         '-f[a hit shares at least the fraction F of the bases of A, as in intersect]:F: ' \
-        '-s[a hit has the strand of A]' ;;
+        '-s[a hit has the strand of A]' \
+        '-held[at most N features B are kept in memory, as in intersect]:N: ' ;;
 genomecov)
     _arguments \
         '-i[the features, from standard input where it is missing, - or stdin]:FILE:_files' \

@@ -53,7 +53,7 @@ FAULT = re.compile(
     rb"start is not a number|end is not a number|start is not below end|chromosome is not in the genome file|"
     rb"record is out of order|length is not a number|chromosome is repeated|flag is not a number|position is not a number|"
     rb"mapping quality is not a number|CIGAR is malformed|text before the first header|no such sequence from here on|"
-    rb"end is too large))\n"
+    rb"end is too large|too many open records))\n"
 )
 WITH_GENOME = [("-g", "g.txt", "genome")]
 ONE_INPUT = [("-i", "a.bed", "bed"), *WITH_GENOME]
@@ -75,10 +75,10 @@ COMMANDS = [
     Command("merge", ONE_INPUT, ["", "-d 3", "-s", "-s -d 7", "-S +", "-S -"]),
     Command("merge", ONE_NAMED, ["", "-d 3", "-s", "-s -d 7", "-S +", "-S -"]),
     Command("complement", ONE_INPUT, ["", "-L"]),
-    Command("intersect", TWO_INPUTS, ["", "-wa", "-wb", "-wa -wb", "-wo", "-u", "-v", "-c", "-s", "-f 0.5 -r", "-f 0.1 -s -v"]),
-    Command("subtract", TWO_INPUTS, ["", "-A", "-f 0.5", "-s"]),
-    Command("intersect", TWO_NAMED, ["", "-wa", "-wb", "-wa -wb", "-wo", "-u", "-v", "-c", "-s", "-f 0.5 -r", "-f 0.1 -s -v"]),
-    Command("subtract", TWO_NAMED, ["", "-A", "-f 0.5", "-s"]),
+    Command("intersect", TWO_INPUTS, ["", "-wa", "-wb", "-wa -wb", "-wo", "-u", "-v", "-c", "-s", "-f 0.5 -r", "-f 0.1 -s -v", "-held 0", "-c -held 1", "-held 3"]),
+    Command("subtract", TWO_INPUTS, ["", "-A", "-f 0.5", "-s", "-held 1", "-A -held 2"]),
+    Command("intersect", TWO_NAMED, ["", "-wa", "-wb", "-wa -wb", "-wo", "-u", "-v", "-c", "-s", "-f 0.5 -r", "-f 0.1 -s -v", "-held 0", "-c -held 1", "-held 3"]),
+    Command("subtract", TWO_NAMED, ["", "-A", "-f 0.5", "-s", "-held 1", "-A -held 2"]),
     Command("genomecov", ONE_INPUT, ["-bg", "-bga", "-bg -strand +", "-bga -strand -"]),
     Command("bamtobed", [("-i", "a.sam", "sam")], ["", "-split", "-cigar", "-split -cigar"]),
     Command("maskfasta", [("-fi", "a.fa", "fasta"), ("-bed", "b.bed", "bed")], ["", "-soft", "-mc x", "-fullHeader"]),

@@ -213,9 +213,24 @@ def subtract_lines(record, hits, options):
     return found + ([record.text(start, record.stop)] if start < record.stop else [])
 
 
+def within_limit(records, second, options):
+    """The second input up to the first record with which more have to be held than -held allows, and the fault there.
+    Held are those that lie on the chromosome of the first record that they leave undecided and end above its start."""
+    others, fault = second
+    most = int(options[options.index("-held") + 1]) if "-held" in options else None
+    for count in range(1, len(others) + 1 if most is not None else 1):
+        seen = others[:count]
+        undecided = next((record for record in records if seen[-1].place() < (record.rank, record.stop)), None)
+        held = [other for other in seen if undecided and other.chrom == undecided.chrom and other.stop > undecided.start]
+        if len(held) > most:
+            return seen, Fault("b.bed", seen[-1].line, "too many open records")
+    return others, fault
+
+
 def compare(first, second, lines_of, options):
     """The lines of all records of the first input that the second decides, and the fault that comes first."""
-    (records, fault_of_first), (others, fault_of_second) = first, second
+    records, fault_of_first = first
+    others, fault_of_second = within_limit(records, second, options)
     output = b""
     for record in records:
         if fault_of_second and (not others or others[-1].place() < (record.rank, record.stop)):
@@ -360,7 +375,7 @@ def answer_of(command, files, options):
 
 FILE, NUMBER, STRAND, FRACTION, CHARACTER = r".+", r"[0-9]+", r"[+-]", r"[0-9]+|[0-9]*\.[0-9]{1,9}|[0-9]+\.", r"[!-~]"
 # The options of each command: the form of the value, or None where none follows.
-OF_TWO = {"-a": FILE, "-b": FILE, "-g": FILE, "-f": FRACTION, "-s": None}
+OF_TWO = {"-a": FILE, "-b": FILE, "-g": FILE, "-f": FRACTION, "-s": None, "-held": NUMBER}
 OPTIONS = {
     "merge": {"-i": FILE, "-g": FILE, "-d": NUMBER, "-s": None, "-S": STRAND},
     "complement": {"-i": FILE, "-g": FILE, "-L": None},

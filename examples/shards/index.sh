@@ -11,5 +11,6 @@ for file; do
     *.fa) LC_ALL=C awk 'function put() { printf "%s\t%.0f\t%.0f\n", name, start, at - start; start = at }
         /^>/ { if (named++) put(); name = substr($1, 2); sub(/\r$/, "", name) }
         { at += length($0) + 1 } END { put() }' "$file" > "$file.index" ;;
+    *) echo "index.sh: $file: neither .bed nor .fa" >&2; exit 1 ;;
     esac
 done

@@ -5,6 +5,7 @@ set -euo pipefail
 for file; do
     case $file in
     *.bed.gz) tabix -l "$file" | LC_ALL=C sort ;;
-    *) cat "$file" ;;
+    *.index) cat "$file" ;;
+    *) sed '/^#/d' "$file" ;;
     esac
-done | awk -F'\t' '/^[^#\r]/ && !seen[$1]++ { print $1 }'
+done | awk -F'\t' '/^[^\r]/ && !seen[$1]++ { print $1 }'

@@ -3,20 +3,25 @@
 set -euo pipefail
 export NAME=$1
 mkdir -p "shards/$NAME"
+declare -A file_of
+before=
 for word in "${@:2}"; do
     part=${word##*/}
     part=shards/$NAME/${part%.gz}
-    case $word in
-    *.bed.gz) tabix "$word" "{$NAME}" > "$part" ;;
-    *.txt | *.fai) case $2 in
+    [ "${file_of[$part]:=$word}" = "$word" ] || { echo "shard.sh: two inputs are named ${part##*/}" >&2; exit 1; }
+    case "$before $word" in
+    -[iab]\ *.bed.gz | -bed\ *.bed.gz) tabix "$word" "{$NAME}" > "$part" ;;
+    -g\ *) case $2 in
         complement | genomecov) awk -F'\t' '$1 "" == ENVIRON["NAME"]' "$word" > "$part" ;;
         *) part=$word ;;
         esac ;;
-    *.fa) bytes=$(awk -F'\t' '$1 "" == ENVIRON["NAME"] { print "skip=" $2, "count=" $3 }' "$word.index")
+    -fi\ *.fa) bytes=$(awk -F'\t' '$1 "" == ENVIRON["NAME"] { print "skip=" $2, "count=" $3 }' "$word.index")
         dd if="$word" of="$part" bs=1M iflag=skip_bytes,count_bytes status=none count=0 $bytes ;;
-    *.sam) split -n "l/$NAME" "$word" > "$part" ;;
+    -i\ *.sam) split -n "l/$NAME" "$word" > "$part" ;;
+    -[iab]\ * | -bed\ * | -fi\ * | -fo\ *) echo "shard.sh: $before $word: no part can be made of it" >&2; exit 1 ;;
     *) part=$word ;;
     esac
     words+=("$part")
+    before=$word
 done
 "${BEDTOOLS:-bedtools}" "${words[@]}"
