@@ -127,7 +127,7 @@ def draw_run():
         '<text class="note" x="278" y="116">run</text>',
         '<text class="note" x="480" y="122">how it ended</text>',
         '<text class="note" x="380" y="312" text-anchor="middle">report: what the whole texts give, as a definition. What a run writes</text>',
-        '<text class="note" x="380" y="328" text-anchor="middle">and reports is the report\'s; where a device fails it is a front of it.</text>',
+        '<text class="note" x="380" y="328" text-anchor="middle">and reports is the report\'s; where a device fails it is a prefix of it.</text>',
     ]
     return picture(760, 340, parts)
 

@@ -5,14 +5,14 @@
 
 Each command line below is run again and again: first its first growth is refused, then its second, until a run meets
 no refusal; and so once more, where all growths behind the refused one are refused too. Each refused run has to end
-with `bedtools COMMAND: no memory` or `bedtools: no memory` and status 1, and to write a front of the whole output, in
+with `bedtools COMMAND: no memory` or `bedtools: no memory` and status 1, and to write a prefix of the whole output, in
 which nothing is missing that was settled: what the same command line writes where reading fails at the line that was
 read last, and behind what was read of the other input. refuse.c refuses the growths, preloaded into the program; it
 hands over a line at most at each read, so that it knows how far the inputs were read; without it the whole output has
 to be the same.
 
 Then reading fails at each line of each input and at its end, and writing behind each number of bytes: a run has to
-report that with its line, to write a front of the whole output (of just so many bytes where writing fails), and not to
+report that with its line, to write a prefix of the whole output (of just so many bytes where writing fails), and not to
 try the call again. Needs gcc. Ends with 1 where something else comes of it.
 """
 

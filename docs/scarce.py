@@ -4,7 +4,7 @@
     docs/scarce.py
 
 Address spaces: each command over a long line and over much that is kept, at a dozen sizes of `ulimit -v`. Each run has
-to write and report what it does where nothing is scarce, or a front of that output with a line that says that there is
+to write and report what it does where nothing is scarce, or a prefix of that output with a line that says that there is
 no memory, and status 1. The sizes begin where the program is started at all, which is told by a run without words:
 where standard error has a line of the program's own, the system had room for the program and the C library, and
 whatever a run at such a size does is the program's doing. In less than that the run has to end with status 127, which
@@ -12,7 +12,7 @@ is the loader's and never the program's, or where the system ends `true` too.
 
 Full disks: each command into a file that takes only so many bytes (a limit of the file's size, whose signal is
 ignored; a short output at each of its bytes), and into a tmpfs with less room than the output, with none, and with no
-room for a file. The file has to hold a front of the output, and the line has to say that writing failed, with status 1.
+room for a file. The file has to hold a prefix of the output, and the line has to say that writing failed, with status 1.
 
 Ends with 1 where something else comes of it.
 """
@@ -166,7 +166,7 @@ def told(job, wanted, found):
 
 
 def is_front(found, whole):
-    """Whether what was found is a front of the whole, without memory for more."""
+    """Whether what was found is a prefix of the whole, without memory for more."""
     return found[0] == 1 and whole.startswith(found[1])
 
 
@@ -181,7 +181,7 @@ def try_spaces(job, least):
         if found != whole:
             refused.append(found)
             if not is_front(found, whole[1]) or found[2] not in lacks:
-                wrong += told(f"{job.name}, {least + spare} kB", "all of the output, or a front of it and no memory", found)
+                wrong += told(f"{job.name}, {least + spare} kB", "all of the output, or a prefix of it and no memory", found)
     if len(refused) in (0, len(SPARE)):
         wrong += told(job.name, "some of the spaces are too small, and some aren't", whole)
     elif job.bad:
