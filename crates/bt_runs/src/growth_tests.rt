@@ -2,11 +2,10 @@
 //! thousand records that settle nothing, the first alone may take memory.
 
 use crate::engine::Engine;
-use crate::testing::{holds, same_count};
+use crate::testing::{feed_line, genome, holds, same_count};
 use crate::{Complement, Merge, MergeStrand};
-use bt_bed::{Genome, parse_bed};
-use bt_lines::{Fault, Input, LineReader, Out, ScriptSink, ScriptSource};
-use std::alloc::{AllocError, Global};
+use bt_lines::{Out, ScriptSink};
+use std::alloc::AllocError;
 use std::process::Abort;
 use std::test::Fail;
 
@@ -21,25 +20,21 @@ fn numbered(number: u64) -> [u8; 16] {
     line
 }
 
-fn feed<E: Engine>(engine: &mut E, number: u64, out: &mut Out<ScriptSink>) -> Result<(), Fault> {
-    let line = numbered(number);
-    match parse_bed(&line) {
-        Ok(Some(bed)) => engine.feed(&bed, out),
-        _ => Ok(()),
-    }
-}
-
 // Feeds the first record, which may be refused, and the others, which may not.
 fn feed_all<E: Engine>(
     rt: &impl Abort,
     engine: &mut E,
     out: &mut Out<ScriptSink>,
 ) -> Result<(), Fail> {
-    if feed(engine, 0, out).is_err() {
+    if feed_line(engine, &numbered(0), out).is_err() {
         return Err(Fail::from(AllocError));
     }
     for number in 1..10_000 {
-        holds(rt, feed(engine, number, out).is_ok(), "a record");
+        holds(
+            rt,
+            feed_line(engine, &numbered(number), out).is_ok(),
+            "a record",
+        );
     }
     same_count(rt, engine.kept_len(), 1, "one is kept");
     Ok(())
@@ -52,17 +47,9 @@ fn refused_growth_of_a_merge(rt: HostRuntime) -> Result<(), Fail> {
     feed_all(&rt, &mut merge, &mut out)
 }
 
-fn read_genome(alloc: Global) -> Result<Genome, Fault> {
-    let source = ScriptSource::new(b"chr1\t30000\n", 7, None);
-    let mut reader = LineReader::new(alloc, source, Input::Genome);
-    let genome = Genome::read(alloc, &mut reader);
-    let _ = reader.into_source();
-    genome
-}
-
 #[test]
 fn refused_growth_of_a_complement(rt: HostRuntime) -> Result<(), Fail> {
-    let Ok(genome) = read_genome(rt.alloc()) else {
+    let Ok(genome) = genome(rt.alloc(), b"chr1\t30000\n") else {
         return Err(Fail::from(AllocError));
     };
     let mut complement = Complement::new(&genome, false);

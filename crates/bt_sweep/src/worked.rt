@@ -1,7 +1,9 @@
-//! Worked cases of rules and of subtract.
+//! Worked cases of shapes, of rules and of subtract.
 
 use crate::hit_rule::HitRule;
 use crate::shape::Shape;
+use bt_bed::{Rec, parse_bed};
+use std::alloc::{AllocError, Global};
 
 pub(crate) type Lines = &'static [&'static [u8]];
 
@@ -59,6 +61,152 @@ const LONGEST: Lines = &[b"chr1\t0\t999999999999"];
 const FORWARD: Lines = &[b"chr1\t0\t10\ta\t0\t+"];
 
 const BACKWARD: Lines = &[b"chr1\t5\t8\tb\t0\t-"];
+
+const TOUCHING_A: Lines = &[b"chr1\t10\t20"];
+
+const TOUCHING_B: Lines = &[b"chr1\t20\t30"];
+
+const NESTED_A: Lines = &[b"chr1\t0\t100", b"chr1\t50\t60"];
+
+pub(crate) const NESTED_B: Lines = &[b"chr1\t10\t20", b"chr1\t55\t58", b"chr1\t90\t95"];
+
+const NAMED_A: Lines = &[b"chr1\t10\t30\ta"];
+
+const NAMED_B: Lines = &[b"chr1\t0\t15\tx", b"chr1\t25\t40\ty"];
+
+// Where one shared base is a hit.
+pub(crate) const ANY_OVERLAP: [RuledCase; 18] = [
+    ("touching", Shape::Cut, ANY, TOUCHING_A, TOUCHING_B, b""),
+    (
+        "touching, missing",
+        Shape::Missing,
+        ANY,
+        TOUCHING_A,
+        TOUCHING_B,
+        b"chr1\t10\t20\n",
+    ),
+    (
+        "touching, counted",
+        Shape::Count,
+        ANY,
+        TOUCHING_A,
+        TOUCHING_B,
+        b"chr1\t10\t20\t0\n",
+    ),
+    (
+        "one within another",
+        Shape::Cut,
+        ANY,
+        NESTED_A,
+        NESTED_B,
+        b"chr1\t10\t20\nchr1\t55\t58\nchr1\t90\t95\nchr1\t55\t58\n",
+    ),
+    (
+        "one within another, counted",
+        Shape::Count,
+        ANY,
+        NESTED_A,
+        NESTED_B,
+        b"chr1\t0\t100\t3\nchr1\t50\t60\t1\n",
+    ),
+    (
+        "two hits, cut",
+        Shape::Cut,
+        ANY,
+        NAMED_A,
+        NAMED_B,
+        b"chr1\t10\t15\ta\nchr1\t25\t30\ta\n",
+    ),
+    (
+        "two hits, the record",
+        Shape::OrigA,
+        ANY,
+        NAMED_A,
+        NAMED_B,
+        b"chr1\t10\t30\ta\nchr1\t10\t30\ta\n",
+    ),
+    (
+        "two hits, cut and the other",
+        Shape::CutAndB,
+        ANY,
+        NAMED_A,
+        NAMED_B,
+        b"chr1\t10\t15\ta\tchr1\t0\t15\tx\nchr1\t25\t30\ta\tchr1\t25\t40\ty\n",
+    ),
+    (
+        "two hits, both",
+        Shape::OrigBoth,
+        ANY,
+        NAMED_A,
+        NAMED_B,
+        b"chr1\t10\t30\ta\tchr1\t0\t15\tx\nchr1\t10\t30\ta\tchr1\t25\t40\ty\n",
+    ),
+    (
+        "two hits, both and the shared bases",
+        Shape::Overlap,
+        ANY,
+        NAMED_A,
+        NAMED_B,
+        b"chr1\t10\t30\ta\tchr1\t0\t15\tx\t5\nchr1\t10\t30\ta\tchr1\t25\t40\ty\t5\n",
+    ),
+    (
+        "two hits, once",
+        Shape::Once,
+        ANY,
+        NAMED_A,
+        NAMED_B,
+        b"chr1\t10\t30\ta\n",
+    ),
+    (
+        "two hits, counted",
+        Shape::Count,
+        ANY,
+        NAMED_A,
+        NAMED_B,
+        b"chr1\t10\t30\ta\t2\n",
+    ),
+    (
+        "two hits, missing",
+        Shape::Missing,
+        ANY,
+        NAMED_A,
+        NAMED_B,
+        b"",
+    ),
+    ("no first record", Shape::Cut, ANY, &[], NAMED_B, b""),
+    (
+        "no second record",
+        Shape::Missing,
+        ANY,
+        NAMED_A,
+        &[],
+        b"chr1\t10\t30\ta\n",
+    ),
+    (
+        "the second on other chromosomes",
+        Shape::Cut,
+        ANY,
+        &[b"chr2\t0\t5"],
+        &[b"chr1\t0\t9", b"chr2\t5\t9"],
+        b"",
+    ),
+    (
+        "three chromosomes' worth of records",
+        Shape::Cut,
+        ANY,
+        &[b"chr1\t0\t10", b"chr1\t20\t30", b"chr2\t0\t10"],
+        &[b"chr1\t5\t25", b"chr1\t29\t40", b"chr2\t9\t12"],
+        b"chr1\t5\t10\nchr1\t20\t25\nchr1\t29\t30\nchr2\t9\t10\n",
+    ),
+    (
+        "numbers without leading zeros",
+        Shape::OrigA,
+        ANY,
+        &[b"chr1\t007\t009\tn\t0\t+"],
+        &[b"chr1\t008\t9"],
+        b"chr1\t7\t9\tn\t0\t+\n",
+    ),
+];
 
 pub(crate) const FRACTIONS: [RuledCase; 11] = [
     ("half", Shape::Cut, HALF, SHORT, FRONT, b"chr1\t0\t5\n"),
@@ -239,3 +387,14 @@ pub(crate) const SUBTRACTED: [RuledCase; 9] = [
         b"chr1\t0\t10\n",
     ),
 ];
+
+// The records of these lines.
+pub(crate) fn records_of(alloc: Global, lines: &[&[u8]]) -> Result<Vec<Rec>, AllocError> {
+    let mut records = Vec::new(alloc);
+    for line in lines {
+        if let Ok(Some(bed)) = parse_bed(line) {
+            records.push(bed.to_rec(alloc)?)?;
+        }
+    }
+    Ok(records)
+}

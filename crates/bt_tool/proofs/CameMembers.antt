@@ -1,18 +1,23 @@
 -- Lemmas on what is good of an input that a reader of members took.
-use Rattle.std.proofs.Common.{◌≡◌, ℕ, suc, ◌-◌, ◌^◌, ◌≤◌, ◌<◌, Bool, List, ◌++◌, take, Option, None, Some, refl, sym, ap, ◌∙◌, subst, inl, inr}
+use Rattle.std.proofs.Common.{◌≡◌, ℕ, suc, ◌+◌, ◌-◌, ◌^◌, ◌≤◌, ◌<◌, Bool, List, ◌++◌, length, take, drop, Option, None, Some, refl, sym, ap, ◌∙◌, subst, inl, inr, ⊎_elim}
 use Rattle.std.specs.Prelude.{All, IfSome, IsSome, option_map}
 use Rattle.bt_lines.specs.Fault.{Told, read_failed}
 use Rattle.bt_lines.specs.Handed.{Handed, whole_text}
-use Rattle.bt_lines.specs.Lines.{line_feeds, text_lines}
+use Rattle.bt_lines.specs.Lines.{bytes_in, line_feeds, text_lines}
 use Rattle.bt_lines.specs.Reader.{Hands, bytes_taken, feeds_taken, input_of, lines_given, lines_left, source_of}
 use Rattle.bt_lines.specs.declared.fault.Input.{Input}
+use Rattle.bt_lines.specs.declared.fault.Kind.{Kind}
+use Rattle.bt_lines.specs.Output.{block_size}
+use Rattle.std.specs.Io.KnownBytes.{Consumes}
+use Rattle.bt_bed.specs.LineKind.{fault_at_line}
 use Rattle.bt_bed.specs.Good.{Format, Good, Member, good, good_handed, or_else}
 use Rattle.bt_bed.specs.GoodLines.{IsBeyond}
 use Rattle.bt_bed.specs.Reading.{MemberReader, good_coming}
 use Rattle.bt_tool.specs.Coming.{Came}
-use Rattle.bt_tool.specs.Passed.{IsUnreadBehind}
-use Rattle.bt_tool.proofs.HandedLemmas.{cut_good}
-use Rattle.bt_tool.proofs.HandedReader.{cut_text, handed_all, handed_part}
+use Rattle.bt_tool.specs.Driving.{TellsInput}
+use Rattle.bt_tool.specs.Passed.{HasFaultBehind, IsUnreadBehind}
+use Rattle.bt_tool.proofs.HandedLemmas.{cut_good, handed_near}
+use Rattle.bt_tool.proofs.HandedReader.{consumed_by, consumes_parts, cut_text, handed_all, handed_part, passes_by}
 
 -- what holds of a known value
 pub some_of : {A : Type 0} (a : Option A) (value : A) (P : A → Type 0) → a ≡ Some value → IfSome a P → P value
@@ -84,3 +89,36 @@ module _ {S A State : Type 0} (left : S → Option (List ℕ)) (failed end : S �
       (subst (λ t. IsBeyond (line_feeds front) (record { members = members.0; fault = (good format input (text_lines t)).fault })) (sym text)
       (subst (λ n. IsBeyond n (record { members = members.0; fault = (good format input (text_lines reads.text)).fault })) given members.2))
       ∙ ap (λ f. record { members = past; fault = f }) told
+
+  -- one with a fault
+  pub says_fault : (Kinds : Kind → Type 0) (past : List (Member A)) (fault : Told) (handed : Handed) → Came left failed first last (Some fault) handed → (bytes : List ℕ) × Hands left old.below bytes new.below
+      → HasFaultBehind left failed end old Kinds past fault new → ((good_handed format input handed).members ≡ past) × ((good_handed format input handed).fault ≡ Some fault)
+  says_fault Kinds past fault handed came hands (inl wrong) =
+      came_whole (Some fault) handed came hands wrong.served wrong.within (λ good. (good.members ≡ past) × (good.fault ≡ Some fault)) wrong.whole
+  says_fault Kinds past fault handed came hands (inr unread) =
+      let is = came_cut past fault handed came unread in
+      (ap (λ (g : Good A). g.members) is, ap (λ (g : Good A). g.fault) is)
+
+  -- what the fault tells
+  pub tells_fault : (Kinds : Kind → Type 0) (past : List (Member A)) (fault : Told) → (bytes : List ℕ) × Hands left old.below bytes new.below
+      → HasFaultBehind left failed end old Kinds past fault new → TellsInput left failed Kinds input first last fault
+  tells_fault Kinds past fault hands (inl wrong) = inl (record { line = wrong.line; kind = wrong.kind; of_kind = wrong.of_kind; is = wrong.is ∙ ap (λ i. fault_at_line i wrong.line wrong.kind) begins.input_is })
+  tells_fault Kinds past fault hands (inr unread) = inr (record {
+    line = suc (lines_given new.below);
+    is = unread.is ∙ ap (λ i. read_failed i (suc (lines_given new.below))) begins.input_is;
+    cause = ⊎_elim (λ fails. inl (ap failed (sym ended) ∙ fails)) (λ bound. inr (passes_by left failed first last old.below new.below begins.source ended begins.bytes hands bound)) unread.cause;
+  })
+
+  -- what was handed over, by how many lines were read
+  pub handed_to : (count : ℕ) (text : List ℕ) → left first ≡ Some text
+      → IfSome (lines_left left old.below) (λ lines. IfSome (left (source_of new.below)) (λ rest. bytes_in (drop (suc count) lines) ≤ length rest + block_size))
+      → (bytes : List ℕ) × Hands left old.below bytes new.below
+      → (handed : List ℕ) × Consumes (left first) (left last) handed × (length handed ≤ bytes_in (take (suc count) (text_lines text)) + block_size)
+  handed_to count text e near hands =
+      let handed = consumed_by left failed first last old.below new.below begins.source ended begins.bytes hands.0 hands.1 in
+      let parts = consumes_parts (left first) (left last) hands.0 text e handed in
+      let rest : left (source_of new.below) ≡ Some parts.0 = ap left ended ∙ parts.1 in
+      let lines : lines_left left old.below ≡ Some (text_lines text) = begins.lines ∙ ap (option_map text_lines) e in
+      let here = some_of (left (source_of new.below)) parts.0 (λ rest. bytes_in (drop (suc count) (text_lines text)) ≤ length rest + block_size) rest
+      (some_of (lines_left left old.below) (text_lines text) (λ lines. IfSome (left (source_of new.below)) (λ rest. bytes_in (drop (suc count) lines) ≤ length rest + block_size)) lines near) in
+      (hands.0, handed, handed_near (suc count) text hands.0 parts.0 parts.2 here)

@@ -1,24 +1,22 @@
 -- Lemmas on the genome file of a run, where it has one.
-use Rattle.std.proofs.Common.{◌≡◌, ℕ, suc, ◌-◌, ◌^◌, Bool, true, List, [], ◌++◌, take, Option, None, Some, Ok, Err, refl, sym, ap, ◌∙◌, subst, arith, inl, inr, ⊎_elim}
-use Rattle.std.specs.Prelude.{◌⊎◌, ◌≢◌, IfSome, Result, option_map}
+use Rattle.std.proofs.Common.{◌≡◌, ℕ, suc, ◌-◌, ◌^◌, Bool, true, List, ◌++◌, take, Option, None, Some, Ok, Err, refl, sym, ap, ◌∙◌, subst, arith, inl, inr, ⊎_elim}
+use Rattle.std.specs.Prelude.{◌⊎◌, ◌≢◌, IfSome, option_map}
 use Rattle.bt_lines.specs.Fault.{Told, no_memory, write_failed, read_failed}
 use Rattle.bt_lines.specs.Handed.{Handed, whole_text}
 use Rattle.bt_lines.specs.Lines.{TextLine, line_feeds, text_lines, whole_lines}
-use Rattle.bt_lines.specs.Names.{told}
 use Rattle.bt_lines.specs.Reader.{Hands, IsSound, source_of, input_of, bytes_taken, fault_kept, feeds_taken, lines_given, lines_left}
-use Rattle.bt_lines.specs.declared.fault.Fault.{Fault}
 use Rattle.bt_lines.specs.declared.fault.Input.TheVariants.{Genome as FromGenome}
 use Rattle.bt_lines.specs.declared.fault.Kind.TheVariants.{ReadFailed}
 use Rattle.bt_lines.specs.declared.line_reader.LineReader.{LineReader}
 use Rattle.bt_lines.proofs.TextLemmas.{whole_count, whole_front}
 use Rattle.bt_bed.specs.Genome.{Entry, genome_handed, genome_of}
-use Rattle.bt_bed.specs.GenomeTable.{EntryIsWrong, EntryUnread, ReadsAll, ReadsGenome, ReadingStops, StopCause, entries}
+use Rattle.bt_bed.specs.GenomeTable.{EntryIsWrong, EntryUnread, ReadsAll, ReadingStops, StopCause, entries}
 use Rattle.bt_bed.specs.OrderInUse.{order_by}
 use Rattle.bt_bed.specs.LineKind.{fault_at_line, is_genome_kind}
 use Rattle.bt_bed.specs.declared.genome.Genome.{Genome}
 use Rattle.bt_tool.specs.Behaviour.{order_of}
 use Rattle.bt_tool.specs.Kinds.{IsOneOf}
-use Rattle.bt_tool.specs.Chromosomes.{KnowsChromosomes, LacksChromosomes, ReadsChromosomes}
+use Rattle.bt_tool.specs.Chromosomes.{KnowsChromosomes, LacksChromosomes}
 use Rattle.bt_tool.specs.Driving.{IsOfInput, TellsInput}
 use Rattle.bt_tool.specs.Inputs.{HoldsIf, Reads, ReadsIf}
 use Rattle.bt_tool.specs.Report.{chromosomes_of, of_file}

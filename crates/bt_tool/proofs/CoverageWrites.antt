@@ -1,5 +1,5 @@
 -- What a coverage writes is the report of its command.
-use Rattle.std.proofs.Common.{◌≡◌, ℕ, Bool, List, [], Option, None, refl, sym, ap, ◌∙◌}
+use Rattle.std.proofs.Common.{◌≡◌, Bool, List, [], Option, refl, ap, ◌∙◌}
 use Rattle.std.proofs.lemmas.Grind.{flat_map-append}
 use Rattle.bt_bed.specs.Genome.{Entry}
 use Rattle.bt_bed.specs.declared.strand.Strand.{Strand}

@@ -2,6 +2,7 @@ pub mod Asked
 pub mod Division
 pub mod GivenLemmas
 pub mod Reading
+pub mod ComeLemmas
 pub mod FeedLemmas
 pub mod FractionLemmas
 pub mod PassedLemmas

@@ -35,7 +35,7 @@ use Rattle.bt_tool.specs.Pair.{Making, Pair, Settles, item_ahead}
 use Rattle.bt_tool.specs.PairComes.{IsOpenAt}
 use Rattle.bt_tool.specs.PairEnds.{IsKnown}
 use Rattle.bt_tool.specs.Passed.{IsAhead, IsOver, IsStopped, state_behind}
-use Rattle.bt_tool.proofs.FeedLemmas.{begins_more}
+use Rattle.bt_tool.proofs.ComeLemmas.{begins_more}
 use Rattle.bt_tool.proofs.LineMembers.{wrong_is_text}
 use Rattle.bt_tool.proofs.MaskKinds.{says_of_blocks}
 use Rattle.bt_tool.proofs.MemberLemmas.{passes_peek, rises_now}

@@ -19,10 +19,10 @@ use Rattle.bt_bed.specs.GoodLines.{IsBeyond}
 use Rattle.bt_bed.proofs.GoodLemmas.{beyond_from}
 use Rattle.bt_bed.specs.LineKind.{fault_at_line}
 use Rattle.bt_bed.specs.Reading.{Advances, AnswersFault, Cause as PeekCause, GivesMember, IsSaidBehind, MemberReader, Remains, good_at, good_behind, good_coming}
-use Rattle.bt_tool.specs.Feeding.{ComeFirst, IsFresh, member_items}
-use Rattle.bt_tool.specs.Passed.{AreAll, AreSaid, IsAhead, IsOver, IsReadFor, IsReadTo, IsStopped, IsUnreadBehind, IsWrongBehind, LacksMemory, Passes, StopsAfter, state_behind}
+use Rattle.bt_tool.specs.Feeding.{IsFresh}
+use Rattle.bt_tool.specs.Passed.{ComeFirst, member_items, AreAll, AreSaid, IsAhead, IsOver, IsReadFor, IsReadTo, IsStopped, IsUnreadBehind, IsWrongBehind, LacksMemory, Passes, StopsAfter, state_behind}
 use Rattle.bt_tool.proofs.FaultLemmas.{line_no_read, memory_no_read}
-use Rattle.bt_tool.proofs.FeedLemmas.{begins_beyond, begins_more, begins_with, come_more, come_none, cuts_both, lines_on, near_from_start, none_passed, numbered_lines, up_to, whole_with}
+use Rattle.bt_tool.proofs.ComeLemmas.{begins_beyond, begins_more, begins_with, come_more, come_none, cuts_both, lines_on, near_from_start, none_passed, numbered_lines, up_to, whole_with}
 use Rattle.bt_tool.proofs.StopLemmas.{StopsBehind, coming_is, given_next, stops_ended, stops_faulty, stops_given}
 
 -- what is known behind one more item

@@ -1,12 +1,12 @@
 -- Lemmas from how a run over two readers of members ends to the report on how the inputs meet.
-use Rattle.std.proofs.Common.{◌≡◌, ℕ, suc, ◌+◌, ◌≤◌, ◌<◌, Bool, true, false, List, [], ◌∷◌, ◌++◌, Option, None, Some, refl, sym, ap, ◌∙◌, subst, append_assoc, append-nil, arith, flat_map, inl, inr, ⊎_elim}
+use Rattle.std.proofs.Common.{◌≡◌, ℕ, suc, ◌+◌, ◌≤◌, ◌<◌, Bool, true, false, List, [], ◌∷◌, ◌++◌, Option, None, Some, refl, sym, ap, ◌∙◌, subst, append_assoc, append-nil, arith, flat_map, inl, inr}
 use Rattle.std.specs.Prelude.{◌⊎◌, ◌≢◌, ◌||◌, All, IfSome, IsSome, is_none, option_to_list}
 use Rattle.std.specs.List.{list_all}
 use Rattle.std.specs.Option.{option_or}
 use Rattle.std.proofs.lemmas.Bool.{false≢true, or_from}
 use Rattle.std.proofs.lemmas.List.{map-append}
 use Rattle.std.proofs.lemmas.List.Elements.{All-head, All-tail}
-use Rattle.bt_lines.specs.Fault.{Told, no_memory, read_failed, write_failed}
+use Rattle.bt_lines.specs.Fault.{Told, no_memory, write_failed}
 use Rattle.bt_lines.specs.Handed.{Handed, whole_text}
 use Rattle.bt_lines.specs.Lines.{TextLine}
 use Rattle.bt_lines.specs.Output.{Output, IsFrontOf, block_size}
@@ -17,7 +17,6 @@ use Rattle.bt_lines.specs.declared.fault.Kind.{Kind}
 use Rattle.bt_lines.specs.declared.fault.Kind.TheVariants.{ReadFailed}
 use Rattle.bt_bed.specs.Good.{Format, Good, Member, good_handed, items_in, or_else}
 use Rattle.bt_bed.specs.GoodLines.{IsBeyond}
-use Rattle.bt_bed.specs.LineKind.{fault_at_line}
 use Rattle.bt_bed.specs.Meeting.{written}
 use Rattle.bt_bed.specs.Reading.{MemberReader, good_coming}
 use Rattle.bt_bed.proofs.MeetingLemmas.{all_stop, all_written, met_fault_all, met_fault_stop, met_lines, written_past, written_stop}
@@ -28,9 +27,8 @@ use Rattle.bt_tool.specs.Feeding.{PutsFront, PutsLines, member_items}
 use Rattle.bt_tool.specs.Inputs.{HandsUpTo}
 use Rattle.bt_tool.specs.Pair.{Making, MayCome, Pair, Serves, met_by, met_whole, rule_of}
 use Rattle.bt_tool.specs.PairEnds.{Finishes, FirstFails, FirstStops, InputsEnd, LimitStops, RestStops, SecondFails, SecondStops, Why}
-use Rattle.bt_tool.proofs.CameMembers.{BeginsAt, at_whole, came_cut, came_whole, is_known, text_known}
+use Rattle.bt_tool.proofs.CameMembers.{BeginsAt, at_whole, came_cut, came_whole, is_known, says_fault, tells_fault, text_known}
 use Rattle.bt_tool.proofs.FaultLemmas.{memory_no_write, placed_no_write, some_is}
-use Rattle.bt_tool.proofs.HandedReader.{passes_by}
 use Rattle.bt_tool.proofs.PairLimits.{AreLimits}
 use Rattle.bt_tool.proofs.SeenLemmas.{puts_front}
 
@@ -245,11 +243,8 @@ module _ {A B X Y U V : Type 0} (making : Making X Y) (pair : Pair A B X Y U V) 
   -- what the fault of an input says of it
   first_wrong : (past : List (Member X)) (other : Told) (one : Handed) → CameOne (Some other) one → FirstFails making pair out past first other
       → ((good_one one).members ≡ past) × ((good_one one).fault ≡ Some other)
-  first_wrong past other one came (inl wrong) =
-      first_whole (Some other) one came (record { served = wrong.served; within = wrong.within }) (λ good. (good.members ≡ past) × (good.fault ≡ Some other)) wrong.whole
-  first_wrong past other one came (inr unread) =
-      let is = came_cut pair.a_left pair.a_failed pair.a_end first_format First one_before pair.first begins first one_after ended past other one came unread in
-      (ap (λ (g : Good X). g.members) is, ap (λ (g : Good X). g.fault) is)
+  first_wrong past other one came fails =
+      says_fault pair.a_left pair.a_failed pair.a_end first_format First one_before pair.first begins first one_after ended making.first_kinds past other one came w.wrote.first_bytes fails
 
   second_wrong : (past : List (Member Y)) (other : Told) (two : Handed) → CameTwo (Some other) two → SecondFails making pair out w.wrote.ended past second other
       → ((good_two two).members ≡ past) × ((good_two two).fault ≡ Some other) × MayBe (good_two two)
@@ -384,25 +379,12 @@ module _ {A B X Y U V : Type 0} (making : Making X Y) (pair : Pair A B X Y U V) 
       meets_front making (good_one (whole_text one)) (limit (whole_text one) (whole_text two)) w.written w.bytes (here_by (whole_text one) (whole_text two) (known_by two f) may) rest.0 rest.1
 
   first_named : (past : List (Member X)) (other : Told) → FirstFails making pair out past first other → TellsInput pair.a_left pair.a_failed making.first_kinds First one_before one_after other
-  first_named past other (inl wrong) = inl (record { line = wrong.line; kind = wrong.kind; of_kind = wrong.of_kind; is = wrong.is ∙ ap (λ i. fault_at_line i wrong.line wrong.kind) begins.input_is })
-  first_named past other (inr unread) = inr (record {
-    line = suc (lines_given first.below);
-    is = unread.is ∙ ap (λ i. read_failed i (suc (lines_given first.below))) begins.input_is;
-    cause = ⊎_elim (λ fails. inl (ap pair.a_failed (sym ended) ∙ fails))
-        (λ past. inr (passes_by pair.a_left pair.a_failed one_before one_after pair.first.below first.below begins.source ended begins.bytes w.wrote.first_bytes past)) unread.cause;
-  })
+  first_named past other fails =
+      tells_fault pair.a_left pair.a_failed pair.a_end first_format First one_before pair.first begins first one_after ended making.first_kinds past other w.wrote.first_bytes fails
 
   second_named : (past : List (Member Y)) (other : Told) → SecondFails making pair out w.wrote.ended past second other → TellsInput pair.b_left pair.b_failed making.second_kinds Second two_before two_after other
   second_named past other fails =
-      elim fails.cause [
-        | inl wrong ↦ inl (record { line = wrong.line; kind = wrong.kind; of_kind = wrong.of_kind; is = wrong.is ∙ ap (λ i. fault_at_line i wrong.line wrong.kind) begins_second.input_is })
-        | inr unread ↦ inr (record {
-          line = suc (lines_given second.below);
-          is = unread.is ∙ ap (λ i. read_failed i (suc (lines_given second.below))) begins_second.input_is;
-          cause = ⊎_elim (λ fails. inl (ap pair.b_failed (sym ended_second) ∙ fails))
-              (λ past. inr (passes_by pair.b_left pair.b_failed two_before two_after pair.second.below second.below begins_second.source ended_second begins_second.bytes w.wrote.second_bytes past)) unread.cause;
-        })
-      ]
+      tells_fault pair.b_left pair.b_failed pair.b_end second_format Second two_before pair.second begins_second second two_after ended_second making.second_kinds past other w.wrote.second_bytes fails.cause
 
   abbrev Because : Type 0
   Because = Why making pair out w.written w.bytes w.wrote.given w.wrote.ended first second fault grown

@@ -1,6 +1,6 @@
 -- Lemmas on how far two inputs were read beside what was written.
-use Rattle.std.proofs.Common.{◌≡◌, ℕ, zero, suc, ◌+◌, ◌-◌, ◌<◌, ◌≤◌, Bool, true, false, not, List, [], ◌∷◌, ◌++◌, length, take, drop, Option, None, Some, Result, Ok, Err, refl, sym, ap, ◌∙◌, subst, arith, flat_map, inl, inr}
-use Rattle.std.specs.Prelude.{◌⊎◌, ◌&&◌, ◌||◌, All, IfSome, IsSome, if◌then◌else◌, option_map}
+use Rattle.std.proofs.Common.{◌≡◌, ℕ, zero, suc, ◌+◌, ◌-◌, ◌<◌, ◌≤◌, Bool, true, false, not, List, [], ◌∷◌, ◌++◌, take, drop, Option, None, Some, Result, Ok, Err, refl, sym, ap, ◌∙◌, subst, arith, flat_map, inl, inr}
+use Rattle.std.specs.Prelude.{◌⊎◌, ◌&&◌, ◌||◌, All, IfSome, IsSome, if◌then◌else◌}
 use Rattle.std.specs.Io.KnownBytes.{Consumes}
 use Rattle.std.specs.List.{list_all, list_any}
 use Rattle.std.proofs.lemmas.Bool.{false≢true}
@@ -9,7 +9,7 @@ use Rattle.std.proofs.lemmas.List.Elements.{All-head, All-tail}
 use Rattle.bt_lines.specs.Handed.{Handed, whole_text}
 use Rattle.bt_lines.specs.Lines.{AreNumbered, TextLine, bytes_in, text_lines}
 use Rattle.bt_lines.specs.Output.{Output, block_size}
-use Rattle.bt_lines.specs.Reader.{Hands, lines_left, source_of}
+use Rattle.bt_lines.specs.Reader.{source_of}
 use Rattle.bt_lines.specs.declared.fault.Input.{Input}
 use Rattle.bt_lines.specs.declared.fault.Input.TheVariants.{First, Second}
 use Rattle.bt_lines.specs.declared.fault.Kind.{Kind}
@@ -25,9 +25,7 @@ use Rattle.bt_tool.specs.Feeding.{TookButBlock, member_items}
 use Rattle.bt_tool.specs.Inputs.{HandsUpTo}
 use Rattle.bt_tool.specs.Pair.{Making, MayCome, Pair}
 use Rattle.bt_tool.specs.PairEnds.{AsksFor, StaysNear}
-use Rattle.bt_tool.proofs.CameMembers.{BeginsAt, at_whole, good_whole, is_known, some_of}
-use Rattle.bt_tool.proofs.HandedLemmas.{handed_near}
-use Rattle.bt_tool.proofs.HandedReader.{consumed_by, consumes_parts}
+use Rattle.bt_tool.proofs.CameMembers.{BeginsAt, at_whole, good_whole, handed_to, is_known}
 use Rattle.bt_tool.proofs.PairMet.{may_come}
 
 module _ {A State : Type 0} (format : Format A State) (input : Input) where
@@ -89,22 +87,6 @@ pub least_by : (b : Bool) (m : Member Feature) (o : Option (Member Feature)) (li
     → bytes_in (take (suc count) lines) ≤ bytes_up_to lines (if b then Some m else o)
 least_by true m o lines count low h = take_less (suc count) m.line lines (omega arith)
 least_by false m o lines count low h = h
-
-module _ {S A State : Type 0} (left : S → Option (List ℕ)) (failed end : S → Bool) (format : Format A State) (input : Input) (first : S) (old : MemberReader S A State) (begins : BeginsAt left format input first old)
-    (new : MemberReader S A State) (last : S) (ended : source_of new.below ≡ last) where
-  -- what was handed over, by how many lines were read
-  handed_to : (count : ℕ) (text : List ℕ) → left first ≡ Some text
-      → IfSome (lines_left left old.below) (λ lines. IfSome (left (source_of new.below)) (λ rest. bytes_in (drop (suc count) lines) ≤ length rest + block_size))
-      → (bytes : List ℕ) × Hands left old.below bytes new.below
-      → (handed : List ℕ) × Consumes (left first) (left last) handed × (length handed ≤ bytes_in (take (suc count) (text_lines text)) + block_size)
-  handed_to count text e near hands =
-      let handed = consumed_by left failed first last old.below new.below begins.source ended begins.bytes hands.0 hands.1 in
-      let parts = consumes_parts (left first) (left last) hands.0 text e handed in
-      let rest : left (source_of new.below) ≡ Some parts.0 = ap left ended ∙ parts.1 in
-      let lines : lines_left left old.below ≡ Some (text_lines text) = begins.lines ∙ ap (option_map text_lines) e in
-      let here = some_of (left (source_of new.below)) parts.0 (λ rest. bytes_in (drop (suc count) (text_lines text)) ≤ length rest + block_size) rest
-      (some_of (lines_left left old.below) (text_lines text) (λ lines. IfSome (left (source_of new.below)) (λ rest. bytes_in (drop (suc count) lines) ≤ length rest + block_size)) lines near) in
-      (hands.0, handed, handed_near (suc count) text hands.0 parts.0 parts.2 here)
 
 -- members of the first ask for the lines behind those that were taken for the first of them
 abbrev pub AreNeeded : {X Y : Type 0} → Making X Y → Type 0

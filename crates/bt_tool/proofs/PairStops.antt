@@ -1,7 +1,6 @@
 -- Lemmas on how a run over two readers of members stops.
 use Rattle.std.proofs.Common.{◌≡◌, ℕ, ◌≤◌, Bool, true, false, List, [], ◌∷◌, ◌++◌, Option, None, Some, Err, refl, sym, ap, ◌∙◌, subst, append-nil, option_to_list, arith, inl, inr}
 use Rattle.std.specs.Prelude.{◌⊎◌, IfSome, is_some, option_map}
-use Rattle.std.proofs.KnownBytes.{Appends-nil}
 use Rattle.std.proofs.lemmas.Bool.{false≢true}
 use Rattle.std.proofs.lemmas.List.{map-append}
 use Rattle.bt_lines.specs.Fault.{Told, no_memory, read_failed}
@@ -20,7 +19,8 @@ use Rattle.bt_tool.specs.Pair.{Making, Pair, Serves, Settles, item_ahead}
 use Rattle.bt_tool.specs.PairComes.{Comes, IsOpenAt, Stage, given}
 use Rattle.bt_tool.specs.PairEnds.{AsksFor, Finishes, IsKnown, LastTold, SecondFails, StaysNear, Why, Wrote}
 use Rattle.bt_tool.specs.Passed.{AreAll, IsAhead, IsOver, IsReadFor, IsReadTo, IsStopped, Passes, StopsAfter}
-use Rattle.bt_tool.proofs.FeedLemmas.{begins_more, begins_with, goes_failed, goes_same, grows_both, took_later, took_lines, up_to}
+use Rattle.bt_tool.proofs.ComeLemmas.{begins_more, begins_with, up_to}
+use Rattle.bt_tool.proofs.FeedLemmas.{goes_failed, goes_same, grows_both, took_later, took_lines}
 use Rattle.bt_tool.proofs.MemberLemmas.{ahead_at, ahead_first, bytes_more, ended_at, no_ahead_at_end, no_ahead_at_stop, passes_all, passes_end, passes_peek, passes_stop, read_ahead, read_at, read_for, rises_now, stopped_at}
 use Rattle.bt_tool.proofs.PairSettles.{settles_end}
 use Rattle.bt_tool.proofs.PairTurns.{all_with, seen_peeked, settles_ended, with_waiting}

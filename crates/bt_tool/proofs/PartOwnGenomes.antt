@@ -1,29 +1,24 @@
 -- Two inputs of which each part has its own part of the genome file.
-use Rattle.std.proofs.Common.{◌≡◌, ℕ, Bool, true, false, cond, not, ◌&&◌, ◌||◌, List, [], ◌∷◌, ◌++◌, map, append-nil, append_assoc, Option, Some, None, Result, Ok, Err, refl, sym, ap, ap₂, ◌∙◌, subst}
+use Rattle.std.proofs.Common.{◌≡◌, ℕ, Bool, cond, not, ◌&&◌, ◌||◌, List, [], ◌∷◌, ◌++◌, map, append-nil, append_assoc, Option, Some, None, Ok, refl, sym, ap, ap₂, ◌∙◌, subst}
 use Rattle.std.specs.Prelude.{IsTrue, flat_map, is_none}
 use Rattle.std.specs.List.{AllByRecursion, list_all, list_any}
 use Rattle.std.specs.Option.{option_or}
 use Rattle.std.specs.declared.cmp.Ordering.TheVariants.{Less}
 use Rattle.std.proofs.lemmas.Bool.{or_left, or_right}
-use Rattle.std.proofs.lemmas.List.{map-append}
 use Rattle.bt_lines.specs.Fault.{Told}
-use Rattle.bt_lines.specs.Handed.{Handed, whole_text}
-use Rattle.bt_lines.specs.Lines.{TextLine, lines_from, text_lines}
+use Rattle.bt_lines.specs.Handed.{Handed}
+use Rattle.bt_lines.specs.Lines.{lines_from, text_lines}
 use Rattle.bt_lines.specs.declared.fault.Input.{Input}
 use Rattle.bt_lines.specs.declared.fault.Input.TheVariants.{First, Second}
-use Rattle.bt_lines.specs.declared.fault.Kind.{Kind}
-use Rattle.bt_lines.specs.declared.fault.Kind.TheVariants.{OutOfOrder, UnknownChrom}
 use Rattle.bt_bed.specs.Feature.{Feature}
 use Rattle.bt_bed.specs.Genome.{Entry, genome_names}
-use Rattle.bt_bed.specs.Good.{Good, good, good_from, good_with, items_in}
-use Rattle.bt_bed.specs.GoodBed.{bed_format, line_says, locus_at, said_after}
-use Rattle.bt_bed.specs.Locus.{Locus, is_below_at}
-use Rattle.bt_bed.specs.Meeting.{Met, Rule, meet, written}
-use Rattle.bt_bed.specs.Order.{Order}
+use Rattle.bt_bed.specs.Good.{Good, good, items_in}
+use Rattle.bt_bed.specs.GoodBed.{bed_format}
+use Rattle.bt_bed.specs.Locus.{is_below_at}
+use Rattle.bt_bed.specs.Meeting.{meet}
 use Rattle.bt_bed.specs.Rank.{AreDistinct, is_among, rank_order}
 use Rattle.bt_bed.specs.RankTotal.{ranks_total}
-use Rattle.bt_bed.specs.Record.{record_of}
-use Rattle.bt_bed.specs.Sorting.{falls_in, sorting_of}
+use Rattle.bt_bed.specs.Sorting.{sorting_of}
 use Rattle.bt_bed.proofs.RankLemmas.{among_ranked}
 use Rattle.bt_sweep.specs.Deciding.{decided, decides}
 use Rattle.bt_sweep.specs.Subtract.{subtract_shape}
@@ -31,17 +26,16 @@ use Rattle.bt_sweep.specs.SweepMeeting.{sweep_rule}
 use Rattle.bt_sweep.specs.declared.hit_rule.HitRule.{HitRule}
 use Rattle.bt_sweep.specs.declared.shape.Shape.{Shape}
 use Rattle.bt_tool.specs.GenomeSplitLaws.{LiesWithin}
-use Rattle.bt_tool.specs.OwnGenomeLaws.{DividePairs, PairShard, PairsLieWithin, intersect_genomes_divide, pair_entries, pair_texts, subtract_genomes_divide}
-use Rattle.bt_tool.specs.Parts.{AddUp, AreOfLines, ComeBefore, StopWithin, joined, record_in, records_in}
+use Rattle.bt_tool.specs.OwnGenomeLaws.{PairShard, intersect_genomes_divide, pair_entries, pair_texts, subtract_genomes_divide}
+use Rattle.bt_tool.specs.Parts.{AddUp, AreOfLines, ComeBefore, StopWithin, joined, records_in}
 use Rattle.bt_tool.specs.RecordReport.{Report}
 use Rattle.bt_tool.specs.Report.{chromosomes_of}
 use Rattle.bt_tool.specs.SplitLaws.{ArePairs, PairsAscend, Texts, joined_texts, on_texts, records_of}
 use Rattle.bt_tool.specs.SweepReport.{met_report}
-use Rattle.bt_tool.specs.declared.plan_type.Command.{Command}
 use Rattle.bt_tool.specs.declared.plan_type.Command.TheVariants.{Intersect, Subtract}
-use Rattle.bt_tool.proofs.PartBed.{items_all, records_on}
+use Rattle.bt_tool.proofs.PartBed.{items_all}
 use Rattle.bt_tool.proofs.PartGenomes.{agree_good, names_both, records_both}
-use Rattle.bt_tool.proofs.PartLists.{all_any, all_back, all_both, all_front, all_so, map_same}
+use Rattle.bt_tool.proofs.PartLists.{all_back, all_both, all_front, all_so}
 use Rattle.bt_tool.proofs.PartRanks.{Agree, Within, among_append, first_agree, first_less, second_agree}
 use Rattle.bt_tool.proofs.PartSam.{lines_less}
 use Rattle.bt_tool.proofs.PartShards.{distinct_in}

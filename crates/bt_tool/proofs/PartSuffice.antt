@@ -1,5 +1,5 @@
 -- Runs without a fault on parts of which each has its own part of the genome file.
-use Rattle.std.proofs.Common.{◌≡◌, ℕ, Bool, true, false, cond, List, [], ◌∷◌, ◌++◌, map, Option, Some, None, Result, Ok, Err, refl, sym, ap, ◌∙◌, subst}
+use Rattle.std.proofs.Common.{◌≡◌, ℕ, Bool, true, false, cond, List, [], ◌∷◌, ◌++◌, map, Option, Some, None, Result, Ok, Err, refl, sym, ap, ◌∙◌}
 use Rattle.std.specs.Prelude.{IsTrue}
 use Rattle.std.specs.List.{AllByRecursion}
 use Rattle.bt_lines.specs.Fault.{Told}
@@ -23,8 +23,8 @@ use Rattle.bt_bed.proofs.RankLemmas.{among_ranked}
 use Rattle.bt_sweep.specs.Subtract.{subtract_shape}
 use Rattle.bt_sweep.specs.declared.hit_rule.HitRule.{HitRule}
 use Rattle.bt_sweep.specs.declared.shape.Shape.{Shape}
-use Rattle.bt_tool.specs.GenomeSplitLaws.{AreShards, LiesWithin, Shard, ShardsAddUp, all_entries, shard_texts}
-use Rattle.bt_tool.specs.OwnGenomeLaws.{DivideGenome, DividePairs, PairShard, PairShardsAddUp, PairShardsSuffice, PairsLieWithin, ShardsSuffice, complement_shards_suffice, genomecov_shards_suffice, intersect_shards_suffice, merge_shards_suffice, pair_entries, subtract_shards_suffice}
+use Rattle.bt_tool.specs.GenomeSplitLaws.{AreShards, LiesWithin, Shard, ShardsAddUp, all_entries}
+use Rattle.bt_tool.specs.OwnGenomeLaws.{PairShard, PairShardsAddUp, PairShardsSuffice, PairsLieWithin, ShardsSuffice, complement_shards_suffice, genomecov_shards_suffice, intersect_shards_suffice, merge_shards_suffice, pair_entries, subtract_shards_suffice}
 use Rattle.bt_tool.specs.Parts.{AddUp, Suffice, record_in, records_in}
 use Rattle.bt_tool.specs.RecordReport.{Report, good_report, report_by}
 use Rattle.bt_tool.specs.Report.{chromosomes_of, report_of, report_on}

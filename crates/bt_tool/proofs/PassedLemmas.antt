@@ -3,22 +3,37 @@ use Rattle.std.proofs.Common.{◌≡◌, ℕ, Bool, List, [], ◌∷◌, ◌++�
 use Rattle.std.specs.Prelude.{IfSome, IsTrue, option_map}
 use Rattle.std.proofs.lemmas.List.{map-append}
 use Rattle.bt_lines.specs.Fault.{Told}
+use Rattle.bt_lines.specs.Names.{told}
+use Rattle.bt_lines.specs.Reader.{fault_kept as line_fault}
 use Rattle.bt_bed.specs.Feature.{Feature, interval_of, intervals_of}
-use Rattle.bt_bed.specs.Good.{Member}
+use Rattle.bt_bed.specs.Cursor.{view_with}
+use Rattle.bt_bed.specs.Good.{Member, or_else}
 use Rattle.bt_bed.specs.GoodBed.{locus_at}
-use Rattle.bt_bed.specs.Interval.{last_of}
-use Rattle.bt_bed.specs.Locus.{ArePlaced, IsUpTo, locus_of}
+use Rattle.bt_bed.specs.Interval.{Interval, last_of}
+use Rattle.bt_bed.specs.Locus.{ArePlaced, IsUpTo, Locus, locus_of}
 use Rattle.bt_bed.specs.Order.{Order}
 use Rattle.bt_bed.specs.Reading.{EndsMembers}
-use Rattle.bt_bed.specs.Records.{GivesRecord, PassesRecord, StepsTo, last_locus, line_ahead, order_in, record_ahead, view_of}
+use Rattle.bt_bed.specs.Records.{GivesRecord, PassesRecord, StepsTo, below, fault_kept, last_locus, line_ahead, order_in, record_ahead, view_of}
 use Rattle.bt_bed.specs.declared.order.ChromOrder.{Ghosts}
 use Rattle.bt_bed.specs.declared.records.Records.{Records}
 use Rattle.bt_bed.proofs.TogetherLemmas.{last_of-push, grows_placed}
-use Rattle.bt_tool.specs.Feeding.{member_items}
-use Rattle.bt_tool.specs.Passed.{IsAhead, IsOver, IsStopped}
+use Rattle.bt_tool.specs.Passed.{member_items, IsAhead, IsOver, IsStopped}
 use Rattle.bt_tool.specs.SweepLoop.{IsPlaced}
 use Rattle.bt_tool.specs.Turns.{HasAhead, HasEnded, HasStopped}
-use Rattle.bt_tool.proofs.FeedLemmas.{last_up_to, line_going}
+
+or_none : (a b : Option Told) → or_else a b ≡ None → b ≡ None
+or_none None b e = e
+or_none (Some a) b e = cc
+
+-- a reader of records without a fault has a reader of lines without one
+pub line_going : {S O : Type 0} {ghosts : Ghosts O} (records : Records S O ghosts) → fault_kept records ≡ None → line_fault (below records) ≡ None
+unfolding view_of view_with
+line_going records e = or_none (option_map told records.cursor.fault) (line_fault records.cursor.reader) e
+
+-- what is asked of the last place is asked of the last record's
+last_up_to : (last : Option Interval) (P : Locus → Type 0) → IfSome (option_map locus_of last) P → IfSome last (λ r. P (locus_of r))
+last_up_to None P h = tt
+last_up_to (Some r) P h = h
 
 -- what a reader of records does, as a reader of members
 module _ {S O : Type 0} {ghosts : Ghosts O} (left : S → Option (List ℕ)) (failed end : S → Bool) (now new : Records S O ghosts) where

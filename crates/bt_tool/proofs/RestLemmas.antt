@@ -1,6 +1,6 @@
 -- Lemmas on reading an input to its end, from wherever its reader stands.
 use Rattle.std.proofs.Common.{◌≡◌, ℕ, ◌≤◌, List, [], ◌∷◌, ◌++◌, Option, None, Some, Err, refl, sym, ap, ◌∙◌, subst, append-nil, append_assoc, arith}
-use Rattle.std.specs.Prelude.{Bool, IsSome, true}
+use Rattle.std.specs.Prelude.{Bool, IsSome}
 use Rattle.std.proofs.lemmas.Bool.{false≢true}
 use Rattle.bt_lines.specs.Fault.{Told}
 use Rattle.bt_lines.specs.Lines.{TextLine}

@@ -20,10 +20,9 @@ use Rattle.bt_sweep.specs.declared.shape.Shape.{Shape}
 use Rattle.bt_tool.specs.Feeding.{IsFresh}
 use Rattle.bt_tool.specs.SweepLoop.{Sweeps, records_pair, sweep_making}
 use Rattle.bt_tool.proofs.CameMembers.{BeginsAt}
-use Rattle.bt_tool.proofs.FeedLemmas.{line_going}
 use Rattle.bt_tool.proofs.MemberLemmas.{passes_start, read_start}
 use Rattle.bt_tool.proofs.PairTurns.{comes_start}
-use Rattle.bt_tool.proofs.PassedLemmas.{placed_start}
+use Rattle.bt_tool.proofs.PassedLemmas.{line_going, placed_start}
 use Rattle.bt_tool.proofs.SweepLimits.{within_start}
 
 module _ {A B O : Type 0} {g : Ghosts O} (a_left : A → Option (List ℕ)) (a_failed a_end : A → Bool) (b_left : B → Option (List ℕ)) (b_failed b_end : B → Bool)

@@ -12,7 +12,10 @@ use Rattle.bt_tool.specs.Both.{WritesBoth}
 use Rattle.bt_tool.specs.Driving.{IsOfInput, IsReported, ReadsNoFurther, TellsDevice, TellsInput, TellsInputIf, WritesInput}
 use Rattle.bt_tool.specs.Inputs.{HandsUpToIf, Holds, HoldsIf, Reads, ReadsIf, ServesIf}
 use Rattle.bt_tool.specs.RecordReport.{Report}
-use Rattle.bt_tool.specs.Behaviour.{or_empty}
+use Rattle.bt_bed.specs.Genome.{Entry}
+use Rattle.bt_tool.specs.Behaviour.{behaviour_of, or_empty}
+use Rattle.bt_tool.specs.Chromosomes.{WritesBy}
+use Rattle.bt_tool.specs.declared.plan_type.Command.{Command}
 use Rattle.bt_tool.specs.Writing.{WritesInputs}
 
 -- an input that wasn't touched handed nothing over, and worked as before
@@ -118,3 +121,16 @@ module _ {A B : Type 0} (a_left : A → Option (List ℕ)) (a_failed a_end : A �
       near = near_of;
       named = w.named;
     }
+
+  -- what a command does that doesn't look at a second input
+  pub behaves_alone : (command : Command) (chromosomes : Option (List Entry))
+      → ((one : Handed) (two : Option Handed) → (behaviour_of command chromosomes).report one None ≡ (behaviour_of command chromosomes).report one two)
+      → ((two : Option Handed) → (behaviour_of command chromosomes).settles None ≡ (behaviour_of command chromosomes).settles two)
+      → (is : Command) → is ≡ command → (first : A) (second : Option B) (out : Output) (fault : Option Told) (first_after : A) (grown : Output)
+      → WritesInput a_left a_failed (behaviour_of command chromosomes).FirstKinds (λ one. (behaviour_of command chromosomes).report one None) ((behaviour_of command chromosomes).settles None) first out fault first_after grown
+      → WritesBy a_left a_failed a_end b_left b_failed (behaviour_of is chromosomes) first second out fault first_after second grown
+  behaves_alone command chromosomes same same_settle is e first second out fault first_after grown w =
+      let behaviour = behaviour_of command chromosomes in
+      subst (λ (command : Command). WritesBy a_left a_failed a_end b_left b_failed (behaviour_of command chromosomes) first second out fault first_after second grown) (sym e)
+      (alone_writes behaviour.FirstKinds behaviour.SecondKinds (λ one. behaviour.report one None) (behaviour.settles None)
+      behaviour.report behaviour.settles behaviour.reaches same same_settle first second out fault first_after grown w)

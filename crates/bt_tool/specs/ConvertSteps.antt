@@ -19,6 +19,7 @@ use Rattle.bt_seq.specs.SamKind.{is_sam_kind}
 use Rattle.bt_tool.specs.Kinds.{IsOneOf}
 use Rattle.bt_tool.specs.ConvertReport.{alignment_lines}
 use Rattle.bt_tool.specs.Feeding.{FeedsMembers}
+use Rattle.bt_tool.specs.Passed.{lines_read}
 
 -- the BED lines of an alignment, if there is one
 abbrev pub lines_if : Bool → Bool → Option Alignment → List ℕ
@@ -57,13 +58,12 @@ ConvertsLine input old line out (Err fault) new grown =
 
 -- a reader of lines as one of the alignments on them
 abbrev pub sam_reader : {S : Type 0} → LineReader S → MemberReader S Alignment ⊤
-sam_reader reader =
-    record { format = sam_format; below = reader; state = tt; ahead = None; fault = None }
+sam_reader reader = lines_read sam_format tt reader
 
 -- what writing the alignments of all lines does
-abbrev pub ConvertsAll : {S T : Type 0} → (S → Option (List ℕ)) → (S → Bool) → Converting
-    → LineReader S → Output → Result T Fault → LineReader S → Output → Type 0
-ConvertsAll left failed converting old out answer new grown =
-    FeedsMembers (alignment_lines converting.split converting.with_cigar) (IsOneOf is_sam_kind)
-    (λ past. ⊤)
-    left failed (λ past. ⊤) (sam_reader old) out answer new grown
+abbrev pub ConvertsAll : {S T : Type 0} → (S → Option (List ℕ)) → (S → Bool) → (S → Bool)
+    → Converting → LineReader S → Output → Result T Fault → LineReader S → Output → Type 0
+ConvertsAll {S} left failed end converting old out answer new grown =
+    (members : MemberReader S Alignment ⊤) × (members.below ≡ new)
+    × FeedsMembers (alignment_lines converting.split converting.with_cigar) (IsOneOf is_sam_kind)
+    (λ past. ⊤) left failed end (λ past. ⊤) (sam_reader old) out answer members grown

@@ -5,7 +5,6 @@ use Rattle.std.specs.List.{list_any}
 use Rattle.bt_lines.specs.Fault.{Told}
 use Rattle.bt_lines.specs.Names.{told}
 use Rattle.bt_lines.specs.Output.{Output}
-use Rattle.bt_lines.specs.Reader.{fault_kept as line_fault}
 use Rattle.bt_lines.specs.declared.fault.Fault.{Fault}
 use Rattle.bt_lines.specs.declared.line_reader.LineReader.{LineReader}
 use Rattle.bt_bed.specs.Feature.{Feature}
@@ -26,17 +25,12 @@ use Rattle.bt_tool.specs.MaskReport.{is_fasta_kind, is_mask_kind, last_needed}
 use Rattle.bt_tool.specs.Pair.{Making, Pair, item_ahead}
 use Rattle.bt_tool.specs.PairComes.{Comes, Stage as PairStage}
 use Rattle.bt_tool.specs.PairEnds.{Finishes}
+use Rattle.bt_tool.specs.Passed.{lines_read}
 
 -- a reader of lines as one of the lines of sequences, where those that were given have come so far
 abbrev pub line_members : {S : Type 0} → Bool → Reached → LineReader S
     → MemberReader S SequenceLine Reached
-line_members full reached lines = record {
-  format = sequence_format full;
-  below = lines;
-  state = reached;
-  ahead = None;
-  fault = line_fault lines;
-}
+line_members full reached lines = lines_read (sequence_format full) reached lines
 
 -- these records leave one of the lines undecided
 abbrev pub leaves_some : List SequenceLine → List Feature → Bool

@@ -13,7 +13,7 @@ use Rattle.bt_bed.specs.LineKind.{fault_at_line}
 use Rattle.bt_bed.specs.Reading.{MemberReader, good_coming}
 use Rattle.bt_tool.specs.Feeding.{CutsLines, PutsFront, PutsLines, TookButBlock, member_items}
 use Rattle.bt_tool.specs.Pair.{Making, Pair, Serves, Settles}
-use Rattle.bt_tool.specs.Passed.{AreAll, IsReadFor, IsReadTo, IsUnreadBehind, IsWrongBehind}
+use Rattle.bt_tool.specs.Passed.{AreAll, HasFaultBehind, IsReadFor, IsReadTo}
 
 -- the members of the second input are known
 abbrev pub IsKnown : {A B X Y U V : Type 0} → Pair A B X Y U V → Type 0
@@ -48,10 +48,8 @@ module _ {A B X Y U V : Type 0} (making : Making X Y) (pair : Pair A B X Y U V)
 
   -- the fault of the first input, behind these members
   abbrev pub FirstFails : List (Member X) → MemberReader A X U → Told → Type 0
-  FirstFails past first fault =
-      IsWrongBehind pair.a_left pair.a_failed pair.a_end pair.first making.first_kinds past fault
-      first
-      ⊎ IsUnreadBehind pair.a_left pair.a_failed pair.a_end pair.first past fault first
+  FirstFails past first fault = HasFaultBehind pair.a_left pair.a_failed pair.a_end pair.first
+      making.first_kinds past fault first
 
   -- all good members of the first input are written, and its fault is told
   pub record FirstStops (written given : List X) (first : MemberReader A X U)
@@ -65,9 +63,8 @@ module _ {A B X Y U V : Type 0} (making : Making X Y) (pair : Pair A B X Y U V)
   -- the fault of the second input, behind these members
   pub record SecondFails (ended : Bool) (past : List (Member Y)) (second : MemberReader B Y V)
       (fault : Told) : Type 0 where
-    pub cause : IsWrongBehind pair.b_left pair.b_failed pair.b_end pair.second making.second_kinds
+    pub cause : HasFaultBehind pair.b_left pair.b_failed pair.b_end pair.second making.second_kinds
         past fault second
-        ⊎ IsUnreadBehind pair.b_left pair.b_failed pair.b_end pair.second past fault second
     pub before_end : ended ≡ true → (input : Input) (line : ℕ) → fault ≡ read_failed input line → ⊥
 
   -- a member of the first waits that the good members of the second don't decide,

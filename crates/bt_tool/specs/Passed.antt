@@ -1,18 +1,28 @@
 -- What a reader of members has passed, and why it stops.
 use Rattle.std.specs.Prelude.{◌≡◌, ℕ, suc, ◌+◌, ◌^◌, ◌<◌, ◌≤◌, ◌⊎◌, ⊤, All, Bool, true, List, []}
-use Rattle.std.specs.Prelude.{◌∷◌, ◌++◌, drop, length, Option, Some, None, IfSome}
+use Rattle.std.specs.Prelude.{◌∷◌, ◌++◌, drop, length, map, Option, Some, None, IfSome}
 use Rattle.bt_lines.specs.Fault.{Told, read_failed, no_memory}
 use Rattle.bt_lines.specs.Lines.{bytes_in}
 use Rattle.bt_lines.specs.Output.{block_size}
 use Rattle.bt_lines.specs.Reader.{CutsOff, Hands, IsSound, source_of, input_of, bytes_taken}
 use Rattle.bt_lines.specs.Reader.{fault_kept as line_fault, lines_given, lines_left}
 use Rattle.bt_lines.specs.declared.fault.Kind.{Kind}
-use Rattle.bt_bed.specs.Good.{Format, Member}
+use Rattle.bt_lines.specs.declared.line_reader.LineReader.{LineReader}
+use Rattle.bt_bed.specs.Good.{Format, Good, Member}
 use Rattle.bt_bed.specs.GoodLines.{IsBeyond}
 use Rattle.bt_bed.specs.LineKind.{fault_at_line}
 use Rattle.bt_bed.specs.Reading.{AnswersFault, EndsMembers, GivesMember, IsSaidBehind, MemberReader}
 use Rattle.bt_bed.specs.Reading.{good_coming}
-use Rattle.bt_tool.specs.Feeding.{ComeFirst, member_items}
+
+-- these members came first of what was to come, and the others are still to come
+abbrev pub ComeFirst : {A : Type 0} → Option (Good A) → List (Member A) → Option (Good A) → Type 0
+ComeFirst None past now = ⊤
+ComeFirst (Some old) past None = ⊥
+ComeFirst (Some old) past (Some now) = (old.members ≡ past ++ now.members) × (old.fault ≡ now.fault)
+
+-- the items of members, without their lines
+abbrev pub member_items : {A : Type 0} → List (Member A) → List A
+member_items members = map (λ m. m.item) members
 
 -- what is known behind these items
 abbrev pub state_behind : {A State : Type 0} → Format A State → State → List A → State
@@ -24,6 +34,12 @@ abbrev pub AreSaid : {A State : Type 0} → Format A State → State → List A 
 AreSaid format state [] = ⊤
 AreSaid format state (item ∷ items) =
     IsSaidBehind format state item × AreSaid format (format.after state item) items
+
+-- a reader of lines as one of their members, where so much is known behind those that were given
+abbrev pub lines_read : {S A State : Type 0} → Format A State → State → LineReader S
+    → MemberReader S A State
+lines_read format state lines =
+    record { format = format; below = lines; state = state; ahead = None; fault = line_fault lines }
 
 module _ {S A State : Type 0} (left : S → Option (List ℕ)) (failed end : S → Bool) where
   -- the reader has a member ahead
@@ -111,6 +127,12 @@ module _ {S A State : Type 0} (left : S → Option (List ℕ)) (failed end : S �
           × (good.members ≡ past ++ rest)
           × IsBeyond (lines_given new.below) (record { members = rest; fault = good.fault }))
       pub behind : All (λ m. m.line ≤ lines_given new.below) past
+
+    -- the fault of the input lies behind these members
+    abbrev pub HasFaultBehind : (Kind → Type 0) → List (Member A) → Told → MemberReader S A State
+        → Type 0
+    HasFaultBehind Kinds past fault new =
+        IsWrongBehind Kinds past fault new ⊎ IsUnreadBehind past fault new
 
     -- memory ran out
     pub record LacksMemory (fault : Told) (new : MemberReader S A State) : Type 0 where

@@ -1,17 +1,9 @@
-use crate::tests::{Answer, Script, expect, run_words, whole};
+use crate::tests::{Rows, check_rows, expect, run_words, text, whole, with_options};
 use std::alloc::Global;
 use std::process::Abort;
 use std::test::Fail;
 
-// A run of bamtobed, and what it gives. In the rows one space stands for a tab, and ` ; ` separates
-// lines, each of which ends with a line feed.
-struct Case {
-    name: &'static str,
-    options: &'static [&'static str],
-    first: &'static str,
-    output: &'static str,
-    line: &'static str,
-}
+const BAMTOBED: &[&str] = &["bamtobed", "-i", "a.sam"];
 
 const R001: &str = "r001 99 ref 7 30 8M2I4M1D3M = 37 39 TTAGATAAAGGATACTG *";
 
@@ -21,101 +13,115 @@ const R004: &str = "r004 0 ref 16 30 6M14N5M * 0 0 ATAGCTTCAGC *";
 const EXAMPLE: &str =
     "@HD VN:1.6 SO:coordinate ; @SQ SN:ref LN:45 ; r001 99 ref 7 30 8M2I4M1D3M = 37 39 TTAGATAAAGGATACTG * ; r002 0 ref 9 30 3S6M1P1I4M * 0 0 AAAAGATAAGGATA * ; r003 0 ref 9 30 5S6M * 0 0 GCCTAAGCTAA * SA:Z:ref,29,-,6H5M,17,0; ; r004 0 ref 16 30 6M14N5M * 0 0 ATAGCTTCAGC * ; r003 2064 ref 29 17 6H5M * 0 0 TAGGC * SA:Z:ref,9,+,5S6M,30,1; ; r001 147 ref 37 30 9M = 7 -39 CAGCGGCAT * NM:i:1";
 
-const CASES: [Case; 14] = [
-    Case {
+const CASES: [Rows; 14] = [
+    Rows {
         name: "the first segment of a template",
         options: &[],
+        genome: "",
         first: R001,
         output: "ref 6 22 r001/1 30 +",
         line: "",
     },
-    Case {
+    Rows {
         name: "with its CIGAR",
         options: &["-cigar"],
+        genome: "",
         first: R001,
         output: "ref 6 22 r001/1 30 + 8M2I4M1D3M",
         line: "",
     },
-    Case {
+    Rows {
         name: "the last segment, on the reverse strand",
         options: &[],
+        genome: "",
         first: "r001 147 ref 37 30 9M = 7 -39 CAGCGGCAT *",
         output: "ref 36 45 r001/2 30 -",
         line: "",
     },
-    Case {
+    Rows {
         name: "an alignment with a skipped region",
         options: &[],
+        genome: "",
         first: R004,
         output: "ref 15 40 r004 30 +",
         line: "",
     },
-    Case {
+    Rows {
         name: "cut at the skipped region",
         options: &["-split"],
+        genome: "",
         first: R004,
         output: "ref 15 21 r004 30 + ; ref 35 40 r004 30 +",
         line: "",
     },
-    Case {
+    Rows {
         name: "cut, and with its whole CIGAR on each line",
         options: &["-split", "-cigar"],
+        genome: "",
         first: R004,
         output: "ref 15 21 r004 30 + 6M14N5M ; ref 35 40 r004 30 + 6M14N5M",
         line: "",
     },
-    Case {
+    Rows {
         name: "an unmapped read",
         options: &["-split"],
+        genome: "",
         first: "r004 4 ref 16 30 6M14N5M * 0 0 ATAGCTTCAGC *",
         output: "",
         line: "",
     },
-    Case {
+    Rows {
         name: "no CIGAR",
         options: &["-split"],
+        genome: "",
         first: "r004 0 ref 16 30 * * 0 0 ATAGCTTCAGC *",
         output: "",
         line: "",
     },
-    Case {
+    Rows {
         name: "a letter that is no operation",
         options: &["-split"],
+        genome: "",
         first: "r004 0 ref 16 30 5Q * 0 0 ATAGCTTCAGC *",
         output: "",
         line: "bedtools bamtobed: a.sam:1: CIGAR is malformed\n",
     },
-    Case {
+    Rows {
         name: "the example of the specification",
         options: &[],
+        genome: "",
         first: EXAMPLE,
         output: "ref 6 22 r001/1 30 + ; ref 8 18 r002 30 + ; ref 8 14 r003 30 + ; ref 15 40 r004 30 + ; ref 28 33 r003 17 - ; ref 36 45 r001/2 30 -",
         line: "",
     },
-    Case {
+    Rows {
         name: "the example, cut and with CIGARs",
         options: &["-cigar", "-split"],
+        genome: "",
         first: EXAMPLE,
         output: "ref 6 22 r001/1 30 + 8M2I4M1D3M ; ref 8 18 r002 30 + 3S6M1P1I4M ; ref 8 14 r003 30 + 5S6M ; ref 15 21 r004 30 + 6M14N5M ; ref 35 40 r004 30 + 6M14N5M ; ref 28 33 r003 17 - 6H5M ; ref 36 45 r001/2 30 - 9M",
         line: "",
     },
-    Case {
+    Rows {
         name: "a line of ten columns behind an alignment",
         options: &[],
+        genome: "",
         first: "r001 99 ref 7 30 8M2I4M1D3M = 37 39 TTAGATAAAGGATACTG * ; r001 147 ref 37 30 9M = 7 -39 CAGCGGCAT",
         output: "ref 6 22 r001/1 30 +",
         line: "bedtools bamtobed: a.sam:2: too few columns\n",
     },
-    Case {
+    Rows {
         name: "all lines before a fault are written, and none behind it",
         options: &["-split"],
+        genome: "",
         first: "a 0 s 1 9 5M2N5M * 0 0 * * ; @CO x ; b 4 s 1 9 5M * 0 0 * * ; c 16 s 1 9 3M * 0 0 * * ; d x s 1 9 3M * 0 0 * * ; e 0 s 1 9 3M * 0 0 * *",
         output: "s 0 5 a 9 + ; s 7 12 a 9 + ; s 0 3 c 9 -",
         line: "bedtools bamtobed: a.sam:5: flag is not a number\n",
     },
-    Case {
+    Rows {
         name: "an empty input",
         options: &[],
+        genome: "",
         first: "",
         output: "",
         line: "",
@@ -152,56 +158,9 @@ const EDGES: [Edge; 18] = [
     ("65535 s 2147483647 255 1M", &[], "", ""),
 ];
 
-// The text of a row.
-pub(crate) fn text(alloc: Global, row: &str) -> Result<Vec<u8>, Fail> {
-    let mut text = Vec::new(alloc);
-    if row.is_empty() {
-        return Ok(text);
-    }
-    for line in row.split(" ; ") {
-        for byte in line.bytes() {
-            text.push(if byte == b' ' { b'\t' } else { byte })?;
-        }
-        text.push(b'\n')?;
-    }
-    Ok(text)
-}
-
-// Runs bamtobed with these options.
-fn bamtobed(
-    alloc: Global,
-    options: &[&str],
-    first: (&[u8], Script),
-    out: Script,
-) -> Result<Answer, Fail> {
-    let mut words = vec![in alloc; "bamtobed", "-i", "a.sam"]?;
-    words.extend_from_slice(options)?;
-    run_words(alloc, words.as_slice(), (b"", whole(1)), first, out)
-}
-
-fn check(rt: &impl Abort, alloc: Global, case: &Case, step: usize) -> Result<(), Fail> {
-    let script = whole(step.max(1));
-    let first = text(alloc, case.first)?;
-    let output = text(alloc, case.output)?;
-    let answer = bamtobed(alloc, case.options, (first.as_slice(), script), script)?;
-    expect(
-        rt,
-        &answer,
-        output.as_slice(),
-        case.line.as_bytes(),
-        case.name,
-    );
-    Ok(())
-}
-
 #[test]
 fn worked_cases(rt: HostRuntime) -> Result<(), Fail> {
-    for step in [1, 7, 8192] {
-        for case in &CASES {
-            check(&rt, rt.alloc(), case, step)?;
-        }
-    }
-    Ok(())
+    check_rows(&rt, rt.alloc(), BAMTOBED, &CASES)
 }
 
 fn check_edge(rt: &impl Abort, alloc: Global, edge: &Edge) -> Result<(), Fail> {
@@ -209,7 +168,9 @@ fn check_edge(rt: &impl Abort, alloc: Global, edge: &Edge) -> Result<(), Fail> {
     let row = format!(in alloc; "r {columns} * 0 0 * *")?;
     let first = text(alloc, row.as_str())?;
     let output = text(alloc, output)?;
-    let answer = bamtobed(alloc, options, (first.as_slice(), whole(7)), whole(7))?;
+    let words = with_options(alloc, BAMTOBED, options)?;
+    let inputs = ((b"".as_slice(), whole(1)), (first.as_slice(), whole(7)));
+    let answer = run_words(alloc, words.as_slice(), inputs.0, inputs.1, whole(7))?;
     if told.is_empty() {
         expect(rt, &answer, output.as_slice(), b"", columns);
         return Ok(());
@@ -270,19 +231,23 @@ const LINE_ENDS: [Ends; 6] = [
 fn check_ends(rt: &impl Abort, alloc: Global, ends: &Ends, step: usize) -> Result<(), Fail> {
     let (name, first, output) = *ends;
     let script = whole(step.max(1));
-    let answer = bamtobed(alloc, &[], (first, script), script)?;
+    let answer = run_words(alloc, BAMTOBED, (b"", whole(1)), (first, script), script)?;
     expect(rt, &answer, output, b"", name);
+    Ok(())
+}
+
+fn check_all_ends(rt: &impl Abort, alloc: Global, cases: &[Ends]) -> Result<(), Fail> {
+    for ends in cases {
+        for step in [1, 7, 8192] {
+            check_ends(rt, alloc, ends, step)?;
+        }
+    }
     Ok(())
 }
 
 #[test]
 fn line_ends_and_order(rt: HostRuntime) -> Result<(), Fail> {
-    for step in [1, 7, 8192] {
-        for ends in &LINE_ENDS {
-            check_ends(&rt, rt.alloc(), ends, step)?;
-        }
-    }
-    Ok(())
+    check_all_ends(&rt, rt.alloc(), &LINE_ENDS)
 }
 
 // Without -i the input is standard input, and its fault lines name it so.

@@ -4,7 +4,6 @@ ghost use Rattle.std.specs.Prelude.{◌≡◌, None, option_map};
 ghost use Rattle.bt_lines.specs.LentLine.{line_seen};
 ghost use Rattle.bt_lines.specs.Names.{told};
 ghost use Rattle.bt_lines.specs.Output.{HoldsBlock};
-ghost use Rattle.bt_lines.specs.Reader.{fault_kept};
 ghost use Rattle.bt_seq.specs.SamKind.{is_sam_kind};
 ghost use Rattle.bt_tool.specs.Kinds.{IsOneOf};
 ghost use Rattle.bt_tool.specs.ConvertReport.{bamtobed_report, bamtobed_settles};
@@ -44,10 +43,10 @@ fn convert_all<S: Source, K: Sink>(
     out: &mut Out<K>,
 ) -> Result<(), Fault>
     requires fresh { IsFresh S.left S.end_told (sam_reader lines.old) }
-    requires reads { fault_kept lines.old ≡ None }
     requires going { converter.old.fault ≡ None }
     requires block { HoldsBlock out.old.took out.old.put }
-    ensures { ConvertsAll S.left S.has_failed converter.old lines.old out.old result lines.new out.new }
+    ensures { ConvertsAll S.left S.has_failed S.end_told converter.old lines.old out.old result
+        lines.new out.new }
 {
     let input = lines.input();
     while let Some(line) = lines.next()? {

@@ -34,7 +34,7 @@ fn feed_all<S: Source, O: ChromOrder, E: Engine, K: Sink>(
     requires takes { (past : List Feature) → ArePlaced (order_in records.old) (intervals_of past)
         → AreNonEmpty (intervals_of past) → E.takes engine.old past }
     requires block { HoldsBlock out.old.took out.old.put }
-    ensures { FeedsRecords (E.settled engine.old) S.left S.has_failed
+    ensures { FeedsRecords (E.settled engine.old) S.left S.has_failed S.end_told
         (λ past. E.stands engine.old past engine.new) records.old out.old result records.new out.new }
 {
     while let Some(record) = records.peek()? {

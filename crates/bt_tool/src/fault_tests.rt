@@ -1,9 +1,9 @@
-use crate::intersect_tests::{Case, check};
+use crate::tests::{INTERSECT, Pair, check_pairs};
 use std::test::Fail;
 
 // What can be wrong with a line of the first input, behind a record whose lines are written.
-const OF_FIRST: [Case; 7] = [
-    Case {
+const OF_FIRST: [Pair; 7] = [
+    Pair {
         name: "too few columns",
         options: &[],
         first: b"chr1\t2\t9\nchr1\t5\n",
@@ -11,7 +11,7 @@ const OF_FIRST: [Case; 7] = [
         output: b"chr1\t2\t4\n",
         line: b"bedtools intersect: a.bed:2: too few columns\n",
     },
-    Case {
+    Pair {
         name: "no name",
         options: &[],
         first: b"chr1\t2\t9\n\t1\t2\n",
@@ -19,7 +19,7 @@ const OF_FIRST: [Case; 7] = [
         output: b"chr1\t2\t4\n",
         line: b"bedtools intersect: a.bed:2: empty chromosome name\n",
     },
-    Case {
+    Pair {
         name: "a start that isn't a number",
         options: &[],
         first: b"chr1\t2\t9\nchr1\tx\t9\n",
@@ -27,7 +27,7 @@ const OF_FIRST: [Case; 7] = [
         output: b"chr1\t2\t4\n",
         line: b"bedtools intersect: a.bed:2: start is not a number\n",
     },
-    Case {
+    Pair {
         name: "an end that isn't a number",
         options: &[],
         first: b"chr1\t2\t9\nchr1\t5\t1000000000000\n",
@@ -35,7 +35,7 @@ const OF_FIRST: [Case; 7] = [
         output: b"chr1\t2\t4\n",
         line: b"bedtools intersect: a.bed:2: end is not a number\n",
     },
-    Case {
+    Pair {
         name: "no base",
         options: &[],
         first: b"chr1\t2\t9\nchr1\t5\t5\n",
@@ -43,7 +43,7 @@ const OF_FIRST: [Case; 7] = [
         output: b"chr1\t2\t4\n",
         line: b"bedtools intersect: a.bed:2: start is not below end\n",
     },
-    Case {
+    Pair {
         name: "an unknown chromosome",
         options: &[],
         first: b"chr1\t2\t9\nchr3\t1\t2\n",
@@ -51,7 +51,7 @@ const OF_FIRST: [Case; 7] = [
         output: b"chr1\t2\t4\n",
         line: b"bedtools intersect: a.bed:2: chromosome is not in the genome file\n",
     },
-    Case {
+    Pair {
         name: "a start before the last one",
         options: &[],
         first: b"chr1\t2\t9\nchr1\t1\t3\n",
@@ -62,8 +62,8 @@ const OF_FIRST: [Case; 7] = [
 ];
 
 // What can be wrong with a line of the second input, which the first record asks for.
-const OF_SECOND: [Case; 7] = [
-    Case {
+const OF_SECOND: [Pair; 7] = [
+    Pair {
         name: "too few columns",
         options: &[],
         first: b"chr1\t2\t4\n",
@@ -71,7 +71,7 @@ const OF_SECOND: [Case; 7] = [
         output: b"",
         line: b"bedtools intersect: b.bed:2: too few columns\n",
     },
-    Case {
+    Pair {
         name: "no name",
         options: &[],
         first: b"chr1\t2\t4\n",
@@ -79,7 +79,7 @@ const OF_SECOND: [Case; 7] = [
         output: b"",
         line: b"bedtools intersect: b.bed:2: empty chromosome name\n",
     },
-    Case {
+    Pair {
         name: "a start that isn't a number",
         options: &[],
         first: b"chr1\t2\t4\n",
@@ -87,7 +87,7 @@ const OF_SECOND: [Case; 7] = [
         output: b"",
         line: b"bedtools intersect: b.bed:2: start is not a number\n",
     },
-    Case {
+    Pair {
         name: "an end that isn't a number",
         options: &[],
         first: b"chr1\t2\t4\n",
@@ -95,7 +95,7 @@ const OF_SECOND: [Case; 7] = [
         output: b"",
         line: b"bedtools intersect: b.bed:2: end is not a number\n",
     },
-    Case {
+    Pair {
         name: "no base",
         options: &[],
         first: b"chr1\t2\t4\n",
@@ -103,7 +103,7 @@ const OF_SECOND: [Case; 7] = [
         output: b"",
         line: b"bedtools intersect: b.bed:2: start is not below end\n",
     },
-    Case {
+    Pair {
         name: "an unknown chromosome",
         options: &[],
         first: b"chr1\t2\t4\n",
@@ -111,7 +111,7 @@ const OF_SECOND: [Case; 7] = [
         output: b"",
         line: b"bedtools intersect: b.bed:2: chromosome is not in the genome file\n",
     },
-    Case {
+    Pair {
         name: "a start before the last one",
         options: &[],
         first: b"chr1\t2\t4\n",
@@ -123,20 +123,10 @@ const OF_SECOND: [Case; 7] = [
 
 #[test]
 fn faults_of_the_first_input(rt: HostRuntime) -> Result<(), Fail> {
-    for step in [1, 7, 8192] {
-        for case in &OF_FIRST {
-            check(&rt, rt.alloc(), "intersect", case, step)?;
-        }
-    }
-    Ok(())
+    check_pairs(&rt, rt.alloc(), INTERSECT, &OF_FIRST)
 }
 
 #[test]
 fn faults_of_the_second_input(rt: HostRuntime) -> Result<(), Fail> {
-    for step in [1, 7, 8192] {
-        for case in &OF_SECOND {
-            check(&rt, rt.alloc(), "intersect", case, step)?;
-        }
-    }
-    Ok(())
+    check_pairs(&rt, rt.alloc(), INTERSECT, &OF_SECOND)
 }

@@ -1,27 +1,13 @@
-use crate::bamtobed_tests::text;
-use crate::tests::{Answer, Script, expect, run_words, whole};
-use std::alloc::Global;
-use std::process::Abort;
+use crate::tests::{Rows, check_rows};
 use std::test::Fail;
-
-// A run of genomecov, and what it gives. In the rows one space stands for a tab, and ` ; ` separates
-// lines, each of which ends with a line feed.
-struct Case {
-    name: &'static str,
-    options: &'static [&'static str],
-    genome: &'static str,
-    first: &'static str,
-    output: &'static str,
-    line: &'static str,
-}
 
 // Two chromosomes, and two that are small enough to be seen whole.
 const LARGE: &str = "chr1 1000 ; chr2 50";
 
 const SMALL: &str = "chr1 20 ; chr2 5";
 
-const CASES: [Case; 31] = [
-    Case {
+const CASES: [Rows; 31] = [
+    Rows {
         name: "an empty input",
         options: &["-bg"],
         genome: LARGE,
@@ -29,7 +15,7 @@ const CASES: [Case; 31] = [
         output: "",
         line: "",
     },
-    Case {
+    Rows {
         name: "an empty input, with depth 0",
         options: &["-bga"],
         genome: LARGE,
@@ -37,7 +23,7 @@ const CASES: [Case; 31] = [
         output: "chr1 0 1000 0 ; chr2 0 50 0",
         line: "",
     },
-    Case {
+    Rows {
         name: "a record begins where another ends",
         options: &["-bg"],
         genome: LARGE,
@@ -45,7 +31,7 @@ const CASES: [Case; 31] = [
         output: "chr1 0 20 1",
         line: "",
     },
-    Case {
+    Rows {
         name: "a record inside another, and one behind both",
         options: &["-bg"],
         genome: LARGE,
@@ -53,7 +39,7 @@ const CASES: [Case; 31] = [
         output: "chr1 0 5 1 ; chr1 5 10 2 ; chr1 10 15 1",
         line: "",
     },
-    Case {
+    Rows {
         name: "a record takes the place of another at depth 2",
         options: &["-bg"],
         genome: LARGE,
@@ -61,7 +47,7 @@ const CASES: [Case; 31] = [
         output: "chr1 0 10 2",
         line: "",
     },
-    Case {
+    Rows {
         name: "the strand -",
         options: &["-bg", "-strand", "-"],
         genome: LARGE,
@@ -69,7 +55,7 @@ const CASES: [Case; 31] = [
         output: "chr1 5 15 1",
         line: "",
     },
-    Case {
+    Rows {
         name: "the strand +",
         options: &["-bg", "-strand", "+"],
         genome: LARGE,
@@ -77,7 +63,7 @@ const CASES: [Case; 31] = [
         output: "chr1 0 10 1",
         line: "",
     },
-    Case {
+    Rows {
         name: "both strands",
         options: &["-bg"],
         genome: LARGE,
@@ -85,7 +71,7 @@ const CASES: [Case; 31] = [
         output: "chr1 0 5 1 ; chr1 5 10 2 ; chr1 10 15 1",
         line: "",
     },
-    Case {
+    Rows {
         name: "no strand is neither",
         options: &["-bg", "-strand", "+"],
         genome: LARGE,
@@ -93,7 +79,7 @@ const CASES: [Case; 31] = [
         output: "chr1 4 6 1",
         line: "",
     },
-    Case {
+    Rows {
         name: "depth 0 on two chromosomes, and a record past the length",
         options: &["-bga"],
         genome: SMALL,
@@ -101,7 +87,7 @@ const CASES: [Case; 31] = [
         output: "chr1 0 20 0 ; chr2 0 3 0 ; chr2 3 5 1",
         line: "",
     },
-    Case {
+    Rows {
         name: "-bg beside -bga changes nothing",
         options: &["-bg", "-bga"],
         genome: SMALL,
@@ -109,7 +95,7 @@ const CASES: [Case; 31] = [
         output: "chr1 0 20 0 ; chr2 0 3 0 ; chr2 3 5 1",
         line: "",
     },
-    Case {
+    Rows {
         name: "-bg alone",
         options: &["-bg"],
         genome: SMALL,
@@ -117,7 +103,7 @@ const CASES: [Case; 31] = [
         output: "chr2 3 5 1",
         line: "",
     },
-    Case {
+    Rows {
         name: "chromosomes without records before, between and behind",
         options: &["-bga"],
         genome: "a 10 ; b 10 ; c 10 ; d 10 ; e 10",
@@ -125,7 +111,7 @@ const CASES: [Case; 31] = [
         output: "a 0 10 0 ; b 0 2 0 ; b 2 4 1 ; b 4 10 0 ; c 0 10 0 ; d 0 10 1 ; e 0 10 0",
         line: "",
     },
-    Case {
+    Rows {
         name: "depth 0 on the strand that has no record",
         options: &["-bga", "-strand", "-"],
         genome: SMALL,
@@ -133,7 +119,7 @@ const CASES: [Case; 31] = [
         output: "chr1 0 20 0 ; chr2 0 5 0",
         line: "",
     },
-    Case {
+    Rows {
         name: "a record that starts at the length",
         options: &["-bg"],
         genome: SMALL,
@@ -141,7 +127,7 @@ const CASES: [Case; 31] = [
         output: "chr2 3 5 1",
         line: "",
     },
-    Case {
+    Rows {
         name: "a record that starts past the length",
         options: &["-bga"],
         genome: SMALL,
@@ -149,7 +135,7 @@ const CASES: [Case; 31] = [
         output: "chr1 0 20 0 ; chr2 0 3 0 ; chr2 3 4 1 ; chr2 4 5 0",
         line: "",
     },
-    Case {
+    Rows {
         name: "a record past the length, and one on the next chromosome",
         options: &["-bg"],
         genome: SMALL,
@@ -157,7 +143,7 @@ const CASES: [Case; 31] = [
         output: "chr1 18 20 1 ; chr2 1 2 1",
         line: "",
     },
-    Case {
+    Rows {
         name: "twelve records on one another",
         options: &["-bg"],
         genome: SMALL,
@@ -165,7 +151,7 @@ const CASES: [Case; 31] = [
         output: "chr1 1 3 12",
         line: "",
     },
-    Case {
+    Rows {
         name: "the greatest numbers",
         options: &["-bga"],
         genome: "a 999999999999",
@@ -173,7 +159,7 @@ const CASES: [Case; 31] = [
         output: "a 0 999999999998 0 ; a 999999999998 999999999999 1",
         line: "",
     },
-    Case {
+    Rows {
         name: "a gap is settled, and what is open behind it isn't",
         options: &["-bg"],
         genome: LARGE,
@@ -181,7 +167,7 @@ const CASES: [Case; 31] = [
         output: "chr1 0 5 1",
         line: "bedtools genomecov: a.bed:3: record is out of order\n",
     },
-    Case {
+    Rows {
         name: "what ends at the last start isn't settled",
         options: &["-bg"],
         genome: LARGE,
@@ -189,7 +175,7 @@ const CASES: [Case; 31] = [
         output: "",
         line: "bedtools genomecov: a.bed:3: record is out of order\n",
     },
-    Case {
+    Rows {
         name: "depth 0 up to the last start isn't settled",
         options: &["-bga"],
         genome: LARGE,
@@ -197,7 +183,7 @@ const CASES: [Case; 31] = [
         output: "chr1 0 1000 0",
         line: "bedtools genomecov: a.bed:2: record is out of order\n",
     },
-    Case {
+    Rows {
         name: "several are open",
         options: &["-bg"],
         genome: LARGE,
@@ -205,7 +191,7 @@ const CASES: [Case; 31] = [
         output: "chr1 0 5 1",
         line: "bedtools genomecov: a.bed:4: record is out of order\n",
     },
-    Case {
+    Rows {
         name: "a record of the other strand settles",
         options: &["-bg", "-strand", "+"],
         genome: LARGE,
@@ -213,7 +199,7 @@ const CASES: [Case; 31] = [
         output: "chr1 0 5 1",
         line: "bedtools genomecov: a.bed:3: record is out of order\n",
     },
-    Case {
+    Rows {
         name: "a record of the other strand starts where one ends",
         options: &["-bga", "-strand", "+"],
         genome: LARGE,
@@ -221,7 +207,7 @@ const CASES: [Case; 31] = [
         output: "",
         line: "bedtools genomecov: a.bed:3: record is out of order\n",
     },
-    Case {
+    Rows {
         name: "a record past the length settles its chromosome",
         options: &["-bga"],
         genome: SMALL,
@@ -229,7 +215,7 @@ const CASES: [Case; 31] = [
         output: "chr1 0 3 0 ; chr1 3 20 1",
         line: "bedtools genomecov: a.bed:3: start is not a number\n",
     },
-    Case {
+    Rows {
         name: "a record at the length leaves open what ends there",
         options: &["-bga"],
         genome: SMALL,
@@ -237,7 +223,7 @@ const CASES: [Case; 31] = [
         output: "chr1 0 3 0",
         line: "bedtools genomecov: a.bed:3: start is not a number\n",
     },
-    Case {
+    Rows {
         name: "a chromosome that comes back",
         options: &["-bga"],
         genome: SMALL,
@@ -245,7 +231,7 @@ const CASES: [Case; 31] = [
         output: "chr1 0 10 1 ; chr1 10 20 0",
         line: "bedtools genomecov: a.bed:3: record is out of order\n",
     },
-    Case {
+    Rows {
         name: "nothing is settled before the first record",
         options: &["-bga"],
         genome: SMALL,
@@ -253,7 +239,7 @@ const CASES: [Case; 31] = [
         output: "",
         line: "bedtools genomecov: a.bed:1: start is not a number\n",
     },
-    Case {
+    Rows {
         name: "an unknown chromosome behind an open record",
         options: &["-bg"],
         genome: SMALL,
@@ -261,7 +247,7 @@ const CASES: [Case; 31] = [
         output: "",
         line: "bedtools genomecov: a.bed:2: chromosome is not in the genome file\n",
     },
-    Case {
+    Rows {
         name: "a fault of the genome file comes before all",
         options: &["-bga"],
         genome: "chr1 20 ; chr2 x",
@@ -271,47 +257,8 @@ const CASES: [Case; 31] = [
     },
 ];
 
-// Runs genomecov with these options.
-fn genomecov(
-    alloc: Global,
-    options: &[&str],
-    genome: (&[u8], Script),
-    first: (&[u8], Script),
-    out: Script,
-) -> Result<Answer, Fail> {
-    let mut words = vec![in alloc; "genomecov", "-i", "a.bed", "-g", "g.txt"]?;
-    words.extend_from_slice(options)?;
-    run_words(alloc, words.as_slice(), genome, first, out)
-}
-
-fn check(rt: &impl Abort, alloc: Global, case: &Case, step: usize) -> Result<(), Fail> {
-    let script = whole(step.max(1));
-    let genome = text(alloc, case.genome)?;
-    let first = text(alloc, case.first)?;
-    let output = text(alloc, case.output)?;
-    let answer = genomecov(
-        alloc,
-        case.options,
-        (genome.as_slice(), script),
-        (first.as_slice(), script),
-        script,
-    )?;
-    expect(
-        rt,
-        &answer,
-        output.as_slice(),
-        case.line.as_bytes(),
-        case.name,
-    );
-    Ok(())
-}
-
 #[test]
 fn worked_cases(rt: HostRuntime) -> Result<(), Fail> {
-    for step in [1, 7, 8192] {
-        for case in &CASES {
-            check(&rt, rt.alloc(), case, step)?;
-        }
-    }
-    Ok(())
+    let command = ["genomecov", "-i", "a.bed", "-g", "g.txt"];
+    check_rows(&rt, rt.alloc(), &command, &CASES)
 }

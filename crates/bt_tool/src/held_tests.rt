@@ -1,10 +1,10 @@
 //! A limit on how many records of the second input are held.
 
-use crate::intersect_tests::{Case, check};
+use crate::tests::{INTERSECT, Pair, SUBTRACT, check_pairs};
 use std::test::Fail;
 
-const INTERSECTED: [Case; 22] = [
-    Case {
+const INTERSECTED: [Pair; 22] = [
+    Pair {
         name: "a record that ended makes room",
         options: &["-held", "1"],
         first: b"chr1\t0\t10\nchr1\t20\t100\n",
@@ -12,7 +12,7 @@ const INTERSECTED: [Case; 22] = [
         output: b"chr1\t1\t2\n",
         line: b"bedtools intersect: b.bed:3: too many open records\n",
     },
-    Case {
+    Pair {
         name: "none may be held",
         options: &["-held", "0"],
         first: b"chr1\t0\t10\nchr1\t20\t100\n",
@@ -20,7 +20,7 @@ const INTERSECTED: [Case; 22] = [
         output: b"",
         line: b"bedtools intersect: b.bed:1: too many open records\n",
     },
-    Case {
+    Pair {
         name: "as many as are held",
         options: &["-held", "2"],
         first: b"chr1\t0\t10\nchr1\t20\t100\n",
@@ -28,7 +28,7 @@ const INTERSECTED: [Case; 22] = [
         output: b"chr1\t1\t2\nchr1\t30\t40\nchr1\t50\t60\n",
         line: b"",
     },
-    Case {
+    Pair {
         name: "a feature inside another, one too many",
         options: &["-held", "2"],
         first: b"chr1\t0\t100\nchr1\t50\t60\n",
@@ -36,7 +36,7 @@ const INTERSECTED: [Case; 22] = [
         output: b"",
         line: b"bedtools intersect: b.bed:3: too many open records\n",
     },
-    Case {
+    Pair {
         name: "a feature inside another, as many as are held",
         options: &["-held", "3"],
         first: b"chr1\t0\t100\nchr1\t50\t60\n",
@@ -44,7 +44,7 @@ const INTERSECTED: [Case; 22] = [
         output: b"chr1\t10\t20\nchr1\t55\t58\nchr1\t90\t95\nchr1\t55\t58\n",
         line: b"",
     },
-    Case {
+    Pair {
         name: "a feature inside another, counted",
         options: &["-c", "-held", "3"],
         first: b"chr1\t0\t100\nchr1\t50\t60\n",
@@ -52,7 +52,7 @@ const INTERSECTED: [Case; 22] = [
         output: b"chr1\t0\t100\t3\nchr1\t50\t60\t1\n",
         line: b"",
     },
-    Case {
+    Pair {
         name: "before a fault behind it",
         options: &["-held", "1"],
         first: b"chr1\t0\t100\n",
@@ -60,7 +60,7 @@ const INTERSECTED: [Case; 22] = [
         output: b"",
         line: b"bedtools intersect: b.bed:2: too many open records\n",
     },
-    Case {
+    Pair {
         name: "behind a limit that is kept a fault",
         options: &["-held", "2"],
         first: b"chr1\t0\t100\n",
@@ -68,7 +68,7 @@ const INTERSECTED: [Case; 22] = [
         output: b"",
         line: b"bedtools intersect: b.bed:3: start is not a number\n",
     },
-    Case {
+    Pair {
         name: "a record that decides isn't held",
         options: &["-held", "0", "-v"],
         first: b"chr1\t0\t10\n",
@@ -76,7 +76,7 @@ const INTERSECTED: [Case; 22] = [
         output: b"chr1\t0\t10\n",
         line: b"",
     },
-    Case {
+    Pair {
         name: "nor one that ended before",
         options: &["-held", "0", "-v"],
         first: b"chr1\t20\t30\n",
@@ -84,7 +84,7 @@ const INTERSECTED: [Case; 22] = [
         output: b"chr1\t20\t30\n",
         line: b"",
     },
-    Case {
+    Pair {
         name: "nor one of a chromosome before",
         options: &["-held", "0", "-c"],
         first: b"chr2\t0\t10\n",
@@ -92,7 +92,7 @@ const INTERSECTED: [Case; 22] = [
         output: b"chr2\t0\t10\t0\n",
         line: b"",
     },
-    Case {
+    Pair {
         name: "one that a fraction refuses is held",
         options: &["-f", "1", "-held", "1"],
         first: b"chr1\t0\t100\n",
@@ -100,7 +100,7 @@ const INTERSECTED: [Case; 22] = [
         output: b"",
         line: b"bedtools intersect: b.bed:2: too many open records\n",
     },
-    Case {
+    Pair {
         name: "one of another strand is held",
         options: &["-s", "-held", "1"],
         first: b"chr1\t0\t100\ta\t0\t+\n",
@@ -108,7 +108,7 @@ const INTERSECTED: [Case; 22] = [
         output: b"",
         line: b"bedtools intersect: b.bed:2: too many open records\n",
     },
-    Case {
+    Pair {
         name: "one that isn't half of both is held",
         options: &["-f", "0.5", "-r", "-held", "0"],
         first: b"chr1\t0\t100\n",
@@ -116,7 +116,7 @@ const INTERSECTED: [Case; 22] = [
         output: b"",
         line: b"bedtools intersect: b.bed:1: too many open records\n",
     },
-    Case {
+    Pair {
         name: "lines that are skipped count",
         options: &["-held", "1"],
         first: b"chr1\t0\t100\n",
@@ -124,7 +124,7 @@ const INTERSECTED: [Case; 22] = [
         output: b"",
         line: b"bedtools intersect: b.bed:5: too many open records\n",
     },
-    Case {
+    Pair {
         name: "a new chromosome makes room",
         options: &["-held", "1"],
         first: b"chr1\t0\t10\nchr2\t0\t40\n",
@@ -132,7 +132,7 @@ const INTERSECTED: [Case; 22] = [
         output: b"chr1\t1\t2\n",
         line: b"bedtools intersect: b.bed:3: too many open records\n",
     },
-    Case {
+    Pair {
         name: "where all is written nothing is held",
         options: &["-held", "1"],
         first: b"chr1\t0\t10\n",
@@ -140,7 +140,7 @@ const INTERSECTED: [Case; 22] = [
         output: b"chr1\t1\t2\n",
         line: b"",
     },
-    Case {
+    Pair {
         name: "nothing in the first input",
         options: &["-held", "0"],
         first: b"",
@@ -148,7 +148,7 @@ const INTERSECTED: [Case; 22] = [
         output: b"",
         line: b"",
     },
-    Case {
+    Pair {
         name: "before a fault of the first",
         options: &["-held", "1"],
         first: b"chr1\t0\t10\nchr1\tx\t5\n",
@@ -156,7 +156,7 @@ const INTERSECTED: [Case; 22] = [
         output: b"",
         line: b"bedtools intersect: b.bed:2: too many open records\n",
     },
-    Case {
+    Pair {
         name: "behind the last record that a fault follows",
         options: &["-held", "1"],
         first: b"chr1\t0\t10\nchr1\tx\t5\n",
@@ -164,7 +164,7 @@ const INTERSECTED: [Case; 22] = [
         output: b"chr1\t2\t4\n",
         line: b"bedtools intersect: a.bed:2: start is not a number\n",
     },
-    Case {
+    Pair {
         name: "the greatest limit",
         options: &["-held", "999999999999"],
         first: b"chr1\t0\t10\nchr1\t20\t100\n",
@@ -172,7 +172,7 @@ const INTERSECTED: [Case; 22] = [
         output: b"chr1\t1\t2\nchr1\t30\t40\nchr1\t50\t60\n",
         line: b"",
     },
-    Case {
+    Pair {
         name: "the last value counts",
         options: &["-held", "0", "-held", "2"],
         first: b"chr1\t0\t10\nchr1\t20\t100\n",
@@ -182,8 +182,8 @@ const INTERSECTED: [Case; 22] = [
     },
 ];
 
-const SUBTRACTED: [Case; 6] = [
-    Case {
+const SUBTRACTED: [Pair; 6] = [
+    Pair {
         name: "none is held where one ended and one decides",
         options: &["-held", "0"],
         first: b"chr1\t20\t30\n",
@@ -191,7 +191,7 @@ const SUBTRACTED: [Case; 6] = [
         output: b"chr1\t20\t30\n",
         line: b"",
     },
-    Case {
+    Pair {
         name: "pieces, one too many",
         options: &["-held", "1"],
         first: b"chr1\t0\t10\n",
@@ -199,7 +199,7 @@ const SUBTRACTED: [Case; 6] = [
         output: b"",
         line: b"bedtools subtract: b.bed:2: too many open records\n",
     },
-    Case {
+    Pair {
         name: "pieces, as many as are held",
         options: &["-held", "2"],
         first: b"chr1\t0\t10\n",
@@ -207,7 +207,7 @@ const SUBTRACTED: [Case; 6] = [
         output: b"chr1\t0\t1\nchr1\t2\t3\nchr1\t4\t10\n",
         line: b"",
     },
-    Case {
+    Pair {
         name: "whole records, one too many",
         options: &["-A", "-held", "0"],
         first: b"chr1\t0\t10\nchr1\t20\t30\n",
@@ -215,7 +215,7 @@ const SUBTRACTED: [Case; 6] = [
         output: b"",
         line: b"bedtools subtract: b.bed:1: too many open records\n",
     },
-    Case {
+    Pair {
         name: "the decided record is written",
         options: &["-A", "-held", "0"],
         first: b"chr1\t0\t10\nchr1\t20\t30\n",
@@ -223,7 +223,7 @@ const SUBTRACTED: [Case; 6] = [
         output: b"chr1\t0\t10\n",
         line: b"bedtools subtract: b.bed:2: too many open records\n",
     },
-    Case {
+    Pair {
         name: "one that a fraction refuses is held",
         options: &["-f", "1", "-held", "0"],
         first: b"chr1\t0\t10\n",
@@ -235,20 +235,10 @@ const SUBTRACTED: [Case; 6] = [
 
 #[test]
 fn held_records_of_intersect(rt: HostRuntime) -> Result<(), Fail> {
-    for step in [1, 7, 8192] {
-        for case in &INTERSECTED {
-            check(&rt, rt.alloc(), "intersect", case, step)?;
-        }
-    }
-    Ok(())
+    check_pairs(&rt, rt.alloc(), INTERSECT, &INTERSECTED)
 }
 
 #[test]
 fn held_records_of_subtract(rt: HostRuntime) -> Result<(), Fail> {
-    for step in [1, 7, 8192] {
-        for case in &SUBTRACTED {
-            check(&rt, rt.alloc(), "subtract", case, step)?;
-        }
-    }
-    Ok(())
+    check_pairs(&rt, rt.alloc(), SUBTRACT, &SUBTRACTED)
 }

@@ -1,20 +1,8 @@
-use crate::tests::{Answer, GENOME, Script, expect, run_both, whole};
-use std::alloc::Global;
-use std::process::Abort;
+use crate::tests::{INTERSECT, Pair, check_pairs};
 use std::test::Fail;
 
-// A run of a command of two inputs, and what it gives on the genome of all tests.
-pub(crate) struct Case {
-    pub(crate) name: &'static str,
-    pub(crate) options: &'static [&'static str],
-    pub(crate) first: &'static [u8],
-    pub(crate) second: &'static [u8],
-    pub(crate) output: &'static [u8],
-    pub(crate) line: &'static [u8],
-}
-
-const CASES: [Case; 29] = [
-    Case {
+const CASES: [Pair; 29] = [
+    Pair {
         name: "nothing in the first input",
         options: &[],
         first: b"",
@@ -22,7 +10,7 @@ const CASES: [Case; 29] = [
         output: b"",
         line: b"",
     },
-    Case {
+    Pair {
         name: "nothing in the second",
         options: &["-v"],
         first: b"chr1\t0\t10\ta\nchr1\t5\t8\n",
@@ -30,7 +18,7 @@ const CASES: [Case; 29] = [
         output: b"chr1\t0\t10\ta\nchr1\t5\t8\n",
         line: b"",
     },
-    Case {
+    Pair {
         name: "features that touch",
         options: &[],
         first: b"chr1\t10\t20\n",
@@ -38,7 +26,7 @@ const CASES: [Case; 29] = [
         output: b"",
         line: b"",
     },
-    Case {
+    Pair {
         name: "features that touch, with none of the other",
         options: &["-v"],
         first: b"chr1\t10\t20\n",
@@ -46,7 +34,7 @@ const CASES: [Case; 29] = [
         output: b"chr1\t10\t20\n",
         line: b"",
     },
-    Case {
+    Pair {
         name: "features that touch, counted",
         options: &["-c"],
         first: b"chr1\t10\t20\n",
@@ -54,7 +42,7 @@ const CASES: [Case; 29] = [
         output: b"chr1\t10\t20\t0\n",
         line: b"",
     },
-    Case {
+    Pair {
         name: "a feature inside another",
         options: &[],
         first: b"chr1\t0\t100\nchr1\t50\t60\n",
@@ -62,7 +50,7 @@ const CASES: [Case; 29] = [
         output: b"chr1\t10\t20\nchr1\t55\t58\nchr1\t90\t95\nchr1\t55\t58\n",
         line: b"",
     },
-    Case {
+    Pair {
         name: "a feature inside another, counted",
         options: &["-c"],
         first: b"chr1\t0\t100\nchr1\t50\t60\n",
@@ -70,7 +58,7 @@ const CASES: [Case; 29] = [
         output: b"chr1\t0\t100\t3\nchr1\t50\t60\t1\n",
         line: b"",
     },
-    Case {
+    Pair {
         name: "the shared parts",
         options: &[],
         first: b"chr1\t10\t30\ta\n",
@@ -78,7 +66,7 @@ const CASES: [Case; 29] = [
         output: b"chr1\t10\t15\ta\nchr1\t25\t30\ta\n",
         line: b"",
     },
-    Case {
+    Pair {
         name: "all input is sorted",
         options: &["-sorted"],
         first: b"chr1\t10\t30\ta\n",
@@ -86,7 +74,7 @@ const CASES: [Case; 29] = [
         output: b"chr1\t10\t15\ta\nchr1\t25\t30\ta\n",
         line: b"",
     },
-    Case {
+    Pair {
         name: "the record for each hit",
         options: &["-wa"],
         first: b"chr1\t10\t30\ta\n",
@@ -94,7 +82,7 @@ const CASES: [Case; 29] = [
         output: b"chr1\t10\t30\ta\nchr1\t10\t30\ta\n",
         line: b"",
     },
-    Case {
+    Pair {
         name: "the same, asked for twice",
         options: &["-wa", "-wa"],
         first: b"chr1\t10\t30\ta\n",
@@ -102,7 +90,7 @@ const CASES: [Case; 29] = [
         output: b"chr1\t10\t30\ta\nchr1\t10\t30\ta\n",
         line: b"",
     },
-    Case {
+    Pair {
         name: "the shared parts, and what hits",
         options: &["-wb"],
         first: b"chr1\t10\t30\ta\n",
@@ -110,7 +98,7 @@ const CASES: [Case; 29] = [
         output: b"chr1\t10\t15\ta\tchr1\t0\t15\tx\nchr1\t25\t30\ta\tchr1\t25\t40\ty\n",
         line: b"",
     },
-    Case {
+    Pair {
         name: "the records of both",
         options: &["-wa", "-wb"],
         first: b"chr1\t10\t30\ta\n",
@@ -118,7 +106,7 @@ const CASES: [Case; 29] = [
         output: b"chr1\t10\t30\ta\tchr1\t0\t15\tx\nchr1\t10\t30\ta\tchr1\t25\t40\ty\n",
         line: b"",
     },
-    Case {
+    Pair {
         name: "the records of both, and how much they share",
         options: &["-wo"],
         first: b"chr1\t10\t30\ta\n",
@@ -126,7 +114,7 @@ const CASES: [Case; 29] = [
         output: b"chr1\t10\t30\ta\tchr1\t0\t15\tx\t5\nchr1\t10\t30\ta\tchr1\t25\t40\ty\t5\n",
         line: b"",
     },
-    Case {
+    Pair {
         name: "the record once",
         options: &["-u"],
         first: b"chr1\t10\t30\ta\n",
@@ -134,7 +122,7 @@ const CASES: [Case; 29] = [
         output: b"chr1\t10\t30\ta\n",
         line: b"",
     },
-    Case {
+    Pair {
         name: "the record once, whatever is written of it",
         options: &["-wa", "-u"],
         first: b"chr1\t10\t30\ta\n",
@@ -142,7 +130,7 @@ const CASES: [Case; 29] = [
         output: b"chr1\t10\t30\ta\n",
         line: b"",
     },
-    Case {
+    Pair {
         name: "the number of hits",
         options: &["-c"],
         first: b"chr1\t10\t30\ta\n",
@@ -150,7 +138,7 @@ const CASES: [Case; 29] = [
         output: b"chr1\t10\t30\ta\t2\n",
         line: b"",
     },
-    Case {
+    Pair {
         name: "the number of hits, whatever is written",
         options: &["-c", "-wa"],
         first: b"chr1\t10\t30\ta\n",
@@ -158,7 +146,7 @@ const CASES: [Case; 29] = [
         output: b"chr1\t10\t30\ta\t2\n",
         line: b"",
     },
-    Case {
+    Pair {
         name: "no record without a hit",
         options: &["-v"],
         first: b"chr1\t10\t30\ta\n",
@@ -166,7 +154,7 @@ const CASES: [Case; 29] = [
         output: b"",
         line: b"",
     },
-    Case {
+    Pair {
         name: "none without a hit, whatever is written",
         options: &["-wa", "-v"],
         first: b"chr1\t10\t30\ta\n",
@@ -174,7 +162,7 @@ const CASES: [Case; 29] = [
         output: b"",
         line: b"",
     },
-    Case {
+    Pair {
         name: "a chromosome behind that of the other",
         options: &[],
         first: b"chr2\t0\t5\n",
@@ -182,7 +170,7 @@ const CASES: [Case; 29] = [
         output: b"",
         line: b"",
     },
-    Case {
+    Pair {
         name: "a fault where the second record is asked for",
         options: &[],
         first: b"chr1\t0\t10\nchr1\t100\t110\n",
@@ -190,7 +178,7 @@ const CASES: [Case; 29] = [
         output: b"chr1\t2\t4\n",
         line: b"bedtools intersect: b.bed:3: start is not a number\n",
     },
-    Case {
+    Pair {
         name: "a fault behind the last record",
         options: &[],
         first: b"chr1\t0\t10\n",
@@ -198,7 +186,7 @@ const CASES: [Case; 29] = [
         output: b"chr1\t2\t4\n",
         line: b"bedtools intersect: b.bed:3: start is not a number\n",
     },
-    Case {
+    Pair {
         name: "a fault beside no record",
         options: &[],
         first: b"",
@@ -206,7 +194,7 @@ const CASES: [Case; 29] = [
         output: b"",
         line: b"bedtools intersect: b.bed:3: start is not a number\n",
     },
-    Case {
+    Pair {
         name: "a second input out of order",
         options: &[],
         first: b"chr1\t0\t10\n",
@@ -214,7 +202,7 @@ const CASES: [Case; 29] = [
         output: b"chr1\t2\t4\n",
         line: b"bedtools intersect: b.bed:3: record is out of order\n",
     },
-    Case {
+    Pair {
         name: "the first input at fault before the second",
         options: &[],
         first: b"chr1\t0\t10\nchr1\tx\t5\n",
@@ -222,7 +210,7 @@ const CASES: [Case; 29] = [
         output: b"chr1\t2\t4\n",
         line: b"bedtools intersect: a.bed:2: start is not a number\n",
     },
-    Case {
+    Pair {
         name: "both at fault at once",
         options: &[],
         first: b"chr1\tx\t5\n",
@@ -230,7 +218,7 @@ const CASES: [Case; 29] = [
         output: b"",
         line: b"bedtools intersect: a.bed:1: start is not a number\n",
     },
-    Case {
+    Pair {
         name: "the second at fault at once",
         options: &[],
         first: b"chr1\t0\t10\n",
@@ -238,7 +226,7 @@ const CASES: [Case; 29] = [
         output: b"",
         line: b"bedtools intersect: b.bed:1: start is not a number\n",
     },
-    Case {
+    Pair {
         name: "a start with zeros before it",
         options: &["-wa", "-wb"],
         first: b"chr1\t007\t9\tn\t0\t+\n",
@@ -249,8 +237,8 @@ const CASES: [Case; 29] = [
 ];
 
 // What makes a hit: a fraction of the record, or of both, and equal strands.
-const RULES: [Case; 23] = [
-    Case {
+const RULES: [Pair; 23] = [
+    Pair {
         name: "half of the record",
         options: &["-f", "0.5"],
         first: b"chr1\t0\t10\n",
@@ -258,7 +246,7 @@ const RULES: [Case; 23] = [
         output: b"chr1\t0\t5\n",
         line: b"",
     },
-    Case {
+    Pair {
         name: "half of the record, without a digit before the point",
         options: &["-f", ".5"],
         first: b"chr1\t0\t10\n",
@@ -266,7 +254,7 @@ const RULES: [Case; 23] = [
         output: b"chr1\t0\t5\n",
         line: b"",
     },
-    Case {
+    Pair {
         name: "a billionth more than half",
         options: &["-f", "0.500000001"],
         first: b"chr1\t0\t10\n",
@@ -274,7 +262,7 @@ const RULES: [Case; 23] = [
         output: b"",
         line: b"",
     },
-    Case {
+    Pair {
         name: "half of both",
         options: &["-f", "0.5", "-r"],
         first: b"chr1\t0\t10\n",
@@ -282,7 +270,7 @@ const RULES: [Case; 23] = [
         output: b"chr1\t0\t5\n",
         line: b"",
     },
-    Case {
+    Pair {
         name: "half of the record, and not of the other",
         options: &["-r", "-f", "0.5"],
         first: b"chr1\t0\t10\n",
@@ -290,7 +278,7 @@ const RULES: [Case; 23] = [
         output: b"",
         line: b"",
     },
-    Case {
+    Pair {
         name: "the same, asked of the record alone",
         options: &["-f", "0.5"],
         first: b"chr1\t0\t10\n",
@@ -298,7 +286,7 @@ const RULES: [Case; 23] = [
         output: b"chr1\t0\t10\n",
         line: b"",
     },
-    Case {
+    Pair {
         name: "all of the record",
         options: &["-f", "1"],
         first: b"chr1\t0\t10\nchr1\t4\t6\n",
@@ -306,7 +294,7 @@ const RULES: [Case; 23] = [
         output: b"chr1\t4\t6\n",
         line: b"",
     },
-    Case {
+    Pair {
         name: "all of it, without a digit behind the point",
         options: &["-f", "1."],
         first: b"chr1\t0\t10\nchr1\t4\t6\n",
@@ -314,7 +302,7 @@ const RULES: [Case; 23] = [
         output: b"chr1\t4\t6\n",
         line: b"",
     },
-    Case {
+    Pair {
         name: "the last fraction",
         options: &["-f", "1", "-f", "0.5"],
         first: b"chr1\t0\t10\n",
@@ -322,7 +310,7 @@ const RULES: [Case; 23] = [
         output: b"chr1\t0\t5\n",
         line: b"",
     },
-    Case {
+    Pair {
         name: "no fraction",
         options: &["-f", "0"],
         first: b"chr1\t0\t10\n",
@@ -330,7 +318,7 @@ const RULES: [Case; 23] = [
         output: b"chr1\t9\t10\n",
         line: b"",
     },
-    Case {
+    Pair {
         name: "of both, without a fraction",
         options: &["-r"],
         first: b"chr1\t0\t10\n",
@@ -338,7 +326,7 @@ const RULES: [Case; 23] = [
         output: b"chr1\t9\t10\n",
         line: b"",
     },
-    Case {
+    Pair {
         name: "half of the record in one of two",
         options: &["-f", "0.5"],
         first: b"chr1\t0\t100\n",
@@ -346,7 +334,7 @@ const RULES: [Case; 23] = [
         output: b"chr1\t20\t90\n",
         line: b"",
     },
-    Case {
+    Pair {
         name: "half of the longest record",
         options: &["-f", "0.5"],
         first: b"chr1\t0\t999999999999\n",
@@ -354,7 +342,7 @@ const RULES: [Case; 23] = [
         output: b"chr1\t0\t500000000000\n",
         line: b"",
     },
-    Case {
+    Pair {
         name: "less than half of the longest record",
         options: &["-f", "0.5"],
         first: b"chr1\t0\t999999999999\n",
@@ -362,7 +350,7 @@ const RULES: [Case; 23] = [
         output: b"",
         line: b"",
     },
-    Case {
+    Pair {
         name: "no record without half of it",
         options: &["-f", "0.5", "-v"],
         first: b"chr1\t0\t10\n",
@@ -370,7 +358,7 @@ const RULES: [Case; 23] = [
         output: b"",
         line: b"",
     },
-    Case {
+    Pair {
         name: "a record without more than half of it",
         options: &["-f", "0.6", "-v"],
         first: b"chr1\t0\t10\n",
@@ -378,7 +366,7 @@ const RULES: [Case; 23] = [
         output: b"chr1\t0\t10\n",
         line: b"",
     },
-    Case {
+    Pair {
         name: "the number of hits of half of the record",
         options: &["-c", "-f", "0.5"],
         first: b"chr1\t0\t10\n",
@@ -386,7 +374,7 @@ const RULES: [Case; 23] = [
         output: b"chr1\t0\t10\t1\n",
         line: b"",
     },
-    Case {
+    Pair {
         name: "another strand",
         options: &["-s"],
         first: b"chr1\t0\t10\ta\t0\t+\n",
@@ -394,7 +382,7 @@ const RULES: [Case; 23] = [
         output: b"",
         line: b"",
     },
-    Case {
+    Pair {
         name: "another strand, which isn't looked at",
         options: &[],
         first: b"chr1\t0\t10\ta\t0\t+\n",
@@ -402,7 +390,7 @@ const RULES: [Case; 23] = [
         output: b"chr1\t5\t8\ta\t0\t+\n",
         line: b"",
     },
-    Case {
+    Pair {
         name: "the same strand",
         options: &["-s"],
         first: b"chr1\t0\t10\ta\t0\t-\n",
@@ -410,7 +398,7 @@ const RULES: [Case; 23] = [
         output: b"chr1\t5\t8\ta\t0\t-\n",
         line: b"",
     },
-    Case {
+    Pair {
         name: "no strand in both",
         options: &["-s"],
         first: b"chr1\t0\t10\n",
@@ -418,7 +406,7 @@ const RULES: [Case; 23] = [
         output: b"chr1\t5\t8\n",
         line: b"",
     },
-    Case {
+    Pair {
         name: "no strand in one",
         options: &["-s"],
         first: b"chr1\t0\t10\n",
@@ -426,7 +414,7 @@ const RULES: [Case; 23] = [
         output: b"",
         line: b"",
     },
-    Case {
+    Pair {
         name: "half of both on one strand",
         options: &["-s", "-r", "-f", "0.5"],
         first: b"chr1\t0\t10\ta\t0\t+\n",
@@ -436,59 +424,12 @@ const RULES: [Case; 23] = [
     },
 ];
 
-// Runs a command of two inputs with these options.
-fn run_on(
-    alloc: Global,
-    command: &'static str,
-    options: &[&'static str],
-    first: (&[u8], Script),
-    second: (&[u8], Script),
-    out: Script,
-) -> Result<Answer, Fail> {
-    let mut words = vec![in alloc; command, "-a", "a.bed", "-b", "b.bed", "-g", "g.txt"]?;
-    words.extend_from_slice(options)?;
-    run_both(
-        alloc,
-        words.as_slice(),
-        (GENOME, whole(7)),
-        first,
-        second,
-        out,
-    )
-}
-
-/// Runs a command in one case, by sources and a sink of this step.
-pub(crate) fn check(
-    rt: &impl Abort,
-    alloc: Global,
-    command: &'static str,
-    case: &Case,
-    step: usize,
-) -> Result<(), Fail> {
-    let script = whole(step.max(1));
-    let first = (case.first, script);
-    let second = (case.second, script);
-    let answer = run_on(alloc, command, case.options, first, second, script)?;
-    expect(rt, &answer, case.output, case.line, case.name);
-    Ok(())
-}
-
 #[test]
 fn worked_cases(rt: HostRuntime) -> Result<(), Fail> {
-    for step in [1, 7, 8192] {
-        for case in &CASES {
-            check(&rt, rt.alloc(), "intersect", case, step)?;
-        }
-    }
-    Ok(())
+    check_pairs(&rt, rt.alloc(), INTERSECT, &CASES)
 }
 
 #[test]
 fn worked_rules(rt: HostRuntime) -> Result<(), Fail> {
-    for step in [1, 7, 8192] {
-        for case in &RULES {
-            check(&rt, rt.alloc(), "intersect", case, step)?;
-        }
-    }
-    Ok(())
+    check_pairs(&rt, rt.alloc(), INTERSECT, &RULES)
 }

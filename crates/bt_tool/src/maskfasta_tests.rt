@@ -1,12 +1,11 @@
-use crate::intersect_tests::Case;
-use crate::tests::{Answer, Script, expect, run_both, whole};
-use std::alloc::Global;
-use std::process::Abort;
+use crate::tests::{Pair, check_pairs};
 use std::test::Fail;
 
+const MASKFASTA: &[&str] = &["maskfasta", "-fi", "a.fa", "-bed", "b.bed"];
+
 // What stands for the bases that records cover.
-const BASES: [Case; 9] = [
-    Case {
+const BASES: [Pair; 9] = [
+    Pair {
         name: "records over a line's end",
         options: &[],
         first: b">s d\nACGTAC\nGTAC",
@@ -14,7 +13,7 @@ const BASES: [Case; 9] = [
         output: b">s d\nACGTNN\nNNAC",
         line: b"",
     },
-    Case {
+    Pair {
         name: "lower case",
         options: &["-soft"],
         first: b">s d\nACGTAC\nGTAC",
@@ -22,7 +21,7 @@ const BASES: [Case; 9] = [
         output: b">s d\nACGTac\ngtAC",
         line: b"",
     },
-    Case {
+    Pair {
         name: "another character",
         options: &["-mc", "x"],
         first: b">s d\nACGTAC\nGTAC",
@@ -30,7 +29,7 @@ const BASES: [Case; 9] = [
         output: b">s d\nACGTxx\nxxAC",
         line: b"",
     },
-    Case {
+    Pair {
         name: "the last of two characters",
         options: &["-mc", "-", "-mc", "~"],
         first: b">s\nACGT\n",
@@ -38,7 +37,7 @@ const BASES: [Case; 9] = [
         output: b">s\nA~~T\n",
         line: b"",
     },
-    Case {
+    Pair {
         name: "lower case of letters alone",
         options: &["-soft"],
         first: b">s\nAcN*-zZ\n",
@@ -46,7 +45,7 @@ const BASES: [Case; 9] = [
         output: b">s\nacn*-zz\n",
         line: b"",
     },
-    Case {
+    Pair {
         name: "no such sequence",
         options: &[],
         first: b">s\nACGT\n",
@@ -54,7 +53,7 @@ const BASES: [Case; 9] = [
         output: b">s\nACGT\n",
         line: b"bedtools maskfasta: b.bed:1: no such sequence from here on\n",
     },
-    Case {
+    Pair {
         name: "a record past the end of the sequence",
         options: &[],
         first: b">s\nACGT\n",
@@ -62,7 +61,7 @@ const BASES: [Case; 9] = [
         output: b">s\nACGT\n",
         line: b"",
     },
-    Case {
+    Pair {
         name: "a record over the end of the sequence",
         options: &[],
         first: b">s\nACGT\n",
@@ -70,7 +69,7 @@ const BASES: [Case; 9] = [
         output: b">s\nACNN\n",
         line: b"",
     },
-    Case {
+    Pair {
         name: "a record over all positions",
         options: &[],
         first: b">s\nAC\nGT\n",
@@ -81,8 +80,8 @@ const BASES: [Case; 9] = [
 ];
 
 // Which block masks which sequence.
-const BLOCKS: [Case; 8] = [
-    Case {
+const BLOCKS: [Pair; 8] = [
+    Pair {
         name: "two blocks and two sequences of one name",
         options: &[],
         first: b">s\nAAAA\n>t\nCCCC\n>s\nGGGG\n",
@@ -90,7 +89,7 @@ const BLOCKS: [Case; 8] = [
         output: b">s\nNAAA\n>t\nNCCC\n>s\nNGGG\n",
         line: b"",
     },
-    Case {
+    Pair {
         name: "a block behind that of the sequence between",
         options: &[],
         first: b">s\nAAAA\n>t\nCCCC\n>s\nGGGG\n",
@@ -98,7 +97,7 @@ const BLOCKS: [Case; 8] = [
         output: b">s\nAAAA\n>t\nNCCC\n>s\nNGGG\n",
         line: b"",
     },
-    Case {
+    Pair {
         name: "one block and two sequences of one name",
         options: &[],
         first: b">s\nAA\n>s\nCC\n",
@@ -106,7 +105,7 @@ const BLOCKS: [Case; 8] = [
         output: b">s\nNN\n>s\nCC\n",
         line: b"",
     },
-    Case {
+    Pair {
         name: "a block whose sequence came earlier",
         options: &[],
         first: b">s\nAA\n>t\nCC\n",
@@ -114,7 +113,7 @@ const BLOCKS: [Case; 8] = [
         output: b">s\nAA\n>t\nNC\n",
         line: b"bedtools maskfasta: b.bed:2: no such sequence from here on\n",
     },
-    Case {
+    Pair {
         name: "blocks behind one without a sequence",
         options: &[],
         first: b">s\nAA\n>t\nCC\n",
@@ -122,7 +121,7 @@ const BLOCKS: [Case; 8] = [
         output: b">s\nAA\n>t\nCC\n",
         line: b"bedtools maskfasta: b.bed:1: no such sequence from here on\n",
     },
-    Case {
+    Pair {
         name: "a sequence without records between others",
         options: &[],
         first: b">a\nAA\n>b\nCC\n>c\nGG\n",
@@ -130,7 +129,7 @@ const BLOCKS: [Case; 8] = [
         output: b">a\nNA\n>b\nCC\n>c\nGN\n",
         line: b"",
     },
-    Case {
+    Pair {
         name: "no sequence, told before a later fault",
         options: &[],
         first: b">s\nAAAA\n",
@@ -138,7 +137,7 @@ const BLOCKS: [Case; 8] = [
         output: b">s\nAAAA\n",
         line: b"bedtools maskfasta: b.bed:1: no such sequence from here on\n",
     },
-    Case {
+    Pair {
         name: "no sequence behind a block that has one, told before a later fault",
         options: &[],
         first: b">s\nAA\n",
@@ -149,8 +148,8 @@ const BLOCKS: [Case; 8] = [
 ];
 
 // Which fault is told, and which lines before it.
-const FAULTS: [Case; 10] = [
-    Case {
+const FAULTS: [Pair; 10] = [
+    Pair {
         name: "text before the first header",
         options: &[],
         first: b"ACGT\n>s\n",
@@ -158,7 +157,7 @@ const FAULTS: [Case; 10] = [
         output: b"",
         line: b"bedtools maskfasta: a.fa:1: text before the first header\n",
     },
-    Case {
+    Pair {
         name: "text behind a blank line, before the first header",
         options: &[],
         first: b"\nACGT\n>s\n",
@@ -166,7 +165,7 @@ const FAULTS: [Case; 10] = [
         output: b"\n",
         line: b"bedtools maskfasta: a.fa:2: text before the first header\n",
     },
-    Case {
+    Pair {
         name: "a first input at fault before the second",
         options: &[],
         first: b"ACGT\n>s\n",
@@ -174,7 +173,7 @@ const FAULTS: [Case; 10] = [
         output: b"",
         line: b"bedtools maskfasta: a.fa:1: text before the first header\n",
     },
-    Case {
+    Pair {
         name: "a second input at fault that no line asks for",
         options: &[],
         first: b"\nACGT\n",
@@ -182,7 +181,7 @@ const FAULTS: [Case; 10] = [
         output: b"\n",
         line: b"bedtools maskfasta: a.fa:2: text before the first header\n",
     },
-    Case {
+    Pair {
         name: "records out of order in a block",
         options: &[],
         first: b">s\nAAAA\n",
@@ -190,7 +189,7 @@ const FAULTS: [Case; 10] = [
         output: b">s\n",
         line: b"bedtools maskfasta: b.bed:2: record is out of order\n",
     },
-    Case {
+    Pair {
         name: "a fault before the first record",
         options: &[],
         first: b">s\nAAAA\n",
@@ -198,7 +197,7 @@ const FAULTS: [Case; 10] = [
         output: b"",
         line: b"bedtools maskfasta: b.bed:1: start is not a number\n",
     },
-    Case {
+    Pair {
         name: "a fault decides no line",
         options: &[],
         first: b">s\nAAAA\nCCCC\n",
@@ -206,7 +205,7 @@ const FAULTS: [Case; 10] = [
         output: b">s\n",
         line: b"bedtools maskfasta: b.bed:2: start is not a number\n",
     },
-    Case {
+    Pair {
         name: "a fault behind what decides all lines",
         options: &[],
         first: b">s\nAA\n",
@@ -214,7 +213,7 @@ const FAULTS: [Case; 10] = [
         output: b">s\nNA\n",
         line: b"bedtools maskfasta: b.bed:3: start is not a number\n",
     },
-    Case {
+    Pair {
         name: "a line decided by a record at its end",
         options: &[],
         first: b">s\nAA\n",
@@ -222,7 +221,7 @@ const FAULTS: [Case; 10] = [
         output: b">s\nAA\n",
         line: b"bedtools maskfasta: b.bed:2: start is not a number\n",
     },
-    Case {
+    Pair {
         name: "a line that a record before its end leaves open",
         options: &[],
         first: b">s\nAA\n",
@@ -233,8 +232,8 @@ const FAULTS: [Case; 10] = [
 ];
 
 // Names of sequences, and records over several lines.
-const NAMES: [Case; 8] = [
-    Case {
+const NAMES: [Pair; 8] = [
+    Pair {
         name: "the whole header as a name",
         options: &["-fullHeader"],
         first: b">s d\nACGT\n",
@@ -242,7 +241,7 @@ const NAMES: [Case; 8] = [
         output: b">s d\nNCGT\n",
         line: b"",
     },
-    Case {
+    Pair {
         name: "a part of the whole header",
         options: &["-fullHeader"],
         first: b">s d\nACGT\n",
@@ -250,7 +249,7 @@ const NAMES: [Case; 8] = [
         output: b">s d\nACGT\n",
         line: b"bedtools maskfasta: b.bed:1: no such sequence from here on\n",
     },
-    Case {
+    Pair {
         name: "a name before a tab",
         options: &[],
         first: b">s\td\nACGT\n",
@@ -258,7 +257,7 @@ const NAMES: [Case; 8] = [
         output: b">s\td\nNCGT\n",
         line: b"",
     },
-    Case {
+    Pair {
         name: "a record over the end of a line, and the next sequence",
         options: &[],
         first: b">s\nAC\nGT\n>t\nTTTT\n",
@@ -266,7 +265,7 @@ const NAMES: [Case; 8] = [
         output: b">s\nAN\nNT\n>t\nNTTT\n",
         line: b"",
     },
-    Case {
+    Pair {
         name: "a record over several lines",
         options: &[],
         first: b">s\nAC\nGT\nAC\nGT\n",
@@ -274,7 +273,7 @@ const NAMES: [Case; 8] = [
         output: b">s\nAN\nNN\nNN\nNT\n",
         line: b"",
     },
-    Case {
+    Pair {
         name: "a record from a line's end on",
         options: &[],
         first: b">s\nAC\nGT\n",
@@ -282,7 +281,7 @@ const NAMES: [Case; 8] = [
         output: b">s\nAC\nNT\n",
         line: b"",
     },
-    Case {
+    Pair {
         name: "a record up to a line's end",
         options: &[],
         first: b">s\nAC\nGT\n",
@@ -290,7 +289,7 @@ const NAMES: [Case; 8] = [
         output: b">s\nNN\nGT\n",
         line: b"",
     },
-    Case {
+    Pair {
         name: "records one over another",
         options: &[],
         first: b">s\nACGTAC\n",
@@ -301,8 +300,8 @@ const NAMES: [Case; 8] = [
 ];
 
 // Line ends, blank lines and empty inputs.
-const LINES: [Case; 14] = [
-    Case {
+const LINES: [Pair; 14] = [
+    Pair {
         name: "lines that end in CR LF",
         options: &[],
         first: b">s\r\nACGT\r\nAC\r\n",
@@ -310,7 +309,7 @@ const LINES: [Case; 14] = [
         output: b">s\r\nACGN\r\nNC\r\n",
         line: b"",
     },
-    Case {
+    Pair {
         name: "a last line that ends in CR",
         options: &[],
         first: b">s\r\nAC\r",
@@ -318,7 +317,7 @@ const LINES: [Case; 14] = [
         output: b">s\r\nAN\r",
         line: b"",
     },
-    Case {
+    Pair {
         name: "blank lines before the first header",
         options: &[],
         first: b"\n\r\n>s\nAC\n",
@@ -326,7 +325,7 @@ const LINES: [Case; 14] = [
         output: b"\n\r\n>s\nNC\n",
         line: b"",
     },
-    Case {
+    Pair {
         name: "blank lines between bases",
         options: &[],
         first: b">s\nAC\n\n\r\nGT\n",
@@ -334,7 +333,7 @@ const LINES: [Case; 14] = [
         output: b">s\nAN\n\n\r\nNT\n",
         line: b"",
     },
-    Case {
+    Pair {
         name: "a header as the last line",
         options: &[],
         first: b">s\nAC\n>t\n",
@@ -342,7 +341,7 @@ const LINES: [Case; 14] = [
         output: b">s\nNN\n>t\n",
         line: b"",
     },
-    Case {
+    Pair {
         name: "a header without a line end",
         options: &[],
         first: b">s",
@@ -350,7 +349,7 @@ const LINES: [Case; 14] = [
         output: b">s",
         line: b"",
     },
-    Case {
+    Pair {
         name: "an empty name",
         options: &[],
         first: b">\nACGT\n> s\nACGT\n",
@@ -358,7 +357,7 @@ const LINES: [Case; 14] = [
         output: b">\nACGT\n> s\nACGT\n",
         line: b"bedtools maskfasta: b.bed:1: no such sequence from here on\n",
     },
-    Case {
+    Pair {
         name: "an empty name without records",
         options: &[],
         first: b">\nACGT\n",
@@ -366,7 +365,7 @@ const LINES: [Case; 14] = [
         output: b">\nACGT\n",
         line: b"",
     },
-    Case {
+    Pair {
         name: "header lines and further columns of the second input",
         options: &[],
         first: b">s\nACGT\n",
@@ -374,7 +373,7 @@ const LINES: [Case; 14] = [
         output: b">s\nNCNT\n",
         line: b"",
     },
-    Case {
+    Pair {
         name: "no records",
         options: &[],
         first: b">s\nACGT\n",
@@ -382,7 +381,7 @@ const LINES: [Case; 14] = [
         output: b">s\nACGT\n",
         line: b"",
     },
-    Case {
+    Pair {
         name: "nothing in either input",
         options: &[],
         first: b"",
@@ -390,7 +389,7 @@ const LINES: [Case; 14] = [
         output: b"",
         line: b"",
     },
-    Case {
+    Pair {
         name: "records without a line",
         options: &[],
         first: b"",
@@ -398,7 +397,7 @@ const LINES: [Case; 14] = [
         output: b"",
         line: b"bedtools maskfasta: b.bed:1: no such sequence from here on\n",
     },
-    Case {
+    Pair {
         name: "blank lines alone",
         options: &[],
         first: b"\n\n",
@@ -406,7 +405,7 @@ const LINES: [Case; 14] = [
         output: b"\n\n",
         line: b"bedtools maskfasta: b.bed:1: no such sequence from here on\n",
     },
-    Case {
+    Pair {
         name: "a fault without a line",
         options: &[],
         first: b"",
@@ -417,8 +416,8 @@ const LINES: [Case; 14] = [
 ];
 
 // Lines that a record further ahead decides.
-const AHEAD: [Case; 10] = [
-    Case {
+const AHEAD: [Pair; 10] = [
+    Pair {
         name: "a record several lines ahead",
         options: &[],
         first: b">s\nAC\nGT\n\nAA\nCC\nGG\n",
@@ -426,7 +425,7 @@ const AHEAD: [Case; 10] = [
         output: b">s\nAC\nGT\n\nAA\nCN\nGG\n",
         line: b"",
     },
-    Case {
+    Pair {
         name: "a record at the end of a line several lines ahead",
         options: &[],
         first: b">s\nAC\nGT\nAA\nCC\n",
@@ -434,7 +433,7 @@ const AHEAD: [Case; 10] = [
         output: b">s\nAC\nGT\nNA\nCC\n",
         line: b"",
     },
-    Case {
+    Pair {
         name: "a record ahead in the sequence behind",
         options: &[],
         first: b">s\nAC\nGT\n>t\nAA\nCC\n",
@@ -442,7 +441,7 @@ const AHEAD: [Case; 10] = [
         output: b">s\nAC\nGT\n>t\nAA\nNC\n",
         line: b"",
     },
-    Case {
+    Pair {
         name: "a record ahead past the end of its sequence",
         options: &[],
         first: b">s\nAC\nGT\n>s\nAA\nCC\nGG\n",
@@ -450,7 +449,7 @@ const AHEAD: [Case; 10] = [
         output: b">s\nAC\nGT\n>s\nAA\nCC\nGG\n",
         line: b"",
     },
-    Case {
+    Pair {
         name: "the same name behind a sequence that was passed",
         options: &[],
         first: b">s\nAC\nGT\n>t\nAA\n>s\nAA\nCC\n",
@@ -458,7 +457,7 @@ const AHEAD: [Case; 10] = [
         output: b">s\nAC\nGT\n>t\nNA\n>s\nAA\nCN\n",
         line: b"",
     },
-    Case {
+    Pair {
         name: "a block that goes over to the next sequence",
         options: &[],
         first: b">s\nAC\nGT\nAA\n>t\nCC\nGG\n",
@@ -466,7 +465,7 @@ const AHEAD: [Case; 10] = [
         output: b">s\nAC\nGN\nAA\n>t\nCC\nGN\n",
         line: b"",
     },
-    Case {
+    Pair {
         name: "a record over two lines while another is ahead",
         options: &[],
         first: b">s\nACGT\nACGT\nACGT\nACGT\n",
@@ -474,7 +473,7 @@ const AHEAD: [Case; 10] = [
         output: b">s\nACNN\nNNNT\nACGT\nACNT\n",
         line: b"",
     },
-    Case {
+    Pair {
         name: "lower case, and a record ahead",
         options: &["-soft"],
         first: b">s\nACGT\nACGT\nACGT\n",
@@ -482,7 +481,7 @@ const AHEAD: [Case; 10] = [
         output: b">s\nACGT\nACGT\nAcgT\n",
         line: b"",
     },
-    Case {
+    Pair {
         name: "a block without a sequence and several lines behind",
         options: &[],
         first: b">s\nAC\nGT\nAA\n>t\nCC\nGG\n",
@@ -490,7 +489,7 @@ const AHEAD: [Case; 10] = [
         output: b">s\nAC\nGT\nAA\n>t\nCC\nGG\n",
         line: b"bedtools maskfasta: b.bed:1: no such sequence from here on\n",
     },
-    Case {
+    Pair {
         name: "line ends before a record ahead",
         options: &[],
         first: b">s\r\nAC\r\n\r\nGT\nAA\r",
@@ -500,63 +499,32 @@ const AHEAD: [Case; 10] = [
     },
 ];
 
-// Runs maskfasta with these options.
-fn maskfasta(
-    alloc: Global,
-    options: &[&'static str],
-    first: (&[u8], Script),
-    second: (&[u8], Script),
-    out: Script,
-) -> Result<Answer, Fail> {
-    let mut words = vec![in alloc; "maskfasta", "-fi", "a.fa", "-bed", "b.bed"]?;
-    words.extend_from_slice(options)?;
-    run_both(alloc, words.as_slice(), (b"", whole(1)), first, second, out)
-}
-
-fn check(rt: &impl Abort, alloc: Global, case: &Case, step: usize) -> Result<(), Fail> {
-    let script = whole(step.max(1));
-    let first = (case.first, script);
-    let second = (case.second, script);
-    let answer = maskfasta(alloc, case.options, first, second, script)?;
-    expect(rt, &answer, case.output, case.line, case.name);
-    Ok(())
-}
-
-fn check_all(rt: &impl Abort, alloc: Global, cases: &[Case]) -> Result<(), Fail> {
-    for step in [1, 7, 8192] {
-        for case in cases {
-            check(rt, alloc, case, step)?;
-        }
-    }
-    Ok(())
-}
-
 #[test]
 fn masked_bases(rt: HostRuntime) -> Result<(), Fail> {
-    check_all(&rt, rt.alloc(), &BASES)
+    check_pairs(&rt, rt.alloc(), MASKFASTA, &BASES)
 }
 
 #[test]
 fn blocks_of_records(rt: HostRuntime) -> Result<(), Fail> {
-    check_all(&rt, rt.alloc(), &BLOCKS)
+    check_pairs(&rt, rt.alloc(), MASKFASTA, &BLOCKS)
 }
 
 #[test]
 fn faults_of_both_inputs(rt: HostRuntime) -> Result<(), Fail> {
-    check_all(&rt, rt.alloc(), &FAULTS)
+    check_pairs(&rt, rt.alloc(), MASKFASTA, &FAULTS)
 }
 
 #[test]
 fn names_and_long_records(rt: HostRuntime) -> Result<(), Fail> {
-    check_all(&rt, rt.alloc(), &NAMES)
+    check_pairs(&rt, rt.alloc(), MASKFASTA, &NAMES)
 }
 
 #[test]
 fn records_further_ahead(rt: HostRuntime) -> Result<(), Fail> {
-    check_all(&rt, rt.alloc(), &AHEAD)
+    check_pairs(&rt, rt.alloc(), MASKFASTA, &AHEAD)
 }
 
 #[test]
 fn lines_stay_as_they_are(rt: HostRuntime) -> Result<(), Fail> {
-    check_all(&rt, rt.alloc(), &LINES)
+    check_pairs(&rt, rt.alloc(), MASKFASTA, &LINES)
 }

@@ -1,8 +1,8 @@
-use crate::intersect_tests::{Case, check};
+use crate::tests::{Pair, SUBTRACT, check_pairs};
 use std::test::Fail;
 
-const CASES: [Case; 23] = [
-    Case {
+const CASES: [Pair; 23] = [
+    Pair {
         name: "pieces between those that hit",
         options: &[],
         first: b"chr1\t0\t100\tn\t5\t+\n",
@@ -10,7 +10,7 @@ const CASES: [Case; 23] = [
         output: b"chr1\t0\t10\tn\t5\t+\nchr1\t30\t90\tn\t5\t+\n",
         line: b"",
     },
-    Case {
+    Pair {
         name: "a record that is hit, dropped whole",
         options: &["-A"],
         first: b"chr1\t0\t100\tn\t5\t+\n",
@@ -18,7 +18,7 @@ const CASES: [Case; 23] = [
         output: b"",
         line: b"",
     },
-    Case {
+    Pair {
         name: "past the chromosome's length, at which nothing is cut",
         options: &[],
         first: b"chr2\t40\t90\ta\n",
@@ -26,7 +26,7 @@ const CASES: [Case; 23] = [
         output: b"chr2\t40\t60\ta\nchr2\t70\t80\ta\n",
         line: b"",
     },
-    Case {
+    Pair {
         name: "past the chromosome's length, whole",
         options: &["-A"],
         first: b"chr2\t40\t60\ta\nchr2\t70\t90\tb\n",
@@ -34,7 +34,7 @@ const CASES: [Case; 23] = [
         output: b"chr2\t40\t60\ta\n",
         line: b"",
     },
-    Case {
+    Pair {
         name: "a record without bases left",
         options: &[],
         first: b"chr1\t0\t100\tn\t5\t+\n",
@@ -42,7 +42,7 @@ const CASES: [Case; 23] = [
         output: b"",
         line: b"",
     },
-    Case {
+    Pair {
         name: "half of the record in one of two",
         options: &["-f", "0.5"],
         first: b"chr1\t0\t100\n",
@@ -50,7 +50,7 @@ const CASES: [Case; 23] = [
         output: b"chr1\t0\t40\nchr1\t90\t100\n",
         line: b"",
     },
-    Case {
+    Pair {
         name: "half of the record",
         options: &["-f", ".5"],
         first: b"chr1\t0\t10\n",
@@ -58,7 +58,7 @@ const CASES: [Case; 23] = [
         output: b"chr1\t5\t10\n",
         line: b"",
     },
-    Case {
+    Pair {
         name: "a billionth more than half",
         options: &["-f", "0.500000001"],
         first: b"chr1\t0\t10\n",
@@ -66,7 +66,7 @@ const CASES: [Case; 23] = [
         output: b"chr1\t0\t10\n",
         line: b"",
     },
-    Case {
+    Pair {
         name: "the last fraction",
         options: &["-f", "1.", "-f", "0.5"],
         first: b"chr1\t0\t10\n",
@@ -74,7 +74,7 @@ const CASES: [Case; 23] = [
         output: b"chr1\t5\t10\n",
         line: b"",
     },
-    Case {
+    Pair {
         name: "another strand",
         options: &["-s"],
         first: b"chr1\t0\t10\ta\t0\t+\n",
@@ -82,7 +82,7 @@ const CASES: [Case; 23] = [
         output: b"chr1\t0\t10\ta\t0\t+\n",
         line: b"",
     },
-    Case {
+    Pair {
         name: "another strand, which isn't looked at",
         options: &[],
         first: b"chr1\t0\t10\ta\t0\t+\n",
@@ -90,7 +90,7 @@ const CASES: [Case; 23] = [
         output: b"chr1\t0\t2\ta\t0\t+\nchr1\t4\t10\ta\t0\t+\n",
         line: b"",
     },
-    Case {
+    Pair {
         name: "no strand in both",
         options: &["-s"],
         first: b"chr1\t0\t10\n",
@@ -98,7 +98,7 @@ const CASES: [Case; 23] = [
         output: b"chr1\t0\t2\nchr1\t4\t10\n",
         line: b"",
     },
-    Case {
+    Pair {
         name: "a third of a record, where half is asked for",
         options: &["-A", "-f", "0.5"],
         first: b"chr1\t0\t9\ta\n",
@@ -106,7 +106,7 @@ const CASES: [Case; 23] = [
         output: b"chr1\t0\t9\ta\n",
         line: b"",
     },
-    Case {
+    Pair {
         name: "half of a record, dropped whole",
         options: &["-f", "0.5", "-A"],
         first: b"chr1\t0\t10\ta\n",
@@ -114,7 +114,7 @@ const CASES: [Case; 23] = [
         output: b"",
         line: b"",
     },
-    Case {
+    Pair {
         name: "another strand, with whole records",
         options: &["-s", "-A"],
         first: b"chr1\t0\t10\ta\t0\t+\n",
@@ -122,7 +122,7 @@ const CASES: [Case; 23] = [
         output: b"chr1\t0\t10\ta\t0\t+\n",
         line: b"",
     },
-    Case {
+    Pair {
         name: "records that touch",
         options: &[],
         first: b"chr1\t10\t20\n",
@@ -130,7 +130,7 @@ const CASES: [Case; 23] = [
         output: b"chr1\t10\t20\n",
         line: b"",
     },
-    Case {
+    Pair {
         name: "a record inside another",
         options: &[],
         first: b"chr1\t0\t100\nchr1\t50\t60\n",
@@ -138,7 +138,7 @@ const CASES: [Case; 23] = [
         output: b"chr1\t0\t10\nchr1\t20\t55\nchr1\t58\t100\nchr1\t50\t55\nchr1\t58\t60\n",
         line: b"",
     },
-    Case {
+    Pair {
         name: "a chromosome behind that of the other",
         options: &[],
         first: b"chr2\t0\t5\n",
@@ -146,7 +146,7 @@ const CASES: [Case; 23] = [
         output: b"chr2\t0\t5\n",
         line: b"",
     },
-    Case {
+    Pair {
         name: "a fault where the second record is asked for",
         options: &[],
         first: b"chr1\t0\t10\nchr1\t100\t110\n",
@@ -154,7 +154,7 @@ const CASES: [Case; 23] = [
         output: b"chr1\t0\t2\nchr1\t4\t10\n",
         line: b"bedtools subtract: b.bed:3: start is not a number\n",
     },
-    Case {
+    Pair {
         name: "a fault beside no record",
         options: &[],
         first: b"",
@@ -162,7 +162,7 @@ const CASES: [Case; 23] = [
         output: b"",
         line: b"bedtools subtract: b.bed:3: start is not a number\n",
     },
-    Case {
+    Pair {
         name: "the first input at fault before the second",
         options: &["-A"],
         first: b"chr1\t0\t10\nchr1\t20\t30\nchr1\tx\t5\n",
@@ -170,7 +170,7 @@ const CASES: [Case; 23] = [
         output: b"chr1\t20\t30\n",
         line: b"bedtools subtract: a.bed:3: start is not a number\n",
     },
-    Case {
+    Pair {
         name: "nothing in the second input",
         options: &[],
         first: b"chr1\t0\t10\ta\nchr1\t5\t8\n",
@@ -178,7 +178,7 @@ const CASES: [Case; 23] = [
         output: b"chr1\t0\t10\ta\nchr1\t5\t8\n",
         line: b"",
     },
-    Case {
+    Pair {
         name: "nothing in either",
         options: &[],
         first: b"",
@@ -190,10 +190,5 @@ const CASES: [Case; 23] = [
 
 #[test]
 fn worked_cases(rt: HostRuntime) -> Result<(), Fail> {
-    for step in [1, 7, 8192] {
-        for case in &CASES {
-            check(&rt, rt.alloc(), "subtract", case, step)?;
-        }
-    }
-    Ok(())
+    check_pairs(&rt, rt.alloc(), SUBTRACT, &CASES)
 }

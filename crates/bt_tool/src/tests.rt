@@ -291,17 +291,6 @@ pub(crate) struct Answer {
     pub(crate) status: u8,
 }
 
-// Plans and runs `merge -i a.bed -g g.txt` over scripts.
-fn merge(
-    alloc: Global,
-    genome: (&[u8], Script),
-    first: (&[u8], Script),
-    out: Script,
-) -> Result<Answer, Fail> {
-    let words = ["merge", "-i", "a.bed", "-g", "g.txt"];
-    run_words(alloc, &words, genome, first, out)
-}
-
 // Plans and runs these words over scripts, for a command of one input.
 pub(crate) fn run_words(
     alloc: Global,
@@ -359,20 +348,154 @@ pub(crate) fn expect_size(rt: &impl Abort, given: usize, wanted: usize) {
     assert_eq!(rt; given, wanted);
 }
 
+// A run of a command of two inputs on the genome of all tests, by these words behind those that name its
+// inputs, and what it gives.
+pub(crate) struct Pair {
+    pub(crate) name: &'static str,
+    pub(crate) options: &'static [&'static str],
+    pub(crate) first: &'static [u8],
+    pub(crate) second: &'static [u8],
+    pub(crate) output: &'static [u8],
+    pub(crate) line: &'static [u8],
+}
+
+pub(crate) const INTERSECT: &[&str] = &["intersect", "-a", "a.bed", "-b", "b.bed", "-g", "g.txt"];
+
+pub(crate) const SUBTRACT: &[&str] = &["subtract", "-a", "a.bed", "-b", "b.bed", "-g", "g.txt"];
+
+// These words, and those behind them.
+pub(crate) fn with_options(
+    alloc: Global,
+    command: &[&'static str],
+    options: &[&'static str],
+) -> Result<Vec<&'static str>, AllocError> {
+    let mut words = Vec::from_slice(alloc, command)?;
+    words.extend_from_slice(options)?;
+    Ok(words)
+}
+
+fn check_pair(
+    rt: &impl Abort,
+    alloc: Global,
+    command: &[&'static str],
+    case: &Pair,
+    step: usize,
+) -> Result<(), Fail> {
+    let script = whole(step.max(1));
+    let words = with_options(alloc, command, case.options)?;
+    let answer = run_both(
+        alloc,
+        words.as_slice(),
+        (GENOME, script),
+        (case.first, script),
+        (case.second, script),
+        script,
+    )?;
+    expect(rt, &answer, case.output, case.line, case.name);
+    Ok(())
+}
+
+// Runs a command in these cases, by devices that move bytes one by one, seven a call, and all at once.
+pub(crate) fn check_pairs(
+    rt: &impl Abort,
+    alloc: Global,
+    command: &[&'static str],
+    cases: &[Pair],
+) -> Result<(), Fail> {
+    for case in cases {
+        for step in [1, 7, 8192] {
+            check_pair(rt, alloc, command, case, step)?;
+        }
+    }
+    Ok(())
+}
+
+// The text of a row: one space stands for a tab, and ` ; ` separates lines, each of which ends with a line
+// feed.
+pub(crate) fn text(alloc: Global, row: &str) -> Result<Vec<u8>, Fail> {
+    let mut text = Vec::new(alloc);
+    if row.is_empty() {
+        return Ok(text);
+    }
+    for line in row.split(" ; ") {
+        for byte in line.bytes() {
+            text.push(if byte == b' ' { b'\t' } else { byte })?;
+        }
+        text.push(b'\n')?;
+    }
+    Ok(text)
+}
+
+// A run of a command of one input on rows, by these words behind those that name its input, and what it
+// gives.
+pub(crate) struct Rows {
+    pub(crate) name: &'static str,
+    pub(crate) options: &'static [&'static str],
+    pub(crate) genome: &'static str,
+    pub(crate) first: &'static str,
+    pub(crate) output: &'static str,
+    pub(crate) line: &'static str,
+}
+
+fn check_row(
+    rt: &impl Abort,
+    alloc: Global,
+    command: &[&'static str],
+    rows: &Rows,
+    step: usize,
+) -> Result<(), Fail> {
+    let script = whole(step.max(1));
+    let words = with_options(alloc, command, rows.options)?;
+    let genome = text(alloc, rows.genome)?;
+    let first = text(alloc, rows.first)?;
+    let output = text(alloc, rows.output)?;
+    let inputs = ((genome.as_slice(), script), (first.as_slice(), script));
+    let answer = run_words(alloc, words.as_slice(), inputs.0, inputs.1, script)?;
+    let line = rows.line.as_bytes();
+    expect(rt, &answer, output.as_slice(), line, rows.name);
+    Ok(())
+}
+
+// Runs a command of one input in these cases, by the same devices.
+pub(crate) fn check_rows(
+    rt: &impl Abort,
+    alloc: Global,
+    command: &[&'static str],
+    cases: &[Rows],
+) -> Result<(), Fail> {
+    for case in cases {
+        for step in [1, 7, 8192] {
+            check_row(rt, alloc, command, case, step)?;
+        }
+    }
+    Ok(())
+}
+
 fn check(rt: &impl Abort, alloc: Global, case: &Case, step: usize) -> Result<(), Fail> {
     let script = whole(step.max(1));
-    let answer = merge(alloc, (case.genome, script), (case.first, script), script)?;
-    let line = case.line.unwrap_or(b"");
-    expect(rt, &answer, case.output, line, case.name);
+    let words = ["merge", "-i", "a.bed", "-g", "g.txt"];
+    let inputs = ((case.genome, script), (case.first, script));
+    let answer = run_words(alloc, &words, inputs.0, inputs.1, script)?;
+    expect(
+        rt,
+        &answer,
+        case.output,
+        case.line.unwrap_or(b""),
+        case.name,
+    );
+    Ok(())
+}
+
+fn check_all(rt: &impl Abort, alloc: Global, cases: &[Case]) -> Result<(), Fail> {
+    for case in cases {
+        for step in [1, 7, 8192] {
+            check(rt, alloc, case, step)?;
+        }
+    }
     Ok(())
 }
 
 #[test]
 fn worked_cases(rt: HostRuntime) -> Result<(), Fail> {
-    for step in [1, 7, 8192] {
-        for case in &CASES {
-            check(&rt, rt.alloc(), case, step)?;
-        }
-    }
-    Ok(())
+    check_all(&rt, rt.alloc(), &CASES)
 }

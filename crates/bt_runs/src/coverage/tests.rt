@@ -1,9 +1,13 @@
 use super::*;
 use crate::plain::PlainSpan;
 use crate::plain_depths::{PlainDepth, plain_depths};
-use bt_bed::parse_bed;
-use bt_lines::{Input, Kind, LineReader, ScriptSink, ScriptSource};
+use crate::testing::{
+    Row, check_failing, check_row, check_spans, expect_end, feed_line, feed_row, genome, holds,
+    same_answer, same_count, span,
+};
+use bt_lines::ScriptSink;
 use std::alloc::{AllocError, Global};
+use std::process::Abort;
 use std::test::Fail;
 
 // The genome file of the cases.
@@ -22,7 +26,7 @@ type Case = (
     &'static [u8],
 );
 
-const CASES: [Case; 12] = [
+const CASES: [Case; 13] = [
     ("no record", &[], false, None, b"", b""),
     (
         "no record, with zeros",
@@ -116,89 +120,48 @@ const CASES: [Case; 12] = [
         b"chr1\t2\t3\t1\nchr1\t3\t9\t2\n",
         b"chr2\t0\t1\t1\n",
     ),
+    (
+        "an end between the starts",
+        &[
+            (b"chr1\t0\t9", 1),
+            (b"chr1\t0\t3", 2),
+            (b"chr1\t2\t9", 3),
+            (b"chr2\t0\t1", 1),
+        ],
+        false,
+        None,
+        b"chr1\t0\t2\t2\nchr1\t2\t3\t3\nchr1\t3\t9\t2\n",
+        b"chr2\t0\t1\t1\n",
+    ),
 ];
 
-fn genome(alloc: Global, text: &[u8]) -> Result<Genome, Fault> {
-    let mut reader = LineReader::new(alloc, ScriptSource::new(text, 7, None), Input::Genome);
-    let genome = Genome::read(alloc, &mut reader);
-    let _ = reader.into_source();
-    genome
-}
-
-// Feeds the record of a line.
-fn feed_line<E: Engine, K: Sink>(
-    engine: &mut E,
-    line: &[u8],
-    out: &mut Out<K>,
-) -> Result<(), Fault> {
-    match parse_bed(line) {
-        Ok(Some(bed)) => engine.feed(&bed, out),
-        _ => Ok(()),
+fn check(rt: &impl Abort, alloc: Global, genome: &Genome, case: &Case) -> Result<(), Fail> {
+    let (name, lines, zeros, strand, settled, left) = *case;
+    let row = Row {
+        name,
+        lines,
+        settled,
+        left,
+    };
+    check_row(rt, alloc, Coverage::new(alloc, genome, zeros, strand), &row);
+    for good in 0..settled.len().saturating_add(left.len()) {
+        let coverage = Coverage::new(alloc, genome, zeros, strand);
+        check_failing(rt, alloc, coverage, &row, good)?;
     }
+    Ok(())
 }
 
-// Feeds the records of lines, beside which stands how many items are kept then. It says whether they
-// are.
-fn keeps_after_each<E: Engine, K: Sink>(
-    engine: &mut E,
-    lines: &[(&'static [u8], usize)],
-    out: &mut Out<K>,
-) -> Result<bool, Fault> {
-    let mut kept_so = true;
-    for (line, kept) in lines {
-        feed_line(engine, line, out)?;
-        kept_so = kept_so && engine.kept_len() == *kept;
+fn check_all(rt: &impl Abort, alloc: Global, cases: &[Case]) -> Result<(), Fail> {
+    let genome = genome(alloc, GENOME)?;
+    for case in cases {
+        check(rt, alloc, &genome, case)?;
     }
-    Ok(kept_so)
-}
-
-// Feeds the records of lines until one is refused, and then once more. It says whether that answers
-// the same.
-fn feed_until_refused<E: Engine, K: Sink>(
-    engine: &mut E,
-    lines: &[&[u8]],
-    out: &mut Out<K>,
-) -> bool {
-    for line in lines {
-        if feed_line(engine, line, out).is_err() {
-            return feed_line(engine, line, out) == Err(write_failed());
-        }
-    }
-    true
-}
-
-fn end<E: Engine, K: Sink>(engine: E, out: &mut Out<K>) -> Result<(), Fault> {
-    engine.finish(out)?;
-    out.flush()
-}
-
-fn write_failed() -> Fault {
-    Fault {
-        kind: Kind::WriteFailed,
-        place: None,
-    }
+    Ok(())
 }
 
 #[test]
-fn worked_rows(rt: HostRuntime) {
-    let Ok(genome) = genome(rt.alloc(), GENOME) else {
-        return assert!(rt; false, "the genome");
-    };
-    for (name, lines, zeros, strand, settled, left) in CASES {
-        let mut coverage = Coverage::new(rt.alloc(), &genome, zeros, strand);
-        let mut out = Out::new(ScriptSink::new(rt.alloc(), 3, None));
-        assert_eq!(rt; coverage.kept_len(), 0, "{name}");
-        assert_eq!(rt;
-            keeps_after_each(&mut coverage, lines, &mut out),
-            Ok(true),
-            "{name}"
-        );
-        assert_eq!(rt; out.flush(), Ok(()), "{name}");
-        assert_eq!(rt; out.into_sink().taken(), settled, "{name}");
-        let mut out = Out::new(ScriptSink::new(rt.alloc(), 3, None));
-        assert_eq!(rt; end(coverage, &mut out), Ok(()), "{name}");
-        assert_eq!(rt; out.into_sink().taken(), left, "{name}");
-    }
+fn worked_rows(rt: HostRuntime) -> Result<(), Fail> {
+    check_all(&rt, rt.alloc(), &CASES)
 }
 
 // Records whose ends come in another order than their starts, some at one position. Beside each stands
@@ -216,21 +179,22 @@ const OUT_OF_ORDER: [(&[u8], usize); 9] = [
 ];
 
 #[test]
-fn records_are_kept_until_one_starts_past_their_end(rt: HostRuntime) {
-    let Ok(genome) = genome(rt.alloc(), GENOME) else {
-        return assert!(rt; false, "the genome");
-    };
+fn records_are_kept_until_one_starts_past_their_end(rt: HostRuntime) -> Result<(), Fail> {
+    let genome = genome(rt.alloc(), GENOME)?;
     let mut coverage = Coverage::new(rt.alloc(), &genome, false, None);
     let mut out = Out::new(ScriptSink::new(rt.alloc(), 3, None));
-    for (line, kept) in OUT_OF_ORDER {
-        assert_eq!(rt; feed_line(&mut coverage, line, &mut out), Ok(()));
-        assert_eq!(rt; coverage.kept_len(), kept, "{line:?}");
-    }
-    assert!(rt; coverage.stored_len() <= 2 * 3, "three are kept");
-    assert_eq!(rt; end(coverage, &mut out), Ok(()));
-    let want: &[u8] = b"chr1\t0\t1\t2\nchr1\t1\t2\t3\nchr1\t2\t3\t4\nchr1\t3\t4\t3\n\
+    let row = Row {
+        name: "ends in another order",
+        lines: &OUT_OF_ORDER,
+        settled: b"",
+        left: b"",
+    };
+    feed_row(&rt, &mut coverage, &row, &mut out);
+    holds(&rt, coverage.stored_len() <= 2 * 3, "three are kept");
+    let wanted: &[u8] = b"chr1\t0\t1\t2\nchr1\t1\t2\t3\nchr1\t2\t3\t4\nchr1\t3\t4\t3\n\
         chr1\t4\t6\t4\nchr1\t6\t12\t3\nchr1\t12\t14\t2\nchr1\t14\t20\t1\n";
-    assert_eq!(rt; out.into_sink().taken(), want);
+    expect_end(&rt, coverage, out, wanted, row.name);
+    Ok(())
 }
 
 // Feeds one record of the first chromosome, and answers how many are kept then.
@@ -248,34 +212,28 @@ fn kept_with<K: Sink>(
 
 #[test]
 fn short_records_beside_long_ones(rt: HostRuntime) -> Result<(), Fail> {
-    let Ok(genome) = genome(rt.alloc(), b"chr1\t5000\n") else {
-        assert!(rt; false, "the genome");
-        return Ok(());
-    };
+    let genome = genome(rt.alloc(), b"chr1\t5000\n")?;
     let mut coverage = Coverage::new(rt.alloc(), &genome, false, None);
     let mut out = Out::new(ScriptSink::new(rt.alloc(), 512, None));
     for long in 0..100u64 {
         let kept = kept_with(rt.alloc(), &mut coverage, long, 4000 - long, &mut out)?;
-        assert_eq!(rt; kept as u64, long + 1);
+        same_count(&rt, kept, long as usize + 1, "long ones");
     }
     for short in 0..500u64 {
         let start = 100 + 3 * short;
         let kept = kept_with(rt.alloc(), &mut coverage, start, start + 2, &mut out)?;
-        assert_eq!(rt; kept, 101);
+        same_count(&rt, kept, 101, "beside long ones");
     }
     for late in 0..100u64 {
         let kept = kept_with(rt.alloc(), &mut coverage, 3901 + late, 4900, &mut out)?;
-        assert_eq!(rt; kept, 101);
+        same_count(&rt, kept, 101, "beside long ones");
     }
     Ok(())
 }
 
 #[test]
 fn thousands_of_records_are_open_at_once(rt: HostRuntime) -> Result<(), Fail> {
-    let Ok(genome) = genome(rt.alloc(), b"chr1\t20000\n") else {
-        assert!(rt; false, "the genome");
-        return Ok(());
-    };
+    let genome = genome(rt.alloc(), b"chr1\t20000\n")?;
     let mut coverage = Coverage::new(rt.alloc(), &genome, false, None);
     let mut out = Out::new(ScriptSink::new(rt.alloc(), 512, None));
     let mut all_open = true;
@@ -283,53 +241,18 @@ fn thousands_of_records_are_open_at_once(rt: HostRuntime) -> Result<(), Fail> {
         let kept = kept_with(rt.alloc(), &mut coverage, start, 20000 - start, &mut out)?;
         all_open = all_open && kept as u64 == start + 1;
     }
-    assert!(rt; all_open);
+    holds(&rt, all_open, "all are open");
     // The 2001 that end at 18000 or past it, and the record itself.
     let kept = kept_with(rt.alloc(), &mut coverage, 18000, 18001, &mut out)?;
-    assert_eq!(rt; kept, 2002);
-    assert_eq!(rt; end(coverage, &mut out), Ok(()));
+    same_count(&rt, kept, 2002, "open at 18000");
+    same_answer(&rt, coverage.finish(&mut out), Ok(()), "the end");
+    same_answer(&rt, out.flush(), Ok(()), "the flush");
     let sink = out.into_sink();
     let first: &[u8] = b"chr1\t0\t1\t1\nchr1\t1\t2\t2\n";
-    assert!(rt; sink.taken().starts_with(first));
+    holds(&rt, sink.taken().starts_with(first), "the first");
     let last: &[u8] = b"chr1\t19998\t19999\t2\nchr1\t19999\t20000\t1\n";
-    assert!(rt; sink.taken().ends_with(last));
+    holds(&rt, sink.taken().ends_with(last), "the last");
     Ok(())
-}
-
-// Feeds records to a sink that takes so many bytes. It says whether the failure is answered from then
-// on, and the sink took the front of the lines.
-fn fails_at(
-    alloc: Global,
-    genome: &Genome,
-    lines: &[&'static [u8]],
-    want: &[u8],
-    good: usize,
-) -> bool {
-    let mut coverage = Coverage::new(alloc, genome, false, None);
-    let mut out = Out::new(ScriptSink::new(alloc, 7, Some(good)));
-    feed_until_refused(&mut coverage, lines, &mut out)
-        && end(coverage, &mut out) == Err(write_failed())
-        && out.into_sink().taken() == &want[..good.min(want.len())]
-}
-
-#[test]
-fn a_sink_that_fails(rt: HostRuntime) {
-    let Ok(genome) = genome(rt.alloc(), GENOME) else {
-        return assert!(rt; false, "the genome");
-    };
-    let nested: [&[u8]; 3] = [b"chr1\t0\t10", b"chr1\t5\t10", b"chr2\t0\t1"];
-    let want = b"chr1\t0\t5\t1\nchr1\t5\t10\t2\n";
-    for good in 0..want.len() {
-        assert!(rt;
-            fails_at(rt.alloc(), &genome, &nested, want, good),
-            "{good}"
-        );
-    }
-    let ends: [&[u8]; 4] = [b"chr1\t0\t9", b"chr1\t0\t3", b"chr1\t2\t9", b"chr2\t0\t1"];
-    let want = b"chr1\t0\t2\t2\nchr1\t2\t3\t3\nchr1\t3\t9\t2\n";
-    for good in 0..want.len() {
-        assert!(rt; fails_at(rt.alloc(), &genome, &ends, want, good), "{good}");
-    }
 }
 
 // The lines of intervals of the first chromosome.
@@ -342,51 +265,36 @@ fn lines_of(alloc: Global, depths: &[PlainDepth]) -> Result<Vec<u8>, AllocError>
     Ok(text)
 }
 
-// Feeds spans on the first chromosome.
-fn feed_spans<E: Engine, K: Sink>(
-    alloc: Global,
-    engine: &mut E,
-    spans: &[PlainSpan],
-    out: &mut Out<K>,
-) -> Result<bool, AllocError> {
-    for span in spans {
-        let line = format!(in alloc; "chr1\t{}\t{}", span.start, span.stop)?;
-        if feed_line(engine, line.as_bytes(), out).is_err() {
-            return Ok(false);
-        }
-    }
-    Ok(true)
-}
-
-fn span(start: u64, stop: u64) -> PlainSpan {
-    PlainSpan { start, stop }
-}
-
-// Whether the engine writes the lines of what the plain program gives.
-fn is_as_plain(
+// An engine has to write the lines of what the plain program gives.
+fn check_as_plain(
+    rt: &impl Abort,
     alloc: Global,
     genome: &Genome,
     spans: &[PlainSpan],
     length: u64,
     zeros: bool,
-) -> Result<bool, AllocError> {
+) -> Result<(), Fail> {
     let depths = plain_depths(alloc, spans, length, zeros)?;
-    let want = lines_of(alloc, depths.as_slice())?;
-    let mut coverage = Coverage::new(alloc, genome, zeros, None);
-    let mut out = Out::new(ScriptSink::new(alloc, 3, None));
-    Ok(
-        feed_spans(alloc, &mut coverage, spans, &mut out)?
-            && end(coverage, &mut out) == Ok(())
-            && out.into_sink().taken() == want.as_slice(),
-    )
+    let wanted = lines_of(alloc, depths.as_slice())?;
+    let coverage = Coverage::new(alloc, genome, zeros, None);
+    check_spans(rt, alloc, coverage, "chr1", spans, wanted.as_slice())
+}
+
+fn check_plain(
+    rt: &impl Abort,
+    alloc: Global,
+    genome: &Genome,
+    cases: &[&[PlainSpan]],
+) -> Result<(), Fail> {
+    for spans in cases {
+        check_as_plain(rt, alloc, genome, spans, 20, false)?;
+        check_as_plain(rt, alloc, genome, spans, 20, true)?;
+    }
+    Ok(())
 }
 
 #[test]
 fn gives_what_the_plain_program_gives(rt: HostRuntime) -> Result<(), Fail> {
-    let Ok(genome) = genome(rt.alloc(), b"chr1\t20\n") else {
-        assert!(rt; false, "the genome");
-        return Ok(());
-    };
     let cases: [&[PlainSpan]; 7] = [
         &[span(0, 1), span(0, 7), span(3, 5), span(9, 10)],
         &[span(1, 2), span(2, 3), span(4, 18), span(10, 15)],
@@ -412,12 +320,8 @@ fn gives_what_the_plain_program_gives(rt: HostRuntime) -> Result<(), Fail> {
             span(5, 7),
         ],
     ];
-    for zeros in [false, true] {
-        for spans in cases {
-            assert!(rt; is_as_plain(rt.alloc(), &genome, spans, 20, zeros)?);
-        }
-    }
-    Ok(())
+    let genome = genome(rt.alloc(), b"chr1\t20\n")?;
+    check_plain(&rt, rt.alloc(), &genome, &cases)
 }
 
 // All spans below 4, in order.
@@ -434,21 +338,28 @@ const SHORT: [PlainSpan; 10] = [
     PlainSpan { start: 3, stop: 4 },
 ];
 
-#[test]
-fn all_small_cases(rt: HostRuntime) -> Result<(), Fail> {
-    let Ok(genome) = genome(rt.alloc(), b"chr1\t4\n") else {
-        assert!(rt; false, "the genome");
-        return Ok(());
-    };
-    for first in SHORT {
-        for second in SHORT {
-            for third in SHORT {
+// Feeds each three of these spans that come in order.
+fn check_threes(
+    rt: &impl Abort,
+    alloc: Global,
+    genome: &Genome,
+    spans: &[PlainSpan],
+) -> Result<(), Fail> {
+    for first in spans {
+        for second in spans {
+            for third in spans {
                 if first.start <= second.start && second.start <= third.start {
-                    let spans = [first, second, third];
-                    assert!(rt; is_as_plain(rt.alloc(), &genome, &spans, 4, false)?);
+                    let three = [*first, *second, *third];
+                    check_as_plain(rt, alloc, genome, &three, 4, false)?;
                 }
             }
         }
     }
     Ok(())
+}
+
+#[test]
+fn all_small_cases(rt: HostRuntime) -> Result<(), Fail> {
+    let genome = genome(rt.alloc(), b"chr1\t4\n")?;
+    check_threes(&rt, rt.alloc(), &genome, &SHORT)
 }

@@ -1,10 +1,10 @@
-ghost use Rattle.std.specs.Prelude.{◌≤◌};
-
 use super::*;
 use crate::plain::{PlainSpan, plain_runs};
-use bt_bed::{Strand, parse_bed};
-use bt_lines::{Kind, ScriptSink};
-use std::alloc::AllocError;
+use crate::testing::{
+    Row, check_failing, check_row, check_spans, expect_end, feed_kept, lines_of, span,
+};
+use bt_bed::Strand;
+use bt_lines::ScriptSink;
 use std::process::Abort;
 use std::test::Fail;
 
@@ -324,152 +324,72 @@ const CASES: [Case; 26] = [
     },
 ];
 
-const WRITE_FAILED: Fault = Fault {
-    kind: Kind::WriteFailed,
-    place: None,
-};
+// A merge that has taken no record of the case.
+fn merge_for(alloc: Global, case: &Case) -> Merge {
+    Merge::new(alloc, case.d.min(999_999_999_999), case.strand)
+}
 
-fn feed<E: Engine, K: Sink>(engine: &mut E, line: &[u8], out: &mut Out<K>) -> Result<(), Fault> {
-    match parse_bed(line) {
-        Ok(Some(bed)) => engine.feed(&bed, out),
-        _ => Ok(()),
+fn check(rt: &impl Abort, alloc: Global, case: &Case) -> Result<(), Fail> {
+    let row = Row {
+        name: case.name,
+        lines: case.lines,
+        settled: case.settled,
+        left: case.whole.strip_prefix(case.settled).ok_or("a front")?,
+    };
+    check_row(rt, alloc, merge_for(alloc, case), &row);
+    for good in 0..case.whole.len() {
+        check_failing(rt, alloc, merge_for(alloc, case), &row, good)?;
     }
+    Ok(())
 }
 
-fn finish<E: Engine, K: Sink>(engine: E, out: &mut Out<K>) -> Result<(), Fault> {
-    engine.finish(out)
+fn check_all(rt: &impl Abort, alloc: Global, cases: &[Case]) -> Result<(), Fail> {
+    for case in cases {
+        check(rt, alloc, case)?;
+    }
+    Ok(())
 }
 
-fn kept_len<E: Engine>(engine: &E) -> usize {
-    engine.kept_len()
+#[test]
+fn worked_rows(rt: HostRuntime) -> Result<(), Fail> {
+    check_all(&rt, rt.alloc(), &CASES)
 }
 
-// Feeds all lines, each without a fault.
-fn feed_all<E: Engine, K: Sink>(
+// Feeds records that start at each position below `count` and all end at 20,000.
+fn feed_many(
     rt: &impl Abort,
-    engine: &mut E,
-    name: &str,
-    lines: &[(&[u8], usize)],
-    out: &mut Out<K>,
-) {
-    assert_eq!(rt; kept_len(engine), 0, "{name}");
-    for (line, kept) in lines {
-        assert_eq!(rt; feed(engine, line, out), Ok(()), "{name}");
-        assert_eq!(rt; kept_len(engine), *kept, "{name}");
+    alloc: Global,
+    merge: &mut Merge,
+    count: u32,
+    out: &mut Out<ScriptSink>,
+) -> Result<(), Fail> {
+    for start in 0..count {
+        let line = format!(in alloc; "chr1\t{start}\t20000")?;
+        feed_kept(rt, merge, line.as_bytes(), 1, out, "one of many");
     }
-}
-
-#[test]
-fn worked_rows(rt: HostRuntime) {
-    for case in CASES {
-        let name = case.name;
-        assert!(rt; case.d <= 999_999_999_999);
-        let mut merge = Merge::new(rt.alloc(), case.d, case.strand);
-        let mut out = Out::new(ScriptSink::new(rt.alloc(), 3, None));
-        feed_all(&rt, &mut merge, name, case.lines, &mut out);
-        assert_eq!(rt; finish(merge, &mut out), Ok(()), "{name}");
-        assert_eq!(rt; out.flush(), Ok(()), "{name}");
-        assert_eq!(rt; out.into_sink().taken(), case.whole, "{name}");
-    }
-}
-
-#[test]
-fn settled_runs_are_written_at_once(rt: HostRuntime) {
-    for case in CASES {
-        let name = case.name;
-        assert!(rt; case.d <= 999_999_999_999);
-        let mut merge = Merge::new(rt.alloc(), case.d, case.strand);
-        let mut out = Out::new(ScriptSink::new(rt.alloc(), 100, None));
-        feed_all(&rt, &mut merge, name, case.lines, &mut out);
-        assert_eq!(rt; out.flush(), Ok(()), "{name}");
-        assert_eq!(rt; out.into_sink().taken(), case.settled, "{name}");
-    }
-}
-
-// Feeds all lines, and where a fault came one more, and finishes. Once a call has answered the fault,
-// each later one has to, and the flush at the end has to where none did.
-fn merge_to_failing_sink<E: Engine, K: Sink>(
-    rt: &impl Abort,
-    mut engine: E,
-    lines: &[(&[u8], usize)],
-    out: &mut Out<K>,
-) {
-    let mut has_failed = false;
-    for (line, _) in lines {
-        let answer = feed(&mut engine, line, out);
-        assert!(rt; !has_failed || answer == Err(WRITE_FAILED));
-        has_failed = answer.is_err();
-    }
-    if has_failed {
-        assert_eq!(rt; feed(&mut engine, b"chr9\t5\t6", out), Err(WRITE_FAILED));
-    }
-    let answer = finish(engine, out);
-    assert!(rt; !has_failed || answer == Err(WRITE_FAILED));
-    assert_eq!(rt; answer.and(out.flush()), Err(WRITE_FAILED));
-}
-
-#[test]
-fn a_sink_that_fails_at_each_byte(rt: HostRuntime) {
-    for case in CASES {
-        let name = case.name;
-        assert!(rt; case.d <= 999_999_999_999);
-        for good in 0..case.whole.len() {
-            let merge = Merge::new(rt.alloc(), case.d, case.strand);
-            let mut out = Out::new(ScriptSink::new(rt.alloc(), 4, Some(good)));
-            merge_to_failing_sink(&rt, merge, case.lines, &mut out);
-            let sink = out.into_sink();
-            assert_eq!(rt;
-                Some(sink.taken()),
-                case.whole.get(..good),
-                "{name} at {good}"
-            );
-        }
-    }
+    Ok(())
 }
 
 #[test]
 fn many_records_on_one_run(rt: HostRuntime) -> Result<(), Fail> {
     let mut merge = Merge::new(rt.alloc(), 0, MergeStrand::All);
     let mut out = Out::new(ScriptSink::new(rt.alloc(), 100, None));
-    for start in 0u32..10_000 {
-        let line = format!(in rt.alloc(); "chr1\t{start}\t20000")?;
-        assert_eq!(rt; feed(&mut merge, line.as_bytes(), &mut out), Ok(()));
-        assert_eq!(rt; kept_len(&merge), 1);
-    }
-    assert_eq!(rt; finish(merge, &mut out), Ok(()));
-    assert_eq!(rt; out.flush(), Ok(()));
-    assert_eq!(rt; out.into_sink().taken(), b"chr1\t0\t20000\n".as_slice());
+    feed_many(&rt, rt.alloc(), &mut merge, 10_000, &mut out)?;
+    expect_end(&rt, merge, out, b"chr1\t0\t20000\n", "many");
     Ok(())
 }
 
-fn span(start: u64, stop: u64) -> PlainSpan {
-    PlainSpan { start, stop }
-}
-
-// The lines of spans on one chromosome.
-fn lines_of(alloc: Global, spans: &[PlainSpan]) -> Result<Vec<u8>, AllocError> {
-    let mut text = Vec::new(alloc);
-    for span in spans {
-        let line = format!(in alloc; "c\t{}\t{}\n", span.start, span.stop)?;
-        text.extend_from_slice(line.as_bytes())?;
-    }
-    Ok(text)
-}
-
-// Feeds spans on that chromosome.
-fn feed_spans<E: Engine, K: Sink>(
-    alloc: Global,
-    engine: &mut E,
-    spans: &[PlainSpan],
-    out: &mut Out<K>,
-) -> Result<bool, AllocError> {
-    for span in spans {
-        let line = format!(in alloc; "c\t{}\t{}", span.start, span.stop)?;
-        if feed(engine, line.as_bytes(), out).is_err() {
-            return Ok(false);
+// An engine has to write the runs that the plain program gives.
+fn check_plain(rt: &impl Abort, alloc: Global, cases: &[&[PlainSpan]]) -> Result<(), Fail> {
+    for spans in cases {
+        for gap in 0..5 {
+            let runs = plain_runs(alloc, spans, gap)?;
+            let wanted = lines_of(alloc, "c", runs.as_slice())?;
+            let merge = Merge::new(alloc, gap, MergeStrand::All);
+            check_spans(rt, alloc, merge, "c", spans, wanted.as_slice())?;
         }
     }
-    Ok(true)
+    Ok(())
 }
 
 #[test]
@@ -488,41 +408,43 @@ fn gives_what_the_plain_program_gives(rt: HostRuntime) -> Result<(), Fail> {
             span(13, 15),
         ],
     ];
-    for spans in cases {
-        for gap in 0..5 {
-            let runs = plain_runs(rt.alloc(), spans, gap)?;
-            let want = lines_of(rt.alloc(), runs.as_slice())?;
-            let mut merge = Merge::new(rt.alloc(), gap, MergeStrand::All);
-            let mut out = Out::new(ScriptSink::new(rt.alloc(), 3, None));
-            assert!(rt; feed_spans(rt.alloc(), &mut merge, spans, &mut out)?);
-            assert_eq!(rt; finish(merge, &mut out), Ok(()));
-            assert_eq!(rt; out.flush(), Ok(()));
-            assert_eq!(rt; out.into_sink().taken(), want.as_slice());
-        }
+    check_plain(&rt, rt.alloc(), &cases)
+}
+
+// Feeds runs of one base behind an open one, and gives their lines.
+fn feed_runs(
+    rt: &impl Abort,
+    alloc: Global,
+    merge: &mut Merge,
+    count: u32,
+    out: &mut Out<ScriptSink>,
+) -> Result<Vec<u8>, Fail> {
+    let mut lines = Vec::new(alloc);
+    for place in 0..count.min(10_000) {
+        let start = 2 * place + 1;
+        let line = format!(in alloc; "chr1\t{start}\t{}\tb\t0\t-", start + 1)?;
+        feed_kept(rt, merge, line.as_bytes(), place as usize + 2, out, "a run");
+        let run = format!(in alloc; "chr1\t{start}\t{}\n", start + 1)?;
+        lines.extend_from_slice(run.as_bytes())?;
     }
-    Ok(())
+    Ok(lines)
 }
 
 #[test]
 fn many_runs_behind_an_open_one(rt: HostRuntime) -> Result<(), Fail> {
     let mut merge = Merge::new(rt.alloc(), 0, MergeStrand::Each);
     let mut out = Out::new(ScriptSink::new(rt.alloc(), 100, None));
-    let mut whole = Vec::new(rt.alloc());
-    assert_eq!(rt;
-        feed(&mut merge, b"chr1\t0\t99999\ta\t0\t+", &mut out),
-        Ok(())
+    feed_kept(
+        &rt,
+        &mut merge,
+        b"chr1\t0\t99999\ta\t0\t+",
+        1,
+        &mut out,
+        "open",
     );
-    whole.extend_from_slice(b"chr1\t0\t99999\n")?;
-    for place in 0u32..1_000 {
-        let start = 2 * place + 1;
-        let line = format!(in rt.alloc(); "chr1\t{start}\t{}\tb\t0\t-", start + 1)?;
-        assert_eq!(rt; feed(&mut merge, line.as_bytes(), &mut out), Ok(()));
-        assert_eq!(rt; kept_len(&merge), place as usize + 2);
-        let run = format!(in rt.alloc(); "chr1\t{start}\t{}\n", start + 1)?;
-        whole.extend_from_slice(run.as_bytes())?;
-    }
-    assert_eq!(rt; finish(merge, &mut out), Ok(()));
-    assert_eq!(rt; out.flush(), Ok(()));
-    assert_eq!(rt; out.into_sink().taken(), whole.as_slice());
+    let mut wanted = Vec::from_slice(rt.alloc(), b"chr1\t0\t99999\n")?;
+    let lines = feed_runs(&rt, rt.alloc(), &mut merge, 1_000, &mut out)?;
+    wanted.extend_from_slice(lines.as_slice())?;
+    expect_end(&rt, merge, out, wanted.as_slice(), "runs in order");
     Ok(())
 }

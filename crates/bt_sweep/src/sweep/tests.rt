@@ -4,142 +4,14 @@ use super::*;
 use crate::held_index::HeldIndex;
 use crate::held_list::HeldList;
 use crate::plain::plain_intersect;
-use crate::worked::{FRACTIONS, RuledCase, STRANDS, SUBTRACTED};
-use bt_bed::{ByteOrder, Genome, Rec, parse_bed};
+use crate::worked::{ANY_OVERLAP, FRACTIONS, NESTED_B, RuledCase, STRANDS, SUBTRACTED, records_of};
+use bt_bed::{ByteOrder, Genome, parse_bed};
 use bt_lines::{Input, Kind, LineReader, ScriptSink, ScriptSource};
 use std::alloc::AllocError;
 use std::process::Abort;
 use std::test::Fail;
 
 const GENOME: &[u8] = b"chr1\t1000\nchr2\t50\n";
-
-type Lines = &'static [&'static [u8]];
-
-// A case: its name, the shape, the records of both inputs, and what is written.
-type Case = (&'static str, Shape, Lines, Lines, &'static [u8]);
-
-const TOUCHING_A: Lines = &[b"chr1\t10\t20"];
-
-const TOUCHING_B: Lines = &[b"chr1\t20\t30"];
-
-const NESTED_A: Lines = &[b"chr1\t0\t100", b"chr1\t50\t60"];
-
-const NESTED_B: Lines = &[b"chr1\t10\t20", b"chr1\t55\t58", b"chr1\t90\t95"];
-
-const NAMED_A: Lines = &[b"chr1\t10\t30\ta"];
-
-const NAMED_B: Lines = &[b"chr1\t0\t15\tx", b"chr1\t25\t40\ty"];
-
-const CASES: [Case; 18] = [
-    ("touching", Shape::Cut, TOUCHING_A, TOUCHING_B, b""),
-    (
-        "touching, missing",
-        Shape::Missing,
-        TOUCHING_A,
-        TOUCHING_B,
-        b"chr1\t10\t20\n",
-    ),
-    (
-        "touching, counted",
-        Shape::Count,
-        TOUCHING_A,
-        TOUCHING_B,
-        b"chr1\t10\t20\t0\n",
-    ),
-    (
-        "one within another",
-        Shape::Cut,
-        NESTED_A,
-        NESTED_B,
-        b"chr1\t10\t20\nchr1\t55\t58\nchr1\t90\t95\nchr1\t55\t58\n",
-    ),
-    (
-        "one within another, counted",
-        Shape::Count,
-        NESTED_A,
-        NESTED_B,
-        b"chr1\t0\t100\t3\nchr1\t50\t60\t1\n",
-    ),
-    (
-        "two hits, cut",
-        Shape::Cut,
-        NAMED_A,
-        NAMED_B,
-        b"chr1\t10\t15\ta\nchr1\t25\t30\ta\n",
-    ),
-    (
-        "two hits, the record",
-        Shape::OrigA,
-        NAMED_A,
-        NAMED_B,
-        b"chr1\t10\t30\ta\nchr1\t10\t30\ta\n",
-    ),
-    (
-        "two hits, cut and the other",
-        Shape::CutAndB,
-        NAMED_A,
-        NAMED_B,
-        b"chr1\t10\t15\ta\tchr1\t0\t15\tx\nchr1\t25\t30\ta\tchr1\t25\t40\ty\n",
-    ),
-    (
-        "two hits, both",
-        Shape::OrigBoth,
-        NAMED_A,
-        NAMED_B,
-        b"chr1\t10\t30\ta\tchr1\t0\t15\tx\nchr1\t10\t30\ta\tchr1\t25\t40\ty\n",
-    ),
-    (
-        "two hits, both and the shared bases",
-        Shape::Overlap,
-        NAMED_A,
-        NAMED_B,
-        b"chr1\t10\t30\ta\tchr1\t0\t15\tx\t5\nchr1\t10\t30\ta\tchr1\t25\t40\ty\t5\n",
-    ),
-    (
-        "two hits, once",
-        Shape::Once,
-        NAMED_A,
-        NAMED_B,
-        b"chr1\t10\t30\ta\n",
-    ),
-    (
-        "two hits, counted",
-        Shape::Count,
-        NAMED_A,
-        NAMED_B,
-        b"chr1\t10\t30\ta\t2\n",
-    ),
-    ("two hits, missing", Shape::Missing, NAMED_A, NAMED_B, b""),
-    ("no first record", Shape::Cut, &[], NAMED_B, b""),
-    (
-        "no second record",
-        Shape::Missing,
-        NAMED_A,
-        &[],
-        b"chr1\t10\t30\ta\n",
-    ),
-    (
-        "the second on other chromosomes",
-        Shape::Cut,
-        &[b"chr2\t0\t5"],
-        &[b"chr1\t0\t9", b"chr2\t5\t9"],
-        b"",
-    ),
-    (
-        "three chromosomes' worth of records",
-        Shape::Cut,
-        &[b"chr1\t0\t10", b"chr1\t20\t30", b"chr2\t0\t10"],
-        &[b"chr1\t5\t25", b"chr1\t29\t40", b"chr2\t9\t12"],
-        b"chr1\t5\t10\nchr1\t20\t25\nchr1\t29\t30\nchr2\t9\t10\n",
-    ),
-    (
-        "numbers without leading zeros",
-        Shape::OrigA,
-        &[b"chr1\t007\t009\tn\t0\t+"],
-        &[b"chr1\t008\t9"],
-        b"chr1\t7\t9\tn\t0\t+\n",
-    ),
-];
 
 const SHAPES: [Shape; 10] = [
     Shape::Cut,
@@ -298,19 +170,8 @@ fn sweep_all<H: Held, O: ChromOrder, K: Sink>(
     Err(None)
 }
 
-#[test]
-fn worked_rows(rt: HostRuntime) {
-    let Ok(genome) = read_genome(rt.alloc()) else {
-        assert!(rt; false);
-        return;
-    };
-    for (name, shape, first, second, want) in CASES {
-        let case = (name, shape, HitRule::any_overlap(), first, second, want);
-        assert!(rt; writes_in_both(&rt, &genome, &case, None), "{name}");
-    }
-}
-
-// Whether a sweep writes what the case wants, to a sink that takes so many bytes.
+// Whether a sweep writes what the case wants. To a sink that takes so many bytes it writes the front of
+// that, and asks for nothing after the fault.
 fn writes_ruled<H: Held, O: ChromOrder>(
     rt: &HostRuntime,
     held: H,
@@ -324,11 +185,18 @@ fn writes_ruled<H: Held, O: ChromOrder>(
     let mut sweep = Sweep::new(rt.alloc(), held, shape, rule, None, order);
     let mut out = Out::new(ScriptSink::new(rt.alloc(), 3, good));
     let swept = sweep_all(&mut sweep, first, second, &mut out);
-    let ended = swept.is_ok() && out.flush().is_ok();
+    let done = sweep.want() == Want::Nothing;
+    let fault = match swept {
+        Ok(()) => out.flush().err(),
+        Err(fault) => fault,
+    };
+    let kind = fault.map(|fault| fault.kind);
     let sink = out.into_sink();
     match good {
-        None => ended && sink.taken() == want,
-        Some(good) => !ended && Some(sink.taken()) == want.get(..good),
+        None => done && kind == None && sink.taken() == want,
+        Some(good) => {
+            done && kind == Some(Kind::WriteFailed) && Some(sink.taken()) == want.get(..good)
+        }
     }
 }
 
@@ -363,42 +231,15 @@ fn first_miswritten<O: ChromOrder>(
 }
 
 #[test]
-fn worked_rows_with_rules(rt: HostRuntime) {
+fn worked_rows(rt: HostRuntime) {
     let Ok(genome) = read_genome(rt.alloc()) else {
         assert!(rt; false);
         return;
     };
+    assert_eq!(rt; first_miswritten(&rt, &genome, &ANY_OVERLAP), None);
     assert_eq!(rt; first_miswritten(&rt, &genome, &FRACTIONS), None);
     assert_eq!(rt; first_miswritten(&rt, &genome, &STRANDS), None);
     assert_eq!(rt; first_miswritten(&rt, &genome, &SUBTRACTED), None);
-}
-
-// After a fault nothing is asked for, and the sink has a front of what is written else.
-#[test]
-fn a_sink_that_fails_at_each_byte(rt: HostRuntime) {
-    let Ok(genome) = read_genome(rt.alloc()) else {
-        assert!(rt; false);
-        return;
-    };
-    for (name, shape, first, second, want) in CASES {
-        for good in 0..want.len() {
-            let mut sweep = any_overlap(rt.alloc(), shape, &genome);
-            let mut out = Out::new(ScriptSink::new(rt.alloc(), 4, Some(good)));
-            let swept = sweep_all(&mut sweep, first, second, &mut out);
-            assert_eq!(rt; sweep.want(), Want::Nothing, "{name} at {good}");
-            let answer = match swept {
-                Ok(()) => out.flush().err(),
-                Err(fault) => fault,
-            };
-            assert_eq!(rt;
-                answer.map(|fault| fault.kind),
-                Some(Kind::WriteFailed),
-                "{name} at {good}"
-            );
-            let sink = out.into_sink();
-            assert_eq!(rt; Some(sink.taken()), want.get(..good), "{name} at {good}");
-        }
-    }
 }
 
 // How many records are held.
@@ -580,15 +421,47 @@ fn nested_records_are_counted(rt: HostRuntime) -> Result<(), Fail> {
     counts_in_nested(&rt, rt.alloc(), HeldIndex::new(rt.alloc()), &genome)
 }
 
-// The records of these lines.
-fn records_of(alloc: Global, lines: &[&[u8]]) -> Result<Vec<Rec>, AllocError> {
-    let mut records = Vec::new(alloc);
-    for line in lines {
-        if let Ok(Some(bed)) = parse_bed(line) {
-            records.push(bed.to_rec(alloc)?)?;
+// Whether a sweep over two inputs writes what the plain program does.
+fn is_plain<O: ChromOrder>(
+    rt: &HostRuntime,
+    order: &O,
+    how: (Shape, HitRule),
+    first: &[&[u8]],
+    second: &[&[u8]],
+) -> Result<bool, AllocError> {
+    let (shape, rule) = how;
+    let records = records_of(rt.alloc(), first)?;
+    let others = records_of(rt.alloc(), second)?;
+    let want = plain_intersect(
+        rt.alloc(),
+        shape,
+        rule,
+        records.as_slice(),
+        others.as_slice(),
+    )?;
+    let held = HeldList::new(rt.alloc());
+    let mut sweep = Sweep::new(rt.alloc(), held, shape, rule, None, order);
+    let mut out = Out::new(ScriptSink::new(rt.alloc(), 8192, None));
+    let swept = sweep_all(&mut sweep, first, second, &mut out);
+    let ended = swept.is_ok() && out.flush().is_ok();
+    Ok(ended && out.into_sink().taken() == want.as_slice())
+}
+
+// The name of the first case whose inputs give something else than the plain program, in some shape.
+fn first_unlike_plain<O: ChromOrder>(
+    rt: &HostRuntime,
+    order: &O,
+    cases: &[RuledCase],
+    shapes: &[Shape],
+) -> Result<Option<&'static str>, AllocError> {
+    for (name, _, rule, first, second, _) in cases {
+        for shape in shapes {
+            if !is_plain(rt, order, (*shape, *rule), first, second)? {
+                return Ok(Some(*name));
+            }
         }
     }
-    Ok(records)
+    Ok(None)
 }
 
 #[test]
@@ -597,29 +470,8 @@ fn gives_what_the_plain_program_gives(rt: HostRuntime) -> Result<(), Fail> {
         assert!(rt; false);
         return Ok(());
     };
-    for (name, _, first, second, _) in CASES {
-        let records = records_of(rt.alloc(), first)?;
-        let others = records_of(rt.alloc(), second)?;
-        for shape in SHAPES {
-            let want = plain_intersect(
-                rt.alloc(),
-                shape,
-                HitRule::any_overlap(),
-                records.as_slice(),
-                others.as_slice(),
-            )?;
-            let mut sweep = any_overlap(rt.alloc(), shape, &genome);
-            let mut out = Out::new(ScriptSink::new(rt.alloc(), 3, None));
-            let swept = sweep_all(&mut sweep, first, second, &mut out);
-            assert_eq!(rt; swept, Ok(()), "{name}");
-            assert_eq!(rt; out.flush(), Ok(()), "{name}");
-            assert_eq!(rt;
-                out.into_sink().taken(),
-                want.as_slice(),
-                "{name} as {shape:?}"
-            );
-        }
-    }
+    let found = first_unlike_plain(&rt, &genome, &ANY_OVERLAP, &SHAPES)?;
+    assert_eq!(rt; found, None);
     Ok(())
 }
 

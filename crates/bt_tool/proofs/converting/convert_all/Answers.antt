@@ -4,13 +4,13 @@ use Rattle.bt_lines.specs.Names.{told}
 use Rattle.bt_lines.specs.declared.fault.Input.{Input}
 use Rattle.bt_bed.proofs.ResultLemmas.{passed_on}
 use Rattle.bt_seq.specs.BamToBedState.{Converting}
-use Rattle.bt_tool.specs.ConvertSteps.{ConvertsAll, LineRefused}
+use Rattle.bt_tool.specs.ConvertSteps.{ConvertsAll, LineRefused, sam_reader}
 use Rattle.bt_tool.proofs.ConvertLemmas.{converts_all, going_line, going_start, stops_at_line, stops_reading, stops_writing}
 use Rattle.bt_tool.proofs.converting.convert_all.Goals as goal
 
 pub loop-line-init : goal.loop-line-init
 loop-line-init g c = record {
-  going = going_start _ _ _ _ _ c.args.lines.now c.args.out.now c.requires.fresh c.requires.reads c.requires.block;
+  going = going_start _ _ _ _ _ c.args.lines.now c.args.out.now c.requires.fresh c.requires.block;
   same = refl;
   input = c.input-input.ensures;
 }
@@ -30,8 +30,8 @@ loop-line-preserved g c =
     let first = c.args.converter.now in
     let written = c.in_ok-convert_line.ensures in
     record {
-      going = going_line first.split first.with_cigar _ _ _ c.args.lines.now c.args.out.now c.requires.fresh c.loop-line.lines c.loop-line.out now.going c.next.follows.lender-at-none (line_seen c.in-Some.line) gives.answers
-          (gives.sound now.going.fed.sound) c.loop-line.converter c.convert_line.new.converter (ap (λ (m : Converting). m.split) now.same) (ap (λ (m : Converting). m.with_cigar) now.same) c.convert_line.new.out written;
+      going = going_line first.split first.with_cigar _ _ _ c.args.lines.now c.args.out.now c.loop-line.lines c.loop-line.out now.going c.next.follows.lender-at-none (line_seen c.in-Some.line) gives.answers
+          gives.sound c.loop-line.converter c.convert_line.new.converter (ap (λ (m : Converting). m.split) now.same) (ap (λ (m : Converting). m.with_cigar) now.same) c.convert_line.new.out written;
       same = written.unchanged ∙ now.same;
       input = now.input;
     }
@@ -39,9 +39,12 @@ loop-line-preserved g c =
 pub returns-in_err-line : goal.returns-in_err-line
 returns-in_err-line g c =
     let gives = rw c.in_err-line.was at c.next.follows.holds-at-none in
-    passed_on (λ r. ConvertsAll g.S.Source.left g.S.Source.has_failed c.args.converter.now c.args.lines.now c.args.out.now r c.next.follows.lender-at-none c.loop-line.out) c.from_residual.result c.in_err-line.field-0.0
-    c.from_residual.ensures.1
-    (stops_reading _ _ _ _ _ c.args.lines.now c.args.out.now c.requires.fresh c.loop-line.lines c.loop-line.out c.loop-line.invariant.going c.next.follows.lender-at-none (told c.in_err-line.field-0.0) gives.answers)
+    passed_on (λ r. ConvertsAll g.S.Source.left g.S.Source.has_failed g.S.Source.end_told c.args.converter.now c.args.lines.now c.args.out.now r c.next.follows.lender-at-none c.loop-line.out) c.from_residual.result c.in_err-line.field-0.0
+    c.from_residual.ensures.1 (
+      sam_reader c.next.follows.lender-at-none,
+      refl,
+      stops_reading _ _ _ _ _ c.args.lines.now c.args.out.now c.loop-line.lines c.loop-line.out c.loop-line.invariant.going c.next.follows.lender-at-none (told c.in_err-line.field-0.0) gives.answers gives.sound,
+    )
 
 pub returns-in_err-convert_line : goal.returns-in_err-convert_line
 returns-in_err-convert_line g c =
@@ -50,17 +53,28 @@ returns-in_err-convert_line g c =
     let first = c.args.converter.now in
     let fault = told c.in_err-convert_line.field-0.0 in
     let line = line_seen c.in-Some.line in
-    passed_on (λ r. ConvertsAll g.S.Source.left g.S.Source.has_failed c.args.converter.now c.args.lines.now c.args.out.now r c.next.follows.lender-at-none c.convert_line.new.out) c.from_residual-in_err-convert_line.result c.in_err-convert_line.field-0.0
+    passed_on (λ r. ConvertsAll g.S.Source.left g.S.Source.has_failed g.S.Source.end_told c.args.converter.now c.args.lines.now c.args.out.now r c.next.follows.lender-at-none c.convert_line.new.out) c.from_residual-in_err-convert_line.result c.in_err-convert_line.field-0.0
     c.from_residual-in_err-convert_line.ensures.1
     (⊎_elim
-    (λ refused. stops_at_line first.split first.with_cigar _ _ _ c.args.lines.now c.args.out.now c.requires.fresh c.loop-line.lines c.loop-line.out now.going c.next.follows.lender-at-none line gives.answers
-    (gives.sound now.going.fed.sound) fault c.convert_line.new.out (subst (λ (i : Input). LineRefused i line c.loop-line.out fault c.convert_line.new.out) now.input refused))
-    (λ unwritten. stops_writing first.split first.with_cigar _ _ _ c.args.lines.now c.args.out.now c.requires.fresh c.loop-line.lines c.loop-line.out now.going c.next.follows.lender-at-none line gives.answers
-    (gives.sound now.going.fed.sound) c.loop-line.converter (ap (λ (m : Converting). m.split) now.same) (ap (λ (m : Converting). m.with_cigar) now.same) fault c.convert_line.new.out unwritten)
+    (λ refused. (
+      _,
+      refl,
+      stops_at_line first.split first.with_cigar _ _ _ c.args.lines.now c.args.out.now c.loop-line.lines c.loop-line.out now.going c.next.follows.lender-at-none line gives.answers
+          gives.sound fault c.convert_line.new.out (subst (λ (i : Input). LineRefused i line c.loop-line.out fault c.convert_line.new.out) now.input refused),
+    ))
+    (λ unwritten. (
+      _,
+      refl,
+      stops_writing first.split first.with_cigar _ _ _ c.args.lines.now c.args.out.now c.loop-line.lines c.loop-line.out now.going c.next.follows.lender-at-none line gives.answers
+          gives.sound c.loop-line.converter (ap (λ (m : Converting). m.split) now.same) (ap (λ (m : Converting). m.with_cigar) now.same) fault c.convert_line.new.out unwritten,
+    ))
     c.in_err-convert_line.ensures)
 
 pub returns : goal.returns
 returns g c =
     let gives = rw (c.in_ok-line.was, c.in_default.is) at c.next.follows.holds-at-none in
-    let now = c.loop-line.invariant in
-    converts_all _ _ _ _ _ c.args.lines.now c.args.out.now c.requires.fresh c.loop-line.lines c.loop-line.out now.going c.next.follows.lender-at-none gives.answers (gives.sound now.going.fed.sound)
+    let now = c.loop-line.invariant in (
+      sam_reader c.next.follows.lender-at-none,
+      refl,
+      converts_all _ _ _ _ _ c.args.lines.now c.args.out.now c.loop-line.lines c.loop-line.out now.going c.next.follows.lender-at-none gives.answers gives.sound,
+    )

@@ -1,19 +1,21 @@
 use Rattle.std.proofs.Common.{◌∙◌, ap, sym, subst, Some, None}
 use Rattle.bt_lines.specs.Names.{told}
 use Rattle.bt_lines.specs.Reader.{source_of}
+use Rattle.bt_lines.specs.declared.fault.Input.TheVariants.{First}
 use Rattle.bt_bed.specs.Feature.{Feature, intervals_of}
 use Rattle.bt_bed.specs.GoodBed.{bed_format}
 use Rattle.bt_bed.specs.LineKind.{IsBedKind}
 use Rattle.bt_bed.specs.Locus.{ArePlaced}
 use Rattle.bt_bed.specs.Order.{Order}
-use Rattle.bt_bed.specs.Records.{below, order_in, view_of}
+use Rattle.bt_bed.specs.Records.{order_in, view_of}
 use Rattle.bt_bed.specs.Sorting.{sorting_of}
 use Rattle.bt_tool.specs.Feeding.{AreInOrder, member_items}
 use Rattle.bt_tool.specs.Driving.{WritesInput}
 use Rattle.bt_tool.specs.RecordReport.{records_report, records_settle}
 use Rattle.bt_tool.specs.Written.{Written}
 use Rattle.bt_tool.proofs.FeedLemmas.{goes_failed}
-use Rattle.bt_tool.proofs.DrivingLemmas.{Starts, drives_all, drives_cut, drives_fault, finish_cut, finish_goes, finish_put, finish_serves, fresh_start, records_sorted, sorted_start, starts_by}
+use Rattle.bt_tool.proofs.DrivingLemmas.{drives_all, drives_cut, drives_fault, finish_cut, finish_goes, finish_put, finish_serves, fresh_start, records_sorted, sorted_start}
+use Rattle.bt_tool.proofs.StartLemmas.{begins_by}
 use Rattle.bt_tool.proofs.driving.drive.Goals as goal
 
 pub feed_all-fed-requires-clause-fresh : goal.feed_all-fed-requires-clause-fresh
@@ -32,12 +34,11 @@ returns-in-Err g c =
     let left = g.A.Source.left in
     let order = g.O.ChromOrder.order c.args.order.now in
     let written : Written Feature = record { whole = g.E.Engine.whole c.args.engine; settled = g.E.Engine.settled c.args.engine } in
-    let starts : Starts left (bed_format (sorting_of order)) c.args.first (view_of c.new-records.result) =
-    starts_by left order c.args.first c.new-reader.result c.new-records.result records.below records.order reader.source reader.input reader.none_taken.0 reader.none_fed reader.going.0 reader.lines records.good records.none_last in
+    let starts = begins_by left order First c.args.first c.new-reader.result c.new-records.result records.below reader.source reader.input reader.none_taken.0 reader.none_fed reader.going.0 reader.lines records.good in
     let ended = sym (c.into_source-first.ensures ∙ ap source_of c.into_reader.ensures) in
     subst (λ (o : Order). WritesInput left g.A.Source.has_failed (IsBedKind o) (records_report written order) (records_settle written order) c.args.first c.args.out.now (Some (told c.in-Err.fault)) c.into_source-first.result c.feed_all-fed.new.out) records.order
-    (drives_fault written (IsBedKind (order_in c.new-records.result)) (AreInOrder (order_in c.new-records.result)) (g.E.Engine.takes c.args.engine) c.requires.stays c.requires.begins left g.A.Source.has_failed (bed_format (sorting_of order))
-    (records_sorted (g.E.Engine.takes c.args.engine) order (g.met.O.ChromOrder.total c.args.order.now) c.requires.takes) (view_of c.new-records.result) c.args.first c.args.out.now starts (below c.feed_all-fed.new.records) c.into_source-first.result ended
+    (drives_fault written (IsBedKind (order_in c.new-records.result)) (AreInOrder (order_in c.new-records.result)) (g.E.Engine.takes c.args.engine) c.requires.stays c.requires.begins left g.A.Source.has_failed g.A.Source.end_told (bed_format (sorting_of order))
+    (records_sorted (g.E.Engine.takes c.args.engine) order (g.met.O.ChromOrder.total c.args.order.now) c.requires.takes) (view_of c.new-records.result) c.args.first c.args.out.now starts (view_of c.feed_all-fed.new.records) c.into_source-first.result ended
     (told c.in-Err.fault) c.feed_all-fed.new.out c.in-Err.ensures)
 
 pub returns-in-Err-finish : goal.returns-in-Err-finish
@@ -47,15 +48,14 @@ returns-in-Err-finish g c =
     let left = g.A.Source.left in
     let order = g.O.ChromOrder.order c.args.order.now in
     let written : Written Feature = record { whole = g.E.Engine.whole c.args.engine; settled = g.E.Engine.settled c.args.engine } in
-    let starts : Starts left (bed_format (sorting_of order)) c.args.first (view_of c.new-records.result) =
-    starts_by left order c.args.first c.new-reader.result c.new-records.result records.below records.order reader.source reader.input reader.none_taken.0 reader.none_fed reader.going.0 reader.lines records.good records.none_last in
+    let starts = begins_by left order First c.args.first c.new-reader.result c.new-records.result records.below reader.source reader.input reader.none_taken.0 reader.none_fed reader.going.0 reader.lines records.good in
     let ended = sym (c.into_source-first.ensures ∙ ap source_of c.into_reader.ensures) in
     let fed = c.in_default.ensures in
     let takes = c.requires.takes (member_items fed.past) (subst (λ o. ArePlaced o (intervals_of (member_items fed.past))) records.order fed.took.sorted.0) fed.took.sorted.1 in
     let said = finish_cut g.E.Engine.takes g.E.Engine.stands g.E.Engine.fault g.E.Engine.settled g.E.Engine.whole c.args.engine c.feed_all-fed.new.engine (member_items fed.past) c.feed_all-fed.new.out c.finish.new.out c.in-Err-finish.fault fed.stands takes c.in-Err-finish.ensures in
     subst (λ (o : Order). WritesInput left g.A.Source.has_failed (IsBedKind o) (records_report written order) (records_settle written order) c.args.first c.args.out.now (Some (told c.in-Err-finish.fault)) c.into_source-first.result c.finish.new.out) records.order
-    (drives_cut written (IsBedKind (order_in c.new-records.result)) (AreInOrder (order_in c.new-records.result)) (g.E.Engine.takes c.args.engine) c.requires.stays c.requires.begins left g.A.Source.has_failed (bed_format (sorting_of order))
-    (records_sorted (g.E.Engine.takes c.args.engine) order (g.met.O.ChromOrder.total c.args.order.now) c.requires.takes) (view_of c.new-records.result) c.args.first c.args.out.now starts (below c.feed_all-fed.new.records) c.into_source-first.result ended
+    (drives_cut written (IsBedKind (order_in c.new-records.result)) (AreInOrder (order_in c.new-records.result)) (g.E.Engine.takes c.args.engine) c.requires.stays c.requires.begins left g.A.Source.has_failed g.A.Source.end_told (bed_format (sorting_of order))
+    (records_sorted (g.E.Engine.takes c.args.engine) order (g.met.O.ChromOrder.total c.args.order.now) c.requires.takes) (view_of c.new-records.result) c.args.first c.args.out.now starts (view_of c.feed_all-fed.new.records) c.into_source-first.result ended
     (λ past. g.E.Engine.stands c.args.engine past c.feed_all-fed.new.engine) c.feed_all-fed.new.out fed c.finish.new.out (goes_failed c.feed_all-fed.new.out c.finish.new.out c.in-Err-finish.ensures.grows said.failed)
     (told c.in-Err-finish.fault) said.is said.cuts.bytes said.cuts.goes_on said.cuts.front said.sink_failed)
 
@@ -66,15 +66,14 @@ returns g c =
     let left = g.A.Source.left in
     let order = g.O.ChromOrder.order c.args.order.now in
     let written : Written Feature = record { whole = g.E.Engine.whole c.args.engine; settled = g.E.Engine.settled c.args.engine } in
-    let starts : Starts left (bed_format (sorting_of order)) c.args.first (view_of c.new-records.result) =
-    starts_by left order c.args.first c.new-reader.result c.new-records.result records.below records.order reader.source reader.input reader.none_taken.0 reader.none_fed reader.going.0 reader.lines records.good records.none_last in
+    let starts = begins_by left order First c.args.first c.new-reader.result c.new-records.result records.below reader.source reader.input reader.none_taken.0 reader.none_fed reader.going.0 reader.lines records.good in
     let ended = sym (c.into_source-first.ensures ∙ ap source_of c.into_reader.ensures) in
     let fed = c.in_default.ensures in
     let takes = c.requires.takes (member_items fed.past) (subst (λ o. ArePlaced o (intervals_of (member_items fed.past))) records.order fed.took.sorted.0) fed.took.sorted.1 in
     let puts = finish_put g.E.Engine.takes g.E.Engine.stands g.E.Engine.fault g.E.Engine.settled g.E.Engine.whole c.args.engine c.feed_all-fed.new.engine (member_items fed.past) c.feed_all-fed.new.out c.finish.new.out fed.stands takes c.in_default-finish.ensures in
     subst (λ (o : Order). WritesInput left g.A.Source.has_failed (IsBedKind o) (records_report written order) (records_settle written order) c.args.first c.args.out.now None c.into_source-first.result c.finish.new.out) records.order
-    (drives_all written (IsBedKind (order_in c.new-records.result)) (AreInOrder (order_in c.new-records.result)) (g.E.Engine.takes c.args.engine) c.requires.stays c.requires.begins left g.A.Source.has_failed (bed_format (sorting_of order))
-    (records_sorted (g.E.Engine.takes c.args.engine) order (g.met.O.ChromOrder.total c.args.order.now) c.requires.takes) (view_of c.new-records.result) c.args.first c.args.out.now starts (below c.feed_all-fed.new.records) c.into_source-first.result ended
+    (drives_all written (IsBedKind (order_in c.new-records.result)) (AreInOrder (order_in c.new-records.result)) (g.E.Engine.takes c.args.engine) c.requires.stays c.requires.begins left g.A.Source.has_failed g.A.Source.end_told (bed_format (sorting_of order))
+    (records_sorted (g.E.Engine.takes c.args.engine) order (g.met.O.ChromOrder.total c.args.order.now) c.requires.takes) (view_of c.new-records.result) c.args.first c.args.out.now starts (view_of c.feed_all-fed.new.records) c.into_source-first.result ended
     (λ past. g.E.Engine.stands c.args.engine past c.feed_all-fed.new.engine) c.feed_all-fed.new.out fed c.finish.new.out (finish_goes g.E.Engine.takes g.E.Engine.stands g.E.Engine.fault g.E.Engine.settled g.E.Engine.whole c.args.engine c.feed_all-fed.new.engine (member_items fed.past) c.feed_all-fed.new.out c.finish.new.out c.in_default-finish.ensures)
     puts.bytes puts.goes_on puts.appends
     (finish_serves g.E.Engine.takes g.E.Engine.stands g.E.Engine.fault g.E.Engine.settled g.E.Engine.whole c.args.engine c.feed_all-fed.new.engine (member_items fed.past) c.feed_all-fed.new.out c.finish.new.out c.in_default-finish.ensures))

@@ -3,7 +3,8 @@ use Rattle.bt_lines.specs.Names.{told}
 use Rattle.bt_bed.specs.Bed.{feature_lent}
 use Rattle.bt_bed.proofs.ResultLemmas.{passed_on}
 use Rattle.bt_tool.specs.Feeding.{FeedsRecords, member_items}
-use Rattle.bt_tool.proofs.FeedLemmas.{going_start, goes_feeding, placed_items, full_items, feeds_all, stops_reading, stops_feeding}
+use Rattle.bt_tool.specs.Turns.{HasAhead}
+use Rattle.bt_tool.proofs.FeedLemmas.{going_start, goes_feeding, sorted_items, feeds_all, stops_reading, stops_feeding}
 use Rattle.bt_tool.proofs.driving.feed_all.Goals as goal
 
 pub loop-record-init : goal.loop-record-init
@@ -13,39 +14,37 @@ loop-record-init g c =
 pub returns-in_err-record : goal.returns-in_err-record
 returns-in_err-record g c =
     let gives = rw c.in_err-record.was at c.peek.follows.holds-at-none in
-    let now = c.loop-record.invariant in
-    passed_on (λ r. FeedsRecords (g.E.Engine.settled c.args.engine.now) g.S.Source.left g.S.Source.has_failed (λ past. g.E.Engine.stands c.args.engine.now past c.loop-record.engine) c.args.records.now c.args.out.now r c.peek.follows.lender-at-none c.loop-record.out) c.from_residual.result c.in_err-record.field-0.0
+    passed_on (λ r. FeedsRecords (g.E.Engine.settled c.args.engine.now) g.S.Source.left g.S.Source.has_failed g.S.Source.end_told (λ past. g.E.Engine.stands c.args.engine.now past c.loop-record.engine) c.args.records.now c.args.out.now r c.peek.follows.lender-at-none c.loop-record.out) c.from_residual.result c.in_err-record.field-0.0
     c.from_residual.ensures.1
-    (stops_reading _ _ _ _ _ c.args.records.now c.args.out.now c.loop-record.records c.loop-record.out c.requires.fresh c.requires.sorted now c.peek.follows.lender-at-none (told c.in_err-record.field-0.0) gives.order (gives.sound now.fed.sound) gives.answers)
+    (stops_reading _ _ _ _ _ c.args.records.now c.args.out.now c.loop-record.records c.loop-record.out c.requires.sorted c.loop-record.invariant c.peek.follows.lender-at-none (told c.in_err-record.field-0.0)
+    (record { answers = gives.answers; sound = gives.sound; order = gives.order }))
 
 pub returns-in_err-feed : goal.returns-in_err-feed
 returns-in_err-feed g c =
     let gives = rw (c.in_ok-record.was, c.in-Some.is) at c.peek.follows.holds-at-none in
     let r = feature_lent c.in-Some.record in
     let now = c.loop-record.invariant in
-    let takes = c.requires.takes (member_items now.past ++ r ∷ [])
-    (placed_items _ _ _ _ _ c.args.records.now c.args.out.now c.loop-record.records c.loop-record.out c.requires.fresh c.requires.sorted now c.peek.follows.lender-at-none r gives.order (gives.sound now.fed.sound) gives.answers)
-    (full_items _ _ _ _ _ c.args.records.now c.args.out.now c.loop-record.records c.loop-record.out c.requires.fresh c.requires.sorted now c.peek.follows.lender-at-none r gives.order (gives.sound now.fed.sound) gives.answers) in
-    passed_on (λ r. FeedsRecords (g.E.Engine.settled c.args.engine.now) g.S.Source.left g.S.Source.has_failed (λ past. g.E.Engine.stands c.args.engine.now past c.feed.new.self) c.args.records.now c.args.out.now r c.peek.follows.lender-at-none c.feed.new.out) c.from_residual-in_err-feed.result c.in_err-feed.field-0.0
+    let ahead : HasAhead g.S.Source.left g.S.Source.has_failed g.S.Source.end_told c.loop-record.records r c.peek.follows.lender-at-none = record { gives = gives.answers; sound = gives.sound; order = gives.order } in
+    let sorted = sorted_items _ _ _ _ _ c.args.records.now c.args.out.now c.loop-record.records c.loop-record.out c.requires.sorted now c.peek.follows.lender-at-none r ahead in
+    passed_on (λ r. FeedsRecords (g.E.Engine.settled c.args.engine.now) g.S.Source.left g.S.Source.has_failed g.S.Source.end_told (λ past. g.E.Engine.stands c.args.engine.now past c.feed.new.self) c.args.records.now c.args.out.now r c.peek.follows.lender-at-none c.feed.new.out) c.from_residual-in_err-feed.result c.in_err-feed.field-0.0
     c.from_residual-in_err-feed.ensures.1
     (stops_feeding g.E.Engine.takes g.E.Engine.stands g.E.Engine.fault g.E.Engine.settled c.args.engine.now c.loop-record.engine _ _ _ c.args.records.now c.args.out.now c.loop-record.records c.loop-record.out
-    c.requires.fresh c.requires.sorted now c.peek.follows.lender-at-none r gives.order (gives.sound now.fed.sound) gives.answers
-    g.E.Engine.quiet c.in_err-feed.field-0.0 c.feed.new.self c.feed.new.out takes c.in_err-feed.ensures)
+    c.requires.sorted now c.peek.follows.lender-at-none r ahead
+    g.E.Engine.quiet c.in_err-feed.field-0.0 c.feed.new.self c.feed.new.out (c.requires.takes (member_items now.past ++ r ∷ []) sorted.0 sorted.1) c.in_err-feed.ensures)
 
 pub loop-record-preserved : goal.loop-record-preserved
 loop-record-preserved g c =
     let gives = rw (c.in_ok-record.was, c.in-Some.is) at c.peek.follows.holds-at-none in
     let r = feature_lent c.in-Some.record in
     let now = c.loop-record.invariant in
-    let takes = c.requires.takes (member_items now.past ++ r ∷ [])
-    (placed_items _ _ _ _ _ c.args.records.now c.args.out.now c.loop-record.records c.loop-record.out c.requires.fresh c.requires.sorted now c.peek.follows.lender-at-none r gives.order (gives.sound now.fed.sound) gives.answers)
-    (full_items _ _ _ _ _ c.args.records.now c.args.out.now c.loop-record.records c.loop-record.out c.requires.fresh c.requires.sorted now c.peek.follows.lender-at-none r gives.order (gives.sound now.fed.sound) gives.answers) in
+    let ahead : HasAhead g.S.Source.left g.S.Source.has_failed g.S.Source.end_told c.loop-record.records r c.peek.follows.lender-at-none = record { gives = gives.answers; sound = gives.sound; order = gives.order } in
+    let sorted = sorted_items _ _ _ _ _ c.args.records.now c.args.out.now c.loop-record.records c.loop-record.out c.requires.sorted now c.peek.follows.lender-at-none r ahead in
     goes_feeding g.E.Engine.takes g.E.Engine.stands g.E.Engine.fault g.E.Engine.settled c.args.engine.now c.loop-record.engine _ _ _ c.args.records.now c.args.out.now c.loop-record.records c.loop-record.out
-    c.requires.fresh c.requires.sorted now c.peek.follows.lender-at-none r gives.order (gives.sound now.fed.sound) gives.answers
-    g.E.Engine.quiet _ c.feed.new.self c.feed.new.out c.advance.new.self takes c.in_ok-feed.ensures c.advance.ensures
+    c.requires.sorted now c.peek.follows.lender-at-none r ahead
+    g.E.Engine.quiet _ c.feed.new.self c.feed.new.out c.advance.new.self (c.requires.takes (member_items now.past ++ r ∷ []) sorted.0 sorted.1) c.in_ok-feed.ensures c.advance.ensures
 
 pub returns : goal.returns
 returns g c =
     let gives = rw (c.in_ok-record.was, c.in_default.is) at c.peek.follows.holds-at-none in
-    let now = c.loop-record.invariant in
-    feeds_all _ _ _ _ _ c.args.records.now c.args.out.now c.loop-record.records c.loop-record.out c.requires.fresh c.requires.sorted now c.peek.follows.lender-at-none gives.order (gives.sound now.fed.sound) gives.answers
+    feeds_all _ _ _ _ _ c.args.records.now c.args.out.now c.loop-record.records c.loop-record.out c.requires.sorted c.loop-record.invariant c.peek.follows.lender-at-none
+    (record { ends = gives.answers; sound = gives.sound; order = gives.order })

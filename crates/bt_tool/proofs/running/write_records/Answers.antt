@@ -1,4 +1,4 @@
-use Rattle.std.proofs.Common.{None, refl, subst, sym}
+use Rattle.std.proofs.Common.{refl, subst, sym}
 use Rattle.std.specs.Prelude.{option_map}
 use Rattle.bt_lines.specs.Names.{told}
 use Rattle.bt_bed.specs.GenomeTable.{entries}
@@ -7,52 +7,32 @@ use Rattle.bt_tool.specs.Chromosomes.{WritesBy}
 use Rattle.bt_tool.specs.declared.plan_type.Command.{Command}
 use Rattle.bt_tool.specs.declared.plan_type.Command.TheVariants.{Merge, Complement, Coverage, BamToBed}
 use Rattle.bt_tool.proofs.SubtractLemmas.{subtract_writes}
-use Rattle.bt_tool.proofs.WritingLemmas.{alone_writes}
+use Rattle.bt_tool.proofs.WritingLemmas.{behaves_alone}
 use Rattle.bt_tool.proofs.running.write_records.Goals as goal
 
 pub returns-in-Merge-clause-written : goal.returns-in-Merge-clause-written
 returns-in-Merge-clause-written g c =
     let done = c.merge-fault in
-    let chromosomes = option_map entries c.args.genome.now in
-    let command = Merge c.in-Merge.d c.in-Merge.strand in
-    let behaviour = behaviour_of command chromosomes in
-    subst (λ (command : Command). WritesBy g.A.Source.left g.A.Source.has_failed g.A.Source.end_told g.B.Source.left g.B.Source.has_failed (behaviour_of command chromosomes) c.args.first c.args.second c.args.out.now (option_map told done.result.0) done.result.1 c.args.second done.new.out) (sym c.in-Merge.is)
-    (alone_writes g.A.Source.left g.A.Source.has_failed g.A.Source.end_told g.B.Source.left g.B.Source.has_failed behaviour.FirstKinds behaviour.SecondKinds (λ one. behaviour.report one None) (behaviour.settles None)
-    behaviour.report behaviour.settles behaviour.reaches (λ one two. refl) (λ two. refl)
-    c.args.first c.args.second c.args.out.now (option_map told done.result.0) done.result.1 done.new.out done.ensures)
+    behaves_alone g.A.Source.left g.A.Source.has_failed g.A.Source.end_told g.B.Source.left g.B.Source.has_failed (Merge c.in-Merge.d c.in-Merge.strand) (option_map entries c.args.genome.now) (λ one two. refl) (λ two. refl)
+    _ c.in-Merge.is c.args.first c.args.second c.args.out.now (option_map told done.result.0) done.result.1 done.new.out done.ensures
 
 pub returns-in-Complement-clause-written : goal.returns-in-Complement-clause-written
 returns-in-Complement-clause-written g c =
     let done = c.complement-fault in
-    let chromosomes = option_map entries c.args.genome.now in
-    let command = Complement c.in-Complement.limit in
-    let behaviour = behaviour_of command chromosomes in
-    subst (λ (command : Command). WritesBy g.A.Source.left g.A.Source.has_failed g.A.Source.end_told g.B.Source.left g.B.Source.has_failed (behaviour_of command chromosomes) c.args.first c.args.second c.args.out.now (option_map told done.result.0) done.result.1 c.args.second done.new.out) (sym c.in-Complement.is)
-    (alone_writes g.A.Source.left g.A.Source.has_failed g.A.Source.end_told g.B.Source.left g.B.Source.has_failed behaviour.FirstKinds behaviour.SecondKinds (λ one. behaviour.report one None) (behaviour.settles None)
-    behaviour.report behaviour.settles behaviour.reaches (λ one two. refl) (λ two. refl)
-    c.args.first c.args.second c.args.out.now (option_map told done.result.0) done.result.1 done.new.out done.ensures)
+    behaves_alone g.A.Source.left g.A.Source.has_failed g.A.Source.end_told g.B.Source.left g.B.Source.has_failed (Complement c.in-Complement.limit) (option_map entries c.args.genome.now) (λ one two. refl) (λ two. refl)
+    _ c.in-Complement.is c.args.first c.args.second c.args.out.now (option_map told done.result.0) done.result.1 done.new.out done.ensures
 
 pub returns-in-Coverage-clause-written : goal.returns-in-Coverage-clause-written
 returns-in-Coverage-clause-written g c =
     let done = c.cover-fault in
-    let chromosomes = option_map entries c.args.genome.now in
-    let command = Coverage c.in-Coverage.zeros c.in-Coverage.strand in
-    let behaviour = behaviour_of command chromosomes in
-    subst (λ (command : Command). WritesBy g.A.Source.left g.A.Source.has_failed g.A.Source.end_told g.B.Source.left g.B.Source.has_failed (behaviour_of command chromosomes) c.args.first c.args.second c.args.out.now (option_map told done.result.0) done.result.1 c.args.second done.new.out) (sym c.in-Coverage.is)
-    (alone_writes g.A.Source.left g.A.Source.has_failed g.A.Source.end_told g.B.Source.left g.B.Source.has_failed behaviour.FirstKinds behaviour.SecondKinds (λ one. behaviour.report one None) (behaviour.settles None)
-    behaviour.report behaviour.settles behaviour.reaches (λ one two. refl) (λ two. refl)
-    c.args.first c.args.second c.args.out.now (option_map told done.result.0) done.result.1 done.new.out done.ensures)
+    behaves_alone g.A.Source.left g.A.Source.has_failed g.A.Source.end_told g.B.Source.left g.B.Source.has_failed (Coverage c.in-Coverage.zeros c.in-Coverage.strand) (option_map entries c.args.genome.now) (λ one two. refl) (λ two. refl)
+    _ c.in-Coverage.is c.args.first c.args.second c.args.out.now (option_map told done.result.0) done.result.1 done.new.out done.ensures
 
 pub returns-in-BamToBed-clause-written : goal.returns-in-BamToBed-clause-written
 returns-in-BamToBed-clause-written g c =
     let done = c.convert-fault in
-    let chromosomes = option_map entries c.args.genome.now in
-    let command = BamToBed c.in-BamToBed.split c.in-BamToBed.cigar in
-    let behaviour = behaviour_of command chromosomes in
-    subst (λ (command : Command). WritesBy g.A.Source.left g.A.Source.has_failed g.A.Source.end_told g.B.Source.left g.B.Source.has_failed (behaviour_of command chromosomes) c.args.first c.args.second c.args.out.now (option_map told done.result.0) done.result.1 c.args.second done.new.out) (sym c.in-BamToBed.is)
-    (alone_writes g.A.Source.left g.A.Source.has_failed g.A.Source.end_told g.B.Source.left g.B.Source.has_failed behaviour.FirstKinds behaviour.SecondKinds (λ one. behaviour.report one None) (behaviour.settles None)
-    behaviour.report behaviour.settles behaviour.reaches (λ one two. refl) (λ two. refl)
-    c.args.first c.args.second c.args.out.now (option_map told done.result.0) done.result.1 done.new.out done.ensures)
+    behaves_alone g.A.Source.left g.A.Source.has_failed g.A.Source.end_told g.B.Source.left g.B.Source.has_failed (BamToBed c.in-BamToBed.split c.in-BamToBed.cigar) (option_map entries c.args.genome.now) (λ one two. refl) (λ two. refl)
+    _ c.in-BamToBed.is c.args.first c.args.second c.args.out.now (option_map told done.result.0) done.result.1 done.new.out done.ensures
 
 pub returns-in-Subtract-clause-written : goal.returns-in-Subtract-clause-written
 returns-in-Subtract-clause-written g c =
