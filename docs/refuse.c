@@ -1,4 +1,4 @@
-// Preloaded into the program by refusals.py. It refuses one growth of memory, or all from one on; hands over a line at
+// Preloaded into the program by refusals.py and allocations.py. It counts what is allocated. It refuses one growth of memory, or all from one on; hands over a line at
 // most at each read of a file; and lets reads fail behind so many lines, and writes behind so many bytes. A read or a
 // write that is tried again after it failed ends the program with status 99. What it is to do stands in the environment:
 //
@@ -7,10 +7,13 @@
 //   REFUSE_READS  files and numbers, as "a.bed 3 b.bed 1 ": behind so many lines of the file reading fails
 //   REFUSE_WRITES a number: behind so many bytes writing fails, but on standard error
 //   REFUSE_AGAIN  whether a write may be tried again; it fails again
+//   COUNT_NOTES   where it notes, as the program ends, how many growths there were, and how many bytes were allocated at
+//                 once, as "growths 12" and "most 4096" on a line each
 //   REFUSE_NOTES  where it notes, once a growth is refused, how many lines of each file were handed over, as "a.bed 3" and
 //                 a line feed; the file that was read last, of which the last line may be handed over in part, comes last
 #include <errno.h>
 #include <fcntl.h>
+#include <malloc.h>
 #include <stdio.h>
 #include <stdlib.h>
 #include <string.h>
@@ -23,6 +26,7 @@ extern void *__libc_malloc(size_t);
 extern void *__libc_calloc(size_t, size_t);
 extern void *__libc_realloc(void *, size_t);
 extern void *__libc_memalign(size_t, size_t);
+extern void __libc_free(void *);
 
 // How many lines of each open file were handed over, whether a part of a further one was, and the file's name.
 static long lines_of[FILES];
@@ -70,9 +74,33 @@ static void write_notes(void) {
     close(notes);
 }
 
+// How many growths there were, how many bytes are allocated, and how many were at once.
+static long growths, allocated, most;
+
+// Counts memory that was given, in the place of so many bytes.
+static void *counted(void *given, size_t before) {
+    if (given) {
+        allocated += (long)malloc_usable_size(given) - (long)before;
+        most = allocated > most ? allocated : most;
+    }
+    return given;
+}
+
+// Notes what was counted.
+__attribute__((destructor)) static void write_counts(void) {
+    const char *path = getenv("COUNT_NOTES");
+    int notes = path ? open(path, O_WRONLY | O_CREAT | O_TRUNC, 0600) : -1;
+    if (notes >= 0) {
+        char note[64];
+        int length = snprintf(note, sizeof note, "growths %ld\nmost %ld\n", growths, most);
+        syscall(SYS_write, notes, note, (size_t)length);
+        close(notes);
+    }
+}
+
 // Whether this growth is refused.
 static int is_refused(void) {
-    static long growths, at = -1;
+    static long at = -1;
     if (at < 0) {
         const char *said = getenv("REFUSE_AT");
         at = said ? atol(said) : 0;
@@ -89,19 +117,25 @@ static int is_refused(void) {
 }
 
 void *malloc(size_t size) {
-    return is_refused() ? NULL : __libc_malloc(size);
+    return is_refused() ? NULL : counted(__libc_malloc(size), 0);
 }
 
 void *calloc(size_t count, size_t size) {
-    return is_refused() ? NULL : __libc_calloc(count, size);
+    return is_refused() ? NULL : counted(__libc_calloc(count, size), 0);
 }
 
 void *realloc(void *old, size_t size) {
-    return is_refused() ? NULL : __libc_realloc(old, size);
+    size_t before = old ? malloc_usable_size(old) : 0;
+    return is_refused() ? NULL : counted(__libc_realloc(old, size), before);
 }
 
 void *memalign(size_t place, size_t size) {
-    return is_refused() ? NULL : __libc_memalign(place, size);
+    return is_refused() ? NULL : counted(__libc_memalign(place, size), 0);
+}
+
+void free(void *old) {
+    allocated -= old ? (long)malloc_usable_size(old) : 0;
+    __libc_free(old);
 }
 
 void *aligned_alloc(size_t place, size_t size) {
@@ -125,9 +159,9 @@ static int fails_behind(const char *name, long lines) {
     return 0;
 }
 
-// A read of a line at most.
+// A read of a line at most, unless growths alone are counted.
 ssize_t read(int file, void *block, size_t size) {
-    if (file < 0 || file >= FILES) {
+    if (file < 0 || file >= FILES || getenv("COUNT_NOTES")) {
         return syscall(SYS_read, file, block, size);
     }
     keep_name(file);

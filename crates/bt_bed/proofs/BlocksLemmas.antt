@@ -15,7 +15,7 @@ use Rattle.bt_bed.specs.Feature.{Feature}
 use Rattle.bt_bed.specs.Good.{Member}
 use Rattle.bt_bed.specs.GoodBed.{locus_at}
 use Rattle.bt_bed.specs.Locus.{Locus}
-use Rattle.bt_bed.specs.Reading.{Advances, GivesMember, StepAnswers as MembersAnswers, StepsTo, Stepped, line_of_ahead}
+use Rattle.bt_bed.specs.Reading.{Advances, GivesMember, StepAnswers as MembersAnswers, StepsTo, Stepped, TellsOwnFailure, line_of_ahead}
 use Rattle.bt_bed.specs.Sorting.{block_sorting}
 use Rattle.bt_bed.specs.declared.bed.BedRef.{BedRef}
 use Rattle.bt_bed.specs.declared.blocks.Blocks.{Blocks}
@@ -47,9 +47,9 @@ module _ {S : Type 0} (left : S → Option (List ℕ)) (failed end : S → Bool)
   stepped old new (Err fault) answers = answers
 
   -- a step of the reader below
-  pub steps_blocks : {T : Type 0} (old new : Blocks S) (result : Result T Fault) → Stepped left failed end (view_in block_sorting old.cursor) result (view_in block_sorting new.cursor) → StepsBlocks left failed end old result new
-  unfolding view_of
-  steps_blocks old new result there = record { answers = stepped old new result there.answers; sound = there.sound }
+  pub steps_blocks : {T : Type 0} (Fails : S → S → Type 0) (old new : Blocks S) (result : Result T Fault) → Stepped left failed end (view_in block_sorting old.cursor) result (view_in block_sorting new.cursor) → TellsOwnFailure Fails (view_in block_sorting old.cursor).fault result new.cursor.reader → StepsBlocks left failed end Fails old result new
+  unfolding view_of view_with
+  steps_blocks Fails old new result there own = record { answers = stepped old new result there.answers; own_failure = own; sound = there.sound }
 
   answers_with : (old new : Blocks S) (ahead : Option (Member Feature)) (lent : Option BedRef) → option_map feature_lent lent ≡ option_map (λ m. m.item) ahead → BlocksStepsTo left failed old ahead new → Answers left failed end old (Ok lent) new
   answers_with old new None None e ends = ends

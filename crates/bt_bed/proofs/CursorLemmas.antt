@@ -55,6 +55,17 @@ module _ {S Q : Type 0} (left : S → Option (List ℕ)) (failed end : S → Boo
   pub cursor_start : (reader : LineReader S) (neighbours : Neighbours Q) → has_ahead neighbours ≡ false → Going left failed end (view_with sorting None reader neighbours) (view_with sorting None reader neighbours)
   cursor_start reader neighbours none = going_start left failed end (view_with sorting None reader neighbours) (none_in None reader neighbours none) (rests reader neighbours)
 
+  -- where no fault is kept, the reader of lines has none
+  pub none_below : (own : Option Told) (reader : LineReader S) (neighbours : Neighbours Q) → (view_with sorting own reader neighbours).fault ≡ None → line_fault reader ≡ None
+  unfolding view_with
+  none_below None reader neighbours none = none
+  none_below (Some fault) reader neighbours none = cc
+
+  -- a reader of lines without a fault is still without one
+  pub still_going : (old now : LineReader S) (first neighbours : Neighbours Q) → Going left failed end (view_with sorting None old first) (view_with sorting None now neighbours) → line_fault old ≡ None → line_fault now ≡ None
+  unfolding view_with
+  still_going old now first neighbours g none = g.going none
+
   module _ (old : MemberReader S Feature (Option Locus)) (now new : LineReader S) (before after : Neighbours Q) where
     kept_by : (own : Option Told) → KeepsLast before after → Follows left failed end (view_with sorting None now before) (view_with sorting own new after)
     unfolding view_with

@@ -29,3 +29,4 @@ pub mod IntervalLineLemmas
 pub mod MeetingLemmas
 pub mod RecordLineLemmas
 pub mod KnownChromLemmas
+pub mod OwnFailureLemmas

@@ -21,7 +21,7 @@ use Rattle.bt_bed.specs.GoodBed.{bed_format, line_says, locus_at}
 use Rattle.bt_bed.specs.Neighbours.{has_ahead, last_in}
 use Rattle.bt_bed.specs.Order.{Order, IsTotal}
 use Rattle.bt_bed.specs.Locus.{Locus, IsUpTo}
-use Rattle.bt_bed.specs.Reading.{Advances, GivesMember, MemberReader, StepAnswers as MembersAnswers, StepsTo, Stepped, good_coming, line_of_ahead}
+use Rattle.bt_bed.specs.Reading.{Advances, GivesMember, MemberReader, StepAnswers as MembersAnswers, StepsTo, Stepped, TellsOwnFailure, good_coming, line_of_ahead}
 use Rattle.bt_bed.specs.Record.{IsFeature}
 use Rattle.bt_bed.specs.Records.{Answers, GivesRecord, PassesRecord, StepAnswers, StepsRecord, StepsTo as RecordStepsTo, order_in, view_of}
 use Rattle.bt_bed.specs.Sorting.{Sorting, sorting_of}
@@ -131,11 +131,13 @@ module _ {S O : Type 0} {g : Ghosts O} (left : S → Option (List ℕ)) (failed 
   was_view = refl
 
   -- a step of the reader below
-  pub steps_record : {T : Type 0} (result : Result T Fault) → IsTotal (order_in old) → Stepped left failed end (view_in (sorting_at g old.cursor) old.cursor) result (view_in (sorting_at g old.cursor) new.cursor) → StepsRecord left failed end old result new
-  steps_record result total steps =
+  pub steps_record : {T : Type 0} (Fails : S → S → Type 0) (result : Result T Fault) → IsTotal (order_in old) → Stepped left failed end (view_in (sorting_at g old.cursor) old.cursor) result (view_in (sorting_at g old.cursor) new.cursor) → TellsOwnFailure Fails (view_in (sorting_at g old.cursor) old.cursor).fault result new.cursor.reader → StepsRecord left failed end Fails old result new
+  unfolding view_of view_with
+  steps_record Fails result total steps own =
       let there : Stepped left failed end (view_of old) result (view_of new) = rw (same_view, ← was_view) steps in
       record {
         answers = stepped left failed end old new result total there.answers;
+        own_failure = own;
         sound = there.sound;
         order = same_order;
       }

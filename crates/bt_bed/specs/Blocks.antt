@@ -14,7 +14,7 @@ use Rattle.bt_bed.specs.GoodBed.{locus_at}
 use Rattle.bt_bed.specs.GoodBlocks.{IsBlockUpTo}
 use Rattle.bt_bed.specs.Locus.{Locus}
 use Rattle.bt_bed.specs.Reading.{Advances, AnswersFault, EndsMembers, GivesMember, MemberReader}
-use Rattle.bt_bed.specs.Reading.{good_coming, line_of_ahead, room as room_in}
+use Rattle.bt_bed.specs.Reading.{TellsOwnFailure, good_coming, line_of_ahead, room as room_in}
 use Rattle.bt_bed.specs.Record.{IsFeature}
 use Rattle.bt_bed.specs.Sorting.{block_sorting}
 use Rattle.bt_bed.specs.declared.bed.BedRef.{BedRef}
@@ -78,8 +78,10 @@ module _ {S : Type 0} where
 
   -- a call of `peek`, with the record held in place of lent
   pub record StepsBlocks {A : Type 0} (left : S → Option (List ℕ)) (failed end : S → Bool)
+      (Fails : S → S → Type 0)
       (old : Blocks S) (answer : Result A Fault) (new : Blocks S) : Type 0 where
     pub answers : StepAnswers left failed end old answer new
+    pub own_failure : TellsOwnFailure Fails (fault_kept old) answer (below new)
     pub sound : IsSound left end (below old) → IsSound left end (below new)
 
   -- what an answer says
@@ -92,9 +94,11 @@ module _ {S : Type 0} where
       (told fault) (view_of new)
 
   -- one call of `peek`
-  pub record PeeksBlocks (left : S → Option (List ℕ)) (failed end : S → Bool) (old : Blocks S)
+  pub record PeeksBlocks (left : S → Option (List ℕ)) (failed end : S → Bool)
+      (Fails : S → S → Type 0) (old : Blocks S)
       (answer : Result (Option BedRef) Fault) (new : Blocks S) : Type 0 where
     pub answers : Answers left failed end old answer new
+    pub own_failure : TellsOwnFailure Fails (fault_kept old) answer (below new)
     pub sound : IsSound left end (below old) → IsSound left end (below new)
 
   -- one call of `advance`: the record ahead is the last one, and nothing is read

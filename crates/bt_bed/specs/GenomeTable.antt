@@ -16,7 +16,7 @@ use Rattle.bt_lines.specs.declared.line_reader.LineReader.{LineReader}
 use Rattle.bt_bed.specs.Genome.{Entry, entry_of, genome_names, genome_of, new_entry}
 use Rattle.bt_bed.specs.LineKind.{fault_at_line, is_genome_kind}
 use Rattle.bt_bed.specs.Rank.{AreDistinct}
-use Rattle.bt_bed.specs.Reading.{ReadingFails, MemoryRanOut}
+use Rattle.bt_bed.specs.Reading.{ReadingFails, MemoryRanOut, TellsOwnFailure}
 use Rattle.bt_bed.specs.declared.entry.EntryRef.{EntryRef}
 use Rattle.bt_bed.specs.declared.genome.Genome.{Genome}
 
@@ -132,7 +132,9 @@ module _ {S : Type 0} where
       (told fault)
 
   -- what reading a genome file does
-  pub record ReadsGenome (left : S → Option (List ℕ)) (failed end : S → Bool) (old : LineReader S)
+  pub record ReadsGenome (left : S → Option (List ℕ)) (failed end : S → Bool)
+      (Fails : S → S → Type 0) (old : LineReader S)
       (answer : Result Genome Fault) (new : LineReader S) : Type 0 where
     pub answers : GenomeAnswers left failed end old answer new
+    pub own_failure : TellsOwnFailure Fails (fault_kept old) answer new
     pub sound : IsSound left end old → IsSound left end new

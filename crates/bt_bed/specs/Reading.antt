@@ -4,6 +4,7 @@ use Rattle.std.specs.Prelude.{[], ◌∷◌, drop, length, Option, Some, None, o
 use Rattle.std.specs.Prelude.{Err, IsSome, IfSome, ⊤}
 use Rattle.std.specs.Option.{option_to_list}
 use Rattle.bt_lines.specs.Fault.{Told, read_failed, no_memory}
+use Rattle.bt_lines.specs.Filling.{LastReadFails}
 use Rattle.bt_lines.specs.Lines.{TextLine}
 use Rattle.bt_lines.specs.Names.{told}
 use Rattle.bt_lines.specs.Reader.{CutsOff, Hands, IsNear, IsSound, end_told, source_of, input_of}
@@ -67,6 +68,15 @@ module _ {S : Type 0} where
     pub before_end : end_told old ≡ false
     -- the whole lines among the bytes taken in the call are those that were given
     pub cut : IsSound left end old → CutsOff left old new
+
+  -- A failed read is told for the first time only where a read of this call failed, whatever the
+  -- source did before, or where the text is too long.
+  abbrev pub TellsOwnFailure : {T : Type 0} → (S → S → Type 0) → Option Told → Result T Fault
+      → LineReader S → Type 0
+  TellsOwnFailure Fails before (Ok done) new = ⊤
+  TellsOwnFailure Fails before (Err fault) new = before ≡ None → (input : Input) → (line : ℕ)
+      → told fault ≡ read_failed input line
+      → LastReadFails Fails (source_of new) ⊎ (2 ^ 63 ≤ bytes_taken new)
 
   -- memory ran out
   pub record MemoryRanOut (failed : S → Bool) (old new : LineReader S) (fault : Told) : Type 0 where

@@ -14,7 +14,7 @@ use Rattle.bt_bed.specs.GoodBed.{locus_at}
 use Rattle.bt_bed.specs.Order.{Order}
 use Rattle.bt_bed.specs.Locus.{Locus, IsUpTo}
 use Rattle.bt_bed.specs.Reading.{Advances, AnswersFault, EndsMembers, GivesMember, MemberReader}
-use Rattle.bt_bed.specs.Reading.{good_coming, line_of_ahead, room as room_in}
+use Rattle.bt_bed.specs.Reading.{TellsOwnFailure, good_coming, line_of_ahead, room as room_in}
 use Rattle.bt_bed.specs.Record.{IsFeature}
 use Rattle.bt_bed.specs.Sorting.{sorting_of}
 use Rattle.bt_bed.specs.declared.bed.BedRef.{BedRef}
@@ -85,8 +85,10 @@ module _ {S O : Type 0} {g : Ghosts O} where
 
   -- a call of `peek`, with the record held in place of lent
   pub record StepsRecord {A : Type 0} (left : S → Option (List ℕ)) (failed end : S → Bool)
+      (Fails : S → S → Type 0)
       (old : Records S O g) (answer : Result A Fault) (new : Records S O g) : Type 0 where
     pub answers : StepAnswers left failed end old answer new
+    pub own_failure : TellsOwnFailure Fails (fault_kept old) answer (below new)
     pub sound : IsSound left end (below old) → IsSound left end (below new)
     pub order : order_in new ≡ order_in old
 
@@ -100,9 +102,11 @@ module _ {S O : Type 0} {g : Ghosts O} where
       (told fault) (view_of new)
 
   -- one call of `peek`
-  pub record PeeksRecord (left : S → Option (List ℕ)) (failed end : S → Bool) (old : Records S O g)
+  pub record PeeksRecord (left : S → Option (List ℕ)) (failed end : S → Bool)
+      (Fails : S → S → Type 0) (old : Records S O g)
       (answer : Result (Option BedRef) Fault) (new : Records S O g) : Type 0 where
     pub answers : Answers left failed end old answer new
+    pub own_failure : TellsOwnFailure Fails (fault_kept old) answer (below new)
     pub sound : IsSound left end (below old) → IsSound left end (below new)
     pub order : order_in new ≡ order_in old
 

@@ -27,10 +27,11 @@ pub(crate) struct Cursor<S, Q> {
 impl<S: Source, Q: Sorted + Drop> Cursor<S, Q> {
     ghost use Rattle.std.specs.Prelude.{◌≡◌, ℕ, List, None, Some, false, IsSome, option_map};
     ghost use Rattle.bt_lines.specs.Names.{told};
+    ghost use Rattle.bt_lines.specs.Reader.{fault_kept as line_fault};
     ghost use Rattle.bt_bed.specs.Bed.{feature_lent};
     ghost use Rattle.bt_bed.specs.Cursor.{IsPlaced, answer_of, fault_in, view_in, view_with};
     ghost use Rattle.bt_bed.specs.Neighbours.{has_ahead, last_in};
-    ghost use Rattle.bt_bed.specs.Reading.{Advances, Stepped, line_of_ahead};
+    ghost use Rattle.bt_bed.specs.Reading.{Advances, Stepped, TellsOwnFailure, line_of_ahead};
 
     // No record yet.
     pub(crate) fn new(alloc: Global, reader: LineReader<S>, rule: Q) -> Cursor<S, Q>
@@ -73,6 +74,8 @@ impl<S: Source, Q: Sorted + Drop> Cursor<S, Q> {
         ensures step { Stepped S.left S.has_failed S.end_told
             (view_in (Q.sorting self.old.neighbours.rule) self.old) result
             (view_in (Q.sorting self.old.neighbours.rule) self.new) }
+        ensures own_failure { TellsOwnFailure S.read_fails
+            (view_in (Q.sorting self.old.neighbours.rule) self.old).fault result self.new.reader }
         ensures placed { IsPlaced (Q.sorting self.old.neighbours.rule)
             (view_in (Q.sorting self.old.neighbours.rule) self.new) }
     {
@@ -121,6 +124,8 @@ impl<S: Source, Q: Sorted + Drop> Cursor<S, Q> {
         ensures step { Stepped S.left S.has_failed S.end_told
             (view_in (Q.sorting self.old.neighbours.rule) self.old) (answer_of self.new.fault)
             (view_in (Q.sorting self.old.neighbours.rule) self.new) }
+        ensures own_failure { TellsOwnFailure S.read_fails (line_fault self.old.reader)
+            (answer_of self.new.fault) self.new.reader }
         ensures placed { IsPlaced (Q.sorting self.old.neighbours.rule)
             (view_in (Q.sorting self.old.neighbours.rule) self.new) }
     {
@@ -140,6 +145,7 @@ impl<S: Source, Q: Sorted + Drop> Cursor<S, Q> {
         ensures step { Stepped S.left S.has_failed S.end_told
             (view_with (Q.sorting self.old.neighbours.rule) None self.old.reader self.old.neighbours) result
             (view_with (Q.sorting self.old.neighbours.rule) (fault_in result) self.new.reader self.new.neighbours) }
+        ensures own_failure { TellsOwnFailure S.read_fails (line_fault self.old.reader) result self.new.reader }
         ensures placed { IsPlaced (Q.sorting self.old.neighbours.rule)
             (view_with (Q.sorting self.old.neighbours.rule) (fault_in result) self.new.reader self.new.neighbours) }
     {

@@ -117,15 +117,15 @@ some_same a b e = cc
 
 module _ {S : Type 0} (left : S → Option (List ℕ)) (failed end : S → Bool) where
   -- the reader of records was asked, and has none
-  pub none_peeked : (old new : Blocks S) (o : Option BedRef) → PeeksBlocks left failed end old (Ok o) new → is_none o ≡ true → IsOver left failed end (view_of old) (view_of new)
-  none_peeked old new None peek e = blocks_over left failed end old new peek.sound peek.answers
-  none_peeked old new (Some bed) peek e = absurd (false≢true e)
+  pub none_peeked : (Fails : S → S → Type 0) (old new : Blocks S) (o : Option BedRef) → PeeksBlocks left failed end Fails old (Ok o) new → is_none o ≡ true → IsOver left failed end (view_of old) (view_of new)
+  none_peeked Fails old new None peek e = blocks_over left failed end old new peek.sound peek.answers
+  none_peeked Fails old new (Some bed) peek e = absurd (false≢true e)
 
   -- or has one, on this line
-  pub line_peeked : (old new : Blocks S) (o : Option BedRef) → PeeksBlocks left failed end old (Ok o) new → is_none o ≡ false → (line : ℕ) → line_at_next new ≡ Some line
+  pub line_peeked : (Fails : S → S → Type 0) (old new : Blocks S) (o : Option BedRef) → PeeksBlocks left failed end Fails old (Ok o) new → is_none o ≡ false → (line : ℕ) → line_at_next new ≡ Some line
       → (item : Feature) × IsAhead left failed end (view_of old) (record { line = line; item = item }) (view_of new)
-  line_peeked old new None peek e line at = absurd (false≢true (sym e))
-  line_peeked old new (Some bed) peek e line at =
+  line_peeked Fails old new None peek e line at = absurd (false≢true (sym e))
+  line_peeked Fails old new (Some bed) peek e line at =
       let gives = peek.answers in
       let is : Some gives.line ≡ Some line = sym (ap (option_map (λ (m : Member Feature). m.line)) gives.read.ahead) ∙ at in
       let same : gives.line ≡ line = cc in

@@ -19,7 +19,7 @@ struct Case {
     line: Option<&'static [u8]>,
 }
 
-const CASES: [Case; 29] = [
+const CASES: [Case; 31] = [
     Case {
         name: "overlapping and touching features",
         genome: GENOME,
@@ -152,6 +152,20 @@ const CASES: [Case; 29] = [
         first: b"chr1\t18446744073709551616\t5\n",
         output: b"",
         line: Some(b"bedtools merge: a.bed:1: start is not a number\n"),
+    },
+    Case {
+        name: "an end past any number of 64 bits",
+        genome: GENOME,
+        first: b"chr1\t0\t18446744073709551617\n",
+        output: b"",
+        line: Some(b"bedtools merge: a.bed:1: end is not a number\n"),
+    },
+    Case {
+        name: "one column",
+        genome: GENOME,
+        first: b"chr1\n",
+        output: b"",
+        line: Some(b"bedtools merge: a.bed:1: too few columns\n"),
     },
     Case {
         name: "a negative start",

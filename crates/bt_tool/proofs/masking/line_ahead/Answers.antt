@@ -13,11 +13,11 @@ is_other (Some bed) false e = refl
 pub returns-then-is_none : goal.returns-then-is_none
 returns-then-is_none g c =
     let peek = rw c.in_ok-peek.was at c.peek.follows.holds-at-none in
-    none_peeked g.B.Source.left g.B.Source.has_failed g.B.Source.end_told c.args.records.now c.peek.follows.lender-at-none c.in_ok-peek.field-0 peek
+    none_peeked g.B.Source.left g.B.Source.has_failed g.B.Source.end_told g.B.Source.read_fails c.args.records.now c.peek.follows.lender-at-none c.in_ok-peek.field-0 peek
     (is_other c.in_ok-peek.field-0 c.is_none.result (sym c.is_none.ensures) ∙ c.if-is_none.true)
 
 pub returns : goal.returns
 returns g c =
     let peek = rw c.in_ok-peek.was at c.peek.follows.holds-at-none in
-    line_peeked g.B.Source.left g.B.Source.has_failed g.B.Source.end_told c.args.records.now c.peek.follows.lender-at-none c.in_ok-peek.field-0 peek
+    line_peeked g.B.Source.left g.B.Source.has_failed g.B.Source.end_told g.B.Source.read_fails c.args.records.now c.peek.follows.lender-at-none c.in_ok-peek.field-0 peek
     (is_other c.in_ok-peek.field-0 c.is_none.result (sym c.is_none.ensures) ∙ c.if-is_none.false) c.line.result c.line.ensures

@@ -1,15 +1,16 @@
 use Rattle.std.proofs.Common.{◌≡◌, ◌∙◌, ap, refl, sym, subst, true, false, None}
 use Rattle.bt_lines.specs.LentLine.{line_seen}
 use Rattle.bt_lines.specs.Names.{told}
-use Rattle.bt_lines.specs.Reader.{input_of}
+use Rattle.bt_lines.specs.Reader.{fault_kept as line_fault, input_of}
 use Rattle.bt_lines.specs.declared.fault.Input.{Input}
 use Rattle.bt_lines.specs.declared.fault.Place.{Place}
-use Rattle.bt_bed.proofs.CursorLemmas.{known_last, placed_none, placed_taken, below_is, cursor_start, cursor_more, cursor_record, cursor_lost, cursor_unread, cursor_end}
+use Rattle.bt_bed.proofs.CursorLemmas.{known_last, placed_none, placed_taken, below_is, cursor_start, cursor_more, cursor_record, cursor_lost, cursor_unread, cursor_end, still_going}
 use Rattle.bt_bed.proofs.NeighbourLemmas.{said_by_none, said_after_line}
+use Rattle.bt_bed.proofs.OwnFailureLemmas.{lost_is_own, read_is_own}
 use Rattle.bt_bed.proofs.ResultLemmas.{passed_on}
 use Rattle.bt_bed.specs.Cursor.{fault_in, view_with}
 use Rattle.bt_bed.specs.Neighbours.{IsKnownLast, LineLost, LineTaken, last_in}
-use Rattle.bt_bed.specs.Reading.{Stepped}
+use Rattle.bt_bed.specs.Reading.{Stepped, TellsOwnFailure}
 use Rattle.bt_bed.proofs.cursor.Cursor.read_record.Goals as goal
 
 pub loop-line-init : goal.loop-line-init
@@ -120,3 +121,17 @@ pub returns-clause-placed : goal.returns-clause-placed
 returns-clause-placed g c =
     placed_none g.S.Source.left g.S.Source.has_failed g.S.Source.end_told _ _ c.next.follows.lender-at-none c.loop-line.self.neighbours
     (rw c.loop-line.invariant.last (known_last g.S.Source.left g.S.Source.has_failed g.S.Source.end_told _ _ c.args.self.now.reader c.args.self.now.neighbours c.requires.placed)) c.loop-line.invariant.none
+
+pub returns-in_err-line-clause-own_failure : goal.returns-in_err-line-clause-own_failure
+returns-in_err-line-clause-own_failure g c =
+    let gives = rw c.in_err-line.was at c.next.follows.holds-at-none in
+    passed_on (λ r. TellsOwnFailure g.S.Source.read_fails (line_fault c.args.self.now.reader) r c.next.follows.lender-at-none) c.from_residual.result c.in_err-line.field-0.0
+    c.from_residual.ensures.1
+    (read_is_own (Unit {0}) g.S.Source.read_fails (line_fault c.args.self.now.reader) c.next.follows.lender-at-none c.in_err-line.field-0.0 c.loop-line.self.reader
+    (still_going g.S.Source.left g.S.Source.has_failed g.S.Source.end_told _ c.args.self.now.reader c.loop-line.self.reader c.args.self.now.neighbours c.loop-line.self.neighbours c.loop-line.invariant.going) gives.own_failure)
+
+pub returns-in_err-take_line-clause-own_failure : goal.returns-in_err-take_line-clause-own_failure
+returns-in_err-take_line-clause-own_failure g c =
+    passed_on (λ r. TellsOwnFailure g.S.Source.read_fails (line_fault c.args.self.now.reader) r c.next.follows.lender-at-none) c.from_residual-in_err-take_line.result c.in_err-take_line.field-0.0
+    c.from_residual-in_err-take_line.ensures.1
+    (lost_is_own (Unit {0}) g.S.Source.read_fails (line_fault c.args.self.now.reader) c.next.follows.lender-at-none c.in_err-take_line.field-0.0 _ _ _ c.loop-line.self.neighbours c.in_err-take_line.ensures.cause)

@@ -1,5 +1,8 @@
 use Rattle.std.proofs.Common.{◌∙◌, sym}
-use Rattle.bt_bed.proofs.CursorLemmas.{cursor_again, cursor_fault_again}
+use Rattle.bt_lines.specs.Reader.{fault_kept as line_fault}
+use Rattle.bt_bed.proofs.CursorLemmas.{cursor_again, cursor_fault_again, none_below}
+use Rattle.bt_bed.proofs.OwnFailureLemmas.{kept_is_own}
+use Rattle.bt_bed.specs.Cursor.{view_in}
 use Rattle.bt_bed.proofs.cursor.Cursor.step.Goals as goal
 
 pub returns-then-has_record-clause-step : goal.returns-then-has_record-clause-step
@@ -7,3 +10,9 @@ returns-then-has_record-clause-step g c = cursor_again _ _ _ _ _ c.args.self.now
 
 pub returns-in-Some-clause-step : goal.returns-in-Some-clause-step
 returns-in-Some-clause-step g c = rw c.in-Some.is (cursor_fault_again _ _ _ _ c.in-Some.fault c.args.self.now.reader c.args.self.now.neighbours (sym c.has_record.ensures ∙ c.if-has_record.false))
+
+pub returns-in-Some-fault-clause-own_failure : goal.returns-in-Some-fault-clause-own_failure
+returns-in-Some-fault-clause-own_failure g c =
+    let sorting = g.Q.Sorted.sorting c.args.self.now.neighbours.rule in
+    kept_is_own (Unit {0}) g.S.Source.read_fails (view_in sorting c.args.self.now).fault c.read_ahead.new.self.reader c.in-Some-fault.fault (line_fault c.args.self.now.reader) c.read_ahead.new.self.fault c.in-Some-fault.is
+    (none_below g.S.Source.left g.S.Source.has_failed g.S.Source.end_told sorting _ c.args.self.now.reader c.args.self.now.neighbours) c.read_ahead.ensures.own_failure

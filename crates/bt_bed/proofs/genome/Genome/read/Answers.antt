@@ -3,10 +3,12 @@ use Rattle.bt_lines.specs.LentLine.{line_seen}
 use Rattle.bt_lines.specs.Names.{told}
 use Rattle.bt_lines.specs.declared.fault.Place.{Place}
 use Rattle.bt_lines.specs.declared.fault.Input.{Input}
-use Rattle.bt_lines.specs.Reader.{input_of}
+use Rattle.bt_lines.specs.Reader.{fault_kept, input_of}
+use Rattle.bt_bed.proofs.OwnFailureLemmas.{read_is_own, refused_is_own}
 use Rattle.bt_bed.proofs.ResultLemmas.{passed_on}
 use Rattle.bt_bed.proofs.TableLemmas.{going_start, going_line, going_end, going_err, going_fault}
 use Rattle.bt_bed.specs.GenomeTable.{ReadsGenome}
+use Rattle.bt_bed.specs.declared.genome.Genome.{Genome}
 use Rattle.bt_bed.proofs.genome.Genome.read.Goals as goal
 
 pub loop-genome-init : goal.loop-genome-init
@@ -22,20 +24,22 @@ returns-in_err-add_line g c =
     let gives = rw (c.in_ok-line.was, c.in-Some.is) at c.next.follows.holds-at-none in
     let at : ◌≡◌ {A = Place} (record { input = c.input-input.result; line = c.in-Some.line.number }) (record { input = input_of c.args.reader.now; line = c.in-Some.line.number }) =
     ap (λ (i : Input). record { input = i; line = c.in-Some.line.number }) c.loop-genome.invariant.1 in
-    passed_on (λ r. ReadsGenome g.S.Source.left g.S.Source.has_failed g.S.Source.end_told c.args.reader.now r c.next.follows.lender-at-none) c.from_residual-in_err-add_line.result c.in_err-add_line.field-0.0
+    passed_on (λ r. ReadsGenome g.S.Source.left g.S.Source.has_failed g.S.Source.end_told g.S.Source.read_fails c.args.reader.now r c.next.follows.lender-at-none) c.from_residual-in_err-add_line.result c.in_err-add_line.field-0.0
     c.from_residual-in_err-add_line.ensures.1
     (record {
       answers = going_err _ _ _ c.args.reader.now c.loop-genome.reader c.next.follows.lender-at-none (line_seen c.in-Some.line) c.loop-genome.genome _ (told c.in_err-add_line.field-0.0) c.loop-genome.invariant.0 gives.answers gives.sound at c.in_err-add_line.ensures.refused;
+      own_failure = refused_is_own Genome g.S.Source.read_fails (fault_kept c.args.reader.now) c.next.follows.lender-at-none c.in_err-add_line.field-0.0 _ _ _ c.in_err-add_line.ensures.refused;
       sound = λ was. gives.sound (c.loop-genome.invariant.0.passed.sound was);
     })
 
 pub returns-in_err-line : goal.returns-in_err-line
 returns-in_err-line g c =
     let gives = rw c.in_err-line.was at c.next.follows.holds-at-none in
-    passed_on (λ r. ReadsGenome g.S.Source.left g.S.Source.has_failed g.S.Source.end_told c.args.reader.now r c.next.follows.lender-at-none) c.from_residual.result c.in_err-line.field-0.0
+    passed_on (λ r. ReadsGenome g.S.Source.left g.S.Source.has_failed g.S.Source.end_told g.S.Source.read_fails c.args.reader.now r c.next.follows.lender-at-none) c.from_residual.result c.in_err-line.field-0.0
     c.from_residual.ensures.1
     (record {
       answers = going_fault _ _ _ c.args.reader.now c.loop-genome.reader c.next.follows.lender-at-none c.loop-genome.genome (told c.in_err-line.field-0.0) c.loop-genome.invariant.0 gives.answers;
+      own_failure = read_is_own Genome g.S.Source.read_fails (fault_kept c.args.reader.now) c.next.follows.lender-at-none c.in_err-line.field-0.0 c.loop-genome.reader c.loop-genome.invariant.0.going gives.own_failure;
       sound = λ was. gives.sound (c.loop-genome.invariant.0.passed.sound was);
     })
 
@@ -44,5 +48,6 @@ returns g c =
     let gives = rw (c.in_ok-line.was, c.in_default.is) at c.next.follows.holds-at-none in
     record {
       answers = going_end _ _ _ c.args.reader.now c.loop-genome.reader c.next.follows.lender-at-none c.loop-genome.genome c.loop-genome.invariant.0 gives.answers;
+      own_failure = tt;
       sound = λ was. gives.sound (c.loop-genome.invariant.0.passed.sound was);
     }
