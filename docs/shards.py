@@ -48,6 +48,7 @@ COMMANDS = [
 ]
 # Without a genome file, over files in the order of the names' bytes.
 BY_NAME = ["merge -i a.bed", "merge -i a.bed -s -d 9", "intersect -a a.bed -b b.bed -c", "intersect -a a.bed -b b.bed -v",
+           "intersect -b b.bed -a a.bed -v",
            "subtract -a a.bed -b b.bed"]
 SEQUENCES = "maskfasta -fi sequences.fa -bed a.bed"
 ALIGNMENTS = ["bamtobed -i reads.sam", "bamtobed -i reads.sam -split", "bamtobed -i reads.sam -cigar"]
@@ -244,12 +245,17 @@ def faults(top):
     for text, reported in (("chr1\t5\t9\nchr1\t1\t2\n", "Unsorted positions"), ("chr1\t9\t5\n", "Invalid record"),
                            ("chr1\t1\tx\n", "a.bed:1: end is 0"), ("chr1\t1\t2\nchr1\t0\t0\n", "a.bed:2: end is 0"),
                            ("chr1\t1\t2\nchr2\tx\t4\nchr2\t1\t4\n", "Failed to parse"), ("chr1\t1\t5\nchr2\t1\t2\nchr1\t6\t9\n", "not continuous"),
+                           ("\t1\t5\nchr1\t1\t5\n", "a.bed:1: empty chromosome name"),
                            ("chrU\t1\t2\n", "shards/chrU/a.bed:1: chromosome is not in the genome file")):
         Path(folder, "a.bed").write_text(text, encoding="utf-8")
         Path(folder, "hits.bed").unlink(missing_ok=True)
         wrong += has_faults(block("One machine"), folder, [reported]) + Path(folder, "hits.bed").exists()
+    # Two sequences of one name, of which a shard would lose the first; and a command without an input.
+    Path(folder, "sequences.fa").write_text(">one\nACGT\n>two\nAC\n>one x\nTTTTTT\n", encoding="utf-8")
+    wrong += has_faults("./index.sh sequences.fa\n", folder, ["sequences.fa:5: name comes back: one"])
+    wrong += has_faults("./shard.sh chr1 merge -d 5\n", folder, ["no input is named"])
     shutil.rmtree(folder)
-    print(f"faults: 9 inputs at fault, {wrong} wrong")
+    print(f"faults: 12 inputs at fault, {wrong} wrong")
     return wrong
 
 

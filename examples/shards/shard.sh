@@ -3,6 +3,7 @@
 set -euo pipefail
 export NAME=$1
 mkdir -p "shards/$NAME"
+case " ${*:3} " in *\ -[ia]\ * | *\ -fi\ *) ;; *) echo "shard.sh: no input is named" >&2; exit 1 ;; esac
 declare -A file_of
 before=
 for word in "${@:2}"; do
