@@ -48,8 +48,7 @@ COMMANDS = [
 ]
 # Without a genome file, over files in the order of the names' bytes.
 BY_NAME = ["merge -i a.bed", "merge -i a.bed -s -d 9", "intersect -a a.bed -b b.bed -c", "intersect -a a.bed -b b.bed -v",
-           "intersect -b b.bed -a a.bed -v",
-           "subtract -a a.bed -b b.bed"]
+           "intersect -b b.bed -a a.bed -v", "subtract -a a.bed -b b.bed"]
 SEQUENCES = "maskfasta -fi sequences.fa -bed a.bed"
 ALIGNMENTS = ["bamtobed -i reads.sam", "bamtobed -i reads.sam -split", "bamtobed -i reads.sam -cigar"]
 EACH = ["merge -i a.bed -g genome.txt -d 40", "complement -i a.bed -g genome.txt", WORDS, "subtract -a a.bed -b b.bed -g genome.txt",
