@@ -60,11 +60,12 @@ check-docs: $(PROGRAM)
 	docs/completions.py
 
 # Closed standard streams, full disks, directories: what no proof says of real files. Then want of memory, in small address
-# spaces and with each growth refused, and random bytes.
+# spaces and with each growth refused, what is allocated over many records, and random bytes.
 check-program: $(PROGRAM)
 	docs/edges.py
 	docs/scarce.py
 	docs/refusals.py
+	docs/allocations.py
 	docs/hostile.py
 
 # The instructions a record, beside those in bench/instructions.txt.
