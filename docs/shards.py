@@ -196,6 +196,11 @@ def by_parallel(top):
     tried += [(words, kind, tuple(sorted(CHROMOSOMES))) for kind in KINDS for words in BY_NAME]
     tried += [(words, KINDS[0], tuple(CHROMOSOMES)) for words in ALIGNMENTS]
     same = [is_same("parallel", words, kind, recipe(words), folder_of(top, kind, order)) for words, kind, order in tried]
+    # Three alignments in eight parts, of which some are empty; the last line is the longest, and has no line feed.
+    few = folder_of(top, "few alignments")
+    text = "".join(f"r{number}\t0\tchr1\t{number + 1}\t9\t4M\t*\t0\t0\tACGT\t*\n" for number in range(2))
+    Path(few, "reads.sam").write_text(f"{text}{'r' * 300}\t0\tchr1\t9\t9\t4M\t*\t0\t0\tACGT\t*", encoding="utf-8")
+    same.append(is_same("parallel", ALIGNMENTS[0], "few alignments", recipe(ALIGNMENTS[0]), few))
     print(f"parallel: {len(COMMANDS) + len(BY_NAME)} command lines over {len(KINDS)} kinds of files and {len(ALIGNMENTS)} of "
           f"bamtobed, each in shards of 25 chromosomes or of 8 parts; {same.count(False)} of {len(same)} differ")
     return same.count(False)
