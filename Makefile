@@ -99,7 +99,7 @@ install: $(PROGRAM)
 
 dist: $(PROGRAM)
 	rm -rf bin/$(DIST)
-	$(MAKE) install DESTDIR= PREFIX="$(CURDIR)/bin/$(DIST)" NAME="$(NAME)"
+	$(MAKE) install DESTDIR="$(CURDIR)/bin/$(DIST)/" PREFIX=. NAME="$(NAME)"
 	packaging/dist.sh bin/$(DIST) $(DATE)
 
 deb: $(PROGRAM)

@@ -148,15 +148,17 @@ class Alone(OneInput):
 
 @dataclass
 class Nested(TwoInputs):
-    """2,000 exons inside 10,000 records that lie one in another, whatever the size asked for."""
+    """2,000 exons inside so many records that lie one in another, whatever the size asked for."""
+
+    depth: int
 
     def name(self):
-        return "2,000 in 10,000 nested"
+        return f"2,000 in {self.depth:,} nested"
 
     def write(self, folder, count):
         lines = (f"chr1\t{100_000_000 + at * 1000}\t{100_000_500 + at * 1000}\tx\t1\t+\n" for at in range(2000))
         (folder / "records.bed").write_text("".join(lines), encoding="ascii")
-        lines = (f"chr1\t{at * 10}\t{200_000_000 - at * 10}\n" for at in range(10_000))
+        lines = (f"chr1\t{at * 10}\t{200_000_000 - at * 10}\n" for at in range(self.depth))
         (folder / "second.bed").write_text("".join(lines), encoding="ascii")
 
 
@@ -252,6 +254,8 @@ class Workload:
 OURS = ("dunekettle",)
 BOTH = ("dunekettle", "bedtools")
 SHAPES = [[], ["-wa"], ["-wb"], ["-wa", "-wb"], ["-wo"], ["-u"], ["-v"], ["-c"]]
+# Of many held records: what is written of each hit, and what is asked of all of them at once.
+COUNTED_SHAPES = [[], ["-u"], ["-c"]]
 
 WORKLOADS = [
     Workload(["merge"], Touching(3), OURS, ["--merge"], 450, 0.2),
@@ -263,8 +267,18 @@ WORKLOADS = [
     Workload(["complement"], Touching(6), BOTH, None, 600, 0.3),
     *(
         Workload(["intersect", "-sorted", *shape], data, BOTH, None, None, 0.35, not shape)
-        for data in (Pair(READS, EXONS), Pair(EXONS, PEAKS), Nested())
+        for data in (Pair(READS, EXONS), Pair(EXONS, PEAKS))
         for shape in SHAPES
+    ),
+    # What a sweep holds: many records that lie one in another, and many short ones under a long one.
+    *(
+        Workload(["intersect", "-sorted", *shape], Nested(10_000), BOTH, None, None, 0.35, not shape,
+                 counted=OURS if shape in COUNTED_SHAPES else ())
+        for shape in SHAPES
+    ),
+    *(
+        Workload(["intersect", "-sorted", *shape], Nested(1_000), BOTH, None, None, 0.35, False, counted=OURS)
+        for shape in COUNTED_SHAPES
     ),
     # In the order of the names' bytes, beside the same in that of a genome file.
     *(Workload(["merge"], Touching(columns), (), ["--merge"], aim, part) for columns, aim, part in ((3, 450, 0.2), (6, 600, 0.3))),
@@ -276,8 +290,11 @@ WORKLOADS = [
         Workload(["subtract"], data, (), None, None, 0.3, words_of_bedtools=["subtract", "-sorted"])
         for data in (Pair(READS, EXONS), Pair(EXONS, PEAKS))
     ),
-    *(Workload(["intersect", "-sorted", *shape], Under(), BOTH, None, None, 0.35, False) for shape in ([], ["-u"], ["-c"])),
-    Workload(["subtract"], Under(), BOTH, None, None, 0.3, False, ["subtract", "-sorted"]),
+    *(
+        Workload(["intersect", "-sorted", *shape], Under(), BOTH, None, None, 0.35, False, counted=OURS)
+        for shape in COUNTED_SHAPES
+    ),
+    Workload(["subtract"], Under(), BOTH, None, None, 0.3, False, ["subtract", "-sorted"], OURS),
     Workload(["intersect", "-sorted", "-f", "0.5", "-r"], Pair(READS, EXONS), BOTH, None, None, 0.35, False),
     Workload(["intersect", "-sorted", "-f", "0.1", "-s"], Pair(READS, EXONS), BOTH, None, None, 0.35, False),
     *(
