@@ -20,7 +20,7 @@ use Rattle.bt_runs.specs.CountSeen.{seen}
 use Rattle.bt_runs.specs.Covering.{AdvanceAnswers}
 use Rattle.bt_runs.specs.OpenRecords.{OpenAt, none_open_at}
 use Rattle.bt_runs.specs.Walk.{Place, begun, entry_at, is_on, left_before, taking, walk_step}
-use Rattle.bt_runs.specs.declared.depths.Reached.{Reached}
+use Rattle.bt_runs.specs.declared.depths.DepthPlace.{DepthPlace}
 use Rattle.bt_runs.specs.declared.failure.Failure.{Failure}
 use Rattle.bt_runs.specs.declared.failure.Failure.TheVariants.{Write, Memory}
 use Rattle.bt_runs.proofs.Walks.{going_to, step_goes}
@@ -94,12 +94,12 @@ pub bare_some : (zeros : Bool) (entries : List Entry) (rank size : ℕ) (name : 
 bare_some zeros entries rank size name is named t some = rw (is, named, t, lt-ltb 0 size some) refl
 
 -- how many chromosomes have begun doesn't depend on the open records
-pub begun_same : (current : Option Reached) (held : OpenAt) → begun (seen current (none_open_at 0)) ≡ begun (seen current held)
+pub begun_same : (current : Option DepthPlace) (held : OpenAt) → begun (seen current (none_open_at 0)) ≡ begun (seen current held)
 begun_same None held = refl
 begun_same (Some r) held = refl
 
 -- lines before those of a step
-pub advances_more : (next : Option (Place Known)) (xs ys : List DepthInterval) (entries : List Entry) (result : Result (Option Reached) Failure) (held : OpenAt) (old mid new : Output)
+pub advances_more : (next : Option (Place Known)) (xs ys : List DepthInterval) (entries : List Entry) (result : Result (Option DepthPlace) Failure) (held : OpenAt) (old mid new : Output)
     → Grown old (depth_lines xs) mid → AdvanceAnswers (next, ys) entries result held mid new → AdvanceAnswers (next, xs ++ ys) entries result held old new
 advances_more next xs ys entries (Ok current) held old mid new p a = record { puts = adds_lines old mid new xs ys {A = Unit {0}} (Ok tt) p a.puts; reached = a.reached; at = a.at }
 advances_more next xs ys entries (Err Write) held old mid new p a = rw (lines-append xs ys) (fails_then old mid new (depth_lines xs) (depth_lines ys) write_failed p a)

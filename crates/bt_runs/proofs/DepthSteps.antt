@@ -26,7 +26,7 @@ use Rattle.bt_runs.specs.Engine.{AfterEach, AtEnd, Feeds, Finishes}
 use Rattle.bt_runs.specs.Failure.{fault_of}
 use Rattle.bt_runs.specs.Levels.{Begun, levels_of}
 use Rattle.bt_runs.specs.OpenRecords.{OpenAt}
-use Rattle.bt_runs.specs.declared.depths.Reached.{Reached}
+use Rattle.bt_runs.specs.declared.depths.DepthPlace.{DepthPlace}
 use Rattle.bt_runs.specs.declared.failure.Failure.{Failure}
 use Rattle.bt_runs.specs.declared.failure.Failure.TheVariants.{Write, Memory}
 use Rattle.bt_runs.proofs.OneDepth.{across_known, known_at}
@@ -116,13 +116,13 @@ same_seen entries (Some place) (Some other) a b e f h =
 
 module _ (zeros : Bool) (strand : Option Strand) (entries : List Entry) where
   -- nothing is held where nothing was reached
-  held_seen : (past : List Feature) (current : Option Reached) (held : OpenAt) (other : Option (Place Known)) → Keeps zeros strand entries past other → shown_place entries (seen current held) ≡ known_place entries past → held.spans ≡ kept_records strand entries past → held_of (seen current held) ≡ held_of other
+  held_seen : (past : List Feature) (current : Option DepthPlace) (held : OpenAt) (other : Option (Place Known)) → Keeps zeros strand entries past other → shown_place entries (seen current held) ≡ known_place entries past → held.spans ≡ kept_records strand entries past → held_of (seen current held) ≡ held_of other
   held_seen past None held None k p h = refl
   held_seen past None held (Some other) k p h = let e = p ∙ sym k.place in cc
   held_seen past (Some r) held other k p h = h ∙ sym k.held
 
   -- a coverage that keeps what is to be kept has reached the last record's chromosome
-  held_is : (past : List Feature) (current : Option Reached) (held : OpenAt) → AreTaken entries past → AreReached entries (seen current held) → shown_place entries (seen current held) ≡ known_place entries past → begun_of (seen current held) ≡ unfinished zeros strand entries past → held.spans ≡ kept_records strand entries past
+  held_is : (past : List Feature) (current : Option DepthPlace) (held : OpenAt) → AreTaken entries past → AreReached entries (seen current held) → shown_place entries (seen current held) ≡ known_place entries past → begun_of (seen current held) ≡ unfinished zeros strand entries past → held.spans ≡ kept_records strand entries past
       → Reaches zeros strand entries past (seen current held)
   held_is past current held t at p g h =
       let other = reached zeros strand entries past t in
@@ -135,12 +135,12 @@ pushed_some : (past : List Feature) (r : Feature) → past ++ r ∷ [] ≡ [] �
 pushed_some [] r e = cc
 pushed_some (q ∷ qs) r e = cc
 
-open_held : (zeros : Bool) (strand : Option Strand) (entries : List Entry) (past : List Feature) (r : Feature) (next : Option Reached) (held : OpenAt) (o : Option (Place Known)) → seen next held ≡ o → Reaches zeros strand entries (past ++ r ∷ []) o → held.spans ≡ held_of o
+open_held : (zeros : Bool) (strand : Option Strand) (entries : List Entry) (past : List Feature) (r : Feature) (next : Option DepthPlace) (held : OpenAt) (o : Option (Place Known)) → seen next held ≡ o → Reaches zeros strand entries (past ++ r ∷ []) o → held.spans ≡ held_of o
 open_held zeros strand entries past r None held o is h = absurd (pushed_some past r (subst (λ (o : Option (Place Known)). Reaches zeros strand entries (past ++ r ∷ []) o) (sym is) h))
 open_held zeros strand entries past r (Some next) held o is h = ap held_of is
 
 -- a coverage as its fields show it
-abbrev pub shown : List Entry → Bool → Option Strand → Option Reached → OpenAt → Option Told → Covering
+abbrev pub shown : List Entry → Bool → Option Strand → Option DepthPlace → OpenAt → Option Told → Covering
 shown table zeros strand current held fault = record {
   entries = table;
   zeros = zeros;
@@ -151,7 +151,7 @@ shown table zeros strand current held fault = record {
   fault = fault;
 }
 
-module _ (table : List Entry) (zeros : Bool) (strand : Option Strand) (current : Option Reached) (held : OpenAt) (at : AreReached table (seen current held)) (fault : Option Told) (old : Covering) (is : shown table zeros strand current held fault ≡ old) (was_going : kept_fault old ≡ None) (out : Output) where
+module _ (table : List Entry) (zeros : Bool) (strand : Option Strand) (current : Option DepthPlace) (held : OpenAt) (at : AreReached table (seen current held)) (fault : Option Told) (old : Covering) (is : shown table zeros strand current held fault ≡ old) (was_going : kept_fault old ≡ None) (out : Output) where
   -- whatever coverage took the records of the past, it has this table and these rules, and keeps what is to be kept
   record Same (first : Covering) (past : List Feature) : Type 0 where
     same_entries : first.entries ≡ table
@@ -186,7 +186,7 @@ module _ (table : List Entry) (zeros : Bool) (strand : Option Strand) (current :
     none first past stands taken q = absurd q
 
     -- the coverage stands after the record too
-    stands_next : (next : Option Reached) (now_held : OpenAt) → seen next now_held ≡ (walk_step (depth_walk zeros strand) table (seen current held) r).0
+    stands_next : (next : Option DepthPlace) (now_held : OpenAt) → seen next now_held ≡ (walk_step (depth_walk zeros strand) table (seen current held) r).0
         → AfterEach may_take stands_after old r (λ first past. stands_after first (past ++ r ∷ []) (shown table zeros strand next now_held fault))
     stands_next next now_held step first past stands taken =
         let s = same first past stands in
@@ -204,7 +204,7 @@ module _ (table : List Entry) (zeros : Bool) (strand : Option Strand) (current :
           going = ap (λ c. c.fault) is ∙ stands.going;
         }
 
-    pub feeds_ok : {A : Type 0} (done : A) (next : Option Reached) (now_held : OpenAt) (grown : Output) → AdvanceAnswers (walk_step (depth_walk zeros strand) table (seen current held) r) table (Ok next) now_held out grown
+    pub feeds_ok : {A : Type 0} (done : A) (next : Option DepthPlace) (now_held : OpenAt) (grown : Output) → AdvanceAnswers (walk_step (depth_walk zeros strand) table (seen current held) r) table (Ok next) now_held out grown
         → Feeds may_take stands_after kept_fault settled_lines old r out is_quiet (Ok done) (shown table zeros strand next now_held fault) grown
     feeds_ok done next now_held grown p =
         feeds_taken may_take stands_after kept_fault settled_lines old (λ first past stands. stands.going) was_going out step_lines is_quiet r next_lines none done (shown table zeros strand next now_held fault) grown (ap (λ c. c.fault) is) (stands_next next now_held p.reached) p.puts
@@ -234,6 +234,6 @@ module _ (table : List Entry) (zeros : Bool) (strand : Option Strand) (current :
 
 -- where memory ran out, what is said of that holds
 pub ends_for_record : {P : Type 0} (failure : Failure)
-    → OnWant {A = Option Reached} P (Err failure) → fault_of failure ≡ no_memory → P
+    → OnWant {A = Option DepthPlace} P (Err failure) → fault_of failure ≡ no_memory → P
 ends_for_record Write holds e = let kind : WriteFailed ≡ NoMemory = ap (λ t. t.kind) e in absurd (cc)
 ends_for_record Memory holds e = holds

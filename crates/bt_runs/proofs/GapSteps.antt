@@ -11,7 +11,7 @@ use Rattle.bt_bed.specs.IntervalLine.{interval_line, interval_lines}
 use Rattle.bt_bed.proofs.IntervalLineLemmas.{adds_line, adds_lines, lines-append}
 use Rattle.bt_runs.specs.GapStep.{bare_gap, covering, gap_between, gap_walk, last_gap, seen, whole_of}
 use Rattle.bt_runs.specs.Walk.{Place, begun, going, left_before, left_of, taking, walk_step, AreReached, places}
-use Rattle.bt_runs.specs.declared.complement.Reached.{Reached}
+use Rattle.bt_runs.specs.declared.complement.GapPlace.{GapPlace}
 use Rattle.bt_runs.proofs.GenomeRanks.{bares_from, before_from, name_at, size_there}
 use Rattle.bt_runs.proofs.Walks.{step_goes, Held, Steps, ends, rank_entry, reaches, same_place, settles_items, steps, taken_front}
 use Rattle.bt_bed.specs.Locus.{Locus}
@@ -38,7 +38,7 @@ pub before_all : (entries : List Entry) (current : Option (Place ℕ)) (first st
 before_all entries current first stop limit e is = rw e (before_from whole_of entries last_gap current first stop is)
 
 -- one more record: what is settled on the way is written first, and then the record's own gap
-module _ (limit : Bool) (entries : List Entry) (current : Option Reached) (r : Feature) (reached : Reached) (goes : seen (Some reached) ≡ (going (gap_walk limit) entries (seen current) r.chrom).0) where
+module _ (limit : Bool) (entries : List Entry) (current : Option GapPlace) (r : Feature) (reached : GapPlace) (goes : seen (Some reached) ≡ (going (gap_walk limit) entries (seen current) r.chrom).0) where
   abbrev place : Place ℕ
   place = record { rank = reached.rank; known = reached.end }
 
@@ -50,8 +50,8 @@ module _ (limit : Bool) (entries : List Entry) (current : Option Reached) (r : F
       let way = going (gap_walk limit) entries (seen current) r.chrom in
       step_goes (gap_walk limit) entries (seen current) r place way.1 (arrives way goes)
 
-  pub step_reaches : (next : Reached) → next ≡ (covering entries reached r.start r.stop).0 → seen (Some next) ≡ (walk_step (gap_walk limit) entries (seen current) r).0
-  step_reaches next is = ap (λ (next : Reached). seen (Some next)) is ∙ sym (ap (λ s. s.0) step_is)
+  pub step_reaches : (next : GapPlace) → next ≡ (covering entries reached r.start r.stop).0 → seen (Some next) ≡ (walk_step (gap_walk limit) entries (seen current) r).0
+  step_reaches next is = ap (λ (next : GapPlace). seen (Some next)) is ∙ sym (ap (λ s. s.0) step_is)
 
   pub step_writes : {A : Type 0} (old mid new : Output) (result : Result A Fault) → Grown old (interval_lines (going (gap_walk limit) entries (seen current) r.chrom).1) mid → Adds mid (interval_lines (covering entries reached r.start r.stop).1) result new
       → Adds old (interval_lines (walk_step (gap_walk limit) entries (seen current) r).1) result new
@@ -121,10 +121,10 @@ unfolding kept_place
 one_kept entries records = kept_one entries (intervals_of records) (last_of (intervals_of records))
 
 -- a complement as its fields show it
-abbrev pub shown : List Entry → Bool → Option Reached → Option Told → Complementing
+abbrev pub shown : List Entry → Bool → Option GapPlace → Option Told → Complementing
 shown table limit current fault = record { entries = table; limit = limit; kept = shown_place table (seen current); fault = fault }
 
-module _ (table : List Entry) (limit : Bool) (current : Option Reached) (at : AreReached table (seen current)) (fault : Option Told) (old : Complementing) (is : shown table limit current fault ≡ old) (was_going : kept_fault old ≡ None) (out : Output) where
+module _ (table : List Entry) (limit : Bool) (current : Option GapPlace) (at : AreReached table (seen current)) (fault : Option Told) (old : Complementing) (is : shown table limit current fault ≡ old) (was_going : kept_fault old ≡ None) (out : Output) where
   -- whatever complement took the records of the past, it has this table and limit, and its place is the one that is kept
   record Same (first : Complementing) (past : List Feature) : Type 0 where
     same_entries : first.entries ≡ table
@@ -152,7 +152,7 @@ module _ (table : List Entry) (limit : Bool) (current : Option Reached) (at : Ar
     none = quiet_none may_take stands_after kept_fault settled_lines old (λ first past stands. stands.going) was_going out step_lines held_count r next_lines
 
     -- the complement stands after the record too
-    stands_next : (next : Option Reached) → seen next ≡ (walk_step (gap_walk limit) table (seen current) r).0 → AfterEach may_take stands_after old r (λ first past. stands_after first (past ++ r ∷ []) (shown table limit next fault))
+    stands_next : (next : Option GapPlace) → seen next ≡ (walk_step (gap_walk limit) table (seen current) r).0 → AfterEach may_take stands_after old r (λ first past. stands_after first (past ++ r ∷ []) (shown table limit next fault))
     stands_next next step first past stands taken =
         let s = same first past stands in
         let more = rw s.same_entries at taken in
@@ -163,7 +163,7 @@ module _ (table : List Entry) (limit : Bool) (current : Option Reached) (at : Ar
           going = ap (λ c. c.fault) is ∙ stands.going;
         }
 
-    pub feeds_ok : {A : Type 0} (done : A) (next : Option Reached) (grown : Output) → seen next ≡ (walk_step (gap_walk limit) table (seen current) r).0 → Grown out step_lines grown
+    pub feeds_ok : {A : Type 0} (done : A) (next : Option GapPlace) (grown : Output) → seen next ≡ (walk_step (gap_walk limit) table (seen current) r).0 → Grown out step_lines grown
         → Feeds may_take stands_after kept_fault settled_lines old r out is_quiet (Ok done) (shown table limit next fault) grown
     feeds_ok done next grown step p =
         feeds_taken may_take stands_after kept_fault settled_lines old (λ first past stands. stands.going) was_going out step_lines is_quiet r next_lines none done (shown table limit next fault) grown (ap (λ c. c.fault) is) (stands_next next step) p

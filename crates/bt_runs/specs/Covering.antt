@@ -19,7 +19,7 @@ use Rattle.bt_runs.specs.Gaps.{AreTaken, length_in}
 use Rattle.bt_runs.specs.Levels.{Begun}
 use Rattle.bt_runs.specs.OpenRecords.{OpenAt}
 use Rattle.bt_runs.specs.Walk.{AreReached, Place}
-use Rattle.bt_runs.specs.declared.depths.Reached.{Reached}
+use Rattle.bt_runs.specs.declared.depths.DepthPlace.{DepthPlace}
 use Rattle.bt_runs.specs.declared.failure.Failure.{Failure}
 use Rattle.bt_runs.specs.declared.failure.Failure.TheVariants.{Write, Memory}
 
@@ -112,14 +112,14 @@ settled_known zeros size known start =
 
 -- one more record was taken, as the step says
 pub record Advances (step : Option (Place Known) × List DepthInterval) (entries : List Entry)
-    (next : Option Reached) (held : OpenAt) (out grown : Output) : Type 0 where
+    (next : Option DepthPlace) (held : OpenAt) (out grown : Output) : Type 0 where
   pub puts : Grown out (depth_lines step.1) grown
   pub reached : seen next held ≡ step.0
   pub at : AreReached entries (seen next held)
 
 -- or its lines couldn't be written, or the record couldn't be kept
 abbrev pub AdvanceAnswers : Option (Place Known) × List DepthInterval → List Entry
-    → Result (Option Reached) Failure → OpenAt → Output → Output → Type 0
+    → Result (Option DepthPlace) Failure → OpenAt → Output → Output → Type 0
 AdvanceAnswers step entries (Ok next) held out grown = Advances step entries next held out grown
 AdvanceAnswers step entries (Err Write) held out grown =
     FailsToAdd out (depth_lines step.1) write_failed grown

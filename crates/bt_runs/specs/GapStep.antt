@@ -3,10 +3,10 @@ use Rattle.std.specs.Prelude.{ℕ, Bool, cond, List, [], ◌∷◌, max, min, na
 use Rattle.bt_bed.specs.Genome.{Entry}
 use Rattle.bt_bed.specs.Interval.{Interval}
 use Rattle.bt_runs.specs.Walk.{Place, Walk, entry_at}
-use Rattle.bt_runs.specs.declared.complement.Reached.{Reached}
+use Rattle.bt_runs.specs.declared.complement.GapPlace.{GapPlace}
 
 -- the chromosome that was reached, if one was, and the position up to which its gaps are settled
-abbrev pub seen : Option Reached → Option (Place ℕ)
+abbrev pub seen : Option GapPlace → Option (Place ℕ)
 seen None = None
 seen (Some reached) = Some (record { rank = reached.rank; known = reached.end })
 
@@ -16,7 +16,7 @@ gap_between name start stop =
     cond (nat_lt start stop) (record { chrom = name; start = start; stop = stop } ∷ []) []
 
 -- the gap from where a chromosome was reached
-abbrev pub gap_to : List Entry → Reached → ℕ → List Interval
+abbrev pub gap_to : List Entry → GapPlace → ℕ → List Interval
 gap_to entries reached stop = gap_between (entry_at entries reached.rank).name reached.end stop
 
 -- the last gap of a chromosome
@@ -32,7 +32,7 @@ abbrev pub bare_gap : Bool → Entry → List Interval
 bare_gap limit entry = cond limit [] (whole_of entry)
 
 -- what is reached with a record, and the gap that it settles
-abbrev pub covering : List Entry → Reached → ℕ → ℕ → Reached × List Interval
+abbrev pub covering : List Entry → GapPlace → ℕ → ℕ → GapPlace × List Interval
 covering entries reached start stop = (
   record {
     rank = reached.rank;

@@ -23,7 +23,7 @@ use std::marker::Model;
 // How far the gaps of the chromosome of a rank are settled: up to the greatest end of its records, cut
 // at its length.
 #[derive(Clone, Copy, Debug)]
-struct Reached {
+struct GapPlace {
     // A rank of the genome file.
     rank: usize,
     // At most the length of that chromosome.
@@ -40,7 +40,7 @@ pub struct Complement<'g> {
     // Whether chromosomes without a record are left out.
     limit: bool,
     // `None` before the first record on a chromosome of the genome file.
-    current: Option<Reached>,
+    current: Option<GapPlace>,
     // The first failure, which is answered from then on.
     failure: Option<Failure>,
 }
@@ -139,10 +139,10 @@ impl Engine for Complement<'_> {
 fn advance<K: Sink>(
     genome: &Genome,
     limit: bool,
-    current: Option<Reached>,
+    current: Option<GapPlace>,
     bed: &BedRef<'_>,
     out: &mut Out<K>,
-) -> Result<Option<Reached>, Fault>
+) -> Result<Option<GapPlace>, Fault>
     requires { AreReached (entries genome.now) (seen current) }
     ensures adds { Adds out.old (interval_lines (walk_step (gap_walk limit) (entries genome.now)
         (seen current) (feature_lent bed.now)).1) result out.new }
@@ -161,10 +161,10 @@ fn advance<K: Sink>(
 fn go_to<K: Sink>(
     genome: &Genome,
     limit: bool,
-    current: Option<Reached>,
+    current: Option<GapPlace>,
     chrom: &[u8],
     out: &mut Out<K>,
-) -> Result<Option<Reached>, Fault>
+) -> Result<Option<GapPlace>, Fault>
     requires { AreReached (entries genome.now) (seen current) }
     ensures adds { Adds out.old (interval_lines (going (gap_walk limit) (entries genome.now)
         (seen current) chrom.now).1) result out.new }
@@ -179,11 +179,11 @@ fn go_to<K: Sink>(
         return Ok(None);
     };
     put_before(genome, limit, current, rank, out)?;
-    Ok(Some(Reached { rank, end: 0 }))
+    Ok(Some(GapPlace { rank, end: 0 }))
 }
 
 // Whether the current chromosome has this name.
-fn is_on(genome: &Genome, current: Option<Reached>, chrom: &[u8]) -> bool
+fn is_on(genome: &Genome, current: Option<GapPlace>, chrom: &[u8]) -> bool
     requires { AreReached (entries genome.now) (seen current) }
     ensures { result ≡ is_on (entries genome.now) (seen current) chrom.now }
 {
@@ -196,11 +196,11 @@ fn is_on(genome: &Genome, current: Option<Reached>, chrom: &[u8]) -> bool
 // Writes the gap that a record settles, and gives how far the chromosome is settled with it.
 fn cover<K: Sink>(
     genome: &Genome,
-    reached: Reached,
+    reached: GapPlace,
     start: u64,
     stop: u64,
     out: &mut Out<K>,
-) -> Result<Reached, Fault>
+) -> Result<GapPlace, Fault>
     requires { reached.rank < length (entries genome.now) }
     ensures adds { Adds out.old
         (interval_lines (covering (entries genome.now) reached start stop).1) result out.new }
@@ -209,7 +209,7 @@ fn cover<K: Sink>(
 {
     let length = genome.length(reached.rank);
     put_gap(genome, reached, start.min(length), out)?;
-    Ok(Reached {
+    Ok(GapPlace {
         rank: reached.rank,
         end: reached.end.max(stop.min(length)),
     })
@@ -220,7 +220,7 @@ fn cover<K: Sink>(
 fn put_before<K: Sink>(
     genome: &Genome,
     limit: bool,
-    current: Option<Reached>,
+    current: Option<GapPlace>,
     stop: usize,
     out: &mut Out<K>,
 ) -> Result<(), Fault>
@@ -237,7 +237,7 @@ fn put_before<K: Sink>(
 }
 
 // The rank of the chromosome after the current one, but no more than `stop`.
-fn first_rank(current: Option<Reached>, stop: usize) -> usize
+fn first_rank(current: Option<GapPlace>, stop: usize) -> usize
     ensures { result ≡ min (begun (seen current)) stop }
 {
     match current {
@@ -250,7 +250,7 @@ fn first_rank(current: Option<Reached>, stop: usize) -> usize
 // Writes the last gap of the current chromosome.
 fn put_left<K: Sink>(
     genome: &Genome,
-    current: Option<Reached>,
+    current: Option<GapPlace>,
     out: &mut Out<K>,
 ) -> Result<(), Fault>
     requires { AreReached (entries genome.now) (seen current) }
@@ -276,7 +276,7 @@ fn put_whole<K: Sink>(
         (flat_map whole_of (slice_range (entries genome.now) first stop))) result out.new }
 {
     for rank in first..stop {
-        let start = Reached { rank, end: 0 };
+        let start = GapPlace { rank, end: 0 };
         put_gap(genome, start, genome.length(rank), out)?;
     }
     Ok(())
@@ -285,7 +285,7 @@ fn put_whole<K: Sink>(
 // Writes the gap up to `stop`, if it has a base.
 fn put_gap<K: Sink>(
     genome: &Genome,
-    reached: Reached,
+    reached: GapPlace,
     stop: u64,
     out: &mut Out<K>,
 ) -> Result<(), Fault>

@@ -13,7 +13,7 @@ ghost use Rattle.bt_runs.specs.OpenRecords.{none_open_at, open_with};
 ghost use Rattle.bt_runs.specs.Walk.{AreReached, IsPlaced, begun, entry_at, is_on, left_before, left_of, taking, walk_step};
 
 use crate::depth_line::put_depth;
-use crate::depths::{Reached, Stretch, go_on, put_ended};
+use crate::depths::{BegunDepth, DepthPlace, go_on, put_ended};
 use crate::engine::Engine;
 use crate::failure::Failure;
 use crate::open_records::OpenRecords;
@@ -35,7 +35,7 @@ pub struct Coverage<'g> {
     // The strand that is counted; `None` where all records are.
     strand: Option<Strand>,
     // `None` before the first record on a chromosome of the genome file.
-    current: Option<Reached>,
+    current: Option<DepthPlace>,
     // Those of the current chromosome; none are held before it.
     held: OpenRecords,
     // The first failure, which is answered from then on.
@@ -171,11 +171,11 @@ fn advance<K: Sink>(
     genome: &Genome,
     zeros: bool,
     strand: Option<Strand>,
-    current: Option<Reached>,
+    current: Option<DepthPlace>,
     held: &mut OpenRecords,
     bed: &BedRef<'_>,
     out: &mut Out<K>,
-) -> Result<Option<Reached>, Failure>
+) -> Result<Option<DepthPlace>, Failure>
     requires { AreReached (entries genome.now) (seen current held.now) }
     ensures steps { AdvanceAnswers (walk_step (depth_walk zeros strand) (entries genome.now) (seen current held.old) (feature_lent bed.now)) (entries genome.now) result held.new out.old out.new }
     ensures memory { OnWant (HasToKeep (entries genome.now) strand (feature_lent bed.now)) result }
@@ -196,11 +196,11 @@ fn begin<K: Sink>(
     genome: &Genome,
     zeros: bool,
     strand: Option<Strand>,
-    current: Option<Reached>,
+    current: Option<DepthPlace>,
     held: &mut OpenRecords,
     bed: &BedRef<'_>,
     out: &mut Out<K>,
-) -> Result<Option<Reached>, Failure>
+) -> Result<Option<DepthPlace>, Failure>
     requires at { AreReached (entries genome.now) (seen current held.now) }
     requires elsewhere { is_on (entries genome.now) (seen current held.now) bed.now.chrom.now ≡ false }
     ensures steps { AdvanceAnswers (walk_step (depth_walk zeros strand) (entries genome.now) (seen current held.old) (feature_lent bed.now)) (entries genome.now) result held.new out.old out.new }
@@ -213,7 +213,7 @@ fn begin<K: Sink>(
         Err(_) => Err(Failure::Write),
         Ok(()) => {
             held.clear(0);
-            let reached = Reached { rank, begun: None };
+            let reached = DepthPlace { rank, begun: None };
             count(genome, zeros, strand, reached, held, bed, out)
         }
     }
@@ -226,11 +226,11 @@ fn count<K: Sink>(
     genome: &Genome,
     zeros: bool,
     strand: Option<Strand>,
-    reached: Reached,
+    reached: DepthPlace,
     held: &mut OpenRecords,
     bed: &BedRef<'_>,
     out: &mut Out<K>,
-) -> Result<Option<Reached>, Failure>
+) -> Result<Option<DepthPlace>, Failure>
     requires { IsPlaced (entries genome.now) reached.rank }
     ensures steps { AdvanceAnswers (Some (taking (depth_walk zeros strand) (entries genome.now) (place_seen reached held.old) (feature_lent bed.now)).0, (taking (depth_walk zeros strand) (entries genome.now) (place_seen reached held.old) (feature_lent bed.now)).1) (entries genome.now) result held.new out.old out.new }
     ensures memory { OnWant (IsToKeep (entry_at (entries genome.now) reached.rank).length strand
@@ -244,7 +244,7 @@ fn count<K: Sink>(
     };
     let counted = counts(strand, bed.strand);
     match hold(held, counted, length, bed.stop) {
-        Ok(()) => Ok(Some(Reached {
+        Ok(()) => Ok(Some(DepthPlace {
             rank: reached.rank,
             begun,
         })),
@@ -268,11 +268,11 @@ fn settle<K: Sink>(
     chrom: &[u8],
     zeros: bool,
     held: &mut OpenRecords,
-    begun: Option<Stretch>,
+    begun: Option<BegunDepth>,
     length: u64,
     start: u64,
     out: &mut Out<K>,
-) -> Result<Option<Stretch>, Fault>
+) -> Result<Option<BegunDepth>, Fault>
     requires { held.now.at ≤ start }
     ensures adds { Adds out.old (depth_lines (levels_on chrom.now (levels_by zeros length (known_seen begun held.old) start))) result out.new }
     ensures known { IfOk result (λ next. known_seen next held.new ≡ settled_known zeros length (known_seen begun held.old) start) }
@@ -301,7 +301,7 @@ fn put_left<K: Sink>(
     chrom: &[u8],
     zeros: bool,
     held: &mut OpenRecords,
-    begun: Option<Stretch>,
+    begun: Option<BegunDepth>,
     length: u64,
     out: &mut Out<K>,
 ) -> Result<(), Fault>
@@ -316,7 +316,7 @@ fn put_left<K: Sink>(
 fn put_before<K: Sink>(
     genome: &Genome,
     zeros: bool,
-    current: Option<Reached>,
+    current: Option<DepthPlace>,
     held: &mut OpenRecords,
     stop: usize,
     out: &mut Out<K>,
@@ -330,7 +330,7 @@ fn put_before<K: Sink>(
 }
 
 // The rank of the chromosome after the current one, but no more than `stop`.
-fn first_rank(current: Option<Reached>, stop: usize) -> usize
+fn first_rank(current: Option<DepthPlace>, stop: usize) -> usize
     ensures { result ≡ min (begun (seen current (none_open_at 0))) stop }
 {
     match current {
@@ -344,7 +344,7 @@ fn first_rank(current: Option<Reached>, stop: usize) -> usize
 fn put_current<K: Sink>(
     genome: &Genome,
     zeros: bool,
-    current: Option<Reached>,
+    current: Option<DepthPlace>,
     held: &mut OpenRecords,
     out: &mut Out<K>,
 ) -> Result<(), Fault>

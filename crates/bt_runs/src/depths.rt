@@ -14,7 +14,7 @@ use bt_lines::{Fault, Out, Sink};
 
 // An interval of one depth that isn't ended.
 #[derive(Clone, Copy, Debug)]
-pub(crate) struct Stretch {
+pub(crate) struct BegunDepth {
     // Below the position up to which depths are known.
     pub(crate) start: u64,
     // That of each of its positions; 0 only where depth 0 is written.
@@ -24,11 +24,11 @@ pub(crate) struct Stretch {
 // The chromosome of a rank, and the interval that isn't ended at the position up to which its depths
 // are known.
 #[derive(Clone, Copy, Debug)]
-pub(crate) struct Reached {
+pub(crate) struct DepthPlace {
     // A rank of the genome file.
     pub(crate) rank: usize,
     // `None` at position 0, past the chromosome's length, and at depth 0 where that isn't written.
-    pub(crate) begun: Option<Stretch>,
+    pub(crate) begun: Option<BegunDepth>,
 }
 
 // Goes on to a position on a chromosome, with the open records. It writes the intervals that end before
@@ -37,10 +37,10 @@ pub(crate) fn go_on<K: Sink>(
     chrom: &[u8],
     zeros: bool,
     held: &mut OpenRecords,
-    begun: Option<Stretch>,
+    begun: Option<BegunDepth>,
     stop: u64,
     out: &mut Out<K>,
-) -> Result<Option<Stretch>, Fault>
+) -> Result<Option<BegunDepth>, Fault>
     ensures adds { Adds out.old (depth_lines (levels_on chrom.now (ended_after (depth_of zeros held.old.spans) held.old.at (stop - held.old.at) (begun_seen begun)))) result out.new }
     ensures begun { IfOk result (λ next. begun_seen next ≡ begun_after (depth_of zeros held.old.spans) held.old.at (stop - held.old.at) (begun_seen begun)) }
     ensures held { OnOk result (held.old.at ≤ stop → held.new ≡ open_from stop held.old) }
@@ -72,11 +72,11 @@ fn reported(zeros: bool, depth: u64) -> Option<u64>
 // if one does, and gives the one that isn't ended.
 fn put_next<K: Sink>(
     chrom: &[u8],
-    begun: Option<Stretch>,
+    begun: Option<BegunDepth>,
     position: u64,
     depth: Option<u64>,
     out: &mut Out<K>,
-) -> Result<Option<Stretch>, Fault>
+) -> Result<Option<BegunDepth>, Fault>
     ensures adds { Adds out.old (depth_lines (levels_on chrom.now (next_ended position depth (begun_seen begun)))) result out.new }
     ensures begun { IfOk result (λ next. begun_seen next ≡ next_begun position depth (begun_seen begun)) }
 {
@@ -88,7 +88,7 @@ fn put_next<K: Sink>(
 }
 
 // Whether the position with this depth goes on with what has begun.
-fn goes_on(begun: Option<Stretch>, depth: Option<u64>) -> bool
+fn goes_on(begun: Option<BegunDepth>, depth: Option<u64>) -> bool
     ensures { result ≡ goes_on (begun_seen begun) depth }
 {
     match (begun, depth) {
@@ -99,19 +99,19 @@ fn goes_on(begun: Option<Stretch>, depth: Option<u64>) -> bool
 }
 
 // What begins at the position.
-fn begin_at(start: u64, depth: Option<u64>) -> Option<Stretch>
+fn begin_at(start: u64, depth: Option<u64>) -> Option<BegunDepth>
     ensures { begun_seen result ≡ begun_at start depth }
 {
     match depth {
         None => None,
-        Some(depth) => Some(Stretch { start, depth }),
+        Some(depth) => Some(BegunDepth { start, depth }),
     }
 }
 
 // Writes what has begun, ended at a position.
 pub(crate) fn put_ended<K: Sink>(
     chrom: &[u8],
-    begun: Option<Stretch>,
+    begun: Option<BegunDepth>,
     stop: u64,
     out: &mut Out<K>,
 ) -> Result<(), Fault>

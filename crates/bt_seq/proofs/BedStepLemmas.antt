@@ -20,14 +20,14 @@ use Rattle.bt_seq.proofs.KnownLemmas.{MayTake, never, next_can_be, nobody_left, 
 use Rattle.bt_seq.proofs.MaskFrontLemmas.{blocks_front, decided_stays, held_before, masked_before}
 use Rattle.bt_seq.proofs.NextLemmas.{decided_more, own_more}
 use Rattle.bt_seq.proofs.StandLemmas.{StandsBy, last_waits, stands_at, stands_by, wants_bed}
-use Rattle.bt_seq.specs.HeldMasks.{stretch_of}
+use Rattle.bt_seq.specs.HeldMasks.{extent_of}
 use Rattle.bt_seq.specs.Knows.{owner_by}
 use Rattle.bt_seq.specs.MaskInside.{Counts, IsDecided, KnowsLast, KnowsNone, decided_up_to}
 use Rattle.bt_seq.specs.MaskStage.{IsNext, MaskStage, given, held_by, line_given_last, reached, want_of, with_bed_ended, with_decided, with_record}
 use Rattle.bt_seq.specs.MaskStanding.{MaskStandsAt, Waits, kept_line}
 use Rattle.bt_seq.specs.MaskSteps.{EndsRecords, GivesBed, HasSequence, LacksSequence, WritesLine}
 use Rattle.bt_seq.specs.Masked.{decided, held_for, masked_line}
-use Rattle.bt_seq.specs.MaskState.{Masking, TakesBed, Waiting, Writes, decides, decides_by, decides_up_to, has_owner, holding, holds, holds_by, line_bytes, with_owner, with_stretch}
+use Rattle.bt_seq.specs.MaskState.{Masking, TakesBed, Waiting, Writes, decides, decides_by, decides_up_to, has_owner, holding, holds, holds_by, line_bytes, with_owner, with_extent}
 use Rattle.bt_seq.specs.Matching.{Matched, begins_own, is_it, matched_with, owner_of}
 use Rattle.bt_seq.specs.Owners.{block_decides, items_if_last, left_after, own_records}
 use Rattle.bt_seq.specs.Sequences.{SequenceLine, bases_up_to}
@@ -38,11 +38,11 @@ use Rattle.bt_seq.specs.declared.mask_want.MaskWant.TheVariants.{Line, Bed, Noth
 use Rattle.bt_bed.specs.declared.taken.Taken.{Taken}
 use Rattle.bt_bed.specs.declared.taken.Taken.TheVariants.{Yes, No}
 use Rattle.bt_seq.specs.declared.matching.Owner.TheVariants.{Nobody}
-use Rattle.bt_seq.specs.declared.stretch.Stretch.{Stretch}
+use Rattle.bt_seq.specs.declared.extent.Extent.{Extent}
 
-stretch_counts : (last : Option SequenceLine) (w : Bounds) (b : Bool) (start stop : ℕ) → Counts last w → Counts last (with_stretch b w start stop)
-stretch_counts last w true start stop c = record { before = c.before; bases = c.bases }
-stretch_counts last w false start stop c = c
+extent_counts : (last : Option SequenceLine) (w : Bounds) (b : Bool) (start stop : ℕ) → Counts last w → Counts last (with_extent b w start stop)
+extent_counts last w true start stop c = record { before = c.before; bases = c.bases }
+extent_counts last w false start stop c = c
 
 name_by : (m : Matched) (it b : Bool) → (cond it m (cond b (record { name = m.name; last = m.name; own = true }) m)).name ≡ m.name
 name_by m true b = refl
@@ -64,17 +64,17 @@ module _ (line : SequenceLine) (r : Feature) (range : r.stop ≤ max_number) whe
     agrees : (nat_le (bases_up_to line) r.start || false) ≡ false → nat_lt w.before r.stop ≡ (nat_lt r.start (bases_up_to line) && nat_lt line.before r.stop)
     agrees e = grind (arith, nat_tests)
 
-    stretch_by : (h t : Bool) → h ≡ t → (with_stretch h w r.start r.stop).held ≡ w.held ++ map stretch_of (cond t (r ∷ []) [])
-    stretch_by true true e = refl
-    stretch_by true false e = absurd (never (sym e))
-    stretch_by false true e = absurd (never e)
-    stretch_by false false e = sym (append-nil w.held)
+    extent_by : (h t : Bool) → h ≡ t → (with_extent h w r.start r.stop).held ≡ w.held ++ map extent_of (cond t (r ∷ []) [])
+    extent_by true true e = refl
+    extent_by true false e = absurd (never (sym e))
+    extent_by false true e = absurd (never e)
+    extent_by false false e = sym (append-nil w.held)
 
-    stretch_more : (left : Option (List (List ℕ))) → block_decides (bases_up_to line) left (r ∷ []) ≡ false
-        → (with_stretch (holds_by (owner_by left) w r) w r.start r.stop).held ≡ w.held ++ map stretch_of (filter reaches (items_if_last left (r ∷ [])))
-    stretch_more None e = absurd (never (sym e))
-    stretch_more (Some []) e = stretch_by (nat_lt w.before r.stop) (reaches r) (agrees e)
-    stretch_more (Some (n ∷ ns)) e = sym (append-nil w.held)
+    extent_more : (left : Option (List (List ℕ))) → block_decides (bases_up_to line) left (r ∷ []) ≡ false
+        → (with_extent (holds_by (owner_by left) w r) w r.start r.stop).held ≡ w.held ++ map extent_of (filter reaches (items_if_last left (r ∷ [])))
+    extent_more None e = absurd (never (sym e))
+    extent_more (Some []) e = extent_by (nat_lt w.before r.stop) (reaches r) (agrees e)
+    extent_more (Some (n ∷ ns)) e = sym (append-nil w.held)
 
     one_by : (h t : Bool) → h ≡ t → h ≡ true → cond t (r ∷ []) [] ≡ r ∷ []
     one_by h true e d = refl
@@ -126,9 +126,9 @@ module _ (how : MaskHow) (full : Bool) (stage : MaskStage) (line : SequenceLine)
   bytes_are =
       ap (λ (t : List ℕ). t ++ end_bytes line.ending)
       (ap (λ (h : MaskHow). masked_in h old.window.held old.window.before line.text) at_last.how_is
-      ∙ ap (λ (l : List Stretch). masked_in how l old.window.before line.text)
+      ∙ ap (λ (l : List Extent). masked_in how l old.window.before line.text)
       (at_last.holds (inl as_waits.lines))
-      ∙ ap (λ b. masked_in how (map stretch_of (held_for line stage.taken)) b line.text) at_last.counts.before
+      ∙ ap (λ b. masked_in how (map extent_of (held_for line stage.taken)) b line.text) at_last.counts.before
       ∙ text_masked how line stage.taken at_last.in_range as_waits.header)
 
   given_last : line_given_last ((stage.written ++ option_to_list stage.waiting) ++ []) ≡ Some line
@@ -163,7 +163,7 @@ module _ (how : MaskHow) (full : Bool) (stage : MaskStage) (line : SequenceLine)
     taken_stands e =
         let undecided : block_decides (bases_up_to line) left (r ∷ []) ≡ false = sym decides_is ∙ e in
         let owned : is_some left ≡ true = left_some (bases_up_to line) left r undecided in
-        let held : old.window.held ≡ map stretch_of (held_for line stage.taken) =
+        let held : old.window.held ≡ map extent_of (held_for line stage.taken) =
         at_last.holds (inl as_waits.lines) in
         stands_at how full (with_record stage r) (holding old r) (Some line) (last_waits stage line waits) (record {
           how_is = at_last.how_is;
@@ -172,14 +172,14 @@ module _ (how : MaskHow) (full : Bool) (stage : MaskStage) (line : SequenceLine)
           want_is = at_last.want_is;
           bed_ended_is = at_last.bed_ended_is;
           waits = λ l d. let w = stands.waits l d in record { lines = w.lines; bed = w.bed; named = w.named; header = w.header };
-          counts = stretch_counts (Some line) old.window (holds old r) r.start r.stop at_last.counts;
+          counts = extent_counts (Some line) old.window (holds old r) r.start r.stop at_last.counts;
           name_is = name_same old.matched r.chrom ∙ at_last.name_is;
           holds = λ d.
-              ap (λ h. (with_stretch h old.window r.start r.stop).held) holds_is
-              ∙ stretch_more line r range old.window at_last.counts.before left undecided
-              ∙ ap (λ (l : List Stretch). l ++ map stretch_of (filter (reaches line r range) (items_if_last left (r ∷ [])))) held
-              ∙ sym (map-append stretch_of (held_for line stage.taken) (filter (reaches line r range) (items_if_last left (r ∷ []))))
-              ∙ sym (ap (map stretch_of) (held_more line r range stage.taken));
+              ap (λ h. (with_extent h old.window r.start r.stop).held) holds_is
+              ∙ extent_more line r range old.window at_last.counts.before left undecided
+              ∙ ap (λ (l : List Extent). l ++ map extent_of (filter (reaches line r range) (items_if_last left (r ∷ [])))) held
+              ∙ sym (map-append extent_of (held_for line stage.taken) (filter (reaches line r range) (items_if_last left (r ∷ []))))
+              ∙ sym (ap (map extent_of) (held_more line r range stage.taken));
           is_open = λ d. inr (decided_is ∙ e);
           is_decided = λ n. absurd (let apart : Some line ≡ None = sym waits ∙ n in cc);
           owned = owned;
@@ -343,7 +343,7 @@ module _ (how : MaskHow) (full : Bool) (stage : MaskStage) (none : stage.waiting
       holds = λ d. elim d [
         | inl lasts ↦ absurd (never (sym lasts ∙ ended.0))
         | inr placed ↦ stands.holds (inr (blocks_front stage.taken (r ∷ []) placed))
-            ∙ sym (ap (λ (rs : List Feature). map stretch_of rs)
+            ∙ sym (ap (λ (rs : List Feature). map extent_of rs)
             (held_next last stage.taken r decided_now placed))
       ];
       is_open = λ d. absurd (never (sym d ∙ ended.0));

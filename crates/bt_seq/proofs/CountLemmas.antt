@@ -6,9 +6,9 @@ use Rattle.bt_bed.specs.Feature.{Feature}
 use Rattle.bt_lines.specs.Number.{max_number}
 use Rattle.bt_seq.proofs.HeldLemmas.{held_alone}
 use Rattle.bt_seq.proofs.MaskFrontLemmas.{chrom_of}
-use Rattle.bt_seq.proofs.StretchLemmas.{none_masked}
+use Rattle.bt_seq.proofs.ExtentLemmas.{none_masked}
 use Rattle.bt_seq.proofs.TagLemmas.{next_left, own_in, own_tagged, tag_decides, tags}
-use Rattle.bt_seq.specs.HeldMasks.{stretch_of}
+use Rattle.bt_seq.specs.HeldMasks.{extent_of}
 use Rattle.bt_seq.specs.Knows.{owner_by}
 use Rattle.bt_seq.specs.MaskHow.{masked_byte}
 use Rattle.bt_seq.specs.MaskInside.{AreInRange}
@@ -19,7 +19,7 @@ use Rattle.bt_seq.specs.Sequences.{SequenceLine, bases_up_to, is_header}
 use Rattle.bt_seq.specs.MaskedBases.{has_position, masked_in}
 use Rattle.bt_seq.specs.Window.{limit}
 use Rattle.bt_seq.specs.declared.mask_how.MaskHow.{MaskHow}
-use Rattle.bt_seq.specs.declared.stretch.Stretch.{Stretch}
+use Rattle.bt_seq.specs.declared.extent.Extent.{Extent}
 
 all_both : (P : Feature → Type 0) (rs ss : List Feature) → AllByRecursion P rs → AllByRecursion P ss → AllByRecursion P (rs ++ ss)
 all_both P [] ss h k = k
@@ -73,18 +73,18 @@ module _ (first low high : ℕ) (up : first ≤ low) (further : low ≤ high) wh
   abbrev is_new : Feature → Bool
   is_new r = nat_lt r.start high && nat_lt low r.stop
 
-  abbrev goes_past : Stretch → Bool
+  abbrev goes_past : Extent → Bool
   goes_past s = nat_lt (min low limit) s.stop
 
-  held_at : (r : Feature) (old new : List Feature) (q w : Bool) → q ≡ w → filter goes_past (map stretch_of old) ≡ map stretch_of new
-      → cond q (stretch_of r ∷ filter goes_past (map stretch_of old)) (filter goes_past (map stretch_of old)) ≡ map stretch_of (cond w (r ∷ new) new)
-  held_at r old new true true e rest = ap (λ (l : List Stretch). stretch_of r ∷ l) rest
+  held_at : (r : Feature) (old new : List Feature) (q w : Bool) → q ≡ w → filter goes_past (map extent_of old) ≡ map extent_of new
+      → cond q (extent_of r ∷ filter goes_past (map extent_of old)) (filter goes_past (map extent_of old)) ≡ map extent_of (cond w (r ∷ new) new)
+  held_at r old new true true e rest = ap (λ (l : List Extent). extent_of r ∷ l) rest
   held_at r old new true false e rest = absurd (let apart : true ≡ false = e in cc)
   held_at r old new false true e rest = absurd (let apart : false ≡ true = e in cc)
   held_at r old new false false e rest = rest
 
-  held_if : (r : Feature) (old new : List Feature) (p w : Bool) → (p && nat_lt (min low limit) r.stop) ≡ w → filter goes_past (map stretch_of old) ≡ map stretch_of new
-      → filter goes_past (map stretch_of (cond p (r ∷ old) old)) ≡ map stretch_of (cond w (r ∷ new) new)
+  held_if : (r : Feature) (old new : List Feature) (p w : Bool) → (p && nat_lt (min low limit) r.stop) ≡ w → filter goes_past (map extent_of old) ≡ map extent_of new
+      → filter goes_past (map extent_of (cond p (r ∷ old) old)) ≡ map extent_of (cond w (r ∷ new) new)
   held_if r old new true w e rest = held_at r old new (nat_lt (min low limit) r.stop) w e rest
   held_if r old new false true e rest = absurd (let apart : false ≡ true = e in cc)
   held_if r old new false false e rest = rest
@@ -92,46 +92,46 @@ module _ (first low high : ℕ) (up : first ≤ low) (further : low ≤ high) wh
   tests_agree : (start stop : ℕ) → start < low → stop ≤ max_number → ((nat_lt start low && nat_lt first stop) && nat_lt (min low limit) stop) ≡ (nat_lt start high && nat_lt low stop)
   tests_agree start stop before short = grind (arith, nat_tests)
 
-  pub held_on : (own : List Feature) → AllByRecursion (IsLow low) own → filter goes_past (map stretch_of (filter is_old own)) ≡ map stretch_of (filter is_new own)
+  pub held_on : (own : List Feature) → AllByRecursion (IsLow low) own → filter goes_past (map extent_of (filter is_old own)) ≡ map extent_of (filter is_new own)
   held_on [] h = refl
   held_on (r ∷ rs) h = held_if r (filter is_old rs) (filter is_new rs) (is_old r) (is_new r) (tests_agree r.start r.stop h.0.0 h.0.1) (held_on rs h.1)
 
--- stretches in range
-abbrev AreShort : List Stretch → Type 0
-AreShort stretches = AllByRecursion (λ (s : Stretch). s.stop ≤ max_number) stretches
+-- extents in range
+abbrev AreShort : List Extent → Type 0
+AreShort extents = AllByRecursion (λ (s : Extent). s.stop ≤ max_number) extents
 
-short_if : (p : Bool) (r : Feature) (rs : List Feature) → r.stop ≤ max_number → AreShort (map stretch_of rs) → AreShort (map stretch_of (cond p (r ∷ rs) rs))
+short_if : (p : Bool) (r : Feature) (rs : List Feature) → r.stop ≤ max_number → AreShort (map extent_of rs) → AreShort (map extent_of (cond p (r ∷ rs) rs))
 short_if true r rs h k = (h, k)
 short_if false r rs h k = k
 
-held_short : (p : Feature → Bool) (rs : List Feature) → AreInRange rs → AreShort (map stretch_of (filter p rs))
+held_short : (p : Feature → Bool) (rs : List Feature) → AreInRange rs → AreShort (map extent_of (filter p rs))
 held_short p [] h = tt
 held_short p (r ∷ rs) h = short_if (p r) r (filter p rs) h.0 (held_short p rs h.1)
 
-no_stretch : (position : ℕ) (stretches : List Stretch) → limit ≤ position → AreShort stretches → list_any (has_position position) stretches ≡ false
-no_stretch position [] far h = refl
-no_stretch position (s ∷ ss) far h =
+no_extent : (position : ℕ) (extents : List Extent) → limit ≤ position → AreShort extents → list_any (has_position position) extents ≡ false
+no_extent position [] far h = refl
+no_extent position (s ∷ ss) far h =
     let short : s.stop ≤ max_number = h.0 in
     let none : has_position position s ≡ false = grind (arith, nat_tests) in
-    ap (λ b. b || list_any (has_position position) ss) none ∙ no_stretch position ss far h.1
+    ap (λ b. b || list_any (has_position position) ss) none ∙ no_extent position ss far h.1
 
 -- behind all numbers nothing is masked
-unmasked : (how : MaskHow) (stretches : List Stretch) (position : ℕ) (text : List ℕ) → limit ≤ position → AreShort stretches → masked_in how stretches position text ≡ text
-unmasked how stretches position [] far h = refl
-unmasked how stretches position (base ∷ text) far h =
-    ap (λ b. cond b (masked_byte how base) base ∷ masked_in how stretches (suc position) text) (no_stretch position stretches far h)
-    ∙ ap (λ (bs : List ℕ). base ∷ bs) (unmasked how stretches (suc position) text (omega arith) h)
+unmasked : (how : MaskHow) (extents : List Extent) (position : ℕ) (text : List ℕ) → limit ≤ position → AreShort extents → masked_in how extents position text ≡ text
+unmasked how extents position [] far h = refl
+unmasked how extents position (base ∷ text) far h =
+    ap (λ b. cond b (masked_byte how base) base ∷ masked_in how extents (suc position) text) (no_extent position extents far h)
+    ∙ ap (λ (bs : List ℕ). base ∷ bs) (unmasked how extents (suc position) text (omega arith) h)
 
 -- so bases need not be counted any further
-counted_by : (how : MaskHow) (stretches : List Stretch) (before : ℕ) (text : List ℕ) → AreShort stretches → (b : Bool) → nat_le before limit ≡ b → masked_in how stretches (min before limit) text ≡ masked_in how stretches before text
-counted_by how stretches before text h true e =
+counted_by : (how : MaskHow) (extents : List Extent) (before : ℕ) (text : List ℕ) → AreShort extents → (b : Bool) → nat_le before limit ≡ b → masked_in how extents (min before limit) text ≡ masked_in how extents before text
+counted_by how extents before text h true e =
     let low : before ≤ limit = grind (arith, nat_tests) in
     let same : min before limit ≡ before = omega arith in
-    ap (λ p. masked_in how stretches p text) same
-counted_by how stretches before text h false e =
+    ap (λ p. masked_in how extents p text) same
+counted_by how extents before text h false e =
     let far : limit ≤ before = grind (arith, nat_tests) in
     let same : min before limit ≡ limit = omega arith in
-    ap (λ p. masked_in how stretches p text) same ∙ unmasked how stretches limit text (omega arith) h ∙ sym (unmasked how stretches before text far h)
+    ap (λ p. masked_in how extents p text) same ∙ unmasked how extents limit text (omega arith) h ∙ sym (unmasked how extents before text far h)
 
 none_before : (stop : ℕ) (p : Feature → Bool) (rs : List Feature) → stop ≡ 0 → filter (λ (r : Feature). nat_lt r.start stop && p r) rs ≡ []
 none_before stop p [] e = refl
@@ -144,18 +144,18 @@ module _ (how : MaskHow) (line : SequenceLine) (rs : List Feature) (range : AreI
   own_in_range : AreInRange (own_records line.names rs)
   own_in_range = subst AreInRange (sym (own_tagged line.names rs)) (own_range (Some line.names) None rs range)
 
-  text_by : (h : Bool) → is_header line.text ≡ h → (h ≡ true → line.before ≡ 0) → masked_in how (map stretch_of (held_for line rs)) (min line.before limit) line.text ≡ masked_text how rs line
+  text_by : (h : Bool) → is_header line.text ≡ h → (h ≡ true → line.before ≡ 0) → masked_in how (map extent_of (held_for line rs)) (min line.before limit) line.text ≡ masked_text how rs line
   text_by true e header =
       let none : bases_up_to line ≡ 0 = ap (λ b. line.before + cond b 0 (length line.text)) e ∙ ap (λ n. n + 0) (header refl) in
-      ap (λ (l : List Feature). masked_in how (map stretch_of l) (min line.before limit) line.text) (none_before (bases_up_to line) (λ (r : Feature). nat_lt line.before r.stop) (own_records line.names rs) none)
+      ap (λ (l : List Feature). masked_in how (map extent_of l) (min line.before limit) line.text) (none_before (bases_up_to line) (λ (r : Feature). nat_lt line.before r.stop) (own_records line.names rs) none)
       ∙ sym (none_masked how (min line.before limit) line.text)
       ∙ sym (ap (λ b. cond b line.text (masked_from how (own_records line.names rs) line.before line.text)) e)
   text_by false e header =
-      counted_by how (map stretch_of (held_for line rs)) line.before line.text (held_short (λ (r : Feature). nat_lt r.start (bases_up_to line) && nat_lt line.before r.stop) (own_records line.names rs) own_in_range) (nat_le line.before limit) refl
+      counted_by how (map extent_of (held_for line rs)) line.before line.text (held_short (λ (r : Feature). nat_lt r.start (bases_up_to line) && nat_lt line.before r.stop) (own_records line.names rs) own_in_range) (nat_le line.before limit) refl
       ∙ held_alone how line rs e
 
   -- what is held masks the line as all records do
-  pub text_masked : (is_header line.text ≡ true → line.before ≡ 0) → masked_in how (map stretch_of (held_for line rs)) (min line.before limit) line.text ≡ masked_text how rs line
+  pub text_masked : (is_header line.text ≡ true → line.before ≡ 0) → masked_in how (map extent_of (held_for line rs)) (min line.before limit) line.text ≡ masked_text how rs line
   text_masked header = text_by (is_header line.text) refl header
 
 -- whether a record decides a line, by the bases as they are counted

@@ -8,7 +8,7 @@ pub mod SamKindLemmas
 pub mod MaskLemmas
 pub mod OwnerLemmas
 pub mod NameLemmas
-pub mod StretchLemmas
+pub mod ExtentLemmas
 pub mod TextLemmas
 pub mod MaskingLemmas
 pub mod LeftLemmas

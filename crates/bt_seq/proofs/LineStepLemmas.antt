@@ -17,7 +17,7 @@ use Rattle.bt_seq.proofs.MaskFrontLemmas.{decided_by_tags, masked_before}
 use Rattle.bt_seq.proofs.NextLemmas.{decided_more, left_grows, named_more, none_own, undecided_header, undecided_next}
 use Rattle.bt_seq.proofs.StandLemmas.{last_more, last_name_more, last_name_none, stands_at, unnamed_are, unnamed_untaken, wants_line}
 use Rattle.bt_seq.proofs.TagLemmas.{own_tagged, tag_decides, tags_of}
-use Rattle.bt_seq.specs.HeldMasks.{stretch_of}
+use Rattle.bt_seq.specs.HeldMasks.{extent_of}
 use Rattle.bt_seq.specs.MaskInside.{AreInRange, Counts, KnowsNext, decided_up_to, last_name}
 use Rattle.bt_seq.specs.MaskStage.{MaskStage, given, held_by, is_written_ahead, is_written_at_once, line_given_last, reached, reached_by, want_of, with_line}
 use Rattle.bt_seq.specs.MaskStanding.{IsOpen, MaskStandsAt, Waits, kept_line}
@@ -31,15 +31,15 @@ use Rattle.bt_seq.specs.MaskedBases.{masked_in}
 use Rattle.bt_seq.specs.Window.{Bounds, gone_on, limit, no_bases}
 use Rattle.bt_seq.specs.declared.mask_how.MaskHow.{MaskHow}
 use Rattle.bt_seq.specs.declared.mask_want.MaskWant.TheVariants.{Line, Bed, Nothing}
-use Rattle.bt_seq.specs.declared.stretch.Stretch.{Stretch}
+use Rattle.bt_seq.specs.declared.extent.Extent.{Extent}
 
 -- a list that there is
 some_list : (o : Option (List (List ℕ))) → is_some o ≡ true → (l : List (List ℕ)) × (o ≡ Some l)
 some_list None e = absurd (never e)
 some_list (Some l) e = (l, refl)
 
-nothing_masked : (held : List Feature) → held ≡ [] → [] ≡ map stretch_of held
-nothing_masked held e = sym (ap (λ (l : List Feature). map stretch_of l) e)
+nothing_masked : (held : List Feature) → held ≡ [] → [] ≡ map extent_of held
+nothing_masked held e = sym (ap (λ (l : List Feature). map extent_of l) e)
 
 no_own : (p : Feature → Bool) (own : List Feature) → own ≡ [] → filter p own ≡ []
 no_own p own e = ap (filter p) e
@@ -53,29 +53,29 @@ module _ (taken : List Feature) (range : AreInRange taken) (line : TextLine) (pl
   abbrev next : Option SequenceLine → SequenceLine
   next last = line_behind (reached_by last) line
 
-  held_untaken : (last : Option SequenceLine) (w : Bounds) → taken ≡ [] → w.held ≡ map stretch_of (held_by last taken)
-      → filter (λ (s : Stretch). nat_lt w.bases s.stop) w.held ≡ map stretch_of (held_for (next last) taken)
+  held_untaken : (last : Option SequenceLine) (w : Bounds) → taken ≡ [] → w.held ≡ map extent_of (held_by last taken)
+      → filter (λ (s : Extent). nat_lt w.bases s.stop) w.held ≡ map extent_of (held_for (next last) taken)
   held_untaken None w none held =
-      ap (λ (l : List Stretch). filter (λ (s : Stretch). nat_lt w.bases s.stop) l) held
-      ∙ sym (ap (λ (rs : List Feature). map stretch_of (held_for (next None) rs)) none)
+      ap (λ (l : List Extent). filter (λ (s : Extent). nat_lt w.bases s.stop) l) held
+      ∙ sym (ap (λ (rs : List Feature). map extent_of (held_for (next None) rs)) none)
   held_untaken (Some l) w none held =
-      ap (λ (l : List Stretch). filter (λ (s : Stretch). nat_lt w.bases s.stop) l) (held ∙ ap (λ (rs : List Feature). map stretch_of (held_for l rs)) none)
-      ∙ sym (ap (λ (rs : List Feature). map stretch_of (held_for (next (Some l)) rs)) none)
+      ap (λ (l : List Extent). filter (λ (s : Extent). nat_lt w.bases s.stop) l) (held ∙ ap (λ (rs : List Feature). map extent_of (held_for l rs)) none)
+      ∙ sym (ap (λ (rs : List Feature). map extent_of (held_for (next (Some l)) rs)) none)
 
   undecided_tags : (l : SequenceLine) → decided l taken ≡ false → list_any (tag_decides (bases_up_to l)) (tags_of l.names taken) ≡ false
   undecided_tags l e = or_second (is_unnamed l.names) (list_any (tag_decides (bases_up_to l)) (tags_of l.names taken)) (sym (decided_by_tags l taken) ∙ e)
 
-  held_next : (l : SequenceLine) (w : Bounds) → w.bases ≡ min (bases_up_to l) limit → decided l taken ≡ false → w.held ≡ map stretch_of (held_for l taken)
-      → filter (λ (s : Stretch). nat_lt w.bases s.stop) w.held ≡ map stretch_of (held_for (next (Some l)) taken)
+  held_next : (l : SequenceLine) (w : Bounds) → w.bases ≡ min (bases_up_to l) limit → decided l taken ≡ false → w.held ≡ map extent_of (held_for l taken)
+      → filter (λ (s : Extent). nat_lt w.bases s.stop) w.held ≡ map extent_of (held_for (next (Some l)) taken)
   held_next l w bases open_at held =
       let low : AllByRecursion (IsLow (bases_up_to l)) (own_records l.names taken) =
       subst (λ (rs : List Feature). AllByRecursion (IsLow (bases_up_to l)) rs) (sym (own_tagged l.names taken)) (own_low (bases_up_to l) (Some l.names) None taken (undecided_tags l open_at) range) in
-      ap (λ b. filter (λ (s : Stretch). nat_lt b s.stop) w.held) bases
-      ∙ ap (λ (ss : List Stretch). filter (λ (s : Stretch). nat_lt (min (bases_up_to l) limit) s.stop) ss) held
+      ap (λ b. filter (λ (s : Extent). nat_lt b s.stop) w.held) bases
+      ∙ ap (λ (ss : List Extent). filter (λ (s : Extent). nat_lt (min (bases_up_to l) limit) s.stop) ss) held
       ∙ held_on l.before (bases_up_to l) (bases_up_to (next (Some l))) (omega arith) (omega arith) (own_records l.names taken) low
 
-  pub held_further : (last : Option SequenceLine) (w : Bounds) → Counts last w → IsOpen last taken → w.held ≡ map stretch_of (held_by last taken)
-      → filter (λ (s : Stretch). nat_lt w.bases s.stop) w.held ≡ map stretch_of (held_for (next last) taken)
+  pub held_further : (last : Option SequenceLine) (w : Bounds) → Counts last w → IsOpen last taken → w.held ≡ map extent_of (held_by last taken)
+      → filter (λ (s : Extent). nat_lt w.bases s.stop) w.held ≡ map extent_of (held_for (next last) taken)
   held_further None w counts open_at held = held_untaken None w open_at held
   held_further (Some l) w counts open_at held = elim open_at [
     | inl none ↦ held_untaken (Some l) w none held
@@ -183,7 +183,7 @@ module _ (how : MaskHow) (full : Bool) (stage : MaskStage) (old : Masking) (s : 
   open_at : IsOpen (line_given_last (given stage)) stage.taken
   open_at = s.is_open asked.1
 
-  held_is : old.window.held ≡ map stretch_of (held_by (line_given_last (given stage)) stage.taken)
+  held_is : old.window.held ≡ map extent_of (held_by (line_given_last (given stage)) stage.taken)
   held_is = s.holds (inl asked.1)
 
   -- with a line, before it waits or is written
@@ -193,7 +193,7 @@ module _ (how : MaskHow) (full : Bool) (stage : MaskStage) (old : Masking) (s : 
     bed_ended_is : moved.bed_ended ≡ stage.bed_ended
     counts : Counts (Some item) moved.window
     name_is : moved.matched.name ≡ last_name item.names
-    holds : moved.window.held ≡ map stretch_of (held_for item stage.taken)
+    holds : moved.window.held ≡ map extent_of (held_for item stage.taken)
     is_open : IsOpen (Some item) stage.taken
     owned : is_some (left_after item.names stage.taken) ≡ true
     header : is_header item.text ≡ true → item.before ≡ 0
@@ -367,7 +367,7 @@ module _ (how : MaskHow) (full : Bool) (stage : MaskStage) (old : Masking) (s : 
     memory_is =
         ap (λ b. is_header item.text || (not b || nat_lt 0 (length moved.window.held))) m.at_once
         ∙ ap (λ (n : ℕ). is_header item.text || (not (is_written_at_once stage item) || nat_lt 0 n))
-        (ap length m.holds ∙ length-map (held_for item stage.taken) stretch_of)
+        (ap length m.holds ∙ length-map (held_for item stage.taken) extent_of)
 
     settled : IsSettled how stage item
     settled r d = masked_before how item stage.taken r d
@@ -377,8 +377,8 @@ module _ (how : MaskHow) (full : Bool) (stage : MaskStage) (old : Masking) (s : 
     bytes_are =
         ap (λ (t : List ℕ). t ++ end_bytes item.ending)
         (ap (λ (h : MaskHow). masked_in h moved.window.held moved.window.before item.text) m.how_is
-        ∙ ap (λ (l : List Stretch). masked_in how l moved.window.before item.text) m.holds
-        ∙ ap (λ b. masked_in how (map stretch_of (held_for item stage.taken)) b item.text) m.counts.before
+        ∙ ap (λ (l : List Extent). masked_in how l moved.window.before item.text) m.holds
+        ∙ ap (λ b. masked_in how (map extent_of (held_for item stage.taken)) b item.text) m.counts.before
         ∙ text_masked how item stage.taken s.inside.in_range m.header)
 
     waiting_stands : stage.bed_ended ≡ false → is_unnamed item.names ≡ false

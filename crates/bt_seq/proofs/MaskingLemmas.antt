@@ -9,7 +9,7 @@ use Rattle.bt_lines.proofs.PuttingLemmas.{grown_none}
 use Rattle.bt_lines.specs.Lines.{end_bytes}
 use Rattle.bt_lines.specs.Putting.{Adds, FailsToAdd, Grown}
 use Rattle.bt_lines.specs.declared.fault.Fault.{Fault}
-use Rattle.bt_seq.proofs.StretchLemmas.{none_masked}
+use Rattle.bt_seq.proofs.ExtentLemmas.{none_masked}
 use Rattle.bt_seq.specs.MaskState.{Keeps, Masking, PassesLine, TakesLine, Waiting, Writes, WritesGiven, decides, decides_by, decides_up_to, is_stray, line_bytes, may_grow, moved_to, with_owner, writes_at_once}
 use Rattle.bt_seq.specs.Matching.{Matched, matched_with, named, owner_of}
 use Rattle.bt_seq.specs.Sequences.{is_header, name_in}
@@ -17,7 +17,7 @@ use Rattle.bt_seq.specs.Window.{gone_on, no_bases}
 use Rattle.bt_seq.specs.MaskedBases.{masked_in}
 use Rattle.bt_seq.specs.declared.mask_want.MaskWant.TheVariants.{Line, Bed, Nothing}
 use Rattle.bt_seq.specs.declared.matching.Owner.{Owner}
-use Rattle.bt_seq.specs.declared.stretch.Stretch.{Stretch}
+use Rattle.bt_seq.specs.declared.extent.Extent.{Extent}
 
 -- what is put of a line into which nothing reaches
 plain_bytes : (old : Masking) (line : Waiting) → old.window.held ≡ []
@@ -25,9 +25,9 @@ plain_bytes : (old : Masking) (line : Waiting) → old.window.held ≡ []
 plain_bytes old line none =
     ap (λ (t : List ℕ). t ++ end_bytes line.ending)
     (none_masked old.how old.window.before line.text
-    ∙ ap (λ (ss : List Stretch). masked_in old.how ss old.window.before line.text) (sym none))
+    ∙ ap (λ (ss : List Extent). masked_in old.how ss old.window.before line.text) (sym none))
 
-pub none_held : (held : List Stretch) → nat_eq (length held) 0 ≡ true → held ≡ []
+pub none_held : (held : List Extent) → nat_eq (length held) 0 ≡ true → held ≡ []
 none_held [] e = refl
 none_held (s ∷ ss) e =
     let some : nat_eq (length (s ∷ ss)) 0 ≡ false = grind (arith, nat_tests) in
@@ -151,8 +151,8 @@ decided_now false true h within e is = refl
 decided_now false false false within e is = is
 decided_now false false true within e is = absurd (let apart : true ≡ false = e in cc)
 
-none_held_on : (held : List Stretch) (place : ℕ) → held ≡ [] → filter (λ (s : Stretch). nat_lt place s.stop) held ≡ []
-none_held_on held place none = ap (λ ss. filter (λ (s : Stretch). nat_lt place s.stop) ss) none
+none_held_on : (held : List Extent) (place : ℕ) → held ≡ [] → filter (λ (s : Extent). nat_lt place s.stop) held ≡ []
+none_held_on held place none = ap (λ ss. filter (λ (s : Extent). nat_lt place s.stop) ss) none
 
 -- a line that stays as it was given was written
 pub passes_line : {A : Type 0} (done : A) (old new : Masking) (number : ℕ) (line : Waiting) (out grown : Output)

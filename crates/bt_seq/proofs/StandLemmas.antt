@@ -5,7 +5,7 @@ use Rattle.std.specs.Prelude.{is_none, is_some, option_map, option_to_list}
 use Rattle.bt_bed.specs.Feature.{Feature}
 use Rattle.bt_bed.specs.GoodBlocks.{AreInBlocks}
 use Rattle.bt_seq.proofs.KnownLemmas.{never}
-use Rattle.bt_seq.specs.HeldMasks.{stretch_of}
+use Rattle.bt_seq.specs.HeldMasks.{extent_of}
 use Rattle.bt_seq.specs.MaskInside.{AreInRange, Counts, IsDecided, KnowsNext, decided_up_to, last_name}
 use Rattle.bt_seq.specs.MaskStage.{MaskStage, given, held_by, line_given_last, reached_by, want_at, want_of}
 use Rattle.bt_seq.specs.MaskStanding.{IsOpen, MaskStandsAt, Waits, kept_line}
@@ -28,7 +28,7 @@ pub record StandsBy (how : MaskHow) (full : Bool) (stage : MaskStage) (last : Op
   pub counts : Counts last m.window
   pub name_is : m.matched.name ≡ last_name (reached_by last).names
   pub holds : (stage.lines_ended ≡ false) ⊎ AreInBlocks stage.taken
-      → m.window.held ≡ map stretch_of (held_by last stage.taken)
+      → m.window.held ≡ map extent_of (held_by last stage.taken)
   pub is_open : stage.lines_ended ≡ false → IsOpen last stage.taken
   pub is_decided : stage.waiting ≡ None → stage.bed_ended ≡ false
       → IsDecided last (stage.taken ++ option_to_list stage.ahead)

@@ -4,7 +4,7 @@ use Rattle.std.specs.Prelude.{None, is_some, option_map}
 use Rattle.std.specs.List.{AllByRecursion}
 use Rattle.bt_bed.specs.Feature.{Feature}
 use Rattle.bt_bed.specs.GoodBlocks.{AreInBlocks}
-use Rattle.bt_seq.specs.HeldMasks.{stretch_of}
+use Rattle.bt_seq.specs.HeldMasks.{extent_of}
 use Rattle.bt_seq.specs.MaskInside.{KnowsStage}
 use Rattle.bt_seq.specs.MaskStage.{MaskStage, given, held_by, line_given_last, reached, want_at}
 use Rattle.bt_seq.specs.Masked.{decided, is_unnamed}
@@ -43,7 +43,7 @@ pub record MaskStandsAt (how : MaskHow) (full : Bool) (stage : MaskStage)
   -- what is held is what the line given last needs: behind the last line too,
   -- where the records of each block rise
   pub holds : (stage.lines_ended ≡ false) ⊎ AreInBlocks stage.taken
-      → m.window.held ≡ map stretch_of (held_by (line_given_last (given stage)) stage.taken)
+      → m.window.held ≡ map extent_of (held_by (line_given_last (given stage)) stage.taken)
   -- no record was taken but those that left the last line undecided
   pub is_open : stage.lines_ended ≡ false → IsOpen (line_given_last (given stage)) stage.taken
   -- each block taken belongs to a sequence

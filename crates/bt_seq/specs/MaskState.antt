@@ -171,13 +171,13 @@ abbrev pub holds : Masking → Feature → Bool
 holds m r = holds_by (owner_of m.matched r.chrom) m.window r
 
 -- with the record held, where it has to be
-abbrev pub with_stretch : Bool → Bounds → ℕ → ℕ → Bounds
-with_stretch to_hold w start stop =
+abbrev pub with_extent : Bool → Bounds → ℕ → ℕ → Bounds
+with_extent to_hold w start stop =
     if to_hold then record w { held = w.held ++ record { start = start; stop = stop } ∷ [] } else w
 
 abbrev pub holding : Masking → Feature → Masking
 holding m r =
-    record (with_owner m r.chrom) { window = with_stretch (holds m r) m.window r.start r.stop }
+    record (with_owner m r.chrom) { window = with_extent (holds m r) m.window r.start r.stop }
 
 -- taking a record while a line waits
 abbrev pub TakesBed : Masking → Waiting → Feature → Output → Result Taken Fault → Masking → Output

@@ -1,7 +1,8 @@
 -- Which records mask which sequence. A block is a maximal run of records of one chromosome. It
 -- belongs to the first sequence of its name behind that of the block before it; it belongs to none
 -- where there is no such sequence, or where the block before it belongs to none.
-use Rattle.std.specs.Prelude.{◌++◌, ◌≡◌, ℕ, ◌<◌, All, length, Bool, true, false, ⊤, List, [], ◌∷◌}
+use Rattle.std.specs.Prelude.{◌++◌, ◌≡◌, ◌≢◌, ◌↔◌, ℕ, ◌<◌, All, length, Bool, true, false, ⊤, List}
+use Rattle.std.specs.Prelude.{[], ◌∷◌}
 use Rattle.std.specs.Prelude.{Option, Some, None, bytes_eq, flat_map, nat_le, if◌then◌else◌}
 use Rattle.std.specs.List.{AllByRecursion, list_any}
 use Rattle.bt_bed.specs.Feature.{Feature}
@@ -99,6 +100,22 @@ blocks_are_maximal_runs = (records : List Feature)
     → (items_of (blocks_by (λ r. r.chrom) records) ≡ records)
     × AreApart (blocks_by (λ (r : Feature). r.chrom) records)
     × AllByRecursion AreOfChrom (blocks_by (λ r. r.chrom) records)
+
+-- names, divided at the first of this name: those before it are others
+abbrev pub DividesAt : List ℕ → List (List ℕ) → List (List ℕ) → Type 0
+DividesAt name names behind =
+    (before : List (List ℕ)) × (names ≡ before ++ name ∷ behind)
+    × AllByRecursion (λ other. other ≢ name) before
+
+-- a block belongs to the first sequence of its name, among those behind that of the block before it
+abbrev pub owners_are_first : Type 0
+owners_are_first = (name : List ℕ) (names behind : List (List ℕ))
+    → (names_behind name names ≡ Some behind) ↔ DividesAt name names behind
+
+-- and to none where none of these has its name
+abbrev pub unowned_find_no_name : Type 0
+unowned_find_no_name = (name : List ℕ) (names : List (List ℕ))
+    → (names_behind name names ≡ None) ↔ AllByRecursion (λ other. other ≢ name) names
 
 -- the names behind the sequence of the last block: these, where there is none
 abbrev pub left_at_last : {A : Type 0} → Option (List (List ℕ)) → List (Owned A)

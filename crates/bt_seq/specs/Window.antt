@@ -1,17 +1,17 @@
 -- The bases of the line given last, and the parts of records that reach into them.
 use Rattle.std.specs.Prelude.{ℕ, ◌+◌, List, [], filter, min, nat_lt}
-use Rattle.bt_seq.specs.declared.stretch.Stretch.{Stretch}
+use Rattle.bt_seq.specs.declared.extent.Extent.{Extent}
 
 -- how far bases are counted: above every number of a BED file
 abbrev pub limit : ℕ
 limit = 1000000000000
 
 -- how many bases of the sequence stand before the line and up to its end, as far as they are
--- counted, and the stretches that are held
+-- counted, and the extents that are held
 pub record Bounds : Type 0 where
   pub before : ℕ
   pub bases : ℕ
-  pub held : List Stretch
+  pub held : List Extent
 
 -- before the first base
 abbrev pub no_bases : Bounds

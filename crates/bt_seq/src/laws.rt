@@ -12,7 +12,7 @@ ghost use Rattle.bt_seq.specs.MaskFronts.{decided_lines_stay, faultless_are_mask
 ghost use Rattle.bt_seq.specs.MaskStanding.{taken_are_first};
 ghost use Rattle.bt_seq.specs.MaskSteps.{quiet_records_are_taken};
 ghost use Rattle.bt_seq.specs.Masked.{mask_texts};
-ghost use Rattle.bt_seq.specs.Owners.{blocks_are_maximal_runs, next_goes_on_or_begins, owners_stay, owners_were};
+ghost use Rattle.bt_seq.specs.Owners.{blocks_are_maximal_runs, next_goes_on_or_begins, owners_are_first, owners_stay, owners_were, unowned_find_no_name};
 ghost use Rattle.bt_seq.specs.SamKind.{sam_kinds_are_of_lines, wrong_have_sam_kinds};
 
 use crate::mask_how::MaskHow;
@@ -106,6 +106,13 @@ pub fn quiet_records_are_taken()
 pub fn owners_agree_among_more_names()
     ensures stay { owners_stay }
     ensures were { owners_were }
+{}
+
+/// A block belongs to the first sequence of its name behind that of the block before it, and to none where
+/// none behind that one has its name.
+pub fn owners_are_the_first_of_their_name()
+    ensures first { owners_are_first }
+    ensures none { unowned_find_no_name }
 {}
 
 /// What is known line by line and record by record gives the sequence of a block.

@@ -29,6 +29,7 @@ mod block_iter;
 mod cigar;
 #[cfg(test)]
 mod example;
+mod extent;
 mod fields;
 mod first_block;
 mod header_name;
@@ -44,7 +45,6 @@ mod put_text;
 mod sam;
 mod sam_text;
 mod splitting;
-mod stretch;
 mod tabs;
 mod window;
 

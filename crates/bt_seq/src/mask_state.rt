@@ -5,7 +5,7 @@ ghost use Rattle.bt_lines.specs.Fault.{no_memory};
 ghost use Rattle.bt_lines.specs.Names.{told};
 ghost use Rattle.bt_bed.specs.Bed.{feature_lent};
 ghost use Rattle.bt_bed.specs.LineKind.{fault_at_line};
-ghost use Rattle.bt_seq.specs.MaskState.{ChecksBed, Keeps, Moves, PassesLine, TakesBed, TakesLine, Waiting, Writes, WritesGiven, decides_by, decides_up_to, stays_as_given, with_stretch, writes_at_once};
+ghost use Rattle.bt_seq.specs.MaskState.{ChecksBed, Keeps, Moves, PassesLine, TakesBed, TakesLine, Waiting, Writes, WritesGiven, decides_by, decides_up_to, stays_as_given, with_extent, writes_at_once};
 ghost use Rattle.bt_seq.specs.Sequences.{is_header};
 ghost use Rattle.bt_seq.specs.Window.{no_bases};
 
@@ -99,7 +99,7 @@ impl MaskState {
         self.want
     }
 
-    // How many stretches are held.
+    // How many extents are held.
     pub(crate) fn kept_len(&self) -> usize
         ensures { result ≡ length self.now.window.held }
     {
@@ -276,7 +276,7 @@ impl MaskState {
     // Holds the part of a record that reaches past the start of the line.
     fn hold(&mut self, start: u64, stop: u64) -> Result<(), Fault>
         ensures held { OnOk result (self.new ≡ record self.old {
-          window = with_stretch (nat_lt self.old.window.before stop) self.old.window start stop;
+          window = with_extent (nat_lt self.old.window.before stop) self.old.window start stop;
         }) }
         ensures lost { IfErr result (λ fault. (told fault ≡ no_memory) × (self.new.want ≡ MaskWant.Nothing)
             × (nat_lt self.old.window.before stop ≡ true)) }

@@ -4,15 +4,15 @@ ghost use Rattle.std.specs.Prelude.{◌≡◌, ◌+◌, ◌≤◌, [], ◌∷◌
 ghost use Rattle.bt_seq.specs.MaskedBases.{masked_in};
 ghost use Rattle.bt_seq.specs.Window.{gone_on, no_bases, limit};
 
+use crate::extent::{Extent, mask_extents};
 use crate::mask_how::MaskHow;
-use crate::stretch::{Stretch, mask_stretches};
 use std::alloc::{AllocError, Global};
 use std::marker::Model;
 
 // How far the bases of a sequence are counted. No record reaches further.
 pub(crate) const LIMIT: u64 = 1_000_000_000_000;
 
-// How many bases of its sequence stand before the line, and up to its end, and the stretches of the
+// How many bases of its sequence stand before the line, and up to its end, and the extents of the
 // records that start before its end and reach past its start, in file order.
 #[derive(Drop)]
 pub(crate) struct Window {
@@ -21,7 +21,7 @@ pub(crate) struct Window {
     // At least `before`, at most the limit.
     bases: u64,
     // In file order, each reaching into the line.
-    held: Vec<Stretch>,
+    held: Vec<Extent>,
 }
 
 impl Model for Window {
@@ -91,11 +91,11 @@ impl Window {
         if stop <= self.before {
             return Ok(());
         }
-        self.held.push(Stretch { start, stop })?;
+        self.held.push(Extent { start, stop })?;
         Ok(())
     }
 
-    // How many stretches are held.
+    // How many extents are held.
     pub(crate) fn len(&self) -> usize
         ensures { result ≡ length self.now.held }
     {
@@ -113,7 +113,7 @@ impl Window {
     pub(crate) fn mask(&self, bases: &mut [u8], how: MaskHow)
         ensures { bases.new ≡ masked_in how self.now.held self.now.before bases.old }
     {
-        mask_stretches(bases, self.before, self.held.as_slice(), how);
+        mask_extents(bases, self.before, self.held.as_slice(), how);
     }
 }
 
@@ -130,9 +130,9 @@ fn up_to_limit(bases: u64, count: usize) -> u64
     }
 }
 
-// Drops the stretches that end at or before the place.
-fn drop_passed(held: &mut Vec<Stretch>, place: u64)
+// Drops the extents that end at or before the place.
+fn drop_passed(held: &mut Vec<Extent>, place: u64)
     ensures { held.new.items ≡ filter (λ s. nat_lt place s.stop) held.old.items }
 {
-    held.retain(|stretch| place < stretch.stop);
+    held.retain(|extent| place < extent.stop);
 }

@@ -6,7 +6,7 @@ use Rattle.bt_runs.specs.Covering.{AdvanceAnswers}
 use Rattle.bt_runs.specs.DepthStep.{Known, bare_of, depth_walk, depths_left, unknown}
 use Rattle.bt_runs.specs.OpenRecords.{OpenAt}
 use Rattle.bt_runs.specs.Walk.{Place, left_before, taking}
-use Rattle.bt_runs.specs.declared.depths.Reached.{Reached}
+use Rattle.bt_runs.specs.declared.depths.DepthPlace.{DepthPlace}
 use Rattle.bt_runs.proofs.DepthLines.{advances_more, begins_cut, count_begins}
 use Rattle.bt_runs.proofs.GenomeRanks.{found_at, size_ranked}
 use Rattle.bt_runs.proofs.coverage.begin.Goals as goal
@@ -34,7 +34,7 @@ returns-in-Ok-clause-steps g c =
     let place = seen c.args.current c.args.held.now in
     let r = feature_lent c.args.bed.now in
     let start : Place Known = record { rank = c.in-Some.rank; known = unknown } in
-    let reached : Reached = record { rank = c.in-Some.rank; begun = None } in
+    let reached : DepthPlace = record { rank = c.in-Some.rank; begun = None } in
     let step = taking (depth_walk c.args.zeros c.args.strand) table start r in
     rw (count_begins c.args.zeros c.args.strand table place r c.in-Some.rank c.requires.elsewhere c.in-Some.ensures)
     (advances_more _ (left_before (depths_left c.args.zeros) (bare_of c.args.zeros) table place c.in-Some.rank) step.1 table c.count.result c.count.new.held c.args.out.now c.put_before.new.out c.count.new.out c.in-Ok.ensures (subst (λ (l : OpenAt). AdvanceAnswers (Some (taking (depth_walk c.args.zeros c.args.strand) table (place_seen reached l) r).0, (taking (depth_walk c.args.zeros c.args.strand) table (place_seen reached l) r).1) table c.count.result c.count.new.held c.put_before.new.out c.count.new.out) c.clear.ensures c.count.ensures.steps))

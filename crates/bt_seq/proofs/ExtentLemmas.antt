@@ -1,4 +1,4 @@
--- Lemmas on masked stretches.
+-- Lemmas on masked extents.
 use Rattle.std.proofs.Common.{◌≡◌, ℕ, ◌+◌, ◌-◌, ◌<◌, ◌≤◌, zero, suc, min, Bool, true, false, cond, ◌||◌, map, length, List, [], ◌∷◌, ◌++◌, take, drop, get_or, refl, ap, sym, ◌∙◌, arith}
 use Rattle.std.specs.List.{list_any}
 use Rattle.std.proofs.lemmas.Bool.Decides.{nat_tests}
@@ -7,9 +7,9 @@ use Rattle.bt_seq.specs.MaskHow.{is_upper_case, masked_byte}
 use Rattle.bt_seq.specs.MaskedBases.{has_position, masked_in}
 use Rattle.bt_seq.specs.declared.mask_how.MaskHow.{MaskHow}
 use Rattle.bt_seq.specs.declared.mask_how.MaskHow.TheVariants.{Soft, Hard}
-use Rattle.bt_seq.specs.declared.stretch.Stretch.{Stretch}
+use Rattle.bt_seq.specs.declared.extent.Extent.{Extent}
 
--- without a stretch nothing changes
+-- without an extent nothing changes
 pub none_masked : (how : MaskHow) (position : ℕ) (bases : List ℕ) → bases ≡ masked_in how [] position bases
 none_masked how position [] = refl
 none_masked how position (base ∷ bases) = ap (λ bs. base ∷ bs) (none_masked how (suc position) bases)
@@ -33,27 +33,27 @@ or_none : (b : Bool) → (b || false) ≡ b
 or_none true = refl
 or_none false = refl
 
--- stretches mask one behind another
-pub one_behind : (how : MaskHow) (stretches : List Stretch) (s : Stretch) (position : ℕ) (bases : List ℕ) → masked_in how (stretches ++ s ∷ []) position bases ≡ masked_in how (s ∷ []) position (masked_in how stretches position bases)
-one_behind how stretches s position [] = refl
-one_behind how stretches s position (base ∷ bases) =
-    ap (λ b. cond b (masked_byte how base) base ∷ masked_in how (stretches ++ s ∷ []) (suc position) bases) (list_any-append (has_position position) stretches (s ∷ []))
-    ∙ ap (λ b. b ∷ masked_in how (stretches ++ s ∷ []) (suc position) bases) (by_both how base (list_any (has_position position) stretches) (list_any (has_position position) (s ∷ [])))
-    ∙ ap (λ bs. cond (list_any (has_position position) (s ∷ [])) (masked_byte how (cond (list_any (has_position position) stretches) (masked_byte how base) base)) (cond (list_any (has_position position) stretches) (masked_byte how base) base) ∷ bs) (one_behind how stretches s (suc position) bases)
+-- extents mask one behind another
+pub one_behind : (how : MaskHow) (extents : List Extent) (s : Extent) (position : ℕ) (bases : List ℕ) → masked_in how (extents ++ s ∷ []) position bases ≡ masked_in how (s ∷ []) position (masked_in how extents position bases)
+one_behind how extents s position [] = refl
+one_behind how extents s position (base ∷ bases) =
+    ap (λ b. cond b (masked_byte how base) base ∷ masked_in how (extents ++ s ∷ []) (suc position) bases) (list_any-append (has_position position) extents (s ∷ []))
+    ∙ ap (λ b. b ∷ masked_in how (extents ++ s ∷ []) (suc position) bases) (by_both how base (list_any (has_position position) extents) (list_any (has_position position) (s ∷ [])))
+    ∙ ap (λ bs. cond (list_any (has_position position) (s ∷ [])) (masked_byte how (cond (list_any (has_position position) extents) (masked_byte how base) base)) (cond (list_any (has_position position) extents) (masked_byte how base) base) ∷ bs) (one_behind how extents s (suc position) bases)
 
 pub next_taken : {X : Type 0} (xs : List X) (i : ℕ) (d : X) → i < length xs → take (i + 1) xs ≡ take i xs ++ get_or xs i d ∷ []
 next_taken [] i d low = absurd (omega arith)
 next_taken (x ∷ xs) zero d low = refl
 next_taken (x ∷ xs) (suc i) d low = let next : suc i + 1 ≡ suc (i + 1) = omega arith in rw next (ap (λ ys. x ∷ ys) (next_taken xs i d (omega arith)))
 
-module _ (how : MaskHow) (s : Stretch) where
+module _ (how : MaskHow) (s : Extent) where
   outside : (position base : ℕ) (bases : List ℕ) → has_position position s ≡ false → base ∷ masked_in how (s ∷ []) (suc position) bases ≡ masked_in how (s ∷ []) position (base ∷ bases)
   outside position base bases e = sym (ap (λ b. cond (b || false) (masked_byte how base) base ∷ masked_in how (s ∷ []) (suc position) bases) e)
 
   inside : (position base : ℕ) (bases : List ℕ) → has_position position s ≡ true → masked_byte how base ∷ masked_in how (s ∷ []) (suc position) bases ≡ masked_in how (s ∷ []) position (base ∷ bases)
   inside position base bases e = sym (ap (λ b. cond (b || false) (masked_byte how base) base ∷ masked_in how (s ∷ []) (suc position) bases) e)
 
-  -- from a position in or behind the stretch on
+  -- from a position in or behind the extent on
   from_inside : (bases : List ℕ) (position to : ℕ) → s.start ≤ position → to ≡ min (s.stop - position) (length bases)
       → map (masked_byte how) (take to bases) ++ drop to bases ≡ masked_in how (s ∷ []) position bases
   from_inside [] position zero low e = refl
