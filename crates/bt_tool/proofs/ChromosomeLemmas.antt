@@ -1,11 +1,14 @@
 -- Lemmas on the genome file of a run, where it has one.
-use Rattle.std.proofs.Common.{◌≡◌, ℕ, suc, ◌-◌, ◌^◌, Bool, true, List, ◌++◌, take, Option, None, Some, Ok, Err, refl, sym, ap, ◌∙◌, subst, arith, inl, inr, ⊎_elim}
+use Rattle.std.proofs.Common.{◌≡◌, ℕ, suc, ◌-◌, ◌^◌, ◌≤◌, Bool, true, List, ◌++◌, take, Option, None, Some, Ok, Err, refl, sym, ap, ◌∙◌, subst, arith, inl, inr, ⊎_elim}
 use Rattle.std.specs.Prelude.{◌⊎◌, ◌≢◌, IfSome, option_map}
+use Rattle.std.proofs.lemmas.Bool.{false≢true}
 use Rattle.bt_lines.specs.Fault.{Told, no_memory, write_failed, read_failed}
+use Rattle.bt_lines.specs.Filling.{LastReadFails}
 use Rattle.bt_lines.specs.Handed.{Handed, whole_text}
 use Rattle.bt_lines.specs.Lines.{TextLine, line_feeds, text_lines, whole_lines}
 use Rattle.bt_lines.specs.Reader.{Hands, IsSound, source_of, input_of, bytes_taken, fault_kept, feeds_taken, lines_given, lines_left}
-use Rattle.bt_lines.specs.declared.fault.Input.TheVariants.{Genome as FromGenome}
+use Rattle.bt_lines.specs.declared.fault.Input.{Input}
+use Rattle.bt_lines.specs.declared.fault.Input.TheVariants.{First, Second, Genome as FromGenome}
 use Rattle.bt_lines.specs.declared.fault.Kind.TheVariants.{ReadFailed}
 use Rattle.bt_lines.specs.declared.line_reader.LineReader.{LineReader}
 use Rattle.bt_lines.proofs.TextLemmas.{whole_count, whole_front}
@@ -20,7 +23,9 @@ use Rattle.bt_tool.specs.Chromosomes.{KnowsChromosomes, LacksChromosomes}
 use Rattle.bt_tool.specs.Driving.{IsOfInput, TellsInput}
 use Rattle.bt_tool.specs.Inputs.{HoldsIf, Reads, ReadsIf}
 use Rattle.bt_tool.specs.Report.{chromosomes_of, of_file}
-use Rattle.bt_tool.proofs.FaultLemmas.{memory_no_write, placed_no_write}
+use Rattle.bt_tool.specs.Telling.{IsOwnFailure, TellsOwnReads}
+use Rattle.bt_tool.proofs.FaultLemmas.{memory_no_read, memory_no_write, placed_no_write, some_is}
+use Rattle.bt_tool.proofs.OwnFailureLemmas.{same_input}
 use Rattle.bt_tool.proofs.HandedReader.{cut_text, handed_all, handed_part, passes_by}
 
 -- the order in use, by the genome file's entries
@@ -145,3 +150,24 @@ module _ {G : Type 0} (left : G → Option (List ℕ)) (failed end : G → Bool)
 
   pub lacks_read : (fault : Told) → ReadingStops left failed end old new fault → IsSound left end new → LacksChromosomes left failed (Some genome) (Some after) fault
   lacks_read fault stops next = lacks_by fault stops.bytes next (stops.first clear)
+
+  -- a failed read that is told is of a read that failed then
+  module _ (Fails : G → G → Type 0) (fault : Told) (own : (input : Input) (line : ℕ) → fault ≡ read_failed input line → LastReadFails Fails (source_of new) ⊎ (2 ^ 63 ≤ bytes_taken new)) (bytes : (bytes : List ℕ) × Hands left old bytes new) where
+    own_by : StopCause left failed end old new fault → (other : Input) (line : ℕ) → fault ≡ read_failed other line → (other ≡ FromGenome) × IsOwnFailure left Fails genome after
+    own_by (inl wrong) other line e = absurd (false≢true (ap (λ (f : Told). is_genome_kind f.kind) (sym e ∙ wrong.place) ∙ wrong.of_line))
+    own_by (inr (inl unread)) other line e = (
+      sym (same_input (input_of old) other (suc (lines_given new)) line (sym unread.fails.is ∙ e)) ∙ input,
+      ⊎_elim (λ fails. inl (subst (LastReadFails Fails) ended fails)) (λ past. inr (passes_by left failed genome after old new source ended fresh bytes past)) (own other line e),
+    )
+    own_by (inr (inr ran)) other line e = absurd (memory_no_read other line (sym ran.is ∙ e))
+
+    tells_own : StopCause left failed end old new fault → TellsOwnReads (IsOwnFailure left Fails genome after) ⊥ ⊥ (Some fault)
+    tells_own cause = record {
+      genome_file = λ line e. (own_by cause FromGenome line (some_is fault (read_failed FromGenome line) e)).1;
+      first_input = λ line e. let apart : First ≡ FromGenome = (own_by cause First line (some_is fault (read_failed First line) e)).0 in cc;
+      second_input = λ line e. let apart : Second ≡ FromGenome = (own_by cause Second line (some_is fault (read_failed Second line) e)).0 in cc;
+    }
+
+  pub lacks_own : (Fails : G → G → Type 0) (fault : Told) → ReadingStops left failed end old new fault → ((input : Input) (line : ℕ) → fault ≡ read_failed input line → LastReadFails Fails (source_of new) ⊎ (2 ^ 63 ≤ bytes_taken new))
+      → TellsOwnReads (IsOwnFailure left Fails genome after) ⊥ ⊥ (Some fault)
+  lacks_own Fails fault stops own = tells_own Fails fault own stops.bytes (stops.first clear)

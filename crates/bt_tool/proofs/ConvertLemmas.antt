@@ -4,11 +4,13 @@ use Rattle.std.specs.Prelude.{⊤, option_map}
 use Rattle.std.proofs.lemmas.Grind.{flat_map-append}
 use Rattle.std.proofs.lemmas.List.{map-append}
 use Rattle.std.proofs.KnownBytes.{Appends-nil}
-use Rattle.bt_lines.specs.Fault.{Told}
+use Rattle.std.proofs.lemmas.Bool.{false≢true}
+use Rattle.bt_lines.specs.Fault.{Told, read_failed}
 use Rattle.bt_lines.specs.Lines.{TextLine, text_lines}
 use Rattle.bt_lines.specs.Output.{Output, HoldsBlock}
 use Rattle.bt_lines.specs.Putting.{Grown, WorksAsBefore}
 use Rattle.bt_lines.specs.Reader.{GivesEnd, GivesFault, GivesLine, IsSound, source_of, input_of, bytes_taken, fault_kept, feeds_taken, lines_given, lines_left}
+use Rattle.bt_lines.specs.declared.fault.Input.{Input}
 use Rattle.bt_lines.specs.declared.fault.Input.TheVariants.{First}
 use Rattle.bt_lines.specs.declared.line_reader.LineReader.{LineReader}
 use Rattle.bt_bed.specs.Good.{Member, good}
@@ -25,13 +27,16 @@ use Rattle.bt_tool.specs.ConvertReport.{alignment_lines, bamtobed_report, bamtob
 use Rattle.bt_tool.specs.ConvertSteps.{LineRefused, LineUnwritten, LineWritten, lines_if, sam_reader}
 use Rattle.bt_tool.specs.Driving.{WritesInput}
 use Rattle.bt_tool.specs.Feeding.{FeedsAll, FeedsUpTo, IsFresh}
-use Rattle.bt_tool.specs.Passed.{IsAhead, IsStopped, member_items}
+use Rattle.bt_tool.specs.Passed.{IsAhead, IsStopped, KeepsOwnFault, member_items}
 use Rattle.bt_tool.specs.RecordReport.{members_report, members_settle, report_by}
+use Rattle.bt_tool.specs.Telling.{IsOwnFailure, TellsOwnReads}
 use Rattle.bt_tool.specs.Written.{Written}
 use Rattle.bt_tool.proofs.DrivingLemmas.{drives_all, drives_fault}
 use Rattle.bt_tool.proofs.FeedLemmas.{Fed, fails_writing, fed_all, fed_more, fed_none, fed_same, fed_up_to, goes_same}
 use Rattle.bt_bed.proofs.ReadingLemmas.{Going as Steps, advanced, going_end, going_member, going_more, going_start as steps_start, going_unread, going_wrong, good_at_first}
 use Rattle.bt_tool.proofs.CameMembers.{BeginsAt}
+use Rattle.bt_tool.proofs.FaultLemmas.{line_no_read, some_is}
+use Rattle.bt_tool.proofs.OwnFailureLemmas.{feeds_own}
 use Rattle.bt_tool.proofs.WriteLemmas.{writes_same}
 
 -- an alignment on its line
@@ -158,6 +163,11 @@ module _ {S : Type 0} (split cigar : Bool) (left : S → Option (List ℕ)) (fai
             goes_by written.said later written.says
             (subst (λ s. Grown grown (lines_if s cigar written.said) later) same (subst (λ c. Grown grown (lines_if converting.split c written.said) later) same_cigar written.writes))
 
+-- a line that was refused is no failed read
+pub refused_no_read : (input : Input) (line : TextLine) (out : Output) (fault : Told) (grown : Output) → LineRefused input line out fault grown → (other : Input) (at : ℕ) → Some fault ≡ Some (read_failed other at) → ⊥
+refused_no_read input line out fault grown refused other at e =
+    line_no_read input line.number refused.kind other at (kinds_of_lines refused.kind (wrong_kinds line.text refused.kind refused.says)) (sym refused.is ∙ some_is fault (read_failed other at) e)
+
 -- what bamtobed writes of its alignments: the lines of each, whatever comes behind it
 abbrev bamtobed_written : Bool → Bool → Written Alignment
 bamtobed_written split cigar = record { whole = alignment_lines split cigar; settled = alignment_lines split cigar }
@@ -211,3 +221,9 @@ module _ {S : Type 0} (split cigar : Bool) (left : S → Option (List ℕ)) (fai
         as_reported (Some fault)
         (drives_fault (bamtobed_written split cigar) (IsOneOf is_sam_kind) (λ past. ⊤) (λ past. ⊤) more_lines more_lines left failed end sam_format (λ text. tt) (sam_reader reader) first out starts_reader new last ended
         fault grown (subst (λ (m : Converting). FeedsUpTo (alignment_lines m.split m.with_cigar) (IsOneOf is_sam_kind) (λ past. ⊤) left failed end (sam_reader reader) out fault new grown) same fed))
+
+    -- a failed read that is told is of a read that failed then
+    pub own_up_to : (Fails : S → S → Type 0) → KeepsOwnFault Fails new → (fault : Told) → FeedsUpTo (alignment_lines converting.split converting.with_cigar) (IsOneOf is_sam_kind) (λ past. ⊤) left failed end (sam_reader reader) out fault new grown
+        → TellsOwnReads ⊥ (IsOwnFailure left Fails first last) ⊥ (Some fault)
+    own_up_to Fails own fault fed =
+        feeds_own left failed end Fails sam_format first (sam_reader reader) starts_reader new last ended own (alignment_lines converting.split converting.with_cigar) (IsOneOf is_sam_kind) (λ kind. false≢true kind) (λ past. ⊤) out fault grown fed

@@ -67,3 +67,4 @@ pub mod PartMaskFaults
 pub mod PartMaskLaws
 pub mod PartOwnGenomes
 pub mod PartSuffice
+pub mod OwnFailureLemmas

@@ -131,6 +131,11 @@ module _ {S : Type 0} (left : S → Option (List ℕ)) (failed end : S → Bool)
       let same : gives.line ≡ line = cc in
       (feature_lent bed, subst (λ (n : ℕ). IsAhead left failed end (view_of old) (record { line = n; item = feature_lent bed }) (view_of new)) same (block_ahead left failed end old new peek.sound (feature_lent bed) gives))
 
+  -- without a fault it goes on
+  pub peeked_goes : (Fails : S → S → Type 0) (old new : Blocks S) (o : Option BedRef) → PeeksBlocks left failed end Fails old (Ok o) new → fault_kept old ≡ None → fault_kept new ≡ None
+  peeked_goes Fails old new None peek none = peek.answers.goes
+  peeked_goes Fails old new (Some bed) peek none = peek.answers.read.goes ∙ none
+
   -- asked again, it gives the same record
   pub peeked_again : (old : MemberReader S Feature (Option Locus)) (mid new : Blocks S) (line : ℕ) (item r : Feature) → IsAhead left failed end old (record { line = line; item = item }) (view_of mid)
       → GivesRecord left failed mid r new → IsAhead left failed end old (record { line = line; item = r }) (view_of new)

@@ -23,6 +23,7 @@ use Rattle.bt_seq.specs.declared.mask_how.MaskHow.{MaskHow}
 use Rattle.bt_tool.specs.Feeding.{IsFresh}
 use Rattle.bt_lines.specs.Fault.{Told}
 use Rattle.bt_tool.specs.MaskLoop.{MaskEnds, Masks, line_members, mask_making, mask_pair}
+use Rattle.bt_tool.specs.Passed.{IsKeptBelow}
 use Rattle.bt_tool.proofs.CameMembers.{BeginsAt}
 use Rattle.bt_tool.proofs.LineMembers.{blocks_going}
 use Rattle.bt_tool.proofs.MemberLemmas.{passes_start, read_start}
@@ -109,11 +110,12 @@ module _ {A B : Type 0} (a_left : A → Option (List ℕ)) (a_failed a_end : A �
   -- and how it ends
   pub as_asked : (lines : LineReader A) (second : MemberReader B Feature (Option Locus)) (out : Output) (fault : Option Told) (new : LineReader A) (second_now : MemberReader B Feature (Option Locus)) (grown : Output)
       (own : MaskHow) (own_full : Bool) (how : MaskHow) (full : Bool) → own ≡ how → own_full ≡ full
-      → (members : MemberReader A SequenceLine Reached) × (members.below ≡ new) × MaskEnds a_left a_failed a_end b_left b_failed b_end own own_full (line_members own_full nothing_reached lines) second out fault members second_now grown
-      → (members : MemberReader A SequenceLine Reached) × (members.below ≡ new) × MaskEnds a_left a_failed a_end b_left b_failed b_end how full (line_members full nothing_reached lines) second out fault members second_now grown
+      → (members : MemberReader A SequenceLine Reached) × (members.below ≡ new) × MaskEnds a_left a_failed a_end b_left b_failed b_end own own_full (line_members own_full nothing_reached lines) second out fault members second_now grown × IsKeptBelow members new
+      → (members : MemberReader A SequenceLine Reached) × (members.below ≡ new) × MaskEnds a_left a_failed a_end b_left b_failed b_end how full (line_members full nothing_reached lines) second out fault members second_now grown × IsKeptBelow members new
   as_asked lines second out fault new second_now grown own own_full how full same same_full ends = (
     ends.0,
     ends.1,
     subst (λ (h : MaskHow). MaskEnds a_left a_failed a_end b_left b_failed b_end h full (line_members full nothing_reached lines) second out fault ends.0 second_now grown) same
         (subst (λ (f : Bool). MaskEnds a_left a_failed a_end b_left b_failed b_end own f (line_members f nothing_reached lines) second out fault ends.0 second_now grown) same_full ends.2),
+    ends.3,
   )

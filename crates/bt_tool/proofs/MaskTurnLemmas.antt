@@ -1,19 +1,20 @@
 -- What a turn of a masking engine over two readers comes to, and how much is still asked for: each turn makes it less.
 use Rattle.std.proofs.Common.{◌≡◌, ℕ, ◌+◌, ◌*◌, ◌≤◌, ◌<◌, Bool, true, false, List, [], ◌∷◌, ◌++◌, Option, None, Some, refl, sym, ap, ◌∙◌, subst, arith, inl, inr}
-use Rattle.std.specs.Prelude.{◌⊎◌, is_some, option_map}
+use Rattle.std.specs.Prelude.{◌⊎◌, Err, is_some, option_map}
 use Rattle.std.proofs.lemmas.Bool.{false≢true}
-use Rattle.bt_lines.specs.Fault.{Told}
+use Rattle.bt_lines.specs.Fault.{Told, read_failed}
 use Rattle.bt_lines.specs.Output.{Output}
 use Rattle.bt_lines.specs.Putting.{FailsToAdd, Grown}
 use Rattle.bt_lines.specs.Reader.{input_of, room as line_room}
 use Rattle.bt_lines.specs.declared.fault.Kind.{Kind}
 use Rattle.bt_seq.specs.Masked.{masked_line}
+use Rattle.bt_lines.specs.declared.fault.Input.{Input}
 use Rattle.bt_lines.specs.declared.fault.Input.TheVariants.{First}
 use Rattle.bt_lines.specs.declared.line_reader.LineReader.{LineReader}
 use Rattle.bt_lines.specs.Lines.{TextLine}
 use Rattle.bt_bed.specs.Feature.{Feature}
 use Rattle.bt_bed.specs.GoodBlocks.{block_format}
-use Rattle.bt_bed.specs.LineKind.{fault_at_line}
+use Rattle.bt_bed.specs.LineKind.{fault_at_line, is_of_line}
 use Rattle.bt_bed.specs.Locus.{Locus}
 use Rattle.bt_bed.specs.Reading.{MemberReader, room}
 use Rattle.bt_seq.specs.MaskStage.{MaskStage, is_written_at_once, reached, want_of, with_bed_ended, with_decided, with_lines_ended, with_record}
@@ -26,8 +27,9 @@ use Rattle.bt_seq.specs.declared.mask_want.MaskWant.TheVariants.{Line as WantLin
 use Rattle.bt_tool.specs.MaskTurns.{EndsBed, EndsLines, FailsAtEnd, FailsBed, FailsLine, GivesLines, HasAsked, LacksBed, LacksLine, LeavesBed, TakesBed}
 use Rattle.bt_tool.specs.MaskLoop.{MaskEnds, Masks, line_members, mask_making}
 use Rattle.bt_tool.specs.PairComes.{IsOpenAt}
-use Rattle.bt_tool.specs.Passed.{IsOver}
-use Rattle.bt_tool.proofs.LineMembers.{gives_advance, gives_ahead, gives_over, gives_unread, gives_wrong, line_ahead, member_given, stopped_lines}
+use Rattle.bt_tool.specs.Passed.{IsKeptBelow, IsOver}
+use Rattle.bt_tool.proofs.FaultLemmas.{line_no_read, some_is}
+use Rattle.bt_tool.proofs.LineMembers.{gives_advance, gives_ahead, gives_over, gives_unread, gives_wrong, line_ahead, member_given, stopped_lines, wrong_is_text}
 use Rattle.bt_tool.proofs.MaskedLemmas.{come_so_far, ends_alone, ends_lines, ends_waiting, fails_at_end, fails_first, fails_to_hold, fails_waiting, finishes, gave_by, goes_peeked, is_next, lacks_first, lacks_sequence, leaves_by, lines_over, none_waits, stops_first, stops_second, takes_by}
 
 -- what is still to be asked: a line that waits is to be written, then lines come, then records alone
@@ -90,7 +92,7 @@ module _ {A B : Type 0} (a_left : A → Option (List ℕ)) (a_failed a_end : A �
   Ends = MaskEnds a_left a_failed a_end b_left b_failed b_end how full old_first old_second out
 
   abbrev EndsAt : Option Told → LineReader A → MemberReader B Feature (Option Locus) → Output → Type 0
-  EndsAt fault lines second grown = (members : MemberReader A SequenceLine Reached) × (members.below ≡ lines) × Ends fault members second grown
+  EndsAt fault lines second grown = (members : MemberReader A SequenceLine Reached) × (members.below ≡ lines) × Ends fault members second grown × IsKeptBelow members lines
 
   -- the records have ended
   module _ (lines : LineReader A) (r : Reached) (second : MemberReader B Feature (Option Locus)) (mask : Masking) (grown : Output) (s : Going (line_members full r lines) second mask grown) (wants : mask.want ≡ WantBed)
@@ -190,7 +192,13 @@ module _ {A B : Type 0} (a_left : A → Option (List ℕ)) (a_failed a_end : A �
         subst (λ o. Ends (Some fault) (line_members full r new) second o) (sym turn.same_output)
             (stops_first a_left a_failed a_end b_left b_failed b_end how full old_lines old_second out is_blocks first second mask grown s wants fault (line_members full r new)
             (gives_unread a_left a_failed a_end full r lines new turn.sound fault turn.gives)),
+        λ input line e. e,
       )
+
+      -- a line at fault is no failed read
+      never_read : (line : TextLine) (kind : Kind) (fault : Told) → line_says full (reached stage) line ≡ Err kind → fault ≡ fault_at_line First line.number kind → (input : Input) (at : ℕ) → Some fault ≡ Some (read_failed input at) → ⊥
+      never_read line kind fault says is input at e =
+          line_no_read First line.number kind input at (subst (λ (k : Kind). is_of_line k ≡ true) (sym (wrong_is_text full (reached stage) line kind says)) refl) (sym is ∙ some_is fault (read_failed input at) e)
 
       at_input : (number : ℕ) (kind : Kind) → fault_at_line (input_of lines) number kind ≡ fault_at_line First number kind
       at_input number kind = ap (λ i. fault_at_line i number kind) (s.comes.first_passes.bytes.1.same_input ∙ is_first)
@@ -206,6 +214,7 @@ module _ {A B : Type 0} (a_left : A → Option (List ℕ)) (a_failed a_end : A �
                   subst (λ o. Ends (Some fault) (stopped_lines a_left a_failed a_end full r lines new turn.has.sound fault) second o) (sym refuses.same_output)
                       (stops_first a_left a_failed a_end b_left b_failed b_end how full old_lines old_second out is_blocks first second mask grown s wants fault
                       (stopped_lines a_left a_failed a_end full r lines new turn.has.sound fault) wrong),
+                  λ input at e. absurd (never_read turn.line refuses.kind fault refuses.says refuses.is input at e),
                 )
             | inr fails ↦
                 let says = says_now turn.line ∙ fails.says in
@@ -213,12 +222,13 @@ module _ {A B : Type 0} (a_left : A → Option (List ℕ)) (a_failed a_end : A �
                 let m = member_given a_left a_failed a_end full r lines new turn.has.sound turn.line fails.item turn.has.gives says in
                 let peeked = line_ahead a_left a_failed a_end full r lines new turn.has.sound turn.line fails.item turn.has.gives says in
                 elim fails.fails [
-                  | inl adds ↦ (peeked, refl, fails_first a_left a_failed a_end b_left b_failed b_end how full old_lines old_second out is_blocks first second mask grown s wants m peeked ahead fails.settled (is_written_at_once stage fails.item) refl fault later adds)
+                  | inl adds ↦ (peeked, refl, fails_first a_left a_failed a_end b_left b_failed b_end how full old_lines old_second out is_blocks first second mask grown s wants m peeked ahead fails.settled (is_written_at_once stage fails.item) refl fault later adds, λ input at e. e)
                   | inr ran ↦ (
                     peeked,
                     refl,
                     subst (λ o. Ends (Some fault) peeked second o) (sym ran.1)
                         (lacks_first a_left a_failed a_end b_left b_failed b_end how full old_lines old_second out is_blocks first second mask grown s wants m peeked ahead fault ran.0),
+                    λ input at e. e,
                   )
                 ]
           ]
@@ -315,15 +325,17 @@ module _ {A B : Type 0} (a_left : A → Option (List ℕ)) (a_failed a_end : A �
             refl,
             subst (λ o. Ends (Some fault) first new o) (sym turn.same_output)
                 (stops_second a_left a_failed a_end b_left b_failed b_end how full old_lines old_second out is_blocks first turn.asked mask grown going wants fault new turn.stopped),
+            λ input line e. e,
           )
-      bed_stops fault new later (inr (inl turn)) = (first, refl, fails_for stage.waiting refl fault new later turn)
+      bed_stops fault new later (inr (inl turn)) = (first, refl, fails_for stage.waiting refl fault new later turn, λ input line e. e)
       bed_stops fault new later (inr (inr turn)) =
           let going = asked_goes turn.asked turn.has_asked in (
             first,
             refl,
             fails_over lines r turn.asked mask grown going wants new turn.over going.stage.waiting refl fault later (λ stage line. turn.waits how full stage line) (λ stage. turn.none_waits how full stage),
+            λ input line e. e,
           )
 
     -- nothing more is asked for
     pub ends_all : mask.want ≡ Nothing → EndsAt None lines second grown
-    ends_all wants = (first, refl, finishes a_left a_failed a_end b_left b_failed b_end how full old_lines old_second out is_blocks first second mask grown s wants)
+    ends_all wants = (first, refl, finishes a_left a_failed a_end b_left b_failed b_end how full old_lines old_second out is_blocks first second mask grown s wants, λ input line e. e)

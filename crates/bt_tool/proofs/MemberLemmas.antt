@@ -380,6 +380,7 @@ module _ {S A State : Type 0} (left : S → Option (List ℕ)) (failed end : S �
       })
       cause_of new fault sound answers (inr (inl unread)) = inr (inl (record {
         is = unread.fails.is ∙ ap (λ input. read_failed input (suc (lines_given new.below))) same_input;
+        kept = answers.kept;
         cause = unread.fails.cause;
         cut = cuts_both left old.below now.below new.below g.bytes.0 g.bytes.1 unread.fails.before_end (g.sound.within g.clear) (unread.fails.cut g.sound);
         members = begins_beyond (good_coming left old) (good_coming left now) past (lines_given new.below) g.come unread.passed;

@@ -25,6 +25,7 @@ module _ {S A State : Type 0} (left : S → Option (List ℕ)) (failed end : S �
   reads_start = record {
     bytes = ([], hands_none left before.below);
     rises = omega arith;
+    going = λ none. none;
     passes = λ old past p. ([], subst (λ l. Passes left failed end old l before) (sym (append-nil past)) p);
   }
 
@@ -37,6 +38,7 @@ module _ {S A State : Type 0} (left : S → Option (List ℕ)) (failed end : S �
           bytes = subst (λ reader. (bytes : List ℕ) × Hands left before.below bytes reader) (sym passes.reads_nothing)
               (on.bytes.0 ++ hands.0, hands_both left before.below now.below peeked.below on.bytes.0 hands.0 on.bytes.1 hands.1);
           rises = subst (λ reader. lines_given before.below ≤ lines_given reader) (sym passes.reads_nothing) (omega (arith, on.rises, up));
+          going = λ none. passes.goes ∙ ahead.read.goes ∙ on.going none;
           passes = λ old past p.
               let was = on.passes old past p in (
                 was.0 ++ m ∷ [],

@@ -19,7 +19,7 @@ use Rattle.bt_seq.specs.SamKind.{is_sam_kind}
 use Rattle.bt_tool.specs.Kinds.{IsOneOf}
 use Rattle.bt_tool.specs.ConvertReport.{alignment_lines}
 use Rattle.bt_tool.specs.Feeding.{FeedsMembers}
-use Rattle.bt_tool.specs.Passed.{lines_read}
+use Rattle.bt_tool.specs.Passed.{IsKeptBelow, lines_read}
 
 -- the BED lines of an alignment, if there is one
 abbrev pub lines_if : Bool → Bool → Option Alignment → List ℕ
@@ -67,3 +67,4 @@ ConvertsAll {S} left failed end converting old out answer new grown =
     (members : MemberReader S Alignment ⊤) × (members.below ≡ new)
     × FeedsMembers (alignment_lines converting.split converting.with_cigar) (IsOneOf is_sam_kind)
     (λ past. ⊤) left failed end (λ past. ⊤) (sam_reader old) out answer members grown
+    × IsKeptBelow members new

@@ -25,7 +25,7 @@ use Rattle.bt_tool.specs.MaskReport.{is_fasta_kind, is_mask_kind, last_needed}
 use Rattle.bt_tool.specs.Pair.{Making, Pair, item_ahead}
 use Rattle.bt_tool.specs.PairComes.{Comes, Stage as PairStage}
 use Rattle.bt_tool.specs.PairEnds.{Finishes}
-use Rattle.bt_tool.specs.Passed.{lines_read}
+use Rattle.bt_tool.specs.Passed.{IsKeptBelow, lines_read}
 
 -- a reader of lines as one of the lines of sequences, where those that were given have come so far
 abbrev pub line_members : {S : Type 0} → Bool → Reached → LineReader S
@@ -111,10 +111,10 @@ FinishesMask {A} {B} {T} a_left a_failed a_end b_left b_failed b_end how full ol
     (members : MemberReader A SequenceLine Reached) × (members.below ≡ first)
     × MaskEnds a_left a_failed a_end b_left b_failed b_end how full
     (line_members full (record { names = []; bases = 0 }) old_first) old_second out None members
-    second grown
+    second grown × IsKeptBelow members first
 FinishesMask {A} {B} {T} a_left a_failed a_end b_left b_failed b_end how full old_first old_second
     out (Err fault) first second grown =
     (members : MemberReader A SequenceLine Reached) × (members.below ≡ first)
     × MaskEnds a_left a_failed a_end b_left b_failed b_end how full
     (line_members full (record { names = []; bases = 0 }) old_first) old_second out
-    (Some (told fault)) members second grown
+    (Some (told fault)) members second grown × IsKeptBelow members first

@@ -2,10 +2,12 @@
 use Rattle.std.specs.Prelude.{◌≡◌, ℕ, suc, ◌+◌, ◌^◌, ◌<◌, ◌≤◌, ◌⊎◌, ⊤, All, Bool, true, List, []}
 use Rattle.std.specs.Prelude.{◌∷◌, ◌++◌, drop, length, map, Option, Some, None, IfSome}
 use Rattle.bt_lines.specs.Fault.{Told, read_failed, no_memory}
+use Rattle.bt_lines.specs.Filling.{LastReadFails}
 use Rattle.bt_lines.specs.Lines.{bytes_in}
 use Rattle.bt_lines.specs.Output.{block_size}
 use Rattle.bt_lines.specs.Reader.{CutsOff, Hands, IsSound, source_of, input_of, bytes_taken}
 use Rattle.bt_lines.specs.Reader.{fault_kept as line_fault, lines_given, lines_left}
+use Rattle.bt_lines.specs.declared.fault.Input.{Input}
 use Rattle.bt_lines.specs.declared.fault.Kind.{Kind}
 use Rattle.bt_lines.specs.declared.line_reader.LineReader.{LineReader}
 use Rattle.bt_bed.specs.Good.{Format, Good, Member}
@@ -40,6 +42,24 @@ abbrev pub lines_read : {S A State : Type 0} → Format A State → State → Li
     → MemberReader S A State
 lines_read format state lines =
     record { format = format; below = lines; state = state; ahead = None; fault = line_fault lines }
+
+-- a failed read that is kept is of the reader's own: the last read of its source failed, whatever
+-- the source did before, or its text is too long
+abbrev pub IsOwnFault : {S : Type 0} → (S → S → Type 0) → Option Told → LineReader S → Type 0
+IsOwnFault Fails kept lines =
+    (input : Input) (line : ℕ) → kept ≡ Some (read_failed input line)
+    → LastReadFails Fails (source_of lines) ⊎ (2 ^ 63 ≤ bytes_taken lines)
+
+-- so it is of the one that a reader of members keeps
+abbrev pub KeepsOwnFault : {S A State : Type 0} → (S → S → Type 0) → MemberReader S A State
+    → Type 0
+KeepsOwnFault Fails reader = IsOwnFault Fails reader.fault reader.below
+
+-- a failed read that a reader of members keeps is kept by its reader of lines
+abbrev pub IsKeptBelow : {S A State : Type 0} → MemberReader S A State → LineReader S → Type 0
+IsKeptBelow reader lines =
+    (input : Input) (line : ℕ) → reader.fault ≡ Some (read_failed input line)
+    → line_fault lines ≡ Some (read_failed input line)
 
 module _ {S A State : Type 0} (left : S → Option (List ℕ)) (failed end : S → Bool) where
   -- the reader has a member ahead
@@ -120,6 +140,7 @@ module _ {S A State : Type 0} (left : S → Option (List ℕ)) (failed end : S �
     pub record IsUnreadBehind (past : List (Member A)) (fault : Told)
         (new : MemberReader S A State) : Type 0 where
       pub is : fault ≡ read_failed (input_of old.below) (suc (lines_given new.below))
+      pub kept : new.fault ≡ Some fault
       pub cause : (failed (source_of new.below) ≡ true) ⊎ (2 ^ 63 ≤ bytes_taken new.below)
       pub cut : CutsOff left old.below new.below
       -- the lines given have these members, and none of them is at fault

@@ -174,6 +174,7 @@ module _ {S A State : Type 0} (left : S → Option (List ℕ)) (failed end : S �
   pub record IsReadOn : Type 0 where
     pub bytes : (bytes : List ℕ) × Hands left before.below bytes now.below
     pub rises : lines_given before.below ≤ lines_given now.below
+    pub going : before.fault ≡ None → now.fault ≡ None
     pub passes : (old : MemberReader S A State) (past : List (Member A))
         → Passes left failed end old past before
         → (more : List (Member A)) × Passes left failed end old (past ++ more) now

@@ -4,12 +4,15 @@ ghost use Rattle.std.specs.Prelude.{◌≡◌, None, option_map};
 ghost use Rattle.bt_lines.specs.LentLine.{line_seen};
 ghost use Rattle.bt_lines.specs.Names.{told};
 ghost use Rattle.bt_lines.specs.Output.{HoldsBlock};
+ghost use Rattle.bt_lines.specs.Reader.{fault_kept};
 ghost use Rattle.bt_seq.specs.SamKind.{is_sam_kind};
 ghost use Rattle.bt_tool.specs.Kinds.{IsOneOf};
 ghost use Rattle.bt_tool.specs.ConvertReport.{bamtobed_report, bamtobed_settles};
 ghost use Rattle.bt_tool.specs.ConvertSteps.{ConvertsAll, ConvertsLine, sam_reader};
 ghost use Rattle.bt_tool.specs.Driving.{WritesInput};
 ghost use Rattle.bt_tool.specs.Feeding.{IsFresh};
+ghost use Rattle.bt_tool.specs.Passed.{IsOwnFault};
+ghost use Rattle.bt_tool.specs.Telling.{IsOwnFailure, TellsOwnReads};
 
 use bt_bed::at_line;
 use bt_lines::{Fault, Input, Line, LineReader, Out, Place, Sink, Source};
@@ -45,8 +48,9 @@ fn convert_all<S: Source, K: Sink>(
     requires fresh { IsFresh S.left S.end_told (sam_reader lines.old) }
     requires going { converter.old.fault ≡ None }
     requires block { HoldsBlock out.old.took out.old.put }
-    ensures { ConvertsAll S.left S.has_failed S.end_told converter.old lines.old out.old result
+    ensures converts { ConvertsAll S.left S.has_failed S.end_told converter.old lines.old out.old result
         lines.new out.new }
+    ensures own_failure { IsOwnFault S.read_fails (fault_kept lines.new) lines.new }
 {
     let input = lines.input();
     while let Some(line) = lines.next()? {
@@ -65,8 +69,10 @@ pub(crate) fn convert<A: Source, K: Sink>(
     out: &mut Out<K>,
 ) -> (Option<Fault>, A)
     requires { HoldsBlock out.old.took out.old.put }
-    ensures { WritesInput A.left A.has_failed (IsOneOf is_sam_kind) (bamtobed_report split cigar) (bamtobed_settles split cigar)
+    ensures written { WritesInput A.left A.has_failed (IsOneOf is_sam_kind) (bamtobed_report split cigar) (bamtobed_settles split cigar)
         first out.old (option_map told result.0) result.1 out.new }
+    ensures own_failure { TellsOwnReads ⊥ (IsOwnFailure A.left A.read_fails first result.1) ⊥
+        (option_map told result.0) }
 {
     let mut lines = LineReader::new(alloc, first, Input::First);
     let mut converter = BamToBed::new(split, cigar);

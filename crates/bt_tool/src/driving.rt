@@ -13,6 +13,8 @@ ghost use Rattle.bt_bed.specs.Sorting.{sorting_of};
 ghost use Rattle.bt_runs.specs.Settling.{SettledBegins, SettledStays};
 ghost use Rattle.bt_tool.specs.Driving.{WritesRecords};
 ghost use Rattle.bt_tool.specs.Feeding.{FeedsRecords, IsFresh};
+ghost use Rattle.bt_tool.specs.Passed.{KeepsOwnFault};
+ghost use Rattle.bt_tool.specs.Telling.{IsOwnFailure, TellsOwnReads};
 
 use bt_bed::{ChromOrder, Records};
 use bt_lines::{Fault, Input, LineReader, Out, Sink, Source};
@@ -34,8 +36,9 @@ fn feed_all<S: Source, O: ChromOrder, E: Engine, K: Sink>(
     requires takes { (past : List Feature) → ArePlaced (order_in records.old) (intervals_of past)
         → AreNonEmpty (intervals_of past) → E.takes engine.old past }
     requires block { HoldsBlock out.old.took out.old.put }
-    ensures { FeedsRecords (E.settled engine.old) S.left S.has_failed S.end_told
+    ensures feeds { FeedsRecords (E.settled engine.old) S.left S.has_failed S.end_told
         (λ past. E.stands engine.old past engine.new) records.old out.old result records.new out.new }
+    ensures own_failure { KeepsOwnFault S.read_fails (view_of records.new) }
 {
     while let Some(record) = records.peek()? {
         engine.feed(&record, out)?;
@@ -60,9 +63,11 @@ pub(crate) fn drive<A: Source, O: ChromOrder, E: Engine + Drop, K: Sink>(
     requires stays { SettledStays (E.settled engine) (E.takes engine) }
     requires begins { SettledBegins (E.settled engine) (E.whole engine) (E.takes engine) }
     requires block { HoldsBlock out.old.took out.old.put }
-    ensures { WritesRecords A.left A.has_failed
+    ensures written { WritesRecords A.left A.has_failed
         (record { whole = E.whole engine; settled = E.settled engine }) (O.order order.now)
         first out.old (option_map told result.0) result.1 out.new }
+    ensures own_failure { TellsOwnReads ⊥ (IsOwnFailure A.left A.read_fails first result.1) ⊥
+        (option_map told result.0) }
 {
     let reader = LineReader::new(alloc, first, Input::First);
     let mut records = Records::new(alloc, reader, order);

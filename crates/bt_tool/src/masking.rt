@@ -1,14 +1,16 @@
 //! The loop over a FASTA input and a BED input: a masking engine is given the lines and the records.
 
-ghost use Rattle.std.specs.Prelude.{◌≡◌, [], option_map};
+ghost use Rattle.std.specs.Prelude.{◌≡◌, [], None, option_map};
 ghost use Rattle.bt_lines.specs.Names.{told};
 ghost use Rattle.bt_lines.specs.Output.{HoldsBlock};
-ghost use Rattle.bt_lines.specs.Reader.{input_of};
-ghost use Rattle.bt_bed.specs.Blocks.{view_of};
+ghost use Rattle.bt_lines.specs.Reader.{fault_kept as line_fault, input_of};
+ghost use Rattle.bt_bed.specs.Blocks.{fault_kept, view_of};
 ghost use Rattle.bt_bed.specs.GoodBlocks.{block_format};
 ghost use Rattle.bt_tool.specs.MaskReport.{MasksBoth};
 ghost use Rattle.bt_tool.specs.MaskLoop.{FinishesMask, Masks, line_members};
 ghost use Rattle.bt_tool.specs.MaskTurns.{AsksLine, TurnsBed, TurnsLine};
+ghost use Rattle.bt_tool.specs.Passed.{IsOwnFault, KeepsOwnFault};
+ghost use Rattle.bt_tool.specs.Telling.{IsOwnFailure, TellsOwnReads};
 
 use bt_bed::Blocks;
 use bt_lines::{Fault, Input, LineReader, Out, Sink, Source};
@@ -22,7 +24,8 @@ fn turn_line<A: Source, K: Sink>(
     out: &mut Out<K>,
 ) -> Result<(), Fault>
     requires { mask.old.want ≡ MaskWant.Line }
-    ensures { TurnsLine A.left A.has_failed A.end_told lines.old mask.old out.old result lines.new mask.new out.new }
+    ensures turns { TurnsLine A.left A.has_failed A.end_told lines.old mask.old out.old result lines.new mask.new out.new }
+    ensures own_failure { line_fault lines.old ≡ None → IsOwnFault A.read_fails (line_fault lines.new) lines.new }
 {
     match lines.next()? {
         Some(line) => mask.give_line(&line, out),
@@ -35,7 +38,8 @@ fn turn_line<A: Source, K: Sink>(
 
 // The line of the next record, if there is one.
 fn line_ahead<B: Source>(records: &mut Blocks<B>) -> Result<Option<u64>, Fault>
-    ensures { AsksLine B.left B.has_failed B.end_told (view_of records.old) result (view_of records.new) }
+    ensures asks { AsksLine B.left B.has_failed B.end_told (view_of records.old) result (view_of records.new) }
+    ensures own_failure { fault_kept records.old ≡ None → KeepsOwnFault B.read_fails (view_of records.new) }
 {
     if records.peek()?.is_none() {
         return Ok(None);
@@ -50,8 +54,9 @@ fn turn_bed<B: Source, K: Sink>(
     out: &mut Out<K>,
 ) -> Result<(), Fault>
     requires { mask.old.want ≡ MaskWant.Bed }
-    ensures { TurnsBed B.left B.has_failed B.end_told (view_of records.old) mask.old out.old result
+    ensures turns { TurnsBed B.left B.has_failed B.end_told (view_of records.old) mask.old out.old result
         (view_of records.new) mask.new out.new }
+    ensures own_failure { fault_kept records.old ≡ None → KeepsOwnFault B.read_fails (view_of records.new) }
 {
     let Some(line) = line_ahead(records)? else {
         return mask.end_bed(out);
@@ -79,8 +84,10 @@ fn mask_all<A: Source, B: Source, K: Sink>(
     requires starts { Masks A.left A.has_failed A.end_told B.left B.has_failed B.end_told mask.old.how mask.old.full
         (line_members mask.old.full (record { names = []; bases = 0 }) lines.old) (view_of records.old) out.old
         (line_members mask.old.full (record { names = []; bases = 0 }) lines.old) (view_of records.old) mask.old out.old }
-    ensures { FinishesMask A.left A.has_failed A.end_told B.left B.has_failed B.end_told mask.old.how mask.old.full
+    ensures finishes { FinishesMask A.left A.has_failed A.end_told B.left B.has_failed B.end_told mask.old.how mask.old.full
         lines.old (view_of records.old) out.old result lines.new (view_of records.new) out.new }
+    ensures own_failure { IsOwnFault A.read_fails (line_fault lines.new) lines.new }
+    ensures own_failure_second { KeepsOwnFault B.read_fails (view_of records.new) }
 {
     loop {
         match mask.want() {
@@ -103,8 +110,10 @@ pub(crate) fn mask<A: Source, B: Source, K: Sink>(
     out: &mut Out<K>,
 ) -> (Option<Fault>, A, B)
     requires { HoldsBlock out.old.took out.old.put }
-    ensures { MasksBoth A.left A.has_failed A.end_told B.left B.has_failed how full first second out.old
+    ensures written { MasksBoth A.left A.has_failed A.end_told B.left B.has_failed how full first second out.old
         (option_map told result.0) result.1 result.2 out.new }
+    ensures own_failure { TellsOwnReads ⊥ (IsOwnFailure A.left A.read_fails first result.1)
+        (IsOwnFailure B.left B.read_fails second result.2) (option_map told result.0) }
 {
     let mut lines = LineReader::new(alloc, first, Input::First);
     let mut records = Blocks::new(alloc, LineReader::new(alloc, second, Input::Second));

@@ -15,6 +15,7 @@ ghost use Rattle.bt_tool.specs.Driving.{WritesRecords};
 ghost use Rattle.bt_tool.specs.Gives.{Runs};
 ghost use Rattle.bt_tool.specs.Limits.{is_within_limits};
 ghost use Rattle.bt_tool.specs.Table.{IsNamedBy, table_of, tool_of};
+ghost use Rattle.bt_tool.specs.Telling.{IsOwnFailure, IsOwnFailureIf, TellsOwnReads};
 ghost use Rattle.bt_tool.specs.Written.{complement_written, coverage_written, merge_written};
 
 use crate::converting::convert;
@@ -63,6 +64,10 @@ pub fn run<G: Source, A: Source, B: Source, K: Sink>(
     ensures report { Runs G.left G.has_failed A.left A.has_failed A.end_told B.left B.has_failed K.took K.has_failed
         plan.now.command genome first second out (option_map told result.outcome.fault)
         result.genome result.first result.second result.out }
+    ensures own_failure { TellsOwnReads (IsOwnFailureIf G.left G.read_fails genome result.genome)
+        (IsOwnFailure A.left A.read_fails first result.first)
+        (IsOwnFailureIf B.left B.read_fails second result.second)
+        (option_map told result.outcome.fault) }
 {
     let mut out = Out::new(out);
     let (chromosomes, genome) = read_genome(alloc, genome);
@@ -92,6 +97,8 @@ fn read_genome<G: Source>(
     ensures genome { is_some result.1 ≡ is_some genome }
     ensures named { MatchResult result.0 (λ table. is_some table ≡ is_some genome) (λ _. ⊤) }
     ensures read { ReadsChromosomes G.left G.has_failed genome result.0 result.1 }
+    ensures own_failure { MatchResult result.0 (λ _. ⊤) (λ fault. TellsOwnReads
+        (IsOwnFailureIf G.left G.read_fails genome result.1) ⊥ ⊥ (Some (told fault))) }
 {
     let Some(genome) = genome else {
         return (Ok(None), None);
@@ -125,6 +132,9 @@ fn write_output<A: Source, B: Source, K: Sink>(
     ensures written { WritesOutput A.left A.has_failed A.end_told B.left B.has_failed command chromosomes first second
         out.old (option_map told result.0) result.1 result.2 out.new }
     ensures second { is_some result.2 ≡ is_some second }
+    ensures own_failure { MatchResult chromosomes (λ _. TellsOwnReads ⊥
+        (IsOwnFailure A.left A.read_fails first result.1)
+        (IsOwnFailureIf B.left B.read_fails second result.2) (option_map told result.0)) (λ _. ⊤) }
 {
     match chromosomes {
         Ok(table) => write_records(alloc, command, &table, first, second, out),
@@ -151,6 +161,8 @@ fn write_records<A: Source, B: Source, K: Sink>(
         (behaviour_of command (option_map entries genome.now))
         first second out.old (option_map told result.0) result.1 result.2 out.new }
     ensures second { is_some result.2 ≡ is_some second }
+    ensures own_failure { TellsOwnReads ⊥ (IsOwnFailure A.left A.read_fails first result.1)
+        (IsOwnFailureIf B.left B.read_fails second result.2) (option_map told result.0) }
 {
     match command {
         Command::Merge { d, strand } => {
@@ -191,8 +203,10 @@ fn merge<A: Source, K: Sink>(
 ) -> (Option<Fault>, A)
     requires limit { d ≤ max_number }
     requires block { HoldsBlock out.old.took out.old.put }
-    ensures { WritesRecords A.left A.has_failed (merge_written (order_of (option_map entries genome.now)) d strand)
+    ensures written { WritesRecords A.left A.has_failed (merge_written (order_of (option_map entries genome.now)) d strand)
         (order_of (option_map entries genome.now)) first out.old (option_map told result.0) result.1 out.new }
+    ensures own_failure { TellsOwnReads ⊥ (IsOwnFailure A.left A.read_fails first result.1) ⊥
+        (option_map told result.0) }
 {
     let engine = Merge::new(alloc, d, strand);
     drive(alloc, genome, engine, first, out)
@@ -209,9 +223,11 @@ fn complement<A: Source, K: Sink>(
     requires genome { IsSome genome.now }
     requires distinct { IfSome genome.now (λ table. AreDistinct (names_of table)) }
     requires block { HoldsBlock out.old.took out.old.put }
-    ensures { WritesRecords A.left A.has_failed
+    ensures written { WritesRecords A.left A.has_failed
         (complement_written (entries_in (option_map entries genome.now)) limit)
         (order_of (option_map entries genome.now)) first out.old (option_map told result.0) result.1 out.new }
+    ensures own_failure { TellsOwnReads ⊥ (IsOwnFailure A.left A.read_fails first result.1) ⊥
+        (option_map told result.0) }
 {
     let Some(genome) = genome else { unreachable!() };
     let engine = Complement::new(genome, limit);
@@ -230,9 +246,11 @@ fn cover<A: Source, K: Sink>(
     requires genome { IsSome genome.now }
     requires distinct { IfSome genome.now (λ table. AreDistinct (names_of table)) }
     requires block { HoldsBlock out.old.took out.old.put }
-    ensures { WritesRecords A.left A.has_failed
+    ensures written { WritesRecords A.left A.has_failed
         (coverage_written (entries_in (option_map entries genome.now)) zeros strand)
         (order_of (option_map entries genome.now)) first out.old (option_map told result.0) result.1 out.new }
+    ensures own_failure { TellsOwnReads ⊥ (IsOwnFailure A.left A.read_fails first result.1) ⊥
+        (option_map told result.0) }
 {
     let Some(genome) = genome else { unreachable!() };
     let engine = Coverage::new(alloc, genome, zeros, strand);
@@ -264,6 +282,8 @@ fn sweep_both<A: Source, B: Source, K: Sink>(
         (of_intersect (order_of (option_map entries genome.now)) shape rule limit)
         first second out.old (option_map told result.0) result.1 result.2 out.new }
     ensures second { is_some result.2 ≡ is_some second }
+    ensures own_failure { TellsOwnReads ⊥ (IsOwnFailure A.left A.read_fails first result.1)
+        (IsOwnFailureIf B.left B.read_fails second result.2) (option_map told result.0) }
 {
     let Some(second) = second else { unreachable!() };
     let (fault, first, second) = sweep(alloc, genome, shape, rule, limit, first, second, out);
@@ -284,6 +304,8 @@ fn mask_both<A: Source, B: Source, K: Sink>(
     ensures written { WritesBy A.left A.has_failed A.end_told B.left B.has_failed (of_maskfasta how full)
         first second out.old (option_map told result.0) result.1 result.2 out.new }
     ensures second { is_some result.2 ≡ is_some second }
+    ensures own_failure { TellsOwnReads ⊥ (IsOwnFailure A.left A.read_fails first result.1)
+        (IsOwnFailureIf B.left B.read_fails second result.2) (option_map told result.0) }
 {
     let Some(second) = second else { unreachable!() };
     let (fault, first, second) = mask(alloc, how, full, first, second, out);

@@ -5,7 +5,8 @@ use Rattle.bt_lines.specs.declared.fault.Input.{Input}
 use Rattle.bt_bed.proofs.ResultLemmas.{passed_on}
 use Rattle.bt_seq.specs.BamToBedState.{Converting}
 use Rattle.bt_tool.specs.ConvertSteps.{ConvertsAll, LineRefused, sam_reader}
-use Rattle.bt_tool.proofs.ConvertLemmas.{converts_all, going_line, going_start, stops_at_line, stops_reading, stops_writing}
+use Rattle.bt_tool.proofs.ConvertLemmas.{converts_all, going_line, going_start, refused_no_read, stops_at_line, stops_reading, stops_writing}
+use Rattle.bt_tool.proofs.OwnFailureLemmas.{line_told_kept, none_kept}
 use Rattle.bt_tool.proofs.converting.convert_all.Goals as goal
 
 pub loop-line-init : goal.loop-line-init
@@ -36,18 +37,19 @@ loop-line-preserved g c =
       input = now.input;
     }
 
-pub returns-in_err-line : goal.returns-in_err-line
-returns-in_err-line g c =
+pub returns-in_err-line-clause-converts : goal.returns-in_err-line-clause-converts
+returns-in_err-line-clause-converts g c =
     let gives = rw c.in_err-line.was at c.next.follows.holds-at-none in
     passed_on (λ r. ConvertsAll g.S.Source.left g.S.Source.has_failed g.S.Source.end_told c.args.converter.now c.args.lines.now c.args.out.now r c.next.follows.lender-at-none c.loop-line.out) c.from_residual.result c.in_err-line.field-0.0
     c.from_residual.ensures.1 (
       sam_reader c.next.follows.lender-at-none,
       refl,
       stops_reading _ _ _ _ _ c.args.lines.now c.args.out.now c.loop-line.lines c.loop-line.out c.loop-line.invariant.going c.next.follows.lender-at-none (told c.in_err-line.field-0.0) gives.answers gives.sound,
+      λ input line e. e,
     )
 
-pub returns-in_err-convert_line : goal.returns-in_err-convert_line
-returns-in_err-convert_line g c =
+pub returns-in_err-convert_line-clause-converts : goal.returns-in_err-convert_line-clause-converts
+returns-in_err-convert_line-clause-converts g c =
     let gives = rw (c.in_ok-line.was, c.in-Some.is) at c.next.follows.holds-at-none in
     let now = c.loop-line.invariant in
     let first = c.args.converter.now in
@@ -61,20 +63,39 @@ returns-in_err-convert_line g c =
       refl,
       stops_at_line first.split first.with_cigar _ _ _ c.args.lines.now c.args.out.now c.loop-line.lines c.loop-line.out now.going c.next.follows.lender-at-none line gives.answers
           gives.sound fault c.convert_line.new.out (subst (λ (i : Input). LineRefused i line c.loop-line.out fault c.convert_line.new.out) now.input refused),
+      λ input at e. absurd (refused_no_read _ line _ fault _ refused input at e),
     ))
     (λ unwritten. (
       _,
       refl,
       stops_writing first.split first.with_cigar _ _ _ c.args.lines.now c.args.out.now c.loop-line.lines c.loop-line.out now.going c.next.follows.lender-at-none line gives.answers
           gives.sound c.loop-line.converter (ap (λ (m : Converting). m.split) now.same) (ap (λ (m : Converting). m.with_cigar) now.same) fault c.convert_line.new.out unwritten,
+      λ input at e. e,
     ))
     c.in_err-convert_line.ensures)
 
-pub returns : goal.returns
-returns g c =
+pub returns-clause-converts : goal.returns-clause-converts
+returns-clause-converts g c =
     let gives = rw (c.in_ok-line.was, c.in_default.is) at c.next.follows.holds-at-none in
     let now = c.loop-line.invariant in (
       sam_reader c.next.follows.lender-at-none,
       refl,
       converts_all _ _ _ _ _ c.args.lines.now c.args.out.now c.loop-line.lines c.loop-line.out now.going c.next.follows.lender-at-none gives.answers gives.sound,
+      λ input line e. e,
     )
+
+pub returns-in_err-line-clause-own_failure : goal.returns-in_err-line-clause-own_failure
+returns-in_err-line-clause-own_failure g c =
+    let gives = rw c.in_err-line.was at c.next.follows.holds-at-none in
+    let now = c.loop-line.invariant.going in
+    line_told_kept g.S.Source.read_fails c.loop-line.lines c.next.follows.lender-at-none c.in_err-line.field-0.0 gives.answers.kept (now.steps.going now.fed.passes.going) gives.own_failure
+
+pub returns-in_err-convert_line-clause-own_failure : goal.returns-in_err-convert_line-clause-own_failure
+returns-in_err-convert_line-clause-own_failure g c =
+    let gives = rw (c.in_ok-line.was, c.in-Some.is) at c.next.follows.holds-at-none in
+    none_kept g.S.Source.read_fails _ _ gives.answers.goes
+
+pub returns-clause-own_failure : goal.returns-clause-own_failure
+returns-clause-own_failure g c =
+    let gives = rw (c.in_ok-line.was, c.in_default.is) at c.next.follows.holds-at-none in
+    none_kept g.S.Source.read_fails _ _ gives.answers.goes

@@ -1,4 +1,5 @@
-use Rattle.std.proofs.Common.{sym, ◌∙◌, ap, None, Some}
+use Rattle.std.proofs.Common.{refl, sym, ◌∙◌, ap, None, Some}
+use Rattle.std.proofs.lemmas.Bool.{false≢true}
 use Rattle.bt_lines.specs.Names.{told}
 use Rattle.bt_lines.specs.Reader.{source_of}
 use Rattle.bt_lines.specs.declared.fault.Input.TheVariants.{First, Second}
@@ -12,6 +13,7 @@ use Rattle.bt_tool.proofs.MaskFacts.{mask_limits, mask_needs}
 use Rattle.bt_tool.proofs.MaskStart.{as_asked, begin_blocks, begin_lines, blocks_format, fresh_blocks, fresh_lines, masks_as_new, nothing_reached}
 use Rattle.bt_tool.proofs.PairMet.{writes_both}
 use Rattle.bt_tool.proofs.PairNear.{near_both}
+use Rattle.bt_tool.proofs.OwnFailureLemmas.{both_own, kept_below, tells_nothing}
 use Rattle.bt_tool.proofs.masking.mask.Goals as goal
 
 pub mask_all-masked-requires-clause-blocks : goal.mask_all-masked-requires-clause-blocks
@@ -27,15 +29,15 @@ mask_all-masked-requires-clause-starts g c =
     (fresh_blocks g.B.Source.left g.B.Source.end_told c.args.second Second c.new.result c.new-records.result records.below reader_2.source reader_2.input reader_2.none_taken.0 reader_2.none_fed reader_2.none_given reader_2.going.0 reader_2.lines records.fault records.none_ahead reader_2.sound)
     (records.fault ∙ reader_2.going.0) c.requires c.new-mask.result c.new-mask.ensures.stands
 
-pub returns-in-Ok : goal.returns-in-Ok
-returns-in-Ok g c =
+pub returns-in-Ok-clause-written : goal.returns-in-Ok-clause-written
+returns-in-Ok-clause-written g c =
     let reader = c.new-lines.ensures in
     let reader_2 = c.new.ensures in
     let records = c.new-records.ensures in
     let stands = c.new-mask.ensures.stands in
     let fault = None in
     let ends = as_asked g.A.Source.left g.A.Source.has_failed g.A.Source.end_told g.B.Source.left g.B.Source.has_failed g.B.Source.end_told c.new-lines.result (view_of c.new-records.result) c.args.out.now fault c.mask_all-masked.new.lines (view_of c.mask_all-masked.new.records) c.mask_all-masked.new.out
-    c.new-mask.result.how c.new-mask.result.full c.args.how c.args.full stands.how_is stands.full_is c.in-Ok.ensures in
+    c.new-mask.result.how c.new-mask.result.full c.args.how c.args.full stands.how_is stands.full_is c.in-Ok.ensures.finishes in
     let begins = begin_lines g.A.Source.left g.A.Source.end_told c.args.full c.args.first First c.new-lines.result reader.source reader.input reader.none_taken.0 reader.none_fed reader.none_given reader.going.0 reader.lines in
     let begins_second = begin_blocks g.B.Source.left g.B.Source.end_told c.args.second Second c.new.result c.new-records.result records.below reader_2.source reader_2.input reader_2.none_taken.0 reader_2.none_fed reader_2.none_given reader_2.going.0 reader_2.lines records.good in
     let ended = ap source_of ends.1 ∙ sym c.into_source-first.ensures in
@@ -48,15 +50,15 @@ returns-in-Ok g c =
     (near_both making pair c.args.out.now (sequence_format c.args.full) block_format (λ two. good_in_blocks Second two) (mask_needs c.args.how) c.args.first c.args.second begins begins_second
     ends.0 (view_of c.mask_all-masked.new.records) c.into_source-first.result c.into_source-second.result ended ended_second c.mask_all-masked.new.out ends.2.near)
 
-pub returns : goal.returns
-returns g c =
+pub returns-clause-written : goal.returns-clause-written
+returns-clause-written g c =
     let reader = c.new-lines.ensures in
     let reader_2 = c.new.ensures in
     let records = c.new-records.ensures in
     let stands = c.new-mask.ensures.stands in
     let fault = Some (told c.in-Err.fault) in
     let ends = as_asked g.A.Source.left g.A.Source.has_failed g.A.Source.end_told g.B.Source.left g.B.Source.has_failed g.B.Source.end_told c.new-lines.result (view_of c.new-records.result) c.args.out.now fault c.mask_all-masked.new.lines (view_of c.mask_all-masked.new.records) c.mask_all-masked.new.out
-    c.new-mask.result.how c.new-mask.result.full c.args.how c.args.full stands.how_is stands.full_is c.in-Err.ensures in
+    c.new-mask.result.how c.new-mask.result.full c.args.how c.args.full stands.how_is stands.full_is c.in-Err.ensures.finishes in
     let begins = begin_lines g.A.Source.left g.A.Source.end_told c.args.full c.args.first First c.new-lines.result reader.source reader.input reader.none_taken.0 reader.none_fed reader.none_given reader.going.0 reader.lines in
     let begins_second = begin_blocks g.B.Source.left g.B.Source.end_told c.args.second Second c.new.result c.new-records.result records.below reader_2.source reader_2.input reader_2.none_taken.0 reader_2.none_fed reader_2.none_given reader_2.going.0 reader_2.lines records.good in
     let ended = ap source_of ends.1 ∙ sym c.into_source-first.ensures in
@@ -68,3 +70,25 @@ returns g c =
     (mask_settles c.args.how c.args.full) (mask_reaches c.args.full)
     (near_both making pair c.args.out.now (sequence_format c.args.full) block_format (λ two. good_in_blocks Second two) (mask_needs c.args.how) c.args.first c.args.second begins begins_second
     ends.0 (view_of c.mask_all-masked.new.records) c.into_source-first.result c.into_source-second.result ended ended_second c.mask_all-masked.new.out ends.2.near)
+
+pub returns-in-Ok-clause-own_failure : goal.returns-in-Ok-clause-own_failure
+returns-in-Ok-clause-own_failure g c = tells_nothing ⊥ _ _ None refl
+
+pub returns-clause-own_failure : goal.returns-clause-own_failure
+returns-clause-own_failure g c =
+    let reader = c.new-lines.ensures in
+    let reader_2 = c.new.ensures in
+    let records = c.new-records.ensures in
+    let stands = c.new-mask.ensures.stands in
+    let fault = Some (told c.in-Err.fault) in
+    let ends = as_asked g.A.Source.left g.A.Source.has_failed g.A.Source.end_told g.B.Source.left g.B.Source.has_failed g.B.Source.end_told c.new-lines.result (view_of c.new-records.result) c.args.out.now fault c.mask_all-masked.new.lines (view_of c.mask_all-masked.new.records) c.mask_all-masked.new.out
+    c.new-mask.result.how c.new-mask.result.full c.args.how c.args.full stands.how_is stands.full_is c.in-Err.ensures.finishes in
+    let begins = begin_lines g.A.Source.left g.A.Source.end_told c.args.full c.args.first First c.new-lines.result reader.source reader.input reader.none_taken.0 reader.none_fed reader.none_given reader.going.0 reader.lines in
+    let begins_second = begin_blocks g.B.Source.left g.B.Source.end_told c.args.second Second c.new.result c.new-records.result records.below reader_2.source reader_2.input reader_2.none_taken.0 reader_2.none_fed reader_2.none_given reader_2.going.0 reader_2.lines records.good in
+    let ended = ap source_of ends.1 ∙ sym c.into_source-first.ensures in
+    let ended_second = sym (c.into_source-second.ensures ∙ ap source_of c.into_reader.ensures) in
+    let making = mask_making c.args.how in
+    let pair = mask_pair g.A.Source.left g.A.Source.has_failed g.A.Source.end_told g.B.Source.left g.B.Source.has_failed g.B.Source.end_told c.args.how c.args.full (line_members c.args.full nothing_reached c.new-lines.result) (view_of c.new-records.result) in
+    both_own making pair c.args.out.now g.A.Source.read_fails g.B.Source.read_fails (sequence_format c.args.full) block_format c.args.first c.args.second begins begins_second
+    ends.0 (view_of c.mask_all-masked.new.records) c.into_source-first.result c.into_source-second.result ended ended_second fault c.mask_all-masked.new.out ends.2
+    (λ kind. false≢true kind) (λ kind. false≢true kind) (kept_below g.A.Source.read_fails ends.0 c.mask_all-masked.new.lines ends.1 ends.3 c.mask_all-masked.ensures.own_failure) c.mask_all-masked.ensures.own_failure_second

@@ -1,27 +1,28 @@
-use Rattle.std.proofs.Common.{inl, inr, refl}
+use Rattle.std.proofs.Common.{◌∙◌, inl, inr, refl}
 use Rattle.bt_lines.specs.Names.{told}
 use Rattle.bt_bed.specs.Bed.{feature_lent}
 use Rattle.bt_bed.specs.Blocks.{view_of}
 use Rattle.bt_bed.proofs.ResultLemmas.{passed_on}
 use Rattle.bt_tool.specs.MaskTurns.{TurnsBed}
 use Rattle.bt_tool.proofs.LineMembers.{blocks_over, blocks_stopped, ends_turn, peeked_again}
+use Rattle.bt_tool.proofs.OwnFailureLemmas.{none_kept, told_kept}
 use Rattle.bt_tool.proofs.masking.turn_bed.Goals as goal
 
-pub returns-in_err-line : goal.returns-in_err-line
-returns-in_err-line g c =
+pub returns-in_err-line-clause-turns : goal.returns-in_err-line-clause-turns
+returns-in_err-line-clause-turns g c =
     passed_on (λ r. TurnsBed g.B.Source.left g.B.Source.has_failed g.B.Source.end_told (view_of c.args.records.now) c.args.mask.now c.args.out.now r (view_of c.line_ahead.new.records) c.args.mask.now c.args.out.now) c.from_residual.result c.in_err-line.field-0.0
     c.from_residual.ensures.1
-    (inl (record { asked = view_of c.args.records.now; has_asked = inl refl; stopped = c.in_err-line.ensures; same_output = refl }))
+    (inl (record { asked = view_of c.args.records.now; has_asked = inl refl; stopped = c.in_err-line.ensures.asks; same_output = refl }))
 
-pub returns-in_default : goal.returns-in_default
-returns-in_default g c =
-    let over = rw c.in_default.is at c.in_ok-line.ensures in
+pub returns-in_default-clause-turns : goal.returns-in_default-clause-turns
+returns-in_default-clause-turns g c =
+    let over = rw c.in_default.is at c.in_ok-line.ensures.asks in
     ends_turn g.B.Source.left g.B.Source.has_failed g.B.Source.end_told (view_of c.args.records.now) c.args.mask.now c.args.out.now (view_of c.args.records.now) (view_of c.line_ahead.new.records) (inl refl) over
     c.end_bed.result c.end_bed.new.self c.end_bed.new.out c.end_bed.ensures.waits c.end_bed.ensures.none_waits
 
-pub returns-in_err-record : goal.returns-in_err-record
-returns-in_err-record g c =
-    let first = rw c.in-Some.is at c.in_ok-line.ensures in
+pub returns-in_err-record-clause-turns : goal.returns-in_err-record-clause-turns
+returns-in_err-record-clause-turns g c =
+    let first = rw c.in-Some.is at c.in_ok-line.ensures.asks in
     let peek = rw c.in_err-record.was at c.peek.follows.holds-at-none in
     passed_on (λ r. TurnsBed g.B.Source.left g.B.Source.has_failed g.B.Source.end_told (view_of c.args.records.now) c.args.mask.now c.args.out.now r (view_of c.peek.follows.lender-at-none) c.args.mask.now c.args.out.now) c.from_residual-in_err-record.result c.in_err-record.field-0.0
     c.from_residual-in_err-record.ensures.1
@@ -32,9 +33,9 @@ returns-in_err-record g c =
       same_output = refl;
     }))
 
-pub returns-in_err-give_bed-in-Some-2 : goal.returns-in_err-give_bed-in-Some-2
-returns-in_err-give_bed-in-Some-2 g c =
-    let first = rw c.in-Some.is at c.in_ok-line.ensures in
+pub returns-in_err-give_bed-in-Some-2-clause-turns : goal.returns-in_err-give_bed-in-Some-2-clause-turns
+returns-in_err-give_bed-in-Some-2-clause-turns g c =
+    let first = rw c.in-Some.is at c.in_ok-line.ensures.asks in
     let peek = rw (c.in_ok-record.was, c.in-Some-2.is) at c.peek.follows.holds-at-none in
     let r = feature_lent c.in-Some-2.record in
     passed_on (λ r. TurnsBed g.B.Source.left g.B.Source.has_failed g.B.Source.end_told (view_of c.args.records.now) c.args.mask.now c.args.out.now r (view_of c.peek.follows.lender-at-none) c.give_bed.new.self c.give_bed.new.out) c.from_residual-in_err-give_bed-in-Some-2.result c.in_err-give_bed-in-Some-2.field-0.0
@@ -46,9 +47,9 @@ returns-in_err-give_bed-in-Some-2 g c =
       none_waits = λ how full stage stands e next. (c.in_err-give_bed-in-Some-2.ensures.none_waits how full stage stands e next).1;
     })))
 
-pub returns-in_err-end_bed-in-None : goal.returns-in_err-end_bed-in-None
-returns-in_err-end_bed-in-None g c =
-    let first = rw c.in-Some.is at c.in_ok-line.ensures in
+pub returns-in_err-end_bed-in-None-clause-turns : goal.returns-in_err-end_bed-in-None-clause-turns
+returns-in_err-end_bed-in-None-clause-turns g c =
+    let first = rw c.in-Some.is at c.in_ok-line.ensures.asks in
     let peek = rw (c.in_ok-record.was, c.in-None.is) at c.peek.follows.holds-at-none in
     passed_on (λ r. TurnsBed g.B.Source.left g.B.Source.has_failed g.B.Source.end_told (view_of c.args.records.now) c.args.mask.now c.args.out.now r (view_of c.peek.follows.lender-at-none) c.end_bed-in-None.new.self c.end_bed-in-None.new.out) c.from_residual-in_err-end_bed-in-None.result c.in_err-end_bed-in-None.field-0.0
     c.from_residual-in_err-end_bed-in-None.ensures.1
@@ -60,9 +61,9 @@ returns-in_err-end_bed-in-None g c =
       none_waits = λ how full stage stands e. c.in_err-end_bed-in-None.ensures.none_waits how full stage stands e;
     })))
 
-pub returns-in-Yes : goal.returns-in-Yes
-returns-in-Yes g c =
-    let first = rw c.in-Some.is at c.in_ok-line.ensures in
+pub returns-in-Yes-clause-turns : goal.returns-in-Yes-clause-turns
+returns-in-Yes-clause-turns g c =
+    let first = rw c.in-Some.is at c.in_ok-line.ensures.asks in
     let peek = rw (c.in_ok-record.was, c.in-Some-2.is) at c.peek.follows.holds-at-none in
     let r = feature_lent c.in-Some-2.record in
     inl (record {
@@ -74,9 +75,9 @@ returns-in-Yes g c =
       none_waits = λ how full stage stands e next. rw c.in-Yes.is at c.in_ok-give_bed-in-Some-2.ensures.none_waits how full stage stands e next;
     })
 
-pub returns-in-No : goal.returns-in-No
-returns-in-No g c =
-    let first = rw c.in-Some.is at c.in_ok-line.ensures in
+pub returns-in-No-clause-turns : goal.returns-in-No-clause-turns
+returns-in-No-clause-turns g c =
+    let first = rw c.in-Some.is at c.in_ok-line.ensures.asks in
     let peek = rw (c.in_ok-record.was, c.in-Some-2.is) at c.peek.follows.holds-at-none in
     let r = feature_lent c.in-Some-2.record in
     inr (inl (record {
@@ -86,9 +87,9 @@ returns-in-No g c =
       none_waits = λ how full stage stands e next. rw c.in-No.is at c.in_ok-give_bed-in-Some-2.ensures.none_waits how full stage stands e next;
     }))
 
-pub returns-in_ok-end_bed-in-None : goal.returns-in_ok-end_bed-in-None
-returns-in_ok-end_bed-in-None g c =
-    let first = rw c.in-Some.is at c.in_ok-line.ensures in
+pub returns-in_ok-end_bed-in-None-clause-turns : goal.returns-in_ok-end_bed-in-None-clause-turns
+returns-in_ok-end_bed-in-None-clause-turns g c =
+    let first = rw c.in-Some.is at c.in_ok-line.ensures.asks in
     let peek = rw (c.in_ok-record.was, c.in-None.is) at c.peek.follows.holds-at-none in
     inr (inr (record {
       asked = view_of c.line_ahead.new.records;
@@ -97,3 +98,43 @@ returns-in_ok-end_bed-in-None g c =
       waits = λ how full stage line stands e. c.in_ok-end_bed-in-None.ensures.waits how full stage line stands e;
       none_waits = λ how full stage stands e. c.in_ok-end_bed-in-None.ensures.none_waits how full stage stands e;
     }))
+
+pub returns-in_err-line-clause-own_failure : goal.returns-in_err-line-clause-own_failure
+returns-in_err-line-clause-own_failure g c = λ none. c.line_ahead.ensures.own_failure none
+
+pub returns-in_default-clause-own_failure : goal.returns-in_default-clause-own_failure
+returns-in_default-clause-own_failure g c = λ none. c.line_ahead.ensures.own_failure none
+
+pub returns-in_err-record-clause-own_failure : goal.returns-in_err-record-clause-own_failure
+returns-in_err-record-clause-own_failure g c = λ none.
+    let first = rw c.in-Some.is at c.in_ok-line.ensures.asks in
+    let peek = rw c.in_err-record.was at c.peek.follows.holds-at-none in
+    told_kept g.B.Source.read_fails _ _ _ c.in_err-record.field-0.0 peek.answers.kept (first.1.read.goes ∙ none) peek.own_failure
+
+pub returns-in_err-give_bed-in-Some-2-clause-own_failure : goal.returns-in_err-give_bed-in-Some-2-clause-own_failure
+returns-in_err-give_bed-in-Some-2-clause-own_failure g c = λ none.
+    let first = rw c.in-Some.is at c.in_ok-line.ensures.asks in
+    let peek = rw (c.in_ok-record.was, c.in-Some-2.is) at c.peek.follows.holds-at-none in
+    none_kept g.B.Source.read_fails _ _ (peek.answers.read.goes ∙ first.1.read.goes ∙ none)
+
+pub returns-in-Yes-clause-own_failure : goal.returns-in-Yes-clause-own_failure
+returns-in-Yes-clause-own_failure g c = λ none.
+    let first = rw c.in-Some.is at c.in_ok-line.ensures.asks in
+    let peek = rw (c.in_ok-record.was, c.in-Some-2.is) at c.peek.follows.holds-at-none in
+    none_kept g.B.Source.read_fails _ _ (c.advance.ensures.passes.goes ∙ peek.answers.read.goes ∙ first.1.read.goes ∙ none)
+
+pub returns-in-No-clause-own_failure : goal.returns-in-No-clause-own_failure
+returns-in-No-clause-own_failure g c = λ none.
+    let first = rw c.in-Some.is at c.in_ok-line.ensures.asks in
+    let peek = rw (c.in_ok-record.was, c.in-Some-2.is) at c.peek.follows.holds-at-none in
+    none_kept g.B.Source.read_fails _ _ (peek.answers.read.goes ∙ first.1.read.goes ∙ none)
+
+pub returns-in_err-end_bed-in-None-clause-own_failure : goal.returns-in_err-end_bed-in-None-clause-own_failure
+returns-in_err-end_bed-in-None-clause-own_failure g c = λ none.
+    let peek = rw (c.in_ok-record.was, c.in-None.is) at c.peek.follows.holds-at-none in
+    none_kept g.B.Source.read_fails _ _ peek.answers.goes
+
+pub returns-in_ok-end_bed-in-None-clause-own_failure : goal.returns-in_ok-end_bed-in-None-clause-own_failure
+returns-in_ok-end_bed-in-None-clause-own_failure g c = λ none.
+    let peek = rw (c.in_ok-record.was, c.in-None.is) at c.peek.follows.holds-at-none in
+    none_kept g.B.Source.read_fails _ _ peek.answers.goes

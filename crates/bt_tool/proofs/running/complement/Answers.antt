@@ -30,11 +30,11 @@ drive-requires-clause-begins g c =
     let whole = whole_gaps complement.limit complement.entries in
     lines_begin settled whole (AreTaken complement.entries) (begins settled whole (AreTaken complement.entries) (settles_gaps complement.limit complement.entries))
 
-pub returns : goal.returns
-returns g c =
+pub returns-clause-written : goal.returns-clause-written
+returns-clause-written g c =
     let drive = c.drive in
     let engine = c.new-engine in
     let order = rank_order (names_of c.in-Some.genome) in
     subst (λ (genome : Option Genome). WritesRecords g.A.Source.left g.A.Source.has_failed (complement_written (entries_in (option_map entries genome)) c.args.limit) (order_of (option_map entries genome)) c.args.first c.args.out.now (option_map told drive.result.0) drive.result.1 drive.new.out) (sym c.in-Some.is)
     (subst (λ limit. WritesRecords g.A.Source.left g.A.Source.has_failed (complement_written (entries c.in-Some.genome) limit) order c.args.first c.args.out.now (option_map told drive.result.0) drive.result.1 drive.new.out) engine.ensures.limit
-    (subst (λ (es : List Entry). WritesRecords g.A.Source.left g.A.Source.has_failed (complement_written es engine.result.limit) order c.args.first c.args.out.now (option_map told drive.result.0) drive.result.1 drive.new.out) engine.ensures.entries drive.ensures))
+    (subst (λ (es : List Entry). WritesRecords g.A.Source.left g.A.Source.has_failed (complement_written es engine.result.limit) order c.args.first c.args.out.now (option_map told drive.result.0) drive.result.1 drive.new.out) engine.ensures.entries drive.ensures.written))

@@ -26,12 +26,12 @@ drive-requires-clause-begins g c =
     let engine = c.new-engine.result in
     depths_begin engine.entries engine.zeros engine.strand
 
-pub returns : goal.returns
-returns g c =
+pub returns-clause-written : goal.returns-clause-written
+returns-clause-written g c =
     let drive = c.drive in
     let engine = c.new-engine in
     let order = rank_order (names_of c.in-Some.genome) in
     subst (λ (genome : Option Genome). WritesRecords g.A.Source.left g.A.Source.has_failed (coverage_written (entries_in (option_map entries genome)) c.args.zeros c.args.strand) (order_of (option_map entries genome)) c.args.first c.args.out.now (option_map told drive.result.0) drive.result.1 drive.new.out) (sym c.in-Some.is)
     (subst (λ strand. WritesRecords g.A.Source.left g.A.Source.has_failed (coverage_written (entries c.in-Some.genome) c.args.zeros strand) order c.args.first c.args.out.now (option_map told drive.result.0) drive.result.1 drive.new.out) engine.ensures.rules.1
     (subst (λ zeros. WritesRecords g.A.Source.left g.A.Source.has_failed (coverage_written (entries c.in-Some.genome) zeros engine.result.strand) order c.args.first c.args.out.now (option_map told drive.result.0) drive.result.1 drive.new.out) engine.ensures.rules.0
-    (subst (λ (es : List Entry). WritesRecords g.A.Source.left g.A.Source.has_failed (coverage_written es engine.result.zeros engine.result.strand) order c.args.first c.args.out.now (option_map told drive.result.0) drive.result.1 drive.new.out) engine.ensures.entries drive.ensures)))
+    (subst (λ (es : List Entry). WritesRecords g.A.Source.left g.A.Source.has_failed (coverage_written es engine.result.zeros engine.result.strand) order c.args.first c.args.out.now (option_map told drive.result.0) drive.result.1 drive.new.out) engine.ensures.entries drive.ensures.written)))

@@ -24,9 +24,9 @@ drive-requires-clause-stays g c = merge_stays c.new-engine.result
 pub drive-requires-clause-begins : goal.drive-requires-clause-begins
 drive-requires-clause-begins g c = merge_begins_whole c.new-engine.result
 
-pub returns : goal.returns
-returns g c =
+pub returns-clause-written : goal.returns-clause-written
+returns-clause-written g c =
     subst (λ (order : Order). WritesRecords g.A.Source.left g.A.Source.has_failed (merge_written order c.args.d c.args.strand) order c.args.first c.args.out.now (option_map told c.drive.result.0) c.drive.result.1 c.drive.new.out)
     (order_is c.args.genome.now)
     (merge_writes (order_by c.args.genome.now) (orders_total c.args.genome.now) g.A.Source.left g.A.Source.has_failed c.args.d c.args.strand c.new-engine.result c.new-engine.ensures.begun
-    c.args.first c.args.out.now (option_map told c.drive.result.0) c.drive.result.1 c.drive.new.out c.drive.ensures)
+    c.args.first c.args.out.now (option_map told c.drive.result.0) c.drive.result.1 c.drive.new.out c.drive.ensures.written)

@@ -1,7 +1,8 @@
 use Rattle.std.proofs.Common.{Some, subst, sym}
 use Rattle.bt_lines.specs.Names.{told}
 use Rattle.bt_tool.specs.Chromosomes.{KnowsChromosomes, LacksChromosomes}
-use Rattle.bt_tool.proofs.ChromosomeLemmas.{knows_read, lacks_read}
+use Rattle.bt_tool.specs.Telling.{IsOwnFailureIf, TellsOwnReads}
+use Rattle.bt_tool.proofs.ChromosomeLemmas.{knows_read, lacks_own, lacks_read}
 use Rattle.bt_tool.proofs.running.read_genome.Goals as goal
 
 pub returns-in-Ok-clause-read : goal.returns-in-Ok-clause-read
@@ -17,3 +18,10 @@ returns-in-Err-clause-read g c =
     subst (λ before. LacksChromosomes g.G.Source.left g.G.Source.has_failed before (Some c.into_source.result) (told c.in-Err.fault)) (sym c.in-Some.is)
     (lacks_read g.G.Source.left g.G.Source.has_failed g.G.Source.end_told c.in-Some.genome c.into_source.result c.new-lines.result c.read-read.new.reader reader.source (sym c.into_source.ensures) reader.input
     reader.none_taken.0 reader.none_fed reader.none_given reader.going.0 reader.lines reader.sound (told c.in-Err.fault) c.in-Err.ensures.answers (c.in-Err.ensures.sound reader.sound))
+
+pub returns-in-Err-clause-own_failure : goal.returns-in-Err-clause-own_failure
+returns-in-Err-clause-own_failure g c =
+    let reader = c.new-lines.ensures in
+    subst (λ before. TellsOwnReads (IsOwnFailureIf g.G.Source.left g.G.Source.read_fails before (Some c.into_source.result)) ⊥ ⊥ (Some (told c.in-Err.fault))) (sym c.in-Some.is)
+    (lacks_own g.G.Source.left g.G.Source.has_failed g.G.Source.end_told c.in-Some.genome c.into_source.result c.new-lines.result c.read-read.new.reader reader.source (sym c.into_source.ensures) reader.input
+    reader.none_taken.0 reader.none_fed reader.none_given reader.going.0 reader.lines reader.sound g.G.Source.read_fails (told c.in-Err.fault) c.in-Err.ensures.answers (c.in-Err.ensures.own_failure reader.going.0))

@@ -7,13 +7,14 @@ use Rattle.bt_tool.specs.SweepLoop.{ReadsOn}
 use Rattle.bt_tool.specs.Turns.{HasAhead}
 use Rattle.bt_tool.proofs.PassedLemmas.{is_ahead, is_over, is_stopped, member_ahead}
 use Rattle.bt_tool.proofs.RestLemmas.{reads_start, reads_more, reads_end, reads_stop}
+use Rattle.bt_tool.proofs.OwnFailureLemmas.{none_kept, told_kept}
 use Rattle.bt_tool.proofs.sweeping.check_rest.Goals as goal
 
 pub loop-record-init : goal.loop-record-init
 loop-record-init g c = reads_start g.B.Source.left g.B.Source.has_failed g.B.Source.end_told (view_of c.args.second.now)
 
-pub returns-in_err-_record : goal.returns-in_err-_record
-returns-in_err-_record g c =
+pub returns-in_err-_record-clause-reads : goal.returns-in_err-_record-clause-reads
+returns-in_err-_record-clause-reads g c =
     let peek = rw c.in_err-_record.was at c.peek.follows.holds-at-none in
     passed_on (λ r. ReadsOn g.B.Source.left g.B.Source.has_failed g.B.Source.end_told (IsBedKind (order_in c.args.second.now)) (view_of c.args.second.now) r (view_of c.peek.follows.lender-at-none)) c.from_residual.result c.in_err-_record.field-0.0
     c.from_residual.ensures.1
@@ -28,8 +29,18 @@ loop-record-preserved g c =
     (member_ahead g.B.Source.left g.B.Source.has_failed g.B.Source.end_told c.loop-record.second c.peek.follows.lender-at-none (feature_lent c.in-Some._record) ahead) (view_of c.peek.follows.lender-at-none) (view_of c.advance.new.self)
     (is_ahead g.B.Source.left g.B.Source.has_failed g.B.Source.end_told c.loop-record.second c.peek.follows.lender-at-none (feature_lent c.in-Some._record) ahead) c.advance.ensures.passes
 
-pub returns : goal.returns
-returns g c =
+pub returns-clause-reads : goal.returns-clause-reads
+returns-clause-reads g c =
     let peek = rw (c.in_ok-_record.was, c.in_default.is) at c.peek.follows.holds-at-none in
     λ old past p wrong. reads_end g.B.Source.left g.B.Source.has_failed g.B.Source.end_told (view_of c.args.second.now) (view_of c.loop-record.second) c.loop-record.invariant (view_of c.peek.follows.lender-at-none)
     (is_over g.B.Source.left g.B.Source.has_failed g.B.Source.end_told c.loop-record.second c.peek.follows.lender-at-none (record { ends = peek.answers; sound = peek.sound; order = peek.order })) old past p
+
+pub returns-in_err-_record-clause-own_failure : goal.returns-in_err-_record-clause-own_failure
+returns-in_err-_record-clause-own_failure g c = λ none.
+    let peek = rw c.in_err-_record.was at c.peek.follows.holds-at-none in
+    told_kept g.B.Source.read_fails _ _ _ c.in_err-_record.field-0.0 peek.answers.kept (c.loop-record.invariant.going none) peek.own_failure
+
+pub returns-clause-own_failure : goal.returns-clause-own_failure
+returns-clause-own_failure g c = λ none.
+    let peek = rw (c.in_ok-_record.was, c.in_default.is) at c.peek.follows.holds-at-none in
+    none_kept g.B.Source.read_fails _ _ peek.answers.goes

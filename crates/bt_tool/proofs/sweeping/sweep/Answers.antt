@@ -1,4 +1,4 @@
-use Rattle.std.proofs.Common.{ℕ, Option, sym, ◌∙◌, subst, ap, None, Some}
+use Rattle.std.proofs.Common.{ℕ, Option, refl, sym, ◌∙◌, subst, ap, None, Some}
 use Rattle.bt_lines.specs.Names.{told}
 use Rattle.bt_lines.specs.Reader.{source_of}
 use Rattle.bt_lines.specs.declared.fault.Input.TheVariants.{First, Second}
@@ -19,6 +19,7 @@ use Rattle.bt_tool.proofs.StartLemmas.{begins_by, sweeps_start}
 use Rattle.bt_tool.proofs.SweepFacts.{sweep_needs}
 use Rattle.bt_tool.proofs.SweepLimits.{sweep_limits}
 use Rattle.bt_tool.proofs.DrivingLemmas.{fresh_start, sorted_start}
+use Rattle.bt_tool.proofs.OwnFailureLemmas.{bed_no_read, both_own, swept_no_read, tells_nothing}
 use Rattle.bt_tool.proofs.sweeping.sweep.Goals as goal
 
 pub read_both-swept-requires-clause-sorted : goal.read_both-swept-requires-clause-sorted
@@ -43,8 +44,8 @@ read_both-swept-requires-clause-starts g c =
     (subst (λ (s : Shape). StandsAt (order_in c.new-firsts.result) s c.args.rule c.args.limit first_stage (state_of c.new-sweep.result)) (sym stands.shape_is)
     (subst (λ (o : Order). StandsAt o c.args.shape c.args.rule c.args.limit first_stage (state_of c.new-sweep.result)) (sym records.order) stands))))
 
-pub returns-in-Ok : goal.returns-in-Ok
-returns-in-Ok g c =
+pub returns-in-Ok-clause-written : goal.returns-in-Ok-clause-written
+returns-in-Ok-clause-written g c =
     let reader = c.new.ensures in
     let records = c.new-firsts.ensures in
     let reader_2 = c.new-2.ensures in
@@ -53,7 +54,7 @@ returns-in-Ok g c =
     let ends = subst (λ (l : Option ℕ). SweepEnds g.A.Source.left g.A.Source.has_failed g.A.Source.end_told g.B.Source.left g.B.Source.has_failed g.B.Source.end_told order c.args.shape c.args.rule l c.new-firsts.result c.new-seconds.result c.args.out.now None c.read_both-swept.new.first c.read_both-swept.new.second c.read_both-swept.new.out) c.new-sweep.ensures.stands.limit_is
     (subst (λ (r : HitRule). SweepEnds g.A.Source.left g.A.Source.has_failed g.A.Source.end_told g.B.Source.left g.B.Source.has_failed g.B.Source.end_told order c.args.shape r (state_of c.new-sweep.result).limit c.new-firsts.result c.new-seconds.result c.args.out.now None c.read_both-swept.new.first c.read_both-swept.new.second c.read_both-swept.new.out) c.new-sweep.ensures.stands.rule_is
     (subst (λ (s : Shape). SweepEnds g.A.Source.left g.A.Source.has_failed g.A.Source.end_told g.B.Source.left g.B.Source.has_failed g.B.Source.end_told order s (state_of c.new-sweep.result).rule (state_of c.new-sweep.result).limit c.new-firsts.result c.new-seconds.result c.args.out.now None c.read_both-swept.new.first c.read_both-swept.new.second c.read_both-swept.new.out) c.new-sweep.ensures.stands.shape_is
-    (subst (λ (o : Order). SweepEnds g.A.Source.left g.A.Source.has_failed g.A.Source.end_told g.B.Source.left g.B.Source.has_failed g.B.Source.end_told o (state_of c.new-sweep.result).shape (state_of c.new-sweep.result).rule (state_of c.new-sweep.result).limit c.new-firsts.result c.new-seconds.result c.args.out.now None c.read_both-swept.new.first c.read_both-swept.new.second c.read_both-swept.new.out) records.order c.in-Ok.ensures))) in
+    (subst (λ (o : Order). SweepEnds g.A.Source.left g.A.Source.has_failed g.A.Source.end_told g.B.Source.left g.B.Source.has_failed g.B.Source.end_told o (state_of c.new-sweep.result).shape (state_of c.new-sweep.result).rule (state_of c.new-sweep.result).limit c.new-firsts.result c.new-seconds.result c.args.out.now None c.read_both-swept.new.first c.read_both-swept.new.second c.read_both-swept.new.out) records.order c.in-Ok.ensures.finishes))) in
     let making = sweep_making order c.args.shape c.args.rule c.args.limit in
     let pair = records_pair g.A.Source.left g.A.Source.has_failed g.A.Source.end_told g.B.Source.left g.B.Source.has_failed g.B.Source.end_told c.new-firsts.result c.new-seconds.result in
     let format = bed_format (sorting_of order) in
@@ -67,8 +68,8 @@ returns-in-Ok g c =
     (near_both making pair c.args.out.now format format (λ two. placed_good Second order two c.requires.total) (sweep_needs order c.args.shape c.args.rule c.args.limit) c.args.first c.args.second begins begins_second
     (view_of c.read_both-swept.new.first) (view_of c.read_both-swept.new.second) c.into_source-first.result c.into_source-second.result ended ended_second c.read_both-swept.new.out ends.near)
 
-pub returns : goal.returns
-returns g c =
+pub returns-clause-written : goal.returns-clause-written
+returns-clause-written g c =
     let reader = c.new.ensures in
     let records = c.new-firsts.ensures in
     let reader_2 = c.new-2.ensures in
@@ -78,7 +79,7 @@ returns g c =
     let ends = subst (λ (l : Option ℕ). SweepEnds g.A.Source.left g.A.Source.has_failed g.A.Source.end_told g.B.Source.left g.B.Source.has_failed g.B.Source.end_told order c.args.shape c.args.rule l c.new-firsts.result c.new-seconds.result c.args.out.now fault c.read_both-swept.new.first c.read_both-swept.new.second c.read_both-swept.new.out) c.new-sweep.ensures.stands.limit_is
     (subst (λ (r : HitRule). SweepEnds g.A.Source.left g.A.Source.has_failed g.A.Source.end_told g.B.Source.left g.B.Source.has_failed g.B.Source.end_told order c.args.shape r (state_of c.new-sweep.result).limit c.new-firsts.result c.new-seconds.result c.args.out.now fault c.read_both-swept.new.first c.read_both-swept.new.second c.read_both-swept.new.out) c.new-sweep.ensures.stands.rule_is
     (subst (λ (s : Shape). SweepEnds g.A.Source.left g.A.Source.has_failed g.A.Source.end_told g.B.Source.left g.B.Source.has_failed g.B.Source.end_told order s (state_of c.new-sweep.result).rule (state_of c.new-sweep.result).limit c.new-firsts.result c.new-seconds.result c.args.out.now fault c.read_both-swept.new.first c.read_both-swept.new.second c.read_both-swept.new.out) c.new-sweep.ensures.stands.shape_is
-    (subst (λ (o : Order). SweepEnds g.A.Source.left g.A.Source.has_failed g.A.Source.end_told g.B.Source.left g.B.Source.has_failed g.B.Source.end_told o (state_of c.new-sweep.result).shape (state_of c.new-sweep.result).rule (state_of c.new-sweep.result).limit c.new-firsts.result c.new-seconds.result c.args.out.now fault c.read_both-swept.new.first c.read_both-swept.new.second c.read_both-swept.new.out) records.order c.in-Err.ensures))) in
+    (subst (λ (o : Order). SweepEnds g.A.Source.left g.A.Source.has_failed g.A.Source.end_told g.B.Source.left g.B.Source.has_failed g.B.Source.end_told o (state_of c.new-sweep.result).shape (state_of c.new-sweep.result).rule (state_of c.new-sweep.result).limit c.new-firsts.result c.new-seconds.result c.args.out.now fault c.read_both-swept.new.first c.read_both-swept.new.second c.read_both-swept.new.out) records.order c.in-Err.ensures.finishes))) in
     let making = sweep_making order c.args.shape c.args.rule c.args.limit in
     let pair = records_pair g.A.Source.left g.A.Source.has_failed g.A.Source.end_told g.B.Source.left g.B.Source.has_failed g.B.Source.end_told c.new-firsts.result c.new-seconds.result in
     let format = bed_format (sorting_of order) in
@@ -91,3 +92,29 @@ returns g c =
     (intersect_settles order c.args.shape c.args.rule) (intersect_reaches order)
     (near_both making pair c.args.out.now format format (λ two. placed_good Second order two c.requires.total) (sweep_needs order c.args.shape c.args.rule c.args.limit) c.args.first c.args.second begins begins_second
     (view_of c.read_both-swept.new.first) (view_of c.read_both-swept.new.second) c.into_source-first.result c.into_source-second.result ended ended_second c.read_both-swept.new.out ends.near)
+
+pub returns-in-Ok-clause-own_failure : goal.returns-in-Ok-clause-own_failure
+returns-in-Ok-clause-own_failure g c = tells_nothing ⊥ _ _ None refl
+
+pub returns-clause-own_failure : goal.returns-clause-own_failure
+returns-clause-own_failure g c =
+    let reader = c.new.ensures in
+    let records = c.new-firsts.ensures in
+    let reader_2 = c.new-2.ensures in
+    let records_2 = c.new-seconds.ensures in
+    let order = g.O.ChromOrder.order c.args.order.now in
+    let fault = Some (told c.in-Err.fault) in
+    let ends = subst (λ (l : Option ℕ). SweepEnds g.A.Source.left g.A.Source.has_failed g.A.Source.end_told g.B.Source.left g.B.Source.has_failed g.B.Source.end_told order c.args.shape c.args.rule l c.new-firsts.result c.new-seconds.result c.args.out.now fault c.read_both-swept.new.first c.read_both-swept.new.second c.read_both-swept.new.out) c.new-sweep.ensures.stands.limit_is
+    (subst (λ (r : HitRule). SweepEnds g.A.Source.left g.A.Source.has_failed g.A.Source.end_told g.B.Source.left g.B.Source.has_failed g.B.Source.end_told order c.args.shape r (state_of c.new-sweep.result).limit c.new-firsts.result c.new-seconds.result c.args.out.now fault c.read_both-swept.new.first c.read_both-swept.new.second c.read_both-swept.new.out) c.new-sweep.ensures.stands.rule_is
+    (subst (λ (s : Shape). SweepEnds g.A.Source.left g.A.Source.has_failed g.A.Source.end_told g.B.Source.left g.B.Source.has_failed g.B.Source.end_told order s (state_of c.new-sweep.result).rule (state_of c.new-sweep.result).limit c.new-firsts.result c.new-seconds.result c.args.out.now fault c.read_both-swept.new.first c.read_both-swept.new.second c.read_both-swept.new.out) c.new-sweep.ensures.stands.shape_is
+    (subst (λ (o : Order). SweepEnds g.A.Source.left g.A.Source.has_failed g.A.Source.end_told g.B.Source.left g.B.Source.has_failed g.B.Source.end_told o (state_of c.new-sweep.result).shape (state_of c.new-sweep.result).rule (state_of c.new-sweep.result).limit c.new-firsts.result c.new-seconds.result c.args.out.now fault c.read_both-swept.new.first c.read_both-swept.new.second c.read_both-swept.new.out) records.order c.in-Err.ensures.finishes))) in
+    let making = sweep_making order c.args.shape c.args.rule c.args.limit in
+    let pair = records_pair g.A.Source.left g.A.Source.has_failed g.A.Source.end_told g.B.Source.left g.B.Source.has_failed g.B.Source.end_told c.new-firsts.result c.new-seconds.result in
+    let format = bed_format (sorting_of order) in
+    let begins = begins_by g.A.Source.left order First c.args.first c.new.result c.new-firsts.result records.below reader.source reader.input reader.none_taken.0 reader.none_fed reader.going.0 reader.lines records.good in
+    let begins_second = begins_by g.B.Source.left order Second c.args.second c.new-2.result c.new-seconds.result records_2.below reader_2.source reader_2.input reader_2.none_taken.0 reader_2.none_fed reader_2.going.0 reader_2.lines records_2.good in
+    let ended = sym (c.into_source-first.ensures ∙ ap source_of c.into_reader.ensures) in
+    let ended_second = sym (c.into_source-second.ensures ∙ ap source_of c.into_reader-2.ensures) in
+    both_own making pair c.args.out.now g.A.Source.read_fails g.B.Source.read_fails format format c.args.first c.args.second begins begins_second
+    (view_of c.read_both-swept.new.first) (view_of c.read_both-swept.new.second) c.into_source-first.result c.into_source-second.result ended ended_second fault c.read_both-swept.new.out ends
+    (bed_no_read order) (swept_no_read order c.args.limit) c.read_both-swept.ensures.own_failure c.read_both-swept.ensures.own_failure_second

@@ -4,6 +4,7 @@ use Rattle.bt_bed.proofs.ResultLemmas.{passed_on}
 use Rattle.bt_sweep.specs.SweepView.{order_of, state_of}
 use Rattle.bt_tool.specs.SweepLoop.{SweepsOrStops}
 use Rattle.bt_tool.proofs.SweepTurns.{first_stops, second_stops, turns_first, turns_second}
+use Rattle.bt_tool.proofs.OwnFailureLemmas.{none_kept}
 use Rattle.bt_tool.proofs.sweeping.sweep_all.Goals as goal
 
 pub loop-first-smaller-in-Continue-1 : goal.loop-first-smaller-in-Continue-1
@@ -22,8 +23,8 @@ loop-first-preserved-in-Continue-1 g c =
       c.turn_first.ensures.order ∙ now.1,
     )
 
-pub returns-in_err-turn_first-in-A : goal.returns-in_err-turn_first-in-A
-returns-in_err-turn_first-in-A g c =
+pub returns-in_err-turn_first-in-A-clause-sweeps : goal.returns-in_err-turn_first-in-A-clause-sweeps
+returns-in_err-turn_first-in-A-clause-sweeps g c =
     let now = c.loop-first.invariant in
     passed_on (λ r. SweepsOrStops g.A.Source.left g.A.Source.has_failed g.A.Source.end_told g.B.Source.left g.B.Source.has_failed g.B.Source.end_told (order_in c.args.first.now) (state_of c.args.sweep.now).shape (state_of c.args.sweep.now).rule (state_of c.args.sweep.now).limit c.args.first.now c.args.second.now c.args.out.now r c.turn_first.new.first c.loop-first.second (state_of c.turn_first.new.sweep) c.turn_first.new.out)
     c.from_residual.result c.in_err-turn_first-in-A.field-0.0 c.from_residual.ensures.1
@@ -47,11 +48,29 @@ loop-first-preserved g c =
       c.turn_second.ensures.order ∙ now.1,
     )
 
-pub returns-in_err-turn_second-in-B : goal.returns-in_err-turn_second-in-B
-returns-in_err-turn_second-in-B g c =
+pub returns-in_err-turn_second-in-B-clause-sweeps : goal.returns-in_err-turn_second-in-B-clause-sweeps
+returns-in_err-turn_second-in-B-clause-sweeps g c =
     let now = c.loop-first.invariant in
     passed_on (λ r. SweepsOrStops g.A.Source.left g.A.Source.has_failed g.A.Source.end_told g.B.Source.left g.B.Source.has_failed g.B.Source.end_told (order_in c.args.first.now) (state_of c.args.sweep.now).shape (state_of c.args.sweep.now).rule (state_of c.args.sweep.now).limit c.args.first.now c.args.second.now c.args.out.now r c.loop-first.first c.turn_second.new.second (state_of c.turn_second.new.sweep) c.turn_second.new.out)
     c.from_residual-in_err-turn_second-in-B.result c.in_err-turn_second-in-B.field-0.0 c.from_residual-in_err-turn_second-in-B.ensures.1
     (second_stops g.A.Source.left g.A.Source.has_failed g.A.Source.end_told g.B.Source.left g.B.Source.has_failed g.B.Source.end_told (state_of c.args.sweep.now).shape (state_of c.args.sweep.now).rule (state_of c.args.sweep.now).limit c.args.first.now c.args.second.now c.args.out.now
     c.requires.total c.requires.second c.requires.sorted c.requires.sorted_second c.loop-first.first c.loop-first.second (state_of c.loop-first.sweep) c.loop-first.out (order_of c.loop-first.sweep) now.1 now.0
     (sym c.want.ensures.is ∙ c.in-B.is) c.in_err-turn_second-in-B.field-0.0 c.turn_second.new.second (state_of c.turn_second.new.sweep) c.turn_second.new.out c.in_err-turn_second-in-B.ensures.turns)
+
+pub returns-in_err-turn_first-in-A-clause-own_failure : goal.returns-in_err-turn_first-in-A-clause-own_failure
+returns-in_err-turn_first-in-A-clause-own_failure g c = c.turn_first.ensures.own_failure c.loop-first.invariant.0.comes.first_passes.going
+
+pub returns-in_err-turn_first-in-A-clause-own_failure_second : goal.returns-in_err-turn_first-in-A-clause-own_failure_second
+returns-in_err-turn_first-in-A-clause-own_failure_second g c = none_kept g.B.Source.read_fails _ _ c.loop-first.invariant.0.comes.second_passes.going
+
+pub returns-in_err-turn_second-in-B-clause-own_failure : goal.returns-in_err-turn_second-in-B-clause-own_failure
+returns-in_err-turn_second-in-B-clause-own_failure g c = none_kept g.A.Source.read_fails _ _ c.loop-first.invariant.0.comes.first_passes.going
+
+pub returns-in_err-turn_second-in-B-clause-own_failure_second : goal.returns-in_err-turn_second-in-B-clause-own_failure_second
+returns-in_err-turn_second-in-B-clause-own_failure_second g c = c.turn_second.ensures.own_failure c.loop-first.invariant.0.comes.second_passes.going
+
+pub returns-in-Nothing-clause-own_failure : goal.returns-in-Nothing-clause-own_failure
+returns-in-Nothing-clause-own_failure g c = none_kept g.A.Source.read_fails _ _ c.loop-first.invariant.0.comes.first_passes.going
+
+pub returns-in-Nothing-clause-own_failure_second : goal.returns-in-Nothing-clause-own_failure_second
+returns-in-Nothing-clause-own_failure_second g c = none_kept g.B.Source.read_fails _ _ c.loop-first.invariant.0.comes.second_passes.going

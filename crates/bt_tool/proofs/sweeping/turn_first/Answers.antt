@@ -1,8 +1,9 @@
-use Rattle.std.proofs.Common.{inl, inr}
+use Rattle.std.proofs.Common.{◌∙◌, inl, inr}
 use Rattle.bt_bed.specs.Bed.{feature_lent}
 use Rattle.bt_bed.proofs.ResultLemmas.{passed_on}
 use Rattle.bt_sweep.specs.SweepView.{order_of, state_of}
 use Rattle.bt_tool.specs.Turns.{TurnsFirst}
+use Rattle.bt_tool.proofs.OwnFailureLemmas.{none_kept, told_kept}
 use Rattle.bt_tool.proofs.sweeping.turn_first.Goals as goal
 
 pub returns-in_err-give_a-in-Some-clause-turns : goal.returns-in_err-give_a-in-Some-clause-turns
@@ -26,3 +27,23 @@ returns-in_ok-give_a-in-Some-clause-turns g c =
       passes = c.advance.ensures;
       given = λ shape rule limit stage stands ordered. c.in_ok-give_a-in-Some.ensures.gives shape rule limit stage stands ordered;
     })
+
+pub returns-in_err-record-clause-own_failure : goal.returns-in_err-record-clause-own_failure
+returns-in_err-record-clause-own_failure g c = λ none.
+    let peek = rw c.in_err-record.was at c.peek.follows.holds-at-none in
+    told_kept g.A.Source.read_fails _ _ _ c.in_err-record.field-0.0 peek.answers.kept none peek.own_failure
+
+pub returns-in_err-give_a-in-Some-clause-own_failure : goal.returns-in_err-give_a-in-Some-clause-own_failure
+returns-in_err-give_a-in-Some-clause-own_failure g c = λ none.
+    let peek = rw (c.in_ok-record.was, c.in-Some.is) at c.peek.follows.holds-at-none in
+    none_kept g.A.Source.read_fails _ _ (peek.answers.read.goes ∙ none)
+
+pub returns-in_ok-give_a-in-Some-clause-own_failure : goal.returns-in_ok-give_a-in-Some-clause-own_failure
+returns-in_ok-give_a-in-Some-clause-own_failure g c = λ none.
+    let peek = rw (c.in_ok-record.was, c.in-Some.is) at c.peek.follows.holds-at-none in
+    none_kept g.A.Source.read_fails _ _ (c.advance.ensures.passes.goes ∙ peek.answers.read.goes ∙ none)
+
+pub returns-in-None-clause-own_failure : goal.returns-in-None-clause-own_failure
+returns-in-None-clause-own_failure g c = λ none.
+    let peek = rw (c.in_ok-record.was, c.in-None.is) at c.peek.follows.holds-at-none in
+    none_kept g.A.Source.read_fails _ _ peek.answers.goes

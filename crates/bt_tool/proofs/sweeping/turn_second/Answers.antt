@@ -7,6 +7,7 @@ use Rattle.bt_sweep.specs.Steps.{FailsToHold, FailsToWriteA, PassesLimit, TakesB
 use Rattle.bt_sweep.specs.SweepView.{order_of, state_of}
 use Rattle.bt_tool.specs.Turns.{TurnsSecond}
 use Rattle.bt_tool.proofs.PassedLemmas.{has_run_out, has_stepped, its_line}
+use Rattle.bt_tool.proofs.OwnFailureLemmas.{none_kept, told_kept}
 use Rattle.bt_tool.proofs.sweeping.turn_second.Goals as goal
 
 pub returns-in_err-step-clause-turns : goal.returns-in_err-step-clause-turns
@@ -76,3 +77,32 @@ returns-in_ok-end_b-in-None-clause-turns g c =
       ended = record { ends = has_run_out g.B.Source.left g.B.Source.has_failed c.args.second.now c.step.new.self (sym (ap (option_map feature_lent) c.in-None.is) ∙ c.record.ensures) c.in_ok-step.ensures.answers; sound = c.step.ensures.sound; order = c.step.ensures.order };
       given = λ shape rule limit stage a stands waits placed. c.in_ok-end_b-in-None.ensures.gives shape rule limit stage a stands waits placed;
     }))
+
+pub returns-in_err-step-clause-own_failure : goal.returns-in_err-step-clause-own_failure
+returns-in_err-step-clause-own_failure g c = λ none.
+    told_kept g.B.Source.read_fails _ _ _ c.in_err-step.field-0.0 c.in_err-step.ensures.answers.kept none c.in_err-step.ensures.own_failure
+
+pub returns-in_err-give_b-in-Some-clause-own_failure : goal.returns-in_err-give_b-in-Some-clause-own_failure
+returns-in_err-give_b-in-Some-clause-own_failure g c = λ none.
+    let gives = has_stepped g.B.Source.left g.B.Source.has_failed c.args.second.now c.step.new.self (feature_lent c.in-Some.record) (sym (ap (option_map feature_lent) c.in-Some.is) ∙ c.record.ensures) c.in_ok-step.ensures.answers in
+    none_kept g.B.Source.read_fails _ _ (gives.read.goes ∙ none)
+
+pub returns-in_err-end_b-in-None-clause-own_failure : goal.returns-in_err-end_b-in-None-clause-own_failure
+returns-in_err-end_b-in-None-clause-own_failure g c = λ none.
+    let ends = has_run_out g.B.Source.left g.B.Source.has_failed c.args.second.now c.step.new.self (sym (ap (option_map feature_lent) c.in-None.is) ∙ c.record.ensures) c.in_ok-step.ensures.answers in
+    none_kept g.B.Source.read_fails _ _ ends.goes
+
+pub returns-in-Yes-clause-own_failure : goal.returns-in-Yes-clause-own_failure
+returns-in-Yes-clause-own_failure g c = λ none.
+    let gives = has_stepped g.B.Source.left g.B.Source.has_failed c.args.second.now c.step.new.self (feature_lent c.in-Some.record) (sym (ap (option_map feature_lent) c.in-Some.is) ∙ c.record.ensures) c.in_ok-step.ensures.answers in
+    none_kept g.B.Source.read_fails _ _ (c.advance.ensures.passes.goes ∙ gives.read.goes ∙ none)
+
+pub returns-in-No-clause-own_failure : goal.returns-in-No-clause-own_failure
+returns-in-No-clause-own_failure g c = λ none.
+    let gives = has_stepped g.B.Source.left g.B.Source.has_failed c.args.second.now c.step.new.self (feature_lent c.in-Some.record) (sym (ap (option_map feature_lent) c.in-Some.is) ∙ c.record.ensures) c.in_ok-step.ensures.answers in
+    none_kept g.B.Source.read_fails _ _ (gives.read.goes ∙ none)
+
+pub returns-in_ok-end_b-in-None-clause-own_failure : goal.returns-in_ok-end_b-in-None-clause-own_failure
+returns-in_ok-end_b-in-None-clause-own_failure g c = λ none.
+    let ends = has_run_out g.B.Source.left g.B.Source.has_failed c.args.second.now c.step.new.self (sym (ap (option_map feature_lent) c.in-None.is) ∙ c.record.ensures) c.in_ok-step.ensures.answers in
+    none_kept g.B.Source.read_fails _ _ ends.goes

@@ -1,0 +1,211 @@
+-- Lemmas on failed reads that are told: each is of a read that failed in the run, whatever its source did before.
+use Rattle.std.proofs.Common.{◌≡◌, ℕ, Option, None, Some, Err, Bool, true, List, ap, sym, subst, ◌∙◌, inl, inr, ⊎_elim}
+use Rattle.std.specs.Prelude.{◌⊎◌, ⊤, MatchResult, Ok, Result}
+use Rattle.std.proofs.lemmas.Bool.{false≢true}
+use Rattle.bt_lines.specs.Fault.{Told, no_memory, read_failed, write_failed}
+use Rattle.bt_lines.specs.Filling.{LastReadFails}
+use Rattle.bt_lines.specs.Names.{told}
+use Rattle.bt_lines.specs.Output.{Output}
+use Rattle.bt_lines.specs.Reader.{Hands, TellsOwnFailure as LineTellsOwnFailure, fault_kept as line_fault, source_of}
+use Rattle.bt_lines.specs.declared.fault.Fault.{Fault}
+use Rattle.bt_lines.specs.declared.fault.Input.{Input}
+use Rattle.bt_lines.specs.declared.fault.Input.TheVariants.{Genome, First, Second}
+use Rattle.bt_lines.specs.declared.fault.Kind.{Kind}
+use Rattle.bt_lines.specs.declared.fault.Kind.TheVariants.{ReadFailed, TooManyHeld}
+use Rattle.bt_lines.specs.declared.fault.Place.{Place}
+use Rattle.bt_lines.specs.declared.line.Line.{Line}
+use Rattle.bt_lines.specs.declared.line_reader.LineReader.{LineReader}
+use Rattle.bt_bed.specs.Good.{Format, Member}
+use Rattle.bt_bed.specs.LineKind.{IsBedKind, fault_at_line}
+use Rattle.bt_bed.specs.Order.{Order}
+use Rattle.bt_bed.specs.Reading.{MemberReader, TellsOwnFailure}
+use Rattle.bt_bed.specs.declared.genome.Genome.{Genome as GenomeTable}
+use Rattle.bt_tool.specs.Chromosomes.{WritesOutput}
+use Rattle.bt_tool.specs.Feeding.{FeedsUpTo}
+use Rattle.bt_tool.specs.Flushing.{Flushes, FlushesAll, FlushFails, StaysFailed}
+use Rattle.bt_tool.specs.Pair.{Making, Pair}
+use Rattle.bt_tool.specs.PairEnds.{Finishes, InputsEnd, Why}
+use Rattle.bt_tool.specs.Passed.{HasFaultBehind, IsKeptBelow, IsOwnFault, KeepsOwnFault}
+use Rattle.bt_tool.specs.SweepReport.{IsSweptKind}
+use Rattle.bt_tool.specs.Telling.{IsOwnFailure, IsOwnFailureIf, TellsOwnReads}
+use Rattle.bt_tool.specs.declared.plan_type.Command.{Command}
+use Rattle.bt_tool.proofs.CameMembers.{BeginsAt}
+use Rattle.bt_tool.proofs.FaultLemmas.{memory_no_read, some_is, write_no_read}
+use Rattle.bt_tool.proofs.HandedReader.{passes_by}
+
+-- a failed read is of one input
+pub same_input : (one other : Input) (m n : ℕ) → read_failed one m ≡ read_failed other n → one ≡ other
+same_input one other m n e =
+    let places : Some (record { input = one; line = m }) ≡ Some (record { input = other; line = n }) = ap (λ (f : Told). f.place) e in
+    let same : record { input = one; line = m } ≡ record { input = other; line = n } = cc in
+    ap (λ (p : Place). p.input) same
+
+-- a fault of a kind that no line can have
+never_read : (Kinds : Kind → Type 0) → (Kinds ReadFailed → ⊥) → (input : Input) (line : ℕ) (kind : Kind) → Kinds kind → (other : Input) (at : ℕ) → fault_at_line input line kind ≡ read_failed other at → ⊥
+never_read Kinds never input line kind of_kind other at e = never (subst Kinds (ap (λ (f : Told). f.kind) e) of_kind)
+
+pub bed_no_read : (order : Order) → IsBedKind order ReadFailed → ⊥
+bed_no_read order kind = false≢true kind.0
+
+pub swept_no_read : (order : Order) (limit : Option ℕ) → IsSweptKind order limit ReadFailed → ⊥
+swept_no_read order limit (inl kind) = false≢true kind.0
+swept_no_read order limit (inr held) = let apart : ReadFailed ≡ TooManyHeld = held.1 in cc
+
+-- a reader that keeps no fault
+pub none_kept : {S : Type 0} (Fails : S → S → Type 0) (kept : Option Told) (lines : LineReader S) → kept ≡ None → IsOwnFault Fails kept lines
+none_kept Fails kept lines none input line e = absurd (let apart : None ≡ Some (read_failed input line) = sym none ∙ e in cc)
+
+-- one that keeps the fault that it told
+pub told_kept : {S : Type 0} (Fails : S → S → Type 0) (before kept : Option Told) (lines : LineReader S) (fault : Fault) → kept ≡ Some (told fault) → before ≡ None → TellsOwnFailure {T = Unit {0}} Fails before (Err fault) lines
+    → IsOwnFault Fails kept lines
+told_kept Fails before kept lines fault is none own input line e = own none input line (some_is (told fault) (read_failed input line) (sym is ∙ e))
+
+-- the same of a reader of lines
+pub line_told_kept : {S : Type 0} (Fails : S → S → Type 0) (old lines : LineReader S) (fault : Fault) → line_fault lines ≡ Some (told fault) → line_fault old ≡ None → LineTellsOwnFailure {A = Option Line} Fails old (Err fault) lines
+    → IsOwnFault Fails (line_fault lines) lines
+line_told_kept Fails old lines fault is none own input line e =
+    let same = some_is (told fault) (read_failed input line) (sym is ∙ e) in
+    own none (λ memory. memory_no_read input line (sym memory ∙ same))
+
+-- what its reader of lines keeps
+pub kept_below : {S A State : Type 0} (Fails : S → S → Type 0) (reader : MemberReader S A State) (lines : LineReader S) → reader.below ≡ lines → IsKeptBelow reader lines → IsOwnFault Fails (line_fault lines) lines → KeepsOwnFault Fails reader
+kept_below Fails reader lines is below own input line e = subst (IsOwnFault Fails (line_fault lines)) (sym is) own input line (below input line e)
+
+-- no failed read is told
+pub tells_none : (G F S : Type 0) (fault : Option Told) → ((input : Input) (line : ℕ) → fault ≡ Some (read_failed input line) → ⊥) → TellsOwnReads G F S fault
+tells_none G F S fault never = record {
+  genome_file = λ line e. absurd (never Genome line e);
+  first_input = λ line e. absurd (never First line e);
+  second_input = λ line e. absurd (never Second line e);
+}
+
+pub tells_nothing : (G F S : Type 0) (fault : Option Told) → fault ≡ None → TellsOwnReads G F S fault
+tells_nothing G F S fault none = tells_none G F S fault (λ input line e. let apart : None ≡ Some (read_failed input line) = sym none ∙ e in cc)
+
+pub tells_write : (G F S : Type 0) (fault : Told) → fault ≡ write_failed → TellsOwnReads G F S (Some fault)
+tells_write G F S fault is = tells_none G F S (Some fault) (λ input line e. write_no_read input line (sym is ∙ some_is fault (read_failed input line) e))
+
+-- one input of several
+pub tells_first : (S F : Type 0) (fault : Option Told) → TellsOwnReads ⊥ F ⊥ fault → TellsOwnReads ⊥ F S fault
+tells_first S F fault own = record { genome_file = own.genome_file; first_input = own.first_input; second_input = λ line e. absurd (own.second_input line e) }
+
+-- an input at its end, and what it was at first
+module _ {S A State : Type 0} (left : S → Option (List ℕ)) (failed end : S → Bool) (Fails : S → S → Type 0) (format : Format A State) (input : Input) (first : S) (old : MemberReader S A State) (begins : BeginsAt left format input first old)
+    (new : MemberReader S A State) (last : S) (ended : source_of new.below ≡ last) (hands : (bytes : List ℕ) × Hands left old.below bytes new.below) (own : KeepsOwnFault Fails new) where
+  -- a failed read that is told behind some members
+  pub behind_own : (Kinds : Kind → Type 0) → (Kinds ReadFailed → ⊥) → (past : List (Member A)) (fault : Told) → HasFaultBehind left failed end old Kinds past fault new → (other : Input) (line : ℕ) → fault ≡ read_failed other line
+      → (other ≡ input) × IsOwnFailure left Fails first last
+  behind_own Kinds never past fault (inl wrong) other line e = absurd (never_read Kinds never _ wrong.line wrong.kind wrong.of_kind other line (sym wrong.is ∙ e))
+  behind_own Kinds never past fault (inr unread) other line e = (
+    sym (same_input _ other _ line (sym unread.is ∙ e)) ∙ begins.input_is,
+    ⊎_elim (λ fails. inl (subst (LastReadFails Fails) ended fails)) (λ bound. inr (passes_by left failed first last old.below new.below begins.source ended begins.bytes hands bound))
+        (own other line (unread.kept ∙ ap Some e)),
+  )
+
+-- the members of the first input were fed to an engine up to a fault
+module _ {S A State : Type 0} (left : S → Option (List ℕ)) (failed end : S → Bool) (Fails : S → S → Type 0) (format : Format A State) (first : S) (old : MemberReader S A State) (begins : BeginsAt left format First first old)
+    (new : MemberReader S A State) (last : S) (ended : source_of new.below ≡ last) (own : KeepsOwnFault Fails new) where
+  pub feeds_own : (settled : List A → List ℕ) (Kinds : Kind → Type 0) → (Kinds ReadFailed → ⊥) → (Sorted : List A → Type 0) (out : Output) (fault : Told) (grown : Output)
+      → FeedsUpTo settled Kinds Sorted left failed end old out fault new grown → TellsOwnReads ⊥ (IsOwnFailure left Fails first last) ⊥ (Some fault)
+  feeds_own settled Kinds never Sorted out fault grown fed =
+      let by : (other : Input) (line : ℕ) → Some fault ≡ Some (read_failed other line) → (other ≡ First) × IsOwnFailure left Fails first last =
+      λ other line e.
+          let is = some_is fault (read_failed other line) e in
+          elim fed.cause [
+            | inl reading ↦ behind_own left failed end Fails format First first old begins new last ended fed.took.bytes own Kinds never fed.past fault reading.behind other line is
+            | inr others ↦ elim others [
+              | inl growing ↦ absurd (memory_no_read other line (sym growing.lacks.is ∙ is))
+              | inr writing ↦ absurd (write_no_read other line (sym writing.is ∙ is))
+            ]
+          ]
+      in
+      record {
+        genome_file = λ line e. let apart : Genome ≡ First = (by Genome line e).0 in cc;
+        first_input = λ line e. (by First line e).1;
+        second_input = λ line e. let apart : Second ≡ First = (by Second line e).0 in cc;
+      }
+
+-- a run over two readers ended
+module _ {A B X Y U V : Type 0} (making : Making X Y) (pair : Pair A B X Y U V) (out : Output) (a_fails : A → A → Type 0) (b_fails : B → B → Type 0) (first_format : Format X U) (second_format : Format Y V)
+    (one_before : A) (two_before : B) (begins : BeginsAt pair.a_left first_format First one_before pair.first) (begins_second : BeginsAt pair.b_left second_format Second two_before pair.second)
+    (first : MemberReader A X U) (second : MemberReader B Y V) (one_after : A) (two_after : B) (ended : source_of first.below ≡ one_after) (ended_second : source_of second.below ≡ two_after) (fault : Option Told) (grown : Output)
+    (w : Finishes making pair out fault first second grown) (no_first : making.first_kinds ReadFailed → ⊥) (no_second : making.second_kinds ReadFailed → ⊥) (own : KeepsOwnFault a_fails first) (own_second : KeepsOwnFault b_fails second) where
+  abbrev OwnFirst : Input → Type 0
+  OwnFirst input = (input ≡ First) × IsOwnFailure pair.a_left a_fails one_before one_after
+
+  abbrev OwnSecond : Input → Type 0
+  OwnSecond input = (input ≡ Second) × IsOwnFailure pair.b_left b_fails two_before two_after
+
+  of_first : (past : List (Member X)) (other : Told) → HasFaultBehind pair.a_left pair.a_failed pair.a_end pair.first making.first_kinds past other first → (input : Input) (line : ℕ) → other ≡ read_failed input line → OwnFirst input
+  of_first past other behind =
+      behind_own pair.a_left pair.a_failed pair.a_end a_fails first_format First one_before pair.first begins first one_after ended w.wrote.first_bytes own making.first_kinds no_first past other behind
+
+  of_second : (past : List (Member Y)) (other : Told) → HasFaultBehind pair.b_left pair.b_failed pair.b_end pair.second making.second_kinds past other second → (input : Input) (line : ℕ) → other ≡ read_failed input line → OwnSecond input
+  of_second past other behind =
+      behind_own pair.b_left pair.b_failed pair.b_end b_fails second_format Second two_before pair.second begins_second second two_after ended_second w.wrote.second_bytes own_second making.second_kinds no_second past other behind
+
+  -- the inputs told it
+  by_inputs : InputsEnd making pair out w.written w.wrote.given w.wrote.ended first second fault → (input : Input) (line : ℕ) → fault ≡ Some (read_failed input line) → OwnFirst input ⊎ OwnSecond input
+  by_inputs (inl stops) input line e = inl (of_first stops.2.past stops.0 stops.2.cause input line (some_is stops.0 (read_failed input line) (sym stops.1 ∙ e)))
+  by_inputs (inr (inl stops)) input line e = inr (of_second stops.2.past stops.0 stops.2.fails.cause input line (some_is stops.0 (read_failed input line) (sym stops.1 ∙ e)))
+  by_inputs (inr (inr (inr stops))) input line e =
+      absurd (never_read making.second_kinds no_second Second stops.2.m.line stops.2.kind stops.2.of_kind input line (sym stops.2.is ∙ some_is stops.0 (read_failed input line) (sym stops.1 ∙ e)))
+  by_inputs (inr (inr (inl stops))) input line e =
+      elim stops.rest [
+        | inl end ↦ absurd (let apart : None ≡ Some (read_failed input line) = sym end.0 ∙ e in cc)
+        | inr others ↦ elim others [
+          | inl other ↦ inr (of_second stops.past_second other.0 other.2.cause input line (some_is other.0 (read_failed input line) (sym other.1 ∙ e)))
+          | inr other ↦ absurd (never_read making.second_kinds no_second Second other.2.line other.2.kind other.2.of_kind input line (sym other.2.is ∙ some_is other.0 (read_failed input line) (sym other.1 ∙ e)))
+        ]
+      ]
+
+  by_cause : Why making pair out w.written w.bytes w.wrote.given w.wrote.ended first second fault grown → (input : Input) (line : ℕ) → fault ≡ Some (read_failed input line) → OwnFirst input ⊎ OwnSecond input
+  by_cause (inl (end, puts, works)) input line e = by_inputs end input line e
+  by_cause (inr (inl ran)) input line e = absurd (memory_no_read input line (some_is no_memory (read_failed input line) (sym ran.0 ∙ e)))
+  by_cause (inr (inr cut)) input line e = absurd (write_no_read input line (some_is write_failed (read_failed input line) (sym cut.0 ∙ e)))
+
+  never_genome : OwnFirst Genome ⊎ OwnSecond Genome → ⊥
+  never_genome (inl own) = let apart : Genome ≡ First = own.0 in cc
+  never_genome (inr own) = let apart : Genome ≡ Second = own.0 in cc
+
+  only_first : OwnFirst First ⊎ OwnSecond First → IsOwnFailure pair.a_left a_fails one_before one_after
+  only_first (inl own) = own.1
+  only_first (inr own) = absurd (let apart : First ≡ Second = own.0 in cc)
+
+  only_second : OwnFirst Second ⊎ OwnSecond Second → IsOwnFailure pair.b_left b_fails two_before two_after
+  only_second (inl own) = absurd (let apart : Second ≡ First = own.0 in cc)
+  only_second (inr own) = own.1
+
+  pub both_own : TellsOwnReads ⊥ (IsOwnFailure pair.a_left a_fails one_before one_after) (IsOwnFailure pair.b_left b_fails two_before two_after) fault
+  both_own = record {
+    genome_file = λ line e. never_genome (by_cause w.why Genome line e);
+    first_input = λ line e. only_first (by_cause w.why First line e);
+    second_input = λ line e. only_second (by_cause w.why Second line e);
+  }
+
+-- a flush tells no failed read of its own
+flushed_read : (old new : Output) (fault answer : Option Told) → (FlushesAll old fault answer new ⊎ FlushFails old fault answer new) ⊎ StaysFailed old fault answer new → (input : Input) (line : ℕ) → answer ≡ Some (read_failed input line)
+    → fault ≡ Some (read_failed input line)
+flushed_read old new fault answer (inl (inl all)) input line e = sym all.same_fault ∙ e
+flushed_read old new fault answer (inl (inr fails)) input line e = absurd (write_no_read input line (some_is write_failed (read_failed input line) (sym fails.is ∙ e)))
+flushed_read old new fault answer (inr stays) input line e = absurd (write_no_read input line (some_is write_failed (read_failed input line) (sym stays.is ∙ e)))
+
+pub flushed_own : (G F S : Type 0) (old new : Output) (fault answer : Option Told) → Flushes old fault answer new → TellsOwnReads G F S fault → TellsOwnReads G F S answer
+flushed_own G F S old new fault answer flush own = record {
+  genome_file = λ line e. own.genome_file line (flushed_read old new fault answer flush.ends Genome line e);
+  first_input = λ line e. own.first_input line (flushed_read old new fault answer flush.ends First line e);
+  second_input = λ line e. own.second_input line (flushed_read old new fault answer flush.ends Second line e);
+}
+
+-- the genome file was read, or its fault told, and then the other inputs
+module _ {A B : Type 0} (a_left : A → Option (List ℕ)) (a_failed a_end : A → Bool) (b_left : B → Option (List ℕ)) (b_failed : B → Bool) (command : Command) (first : A) (second : Option B) (out : Output) (fault : Option Told) (first_after : A)
+    (second_after : Option B) (grown : Output) where
+  pub all_own : (G F S : Type 0) (chromosomes : Result (Option GenomeTable) Fault) → MatchResult chromosomes (λ _. ⊤) (λ fault. TellsOwnReads G ⊥ ⊥ (Some (told fault)))
+      → WritesOutput a_left a_failed a_end b_left b_failed command chromosomes first second out fault first_after second_after grown
+      → MatchResult chromosomes (λ _. TellsOwnReads ⊥ F S fault) (λ _. ⊤) → TellsOwnReads G F S fault
+  all_own G F S (Ok table) read written own = record { genome_file = λ line e. absurd (own.genome_file line e); first_input = own.first_input; second_input = own.second_input }
+  all_own G F S (Err wrong) read written own = record {
+    genome_file = λ line e. read.genome_file line (sym written.is ∙ e);
+    first_input = λ line e. absurd (read.first_input line (sym written.is ∙ e));
+    second_input = λ line e. absurd (read.second_input line (sym written.is ∙ e));
+  }
