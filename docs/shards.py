@@ -429,26 +429,34 @@ def times(top, count):
           f"human chromosomes, on {os.cpu_count()} processors, with a load of {os.getloadavg()[0]:.1f}")
     ready = seconds("./index.sh a.bed b.bed long.bed; ./names.sh genome.txt a.bed.gz b.bed.gz long.bed.gz > names.txt", folder)
     print(f"  index.sh and names.sh: {ready[0]:.2f} s by the clock, {ready[1]:.2f} s of processors")
-    for words in ("intersect -a a.bed -b b.bed -g genome.txt -u", "intersect -a a.bed -b long.bed -g genome.txt -c"):
+    for words in ("intersect -a a.bed -b b.bed -g genome.txt -u", "intersect -a a.bed -b long.bed -g genome.txt -s -c"):
         shard = f"./shard.sh {{}} {words.replace('.bed', '.bed.gz')}"
-        print(f"  {words}: time by the clock, and of processors")
+        print(f"  {words}: time by the clock, of processors, and what other work took of them")
         for name, script in [("whole", f"bedtools {words} > out"),
                              ("whole, unpacked by bgzip", f"bgzip -dc a.bed.gz | bedtools {words.replace('-a a.bed', '-a -')} > out"),
                              *((f"shards, jobs: {jobs}", f"parallel --jobs {jobs} --keep-order {shard} :::: names.txt > out") for jobs in (1, 2, 4)),
                              ("the largest shard", f"{shard.replace('{}', 'chr1')} > out")]:
-            by_clock, used = seconds(script, folder)
-            print(f"    {name:<26}{by_clock:6.2f} s{used:7.2f} s", flush=True)
+            by_clock, used, others = seconds(script, folder)
+            print(f"    {name:<26}{by_clock:6.2f} s{used:7.2f} s{others:7.2f} s", flush=True)
     return 0
 
 
 def seconds(script, folder):
-    """How long a script takes by the clock, and how much time of processors."""
-    before, begin = os.times(), time.monotonic()
+    """How long a script takes by the clock, how much time of processors, and how much all other processes took."""
+    before, begin, all_before = os.times(), time.monotonic(), busy()
     done = run(script, folder)
-    after, end = os.times(), time.monotonic()
+    after, end, all_after = os.times(), time.monotonic(), busy()
     if done.returncode:
         raise ValueError(done.stderr)
-    return end - begin, after.children_user - before.children_user + after.children_system - before.children_system
+    used = after.children_user - before.children_user + after.children_system - before.children_system
+    return end - begin, used, max(0.0, all_after - all_before - used)
+
+
+def busy():
+    """The seconds that all processors were busy since the machine was started."""
+    ticks = Path("/proc/stat").read_text(encoding="ascii").splitlines()[0].split()[1:]
+    user, nice, system, _idle, _wait, hard, soft, stolen = (int(each) for each in ticks[:8])
+    return (user + nice + system + hard + soft + stolen) / os.sysconf("SC_CLK_TCK")
 
 
 def pages():
