@@ -1,18 +1,20 @@
 #!/usr/bin/env python3
 """Runs the recipes of SHARDS.md with the program in bin/, and compares what they write with the output of the whole.
 
-    docs/shards.py [--records N] [--only WORD..]
+    docs/shards.py [--records N] [--times N] [--only WORD..]
 
 The inputs have 25 chromosomes. Each of the seven commands is run whole, and in shards as the page's blocks do: by GNU
 parallel over files of each kind below, by Snakemake, and by a job array of Slurm, for which a Slurm of one node is
 started in a folder of its own, with nothing of a Slurm that is there already. Shards with a fault are run too, and the
-times of runs over N records (1,000,000 where it is missing) with 1, 2 and 4 jobs are printed. With --only just the
-parts with these names are run: pages, parallel, faults, ssh, snakemake, slurm, times. Ends with 1 where bytes differ or
-a fault isn't shown as the page says, and says which tools aren't on PATH and what wasn't tried for that.
+times of runs over N records (1,000,000 where it is missing) with 1, 2 and 4 jobs are printed, with --times the least of
+so many rounds; beside each stands what other work took of the processors meanwhile. With --only just the parts with
+these names are run: pages, parallel, faults, ssh, snakemake, slurm, times. Ends with 1 where bytes differ or a fault
+isn't shown as the page says, and says which tools aren't on PATH and what wasn't tried for that.
 """
 
 import argparse
 import getpass
+import math
 import os
 import random
 import re
@@ -415,8 +417,8 @@ def slurm_cases(top, environment):
     return wrong.count(True)
 
 
-def times(top, count):
-    """Prints the times of whole runs, and of shards with 1, 2 and 4 jobs."""
+def times(top, count, rounds):
+    """Prints the times of whole runs, and of shards with 1, 2 and 4 jobs, the least of so many rounds."""
     sys.path.insert(0, str(TOP / "bench"))
     from compare import EXONS, READS, Features, write_genome  # pylint: disable=import-outside-toplevel,import-error
     folder = Path(top, "times")
@@ -429,16 +431,24 @@ def times(top, count):
           f"human chromosomes, on {os.cpu_count()} processors, with a load of {os.getloadavg()[0]:.1f}")
     ready = seconds("./index.sh a.bed b.bed long.bed; ./names.sh genome.txt a.bed.gz b.bed.gz long.bed.gz > names.txt", folder)
     print(f"  index.sh and names.sh: {ready[0]:.2f} s by the clock, {ready[1]:.2f} s of processors")
-    for words in ("intersect -a a.bed -b b.bed -g genome.txt -u", "intersect -a a.bed -b long.bed -g genome.txt -s -c"):
-        shard = f"./shard.sh {{}} {words.replace('.bed', '.bed.gz')}"
-        print(f"  {words}: time by the clock, of processors, and what other work took of them")
-        for name, script in [("whole", f"bedtools {words} > out"),
-                             ("whole, unpacked by bgzip", f"bgzip -dc a.bed.gz | bedtools {words.replace('-a a.bed', '-a -')} > out"),
-                             *((f"shards, jobs: {jobs}", f"parallel --jobs {jobs} --keep-order {shard} :::: names.txt > out") for jobs in (1, 2, 4)),
-                             ("the largest shard", f"{shard.replace('{}', 'chr1')} > out")]:
-            by_clock, used, others = seconds(script, folder)
-            print(f"    {name:<26}{by_clock:6.2f} s{used:7.2f} s{others:7.2f} s", flush=True)
+    rows = rows_of("intersect -a a.bed -b b.bed -g genome.txt -u") | rows_of("intersect -a a.bed -b long.bed -g genome.txt -s -c")
+    least = dict.fromkeys(rows, (math.inf,))
+    for _ in range(rounds):
+        least = {row: min(least[row], seconds(script, folder)) for row, script in rows.items()}
+    print(f"  the least of {rounds} rounds by the clock, with what it took of processors, and what other work took of them meanwhile")
+    for (words, name), (by_clock, used, others) in least.items():
+        print(f"  {words}\n" if name == "whole" else "", f"    {name:<26}{by_clock:6.2f} s{used:7.2f} s{others:7.2f} s", sep="")
     return 0
+
+
+def rows_of(words):
+    """What is timed of a command line, by it and a name: the whole run, with 1, 2 and 4 jobs, and the largest shard."""
+    shard = f"./shard.sh {{}} {words.replace('.bed', '.bed.gz')}"
+    scripts = {"whole": f"bedtools {words} > out",
+               "whole, unpacked by bgzip": f"bgzip -dc a.bed.gz | bedtools {words.replace('-a a.bed', '-a -')} > out",
+               **{f"shards, jobs: {jobs}": f"parallel --jobs {jobs} --keep-order {shard} :::: names.txt > out" for jobs in (1, 2, 4)},
+               "the largest shard": f"{shard.replace('{}', 'chr1')} > out"}
+    return {(words, name): script for name, script in scripts.items()}
 
 
 def seconds(script, folder):
@@ -475,6 +485,7 @@ def pages():
 def main():
     parser = argparse.ArgumentParser(add_help=False)
     parser.add_argument("--records", type=int, default=1_000_000)
+    parser.add_argument("--times", type=int, default=1)
     parser.add_argument("--only", nargs="*", default=[])
     given = parser.parse_args()
     missing = [name for name in ("tabix", "bgzip", "parallel") if not shutil.which(name)]
@@ -482,7 +493,7 @@ def main():
         print(f"no {' and no '.join(missing)} on PATH: no shard was tried")
         return pages()
     parts = {"parallel": by_parallel, "faults": faults, "ssh": by_ssh, "snakemake": lambda top: by_snakemake(top) + snakemake_fault(top),
-             "slurm": by_slurm, "times": lambda top: times(top, given.records)}
+             "slurm": by_slurm, "times": lambda top: times(top, given.records, given.times)}
     if not shutil.which("snakemake"):
         print("no snakemake on PATH: the Snakefile wasn't tried")
         del parts["snakemake"]
