@@ -1,11 +1,12 @@
 -- Lemmas on eight bytes that are read as one number, the first in its lowest byte.
-use Rattle.std.proofs.Common.{suc, inl, inr, ◌≡◌, ℕ, ◌+◌, ◌-◌, ◌*◌, ◌/◌, ◌%◌, ◌^◌, ◌<◌, ◌≤◌, true, false, List, [], ◌∷◌, length, get_or, Some, None, refl, sym, ap, ◌∙◌, arith, bit_and, w64, ltb, leb}
+use Rattle.std.proofs.Common.{suc, inl, inr, ◌≡◌, ℕ, ◌+◌, ◌-◌, ◌*◌, ◌/◌, ◌%◌, ◌^◌, ◌<◌, ◌≤◌, true, false, List, [], ◌∷◌, length, get_or, Some, None, refl, sym, ap, ◌∙◌, arith, bit_and, bit_xor, w64, ltb, leb}
 use Rattle.std.proofs.lemmas.Bool.{cases_Bool, and_parts}
 use Rattle.std.proofs.lemmas.Bool.Decides.{nat_tests}
-use Rattle.std.proofs.lemmas.Nat.{and_block}
+use Rattle.std.proofs.lemmas.Nat.{and_block, and_le_l, and_le_r, and_mask, mod_below, shr_split, xor_block, xor_of_8}
 use Rattle.std.proofs.lemmas.Nat.Bits.{and_high}
 use Rattle.std.specs.Char.{is_ascii_digit, digit_value}
 use Rattle.std.specs.Int.{from_le_bytes}
+use Rattle.std.specs.Int.Bits.{and_zero_r, xor_add_and, xor_zero_r}
 use Rattle.std.specs.List.{list_all}
 use Rattle.std.specs.Str.Parse.{digits_value}
 use Rattle.bt_lines.proofs.NumberLemmas.{digit_is, refused_second, value_of_digits}
@@ -59,31 +60,84 @@ looser : (bytes : List ℕ) (low high lower higher : ℕ) → lower ≤ low → 
 looser [] low high lower higher l h all = tt
 looser (byte ∷ bytes) low high lower higher l h all = (omega arith, omega arith, looser bytes low high lower higher l h all.2)
 
-both : (a b r s : ℕ) → r < 2 ^ 8 → s < 2 ^ 8 → a * 2 ^ 8 + r ≡ b * 2 ^ 8 + s → (a ≡ b) × (r ≡ s)
-both a b r s p q e = (omega arith, omega arith)
+-- each with the bits of a zero's code flipped
+abbrev pub flipped : List ℕ → List ℕ
+flipped [] = []
+flipped (byte ∷ bytes) = bit_xor byte 48 ∷ flipped bytes
+
+flipped_length : (bytes : List ℕ) → length (flipped bytes) ≡ length bytes
+flipped_length [] = refl
+flipped_length (byte ∷ bytes) = ap suc (flipped_length bytes)
+
+flipped_worth : (bytes : List ℕ) → AreWithin 0 255 bytes → bit_xor (worth bytes) (worth (all_of 48 bytes)) ≡ worth (flipped bytes)
+flipped_worth [] all = refl
+flipped_worth (byte ∷ bytes) all =
+    let low : byte < 2 ^ 8 = omega arith in
+    let zero : 48 < 2 ^ 8 = omega arith in
+    xor_block 8 (worth bytes) (worth (all_of 48 bytes)) byte 48 low zero ∙ ap (λ n. n * 2 ^ 8 + bit_xor byte 48) (flipped_worth bytes all.2)
+
+flipped_within : (bytes : List ℕ) → AreWithin 0 255 bytes → AreWithin 0 255 (flipped bytes)
+flipped_within [] all = tt
+flipped_within (byte ∷ bytes) all =
+    let small = xor_of_8 byte 48 (omega arith) (omega arith) in
+    (omega arith, omega arith, flipped_within bytes all.2)
+
+-- both halves of a byte whose bits are flipped
+flipped_byte : (byte : ℕ) → bit_xor byte 48 ≡ bit_xor (byte / 16) 3 * 16 + byte % 16
+flipped_byte byte =
+    ap (λ b. bit_xor b 48) (sym (shr_split byte 4))
+    ∙ xor_block 4 (byte / 16) 3 (byte % 16) 0 (mod_below byte 16 (omega arith)) (omega arith)
+    ∙ ap (λ n. bit_xor (byte / 16) 3 * 16 + n) (xor_zero_r (byte % 16))
+
+flipped_digit : (byte : ℕ) → 48 ≤ byte → byte ≤ 57 → bit_xor byte 48 ≡ byte - 48
+flipped_digit byte low high =
+    let upper : byte / 16 ≡ 3 = omega arith in
+    flipped_byte byte ∙ ap (λ n. bit_xor n 3 * 16 + byte % 16) upper ∙ omega arith
+
+-- a byte that is small with its bits flipped is a digit
+digit_flipped : (byte : ℕ) → bit_xor byte 48 ≤ 9 → (48 ≤ byte) × (byte ≤ 57)
+digit_flipped byte small =
+    let is = flipped_byte byte in
+    let sum = xor_add_and (byte / 16) 3 in
+    let most = and_le_r (byte / 16) 3 in
+    let own = and_le_l (byte / 16) 3 in
+    let none : bit_xor (byte / 16) 3 ≡ 0 = omega arith in
+    (omega arith, omega arith)
+
+flipped_digits : (bytes : List ℕ) → AreWithin 48 57 bytes → AreWithin 0 9 (flipped bytes)
+flipped_digits [] all = tt
+flipped_digits (byte ∷ bytes) all =
+    let is = flipped_digit byte all.0 all.1 in
+    (omega arith, omega arith, flipped_digits bytes all.2)
+
+digits_flipped : (bytes : List ℕ) → AreWithin 0 9 (flipped bytes) → AreWithin 48 57 bytes
+digits_flipped [] all = tt
+digits_flipped (byte ∷ bytes) all =
+    let is = digit_flipped byte all.1 in
+    (is.0, is.1, digits_flipped bytes all.2)
 
 -- the upper half of a byte
 upper : (byte : ℕ) → bit_and byte 240 ≡ (byte / 16 % 16) * 16
 upper byte = and_high byte 4 4
 
-upper_byte : (byte : ℕ) → bit_and byte 240 < 2 ^ 8
-upper_byte byte = rw (upper byte) (omega arith)
-
--- bytes whose upper halves are those of digits
-uppers : (bytes : List ℕ) → AreWithin 0 255 bytes → worth (masked bytes 240) ≡ worth (all_of 48 bytes) → AreWithin 48 63 bytes
+-- bytes whose upper halves are 0
+uppers : (bytes : List ℕ) → AreWithin 0 255 bytes → worth (masked bytes 240) ≡ 0 → AreWithin 0 15 bytes
 uppers [] all e = tt
 uppers (byte ∷ bytes) all e =
-    let parts = both (worth (masked bytes 240)) (worth (all_of 48 bytes)) (bit_and byte 240) 48 (upper_byte byte) (omega arith) e in
-    let here : (byte / 16 % 16) * 16 ≡ 48 = sym (upper byte) ∙ parts.1 in
-    (omega arith, omega arith, uppers bytes all.2 parts.0)
+    let is = upper byte in
+    let rest : worth (masked bytes 240) ≡ 0 = omega arith in
+    (omega arith, omega arith, uppers bytes all.2 rest)
 
--- six more keep them where they are digits
-sixes : (bytes : List ℕ) → AreWithin 48 63 bytes → worth (masked (raised bytes 6) 240) ≡ worth (all_of 48 bytes) → AreWithin 48 57 bytes
-sixes [] all e = tt
-sixes (byte ∷ bytes) all e =
-    let parts = both (worth (masked (raised bytes 6) 240)) (worth (all_of 48 bytes)) (bit_and (byte + 6) 240) 48 (upper_byte (byte + 6)) (omega arith) e in
-    let here : ((byte + 6) / 16 % 16) * 16 ≡ 48 = sym (upper (byte + 6)) ∙ parts.1 in
-    (omega arith, omega arith, sixes bytes all.2 parts.0)
+no_uppers : (bytes : List ℕ) → AreWithin 0 15 bytes → worth (masked bytes 240) ≡ 0
+no_uppers [] all = refl
+no_uppers (byte ∷ bytes) all =
+    let is = upper byte in
+    let rest = no_uppers bytes all.2 in
+    omega arith
+
+lowered_within : (bytes : List ℕ) (high more : ℕ) → AreWithin 0 (high + more) (raised bytes more) → AreWithin 0 high bytes
+lowered_within [] high more all = tt
+lowered_within (byte ∷ bytes) high more all = (omega arith, omega arith, lowered_within bytes high more all.2)
 
 digit_within : (byte : ℕ) → is_ascii_digit byte ≡ true → (48 ≤ byte) × (byte ≤ 57)
 digit_within byte digit = (grind (arith, nat_tests), grind (arith, nat_tests))
@@ -102,28 +156,17 @@ within_digits : (bytes : List ℕ) → AreWithin 48 57 bytes → list_all is_asc
 within_digits [] all = refl
 within_digits (byte ∷ bytes) all = rw (within_digit byte all.0 all.1, within_digits bytes all.2) refl
 
-upper_of : (byte : ℕ) → 48 ≤ byte → byte ≤ 63 → bit_and byte 240 ≡ 48
-upper_of byte low high = upper byte ∙ omega arith
-
-digits_upper : (bytes : List ℕ) (high : ℕ) → high ≤ 63 → AreWithin 48 high bytes → masked bytes 240 ≡ all_of 48 bytes
-digits_upper [] high h all = refl
-digits_upper (byte ∷ bytes) high h all = rw (upper_of byte all.0 (omega arith), digits_upper bytes high h all.2) refl
-
-digits_upper_six : (bytes : List ℕ) → AreWithin 48 57 bytes → masked (raised bytes 6) 240 ≡ all_of 48 bytes
-digits_upper_six [] all = refl
-digits_upper_six (byte ∷ bytes) all = rw (upper_of (byte + 6) (omega arith) (omega arith), digits_upper_six bytes all.2) refl
-
 -- what is read of eight bytes, and the masks of so many
 record Eight (bytes : List ℕ) : Type 0 where
   word : from_le_bytes w64 bytes ≡ worth bytes
   uppers : worth (all_of 240 bytes) ≡ 17361641481138401520
   zeros : worth (all_of 48 bytes) ≡ 3472328296227680304
   sixes : worth (all_of 6 bytes) ≡ 434041037028460038
-  nines : worth (all_of 57 bytes) ≡ 4123389851770370361
-  highest : worth (all_of 63 bytes) ≡ 4557430888798830399
+  nines : worth (all_of 9 bytes) ≡ 651061555542690057
+  fifteens : worth (all_of 15 bytes) ≡ 1085102592571150095
 
 eight : (bytes : List ℕ) → length bytes ≡ 8 → Eight bytes
-eight (a ∷ b ∷ c ∷ d ∷ e ∷ f ∷ g ∷ h ∷ []) n = record { word = (let sum : from_le_bytes w64 (a ∷ b ∷ c ∷ d ∷ e ∷ f ∷ g ∷ h ∷ []) ≡ a + b * 256 + c * 65536 + d * 16777216 + e * 4294967296 + f * 1099511627776 + g * 281474976710656 + h * 72057594037927936 = refl in omega arith); uppers = refl; zeros = refl; sixes = refl; nines = refl; highest = refl }
+eight (a ∷ b ∷ c ∷ d ∷ e ∷ f ∷ g ∷ h ∷ []) n = record { word = (let sum : from_le_bytes w64 (a ∷ b ∷ c ∷ d ∷ e ∷ f ∷ g ∷ h ∷ []) ≡ a + b * 256 + c * 65536 + d * 16777216 + e * 4294967296 + f * 1099511627776 + g * 281474976710656 + h * 72057594037927936 = refl in omega arith); uppers = refl; zeros = refl; sixes = refl; nines = refl; fifteens = refl }
 eight [] n = absurd (omega arith)
 eight (a ∷ []) n = absurd (omega arith)
 eight (a ∷ b ∷ []) n = absurd (omega arith)
@@ -139,73 +182,120 @@ unfolding value_of
 no_digits bytes e =
     sym (refused_second (ltb 0 (length bytes)) (list_all is_ascii_digit bytes) (leb (digits_value 10 bytes) 999999999999) (Some (digits_value 10 bytes)) None e)
 
--- some upper half isn't that of a digit
-pub none_by_uppers : (bytes : List ℕ) → length bytes ≡ 8 → AreWithin 0 255 bytes → (bit_and (from_le_bytes w64 bytes) 17361641481138401520 ≡ 3472328296227680304 → ⊥) → None ≡ value_of bytes
-none_by_uppers bytes n all other =
-    let e = eight bytes n in
-    elim (cases_Bool (list_all is_ascii_digit bytes)) [
-      | inl digits ↦ absurd (other (rw (e.word, ← e.uppers, ← e.zeros) (and_worth bytes 240 (omega arith) all ∙ ap worth (digits_upper bytes 57 (omega arith) (digits_within bytes digits)))))
-      | inr none ↦ no_digits bytes none
-    ]
+-- eight bytes as one number with the bits of the zeros' codes flipped
+abbrev pub ones_in : List ℕ → ℕ
+ones_in bytes = bit_xor (from_le_bytes w64 bytes) 3472328296227680304
 
-six_more : (bytes : List ℕ) → length bytes ≡ 8 → from_le_bytes w64 bytes + 434041037028460038 ≡ worth (raised bytes 6)
-six_more bytes n = let e = eight bytes n in let more = raised_worth bytes 6 in omega (arith, e.word, e.sixes)
+ones_are : (bytes : List ℕ) → length bytes ≡ 8 → AreWithin 0 255 bytes → ones_in bytes ≡ worth (flipped bytes)
+ones_are bytes n all = let e = eight bytes n in rw (e.word, ← e.zeros) (flipped_worth bytes all)
 
--- the upper halves are those of digits
-pub some_uppers : (bytes : List ℕ) → length bytes ≡ 8 → AreWithin 0 255 bytes → bit_and (from_le_bytes w64 bytes) 17361641481138401520 ≡ 3472328296227680304 → AreWithin 48 63 bytes
-some_uppers bytes n all same =
-    let e = eight bytes n in
-    uppers bytes all (sym (and_worth bytes 240 (omega arith) all) ∙ (rw (← e.word, e.uppers, e.zeros) same))
+-- the masks of as many flipped bytes
+masks : (bytes : List ℕ) → length bytes ≡ 8 → Eight (flipped bytes)
+masks bytes n = eight (flipped bytes) (flipped_length bytes ∙ n)
+
+upper_ones : (bytes : List ℕ) → length bytes ≡ 8 → AreWithin 0 255 bytes → bit_and (ones_in bytes) 17361641481138401520 ≡ worth (masked (flipped bytes) 240)
+upper_ones bytes n all = rw (ones_are bytes n all, ← (masks bytes n).uppers) (and_worth (flipped bytes) 240 (omega arith) (flipped_within bytes all))
+
+upper_sums : (bytes : List ℕ) → length bytes ≡ 8 → AreWithin 0 255 bytes → AreWithin 0 15 (flipped bytes)
+    → bit_and (ones_in bytes + 434041037028460038) 17361641481138401520 ≡ worth (masked (raised (flipped bytes) 6) 240)
+upper_sums bytes n all small =
+    let fs = flipped bytes in
+    let within = looser (raised fs 6) 0 21 0 255 (omega arith) (omega arith) (raised_within fs 0 15 6 small) in
+    rw (ones_are bytes n all, ← (masks bytes n).sixes, raised_worth fs 6, ← (masks bytes n).uppers, ← raised_masks fs 6 240)
+    (and_worth (raised fs 6) 240 (omega arith) within)
+
+-- some upper half isn't 0
+pub none_by_uppers : (bytes : List ℕ) → length bytes ≡ 8 → AreWithin 0 255 bytes → (bit_and (ones_in bytes) 17361641481138401520 ≡ 0 → ⊥) → None ≡ value_of bytes
+none_by_uppers bytes n all other = elim (cases_Bool (list_all is_ascii_digit bytes)) [
+  | inl digits ↦
+      let small = looser (flipped bytes) 0 9 0 15 (omega arith) (omega arith) (flipped_digits bytes (digits_within bytes digits)) in
+      absurd (other (upper_ones bytes n all ∙ no_uppers (flipped bytes) small))
+  | inr none ↦ no_digits bytes none
+]
+
+-- the upper halves are 0
+pub some_uppers : (bytes : List ℕ) → length bytes ≡ 8 → AreWithin 0 255 bytes → bit_and (ones_in bytes) 17361641481138401520 ≡ 0 → AreWithin 0 15 (flipped bytes)
+some_uppers bytes n all same = uppers (flipped bytes) (flipped_within bytes all) (sym (upper_ones bytes n all) ∙ same)
 
 worth_up_to : (bytes : List ℕ) (low high : ℕ) → AreWithin low high bytes → worth bytes ≤ worth (all_of high bytes)
 worth_up_to [] low high all = omega arith
 worth_up_to (byte ∷ bytes) low high all = let rest = worth_up_to bytes low high all.2 in omega arith
 
 -- so large is what is read at most
-pub word_up_to : (bytes : List ℕ) → length bytes ≡ 8 → AreWithin 48 63 bytes → from_le_bytes w64 bytes ≤ 4557430888798830399
-word_up_to bytes n all = rw (← (eight bytes n).highest, (eight bytes n).word) (worth_up_to bytes 48 63 all)
+pub ones_up_to : (bytes : List ℕ) → length bytes ≡ 8 → AreWithin 0 255 bytes → AreWithin 0 15 (flipped bytes) → ones_in bytes ≤ 1085102592571150095
+ones_up_to bytes n all small = rw (ones_are bytes n all, ← (masks bytes n).fifteens) (worth_up_to (flipped bytes) 0 15 small)
 
-pub digits_up_to : (bytes : List ℕ) → length bytes ≡ 8 → AreWithin 48 57 bytes → from_le_bytes w64 bytes ≤ 4123389851770370361
-digits_up_to bytes n all = rw (← (eight bytes n).nines, (eight bytes n).word) (worth_up_to bytes 48 57 all)
-
--- some digit's upper half isn't one of a digit with six more
-pub none_by_sixes : (bytes : List ℕ) → length bytes ≡ 8 → AreWithin 48 63 bytes → (bit_and (from_le_bytes w64 bytes + 434041037028460038) 17361641481138401520 ≡ 3472328296227680304 → ⊥) → None ≡ value_of bytes
-none_by_sixes bytes n all other =
-    let e = eight bytes n in
-    elim (cases_Bool (list_all is_ascii_digit bytes)) [
-      | inl digits ↦
-          let within = digits_within bytes digits in
-          let masks = and_worth (raised bytes 6) 240 (omega arith) (looser (raised bytes 6) 0 69 0 255 (omega arith) (omega arith) (raised_within bytes 48 63 6 all)) in
-          absurd (other (rw (six_more bytes n, ← e.uppers, ← e.zeros, ← raised_masks bytes 6 240) (masks ∙ ap worth (digits_upper_six bytes within))))
-      | inr none ↦ no_digits bytes none
-    ]
+-- some upper half isn't 0 with six more
+pub none_by_sixes : (bytes : List ℕ) → length bytes ≡ 8 → AreWithin 0 255 bytes → AreWithin 0 15 (flipped bytes)
+    → (bit_and (ones_in bytes + 434041037028460038) 17361641481138401520 ≡ 0 → ⊥) → None ≡ value_of bytes
+none_by_sixes bytes n all small other = elim (cases_Bool (list_all is_ascii_digit bytes)) [
+  | inl digits ↦
+      let sums = raised_within (flipped bytes) 0 9 6 (flipped_digits bytes (digits_within bytes digits)) in
+      absurd (other (upper_sums bytes n all small ∙ no_uppers (raised (flipped bytes) 6) sums))
+  | inr none ↦ no_digits bytes none
+]
 
 -- all eight are digits
-pub all_digits : (bytes : List ℕ) → length bytes ≡ 8 → AreWithin 48 63 bytes → bit_and (from_le_bytes w64 bytes + 434041037028460038) 17361641481138401520 ≡ 3472328296227680304 → AreWithin 48 57 bytes
-all_digits bytes n all same =
-    let e = eight bytes n in
-    let masks = and_worth (raised bytes 6) 240 (omega arith) (looser (raised bytes 6) 0 69 0 255 (omega arith) (omega arith) (raised_within bytes 48 63 6 all)) in
-    sixes bytes all (sym masks ∙ (rw (raised_masks bytes 6 240, ← six_more bytes n, e.uppers, e.zeros) same))
+pub all_digits : (bytes : List ℕ) → length bytes ≡ 8 → AreWithin 0 255 bytes → AreWithin 0 15 (flipped bytes)
+    → bit_and (ones_in bytes + 434041037028460038) 17361641481138401520 ≡ 0 → AreWithin 48 57 bytes
+all_digits bytes n all small same =
+    let fs = flipped bytes in
+    let within = looser (raised fs 6) 0 21 0 255 (omega arith) (omega arith) (raised_within fs 0 15 6 small) in
+    digits_flipped bytes (lowered_within fs 9 6 (uppers (raised fs 6) within (sym (upper_sums bytes n all small) ∙ same)))
 
 -- bytes by their index
 pub are_bytes : (bytes : List ℕ) → ((i : ℕ) → get_or bytes i 0 < 256) → AreWithin 0 255 bytes
 are_bytes [] all = tt
 are_bytes (byte ∷ bytes) all = let here = all 0 in (omega arith, omega arith, are_bytes bytes (λ i. all (suc i)))
 
--- what the code makes of eight bytes, once each has 48 taken off
-abbrev pub value_in : ℕ → ℕ
-value_in ones = ((ones * 10 + ones / 256) % 256 * 100 + (ones * 10 + ones / 256) / 65536 % 256) * 10000 + ((ones * 10 + ones / 256) / 4294967296 % 256 * 100 + (ones * 10 + ones / 256) / 281474976710656 % 256)
+-- every second byte of a number
+even_bytes : (n m a b : ℕ) → a < 256 → b < 256 → bit_and ((n * 2 ^ 8 + b) * 2 ^ 8 + a) ((m * 2 ^ 8 + 0) * 2 ^ 8 + 255) ≡ (bit_and n m * 2 ^ 8 + 0) * 2 ^ 8 + a
+even_bytes n m a b small odd =
+    let here : bit_and a 255 ≡ a = and_mask a 8 ∙ omega arith in
+    let next : bit_and (n * 2 ^ 8 + b) (m * 2 ^ 8 + 0) ≡ bit_and n m * 2 ^ 8 + 0 = and_block 8 n m b 0 odd (omega arith) ∙ ap (λ x. bit_and n m * 2 ^ 8 + x) (and_zero_r b) in
+    and_block 8 (n * 2 ^ 8 + b) (m * 2 ^ 8 + 0) a 255 small (omega arith) ∙ rw (here, next) refl
 
-value_small : (ones : ℕ) → value_in ones ≤ 999999999999
-value_small ones = omega arith
+-- the bytes 0, 2, 4 and 6 of eight
+four_bytes : (a b c d e f g h : ℕ) → a < 256 → b < 256 → c < 256 → d < 256 → e < 256 → f < 256 → g < 256 → h < 256
+    → bit_and (worth (a ∷ b ∷ c ∷ d ∷ e ∷ f ∷ g ∷ h ∷ [])) 71777214294589695 ≡ worth (a ∷ 0 ∷ c ∷ 0 ∷ e ∷ 0 ∷ g ∷ 0 ∷ [])
+four_bytes a b c d e f g h i j k l m n o p =
+    even_bytes (worth (c ∷ d ∷ e ∷ f ∷ g ∷ h ∷ [])) 1095233372415 a b i j
+    ∙ ap (λ x. (x * 2 ^ 8 + 0) * 2 ^ 8 + a) (
+    even_bytes (worth (e ∷ f ∷ g ∷ h ∷ [])) 16711935 c d k l
+    ∙ ap (λ x. (x * 2 ^ 8 + 0) * 2 ^ 8 + c) (
+    even_bytes (worth (g ∷ h ∷ [])) 255 e f m n
+    ∙ ap (λ x. (x * 2 ^ 8 + 0) * 2 ^ 8 + e) (even_bytes 0 0 g h o p)))
+
+-- what the code makes of eight digits: the values of two, of four and of all
+abbrev pub pairs_in : ℕ → ℕ
+pairs_in ones = bit_and (ones * 10 + ones / 256) 71777214294589695
+
+abbrev pub value_in : ℕ → ℕ
+value_in pairs = (pairs * 100 + pairs / 65536) % 65536 * 10000 + (pairs * 100 + pairs / 65536) / 4294967296 % 65536
+
+value_small : (pairs : ℕ) → value_in pairs ≤ 999999999999
+value_small pairs = omega arith
+
+value_fours : (a c e g : ℕ) → a ≤ 99 → c ≤ 99 → e ≤ 99 → g ≤ 99
+    → value_in (worth (a ∷ 0 ∷ c ∷ 0 ∷ e ∷ 0 ∷ g ∷ 0 ∷ [])) ≡ a * 1000000 + c * 10000 + e * 100 + g
+value_fours a c e g i j k l =
+    let pairs = worth (a ∷ 0 ∷ c ∷ 0 ∷ e ∷ 0 ∷ g ∷ 0 ∷ []) in
+    let rest : pairs / 65536 ≡ c + e * 65536 + g * 4294967296 = omega arith in
+    let fours : pairs * 100 + pairs / 65536 ≡ (100 * a + c) + (100 * c + e) * 65536 + (100 * e + g) * 4294967296 + (100 * g) * 281474976710656 = omega arith in
+    rw fours (omega arith)
 
 value_eight : (a b c d e f g h ones : ℕ) → a ≤ 9 → b ≤ 9 → c ≤ 9 → d ≤ 9 → e ≤ 9 → f ≤ 9 → g ≤ 9 → h ≤ 9
     → ones ≡ worth (a ∷ b ∷ c ∷ d ∷ e ∷ f ∷ g ∷ h ∷ [])
-    → value_in ones ≡ a * 10000000 + b * 1000000 + c * 100000 + d * 10000 + e * 1000 + f * 100 + g * 10 + h
+    → value_in (pairs_in ones) ≡ a * 10000000 + b * 1000000 + c * 100000 + d * 10000 + e * 1000 + f * 100 + g * 10 + h
 value_eight a b c d e f g h ones i j k l m n o p is =
     let rest : ones / 256 ≡ b + c * 256 + d * 65536 + e * 16777216 + f * 4294967296 + g * 1099511627776 + h * 281474976710656 = omega arith in
-    let pairs : ones * 10 + ones / 256 ≡ (10 * a + b) + (10 * b + c) * 256 + (10 * c + d) * 65536 + (10 * d + e) * 16777216 + (10 * e + f) * 4294967296 + (10 * f + g) * 1099511627776 + (10 * g + h) * 281474976710656 + (10 * h) * 72057594037927936 = omega arith in
-    rw pairs (omega arith)
+    let pairs : ones * 10 + ones / 256 ≡ worth ((10 * a + b) ∷ (10 * b + c) ∷ (10 * c + d) ∷ (10 * d + e) ∷ (10 * e + f) ∷ (10 * f + g) ∷ (10 * g + h) ∷ (10 * h) ∷ []) = omega arith in
+    rw (
+      pairs,
+      four_bytes (10 * a + b) (10 * b + c) (10 * c + d) (10 * d + e) (10 * e + f) (10 * f + g) (10 * g + h) (10 * h)
+          (omega arith) (omega arith) (omega arith) (omega arith) (omega arith) (omega arith) (omega arith) (omega arith),
+    )
+    (value_fours (10 * a + b) (10 * c + d) (10 * e + f) (10 * g + h) (omega arith) (omega arith) (omega arith) (omega arith) ∙ omega arith)
 
 digit_at : (byte : ℕ) → 48 ≤ byte → byte ≤ 57 → digit_value byte ≡ byte - 48
 digit_at byte low high = digit_is byte (within_digit byte low high)
@@ -215,12 +305,12 @@ abbrev pub lowered : List ℕ → List ℕ
 lowered [] = []
 lowered (byte ∷ bytes) = (byte - 48) ∷ lowered bytes
 
-lowered_worth : (bytes : List ℕ) (high : ℕ) → AreWithin 48 high bytes → worth (lowered bytes) + worth (all_of 48 bytes) ≡ worth bytes
-lowered_worth [] high all = refl
-lowered_worth (byte ∷ bytes) high all = let rest = lowered_worth bytes high all.2 in omega arith
+flipped_lowered : (bytes : List ℕ) → AreWithin 48 57 bytes → flipped bytes ≡ lowered bytes
+flipped_lowered [] all = refl
+flipped_lowered (byte ∷ bytes) all = rw (flipped_digit byte all.0 all.1, flipped_lowered bytes all.2) refl
 
-ones_in : (bytes : List ℕ) → length bytes ≡ 8 → AreWithin 48 57 bytes → from_le_bytes w64 bytes - 3472328296227680304 ≡ worth (lowered bytes)
-ones_in bytes n all = let e = eight bytes n in let low = lowered_worth bytes 57 all in omega (arith, e.word, e.zeros)
+ones_lowered : (bytes : List ℕ) → length bytes ≡ 8 → AreWithin 48 57 bytes → ones_in bytes ≡ worth (lowered bytes)
+ones_lowered bytes n all = ones_are bytes n (looser bytes 48 57 0 255 (omega arith) (omega arith) all) ∙ ap worth (flipped_lowered bytes all)
 
 place_values : (a b c d e f g h : ℕ) → a * 10000000 + b * 1000000 + c * 100000 + d * 10000 + e * 1000 + f * 100 + g * 10 + h ≡ (((((((0 * 10 + a) * 10 + b) * 10 + c) * 10 + d) * 10 + e) * 10 + f) * 10 + g) * 10 + h
 place_values a b c d e f g h = omega arith
@@ -232,18 +322,18 @@ small_digit : (byte : ℕ) → 48 ≤ byte → byte ≤ 57 → byte - 48 ≤ 9
 small_digit byte low high = omega arith
 
 value_of_eight : (a b c d e f g h : ℕ) → AreWithin 48 57 (a ∷ b ∷ c ∷ d ∷ e ∷ f ∷ g ∷ h ∷ [])
-    → value_in (from_le_bytes w64 (a ∷ b ∷ c ∷ d ∷ e ∷ f ∷ g ∷ h ∷ []) - 3472328296227680304) ≡ digits_value 10 (a ∷ b ∷ c ∷ d ∷ e ∷ f ∷ g ∷ h ∷ [])
+    → value_in (pairs_in (ones_in (a ∷ b ∷ c ∷ d ∷ e ∷ f ∷ g ∷ h ∷ []))) ≡ digits_value 10 (a ∷ b ∷ c ∷ d ∷ e ∷ f ∷ g ∷ h ∷ [])
 value_of_eight a b c d e f g h (a1, a2, (b1, b2, (c1, c2, (d1, d2, (e1, e2, (f1, f2, (g1, g2, (h1, h2, none)))))))) =
     value_eight (a - 48) (b - 48) (c - 48) (d - 48) (e - 48) (f - 48) (g - 48) (h - 48) _
     (small_digit a a1 a2) (small_digit b b1 b2) (small_digit c c1 c2) (small_digit d d1 d2) (small_digit e e1 e2) (small_digit f f1 f2) (small_digit g g1 g2) (small_digit h h1 h2)
-    (ones_in (a ∷ b ∷ c ∷ d ∷ e ∷ f ∷ g ∷ h ∷ []) refl (a1, a2, (b1, b2, (c1, c2, (d1, d2, (e1, e2, (f1, f2, (g1, g2, (h1, h2, none)))))))))
+    (ones_lowered (a ∷ b ∷ c ∷ d ∷ e ∷ f ∷ g ∷ h ∷ []) refl (a1, a2, (b1, b2, (c1, c2, (d1, d2, (e1, e2, (f1, f2, (g1, g2, (h1, h2, none)))))))))
     ∙ rw (digits_of a b c d e f g h, digit_at a a1 a2, digit_at b b1 b2, digit_at c c1 c2, digit_at d d1 d2, digit_at e e1 e2, digit_at f f1 f2, digit_at g g1 g2, digit_at h h1 h2)
     (place_values (a - 48) (b - 48) (c - 48) (d - 48) (e - 48) (f - 48) (g - 48) (h - 48))
 
-eight_small : (bytes : List ℕ) → length bytes ≡ 8 → AreWithin 48 57 bytes → (value_in (from_le_bytes w64 bytes - 3472328296227680304) ≡ digits_value 10 bytes) × (digits_value 10 bytes ≤ 999999999999)
+eight_small : (bytes : List ℕ) → length bytes ≡ 8 → AreWithin 48 57 bytes → (value_in (pairs_in (ones_in bytes)) ≡ digits_value 10 bytes) × (digits_value 10 bytes ≤ 999999999999)
 eight_small (a ∷ b ∷ c ∷ d ∷ e ∷ f ∷ g ∷ h ∷ []) n all =
     let is = value_of_eight a b c d e f g h all in
-    (is, rw (← is) (value_small (from_le_bytes w64 (a ∷ b ∷ c ∷ d ∷ e ∷ f ∷ g ∷ h ∷ []) - 3472328296227680304)))
+    (is, rw (← is) (value_small (pairs_in (ones_in (a ∷ b ∷ c ∷ d ∷ e ∷ f ∷ g ∷ h ∷ [])))))
 eight_small [] n all = absurd (omega arith)
 eight_small (a ∷ []) n all = absurd (omega arith)
 eight_small (a ∷ b ∷ []) n all = absurd (omega arith)
@@ -255,7 +345,7 @@ eight_small (a ∷ b ∷ c ∷ d ∷ e ∷ f ∷ g ∷ []) n all = absurd (omega
 eight_small (a ∷ b ∷ c ∷ d ∷ e ∷ f ∷ g ∷ h ∷ i ∷ more) n all = absurd (omega arith)
 
 -- the code's value is that of the digits
-pub value_by_pairs : (bytes : List ℕ) → length bytes ≡ 8 → AreWithin 48 57 bytes → Some (value_in (from_le_bytes w64 bytes - 3472328296227680304)) ≡ value_of bytes
+pub value_by_pairs : (bytes : List ℕ) → length bytes ≡ 8 → AreWithin 48 57 bytes → Some (value_in (pairs_in (ones_in bytes))) ≡ value_of bytes
 value_by_pairs bytes n all =
     let is = eight_small bytes n all in
     ap Some is.0 ∙ value_of_digits bytes (omega arith) (within_digits bytes all) is.1

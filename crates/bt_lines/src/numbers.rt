@@ -30,13 +30,16 @@ pub fn number(text: &[u8]) -> Option<u64>
     Some(value)
 }
 
-// Eight bytes as one number, the first in its lowest byte. The codes of the digits are 0x30 to 0x39: their
-// upper halves are 3, and stay 3 when 6 is added. No other byte is like that.
+// Eight bytes as one number, the first in its lowest byte. The codes of the digits are 0x30 to 0x39: with 0x30
+// taken off by exclusive or they are at most 9, so that their upper halves are 0, and stay 0 when 6 is added.
 const UPPER_HALVES: u64 = 0xf0f0_f0f0_f0f0_f0f0;
 
 const ZEROS: u64 = 0x3030_3030_3030_3030;
 
 const SIXES: u64 = 0x0606_0606_0606_0606;
+
+// Every second byte.
+const EVEN_BYTES: u64 = 0x00ff_00ff_00ff_00ff;
 
 /// The number that eight decimal digits denote. A sign or a space isn't allowed. All eight are read at
 /// once.
@@ -44,19 +47,17 @@ const SIXES: u64 = 0x0606_0606_0606_0606;
 pub fn eight_digits(bytes: &[u8; 8]) -> Option<u64>
     ensures { result ≡ value_of bytes.now }
 {
-    let word = u64::from_le_bytes(*bytes);
-    if word & UPPER_HALVES != ZEROS {
+    let ones = u64::from_le_bytes(*bytes) ^ ZEROS;
+    if ones & UPPER_HALVES != 0 {
         return None;
     }
-    if (word + SIXES) & UPPER_HALVES != ZEROS {
+    if (ones + SIXES) & UPPER_HALVES != 0 {
         return None;
     }
-    let ones = word - ZEROS;
-    // The bytes 0, 2, 4 and 6 are the values of two digits each.
-    let pairs = ones * 10 + ones / 0x100;
-    let first = pairs % 0x100 * 100 + pairs / 0x1_0000 % 0x100;
-    let last = pairs / 0x1_0000_0000 % 0x100 * 100 + pairs / 0x1_0000_0000_0000 % 0x100;
-    Some(first * 10_000 + last)
+    // The bytes 0, 2, 4 and 6 are the values of two digits each, and then the pairs of bytes 0 and 4 of four.
+    let pairs = (ones * 10 + ones / 0x100) & EVEN_BYTES;
+    let fours = pairs * 100 + pairs / 0x1_0000;
+    Some(fours % 0x1_0000 * 10_000 + fours / 0x1_0000_0000 % 0x1_0000)
 }
 
 // The same for more digits: they are too many but for leading zeros.
