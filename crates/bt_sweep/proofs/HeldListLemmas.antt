@@ -1,8 +1,9 @@
 -- Lemmas on a queue of held records.
-use Rattle.std.proofs.Common.{◌≡◌, cond, subst, nat_lt, ℕ, ◌+◌, ◌-◌, ◌<◌, ◌≤◌, Bool, true, false, List, [], ◌∷◌, ◌++◌, zero, suc, refl, sym, ap, ◌∙◌, add-one, append_assoc, arith, drop, filter, length, length-append, nat_le, slice_index_or, take}
-use Rattle.std.proofs.lemmas.Bool.{leb-false, lt-ltb, ltb-false, or_parts}
+use Rattle.std.proofs.Common.{◌≡◌, cond, subst, nat_lt, ℕ, ◌+◌, ◌-◌, ◌<◌, ◌≤◌, Bool, true, false, List, [], ◌∷◌, ◌++◌, zero, suc, refl, sym, ap, ◌∙◌, add-one, append_assoc, arith, drop, filter, length, length-append, nat_le, option_to_list, slice_index_or, take}
+use Rattle.std.proofs.Math.Bool.{or-false}
+use Rattle.std.proofs.lemmas.Bool.{le-ltb, leb-false, lt-ltb, ltb-false, ltb-true, or_parts}
 use Rattle.std.specs.Prelude.{All}
-use Rattle.std.specs.List.{AllByRecursion, list_any}
+use Rattle.std.specs.List.{AllByRecursion, list_any, slice_get}
 use Rattle.std.specs.List.Sorted.{IsNonDecreasingBy, IsPartitionPoint}
 use Rattle.std.proofs.lemmas.List.{get_or-drop, get_or_default, length-drop, take-append-drop}
 use Rattle.std.proofs.lemmas.List.Elements.{All-filter, filter-append, recursion_from_All}
@@ -22,6 +23,36 @@ rises_push xs last y n is at h rises =
     let within : length xs - 1 < length xs = omega (arith, some) in
     let same = ap start_of (get_or_default xs (length xs - 1) d last within ∙ ap (λ k. slice_index_or xs (k - 1) last) (sym is) ∙ sym at) in
     omega (arith, same, h))
+
+-- whether one passes a test that stands at an index
+passes_at : {X : Type 0} (p : X → Bool) (xs : List X) (i : ℕ) (d : X) → i < length xs → list_any p (option_to_list (slice_get xs i)) ≡ p (slice_index_or xs i d)
+passes_at p [] i d h = absurd (omega (arith, h))
+passes_at p (x ∷ xs) zero d h = or-false (p x)
+passes_at p (x ∷ xs) (suc i) d h = passes_at p xs i d (omega (arith, h))
+
+-- so many from the first start before a place, or those from one on there or behind it
+abbrev pub ComeBefore : ℕ → List Feature → ℕ → Type 0
+ComeBefore place xs n = (i : ℕ) (d : Feature) → i < n → nat_lt (slice_index_or xs i d).start place ≡ true
+
+abbrev pub ComeFrom : ℕ → List Feature → ℕ → Type 0
+ComeFrom place xs n = (i : ℕ) (d : Feature) → n ≤ i → i < length xs → nat_lt (slice_index_or xs i d).start place ≡ false
+
+module _ (place : ℕ) (xs : List Feature) (rises : IsNonDecreasingBy (λ r. r.start) xs) (middle : ℕ) (h : middle < length xs) where
+  -- where one starts before the place, so do those before it
+  pub come_before : list_any (λ r. nat_lt r.start place) (option_to_list (slice_get xs middle)) ≡ true → ComeBefore place xs (middle + 1)
+  come_before e = λ i d low.
+      let here = sym (passes_at (λ r. nat_lt r.start place) xs middle d h) ∙ e in
+      lt-ltb _ place (omega (arith, rises i middle d (omega (arith, low)) h, ltb-true _ place here))
+
+  -- where one starts there or behind it, so do those behind it
+  pub come_from : list_any (λ r. nat_lt r.start place) (option_to_list (slice_get xs middle)) ≡ false → ComeFrom place xs middle
+  come_from e = λ i d low high.
+      let here = sym (passes_at (λ r. nat_lt r.start place) xs middle d h) ∙ e in
+      le-ltb _ place (omega (arith, rises middle i d low high, ltb-false _ place here))
+
+pub come_to : (place : ℕ) (xs : List Feature) (low high : ℕ) → low ≡ high → ComeBefore place xs low → ComeFrom place xs high
+    → IsPartitionPoint (λ (r : Feature). nat_lt r.start place ≡ true) (λ (r : Feature). nat_lt r.start place ≡ false) xs high
+come_to place xs low high same before rest = (λ i d first h. subst (λ (n : ℕ). ComeBefore place xs n) same before i d h, rest)
 
 module _ {X : Type 0} (p : X → Bool) where
   record Splits (xs : List X) (i : ℕ) : Type 0 where

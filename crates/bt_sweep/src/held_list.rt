@@ -103,14 +103,35 @@ impl Held for HeldList {
     }
 }
 
-// How many records there are before the first that starts at the place or behind it.
+// How many records there are before the first that starts at the place or behind it. Those near the first one
+// are looked at first: each index is at most twice as great as the one before it.
 fn started_in(records: &VecDeque<Rec>, place: u64) -> usize
     ensures within { result ≤ length records.now.items }
     ensures point { IsNonDecreasingBy (λ r. r.start) records.now.items
         → IsPartitionPoint (λ r. nat_lt r.start place ≡ true) (λ r. nat_lt r.start place ≡ false)
         records.now.items result }
 {
-    records.partition_point(|record| record.as_bed().start < place)
+    let mut low = 0;
+    let mut high = records.len();
+    while low < high {
+        let middle = low + ((high - low) / 2).min(low);
+        if starts_before(record_at(records, middle), place) {
+            low = middle + 1;
+        } else {
+            high = middle;
+        }
+    }
+    high
+}
+
+// Whether there is a record and it starts before the place.
+fn starts_before(rec: Option<&Rec>, place: u64) -> bool
+    ensures { result ≡ list_any (λ r. nat_lt r.start place) (option_to_list (option_copied rec.entry)) }
+{
+    match rec {
+        None => false,
+        Some(rec) => rec.as_bed().start < place,
+    }
 }
 
 // The record with so many before it, if there is one.

@@ -8,7 +8,8 @@ use crate::held::Held;
 use bt_bed::Rec;
 
 // How many held records stand before the first one that starts at the place or behind it, where they
-// come by their starts. The last record is looked at first, since mostly it starts before the place.
+// come by their starts. The last record is looked at first, since mostly it starts before the place, and
+// then those near the first one: each index that is looked at is at most twice as great as the one before it.
 pub(crate) fn count_started<H: Held>(held: &H, place: u64) -> usize
     ensures within { result ≤ length (H.records held.now) }
     ensures before { AreRising (H.records held.now) → StartBefore place (take result (H.records held.now)) }
@@ -23,7 +24,7 @@ pub(crate) fn count_started<H: Held>(held: &H, place: u64) -> usize
     }
     let mut low = 0;
     while low < high {
-        let middle = low + (high - low) / 2;
+        let middle = low + ((high - low) / 2).min(low);
         if starts_from(held.nth(middle), place) {
             high = middle;
         } else {

@@ -1,4 +1,4 @@
-use Rattle.std.proofs.Common.{◌∙◌, ◌≡◌, ℕ, ◌+◌, ◌-◌, ◌/◌, ◌<◌, ap, arith, length, nat_le, option_to_list, subst, sym, take}
+use Rattle.std.proofs.Common.{◌∙◌, ◌≡◌, ℕ, ◌+◌, ◌-◌, ◌<◌, ap, arith, length, nat_le, option_to_list, subst, sym, take}
 use Rattle.std.specs.List.{list_any}
 use Rattle.bt_bed.specs.Feature.{Feature}
 use Rattle.bt_sweep.specs.Held.{StartBefore}
@@ -18,11 +18,11 @@ returns-then-not-starts_from-clause-before g c = λ rises.
 pub loop-low-preserved-then-starts_from : goal.loop-low-preserved-then-starts_from
 loop-low-preserved-then-starts_from g c =
     let held = g.H.Held.records c.args.held.now in
-    let middle = c.loop-low.low + (c.loop-low.high - c.loop-low.low) / 2 in
+    let middle = c.loop-low.low + c.min.result in
     let at = ap (λ o. list_any (λ (r : Feature). nat_le c.args.place r.start) (option_to_list o)) c.nth-in-loop-low.ensures in
     record {
-      order = omega (arith, c.loop-low-test.true);
-      within = omega (arith, c.loop-low.invariant.within, c.loop-low-test.true);
+      order = omega (arith, c.loop-low-test.true, c.min.ensures);
+      within = omega (arith, c.loop-low.invariant.within, c.loop-low-test.true, c.min.ensures);
       before = c.loop-low.invariant.before;
       rest = λ rises. start_behind c.args.place held middle (sym (c.if-starts_from.ensures ∙ at)) rises;
     }
@@ -30,13 +30,13 @@ loop-low-preserved-then-starts_from g c =
 pub loop-low-preserved : goal.loop-low-preserved
 loop-low-preserved g c =
     let held = g.H.Held.records c.args.held.now in
-    let middle = c.loop-low.low + (c.loop-low.high - c.loop-low.low) / 2 in
+    let middle = c.loop-low.low + c.min.result in
     let at = ap (λ o. list_any (λ (r : Feature). nat_le c.args.place r.start) (option_to_list o)) c.nth-in-loop-low.ensures in
     record {
-      order = omega (arith, c.loop-low-test.true);
+      order = omega (arith, c.loop-low-test.true, c.min.ensures);
       within = c.loop-low.invariant.within;
       before = λ rises.
-          start_ahead c.args.place held middle (omega (arith, c.loop-low.invariant.within, c.loop-low-test.true))
+          start_ahead c.args.place held middle (omega (arith, c.loop-low.invariant.within, c.loop-low-test.true, c.min.ensures))
           (sym (c.if-starts_from.ensures ∙ at)) rises;
       rest = c.loop-low.invariant.rest;
     }
