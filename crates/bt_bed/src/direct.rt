@@ -13,7 +13,7 @@ use crate::leading::Leading;
 use crate::parsing::behind;
 use crate::strand::Strand;
 use crate::tabs::{early_tab, second_tab};
-use bt_lines::{MAX_DIGITS, eight_digits, first_tab};
+use bt_lines::{MAX_DIGITS, eight_digits, few_digits, first_tab};
 
 // The feature of a text of which the first three columns are in order. There is none where something is
 // wrong with them, and for numbers with more than twelve digits.
@@ -133,14 +133,28 @@ fn more_digits(text: &[u8], first: Leading) -> Option<Leading>
     Some(Leading { value, end })
 }
 
-// The number of the first eight digits, or that of none where fewer come first.
+// The number of the digits that come first, but no more than eight. Of a text of less than eight bytes none is read.
 fn first_digits(text: &[u8]) -> Leading
     ensures begins { BeginsWith text.now result }
     ensures short { result.end ≤ 8 }
 {
     match first_eight(text) {
         Some(value) => Leading { value, end: 8 },
+        None => first_few(text),
+    }
+}
+
+// The number of the digits that come first, where they are less than eight.
+fn first_few(text: &[u8]) -> Leading
+    ensures begins { BeginsWith text.now result }
+    ensures short { result.end ≤ 8 }
+{
+    match text.first_chunk::<8>() {
         None => Leading { value: 0, end: 0 },
+        Some(bytes) => {
+            let (value, end) = few_digits(bytes);
+            Leading { value, end }
+        }
     }
 }
 

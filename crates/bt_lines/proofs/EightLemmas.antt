@@ -1,5 +1,5 @@
 -- Lemmas on eight bytes that are read as one number, the first in its lowest byte.
-use Rattle.std.proofs.Common.{suc, inl, inr, ◌≡◌, ℕ, ◌+◌, ◌-◌, ◌*◌, ◌/◌, ◌%◌, ◌^◌, ◌<◌, ◌≤◌, true, false, List, [], ◌∷◌, length, get_or, Some, None, refl, sym, ap, ◌∙◌, arith, bit_and, bit_xor, w64, ltb, leb}
+use Rattle.std.proofs.Common.{zero, suc, inl, inr, ◌≡◌, ℕ, ◌+◌, ◌-◌, ◌*◌, ◌/◌, ◌%◌, ◌^◌, ◌<◌, ◌≤◌, true, false, List, [], ◌∷◌, length, get_or, Some, None, refl, sym, ap, ◌∙◌, arith, bit_and, bit_xor, take, w64, ltb, leb}
 use Rattle.std.proofs.lemmas.Bool.{cases_Bool, and_parts}
 use Rattle.std.proofs.lemmas.Bool.Decides.{nat_tests}
 use Rattle.std.proofs.lemmas.Nat.{and_block, and_le_l, and_le_r, and_mask, mod_below, shr_split, xor_block, xor_of_8}
@@ -349,3 +349,162 @@ pub value_by_pairs : (bytes : List ℕ) → length bytes ≡ 8 → AreWithin 48 
 value_by_pairs bytes n all =
     let is = eight_small bytes n all in
     ap Some is.0 ∙ value_of_digits bytes (omega arith) (within_digits bytes all) is.1
+
+-- the first of eight bytes behind zeros' codes, so that they come last
+pub record Behind (bytes : List ℕ) (count : ℕ) : Type 0 where
+  pub padded : List ℕ
+  pub size : length padded ≡ 8
+  pub within : AreWithin 0 255 padded
+  pub shifted : ones_in bytes * 2 ^ (64 - 8 * count) % 18446744073709551616 ≡ ones_in padded
+  pub digits : AreWithin 48 57 padded → AreWithin 48 57 (take count bytes)
+  pub same : digits_value 10 padded ≡ digits_value 10 (take count bytes)
+
+shift_1 : (a b c d e f g h : ℕ) → AreWithin 0 255 (a ∷ b ∷ c ∷ d ∷ e ∷ f ∷ g ∷ h ∷ [])
+    → worth (a ∷ b ∷ c ∷ d ∷ e ∷ f ∷ g ∷ h ∷ []) * 72057594037927936 % 18446744073709551616 ≡ worth (0 ∷ 0 ∷ 0 ∷ 0 ∷ 0 ∷ 0 ∷ 0 ∷ a ∷ [])
+shift_1 a b c d e f g h (a1, a2, (b1, b2, (c1, c2, (d1, d2, (e1, e2, (f1, f2, (g1, g2, (h1, h2, none)))))))) = omega arith
+
+shift_2 : (a b c d e f g h : ℕ) → AreWithin 0 255 (a ∷ b ∷ c ∷ d ∷ e ∷ f ∷ g ∷ h ∷ [])
+    → worth (a ∷ b ∷ c ∷ d ∷ e ∷ f ∷ g ∷ h ∷ []) * 281474976710656 % 18446744073709551616 ≡ worth (0 ∷ 0 ∷ 0 ∷ 0 ∷ 0 ∷ 0 ∷ a ∷ b ∷ [])
+shift_2 a b c d e f g h (a1, a2, (b1, b2, (c1, c2, (d1, d2, (e1, e2, (f1, f2, (g1, g2, (h1, h2, none)))))))) = omega arith
+
+shift_3 : (a b c d e f g h : ℕ) → AreWithin 0 255 (a ∷ b ∷ c ∷ d ∷ e ∷ f ∷ g ∷ h ∷ [])
+    → worth (a ∷ b ∷ c ∷ d ∷ e ∷ f ∷ g ∷ h ∷ []) * 1099511627776 % 18446744073709551616 ≡ worth (0 ∷ 0 ∷ 0 ∷ 0 ∷ 0 ∷ a ∷ b ∷ c ∷ [])
+shift_3 a b c d e f g h (a1, a2, (b1, b2, (c1, c2, (d1, d2, (e1, e2, (f1, f2, (g1, g2, (h1, h2, none)))))))) = omega arith
+
+shift_4 : (a b c d e f g h : ℕ) → AreWithin 0 255 (a ∷ b ∷ c ∷ d ∷ e ∷ f ∷ g ∷ h ∷ [])
+    → worth (a ∷ b ∷ c ∷ d ∷ e ∷ f ∷ g ∷ h ∷ []) * 4294967296 % 18446744073709551616 ≡ worth (0 ∷ 0 ∷ 0 ∷ 0 ∷ a ∷ b ∷ c ∷ d ∷ [])
+shift_4 a b c d e f g h (a1, a2, (b1, b2, (c1, c2, (d1, d2, (e1, e2, (f1, f2, (g1, g2, (h1, h2, none)))))))) = omega arith
+
+shift_5 : (a b c d e f g h : ℕ) → AreWithin 0 255 (a ∷ b ∷ c ∷ d ∷ e ∷ f ∷ g ∷ h ∷ [])
+    → worth (a ∷ b ∷ c ∷ d ∷ e ∷ f ∷ g ∷ h ∷ []) * 16777216 % 18446744073709551616 ≡ worth (0 ∷ 0 ∷ 0 ∷ a ∷ b ∷ c ∷ d ∷ e ∷ [])
+shift_5 a b c d e f g h (a1, a2, (b1, b2, (c1, c2, (d1, d2, (e1, e2, (f1, f2, (g1, g2, (h1, h2, none)))))))) = omega arith
+
+shift_6 : (a b c d e f g h : ℕ) → AreWithin 0 255 (a ∷ b ∷ c ∷ d ∷ e ∷ f ∷ g ∷ h ∷ [])
+    → worth (a ∷ b ∷ c ∷ d ∷ e ∷ f ∷ g ∷ h ∷ []) * 65536 % 18446744073709551616 ≡ worth (0 ∷ 0 ∷ a ∷ b ∷ c ∷ d ∷ e ∷ f ∷ [])
+shift_6 a b c d e f g h (a1, a2, (b1, b2, (c1, c2, (d1, d2, (e1, e2, (f1, f2, (g1, g2, (h1, h2, none)))))))) = omega arith
+
+shift_7 : (a b c d e f g h : ℕ) → AreWithin 0 255 (a ∷ b ∷ c ∷ d ∷ e ∷ f ∷ g ∷ h ∷ [])
+    → worth (a ∷ b ∷ c ∷ d ∷ e ∷ f ∷ g ∷ h ∷ []) * 256 % 18446744073709551616 ≡ worth (0 ∷ a ∷ b ∷ c ∷ d ∷ e ∷ f ∷ g ∷ [])
+shift_7 a b c d e f g h (a1, a2, (b1, b2, (c1, c2, (d1, d2, (e1, e2, (f1, f2, (g1, g2, (h1, h2, none)))))))) = omega arith
+
+behind : (a b c d e f g h count : ℕ) → 0 < count → count < 8 → AreWithin 0 255 (a ∷ b ∷ c ∷ d ∷ e ∷ f ∷ g ∷ h ∷ []) → Behind (a ∷ b ∷ c ∷ d ∷ e ∷ f ∷ g ∷ h ∷ []) count
+behind a b c d e f g h zero some few all = absurd (omega (arith, some))
+behind a b c d e f g h (suc zero) some few (a1, a2, (b1, b2, (c1, c2, (d1, d2, (e1, e2, (f1, f2, (g1, g2, (h1, h2, none)))))))) =
+    let all : AreWithin 0 255 (a ∷ b ∷ c ∷ d ∷ e ∷ f ∷ g ∷ h ∷ []) = (a1, a2, (b1, b2, (c1, c2, (d1, d2, (e1, e2, (f1, f2, (g1, g2, (h1, h2, tt)))))))) in
+    let within : AreWithin 0 255 (48 ∷ 48 ∷ 48 ∷ 48 ∷ 48 ∷ 48 ∷ 48 ∷ a ∷ []) = (omega arith, omega arith, (omega arith, omega arith, (omega arith, omega arith, (omega arith, omega arith, (omega arith, omega arith, (omega arith, omega arith, (omega arith, omega arith, (a1, a2, tt)))))))) in
+    record {
+      padded = (48 ∷ 48 ∷ 48 ∷ 48 ∷ 48 ∷ 48 ∷ 48 ∷ a ∷ []);
+      size = refl;
+      within = within;
+      shifted =
+          ap (λ n. n * 72057594037927936 % 18446744073709551616) (ones_are (a ∷ b ∷ c ∷ d ∷ e ∷ f ∷ g ∷ h ∷ []) refl all)
+          ∙ shift_1 (bit_xor a 48) (bit_xor b 48) (bit_xor c 48) (bit_xor d 48) (bit_xor e 48) (bit_xor f 48) (bit_xor g 48) (bit_xor h 48) (flipped_within (a ∷ b ∷ c ∷ d ∷ e ∷ f ∷ g ∷ h ∷ []) all)
+          ∙ sym (ones_are (48 ∷ 48 ∷ 48 ∷ 48 ∷ 48 ∷ 48 ∷ 48 ∷ a ∷ []) refl within);
+      digits = λ digits. digits.2.2.2.2.2.2.2;
+      same = refl;
+    }
+behind a b c d e f g h (suc (suc zero)) some few (a1, a2, (b1, b2, (c1, c2, (d1, d2, (e1, e2, (f1, f2, (g1, g2, (h1, h2, none)))))))) =
+    let all : AreWithin 0 255 (a ∷ b ∷ c ∷ d ∷ e ∷ f ∷ g ∷ h ∷ []) = (a1, a2, (b1, b2, (c1, c2, (d1, d2, (e1, e2, (f1, f2, (g1, g2, (h1, h2, tt)))))))) in
+    let within : AreWithin 0 255 (48 ∷ 48 ∷ 48 ∷ 48 ∷ 48 ∷ 48 ∷ a ∷ b ∷ []) = (omega arith, omega arith, (omega arith, omega arith, (omega arith, omega arith, (omega arith, omega arith, (omega arith, omega arith, (omega arith, omega arith, (a1, a2, (b1, b2, tt)))))))) in
+    record {
+      padded = (48 ∷ 48 ∷ 48 ∷ 48 ∷ 48 ∷ 48 ∷ a ∷ b ∷ []);
+      size = refl;
+      within = within;
+      shifted =
+          ap (λ n. n * 281474976710656 % 18446744073709551616) (ones_are (a ∷ b ∷ c ∷ d ∷ e ∷ f ∷ g ∷ h ∷ []) refl all)
+          ∙ shift_2 (bit_xor a 48) (bit_xor b 48) (bit_xor c 48) (bit_xor d 48) (bit_xor e 48) (bit_xor f 48) (bit_xor g 48) (bit_xor h 48) (flipped_within (a ∷ b ∷ c ∷ d ∷ e ∷ f ∷ g ∷ h ∷ []) all)
+          ∙ sym (ones_are (48 ∷ 48 ∷ 48 ∷ 48 ∷ 48 ∷ 48 ∷ a ∷ b ∷ []) refl within);
+      digits = λ digits. digits.2.2.2.2.2.2;
+      same = refl;
+    }
+behind a b c d e f g h (suc (suc (suc zero))) some few (a1, a2, (b1, b2, (c1, c2, (d1, d2, (e1, e2, (f1, f2, (g1, g2, (h1, h2, none)))))))) =
+    let all : AreWithin 0 255 (a ∷ b ∷ c ∷ d ∷ e ∷ f ∷ g ∷ h ∷ []) = (a1, a2, (b1, b2, (c1, c2, (d1, d2, (e1, e2, (f1, f2, (g1, g2, (h1, h2, tt)))))))) in
+    let within : AreWithin 0 255 (48 ∷ 48 ∷ 48 ∷ 48 ∷ 48 ∷ a ∷ b ∷ c ∷ []) = (omega arith, omega arith, (omega arith, omega arith, (omega arith, omega arith, (omega arith, omega arith, (omega arith, omega arith, (a1, a2, (b1, b2, (c1, c2, tt)))))))) in
+    record {
+      padded = (48 ∷ 48 ∷ 48 ∷ 48 ∷ 48 ∷ a ∷ b ∷ c ∷ []);
+      size = refl;
+      within = within;
+      shifted =
+          ap (λ n. n * 1099511627776 % 18446744073709551616) (ones_are (a ∷ b ∷ c ∷ d ∷ e ∷ f ∷ g ∷ h ∷ []) refl all)
+          ∙ shift_3 (bit_xor a 48) (bit_xor b 48) (bit_xor c 48) (bit_xor d 48) (bit_xor e 48) (bit_xor f 48) (bit_xor g 48) (bit_xor h 48) (flipped_within (a ∷ b ∷ c ∷ d ∷ e ∷ f ∷ g ∷ h ∷ []) all)
+          ∙ sym (ones_are (48 ∷ 48 ∷ 48 ∷ 48 ∷ 48 ∷ a ∷ b ∷ c ∷ []) refl within);
+      digits = λ digits. digits.2.2.2.2.2;
+      same = refl;
+    }
+behind a b c d e f g h (suc (suc (suc (suc zero)))) some few (a1, a2, (b1, b2, (c1, c2, (d1, d2, (e1, e2, (f1, f2, (g1, g2, (h1, h2, none)))))))) =
+    let all : AreWithin 0 255 (a ∷ b ∷ c ∷ d ∷ e ∷ f ∷ g ∷ h ∷ []) = (a1, a2, (b1, b2, (c1, c2, (d1, d2, (e1, e2, (f1, f2, (g1, g2, (h1, h2, tt)))))))) in
+    let within : AreWithin 0 255 (48 ∷ 48 ∷ 48 ∷ 48 ∷ a ∷ b ∷ c ∷ d ∷ []) = (omega arith, omega arith, (omega arith, omega arith, (omega arith, omega arith, (omega arith, omega arith, (a1, a2, (b1, b2, (c1, c2, (d1, d2, tt)))))))) in
+    record {
+      padded = (48 ∷ 48 ∷ 48 ∷ 48 ∷ a ∷ b ∷ c ∷ d ∷ []);
+      size = refl;
+      within = within;
+      shifted =
+          ap (λ n. n * 4294967296 % 18446744073709551616) (ones_are (a ∷ b ∷ c ∷ d ∷ e ∷ f ∷ g ∷ h ∷ []) refl all)
+          ∙ shift_4 (bit_xor a 48) (bit_xor b 48) (bit_xor c 48) (bit_xor d 48) (bit_xor e 48) (bit_xor f 48) (bit_xor g 48) (bit_xor h 48) (flipped_within (a ∷ b ∷ c ∷ d ∷ e ∷ f ∷ g ∷ h ∷ []) all)
+          ∙ sym (ones_are (48 ∷ 48 ∷ 48 ∷ 48 ∷ a ∷ b ∷ c ∷ d ∷ []) refl within);
+      digits = λ digits. digits.2.2.2.2;
+      same = refl;
+    }
+behind a b c d e f g h (suc (suc (suc (suc (suc zero))))) some few (a1, a2, (b1, b2, (c1, c2, (d1, d2, (e1, e2, (f1, f2, (g1, g2, (h1, h2, none)))))))) =
+    let all : AreWithin 0 255 (a ∷ b ∷ c ∷ d ∷ e ∷ f ∷ g ∷ h ∷ []) = (a1, a2, (b1, b2, (c1, c2, (d1, d2, (e1, e2, (f1, f2, (g1, g2, (h1, h2, tt)))))))) in
+    let within : AreWithin 0 255 (48 ∷ 48 ∷ 48 ∷ a ∷ b ∷ c ∷ d ∷ e ∷ []) = (omega arith, omega arith, (omega arith, omega arith, (omega arith, omega arith, (a1, a2, (b1, b2, (c1, c2, (d1, d2, (e1, e2, tt)))))))) in
+    record {
+      padded = (48 ∷ 48 ∷ 48 ∷ a ∷ b ∷ c ∷ d ∷ e ∷ []);
+      size = refl;
+      within = within;
+      shifted =
+          ap (λ n. n * 16777216 % 18446744073709551616) (ones_are (a ∷ b ∷ c ∷ d ∷ e ∷ f ∷ g ∷ h ∷ []) refl all)
+          ∙ shift_5 (bit_xor a 48) (bit_xor b 48) (bit_xor c 48) (bit_xor d 48) (bit_xor e 48) (bit_xor f 48) (bit_xor g 48) (bit_xor h 48) (flipped_within (a ∷ b ∷ c ∷ d ∷ e ∷ f ∷ g ∷ h ∷ []) all)
+          ∙ sym (ones_are (48 ∷ 48 ∷ 48 ∷ a ∷ b ∷ c ∷ d ∷ e ∷ []) refl within);
+      digits = λ digits. digits.2.2.2;
+      same = refl;
+    }
+behind a b c d e f g h (suc (suc (suc (suc (suc (suc zero)))))) some few (a1, a2, (b1, b2, (c1, c2, (d1, d2, (e1, e2, (f1, f2, (g1, g2, (h1, h2, none)))))))) =
+    let all : AreWithin 0 255 (a ∷ b ∷ c ∷ d ∷ e ∷ f ∷ g ∷ h ∷ []) = (a1, a2, (b1, b2, (c1, c2, (d1, d2, (e1, e2, (f1, f2, (g1, g2, (h1, h2, tt)))))))) in
+    let within : AreWithin 0 255 (48 ∷ 48 ∷ a ∷ b ∷ c ∷ d ∷ e ∷ f ∷ []) = (omega arith, omega arith, (omega arith, omega arith, (a1, a2, (b1, b2, (c1, c2, (d1, d2, (e1, e2, (f1, f2, tt)))))))) in
+    record {
+      padded = (48 ∷ 48 ∷ a ∷ b ∷ c ∷ d ∷ e ∷ f ∷ []);
+      size = refl;
+      within = within;
+      shifted =
+          ap (λ n. n * 65536 % 18446744073709551616) (ones_are (a ∷ b ∷ c ∷ d ∷ e ∷ f ∷ g ∷ h ∷ []) refl all)
+          ∙ shift_6 (bit_xor a 48) (bit_xor b 48) (bit_xor c 48) (bit_xor d 48) (bit_xor e 48) (bit_xor f 48) (bit_xor g 48) (bit_xor h 48) (flipped_within (a ∷ b ∷ c ∷ d ∷ e ∷ f ∷ g ∷ h ∷ []) all)
+          ∙ sym (ones_are (48 ∷ 48 ∷ a ∷ b ∷ c ∷ d ∷ e ∷ f ∷ []) refl within);
+      digits = λ digits. digits.2.2;
+      same = refl;
+    }
+behind a b c d e f g h (suc (suc (suc (suc (suc (suc (suc zero))))))) some few (a1, a2, (b1, b2, (c1, c2, (d1, d2, (e1, e2, (f1, f2, (g1, g2, (h1, h2, none)))))))) =
+    let all : AreWithin 0 255 (a ∷ b ∷ c ∷ d ∷ e ∷ f ∷ g ∷ h ∷ []) = (a1, a2, (b1, b2, (c1, c2, (d1, d2, (e1, e2, (f1, f2, (g1, g2, (h1, h2, tt)))))))) in
+    let within : AreWithin 0 255 (48 ∷ a ∷ b ∷ c ∷ d ∷ e ∷ f ∷ g ∷ []) = (omega arith, omega arith, (a1, a2, (b1, b2, (c1, c2, (d1, d2, (e1, e2, (f1, f2, (g1, g2, tt)))))))) in
+    record {
+      padded = (48 ∷ a ∷ b ∷ c ∷ d ∷ e ∷ f ∷ g ∷ []);
+      size = refl;
+      within = within;
+      shifted =
+          ap (λ n. n * 256 % 18446744073709551616) (ones_are (a ∷ b ∷ c ∷ d ∷ e ∷ f ∷ g ∷ h ∷ []) refl all)
+          ∙ shift_7 (bit_xor a 48) (bit_xor b 48) (bit_xor c 48) (bit_xor d 48) (bit_xor e 48) (bit_xor f 48) (bit_xor g 48) (bit_xor h 48) (flipped_within (a ∷ b ∷ c ∷ d ∷ e ∷ f ∷ g ∷ h ∷ []) all)
+          ∙ sym (ones_are (48 ∷ a ∷ b ∷ c ∷ d ∷ e ∷ f ∷ g ∷ []) refl within);
+      digits = λ digits. digits.2;
+      same = refl;
+    }
+behind a b c d e f g h (suc (suc (suc (suc (suc (suc (suc (suc count)))))))) some few all = absurd (omega (arith, few))
+
+pub few_behind : (bytes : List ℕ) (count : ℕ) → length bytes ≡ 8 → 0 < count → count < 8 → AreWithin 0 255 bytes → Behind bytes count
+few_behind (a ∷ b ∷ c ∷ d ∷ e ∷ f ∷ g ∷ h ∷ []) count n some few all = behind a b c d e f g h count some few all
+few_behind [] count n some few all = absurd (omega arith)
+few_behind (a ∷ []) count n some few all = absurd (omega arith)
+few_behind (a ∷ b ∷ []) count n some few all = absurd (omega arith)
+few_behind (a ∷ b ∷ c ∷ []) count n some few all = absurd (omega arith)
+few_behind (a ∷ b ∷ c ∷ d ∷ []) count n some few all = absurd (omega arith)
+few_behind (a ∷ b ∷ c ∷ d ∷ e ∷ []) count n some few all = absurd (omega arith)
+few_behind (a ∷ b ∷ c ∷ d ∷ e ∷ f ∷ []) count n some few all = absurd (omega arith)
+few_behind (a ∷ b ∷ c ∷ d ∷ e ∷ f ∷ g ∷ []) count n some few all = absurd (omega arith)
+few_behind (a ∷ b ∷ c ∷ d ∷ e ∷ f ∷ g ∷ h ∷ i ∷ more) count n some few all = absurd (omega arith)
+
+-- so many bytes are digits
+pub few_are_digits : (bytes : List ℕ) (count : ℕ) (b : Behind bytes count) → AreWithin 48 57 b.padded → list_all is_ascii_digit (take count bytes) ≡ true
+few_are_digits bytes count b digits = within_digits (take count bytes) (b.digits digits)
+
+-- and the code's value is theirs
+pub few_value : (bytes : List ℕ) (count : ℕ) (b : Behind bytes count) → AreWithin 48 57 b.padded → value_in (pairs_in (ones_in b.padded)) ≡ digits_value 10 (take count bytes)
+few_value bytes count b digits = (eight_small b.padded b.size digits).0 ∙ b.same

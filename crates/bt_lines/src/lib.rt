@@ -53,7 +53,7 @@ pub use from_read::FromRead;
 pub use from_right::{COLUMN, write_column};
 pub use line::{Line, LineEnd};
 pub use line_reader::LineReader;
-pub use numbers::{MAX_DIGITS, MAX_NUMBER, eight_digits, number};
+pub use numbers::{MAX_DIGITS, MAX_NUMBER, eight_digits, few_digits, number};
 pub use output::Out;
 pub use putting::{put_both, put_column, put_line, put_number};
 pub use report::{Names, fault_line};

@@ -1,6 +1,9 @@
 //! Numbers in decimal.
 
-ghost use Rattle.std.specs.Prelude.{◌≡◌, ◌<◌, length};
+ghost use Rattle.std.specs.Prelude.{◌≡◌, ◌<◌, ◌≤◌, length, take, true};
+ghost use Rattle.std.specs.Char.{is_ascii_digit};
+ghost use Rattle.std.specs.List.{list_all};
+ghost use Rattle.std.specs.Str.Parse.{digits_value};
 ghost use Rattle.bt_lines.specs.Number.{value_of};
 
 /// The greatest number that a text may denote.
@@ -60,7 +63,42 @@ pub fn eight_digits(bytes: &[u8; 8]) -> Option<u64>
     Some(fours % 0x1_0000 * 10_000 + fours / 0x1_0000_0000 % 0x1_0000)
 }
 
-// The same for more digits: they are too many but for leading zeros.
+/// The digits that come first in eight bytes, where fewer than eight do: the number that they denote, and how
+/// many they are. All are read at once.
+#[inline]
+pub fn few_digits(bytes: &[u8; 8]) -> (u64, usize)
+    ensures few { result.1 < 8 }
+    ensures digits { list_all is_ascii_digit (take result.1 bytes.now) ≡ true }
+    ensures value { result.0 ≡ digits_value 10 (take result.1 bytes.now) }
+{
+    let ones = u64::from_le_bytes(*bytes) ^ ZEROS;
+    let count = small_bytes(ones);
+    if count == 0 || count == 8 {
+        return (0, 0);
+    }
+    // They come last, behind zeros.
+    let ones = ones << (64 - 8 * count);
+    if ones & UPPER_HALVES != 0 {
+        return (0, 0);
+    }
+    if (ones + SIXES) & UPPER_HALVES != 0 {
+        return (0, 0);
+    }
+    let pairs = (ones * 10 + ones / 0x100) & EVEN_BYTES;
+    let fours = pairs * 100 + pairs / 0x1_0000;
+    let value = fours % 0x1_0000 * 10_000 + fours / 0x1_0000_0000 % 0x1_0000;
+    (value, count)
+}
+
+// How many bytes come before the first one above 9.
+fn small_bytes(ones: u64) -> usize
+    ensures { result ≤ 8 }
+{
+    let others = (ones | ones.wrapping_add(SIXES)) & UPPER_HALVES;
+    (others.trailing_zeros() / 8) as usize
+}
+
+// The number of a text of more digits: they are too many but for leading zeros.
 fn long_number(text: &[u8]) -> Option<u64>
     requires { 0 < length text.now }
     ensures { result ≡ value_of text.now }

@@ -1,6 +1,6 @@
 use crate::{
     Fault, Input, Kind, LineEnd, LineReader, Names, Out, Place, ScriptSink, ScriptSource, Sink,
-    Source, columns, eight_digits, fault_line, first_tab, number,
+    Source, columns, eight_digits, fault_line, few_digits, first_tab, number,
 };
 use std::alloc::AllocError;
 use std::test::Fail;
@@ -36,6 +36,25 @@ fn eight_digits_at_once(rt: HostRuntime) {
     ];
     for (text, want) in cases {
         assert_eq!(rt; eight_digits(text), want);
+    }
+}
+
+// Each byte that is no digit ends them, at each place, whatever stands behind it.
+#[test]
+fn few_digits_at_once(rt: HostRuntime) {
+    let values: [u64; 8] = [0, 9, 98, 987, 9876, 98765, 987_654, 9_876_543];
+    for count in 0..8 {
+        for byte in 0..256 {
+            let byte = byte as u8;
+            for last in [byte, b'2', 0, 255] {
+                let mut bytes = *b"98765432";
+                bytes[7] = last;
+                bytes[count] = byte;
+                if !byte.is_ascii_digit() {
+                    assert_eq!(rt; few_digits(&bytes), (values[count], count));
+                }
+            }
+        }
     }
 }
 
