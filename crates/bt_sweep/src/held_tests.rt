@@ -33,72 +33,104 @@ fn start_of<H: Held>(held: &H, index: usize) -> Option<u64> {
     }
 }
 
-// How many are left once those that ended at the place are dropped, and the starts of the first and of
-// the last.
-fn left_at<H: Held>(held: &mut H, place: u64) -> (usize, Option<u64>, Option<u64>) {
-    held.drop_ended(place);
+// A place, and what is left once the records that ended there are dropped: how many, and the starts of the
+// first and of the last.
+type Left = (u64, usize, Option<u64>, Option<u64>);
+
+fn is_left<H: Held>(held: &mut H, want: &Left) -> bool {
+    held.drop_ended(want.0);
     let count = held.len();
-    (
-        count,
-        start_of(held, 0),
-        start_of(held, count.saturating_sub(1)),
-    )
+    let first = start_of(held, 0);
+    let last = start_of(held, count.saturating_sub(1));
+    count == want.1 && first == want.2 && last == want.3
 }
 
-fn drops_ended<H: Held>(rt: &impl Abort, alloc: Global, mut held: H) -> Result<(), Fail> {
-    let lines = [
-        b"c\t0\t100".as_slice(),
-        b"c\t1\t20",
-        b"c\t2\t50\tn",
-        b"c\t3\t51",
-        b"c\t3\t20",
-    ];
-    assert!(rt; push_all(alloc, &mut held, &lines)?);
-    assert_eq!(rt; left_at(&mut held, 19), (5, Some(0), Some(3)));
-    assert_eq!(rt; left_at(&mut held, 20), (3, Some(0), Some(3)));
-    assert_eq!(rt; left_at(&mut held, 50), (2, Some(0), Some(3)));
-    assert_eq!(rt; left_at(&mut held, 99), (1, Some(0), Some(0)));
-    held.clear();
-    assert_eq!(rt; left_at(&mut held, 0), (0, None, None));
-    Ok(())
+// The first place at which something else is left.
+fn first_otherwise<H: Held>(held: &mut H, rows: &[Left]) -> Option<u64> {
+    for row in rows {
+        if !is_left(held, row) {
+            return Some(row.0);
+        }
+    }
+    None
 }
 
-// Records that don't come by their starts are dropped as the others are.
-fn drops_ended_in_any_order<H: Held>(
+const NOTHING: Left = (0, 0, None, None);
+
+// Of these records, once they are added, that has to be left at these places, and nothing once they are
+// cleared.
+fn check<H: Held>(
     rt: &impl Abort,
     alloc: Global,
     mut held: H,
+    lines: &[&[u8]],
+    rows: &[Left],
 ) -> Result<(), Fail> {
-    let lines = [b"c\t50\t60".as_slice(), b"c\t10\t20", b"c\t30\t90"];
-    assert!(rt; push_all(alloc, &mut held, &lines)?);
-    assert_eq!(rt; left_at(&mut held, 20), (2, Some(50), Some(30)));
-    assert_eq!(rt; left_at(&mut held, 60), (1, Some(30), Some(30)));
+    let are_added = push_all(alloc, &mut held, lines)?;
+    let found = first_otherwise(&mut held, rows);
+    held.clear();
+    let is_clear = is_left(&mut held, &NOTHING);
+    assert_eq!(rt; (are_added, found, is_clear), (true, None, true));
     Ok(())
 }
 
-// A thousand records, each within the one before it.
-fn drops_the_inner_first<H: Held>(rt: &impl Abort, alloc: Global, mut held: H) -> Result<(), Fail> {
-    for start in 0u32..1000 {
-        let line = format!(in alloc; "chr1\t{start}\t{}", 10_000 - start)?;
-        assert!(rt; push(alloc, &mut held, line.as_bytes())?);
-    }
-    assert_eq!(rt; left_at(&mut held, 9000), (1000, Some(0), Some(999)));
-    assert_eq!(rt; left_at(&mut held, 9500), (500, Some(0), Some(499)));
-    assert_eq!(rt; left_at(&mut held, 9999), (1, Some(0), Some(0)));
-    assert_eq!(rt; left_at(&mut held, 10_000), (0, None, None));
-    Ok(())
-}
+const RISING: [&[u8]; 5] = [
+    b"c\t0\t100",
+    b"c\t1\t20",
+    b"c\t2\t50\tn",
+    b"c\t3\t51",
+    b"c\t3\t20",
+];
+
+const LEFT_OF_RISING: [Left; 4] = [
+    (19, 5, Some(0), Some(3)),
+    (20, 3, Some(0), Some(3)),
+    (50, 2, Some(0), Some(3)),
+    (99, 1, Some(0), Some(0)),
+];
 
 #[test]
 fn ended_records_are_dropped(rt: HostRuntime) -> Result<(), Fail> {
-    drops_ended(&rt, rt.alloc(), HeldList::new(rt.alloc()))?;
-    drops_ended(&rt, rt.alloc(), HeldIndex::new(rt.alloc()))
+    let (list, index) = (HeldList::new(rt.alloc()), HeldIndex::new(rt.alloc()));
+    check(&rt, rt.alloc(), list, &RISING, &LEFT_OF_RISING)?;
+    check(&rt, rt.alloc(), index, &RISING, &LEFT_OF_RISING)
 }
+
+// Records that don't come by their starts are dropped as the others are.
+const IN_ANY_ORDER: [&[u8]; 3] = [b"c\t50\t60", b"c\t10\t20", b"c\t30\t90"];
+
+const LEFT_IN_ANY_ORDER: [Left; 2] = [(20, 2, Some(50), Some(30)), (60, 1, Some(30), Some(30))];
 
 #[test]
 fn ended_records_are_dropped_in_any_order(rt: HostRuntime) -> Result<(), Fail> {
-    drops_ended_in_any_order(&rt, rt.alloc(), HeldList::new(rt.alloc()))?;
-    drops_ended_in_any_order(&rt, rt.alloc(), HeldIndex::new(rt.alloc()))
+    let (list, index) = (HeldList::new(rt.alloc()), HeldIndex::new(rt.alloc()));
+    check(&rt, rt.alloc(), list, &IN_ANY_ORDER, &LEFT_IN_ANY_ORDER)?;
+    check(&rt, rt.alloc(), index, &IN_ANY_ORDER, &LEFT_IN_ANY_ORDER)
+}
+
+// Adds a thousand records, each within the one before it.
+fn push_nested<H: Held>(alloc: Global, held: &mut H) -> Result<bool, Fail> {
+    for start in 0u32..1000 {
+        let line = format!(in alloc; "chr1\t{start}\t{}", 10_000 - start)?;
+        if !push(alloc, held, line.as_bytes())? {
+            return Ok(false);
+        }
+    }
+    Ok(true)
+}
+
+const LEFT_OF_NESTED: [Left; 4] = [
+    (9000, 1000, Some(0), Some(999)),
+    (9500, 500, Some(0), Some(499)),
+    (9999, 1, Some(0), Some(0)),
+    (10_000, 0, None, None),
+];
+
+fn drops_the_inner_first<H: Held>(rt: &impl Abort, alloc: Global, mut held: H) -> Result<(), Fail> {
+    let are_added = push_nested(alloc, &mut held)?;
+    let found = first_otherwise(&mut held, &LEFT_OF_NESTED);
+    assert_eq!(rt; (are_added, found), (true, None));
+    Ok(())
 }
 
 #[test]

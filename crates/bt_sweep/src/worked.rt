@@ -68,7 +68,7 @@ const TOUCHING_B: Lines = &[b"chr1\t20\t30"];
 
 const NESTED_A: Lines = &[b"chr1\t0\t100", b"chr1\t50\t60"];
 
-pub(crate) const NESTED_B: Lines = &[b"chr1\t10\t20", b"chr1\t55\t58", b"chr1\t90\t95"];
+const NESTED_B: Lines = &[b"chr1\t10\t20", b"chr1\t55\t58", b"chr1\t90\t95"];
 
 const NAMED_A: Lines = &[b"chr1\t10\t30\ta"];
 

@@ -4,7 +4,7 @@ use super::*;
 use crate::held_index::HeldIndex;
 use crate::held_list::HeldList;
 use crate::plain::plain_intersect;
-use crate::worked::{ANY_OVERLAP, FRACTIONS, NESTED_B, RuledCase, STRANDS, SUBTRACTED, records_of};
+use crate::worked::{ANY_OVERLAP, FRACTIONS, RuledCase, STRANDS, SUBTRACTED, records_of};
 use bt_bed::{ByteOrder, Genome, parse_bed};
 use bt_lines::{Input, Kind, LineReader, ScriptSink, ScriptSource};
 use std::alloc::AllocError;
@@ -230,21 +230,26 @@ fn first_miswritten<O: ChromOrder>(
     None
 }
 
-#[test]
-fn worked_rows(rt: HostRuntime) {
-    let Ok(genome) = read_genome(rt.alloc()) else {
-        assert!(rt; false);
-        return;
-    };
-    assert_eq!(rt; first_miswritten(&rt, &genome, &ANY_OVERLAP), None);
-    assert_eq!(rt; first_miswritten(&rt, &genome, &FRACTIONS), None);
-    assert_eq!(rt; first_miswritten(&rt, &genome, &STRANDS), None);
-    assert_eq!(rt; first_miswritten(&rt, &genome, &SUBTRACTED), None);
+// The same over several tables.
+fn first_miswritten_of(
+    rt: &HostRuntime,
+    tables: &[&[RuledCase]],
+) -> Result<Option<&'static str>, Fail> {
+    let genome = read_genome(rt.alloc())?;
+    for cases in tables {
+        let found = first_miswritten(rt, &genome, cases);
+        if found.is_some() {
+            return Ok(found);
+        }
+    }
+    Ok(None)
 }
 
-// How many records are held.
-fn held_len<H: Held, O: ChromOrder>(sweep: &Sweep<'_, H, O>) -> usize {
-    sweep.held().len()
+#[test]
+fn worked_rows(rt: HostRuntime) -> Result<(), Fail> {
+    let tables: [&[RuledCase]; 4] = [&ANY_OVERLAP, &FRACTIONS, &STRANDS, &SUBTRACTED];
+    assert_eq!(rt; first_miswritten_of(&rt, &tables)?, None);
+    Ok(())
 }
 
 // The start of the held record with so many before it.
@@ -255,170 +260,206 @@ fn held_start<H: Held, O: ChromOrder>(sweep: &Sweep<'_, H, O>, index: usize) -> 
     }
 }
 
-#[test]
-fn records_are_held_until_one_starts_past_them(rt: HostRuntime) {
-    let Ok(genome) = read_genome(rt.alloc()) else {
-        assert!(rt; false);
-        return;
-    };
-    let mut sweep = any_overlap(rt.alloc(), Shape::Cut, &genome);
-    let mut out = Out::new(ScriptSink::new(rt.alloc(), 100, None));
-    assert_eq!(rt; sweep.want(), Want::A);
-    assert_eq!(rt;
-        give_first(&mut sweep, b"chr1\t0\t100", &mut out),
-        Some(Ok(()))
-    );
-    for line in NESTED_B {
-        assert_eq!(rt; sweep.want(), Want::B);
-        assert_eq!(rt;
-            give_second(&mut sweep, line, &mut out),
-            Some(Ok(Taken::Yes))
-        );
-    }
-    assert_eq!(rt; held_len(&sweep), 3);
-    assert_eq!(rt; end_second(&mut sweep, &mut out), Some(Ok(())));
-    assert_eq!(rt; sweep.want(), Want::A);
-    assert_eq!(rt; held_len(&sweep), 3);
-    assert_eq!(rt;
-        give_first(&mut sweep, b"chr1\t50\t60", &mut out),
-        Some(Ok(()))
-    );
-    assert_eq!(rt; held_len(&sweep), 2);
-    assert_eq!(rt; held_start(&sweep, 0), Some(55));
-    assert_eq!(rt; held_start(&sweep, 1), Some(90));
-    assert_eq!(rt; held_start(&sweep, 2), None);
-    assert_eq!(rt; sweep.want(), Want::A);
+// What is done with a sweep: a record of the first input is given to it, one of the second, which it takes
+// or not, or the end of that; or it is asked what it wants, how many records it holds, or where one of
+// those starts.
+#[derive(Clone, Copy)]
+enum Step {
+    First(&'static [u8]),
+    Second(&'static [u8], Taken),
+    EndSecond,
+    Wants(Want),
+    Holds(usize),
+    HoldsAt(usize, Option<u64>),
 }
 
-#[test]
-fn a_record_before_the_chromosome_is_not_held(rt: HostRuntime) {
-    let Ok(genome) = read_genome(rt.alloc()) else {
-        assert!(rt; false);
-        return;
-    };
-    let mut sweep = any_overlap(rt.alloc(), Shape::Cut, &genome);
-    let mut out = Out::new(ScriptSink::new(rt.alloc(), 100, None));
-    assert_eq!(rt;
-        give_first(&mut sweep, b"chr2\t0\t5", &mut out),
-        Some(Ok(()))
-    );
-    assert_eq!(rt;
-        give_second(&mut sweep, b"chr1\t0\t9", &mut out),
-        Some(Ok(Taken::Yes))
-    );
-    assert_eq!(rt; held_len(&sweep), 0);
-    assert_eq!(rt;
-        give_second(&mut sweep, b"chr2\t5\t9", &mut out),
-        Some(Ok(Taken::No))
-    );
-    assert_eq!(rt; held_len(&sweep), 0);
-    assert_eq!(rt; sweep.want(), Want::A);
-    assert_eq!(rt; out.flush(), Ok(()));
-    assert_eq!(rt; out.into_sink().taken(), b"".as_slice());
+// Whether the step goes as it says.
+fn goes<H: Held, O: ChromOrder, K: Sink>(
+    sweep: &mut Sweep<'_, H, O>,
+    step: Step,
+    out: &mut Out<K>,
+) -> bool {
+    match step {
+        Step::First(line) => give_first(sweep, line, out) == Some(Ok(())),
+        Step::Second(line, taken) => give_second(sweep, line, out) == Some(Ok(taken)),
+        Step::EndSecond => end_second(sweep, out) == Some(Ok(())),
+        Step::Wants(want) => sweep.want() == want,
+        Step::Holds(count) => sweep.held().len() == count,
+        Step::HoldsAt(index, start) => held_start(sweep, index) == start,
+    }
 }
+
+// The index of the first step that goes otherwise.
+fn first_that_goes_otherwise<H: Held, O: ChromOrder, K: Sink>(
+    sweep: &mut Sweep<'_, H, O>,
+    steps: &[Step],
+    out: &mut Out<K>,
+) -> Option<usize> {
+    for (index, step) in steps.iter().enumerate() {
+        if !goes(sweep, *step, out) {
+            return Some(index);
+        }
+    }
+    None
+}
+
+// Whether the steps go as they say in a sweep that was given nothing, and what is written with them.
+fn are_gone(alloc: Global, steps: &[Step], want: &[u8]) -> Result<(Option<usize>, bool), Fail> {
+    let genome = read_genome(alloc)?;
+    let mut sweep = any_overlap(alloc, Shape::Cut, &genome);
+    let mut out = Out::new(ScriptSink::new(alloc, 100, None));
+    let found = first_that_goes_otherwise(&mut sweep, steps, &mut out);
+    let is_flushed = out.flush().is_ok();
+    let is_written = out.into_sink().taken() == want;
+    Ok((found, is_flushed && is_written))
+}
+
+const HELD: [Step; 18] = [
+    Step::Wants(Want::A),
+    Step::First(b"chr1\t0\t100"),
+    Step::Wants(Want::B),
+    Step::Second(b"chr1\t10\t20", Taken::Yes),
+    Step::Wants(Want::B),
+    Step::Second(b"chr1\t55\t58", Taken::Yes),
+    Step::Wants(Want::B),
+    Step::Second(b"chr1\t90\t95", Taken::Yes),
+    Step::Holds(3),
+    Step::EndSecond,
+    Step::Wants(Want::A),
+    Step::Holds(3),
+    Step::First(b"chr1\t50\t60"),
+    Step::Holds(2),
+    Step::HoldsAt(0, Some(55)),
+    Step::HoldsAt(1, Some(90)),
+    Step::HoldsAt(2, None),
+    Step::Wants(Want::A),
+];
+
+#[test]
+fn records_are_held_until_one_starts_past_them(rt: HostRuntime) -> Result<(), Fail> {
+    let want: &[u8] = b"chr1\t10\t20\nchr1\t55\t58\nchr1\t90\t95\nchr1\t55\t58\n";
+    assert_eq!(rt; are_gone(rt.alloc(), &HELD, want)?, (None, true));
+    Ok(())
+}
+
+const BEFORE_THE_CHROMOSOME: [Step; 6] = [
+    Step::First(b"chr2\t0\t5"),
+    Step::Second(b"chr1\t0\t9", Taken::Yes),
+    Step::Holds(0),
+    Step::Second(b"chr2\t5\t9", Taken::No),
+    Step::Holds(0),
+    Step::Wants(Want::A),
+];
+
+#[test]
+fn a_record_before_the_chromosome_is_not_held(rt: HostRuntime) -> Result<(), Fail> {
+    assert_eq!(rt;
+        are_gone(rt.alloc(), &BEFORE_THE_CHROMOSOME, b"")?,
+        (None, true)
+    );
+    Ok(())
+}
+
+const DECIDED: [Step; 7] = [
+    Step::First(b"chr1\t0\t10"),
+    Step::Second(b"chr1\t2\t4", Taken::Yes),
+    Step::Second(b"chr1\t50\t60", Taken::No),
+    Step::First(b"chr1\t100\t110"),
+    Step::Second(b"chr1\t50\t60", Taken::Yes),
+    Step::Holds(0),
+    Step::Wants(Want::B),
+];
 
 // What is written before the second input's third line, which is at fault: the lines of the first
 // record, which the second line decides.
 #[test]
-fn decided_lines_are_written_before_the_end(rt: HostRuntime) {
-    let Ok(genome) = read_genome(rt.alloc()) else {
-        assert!(rt; false);
-        return;
-    };
-    let mut sweep = any_overlap(rt.alloc(), Shape::Cut, &genome);
-    let mut out = Out::new(ScriptSink::new(rt.alloc(), 100, None));
+fn decided_lines_are_written_before_the_end(rt: HostRuntime) -> Result<(), Fail> {
     assert_eq!(rt;
-        give_first(&mut sweep, b"chr1\t0\t10", &mut out),
-        Some(Ok(()))
+        are_gone(rt.alloc(), &DECIDED, b"chr1\t2\t4\n")?,
+        (None, true)
     );
-    assert_eq!(rt;
-        give_second(&mut sweep, b"chr1\t2\t4", &mut out),
-        Some(Ok(Taken::Yes))
-    );
-    assert_eq!(rt;
-        give_second(&mut sweep, b"chr1\t50\t60", &mut out),
-        Some(Ok(Taken::No))
-    );
-    assert_eq!(rt;
-        give_first(&mut sweep, b"chr1\t100\t110", &mut out),
-        Some(Ok(()))
-    );
-    assert_eq!(rt;
-        give_second(&mut sweep, b"chr1\t50\t60", &mut out),
-        Some(Ok(Taken::Yes))
-    );
-    assert_eq!(rt; held_len(&sweep), 0);
-    assert_eq!(rt; sweep.want(), Want::B);
-    assert_eq!(rt; out.flush(), Ok(()));
-    assert_eq!(rt; out.into_sink().taken(), b"chr1\t2\t4\n".as_slice());
+    Ok(())
+}
+
+// Gives a thousand records that end before the one that waits. None may be held.
+fn gives_short<H: Held, O: ChromOrder, K: Sink>(
+    alloc: Global,
+    sweep: &mut Sweep<'_, H, O>,
+    out: &mut Out<K>,
+) -> Result<bool, Fail> {
+    for start in 0u32..1000 {
+        let line = format!(in alloc; "chr1\t{start}\t20000")?;
+        let answer = give_second(sweep, line.as_bytes(), out);
+        if answer != Some(Ok(Taken::Yes)) || sweep.held().len() != 0 {
+            return Ok(false);
+        }
+    }
+    Ok(true)
 }
 
 #[test]
 fn many_records_that_are_not_held(rt: HostRuntime) -> Result<(), Fail> {
-    let Ok(genome) = read_genome(rt.alloc()) else {
-        assert!(rt; false);
-        return Ok(());
-    };
+    let genome = read_genome(rt.alloc())?;
     let mut sweep = any_overlap(rt.alloc(), Shape::Count, &genome);
     let mut out = Out::new(ScriptSink::new(rt.alloc(), 100, None));
-    assert_eq!(rt;
-        give_first(&mut sweep, b"chr1\t50000\t50001", &mut out),
-        Some(Ok(()))
-    );
-    for start in 0u32..1000 {
-        let line = format!(in rt.alloc(); "chr1\t{start}\t20000")?;
-        assert_eq!(rt;
-            give_second(&mut sweep, line.as_bytes(), &mut out),
-            Some(Ok(Taken::Yes))
-        );
-        assert_eq!(rt; held_len(&sweep), 0);
-    }
+    let is_given = give_first(&mut sweep, b"chr1\t50000\t50001", &mut out) == Some(Ok(()));
+    let are_passed = gives_short(rt.alloc(), &mut sweep, &mut out)?;
+    assert!(rt; is_given && are_passed);
     Ok(())
 }
 
-// Counts the hits of three records in a thousand, each of which lies within the one before it.
-fn counts_in_nested<H: Held, O: ChromOrder>(
-    rt: &impl Abort,
+// Gives a thousand records, each of which lies within the one before it.
+fn gives_nested<H: Held, O: ChromOrder, K: Sink>(
     alloc: Global,
-    held: H,
-    order: &O,
-) -> Result<(), Fail>
-    requires { H.records held ≡ [] }
-{
-    let rule = HitRule::any_overlap();
-    let mut sweep = Sweep::new(alloc, held, Shape::Count, rule, None, order);
-    let mut out = Out::new(ScriptSink::new(alloc, 100, None));
-    assert_eq!(rt;
-        give_first(&mut sweep, b"chr1\t0\t10000", &mut out),
-        Some(Ok(()))
-    );
+    sweep: &mut Sweep<'_, H, O>,
+    out: &mut Out<K>,
+) -> Result<bool, Fail> {
     for start in 0u32..1000 {
         let line = format!(in alloc; "chr1\t{start}\t{}", 10_000 - start)?;
-        assert_eq!(rt;
-            give_second(&mut sweep, line.as_bytes(), &mut out),
-            Some(Ok(Taken::Yes))
-        );
+        if give_second(sweep, line.as_bytes(), out) != Some(Ok(Taken::Yes)) {
+            return Ok(false);
+        }
     }
-    assert_eq!(rt; end_second(&mut sweep, &mut out), Some(Ok(())));
-    for line in [b"chr1\t9500\t9600".as_slice(), b"chr1\t9999\t10000"] {
-        assert_eq!(rt; give_first(&mut sweep, line, &mut out), Some(Ok(())));
-    }
-    assert_eq!(rt; out.flush(), Ok(()));
-    assert_eq!(rt;
-        out.into_sink().taken(),
-        b"chr1\t0\t10000\t1000\nchr1\t9500\t9600\t500\nchr1\t9999\t10000\t1\n".as_slice()
-    );
-    Ok(())
+    Ok(true)
+}
+
+const AROUND_NESTED: [Step; 1] = [Step::First(b"chr1\t0\t10000")];
+
+const BEHIND_NESTED: [Step; 3] = [
+    Step::EndSecond,
+    Step::First(b"chr1\t9500\t9600"),
+    Step::First(b"chr1\t9999\t10000"),
+];
+
+const COUNTED: &[u8] = b"chr1\t0\t10000\t1000\nchr1\t9500\t9600\t500\nchr1\t9999\t10000\t1\n";
+
+// Whether the hits of three records in those are counted.
+fn counts_in_nested<H: Held>(alloc: Global, held: H) -> Result<bool, Fail>
+    requires { H.records held ≡ [] }
+{
+    let genome = read_genome(alloc)?;
+    let rule = HitRule::any_overlap();
+    let mut sweep = Sweep::new(alloc, held, Shape::Count, rule, None, &genome);
+    let mut out = Out::new(ScriptSink::new(alloc, 100, None));
+    let around = first_that_goes_otherwise(&mut sweep, &AROUND_NESTED, &mut out);
+    let are_taken = gives_nested(alloc, &mut sweep, &mut out)?;
+    let behind = first_that_goes_otherwise(&mut sweep, &BEHIND_NESTED, &mut out);
+    let is_flushed = out.flush().is_ok();
+    let is_written = out.into_sink().taken() == COUNTED;
+    Ok(around.is_none() && are_taken && behind.is_none() && is_flushed && is_written)
 }
 
 #[test]
 fn nested_records_are_counted(rt: HostRuntime) -> Result<(), Fail> {
-    let Ok(genome) = read_genome(rt.alloc()) else {
-        assert!(rt; false);
-        return Ok(());
-    };
-    counts_in_nested(&rt, rt.alloc(), HeldList::new(rt.alloc()), &genome)?;
-    counts_in_nested(&rt, rt.alloc(), HeldIndex::new(rt.alloc()), &genome)
+    assert!(rt;
+        counts_in_nested(rt.alloc(), HeldList::new(rt.alloc()))?,
+        "in a list"
+    );
+    assert!(rt;
+        counts_in_nested(rt.alloc(), HeldIndex::new(rt.alloc()))?,
+        "in an index"
+    );
+    Ok(())
 }
 
 // Whether a sweep over two inputs writes what the plain program does.
@@ -466,10 +507,7 @@ fn first_unlike_plain<O: ChromOrder>(
 
 #[test]
 fn gives_what_the_plain_program_gives(rt: HostRuntime) -> Result<(), Fail> {
-    let Ok(genome) = read_genome(rt.alloc()) else {
-        assert!(rt; false);
-        return Ok(());
-    };
+    let genome = read_genome(rt.alloc())?;
     let found = first_unlike_plain(&rt, &genome, &ANY_OVERLAP, &SHAPES)?;
     assert_eq!(rt; found, None);
     Ok(())
