@@ -83,26 +83,21 @@ pub(crate) fn mask_byte(base: u8, how: MaskHow) -> u8
 #[cfg(test)]
 mod tests {
     use super::*;
-    use std::test::Fail;
 
-    // Bases, how they are masked, and what stands for them.
-    const ROWS: [(&[u8; 4], MaskHow, &[u8; 4]); 5] = [
-        (b"aZ-z", MaskHow::Soft, b"az-z"),
-        (b"aZ-z", MaskHow::Hard(78), b"NNNN"),
-        (b"@A[`", MaskHow::Soft, b"@a[`"),
-        (b"{\r*N", MaskHow::Soft, b"{\r*n"),
-        (b"AC\rt", MaskHow::Hard(b'x'), b"xxxx"),
-    ];
+    fn masked(bases: [u8; 4], how: MaskHow) -> [u8; 4] {
+        let mut masked = bases;
+        mask_slice(&mut masked, how);
+        masked
+    }
 
     #[test]
-    fn each_byte_is_masked_by_itself(rt: HostRuntime) -> Result<(), Fail> {
-        for (bases, how, want) in ROWS {
-            let mut masked = *bases;
-            mask_slice(&mut masked, how);
-            assert_eq!(rt; masked, *want);
-        }
+    fn each_byte_is_masked_by_itself(rt: HostRuntime) {
+        assert_eq!(rt; masked(*b"aZ-z", MaskHow::Soft), *b"az-z");
+        assert_eq!(rt; masked(*b"aZ-z", MaskHow::Hard(78)), *b"NNNN");
+        assert_eq!(rt; masked(*b"@A[`", MaskHow::Soft), *b"@a[`");
+        assert_eq!(rt; masked(*b"{\r*N", MaskHow::Soft), *b"{\r*n");
+        assert_eq!(rt; masked(*b"AC\rt", MaskHow::Hard(b'x')), *b"xxxx");
         mask_slice(&mut [], MaskHow::Soft);
-        Ok(())
     }
 
     // The 256 values of a byte, twice over.
@@ -134,14 +129,22 @@ mod tests {
         soft[count..].iter().all(|byte| *byte == 0) && hard[count..].iter().all(|byte| *byte == 0)
     }
 
-    #[test]
-    fn slices_of_all_bytes_are_masked_byte_by_byte(rt: HostRuntime) -> Result<(), Fail> {
-        let bytes = each_byte_twice();
-        for length in 0..=100 {
-            for start in 0..256 {
-                assert!(rt; masks_each_byte(&bytes[start..start + length]));
+    // Whether all slices of this length are masked so that begin with one of the first 256 bytes.
+    fn masks_each_slice(bytes: &[u8], length: usize) -> bool {
+        for start in 0..256usize {
+            match bytes.get(start..start.saturating_add(length)) {
+                Some(slice) if masks_each_byte(slice) => {}
+                _ => return false,
             }
         }
-        Ok(())
+        true
+    }
+
+    #[test]
+    fn slices_of_all_bytes_are_masked_byte_by_byte(rt: HostRuntime) {
+        let bytes = each_byte_twice();
+        for length in 0..=100 {
+            assert!(rt; masks_each_slice(&bytes, length), "of {length}");
+        }
     }
 }

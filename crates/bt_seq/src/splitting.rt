@@ -21,11 +21,14 @@ pub fn blocks<'a>(sam: &SamRef<'a>, split: bool) -> SamBlocks<'a>
 mod tests {
     use super::*;
     use crate::sam_text::sam_line;
+    use std::alloc::Global;
     use std::fmt::Write;
     use std::test::Fail;
 
-    // Lines, and the blocks of their alignments: uncut, and cut at each N.
-    const ALIGNMENTS: [(&[u8], &str, &str); 9] = [
+    // A line, and the blocks of its alignment: uncut, and cut at each N.
+    type Row = (&'static [u8], &'static str, &'static str);
+
+    const ALIGNMENTS: [Row; 9] = [
         (
             b"r\t0\tref\t16\t30\t6M14N5M\t*\t0\t0\t*\t*",
             "15-40 ",
@@ -61,21 +64,32 @@ mod tests {
         ),
     ];
 
-    #[test]
-    fn alignments_are_cut_at_each_skip(rt: HostRuntime) -> Result<(), Fail> {
-        for (text, whole, cut) in ALIGNMENTS {
-            let Ok(Some(sam)) = sam_line(text) else {
-                assert!(rt; false, "no alignment at {text:?}");
-                return Ok(());
-            };
-            for (split, want) in [(false, whole), (true, cut)] {
-                let mut found = String::new(rt.alloc());
-                for (start, stop) in blocks(&sam, split) {
-                    write!(found, "{start}-{stop} ")?;
-                }
-                assert_eq!(rt; found.as_str(), want, "at {text:?}");
+    // The blocks of the alignment that a line says.
+    fn written(alloc: Global, text: &[u8], split: bool) -> Result<String, Fail> {
+        let mut found = String::new(alloc);
+        if let Ok(Some(sam)) = sam_line(text) {
+            for (start, stop) in blocks(&sam, split) {
+                write!(found, "{start}-{stop} ")?;
             }
         }
+        Ok(found)
+    }
+
+    // The first line of a table whose alignment has other blocks.
+    fn first_miscut(alloc: Global, rows: &[Row]) -> Result<Option<&'static [u8]>, Fail> {
+        for row in rows {
+            let whole = written(alloc, row.0, false)?;
+            let cut = written(alloc, row.0, true)?;
+            if whole.as_str() != row.1 || cut.as_str() != row.2 {
+                return Ok(Some(row.0));
+            }
+        }
+        Ok(None)
+    }
+
+    #[test]
+    fn alignments_are_cut_at_each_skip(rt: HostRuntime) -> Result<(), Fail> {
+        assert_eq!(rt; first_miscut(rt.alloc(), &ALIGNMENTS)?, None);
         Ok(())
     }
 }

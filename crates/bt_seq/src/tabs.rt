@@ -87,16 +87,34 @@ mod tests {
     // More bytes than are looked at together twice, and no tab.
     const BYTES: [u8; 40] = *b"0123456789abcdef0123456789abcdef01234567";
 
+    // Whether the first tab of this many bytes is found where it stands alone at this place but for one at
+    // the end.
+    fn is_found(size: usize, place: usize) -> bool
+        requires place { place < size }
+        requires size { size ≤ 40 }
+    {
+        let mut text = BYTES;
+        text[place] = b'\t';
+        text[size - 1] = b'\t';
+        first_tab_by_lanes(&text[..size]) == Some(place)
+    }
+
+    // Whether no tab is found in this many bytes without one, and one at each place.
+    fn are_found(size: usize) -> bool
+        requires { size ≤ 40 }
+    {
+        for place in 0..size {
+            if !is_found(size, place) {
+                return false;
+            }
+        }
+        first_tab_by_lanes(&BYTES[..size]).is_none()
+    }
+
     #[test]
     fn tabs_at_each_place(rt: HostRuntime) {
         for size in 0..BYTES.len() {
-            assert_eq!(rt; first_tab_by_lanes(&BYTES[..size]), None, "of {size}");
-            for place in 0..size {
-                let mut text = BYTES;
-                text[place] = b'\t';
-                text[size - 1] = b'\t';
-                assert_eq!(rt; first_tab_by_lanes(&text[..size]), Some(place), "of {size}");
-            }
+            assert!(rt; are_found(size), "of {size}");
         }
     }
 }

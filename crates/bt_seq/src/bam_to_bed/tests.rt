@@ -1,7 +1,7 @@
 use super::*;
 use crate::sam_text::sam_line;
 use bt_lines::{Kind, ScriptSink};
-use std::test::Fail;
+use std::alloc::Global;
 
 // A line, the options -split and -cigar, and what is written.
 type Case = (&'static [u8], bool, bool, &'static [u8]);
@@ -115,67 +115,81 @@ const CASES: [Case; 20] = [
     (b"r\t0\tref\t0\t30\t5M\t*\t0\t0\t*\t*", false, false, b""),
 ];
 
-#[test]
-fn alignments_are_written(rt: HostRuntime) -> Result<(), Fail> {
-    for (text, split, cigar, want) in CASES {
-        let mut out = Out::new(ScriptSink::new(rt.alloc(), 3, None));
-        let mut engine = BamToBed::new(split, cigar);
-        let fed = match sam_line(text) {
-            Ok(Some(sam)) => engine.feed(&sam, &mut out).is_ok(),
-            Ok(None) => true,
-            Err(_) => false,
-        };
-        assert!(rt; fed && out.flush().is_ok(), "at {text:?}");
-        assert_eq!(rt; out.into_sink().taken(), want, "at {text:?}");
+// Feeds the alignment of a line, if it has one, and answers whether that was taken.
+fn feed_text(engine: &mut BamToBed, text: &[u8], out: &mut Out<ScriptSink>) -> Result<bool, Kind> {
+    match sam_line(text) {
+        Ok(Some(sam)) => Ok(engine.feed(&sam, out).is_ok()),
+        Ok(None) => Ok(true),
+        Err(kind) => Err(kind),
     }
-    Ok(())
+}
+
+// Whether a line is written as its case says.
+fn is_written(alloc: Global, case: &Case) -> bool {
+    let (text, split, cigar, want) = *case;
+    let mut out = Out::new(ScriptSink::new(alloc, 3, None));
+    let mut engine = BamToBed::new(split, cigar);
+    let is_fed = feed_text(&mut engine, text, &mut out) == Ok(true);
+    let is_flushed = out.flush().is_ok();
+    let is_wanted = out.into_sink().taken() == want;
+    is_fed && is_flushed && is_wanted
+}
+
+// The first line that is written otherwise.
+fn first_miswritten(alloc: Global, cases: &[Case]) -> Option<&'static [u8]> {
+    for case in cases {
+        if !is_written(alloc, case) {
+            return Some(case.0);
+        }
+    }
+    None
+}
+
+#[test]
+fn alignments_are_written(rt: HostRuntime) {
+    assert_eq!(rt; first_miswritten(rt.alloc(), &CASES), None);
 }
 
 // Two lines, of which the second is at fault, and what is written of the first.
 #[test]
-fn a_line_at_fault_comes_behind_what_was_written(rt: HostRuntime) -> Result<(), Fail> {
-    let lines: [&[u8]; 2] = [
-        b"r001\t99\tref\t7\t30\t8M2I4M1D3M\t=\t37\t39\tTTAGATAAAGGATACTG\t*",
-        b"r001\t99\tref\t7\t30\t8M2I4M1D3M\t=\t37\t39\tTTAGATAAAGGATACTG",
-    ];
+fn a_line_at_fault_comes_behind_what_was_written(rt: HostRuntime) {
+    let line = b"r001\t99\tref\t7\t30\t8M2I4M1D3M\t=\t37\t39\tTTAGATAAAGGATACTG\t*";
+    let cut = b"r001\t99\tref\t7\t30\t8M2I4M1D3M\t=\t37\t39\tTTAGATAAAGGATACTG";
     let mut out = Out::new(ScriptSink::new(rt.alloc(), 3, None));
     let mut engine = BamToBed::new(false, false);
-    let mut fault = None;
-    for text in lines {
-        match sam_line(text) {
-            Ok(Some(sam)) => assert!(rt; engine.feed(&sam, &mut out).is_ok()),
-            Ok(None) => {}
-            Err(kind) => fault = Some(kind),
+    let is_fed = feed_text(&mut engine, line, &mut out) == Ok(true);
+    let is_told = feed_text(&mut engine, cut, &mut out) == Err(Kind::TooFewColumns);
+    let is_flushed = out.flush().is_ok();
+    let want: &[u8] = b"ref\t6\t22\tr001/1\t30\t+\n";
+    let is_wanted = out.into_sink().taken() == want;
+    assert!(rt; is_fed && is_told && is_flushed && is_wanted);
+}
+
+// Whether an alignment that is fed a thousand times fails from some time on, by the write.
+fn fails_from_then_on(engine: &mut BamToBed, text: &[u8], out: &mut Out<ScriptSink>) -> bool {
+    let Ok(Some(sam)) = sam_line(text) else {
+        return false;
+    };
+    let mut has_failed = false;
+    for _ in 0..1000 {
+        match engine.feed(&sam, out) {
+            Ok(()) if has_failed => return false,
+            Ok(()) => {}
+            Err(fault) if fault.kind == Kind::WriteFailed => has_failed = true,
+            Err(_) => return false,
         }
     }
-    assert_eq!(rt; fault, Some(Kind::TooFewColumns));
-    assert!(rt; out.flush().is_ok());
-    let want: &[u8] = b"ref\t6\t22\tr001/1\t30\t+\n";
-    assert_eq!(rt; out.into_sink().taken(), want);
-    Ok(())
+    has_failed
 }
 
 // A sink that takes five bytes and then fails, and lines past a block.
 #[test]
-fn a_failed_write_is_told_from_then_on(rt: HostRuntime) -> Result<(), Fail> {
+fn a_failed_write_is_told_from_then_on(rt: HostRuntime) {
     let mut out = Out::new(ScriptSink::new(rt.alloc(), 3, Some(5)));
     let mut engine = BamToBed::new(false, false);
-    let Ok(Some(sam)) = sam_line(b"r\t0\tref\t1\t30\t5M\t*\t0\t0\t*\t*") else {
-        assert!(rt; false, "no alignment");
-        return Ok(());
-    };
-    let mut has_failed = false;
-    for _ in 0..1000 {
-        match engine.feed(&sam, &mut out) {
-            Ok(()) => assert!(rt; !has_failed),
-            Err(fault) => {
-                assert_eq!(rt; fault.kind, Kind::WriteFailed);
-                has_failed = true;
-            }
-        }
-    }
-    assert!(rt; has_failed);
+    let line = b"r\t0\tref\t1\t30\t5M\t*\t0\t0\t*\t*";
+    let has_failed = fails_from_then_on(&mut engine, line, &mut out);
     let want: &[u8] = b"ref\t0";
-    assert_eq!(rt; out.into_sink().taken(), want);
-    Ok(())
+    let is_front = out.into_sink().taken() == want;
+    assert!(rt; has_failed && is_front);
 }

@@ -188,7 +188,7 @@ fn is_it(driven: Result<(), Fault>, want: Option<(Kind, Input, u64)>) -> bool {
 }
 
 // Whether the row gives its bytes and its fault.
-fn agrees(alloc: Global, row: Row, how: MaskHow, full: bool) -> bool {
+fn agrees(alloc: Global, row: &Row, how: MaskHow, full: bool) -> bool {
     let mut lines = LineReader::new(alloc, ScriptSource::new(row.0, 7, None), Input::First);
     let second = LineReader::new(alloc, ScriptSource::new(row.1, 7, None), Input::Second);
     let mut blocks = Blocks::new(alloc, second);
@@ -202,38 +202,62 @@ fn agrees(alloc: Global, row: Row, how: MaskHow, full: bool) -> bool {
     is_flushed && is_written && is_it(driven, row.3)
 }
 
-#[test]
-fn sequences_are_masked(rt: HostRuntime) -> Result<(), Fail> {
-    for row in MASKED {
-        assert!(rt; agrees(rt.alloc(), row, MaskHow::Hard(b'N'), false));
+// The texts of the first row that doesn't.
+fn first_otherwise(
+    alloc: Global,
+    rows: &[Row],
+    how: MaskHow,
+    full: bool,
+) -> Option<(&'static [u8], &'static [u8])> {
+    for row in rows {
+        if !agrees(alloc, row, how, full) {
+            return Some((row.0, row.1));
+        }
     }
-    Ok(())
+    None
 }
 
 #[test]
-fn faults_end_the_masking(rt: HostRuntime) -> Result<(), Fail> {
-    for row in AT_FAULT {
-        assert!(rt; agrees(rt.alloc(), row, MaskHow::Hard(b'N'), false));
-    }
-    Ok(())
+fn sequences_are_masked(rt: HostRuntime) {
+    let found = first_otherwise(rt.alloc(), &MASKED, MaskHow::Hard(b'N'), false);
+    assert_eq!(rt; found, None);
 }
 
 #[test]
-fn bases_are_masked_as_asked_for(rt: HostRuntime) -> Result<(), Fail> {
-    let soft: Row = (
+fn faults_end_the_masking(rt: HostRuntime) {
+    let found = first_otherwise(rt.alloc(), &AT_FAULT, MaskHow::Hard(b'N'), false);
+    assert_eq!(rt; found, None);
+}
+
+// Masked by small letters.
+const SOFT: [Row; 2] = [
+    (
         b">s d\nACGTAC\nGTAC",
         b"s\t4\t8\n",
         b">s d\nACGTac\ngtAC",
         None,
-    );
-    assert!(rt; agrees(rt.alloc(), soft, MaskHow::Soft, false));
-    let named: Row = (b">s d\nACGT\n", b"s d\t0\t1\n", b">s d\nNCGT\n", None);
-    assert!(rt; agrees(rt.alloc(), named, MaskHow::Hard(b'N'), true));
-    Ok(())
+    ),
+    (
+        b">s\nACGT\nACGT\n",
+        b"s\t0\t1\ns\t3\t6\ns\t4\t5\ns\t7\t20\n",
+        b">s\naCGt\nacGt\n",
+        None,
+    ),
+];
+
+// By the whole text behind the sign of a header.
+const BY_FULL_HEADER: [Row; 1] = [(b">s d\nACGT\n", b"s d\t0\t1\n", b">s d\nNCGT\n", None)];
+
+#[test]
+fn bases_are_masked_as_asked_for(rt: HostRuntime) {
+    let found = first_otherwise(rt.alloc(), &SOFT, MaskHow::Soft, false);
+    assert_eq!(rt; found, None);
+    let found = first_otherwise(rt.alloc(), &BY_FULL_HEADER, MaskHow::Hard(b'N'), true);
+    assert_eq!(rt; found, None);
 }
 
 // Whether a sink that fails behind so many bytes has taken the row's first ones, and that is told.
-fn is_cut_at(alloc: Global, row: Row, good: usize) -> bool {
+fn is_cut_at(alloc: Global, row: &Row, good: usize) -> bool {
     let mut lines = LineReader::new(alloc, ScriptSource::new(row.0, 7, None), Input::First);
     let second = LineReader::new(alloc, ScriptSource::new(row.1, 7, None), Input::Second);
     let mut blocks = Blocks::new(alloc, second);
@@ -250,18 +274,26 @@ fn is_cut_at(alloc: Global, row: Row, good: usize) -> bool {
     is_told && has_ended && is_front
 }
 
-#[test]
-fn a_failed_write_is_told_and_ends_it(rt: HostRuntime) -> Result<(), Fail> {
-    let row: Row = (
-        b">s d\nACGTAC\nGTAC\r\n>t\nAA",
-        b"s\t4\t8\nt\t1\t2\n",
-        b">s d\nACGTNN\nNNAC\r\n>t\nAN",
-        None,
-    );
-    for good in 0..23 {
-        assert!(rt; is_cut_at(rt.alloc(), row, good));
+const CUT: Row = (
+    b">s d\nACGTAC\nGTAC\r\n>t\nAA",
+    b"s\t4\t8\nt\t1\t2\n",
+    b">s d\nACGTNN\nNNAC\r\n>t\nAN",
+    None,
+);
+
+// The least number of bytes, below this one, that a sink takes of the row's without that.
+fn first_not_cut(alloc: Global, row: &Row, count: usize) -> Option<usize> {
+    for good in 0..count {
+        if !is_cut_at(alloc, row, good) {
+            return Some(good);
+        }
     }
-    Ok(())
+    None
+}
+
+#[test]
+fn a_failed_write_is_told_and_ends_it(rt: HostRuntime) {
+    assert_eq!(rt; first_not_cut(rt.alloc(), &CUT, 23), None);
 }
 
 fn give_line(mask: &mut Mask, text: &[u8], out: &mut Out<ScriptSink>) -> bool {
@@ -278,65 +310,112 @@ fn give_line(mask: &mut Mask, text: &[u8], out: &mut Out<ScriptSink>) -> bool {
     }
 }
 
-// Whether the record of this line is taken.
-fn takes(mask: &mut Mask, line: &[u8], out: &mut Out<ScriptSink>) -> bool {
-    match parse_bed(line) {
-        Ok(Some(bed)) => match mask.want() {
-            MaskWant::Bed => match mask.give_bed(&bed, 1, out) {
-                Ok(taken) => taken == Taken::Yes,
-                Err(_) => false,
-            },
-            _ => false,
+// Whether the record of this line is taken, where one is asked for.
+fn takes(mask: &mut Mask, line: &[u8], out: &mut Out<ScriptSink>) -> Option<bool> {
+    let Ok(Some(bed)) = parse_bed(line) else {
+        return None;
+    };
+    match mask.want() {
+        MaskWant::Bed => match mask.give_bed(&bed, 1, out) {
+            Ok(taken) => Some(taken == Taken::Yes),
+            Err(_) => None,
         },
-        _ => false,
+        _ => None,
     }
 }
 
-#[test]
-fn records_that_reach_into_the_line_are_held(rt: HostRuntime) -> Result<(), Fail> {
-    let mut out = Out::new(ScriptSink::new(rt.alloc(), 7, None));
-    let mut mask = Mask::new(rt.alloc(), MaskHow::Soft, false);
-    assert!(rt; give_line(&mut mask, b">s", &mut out));
-    assert!(rt; !takes(&mut mask, b"s\t1\t3", &mut out));
-    assert_eq!(rt; mask.kept_len(), 0);
-    assert!(rt; give_line(&mut mask, b"AC", &mut out));
-    assert!(rt; takes(&mut mask, b"s\t1\t3", &mut out));
-    assert!(rt; !takes(&mut mask, b"t\t0\t1", &mut out));
-    assert_eq!(rt; mask.kept_len(), 1);
-    assert!(rt; give_line(&mut mask, b"GT", &mut out));
-    assert!(rt; !takes(&mut mask, b"t\t0\t1", &mut out));
-    assert_eq!(rt; mask.kept_len(), 1);
-    assert!(rt; give_line(&mut mask, b">t", &mut out));
-    assert!(rt; !takes(&mut mask, b"t\t0\t1", &mut out));
-    assert_eq!(rt; mask.kept_len(), 0);
-    assert!(rt; give_line(&mut mask, b"TTTT", &mut out));
-    assert!(rt; takes(&mut mask, b"t\t0\t1", &mut out));
-    assert_eq!(rt; mask.kept_len(), 1);
-    let _ = out.into_sink();
-    Ok(())
+// What is done with a mask: a line is given to it, a record that it takes, or one that it leaves; or it is
+// asked how many records it keeps, or what it wants next.
+#[derive(Clone, Copy)]
+enum Step {
+    Line(&'static [u8]),
+    Takes(&'static [u8]),
+    Leaves(&'static [u8]),
+    Keeps(usize),
+    Wants(MaskWant),
 }
 
+// Whether the step goes as it says.
+fn goes(mask: &mut Mask, step: Step, out: &mut Out<ScriptSink>) -> bool {
+    match step {
+        Step::Line(text) => give_line(mask, text, out),
+        Step::Takes(line) => takes(mask, line, out) == Some(true),
+        Step::Leaves(line) => takes(mask, line, out) == Some(false),
+        Step::Keeps(count) => mask.kept_len() == count,
+        Step::Wants(want) => mask.want() == want,
+    }
+}
+
+// The index of the first step that goes otherwise.
+fn first_that_goes_otherwise(
+    mask: &mut Mask,
+    steps: &[Step],
+    out: &mut Out<ScriptSink>,
+) -> Option<usize> {
+    for (index, step) in steps.iter().enumerate() {
+        if !goes(mask, *step, out) {
+            return Some(index);
+        }
+    }
+    None
+}
+
+const HELD: [Step; 16] = [
+    Step::Line(b">s"),
+    Step::Leaves(b"s\t1\t3"),
+    Step::Keeps(0),
+    Step::Line(b"AC"),
+    Step::Takes(b"s\t1\t3"),
+    Step::Leaves(b"t\t0\t1"),
+    Step::Keeps(1),
+    Step::Line(b"GT"),
+    Step::Wants(MaskWant::Line),
+    Step::Keeps(1),
+    Step::Line(b">t"),
+    Step::Leaves(b"t\t0\t1"),
+    Step::Keeps(0),
+    Step::Line(b"TTTT"),
+    Step::Takes(b"t\t0\t1"),
+    Step::Keeps(1),
+];
+
 #[test]
-fn lines_before_the_record_ahead_dont_wait(rt: HostRuntime) -> Result<(), Fail> {
+fn records_that_reach_into_the_line_are_held(rt: HostRuntime) {
     let mut out = Out::new(ScriptSink::new(rt.alloc(), 7, None));
     let mut mask = Mask::new(rt.alloc(), MaskHow::Soft, false);
-    assert!(rt; give_line(&mut mask, b">s", &mut out));
-    assert!(rt; !takes(&mut mask, b"s\t5\t9", &mut out));
-    assert!(rt; give_line(&mut mask, b"AC", &mut out));
-    assert!(rt; give_line(&mut mask, b"", &mut out));
-    assert!(rt; give_line(&mut mask, b"GTA", &mut out));
-    assert!(rt; mask.want() == MaskWant::Line);
-    assert!(rt; give_line(&mut mask, b"CGT", &mut out));
-    assert!(rt; takes(&mut mask, b"s\t5\t9", &mut out));
-    assert!(rt; !takes(&mut mask, b"s\t12\t13", &mut out));
-    assert!(rt; give_line(&mut mask, b"ACGT", &mut out));
-    assert!(rt; mask.want() == MaskWant::Line && mask.kept_len() == 1);
-    assert!(rt; give_line(&mut mask, b">s", &mut out));
-    assert!(rt; mask.want() == MaskWant::Bed && mask.kept_len() == 0);
+    let found = first_that_goes_otherwise(&mut mask, &HELD, &mut out);
+    let _ = out.into_sink();
+    assert_eq!(rt; found, None);
+}
+
+const AHEAD: [Step; 15] = [
+    Step::Line(b">s"),
+    Step::Leaves(b"s\t5\t9"),
+    Step::Line(b"AC"),
+    Step::Line(b""),
+    Step::Line(b"GTA"),
+    Step::Wants(MaskWant::Line),
+    Step::Line(b"CGT"),
+    Step::Takes(b"s\t5\t9"),
+    Step::Leaves(b"s\t12\t13"),
+    Step::Line(b"ACGT"),
+    Step::Wants(MaskWant::Line),
+    Step::Keeps(1),
+    Step::Line(b">s"),
+    Step::Wants(MaskWant::Bed),
+    Step::Keeps(0),
+];
+
+#[test]
+fn lines_before_the_record_ahead_dont_wait(rt: HostRuntime) {
+    let mut out = Out::new(ScriptSink::new(rt.alloc(), 7, None));
+    let mut mask = Mask::new(rt.alloc(), MaskHow::Soft, false);
+    let found = first_that_goes_otherwise(&mut mask, &AHEAD, &mut out);
     let is_flushed = out.flush().is_ok();
     let want: &[u8] = b">s\nAC\n\nGTA\ncgt\naCGT\n";
-    assert!(rt; is_flushed && out.into_sink().taken() == want);
-    Ok(())
+    let is_written = out.into_sink().taken() == want;
+    assert_eq!(rt; found, None);
+    assert!(rt; is_flushed && is_written);
 }
 
 // The records of these lines.
@@ -350,23 +429,32 @@ fn records_of(alloc: Global, lines: &[&[u8]]) -> Result<Vec<Rec>, AllocError> {
     Ok(records)
 }
 
+// How many records these lines say, and four bases from a position on as the plain program masks them by
+// those.
+fn plainly_masked(
+    alloc: Global,
+    bases: &[u8; 4],
+    from: u32,
+    lines: &[&[u8]],
+) -> Result<(usize, [u8; 4]), AllocError> {
+    let records = records_of(alloc, lines)?;
+    let mut masked = *bases;
+    plain_mask(
+        &mut masked,
+        u64::from(from),
+        records.as_slice(),
+        MaskHow::Soft,
+    );
+    Ok((records.len(), masked))
+}
+
+const IN_EIGHT_BASES: [&[u8]; 4] = [b"s\t0\t1", b"s\t3\t6", b"s\t4\t5", b"s\t7\t20"];
+
 #[test]
 fn plain_masking_agrees(rt: HostRuntime) -> Result<(), Fail> {
-    const BED: [&[u8]; 4] = [b"s\t0\t1", b"s\t3\t6", b"s\t4\t5", b"s\t7\t20"];
-    let records = records_of(rt.alloc(), &BED)?;
-    assert_eq!(rt; records.len(), 4);
-    let mut first = *b"ACGT";
-    plain_mask(&mut first, 0, records.as_slice(), MaskHow::Soft);
-    assert_eq!(rt; first, *b"aCGt");
-    let mut second = *b"ACGT";
-    plain_mask(&mut second, 4, records.as_slice(), MaskHow::Soft);
-    assert_eq!(rt; second, *b"acGt");
-    let row: Row = (
-        b">s\nACGT\nACGT\n",
-        b"s\t0\t1\ns\t3\t6\ns\t4\t5\ns\t7\t20\n",
-        b">s\naCGt\nacGt\n",
-        None,
-    );
-    assert!(rt; agrees(rt.alloc(), row, MaskHow::Soft, false));
+    let first = plainly_masked(rt.alloc(), b"ACGT", 0, &IN_EIGHT_BASES)?;
+    let second = plainly_masked(rt.alloc(), b"ACGT", 4, &IN_EIGHT_BASES)?;
+    assert_eq!(rt; first, (4, *b"aCGt"));
+    assert_eq!(rt; second, (4, *b"acGt"));
     Ok(())
 }

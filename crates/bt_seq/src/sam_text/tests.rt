@@ -85,11 +85,19 @@ const ALIGNMENTS: [(&[u8], Placed); 16] = [
     ),
 ];
 
+// The first line of a table that says another alignment.
+fn first_misplaced(rows: &[(&'static [u8], Placed)]) -> Option<&'static [u8]> {
+    for row in rows {
+        if placed(row.0) != Some(row.1) {
+            return Some(row.0);
+        }
+    }
+    None
+}
+
 #[test]
 fn alignments(rt: HostRuntime) {
-    for (text, want) in ALIGNMENTS {
-        assert_eq!(rt; placed(text), Some(want), "at {text:?}");
-    }
+    assert_eq!(rt; first_misplaced(&ALIGNMENTS), None);
 }
 
 #[test]
@@ -103,27 +111,36 @@ fn columns_are_lent(rt: HostRuntime) {
     assert_eq!(rt; found, Some(want));
 }
 
+const WITHOUT_ALIGNMENT: [&[u8]; 14] = [
+    b"",
+    b"@HD\tVN:1.6\tSO:coordinate",
+    b"@SQ\tSN:ref\tLN:45",
+    b"@",
+    b"@r\t0\tref\t1\t30\t5Q\t*\t0\t0\t*\t*",
+    b"r\t4\tref\t1\t30\t5M\t*\t0\t0\t*\t*",
+    b"r\t77\t*\t0\t0\t*\t*\t0\t0\tACGT\t*",
+    b"r\t0\t*\t1\t30\t5M\t*\t0\t0\t*\t*",
+    b"r\t0\tref\t0\t30\t5M\t*\t0\t0\t*\t*",
+    b"r\t0\tref\t1\t30\t*\t*\t0\t0\t*\t*",
+    b"r\t0\tref\t1\t30\t5I3S\t*\t0\t0\t*\t*",
+    b"r\t0\tref\t1\t30\t0M\t*\t0\t0\t*\t*",
+    b"r\t4\tref\t2\t30\t999999999999M\t*\t0\t0\t*\t*",
+    b"r\t0\t*\t2\t30\t999999999999M\t*\t0\t0\t*\t*",
+];
+
+// The first line that says an alignment or is at fault.
+fn first_that_says(lines: &[&'static [u8]]) -> Option<&'static [u8]> {
+    for line in lines {
+        if !matches!(sam_line(line), Ok(None)) {
+            return Some(*line);
+        }
+    }
+    None
+}
+
 #[test]
 fn nothing_is_said(rt: HostRuntime) {
-    let cases: [&[u8]; 14] = [
-        b"",
-        b"@HD\tVN:1.6\tSO:coordinate",
-        b"@SQ\tSN:ref\tLN:45",
-        b"@",
-        b"@r\t0\tref\t1\t30\t5Q\t*\t0\t0\t*\t*",
-        b"r\t4\tref\t1\t30\t5M\t*\t0\t0\t*\t*",
-        b"r\t77\t*\t0\t0\t*\t*\t0\t0\tACGT\t*",
-        b"r\t0\t*\t1\t30\t5M\t*\t0\t0\t*\t*",
-        b"r\t0\tref\t0\t30\t5M\t*\t0\t0\t*\t*",
-        b"r\t0\tref\t1\t30\t*\t*\t0\t0\t*\t*",
-        b"r\t0\tref\t1\t30\t5I3S\t*\t0\t0\t*\t*",
-        b"r\t0\tref\t1\t30\t0M\t*\t0\t0\t*\t*",
-        b"r\t4\tref\t2\t30\t999999999999M\t*\t0\t0\t*\t*",
-        b"r\t0\t*\t2\t30\t999999999999M\t*\t0\t0\t*\t*",
-    ];
-    for text in cases {
-        assert!(rt; matches!(sam_line(text), Ok(None)), "at {text:?}");
-    }
+    assert_eq!(rt; first_that_says(&WITHOUT_ALIGNMENT), None);
 }
 
 // Lines, and what is wrong with each.
@@ -166,13 +183,25 @@ const AT_FAULT: [(&[u8], Kind); 24] = [
     ),
 ];
 
+// What is wrong with a line, if anything is.
+fn fault(text: &[u8]) -> Option<Kind> {
+    match sam_line(text) {
+        Err(kind) => Some(kind),
+        Ok(_) => None,
+    }
+}
+
+// The first line of a table with which something else is wrong.
+fn first_misjudged(rows: &[(&'static [u8], Kind)]) -> Option<&'static [u8]> {
+    for row in rows {
+        if fault(row.0) != Some(row.1) {
+            return Some(row.0);
+        }
+    }
+    None
+}
+
 #[test]
 fn lines_are_at_fault(rt: HostRuntime) {
-    for (text, want) in AT_FAULT {
-        let found = match sam_line(text) {
-            Err(kind) => Some(kind),
-            Ok(_) => None,
-        };
-        assert_eq!(rt; found, Some(want), "at {text:?}");
-    }
+    assert_eq!(rt; first_misjudged(&AT_FAULT), None);
 }
