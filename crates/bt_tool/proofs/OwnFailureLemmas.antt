@@ -1,5 +1,5 @@
 -- Lemmas on failed reads that are told: each is of a read that failed in the run, whatever its source did before.
-use Rattle.std.proofs.Common.{◌≡◌, ℕ, Option, None, Some, Err, Bool, true, List, ap, sym, subst, ◌∙◌, inl, inr, ⊎_elim}
+use Rattle.std.proofs.Common.{◌≡◌, ℕ, Option, None, Some, Err, Bool, List, ap, sym, subst, ◌∙◌, inl, inr, ⊎_elim}
 use Rattle.std.specs.Prelude.{◌⊎◌, ⊤, MatchResult, Ok, Result}
 use Rattle.std.proofs.lemmas.Bool.{false≢true}
 use Rattle.bt_lines.specs.Fault.{Told, no_memory, read_failed, write_failed}
@@ -27,7 +27,7 @@ use Rattle.bt_tool.specs.Pair.{Making, Pair}
 use Rattle.bt_tool.specs.PairEnds.{Finishes, InputsEnd, Why}
 use Rattle.bt_tool.specs.Passed.{HasFaultBehind, IsKeptBelow, IsOwnFault, KeepsOwnFault}
 use Rattle.bt_tool.specs.SweepReport.{IsSweptKind}
-use Rattle.bt_tool.specs.Telling.{IsOwnFailure, IsOwnFailureIf, TellsOwnReads}
+use Rattle.bt_tool.specs.Telling.{IsOwnFailure, TellsOwnReads}
 use Rattle.bt_tool.specs.declared.plan_type.Command.{Command}
 use Rattle.bt_tool.proofs.CameMembers.{BeginsAt}
 use Rattle.bt_tool.proofs.FaultLemmas.{memory_no_read, some_is, write_no_read}
@@ -110,14 +110,14 @@ module _ {S A State : Type 0} (left : S → Option (List ℕ)) (failed end : S �
   feeds_own settled Kinds never Sorted out fault grown fed =
       let by : (other : Input) (line : ℕ) → Some fault ≡ Some (read_failed other line) → (other ≡ First) × IsOwnFailure left Fails first last =
       λ other line e.
-          let is = some_is fault (read_failed other line) e in
-          elim fed.cause [
-            | inl reading ↦ behind_own left failed end Fails format First first old begins new last ended fed.took.bytes own Kinds never fed.past fault reading.behind other line is
-            | inr others ↦ elim others [
-              | inl growing ↦ absurd (memory_no_read other line (sym growing.lacks.is ∙ is))
-              | inr writing ↦ absurd (write_no_read other line (sym writing.is ∙ is))
-            ]
-          ]
+      let is = some_is fault (read_failed other line) e in
+      elim fed.cause [
+        | inl reading ↦ behind_own left failed end Fails format First first old begins new last ended fed.took.bytes own Kinds never fed.past fault reading.behind other line is
+        | inr others ↦ elim others [
+          | inl growing ↦ absurd (memory_no_read other line (sym growing.lacks.is ∙ is))
+          | inr writing ↦ absurd (write_no_read other line (sym writing.is ∙ is))
+        ]
+      ]
       in
       record {
         genome_file = λ line e. let apart : Genome ≡ First = (by Genome line e).0 in cc;

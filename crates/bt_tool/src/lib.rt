@@ -58,6 +58,8 @@ mod command_tests;
 #[cfg(test)]
 mod example;
 #[cfg(test)]
+mod failed_before_tests;
+#[cfg(test)]
 mod failing_tests;
 #[cfg(test)]
 mod fault_tests;
