@@ -18,7 +18,7 @@ use Rattle.bt_bed.specs.Record.{record_of}
 use Rattle.bt_bed.specs.Sorting.{falls_in, sorting_of}
 use Rattle.bt_bed.proofs.GoodBedLemmas.{line_said}
 use Rattle.bt_bed.proofs.SortingLemmas.{places_sorted}
-use Rattle.bt_tool.specs.Parts.{ComeBefore, ends_line, record_in, records_in}
+use Rattle.bt_tool.specs.Parts.{ComeBefore, StandsBefore, record_in, records_in}
 use Rattle.bt_tool.proofs.PartGood.{IsJoint, LeadsOn, good_joint}
 use Rattle.bt_tool.proofs.PartLines.{AreAlike, alike_lines}
 use Rattle.bt_tool.proofs.PartLists.{all_back, all_front, all_so}
@@ -119,7 +119,7 @@ module _ (order : Order) (total : IsTotal order) where
     lead_lines (l ∷ ls) h = (lead_line l (all_front _ (record_in (record_of l.text)) (records_on ls) h), lead_lines ls (all_back _ (record_in (record_of l.text)) (records_on ls) h))
 
     -- what is good of both texts
-    pub bed_joint : (input : Input) → IsTrue (ends_line one)
+    pub bed_joint : (input : Input) → StandsBefore one two
         → IsJoint (good (bed_format (sorting_of order)) input (text_lines one)) (good (bed_format (sorting_of order)) input (text_lines two)) (good (bed_format (sorting_of order)) input (text_lines (one ++ two)))
     bed_joint input ends =
         good_joint (bed_format (sorting_of order)) input Leads one two ends (λ last l m e d. ap (line_says (sorting_of order) last) e) tt (fresh input) (lead_lines (text_lines one) before)

@@ -1,6 +1,6 @@
 -- Records in blocks, in a text that is put behind another.
 use Rattle.std.proofs.Common.{◌≡◌, ℕ, Bool, true, false, cond, List, [], ◌∷◌, ◌++◌, append-nil, Option, Some, None, Result, Ok, Err, refl, sym, ap, ◌∙◌, subst}
-use Rattle.std.specs.Prelude.{IsTrue, ⊤, is_none, nat_lt, option_map}
+use Rattle.std.specs.Prelude.{⊤, is_none, nat_lt, option_map}
 use Rattle.std.specs.List.{AllByRecursion}
 use Rattle.std.proofs.lemmas.List.{map-append}
 use Rattle.bt_lines.specs.Fault.{Told}
@@ -17,7 +17,7 @@ use Rattle.bt_bed.specs.Record.{record_of}
 use Rattle.bt_bed.specs.Sorting.{block_sorting, falls_in}
 use Rattle.bt_seq.proofs.LeftLemmas.{is_last}
 use Rattle.bt_seq.proofs.TagLemmas.{last_from}
-use Rattle.bt_tool.specs.Parts.{ends_line, record_in, records_in}
+use Rattle.bt_tool.specs.Parts.{StandsBefore, record_in, records_in}
 use Rattle.bt_tool.proofs.PartBed.{alike_records, records_on}
 use Rattle.bt_tool.proofs.PartGood.{IsLike, like_from}
 use Rattle.bt_tool.proofs.PartLines.{alike_lines, lines_join}
@@ -118,7 +118,7 @@ module _ (input : Input) where
 
   -- ---- two texts
 
-  module _ (one two : List ℕ) (ends : IsTrue (ends_line one)) where
+  module _ (one two : List ℕ) (ends : StandsBefore one two) where
     abbrev First-good : Good Feature
     First-good = good block_format input (text_lines one)
 

@@ -1,6 +1,6 @@
 -- Records of parts, each with its own part of the genome file.
 use Rattle.std.proofs.Common.{◌≡◌, ℕ, Bool, true, false, cond, List, [], ◌∷◌, ◌++◌, Option, Some, None, Result, Ok, Err, refl, sym, ap, ap₂, ◌∙◌, subst}
-use Rattle.std.specs.Prelude.{IsTrue, bytes_eq, nat_lt}
+use Rattle.std.specs.Prelude.{bytes_eq, nat_lt}
 use Rattle.std.specs.List.{AllByRecursion}
 use Rattle.std.specs.declared.cmp.Ordering.TheVariants.{Less}
 use Rattle.std.proofs.lemmas.List.{map-append}
@@ -19,7 +19,7 @@ use Rattle.bt_bed.specs.Record.{record_of}
 use Rattle.bt_bed.specs.Sorting.{falls_in, is_less, sorting_of}
 use Rattle.bt_bed.proofs.RankLemmas.{among_ranked}
 use Rattle.bt_tool.specs.GenomeSplitLaws.{LiesWithin}
-use Rattle.bt_tool.specs.Parts.{ComeBefore, ends_line, record_in, records_in}
+use Rattle.bt_tool.specs.Parts.{ComeBefore, StandsBefore, record_in, records_in}
 use Rattle.bt_tool.proofs.PartBed.{alike_records, records_on}
 use Rattle.bt_tool.proofs.PartLines.{alike_lines, lines_join}
 use Rattle.bt_tool.proofs.PartLists.{all_back, all_front, all_so}
@@ -27,7 +27,7 @@ use Rattle.bt_tool.proofs.PartRanks.{Agree, Within, first_agree, first_less, sec
 use Rattle.std.proofs.lemmas.Grind.{flat_map-append}
 
 -- the records of two texts
-pub records_both : (one two : List ℕ) → IsTrue (ends_line one) → records_in (one ++ two) ≡ records_in one ++ records_in two
+pub records_both : (one two : List ℕ) → StandsBefore one two → records_in (one ++ two) ≡ records_in one ++ records_in two
 records_both one two ends =
     let split = lines_join 1 one two ends in
     ap records_on split.1

@@ -1,6 +1,6 @@
 -- What is good of a text that is put behind another.
 use Rattle.std.proofs.Common.{◌≡◌, ℕ, false, List, [], ◌∷◌, ◌++◌, Option, Some, None, Result, Ok, Err, refl, sym, ap, ◌∙◌, subst}
-use Rattle.std.specs.Prelude.{IsTrue, is_none}
+use Rattle.std.specs.Prelude.{is_none}
 use Rattle.std.specs.List.{AllByRecursion}
 use Rattle.std.proofs.lemmas.List.{map-append}
 use Rattle.bt_lines.specs.Fault.{Told}
@@ -8,7 +8,7 @@ use Rattle.bt_lines.specs.Lines.{TextLine, lines_from, text_lines}
 use Rattle.bt_lines.specs.declared.fault.Input.{Input}
 use Rattle.bt_lines.specs.declared.fault.Kind.{Kind}
 use Rattle.bt_bed.specs.Good.{Format, Good, Member, good, good_from, good_with, items_in, with_member}
-use Rattle.bt_tool.specs.Parts.{ends_line}
+use Rattle.bt_tool.specs.Parts.{StandsBefore}
 use Rattle.bt_tool.proofs.PartLines.{AreAlike, alike_lines, lines_join}
 
 -- the same items, and a fault in both or in neither
@@ -86,7 +86,7 @@ module _ {A State : Type 0} (format : Format A State) where
     put_from state (l ∷ ls) ms leads is on =
         put_with l.number state (format.says state l) (λ now. good_from format input now (ls ++ ms)) (λ now. good_from format input now ls) leads (λ item e. on.0 state item leads e) (λ now to. put_from now ls ms to is on.1)
 
-  module _ (input : Input) (Leads : State → Type 0) (one two : List ℕ) (ends : IsTrue (ends_line one)) (free : IsNumberless) where
+  module _ (input : Input) (Leads : State → Type 0) (one two : List ℕ) (ends : StandsBefore one two) (free : IsNumberless) where
     -- where what is good of the second text is so behind each member of the first
     pub good_joint : Leads format.begin → ((n : ℕ) (now : State) → Leads now → good_from format input now (lines_from n two) ≡ good_from format input format.begin (lines_from n two))
         → AllByRecursion (LeadsOn Leads) (text_lines one)

@@ -1,12 +1,12 @@
--- Lines of a text that is put behind another, which ends with a line feed.
-use Rattle.std.proofs.Common.{◌≡◌, ℕ, suc, true, false, List, [], ◌∷◌, ◌++◌, refl, sym, ap, ◌∙◌, append_assoc, eqb}
+-- Lines of a text that is put behind another, which ends with a line feed where there are any.
+use Rattle.std.proofs.Common.{◌≡◌, ℕ, suc, true, false, List, [], ◌∷◌, ◌++◌, refl, sym, ap, ◌∙◌, append-nil, append_assoc, eqb, inl, inr}
 use Rattle.std.specs.Prelude.{IsTrue}
 use Rattle.std.proofs.lemmas.List.Elements.{All-head, All-tail}
 use Rattle.bt_lines.specs.Lines.{TextLine, fed_line, last_line, lines_from, numbered, pieces}
 use Rattle.bt_lines.specs.LentLine.{NoLineFeed}
 use Rattle.bt_lines.proofs.LinesLemmas.{lines_from-fed, lines_from-nil}
 use Rattle.bt_lines.proofs.TextLemmas.{by_lines}
-use Rattle.bt_tool.specs.Parts.{ends_line}
+use Rattle.bt_tool.specs.Parts.{StandsBefore, ends_line}
 
 -- lines that differ in their numbers alone
 abbrev pub AreAlike : List TextLine → List TextLine → Type 0
@@ -43,9 +43,9 @@ ends_behind [] (byte ∷ bytes) e = e
 ends_behind (byte ∷ []) rest e = ends_behind [] rest e
 ends_behind (byte ∷ next ∷ bytes) rest e = ends_behind (next ∷ bytes) rest e
 
--- the lines of the first text, and behind them those of the other, numbered from some number on
-pub lines_join : (n : ℕ) (one two : List ℕ) → IsTrue (ends_line one) → (k : ℕ) × (lines_from n (one ++ two) ≡ lines_from n one ++ lines_from k two)
-lines_join n one two = by_lines (λ n bytes. IsTrue (ends_line bytes) → (k : ℕ) × (lines_from n (bytes ++ two) ≡ lines_from n bytes ++ lines_from k two))
+-- behind a text that ends with a line feed
+lines_fed : (n : ℕ) (one two : List ℕ) → IsTrue (ends_line one) → (k : ℕ) × (lines_from n (one ++ two) ≡ lines_from n one ++ lines_from k two)
+lines_fed n one two = by_lines (λ n bytes. IsTrue (ends_line bytes) → (k : ℕ) × (lines_from n (bytes ++ two) ≡ lines_from n bytes ++ lines_from k two))
     (λ n piece clear e.
     let none = no_feed_ends piece clear e in
     (n, ap (λ p. lines_from n (p ++ two)) none ∙ ap (λ ls. ls ++ lines_from n two) (sym (ap (lines_from n) none ∙ lines_from-nil n))))
@@ -58,3 +58,12 @@ lines_join n one two = by_lines (λ n bytes. IsTrue (ends_line bytes) → (k : �
           ∙ ap (λ ls. ls ++ lines_from more.0 two) (sym (lines_from-fed n piece rest clear)),
     ))
     n one
+
+-- the lines of the first text, and behind them those of the other, numbered from some number on
+pub lines_join : (n : ℕ) (one two : List ℕ) → StandsBefore one two → (k : ℕ) × (lines_from n (one ++ two) ≡ lines_from n one ++ lines_from k two)
+lines_join n one two (inl ends) = lines_fed n one two ends
+lines_join n one two (inr none) = (
+  n,
+  ap (lines_from n) (ap (λ t. one ++ t) none ∙ append-nil one)
+      ∙ sym (ap (λ ls. lines_from n one ++ ls) (ap (lines_from n) none ∙ lines_from-nil n) ∙ append-nil (lines_from n one)),
+)

@@ -14,7 +14,7 @@ use Rattle.bt_seq.specs.Masked.{masked_line, names_of}
 use Rattle.bt_seq.specs.Sequences.{SequenceLine, sequence_format}
 use Rattle.bt_seq.specs.declared.mask_how.MaskHow.{MaskHow}
 use Rattle.bt_tool.specs.MaskSplitLaws.{HasNone, MasksNone, begins_sequence, sequence_names}
-use Rattle.bt_tool.specs.Parts.{ends_line, records_in}
+use Rattle.bt_tool.specs.Parts.{StandsBefore, records_in}
 use Rattle.bt_tool.specs.RecordReport.{Report}
 use Rattle.bt_tool.specs.SplitLaws.{Texts}
 use Rattle.bt_tool.proofs.PartBlocks.{BeginsElsewhere, calm_joint, fresh_joint, sound_from}
@@ -47,8 +47,8 @@ module _ (how : MaskHow) (full : Bool) where
 
   -- two parts, and both
   pub record AreTwo (one two : Texts) : Type 0 where
-    pub first : IsTrue (ends_line one.first)
-    pub second : IsTrue (ends_line one.second)
+    pub first : StandsBefore one.first two.first
+    pub second : StandsBefore one.second two.second
     pub begins : IsTrue (begins_sequence two.first)
 
   abbrev pub joined_two : Texts → Texts → Texts

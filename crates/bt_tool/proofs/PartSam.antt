@@ -1,6 +1,5 @@
 -- Alignments divided at any line.
 use Rattle.std.proofs.Common.{◌≡◌, ℕ, Bool, List, [], ◌∷◌, ◌++◌, append-nil, Option, Some, None, refl, sym, ap, ◌∙◌}
-use Rattle.std.specs.Prelude.{IsTrue}
 use Rattle.std.specs.List.{AllByRecursion}
 use Rattle.std.proofs.lemmas.Grind.{flat_map-append}
 use Rattle.bt_lines.specs.Fault.{Told}
@@ -11,7 +10,7 @@ use Rattle.bt_seq.specs.Alignment.{Alignment, alignment_of}
 use Rattle.bt_seq.specs.BedLines.{bed_lines}
 use Rattle.bt_seq.specs.GoodSam.{sam_format}
 use Rattle.bt_tool.specs.ConvertReport.{alignment_lines}
-use Rattle.bt_tool.specs.Parts.{AreOfLines, ends_line, joined}
+use Rattle.bt_tool.specs.Parts.{AreOfLines, StandsBefore, joined}
 use Rattle.bt_tool.specs.RecordReport.{Report, good_report, report_by}
 use Rattle.bt_tool.specs.Report.{report_of}
 use Rattle.bt_tool.specs.SplitLaws.{bamtobed_divides, on_text}
@@ -50,28 +49,27 @@ module _ (split cigar : Bool) where
   all_lead [] = tt
   all_lead (l ∷ ls) = ((λ state item leads e. tt), all_lead ls)
 
-  sam_joint : (one two : List ℕ) → IsTrue (ends_line one) → IsJoint (good sam_format First (text_lines one)) (good sam_format First (text_lines two)) (good sam_format First (text_lines (one ++ two)))
+  sam_joint : (one two : List ℕ) → StandsBefore one two → IsJoint (good sam_format First (text_lines one)) (good sam_format First (text_lines two)) (good sam_format First (text_lines (one ++ two)))
   sam_joint one two ends = good_joint sam_format First (λ state. Unit {0}) one two ends (λ state l m e d. ap alignment_of e) tt (λ n now leads. refl) (all_lead (text_lines one))
 
-  sam_adds : (one two : List ℕ) → IsTrue (ends_line one) → Adds (on_sam one) (on_sam two) (on_sam (one ++ two))
+  sam_adds : (one two : List ℕ) → StandsBefore one two → Adds (on_sam one) (on_sam two) (on_sam (one ++ two))
   unfolding on_sam
   sam_adds one two ends =
       good_adds lines_written lines_written lines_written (good sam_format First (text_lines one)) (good sam_format First (text_lines two)) (good sam_format First (text_lines (one ++ two))) (sam_joint one two ends) (lines_split _ _)
 
-  sam_stops : (one two : List ℕ) → IsTrue (ends_line one) → Stops (on_sam one) (on_sam two) (on_sam (one ++ two))
+  sam_stops : (one two : List ℕ) → StandsBefore one two → Stops (on_sam one) (on_sam two) (on_sam (one ++ two))
   unfolding on_sam
   sam_stops one two ends =
       good_stops lines_written lines_written lines_written (good sam_format First (text_lines one)) (good sam_format First (text_lines two)) (good sam_format First (text_lines (one ++ two))) (sam_joint one two ends) (lines_split _ _)
 
-  text_adds : (one two : List ℕ) → IsTrue (ends_line one) → Adds (on_text (BamToBed split cigar) None one) (on_text (BamToBed split cigar) None two) (on_text (BamToBed split cigar) None (one ++ two))
+  text_adds : (one two : List ℕ) → StandsBefore one two → Adds (on_text (BamToBed split cigar) None one) (on_text (BamToBed split cigar) None two) (on_text (BamToBed split cigar) None (one ++ two))
   text_adds one two ends = rw (sam_is one, sam_is two, sam_is (one ++ two)) (sam_adds one two ends)
 
-  text_stops : (one two : List ℕ) → IsTrue (ends_line one) → Stops (on_text (BamToBed split cigar) None one) (on_text (BamToBed split cigar) None two) (on_text (BamToBed split cigar) None (one ++ two))
+  text_stops : (one two : List ℕ) → StandsBefore one two → Stops (on_text (BamToBed split cigar) None one) (on_text (BamToBed split cigar) None two) (on_text (BamToBed split cigar) None (one ++ two))
   text_stops one two ends = rw (sam_is one, sam_is two, sam_is (one ++ two)) (sam_stops one two ends)
 
 pub lines_less : (text : List ℕ) (texts : List (List ℕ)) → AreOfLines (text ∷ texts) → AreOfLines texts
-lines_less text [] lines = tt
-lines_less text (next ∷ texts) lines = lines.1
+lines_less text texts lines = lines.1
 
 pub sam_divides : bamtobed_divides
 unfolding report_of lines_from good_from

@@ -16,7 +16,7 @@ use Rattle.bt_bed.specs.Good.{Format, Good, Member, good, good_from, good_with, 
 use Rattle.bt_seq.specs.Masked.{is_unnamed, names_of}
 use Rattle.bt_seq.specs.Sequences.{Reached, SequenceLine, header_behind, is_header, line_behind, line_says, may_stand, name_in, sequence_format}
 use Rattle.bt_tool.specs.MaskSplitLaws.{begins_sequence, name_on, sequence_names}
-use Rattle.bt_tool.specs.Parts.{ends_line}
+use Rattle.bt_tool.specs.Parts.{StandsBefore}
 use Rattle.bt_tool.proofs.PartGood.{like_from}
 use Rattle.bt_tool.proofs.PartLines.{alike_lines, lines_join}
 
@@ -308,7 +308,7 @@ module _ (full : Bool) (input : Input) where
   both_by None one two behind moved = (map-append (λ m. m.item) one.members behind.members ∙ ap (λ l. items_in one ++ l) moved.items, moved.none)
   both_by (Some fault) one two behind moved = refl
 
-  module _ (one two : List ℕ) (ends : IsTrue (ends_line one)) (begins : IsTrue (begins_sequence two)) where
+  module _ (one two : List ℕ) (ends : StandsBefore one two) (begins : IsTrue (begins_sequence two)) where
     abbrev pub GoodOne : Good SequenceLine
     GoodOne = good Fasta input (text_lines one)
 

@@ -1,6 +1,6 @@
 -- Parts with their own parts of the genome file: complement, genomecov and merge.
 use Rattle.std.proofs.Common.{◌≡◌, ℕ, Bool, true, false, cond, not, List, [], ◌∷◌, ◌++◌, ◌||◌, map, filter, append-nil, Option, Some, None, Result, Ok, Err, refl, sym, ap, ap₂, ◌∙◌, subst}
-use Rattle.std.specs.Prelude.{IsTrue, flat_map, nat_le, nat_lt}
+use Rattle.std.specs.Prelude.{flat_map, nat_le, nat_lt}
 use Rattle.std.specs.List.{AllByRecursion}
 use Rattle.std.proofs.lemmas.Bool.{or_left, or_right}
 use Rattle.std.proofs.lemmas.List.{map-append}
@@ -39,7 +39,7 @@ use Rattle.bt_runs.proofs.DepthSteps.{settles_depths}
 use Rattle.bt_runs.proofs.GapSteps.{settles_gaps}
 use Rattle.bt_runs.proofs.SettlingLemmas.{begins}
 use Rattle.bt_tool.specs.GenomeSplitLaws.{AreShards, LiesWithin, Shard, ShardsAddUp, all_entries, complement_divides, genomecov_divides, merge_genomes_divide, shard_texts}
-use Rattle.bt_tool.specs.Parts.{AreOfLines, ends_line, joined, records_in}
+use Rattle.bt_tool.specs.Parts.{AreOfLines, StandsBefore, joined, records_in}
 use Rattle.bt_tool.specs.RecordReport.{Report, good_report}
 use Rattle.bt_tool.specs.Report.{chromosomes_of, of_file, report_of, report_on}
 use Rattle.bt_tool.specs.SplitLaws.{on_text}
@@ -278,7 +278,7 @@ module _ (W : List Entry → Written Feature) (command : Command)
       not_there true b e = cc
       not_there false b e = refl
 
-  module _ (e_one e_two : List Entry) (one two : List ℕ) (distinct : AreDistinct (genome_names (e_one ++ e_two))) (ends : IsTrue (ends_line one))
+  module _ (e_one e_two : List Entry) (one two : List ℕ) (distinct : AreDistinct (genome_names (e_one ++ e_two))) (ends : StandsBefore one two)
       (within_one : AllByRecursion (LiesWithin e_one (e_one ++ e_two)) (records_in one)) (within_two : AllByRecursion (LiesWithin e_two (e_one ++ e_two)) (records_in two)) where
     one_same : good_of (e_one ++ e_two) one ≡ good_of e_one one
     one_same = agree_good _ _ _ (agree_first e_one e_two) First None (text_lines one) tt within_one

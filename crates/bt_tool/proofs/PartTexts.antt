@@ -25,7 +25,7 @@ use Rattle.bt_sweep.specs.Subtract.{subtract_shape}
 use Rattle.bt_sweep.specs.declared.hit_rule.HitRule.{HitRule}
 use Rattle.bt_sweep.specs.declared.shape.Shape.{Shape}
 use Rattle.bt_tool.specs.Behaviour.{order_of}
-use Rattle.bt_tool.specs.Parts.{AreOfLines, ComeBefore, ends_line, joined, records_in}
+use Rattle.bt_tool.specs.Parts.{AreOfLines, ComeBefore, StandsBefore, joined, records_in}
 use Rattle.bt_tool.specs.RecordReport.{Report, good_report}
 use Rattle.bt_tool.specs.Report.{chromosomes_of, report_of, report_on}
 use Rattle.bt_tool.specs.SplitLaws.{ArePairs, PairsAscend, Texts, TextsAscend, intersect_divides, joined_texts, merge_divides, on_text, on_texts, subtract_divides}
@@ -67,7 +67,7 @@ module _ (order : Order) (total : IsTotal order) where
   abbrev pub merge_report : ℕ → MergeStrand → List ℕ → Report
   merge_report d strand text = good_report (merge_written order d strand) (bed_text_good First text)
 
-  module _ (d : ℕ) (strand : MergeStrand) (one two : List ℕ) (ends : IsTrue (ends_line one)) (before : ComeBefore order (records_in one) (records_in two)) where
+  module _ (d : ℕ) (strand : MergeStrand) (one two : List ℕ) (ends : StandsBefore one two) (before : ComeBefore order (records_in one) (records_in two)) where
     pub merge_adds : Adds (merge_report d strand one) (merge_report d strand two) (merge_report d strand (one ++ two))
     merge_adds = good_adds (merge_written order d strand) (merge_written order d strand) (merge_written order d strand) (bed_text_good First one) (bed_text_good First two) (bed_text_good First (one ++ two))
         (bed_joint order total one two before First ends) (merge_split d strand one two (good_earlier order total one two before First First))
@@ -96,7 +96,7 @@ module _ (order : Order) (total : IsTotal order) where
   known_all : (input : Input) (text : List ℕ) → AllByRecursion (λ r. IsTrue (order.knows r.chrom)) (text_records input text)
   known_all input text = items_all order total input (λ r. IsTrue (order.knows r.chrom)) None (text_lines text) (all_any _ _ (λ r known. known))
 
-  module _ (shape : Shape) (rule : HitRule) (a_one b_one a_two b_two : List ℕ) (a_ends : IsTrue (ends_line a_one)) (b_ends : IsTrue (ends_line b_one))
+  module _ (shape : Shape) (rule : HitRule) (a_one b_one a_two b_two : List ℕ) (a_ends : StandsBefore a_one a_two) (b_ends : StandsBefore b_one b_two)
       (before : ComeBefore order (records_in a_one ++ records_in b_one) (records_in a_two ++ records_in b_two)) where
     parts : ComeBefore order (records_in a_one) (records_in a_two) × ComeBefore order (records_in a_one) (records_in b_two) × ComeBefore order (records_in b_one) (records_in a_two) × ComeBefore order (records_in b_one) (records_in b_two)
     parts = came (records_in a_one) (records_in b_one) (records_in a_two) (records_in b_two) before

@@ -1,6 +1,6 @@
 -- Inputs divided into parts, as by chromosome: what a part is, and what the runs of the parts have
 -- to do with the run of the whole.
-use Rattle.std.specs.Prelude.{◌≡◌, ◌↔◌, ℕ, Bool, true, IsTrue, ⊤, List, [], ◌∷◌, ◌++◌, ◌==◌, flat_map}
+use Rattle.std.specs.Prelude.{◌≡◌, ◌↔◌, ◌⊎◌, ℕ, Bool, true, IsTrue, ⊤, List, [], ◌∷◌, ◌++◌, ◌==◌, flat_map}
 use Rattle.std.specs.Prelude.{Option, Some, None, Result, Ok, Err}
 use Rattle.std.specs.List.{AllByRecursion}
 use Rattle.std.specs.declared.cmp.Ordering.TheVariants.{Less}
@@ -18,15 +18,18 @@ ends_line [] = true
 ends_line (byte ∷ []) = byte == 10
 ends_line (byte ∷ next ∷ bytes) = ends_line (next ∷ bytes)
 
--- texts of whole lines; the last may lack its line feed
-abbrev pub AreOfLines : List (List ℕ) → Type 0
-AreOfLines [] = ⊤
-AreOfLines (text ∷ []) = ⊤
-AreOfLines (text ∷ next ∷ texts) = IsTrue (ends_line text) × AreOfLines (next ∷ texts)
-
 -- texts, one behind another
 abbrev pub joined : List (List ℕ) → List ℕ
 joined texts = flat_map (λ text. text) texts
+
+-- what stands behind a text begins a line, or there is nothing
+abbrev pub StandsBefore : List ℕ → List ℕ → Type 0
+StandsBefore text rest = IsTrue (ends_line text) ⊎ (rest ≡ [])
+
+-- texts of whole lines; the last that isn't empty may lack its line feed
+abbrev pub AreOfLines : List (List ℕ) → Type 0
+AreOfLines [] = ⊤
+AreOfLines (text ∷ texts) = StandsBefore text (joined texts) × AreOfLines texts
 
 -- the record that a line says, if it says one
 abbrev pub record_in : Result (Option Feature) Kind → List Feature
