@@ -10,8 +10,9 @@ lines; and the answer has to be the one that plain.py finds by the rules of the 
 behind a line that ends near the end of a block of 8,192 bytes, and the answer has to be the same. An input goes by the
 seed, its command and its number: `--only 'merge 17'` runs it alone.
 
-Then a good text of each format is cut at each of its bytes, for each command and each of its options; and 10,000 random
-command lines are run, of which those that can't be used have to get status 2 and the line that plain.py finds. `--jobs`
+Then a good text of each format is cut at each of its bytes, for each command and each of its options; texts with a line
+of each kind that is read in a way of its own are put behind a line so that the block ends at each of their bytes; and
+10,000 random command lines are run, of which those that can't be used have to get status 2 and the line that plain.py finds. `--jobs`
 runs are under way at a time, as many as there are processors where that isn't said. Ends with 1 where something else
 comes of it.
 """
@@ -30,7 +31,7 @@ from dataclasses import dataclass
 from pathlib import Path
 
 from plain import OPTIONS, answer_of, usage_of
-from random_inputs import KINDS, good, line_ahead, random_words
+from random_inputs import KINDS, border_texts, good, line_ahead, random_words
 
 PROGRAM = str(Path(__file__).resolve().parent.parent / "bin" / "bedtools")
 BLOCK = 8192
@@ -278,6 +279,38 @@ def cut_inputs(pool, seed):
     return wrong
 
 
+def try_borders(command, name, form):
+    """Runs texts with a line of each kind as this input of a command, behind a line that ends so far before the end of a
+    block that it ends at each of their bytes. Answers how many runs there were, and how many went wrong."""
+    numbers = random.Random(f"{command.name} {name}")
+    others = {other: good(numbers, further) for _, other, further in command.inputs}
+    if "g.txt" in others:
+        others["g.txt"] = b"chr1\t999999999999\nchr2\t50\nchr10\t300\n"
+    runs = wrong = 0
+    for text in border_texts(form):
+        case = Case(command, command.options[0].split(), {**others, name: text}, None)
+        answer = run(case)
+        for before in range(len(text) + 1):
+            ahead = line_ahead(form, BLOCK - before)
+            further_case = Case(command, case.options, {**case.files, name: ahead + text}, None)
+            further = run(further_case)
+            fault = wrong_with(further_case, further)
+            if fault or not is_the_same(case, answer, further, name, ahead.count(b"\n")):
+                tell(f"{name} at the end of a block: {fault or 'another answer than alone'}", further_case, answer, further)
+                wrong += 1
+            runs += 1
+    return runs, wrong
+
+
+def bordered_inputs(pool):
+    """Runs texts at the end of a block. Answers how many runs are answered wrongly."""
+    inputs = [(command, name, form) for command in COMMANDS for _, name, form in command.inputs if form != "genome"]
+    shares = [pool.submit(try_borders, *it) for it in inputs]
+    runs, wrong = (sum(column) for column in zip(*(share.result() for share in shares)))
+    print(f"{runs} inputs run that lie over the end of a block, {wrong} answered wrongly")
+    return wrong
+
+
 def try_words(seed, chosen):
     """Runs the random command lines with these numbers. Answers how many can't be used, and how many are answered
     wrongly."""
@@ -323,7 +356,7 @@ def main():
     with tempfile.TemporaryDirectory(dir=MEMORY if Path(MEMORY).is_dir() else None) as folder:
         with ProcessPoolExecutor(asked.jobs, initializer=prepare, initargs=(folder,)) as pool:
             wrong = random_bytes(pool, asked)
-            wrong += 0 if asked.only else cut_inputs(pool, asked.seed) + command_lines(pool, asked.seed)
+            wrong += 0 if asked.only else cut_inputs(pool, asked.seed) + bordered_inputs(pool) + command_lines(pool, asked.seed)
     return 1 if wrong else 0
 
 

@@ -138,6 +138,40 @@ def line_ahead(form, length):
     return (b"@" if form == "sam" else b"#")[: length - 1] + b"x" * (length - 2) + b"\n"
 
 
+# Lines of each format that are read in one way or another: with numbers of each length, with a strand and without, ended
+# by CR LF, by CR at the end of the text or by nothing there, blank, a header line, and at fault.
+BORDER_LINES = {
+    "bed": [
+        b"chr1\t5\t9\n", b"chr1\t5\t9\tx\t0\t+\n", b"chr1\t123456\t1234567\n", b"chr1\t1234567\t12345678\tx\t0\t-\n",
+        b"chr1\t12345678\t123456789\n", b"chr1\t123456789\t1234567890\tname\t5\t.\tmore\n", b"chr1\t000000000005\t999999999998\n",
+        b"chr1\t0000000000005\t0000000000009\n", b"chr1\t5\t9\r\n", b"chr1\t1234567\t12345678\tx\t0\t-\r\n", b"chr1\t5\t9", b"chr1\t5\t9\r",
+        b"# a header\n", b"track name=x\r\n", b"browser\n", b"\n", b"\r\n", b"chr1\t1234:67\t9\n", b"chr1\t5\t1234567/\n", b"chr1\t5\n",
+        b"a chromosome's name of more than thirty-two bytes\t1234567\t12345678\tx\t0\t+\n",
+    ],
+    "sam": [
+        b"r1\t0\tchr1\t3\t60\t4M\t*\t0\t0\tACGT\t*\n", b"r1\t16\tchr1\t12345678\t0\t2M3N2M\t*\t0\t0\tACGT\t*\tNM:i:0\n",
+        b"r1\t99\tchr1\t123456789\t7\t4M\t=\t5\t0\tACGT\tFFFF\r\n", b"r1\t4\t*\t0\t0\t*\t*\t0\t0\tACGT\t*\n", b"@CO\tx\n", b"\n", b"\r\n",
+        b"r1\t0\tchr1\t3\t60\t4M\t*\t0\t0\tACGT\t*", b"r1\t0\tchr1\t3\t60\t4M\t*\t0\t0\tACGT\t*\r", b"r1\t0\tchr1\t3\t60\t4M\t*\t0\n",
+    ],
+    "fasta": [
+        b"ACGTACGTAC\n", b"ACGTACGTAC\r\n", b"ACGT" * 15 + b"\n", b"ACGT" * 20 + b"\n", b"ACGT" * 15 + b"\r\n", b"\n", b"\r\n", b">chr2 more\n",
+        b">chr2\r\n", b"ACGTACGTAC", b"ACGTACGTAC\r", b">chr2",
+    ],
+}
+BORDER_ENDS = {
+    "bed": (b"chr1\t0\t3\n", b"chr1\t999999999998\t999999999999\n"),
+    "sam": (b"r0\t0\tchr1\t1\t60\t4M\t*\t0\t0\tACGT\t*\n", b"r2\t0\tchr1\t9\t60\t4M\t*\t0\t0\tACGT\t*\n"),
+    "fasta": (b">chr1\nACGT\n", b"ACGTA\n"),
+}
+
+
+def border_texts(form):
+    """A text for each of these lines: it stands behind a plain one, and where it is ended before another one."""
+    form = "bed" if form == "named" else form
+    first, last = BORDER_ENDS[form]
+    return [first + line + (last if line.endswith(b"\n") else b"") for line in BORDER_LINES[form]]
+
+
 # The first nine are values of one option or another.
 WORDS = [
     "-", "stdin", "stdout", "+", "0", "1", "1.", ".5", "0.5", "1.5", "0.5000000000", ".", "007", "999999999999", "1000000000000", "", "x",
