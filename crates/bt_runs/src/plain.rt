@@ -103,72 +103,51 @@ pub(crate) fn add_position(runs: &mut Vec<PlainSpan>, position: u64) -> Result<(
 #[cfg(test)]
 mod tests {
     use super::*;
+    use crate::testing::{Bounds, spans_of};
     use std::test::Fail;
 
-    fn span(start: u64, stop: u64) -> PlainSpan {
-        PlainSpan { start, stop }
+    // A case: its name, the spans, the gap, and their runs.
+    type Case = (&'static str, Bounds, u64, Bounds);
+
+    const FOUR: Bounds = &[(100, 200), (180, 250), (250, 500), (501, 1000)];
+
+    const CASES: [Case; 13] = [
+        ("no record", &[], 0, &[]),
+        ("one record", &[(3, 8)], 0, &[(3, 8)]),
+        ("a record without a position", &[(3, 3)], 5, &[]),
+        ("touching", &[(0, 5), (5, 9)], 0, &[(0, 9)]),
+        ("overlapping", &[(0, 5), (3, 9)], 0, &[(0, 9)]),
+        ("one within another", &[(0, 9), (3, 5)], 0, &[(0, 9)]),
+        ("a gap of one", &[(0, 5), (6, 9)], 0, &[(0, 5), (6, 9)]),
+        ("a gap of one, bridged", &[(0, 5), (6, 9)], 1, &[(0, 9)]),
+        (
+            "a gap of two, by one",
+            &[(0, 5), (7, 9)],
+            1,
+            &[(0, 5), (7, 9)],
+        ),
+        ("a gap of two, bridged", &[(0, 5), (7, 9)], 2, &[(0, 9)]),
+        ("out of order", &[(7, 9), (0, 5)], 0, &[(0, 5), (7, 9)]),
+        ("four records", FOUR, 0, &[(100, 500), (501, 1000)]),
+        ("four records, by one", FOUR, 1, &[(100, 1000)]),
+    ];
+
+    // The name of the first case that has other runs.
+    fn first_otherwise(alloc: Global, cases: &[Case]) -> Result<Option<&'static str>, AllocError> {
+        for (name, spans, gap, runs) in cases {
+            let spans = spans_of(alloc, spans)?;
+            let runs = spans_of(alloc, runs)?;
+            let found = plain_runs(alloc, spans.as_slice(), *gap)?;
+            if found.as_slice() != runs.as_slice() {
+                return Ok(Some(*name));
+            }
+        }
+        Ok(None)
     }
 
     #[test]
     fn small_cases(rt: HostRuntime) -> Result<(), Fail> {
-        let four = [
-            span(100, 200),
-            span(180, 250),
-            span(250, 500),
-            span(501, 1000),
-        ];
-        let cases: [(&str, &[PlainSpan], u64, &[PlainSpan]); 13] = [
-            ("no record", &[], 0, &[]),
-            ("one record", &[span(3, 8)], 0, &[span(3, 8)]),
-            ("a record without a position", &[span(3, 3)], 5, &[]),
-            ("touching", &[span(0, 5), span(5, 9)], 0, &[span(0, 9)]),
-            ("overlapping", &[span(0, 5), span(3, 9)], 0, &[span(0, 9)]),
-            (
-                "one within another",
-                &[span(0, 9), span(3, 5)],
-                0,
-                &[span(0, 9)],
-            ),
-            (
-                "a gap of one",
-                &[span(0, 5), span(6, 9)],
-                0,
-                &[span(0, 5), span(6, 9)],
-            ),
-            (
-                "a gap of one, bridged",
-                &[span(0, 5), span(6, 9)],
-                1,
-                &[span(0, 9)],
-            ),
-            (
-                "a gap of two, by one",
-                &[span(0, 5), span(7, 9)],
-                1,
-                &[span(0, 5), span(7, 9)],
-            ),
-            (
-                "a gap of two, bridged",
-                &[span(0, 5), span(7, 9)],
-                2,
-                &[span(0, 9)],
-            ),
-            (
-                "out of order",
-                &[span(7, 9), span(0, 5)],
-                0,
-                &[span(0, 5), span(7, 9)],
-            ),
-            ("four records", &four, 0, &[span(100, 500), span(501, 1000)]),
-            ("four records, by one", &four, 1, &[span(100, 1000)]),
-        ];
-        for (name, spans, gap, runs) in cases {
-            assert_eq!(rt;
-                plain_runs(rt.alloc(), spans, gap)?.as_slice(),
-                runs,
-                "{name}"
-            );
-        }
+        assert_eq!(rt; first_otherwise(rt.alloc(), &CASES)?, None);
         Ok(())
     }
 }

@@ -88,79 +88,88 @@ fn goes_on(last: PlainDepth, position: u64, depth: u64) -> bool
 #[cfg(test)]
 mod tests {
     use super::*;
+    use crate::testing::{Bounds, spans_of};
     use std::test::Fail;
 
-    fn span(start: u64, stop: u64) -> PlainSpan {
-        PlainSpan { start, stop }
+    // A case: its name, the spans, the length, whether depth 0 is reported, and the intervals of equal
+    // depth.
+    type Case = (&'static str, Bounds, u64, bool, &'static [(u64, u64, u64)]);
+
+    const CASES: [Case; 10] = [
+        ("no record", &[], 9, false, &[]),
+        ("no record, with zeros", &[], 9, true, &[(0, 9, 0)]),
+        ("no base, with zeros", &[], 0, true, &[]),
+        (
+            "one behind another",
+            &[(0, 10), (10, 20)],
+            30,
+            false,
+            &[(0, 20, 1)],
+        ),
+        (
+            "a record within, and one behind",
+            &[(0, 10), (5, 10), (10, 15)],
+            30,
+            false,
+            &[(0, 5, 1), (5, 10, 2), (10, 15, 1)],
+        ),
+        (
+            "past the length, with zeros",
+            &[(3, 9)],
+            5,
+            true,
+            &[(0, 3, 0), (3, 5, 1)],
+        ),
+        ("wholly past it", &[(5, 9)], 5, false, &[]),
+        (
+            "depth 0 between",
+            &[(1, 2), (4, 5)],
+            6,
+            true,
+            &[(0, 1, 0), (1, 2, 1), (2, 4, 0), (4, 5, 1), (5, 6, 0)],
+        ),
+        (
+            "depth 0 between, not asked for",
+            &[(1, 2), (4, 5)],
+            6,
+            false,
+            &[(1, 2, 1), (4, 5, 1)],
+        ),
+        (
+            "out of order",
+            &[(2, 4), (0, 3)],
+            9,
+            false,
+            &[(0, 2, 1), (2, 3, 2), (3, 4, 1)],
+        ),
+    ];
+
+    // Intervals of these starts, ends and depths.
+    fn depths_of(alloc: Global, rows: &[(u64, u64, u64)]) -> Result<Vec<PlainDepth>, AllocError> {
+        let mut depths = Vec::new(alloc);
+        for (start, stop, depth) in rows {
+            let (start, stop, depth) = (*start, *stop, *depth);
+            depths.push(PlainDepth { start, stop, depth })?;
+        }
+        Ok(depths)
     }
 
-    fn depth(start: u64, stop: u64, depth: u64) -> PlainDepth {
-        PlainDepth { start, stop, depth }
+    // The name of the first case that has other intervals.
+    fn first_otherwise(alloc: Global, cases: &[Case]) -> Result<Option<&'static str>, AllocError> {
+        for (name, spans, length, zeros, depths) in cases {
+            let spans = spans_of(alloc, spans)?;
+            let depths = depths_of(alloc, depths)?;
+            let found = plain_depths(alloc, spans.as_slice(), *length, *zeros)?;
+            if found.as_slice() != depths.as_slice() {
+                return Ok(Some(*name));
+            }
+        }
+        Ok(None)
     }
 
     #[test]
     fn small_cases(rt: HostRuntime) -> Result<(), Fail> {
-        let cases: [(&str, &[PlainSpan], u64, bool, &[PlainDepth]); 10] = [
-            ("no record", &[], 9, false, &[]),
-            ("no record, with zeros", &[], 9, true, &[depth(0, 9, 0)]),
-            ("no base, with zeros", &[], 0, true, &[]),
-            (
-                "one behind another",
-                &[span(0, 10), span(10, 20)],
-                30,
-                false,
-                &[depth(0, 20, 1)],
-            ),
-            (
-                "a record within, and one behind",
-                &[span(0, 10), span(5, 10), span(10, 15)],
-                30,
-                false,
-                &[depth(0, 5, 1), depth(5, 10, 2), depth(10, 15, 1)],
-            ),
-            (
-                "past the length, with zeros",
-                &[span(3, 9)],
-                5,
-                true,
-                &[depth(0, 3, 0), depth(3, 5, 1)],
-            ),
-            ("wholly past it", &[span(5, 9)], 5, false, &[]),
-            (
-                "depth 0 between",
-                &[span(1, 2), span(4, 5)],
-                6,
-                true,
-                &[
-                    depth(0, 1, 0),
-                    depth(1, 2, 1),
-                    depth(2, 4, 0),
-                    depth(4, 5, 1),
-                    depth(5, 6, 0),
-                ],
-            ),
-            (
-                "depth 0 between, not asked for",
-                &[span(1, 2), span(4, 5)],
-                6,
-                false,
-                &[depth(1, 2, 1), depth(4, 5, 1)],
-            ),
-            (
-                "out of order",
-                &[span(2, 4), span(0, 3)],
-                9,
-                false,
-                &[depth(0, 2, 1), depth(2, 3, 2), depth(3, 4, 1)],
-            ),
-        ];
-        for (name, spans, length, zeros, depths) in cases {
-            assert_eq!(rt;
-                plain_depths(rt.alloc(), spans, length, zeros)?.as_slice(),
-                depths,
-                "{name}"
-            );
-        }
+        assert_eq!(rt; first_otherwise(rt.alloc(), &CASES)?, None);
         Ok(())
     }
 }

@@ -28,42 +28,40 @@ pub fn plain_gaps(
 #[cfg(test)]
 mod tests {
     use super::*;
+    use crate::testing::{Bounds, spans_of};
     use std::test::Fail;
 
-    fn span(start: u64, stop: u64) -> PlainSpan {
-        PlainSpan { start, stop }
+    // A case: its name, the spans, the length, and the gaps between them.
+    type Case = (&'static str, Bounds, u64, Bounds);
+
+    const CASES: [Case; 9] = [
+        ("no record", &[], 9, &[(0, 9)]),
+        ("no base", &[], 0, &[]),
+        ("a record", &[(3, 5)], 9, &[(0, 3), (5, 9)]),
+        ("at both ends", &[(0, 2), (7, 9)], 9, &[(2, 7)]),
+        ("past the length", &[(3, 12)], 9, &[(0, 3)]),
+        ("wholly past it", &[(10, 12)], 9, &[(0, 9)]),
+        ("the whole chromosome", &[(0, 9)], 9, &[]),
+        ("touching", &[(1, 4), (4, 8)], 9, &[(0, 1), (8, 9)]),
+        ("out of order", &[(6, 8), (1, 7)], 9, &[(0, 1), (8, 9)]),
+    ];
+
+    // The name of the first case that has other gaps.
+    fn first_otherwise(alloc: Global, cases: &[Case]) -> Result<Option<&'static str>, AllocError> {
+        for (name, spans, length, gaps) in cases {
+            let spans = spans_of(alloc, spans)?;
+            let gaps = spans_of(alloc, gaps)?;
+            let found = plain_gaps(alloc, spans.as_slice(), *length)?;
+            if found.as_slice() != gaps.as_slice() {
+                return Ok(Some(*name));
+            }
+        }
+        Ok(None)
     }
 
     #[test]
     fn small_cases(rt: HostRuntime) -> Result<(), Fail> {
-        let cases: [(&str, &[PlainSpan], u64, &[PlainSpan]); 9] = [
-            ("no record", &[], 9, &[span(0, 9)]),
-            ("no base", &[], 0, &[]),
-            ("a record", &[span(3, 5)], 9, &[span(0, 3), span(5, 9)]),
-            ("at both ends", &[span(0, 2), span(7, 9)], 9, &[span(2, 7)]),
-            ("past the length", &[span(3, 12)], 9, &[span(0, 3)]),
-            ("wholly past it", &[span(10, 12)], 9, &[span(0, 9)]),
-            ("the whole chromosome", &[span(0, 9)], 9, &[]),
-            (
-                "touching",
-                &[span(1, 4), span(4, 8)],
-                9,
-                &[span(0, 1), span(8, 9)],
-            ),
-            (
-                "out of order",
-                &[span(6, 8), span(1, 7)],
-                9,
-                &[span(0, 1), span(8, 9)],
-            ),
-        ];
-        for (name, spans, length, gaps) in cases {
-            assert_eq!(rt;
-                plain_gaps(rt.alloc(), spans, length)?.as_slice(),
-                gaps,
-                "{name}"
-            );
-        }
+        assert_eq!(rt; first_otherwise(rt.alloc(), &CASES)?, None);
         Ok(())
     }
 }

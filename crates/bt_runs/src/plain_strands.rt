@@ -99,75 +99,102 @@ mod tests {
     use super::*;
     use std::test::Fail;
 
-    fn plus(start: u64, stop: u64) -> PlainStranded {
-        PlainStranded {
-            strand: Strand::Plus,
-            span: PlainSpan { start, stop },
+    const PLUS: Strand = Strand::Plus;
+
+    const MINUS: Strand = Strand::Minus;
+
+    const DOT: Strand = Strand::Dot;
+
+    // The strands, the starts and the ends of stretches.
+    type Stretches = &'static [(Strand, u64, u64)];
+
+    // A case: its name, the records, the gap, and their runs.
+    type Case = (&'static str, Stretches, u64, Stretches);
+
+    const CASES: [Case; 7] = [
+        ("no record", &[], 0, &[]),
+        (
+            "the first record is of minus",
+            &[(MINUS, 0, 10), (PLUS, 5, 20)],
+            0,
+            &[(MINUS, 0, 10), (PLUS, 5, 20)],
+        ),
+        (
+            "within the run of the other strand",
+            &[
+                (PLUS, 0, 100),
+                (MINUS, 10, 20),
+                (PLUS, 50, 120),
+                (MINUS, 60, 70),
+            ],
+            0,
+            &[(PLUS, 0, 120), (MINUS, 10, 20), (MINUS, 60, 70)],
+        ),
+        (
+            "the first run is done last",
+            &[
+                (PLUS, 0, 100),
+                (MINUS, 10, 20),
+                (MINUS, 60, 70),
+                (PLUS, 150, 160),
+            ],
+            0,
+            &[
+                (PLUS, 0, 100),
+                (MINUS, 10, 20),
+                (MINUS, 60, 70),
+                (PLUS, 150, 160),
+            ],
+        ),
+        (
+            "no strand is a strand of its own",
+            &[(DOT, 0, 5), (PLUS, 3, 8), (DOT, 5, 9), (MINUS, 6, 7)],
+            0,
+            &[(DOT, 0, 9), (PLUS, 3, 8), (MINUS, 6, 7)],
+        ),
+        (
+            "bridged within a strand alone",
+            &[(PLUS, 0, 5), (MINUS, 6, 7), (PLUS, 7, 9)],
+            2,
+            &[(PLUS, 0, 9), (MINUS, 6, 7)],
+        ),
+        (
+            "out of order",
+            &[(PLUS, 7, 9), (MINUS, 0, 5), (PLUS, 0, 8)],
+            0,
+            &[(PLUS, 0, 9), (MINUS, 0, 5)],
+        ),
+    ];
+
+    fn stretches_of(
+        alloc: Global,
+        rows: &[(Strand, u64, u64)],
+    ) -> Result<Vec<PlainStranded>, AllocError> {
+        let mut stretches = Vec::new(alloc);
+        for (strand, start, stop) in rows {
+            let (strand, start, stop) = (*strand, *start, *stop);
+            let span = PlainSpan { start, stop };
+            stretches.push(PlainStranded { strand, span })?;
         }
+        Ok(stretches)
     }
 
-    fn minus(start: u64, stop: u64) -> PlainStranded {
-        PlainStranded {
-            strand: Strand::Minus,
-            span: PlainSpan { start, stop },
+    // The name of the first case that has other runs.
+    fn first_otherwise(alloc: Global, cases: &[Case]) -> Result<Option<&'static str>, AllocError> {
+        for (name, records, gap, runs) in cases {
+            let records = stretches_of(alloc, records)?;
+            let runs = stretches_of(alloc, runs)?;
+            let found = plain_strand_runs(alloc, records.as_slice(), *gap)?;
+            if found.as_slice() != runs.as_slice() {
+                return Ok(Some(*name));
+            }
         }
-    }
-
-    fn dot(start: u64, stop: u64) -> PlainStranded {
-        PlainStranded {
-            strand: Strand::Dot,
-            span: PlainSpan { start, stop },
-        }
+        Ok(None)
     }
 
     #[test]
     fn small_cases(rt: HostRuntime) -> Result<(), Fail> {
-        let cases: [(&str, &[PlainStranded], u64, &[PlainStranded]); 7] = [
-            ("no record", &[], 0, &[]),
-            (
-                "the first record is of minus",
-                &[minus(0, 10), plus(5, 20)],
-                0,
-                &[minus(0, 10), plus(5, 20)],
-            ),
-            (
-                "within the run of the other strand",
-                &[plus(0, 100), minus(10, 20), plus(50, 120), minus(60, 70)],
-                0,
-                &[plus(0, 120), minus(10, 20), minus(60, 70)],
-            ),
-            (
-                "the first run is done last",
-                &[plus(0, 100), minus(10, 20), minus(60, 70), plus(150, 160)],
-                0,
-                &[plus(0, 100), minus(10, 20), minus(60, 70), plus(150, 160)],
-            ),
-            (
-                "no strand is a strand of its own",
-                &[dot(0, 5), plus(3, 8), dot(5, 9), minus(6, 7)],
-                0,
-                &[dot(0, 9), plus(3, 8), minus(6, 7)],
-            ),
-            (
-                "bridged within a strand alone",
-                &[plus(0, 5), minus(6, 7), plus(7, 9)],
-                2,
-                &[plus(0, 9), minus(6, 7)],
-            ),
-            (
-                "out of order",
-                &[plus(7, 9), minus(0, 5), plus(0, 8)],
-                0,
-                &[plus(0, 9), minus(0, 5)],
-            ),
-        ];
-        for (name, records, gap, runs) in cases {
-            assert_eq!(rt;
-                plain_strand_runs(rt.alloc(), records, gap)?.as_slice(),
-                runs,
-                "{name}"
-            );
-        }
+        assert_eq!(rt; first_otherwise(rt.alloc(), &CASES)?, None);
         Ok(())
     }
 }

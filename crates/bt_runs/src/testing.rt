@@ -158,8 +158,16 @@ pub(crate) fn check_failing<E: Engine + Drop>(
     Ok(())
 }
 
-pub(crate) fn span(start: u64, stop: u64) -> PlainSpan {
-    PlainSpan { start, stop }
+// The starts and the ends of spans.
+pub(crate) type Bounds = &'static [(u64, u64)];
+
+pub(crate) fn spans_of(alloc: Global, bounds: &[(u64, u64)]) -> Result<Vec<PlainSpan>, AllocError> {
+    let mut spans = Vec::new(alloc);
+    for (start, stop) in bounds {
+        let (start, stop) = (*start, *stop);
+        spans.push(PlainSpan { start, stop })?;
+    }
+    Ok(spans)
 }
 
 // Feeds spans on a chromosome, and says whether they were taken.

@@ -1,8 +1,8 @@
 use super::*;
-use crate::plain::PlainSpan;
 use crate::plain_gaps::plain_gaps;
 use crate::testing::{
-    Row, check_failing, check_row, check_spans, expect_end, feed_kept, genome, lines_of, span,
+    Bounds, Row, check_failing, check_row, check_spans, expect_end, feed_kept, genome, lines_of,
+    spans_of,
 };
 use bt_lines::ScriptSink;
 use std::alloc::Global;
@@ -182,26 +182,35 @@ fn one_place_is_kept_of_many_records(rt: HostRuntime) -> Result<(), Fail> {
 }
 
 // An engine has to write the gaps that the plain program gives.
-fn check_plain(rt: &impl Abort, alloc: Global, cases: &[&[PlainSpan]]) -> Result<(), Fail> {
+fn check_plain(rt: &impl Abort, alloc: Global, cases: &[Bounds]) -> Result<(), Fail> {
     let genome = genome(alloc, GENOME)?;
-    for spans in cases {
-        let gaps = plain_gaps(alloc, spans, 50)?;
+    for bounds in cases {
+        let spans = spans_of(alloc, bounds)?;
+        let gaps = plain_gaps(alloc, spans.as_slice(), 50)?;
         let wanted = lines_of(alloc, "chr2", gaps.as_slice())?;
         let complement = Complement::new(&genome, true);
-        check_spans(rt, alloc, complement, "chr2", spans, wanted.as_slice())?;
+        check_spans(
+            rt,
+            alloc,
+            complement,
+            "chr2",
+            spans.as_slice(),
+            wanted.as_slice(),
+        )?;
     }
     Ok(())
 }
 
+const PLAIN_CASES: [Bounds; 6] = [
+    &[(0, 1), (0, 7), (3, 5), (9, 10)],
+    &[(1, 2), (2, 3), (4, 40), (30, 35)],
+    &[(49, 60), (49, 50), (70, 90)],
+    &[(20, 21), (51, 52)],
+    &[(0, 50)],
+    &[(60, 61), (62, 63)],
+];
+
 #[test]
 fn gives_what_the_plain_program_gives(rt: HostRuntime) -> Result<(), Fail> {
-    let cases: [&[PlainSpan]; 6] = [
-        &[span(0, 1), span(0, 7), span(3, 5), span(9, 10)],
-        &[span(1, 2), span(2, 3), span(4, 40), span(30, 35)],
-        &[span(49, 60), span(49, 50), span(70, 90)],
-        &[span(20, 21), span(51, 52)],
-        &[span(0, 50)],
-        &[span(60, 61), span(62, 63)],
-    ];
-    check_plain(&rt, rt.alloc(), &cases)
+    check_plain(&rt, rt.alloc(), &PLAIN_CASES)
 }

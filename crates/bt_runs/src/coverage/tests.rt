@@ -2,8 +2,8 @@ use super::*;
 use crate::plain::PlainSpan;
 use crate::plain_depths::{PlainDepth, plain_depths};
 use crate::testing::{
-    Row, check_failing, check_row, check_spans, expect_end, feed_line, feed_row, genome, holds,
-    same_answer, same_count, span,
+    Bounds, Row, check_failing, check_row, check_spans, expect_end, feed_line, feed_row, genome,
+    holds, same_answer, same_count, spans_of,
 };
 use bt_lines::ScriptSink;
 use std::alloc::{AllocError, Global};
@@ -284,44 +284,30 @@ fn check_plain(
     rt: &impl Abort,
     alloc: Global,
     genome: &Genome,
-    cases: &[&[PlainSpan]],
+    cases: &[Bounds],
 ) -> Result<(), Fail> {
-    for spans in cases {
-        check_as_plain(rt, alloc, genome, spans, 20, false)?;
-        check_as_plain(rt, alloc, genome, spans, 20, true)?;
+    for bounds in cases {
+        let spans = spans_of(alloc, bounds)?;
+        check_as_plain(rt, alloc, genome, spans.as_slice(), 20, false)?;
+        check_as_plain(rt, alloc, genome, spans.as_slice(), 20, true)?;
     }
     Ok(())
 }
 
+const PLAIN_CASES: [Bounds; 7] = [
+    &[(0, 1), (0, 7), (3, 5), (9, 10)],
+    &[(1, 2), (2, 3), (4, 18), (10, 15)],
+    &[(3, 9), (3, 9), (9, 12), (12, 30)],
+    &[(5, 6), (20, 21), (22, 23)],
+    &[(0, 20)],
+    &[(0, 9), (1, 8), (2, 7), (3, 6), (4, 5), (6, 7), (8, 9)],
+    &[(0, 5), (0, 3), (0, 4), (2, 3), (3, 5), (5, 9), (5, 7)],
+];
+
 #[test]
 fn gives_what_the_plain_program_gives(rt: HostRuntime) -> Result<(), Fail> {
-    let cases: [&[PlainSpan]; 7] = [
-        &[span(0, 1), span(0, 7), span(3, 5), span(9, 10)],
-        &[span(1, 2), span(2, 3), span(4, 18), span(10, 15)],
-        &[span(3, 9), span(3, 9), span(9, 12), span(12, 30)],
-        &[span(5, 6), span(20, 21), span(22, 23)],
-        &[span(0, 20)],
-        &[
-            span(0, 9),
-            span(1, 8),
-            span(2, 7),
-            span(3, 6),
-            span(4, 5),
-            span(6, 7),
-            span(8, 9),
-        ],
-        &[
-            span(0, 5),
-            span(0, 3),
-            span(0, 4),
-            span(2, 3),
-            span(3, 5),
-            span(5, 9),
-            span(5, 7),
-        ],
-    ];
     let genome = genome(rt.alloc(), b"chr1\t20\n")?;
-    check_plain(&rt, rt.alloc(), &genome, &cases)
+    check_plain(&rt, rt.alloc(), &genome, &PLAIN_CASES)
 }
 
 // All spans below 4, in order.

@@ -1,7 +1,7 @@
 use super::*;
-use crate::plain::{PlainSpan, plain_runs};
+use crate::plain::plain_runs;
 use crate::testing::{
-    Row, check_failing, check_row, check_spans, expect_end, feed_kept, lines_of, span,
+    Bounds, Row, check_failing, check_row, check_spans, expect_end, feed_kept, lines_of, spans_of,
 };
 use bt_bed::Strand;
 use bt_lines::ScriptSink;
@@ -380,35 +380,31 @@ fn many_records_on_one_run(rt: HostRuntime) -> Result<(), Fail> {
 }
 
 // An engine has to write the runs that the plain program gives.
-fn check_plain(rt: &impl Abort, alloc: Global, cases: &[&[PlainSpan]]) -> Result<(), Fail> {
-    for spans in cases {
+fn check_plain(rt: &impl Abort, alloc: Global, cases: &[Bounds]) -> Result<(), Fail> {
+    for bounds in cases {
+        let spans = spans_of(alloc, bounds)?;
         for gap in 0..5 {
-            let runs = plain_runs(alloc, spans, gap)?;
+            let runs = plain_runs(alloc, spans.as_slice(), gap)?;
             let wanted = lines_of(alloc, "c", runs.as_slice())?;
             let merge = Merge::new(alloc, gap, MergeStrand::All);
-            check_spans(rt, alloc, merge, "c", spans, wanted.as_slice())?;
+            check_spans(rt, alloc, merge, "c", spans.as_slice(), wanted.as_slice())?;
         }
     }
     Ok(())
 }
 
+const PLAIN_CASES: [Bounds; 6] = [
+    &[],
+    &[(0, 1), (0, 7), (3, 5), (9, 10)],
+    &[(1, 2), (2, 3), (4, 40), (30, 35)],
+    &[(3, 4), (5, 6), (8, 9), (12, 13)],
+    &[(0, 20), (1, 2), (21, 22), (24, 25)],
+    &[(7, 8), (7, 9), (10, 11), (13, 14), (13, 15)],
+];
+
 #[test]
 fn gives_what_the_plain_program_gives(rt: HostRuntime) -> Result<(), Fail> {
-    let cases: [&[PlainSpan]; 6] = [
-        &[],
-        &[span(0, 1), span(0, 7), span(3, 5), span(9, 10)],
-        &[span(1, 2), span(2, 3), span(4, 40), span(30, 35)],
-        &[span(3, 4), span(5, 6), span(8, 9), span(12, 13)],
-        &[span(0, 20), span(1, 2), span(21, 22), span(24, 25)],
-        &[
-            span(7, 8),
-            span(7, 9),
-            span(10, 11),
-            span(13, 14),
-            span(13, 15),
-        ],
-    ];
-    check_plain(&rt, rt.alloc(), &cases)
+    check_plain(&rt, rt.alloc(), &PLAIN_CASES)
 }
 
 // Feeds runs of one base behind an open one, and gives their lines.
