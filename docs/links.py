@@ -1,13 +1,14 @@
 #!/usr/bin/env python3
 """Checks that each link of the pages leads to a file, and to a heading of it where it names one, that what is said
 to stand in a file of definitions does and each such file is there, that the pages that name a version name the same
-one, that README.md says how many definitions the report stands on, and that ARCHITECTURE.md lists them.
+one, that the pages that say how each command is called say the same, that README.md says how many definitions the
+report stands on, and that ARCHITECTURE.md lists them.
 
     docs/links.py [--write]
 
 The pages are the Markdown files of this repository. Links to other hosts aren't followed. With --write the list of
 ARCHITECTURE.md and the numbers of README.md are written anew. Ends with 1 where a link leads nowhere, a
-definition stands elsewhere, or a number or the list is another.
+definition stands elsewhere, or a command is called otherwise, or a number or the list is another.
 """
 
 import re
@@ -32,6 +33,10 @@ VERSIONS = {
     "man/bedtools.1": r"Dunekettle (\d+\.\d+\.\d+)",
     "packaging/bioconda/meta.yaml": r"set version = \"(\d+\.\d+\.\d+)\"",
 }
+
+# How a command is called, and the pages that say it of all of them.
+SYNOPSIS = re.compile(r"^    (bedtools \w+ .*\b(?:FILE|FASTA)\b.*)$", re.MULTILINE)
+SYNOPSES = ("docs/COMMANDS.md", "README.md", "docs/ERRORS.md")
 
 # Where README.md says in how many files and lines the report is defined, and the file that names the others.
 DEFINITIONS = re.compile(r"definitions that it names: (\d+) files with some ([\d,]+) lines")
@@ -108,6 +113,15 @@ def versions():
     return found
 
 
+def synopses_differ():
+    """Whether a page says otherwise than COMMANDS.md how the commands are called."""
+    first, *others = ((name, SYNOPSIS.findall((TOP / name).read_text(encoding="utf-8"))) for name in SYNOPSES)
+    differ = [name for name, synopses in others if synopses != first[1] or not synopses]
+    for name in differ:
+        print(f"{name}: calls a command otherwise than {first[0]}")
+    return bool(differ)
+
+
 def named_by(definition):
     """The files of definitions of this repository that one imports from."""
     names = re.findall(r"^use Rattle\.(\w+)\.specs\.(\w+)", definition.read_text(encoding="utf-8"), re.MULTILINE)
@@ -182,8 +196,8 @@ def main():
     if len(set(found.values())) > 1:
         print("versions:", ", ".join(f"{name} {version}" for name, version in found.items()))
     print(f"{len(links)} links, {len(broken)} of them lead nowhere; version {found['README.md']}")
-    differ = definitions_differ("--write" in sys.argv[1:])
-    return 1 if broken or elsewhere or absent or differ or len(set(found.values())) > 1 else 0
+    differ = [definitions_differ("--write" in sys.argv[1:]), synopses_differ()]
+    return 1 if broken or elsewhere or absent or any(differ) or len(set(found.values())) > 1 else 0
 
 
 if __name__ == "__main__":
