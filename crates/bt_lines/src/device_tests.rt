@@ -1,7 +1,8 @@
 ghost use Rattle.std.specs.Prelude.{None, true, ⊤};
 
 use crate::{
-    DeviceFailed, Fault, FromRead, Input, Kind, LineReader, Out, ScriptSink, Sink, Source, ToWrite,
+    BLOCK, DeviceFailed, Fault, FromRead, Input, Kind, LineReader, Out, ScriptSink, Sink, Source,
+    ToWrite,
 };
 use std::io;
 use std::io::{BufWriter, Read, Write};
@@ -186,6 +187,23 @@ fn devices_of_std(rt: HostRuntime) -> Result<(), Fail> {
         b"abc".as_slice()
     );
     Ok(())
+}
+
+#[test]
+fn whole_blocks_are_served(rt: HostRuntime) {
+    let bytes = [b'x'; 3 * BLOCK];
+    let mut sink = ToWrite::new(Vec::new(rt.alloc()));
+    assert_eq!(rt; sink.write(&bytes), Ok(bytes.len()));
+    assert_eq!(rt; sink.flush(), Ok(()));
+    assert!(rt; !sink.failed());
+    assert_eq!(rt; sink.into_inner().as_slice(), bytes.as_slice());
+    let mut source = FromRead::new(bytes.as_slice());
+    let mut block = [0u8; BLOCK];
+    // The end is answered again, and isn't taken for a failure.
+    for count in [BLOCK, BLOCK, BLOCK, 0, 0] {
+        assert_eq!(rt; source.read(&mut block), Ok(count));
+    }
+    assert!(rt; !source.failed());
 }
 
 #[test]
