@@ -23,7 +23,7 @@ use Rattle.bt_tool.specs.Chromosomes.{KnowsChromosomes, LacksChromosomes}
 use Rattle.bt_tool.specs.Driving.{IsOfInput, TellsInput}
 use Rattle.bt_tool.specs.Inputs.{HoldsIf, Reads, ReadsIf}
 use Rattle.bt_tool.specs.Report.{chromosomes_of, of_file}
-use Rattle.bt_tool.specs.Telling.{IsOwnFailure, TellsOwnReads}
+use Rattle.bt_tool.specs.OwnReads.{IsOwnFailure, TellsOwnReads}
 use Rattle.bt_tool.proofs.FaultLemmas.{memory_no_read, memory_no_write, placed_no_write, some_is}
 use Rattle.bt_tool.proofs.OwnFailureLemmas.{same_input}
 use Rattle.bt_tool.proofs.HandedReader.{cut_text, handed_all, handed_part, passes_by}

@@ -29,7 +29,7 @@ use Rattle.bt_tool.specs.Driving.{WritesInput}
 use Rattle.bt_tool.specs.Feeding.{FeedsAll, FeedsUpTo, IsFresh}
 use Rattle.bt_tool.specs.Passed.{IsAhead, IsStopped, KeepsOwnFault, member_items}
 use Rattle.bt_tool.specs.RecordReport.{members_report, members_settle, report_by}
-use Rattle.bt_tool.specs.Telling.{IsOwnFailure, TellsOwnReads}
+use Rattle.bt_tool.specs.OwnReads.{IsOwnFailure, TellsOwnReads}
 use Rattle.bt_tool.specs.Written.{Written}
 use Rattle.bt_tool.proofs.DrivingLemmas.{drives_all, drives_fault}
 use Rattle.bt_tool.proofs.FeedLemmas.{Fed, fails_writing, fed_all, fed_more, fed_none, fed_same, fed_up_to, goes_same}

@@ -27,7 +27,7 @@ use Rattle.bt_tool.specs.Pair.{Making, Pair}
 use Rattle.bt_tool.specs.PairEnds.{Finishes, InputsEnd, Why}
 use Rattle.bt_tool.specs.Passed.{HasFaultBehind, IsKeptBelow, IsOwnFault, KeepsOwnFault}
 use Rattle.bt_tool.specs.SweepReport.{IsSweptKind}
-use Rattle.bt_tool.specs.Telling.{IsOwnFailure, TellsOwnReads}
+use Rattle.bt_tool.specs.OwnReads.{IsOwnFailure, TellsOwnReads}
 use Rattle.bt_tool.specs.declared.plan_type.Command.{Command}
 use Rattle.bt_tool.proofs.CameMembers.{BeginsAt}
 use Rattle.bt_tool.proofs.FaultLemmas.{memory_no_read, some_is, write_no_read}

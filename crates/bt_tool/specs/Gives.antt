@@ -109,7 +109,7 @@ module _ {G A B K : Type 0} (g_left : G → Option (List ℕ)) (g_failed : G →
     -- a genome file none of it, and no unknown chromosome), a failed read only where its source
     -- failed or may have passed the bound, a failed write only where the sink failed, or want of
     -- memory. That a failed read is of this run, whatever its source did before, `run` says beside
-    -- this, by `TellsOwnReads`.
+    -- this, by `TellsOwnReads` of `OwnReads`.
     pub named : (told : Told) → fault ≡ Some told
         → (TellsInputIf g_left g_failed (IsOneOf is_genome_kind) Genome genome genome_after told
         ⊎ TellsOther command genome first first_after second second_after told)

@@ -17,6 +17,7 @@ pub mod Kinds
 pub mod Written
 pub mod RecordReport
 pub mod Telling
+pub mod OwnReads
 pub mod Flushing
 pub mod Feeding
 pub mod Driving

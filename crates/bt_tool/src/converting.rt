@@ -12,7 +12,7 @@ ghost use Rattle.bt_tool.specs.ConvertSteps.{ConvertsAll, ConvertsLine, sam_read
 ghost use Rattle.bt_tool.specs.Driving.{WritesInput};
 ghost use Rattle.bt_tool.specs.Feeding.{IsFresh};
 ghost use Rattle.bt_tool.specs.Passed.{IsOwnFault};
-ghost use Rattle.bt_tool.specs.Telling.{IsOwnFailure, TellsOwnReads};
+ghost use Rattle.bt_tool.specs.OwnReads.{IsOwnFailure, TellsOwnReads};
 
 use bt_bed::at_line;
 use bt_lines::{Fault, Input, Line, LineReader, Out, Place, Sink, Source};

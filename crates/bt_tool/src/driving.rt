@@ -14,7 +14,7 @@ ghost use Rattle.bt_runs.specs.Settling.{SettledBegins, SettledStays};
 ghost use Rattle.bt_tool.specs.Driving.{WritesRecords};
 ghost use Rattle.bt_tool.specs.Feeding.{FeedsRecords, IsFresh};
 ghost use Rattle.bt_tool.specs.Passed.{KeepsOwnFault};
-ghost use Rattle.bt_tool.specs.Telling.{IsOwnFailure, TellsOwnReads};
+ghost use Rattle.bt_tool.specs.OwnReads.{IsOwnFailure, TellsOwnReads};
 
 use bt_bed::{ChromOrder, Records};
 use bt_lines::{Fault, Input, LineReader, Out, Sink, Source};

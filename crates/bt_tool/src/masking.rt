@@ -10,7 +10,7 @@ ghost use Rattle.bt_tool.specs.MaskReport.{MasksBoth};
 ghost use Rattle.bt_tool.specs.MaskLoop.{FinishesMask, Masks, line_members};
 ghost use Rattle.bt_tool.specs.MaskTurns.{AsksLine, TurnsBed, TurnsLine};
 ghost use Rattle.bt_tool.specs.Passed.{IsOwnFault, KeepsOwnFault};
-ghost use Rattle.bt_tool.specs.Telling.{IsOwnFailure, TellsOwnReads};
+ghost use Rattle.bt_tool.specs.OwnReads.{IsOwnFailure, TellsOwnReads};
 
 use bt_bed::Blocks;
 use bt_lines::{Fault, Input, LineReader, Out, Sink, Source};

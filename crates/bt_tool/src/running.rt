@@ -15,7 +15,7 @@ ghost use Rattle.bt_tool.specs.Driving.{WritesRecords};
 ghost use Rattle.bt_tool.specs.Gives.{Runs};
 ghost use Rattle.bt_tool.specs.Limits.{is_within_limits};
 ghost use Rattle.bt_tool.specs.Table.{IsNamedBy, table_of, tool_of};
-ghost use Rattle.bt_tool.specs.Telling.{IsOwnFailure, IsOwnFailureIf, TellsOwnReads};
+ghost use Rattle.bt_tool.specs.OwnReads.{IsOwnFailure, IsOwnFailureIf, TellsOwnReads};
 ghost use Rattle.bt_tool.specs.Written.{complement_written, coverage_written, merge_written};
 
 use crate::converting::convert;

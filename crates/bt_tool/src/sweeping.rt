@@ -13,7 +13,7 @@ ghost use Rattle.bt_sweep.specs.SweepState.{want_in};
 ghost use Rattle.bt_tool.specs.Both.{Intersects};
 ghost use Rattle.bt_tool.specs.Passed.{KeepsOwnFault};
 ghost use Rattle.bt_tool.specs.SweepLoop.{FinishesBoth, ReadsOn, Sweeps, SweepsOrStops};
-ghost use Rattle.bt_tool.specs.Telling.{IsOwnFailure, TellsOwnReads};
+ghost use Rattle.bt_tool.specs.OwnReads.{IsOwnFailure, TellsOwnReads};
 ghost use Rattle.bt_tool.specs.Turns.{TurnsFirst, TurnsSecond};
 
 use bt_bed::{ChromOrder, Records};

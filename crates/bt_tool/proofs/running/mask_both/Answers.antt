@@ -6,7 +6,7 @@ use Rattle.bt_tool.specs.Chromosomes.{WritesBy}
 use Rattle.bt_tool.specs.Kinds.{IsOneOf}
 use Rattle.bt_tool.specs.MaskReport.{is_fasta_kind, is_mask_kind, mask_reaches, mask_report, mask_settles}
 use Rattle.bt_tool.proofs.WritingLemmas.{both_write}
-use Rattle.bt_tool.specs.Telling.{IsOwnFailure, IsOwnFailureIf, TellsOwnReads}
+use Rattle.bt_tool.specs.OwnReads.{IsOwnFailure, IsOwnFailureIf, TellsOwnReads}
 use Rattle.bt_tool.proofs.running.mask_both.Goals as goal
 
 pub returns-clause-written : goal.returns-clause-written

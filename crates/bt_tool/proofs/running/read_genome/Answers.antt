@@ -1,7 +1,7 @@
 use Rattle.std.proofs.Common.{Some, subst, sym}
 use Rattle.bt_lines.specs.Names.{told}
 use Rattle.bt_tool.specs.Chromosomes.{KnowsChromosomes, LacksChromosomes}
-use Rattle.bt_tool.specs.Telling.{IsOwnFailureIf, TellsOwnReads}
+use Rattle.bt_tool.specs.OwnReads.{IsOwnFailureIf, TellsOwnReads}
 use Rattle.bt_tool.proofs.ChromosomeLemmas.{knows_read, lacks_own, lacks_read}
 use Rattle.bt_tool.proofs.running.read_genome.Goals as goal
 

@@ -9,7 +9,7 @@ use Rattle.bt_tool.specs.Chromosomes.{WritesBy}
 use Rattle.bt_tool.specs.SweepReport.{IsSweptKind, intersect_reaches, intersect_report, intersect_settles}
 use Rattle.bt_tool.proofs.ChromosomeLemmas.{order_is}
 use Rattle.bt_tool.proofs.WritingLemmas.{both_write}
-use Rattle.bt_tool.specs.Telling.{IsOwnFailure, IsOwnFailureIf, TellsOwnReads}
+use Rattle.bt_tool.specs.OwnReads.{IsOwnFailure, IsOwnFailureIf, TellsOwnReads}
 use Rattle.bt_tool.proofs.running.sweep_both.Goals as goal
 
 pub sweep-fault-requires-clause-total : goal.sweep-fault-requires-clause-total
