@@ -1,4 +1,6 @@
-use crate::{BLOCK, Input, LineEnd, LineReader, Out, ScriptSink, ScriptSource, Sink};
+use crate::{
+    BLOCK, Fault, Input, LineEnd, LineReader, Out, ScriptSink, ScriptSource, Sink, Source,
+};
 use std::alloc::{AllocError, Global};
 use std::test::Fail;
 
@@ -10,47 +12,87 @@ fn long_line(alloc: Global, length: usize, ending: &[u8]) -> Result<Vec<u8>, All
     Ok(text)
 }
 
-const ENDINGS: [(&[u8], LineEnd); 4] = [
+type Ending = (&'static [u8], LineEnd);
+
+const ENDINGS: [Ending; 4] = [
     (b"\r\n", LineEnd::CrLf),
     (b"\r", LineEnd::Cr),
     (b"\n", LineEnd::Lf),
     (b"", LineEnd::Absent),
 ];
 
-#[test]
-fn one_line_across_the_border_of_a_block(rt: HostRuntime) -> Result<(), Fail> {
-    for length in [8190, 8191, 8192, 8193, 16383, 16384, 20000] {
-        let want = long_line(rt.alloc(), length, b"")?;
-        for (ending, kind) in ENDINGS {
-            let text = long_line(rt.alloc(), length, ending)?;
-            for step in [1, 7, 8192] {
-                let source = ScriptSource::new(text.as_slice(), step, None);
-                let mut reader = LineReader::new(rt.alloc(), source, Input::First);
-                let line = reader.next()?.ok_or("a line")?;
-                assert_eq!(rt; line.text, want.as_slice());
-                assert_eq!(rt; line.ending, kind);
-                assert!(rt; reader.next()?.is_none());
-                assert_eq!(rt; reader.into_source().given(), text.len());
+// Whether a text that comes in pieces of this many bytes gives one line, this one, and is read whole.
+fn is_one_line(alloc: Global, text: &[u8], step: usize, want: &[u8], ending: LineEnd) -> bool {
+    let source = ScriptSource::new(text, step.max(1), None);
+    let mut reader = LineReader::new(alloc, source, Input::First);
+    let is_given = match reader.next() {
+        Ok(Some(line)) => line.text == want && line.ending == ending,
+        _ => false,
+    };
+    let has_ended = matches!(reader.next(), Ok(None));
+    let is_read = reader.into_source().given() == text.len();
+    is_given && has_ended && is_read
+}
+
+// Whether a line of so many bytes is given with each of these endings, in pieces of each size.
+fn is_given_with(alloc: Global, length: usize, endings: &[Ending]) -> Result<bool, AllocError> {
+    let want = long_line(alloc, length, b"")?;
+    for (ending, kind) in endings {
+        let text = long_line(alloc, length, ending)?;
+        for step in [1, 7, 8192] {
+            if !is_one_line(alloc, text.as_slice(), step, want.as_slice(), *kind) {
+                return Ok(false);
             }
         }
     }
+    Ok(true)
+}
+
+// The first length of which a line isn't.
+fn first_not_given(alloc: Global, lengths: &[usize]) -> Result<Option<usize>, AllocError> {
+    for length in lengths {
+        if !is_given_with(alloc, *length, &ENDINGS)? {
+            return Ok(Some(*length));
+        }
+    }
+    Ok(None)
+}
+
+#[test]
+fn one_line_across_the_border_of_a_block(rt: HostRuntime) -> Result<(), Fail> {
+    let lengths = [8190, 8191, 8192, 8193, 16383, 16384, 20000];
+    assert_eq!(rt; first_not_given(rt.alloc(), &lengths)?, None);
     Ok(())
+}
+
+// How many bytes of a text are read in blocks for so many lines, if there are so many.
+fn read_for(alloc: Global, text: &[u8], lines: usize) -> Option<usize> {
+    let mut reader = LineReader::new(alloc, ScriptSource::new(text, BLOCK, None), Input::First);
+    let mut are_given = true;
+    for _ in 0..lines {
+        are_given = are_given && matches!(reader.next(), Ok(Some(_)));
+    }
+    let given = reader.into_source().given();
+    if are_given { Some(given) } else { None }
+}
+
+// Ten thousand lines of one letter.
+fn short_lines(alloc: Global) -> Result<Vec<u8>, AllocError> {
+    let mut text = Vec::new(alloc);
+    for _ in 0..10_000 {
+        text.extend_from_slice(b"x\n")?;
+    }
+    Ok(text)
 }
 
 #[test]
 fn nothing_is_read_while_a_whole_line_is_held(rt: HostRuntime) -> Result<(), Fail> {
-    let mut text = Vec::new(rt.alloc());
-    for _ in 0..10_000 {
-        text.extend_from_slice(b"x\n")?;
-    }
-    for lines in [1, 2, 4096] {
-        let source = ScriptSource::new(text.as_slice(), BLOCK, None);
-        let mut reader = LineReader::new(rt.alloc(), source, Input::First);
-        for _ in 0..lines {
-            assert!(rt; reader.next()?.is_some());
-        }
-        assert_eq!(rt; reader.into_source().given(), 8192, "after {lines} lines");
-    }
+    let text = short_lines(rt.alloc())?;
+    let after_one = read_for(rt.alloc(), text.as_slice(), 1);
+    let after_two = read_for(rt.alloc(), text.as_slice(), 2);
+    let after_many = read_for(rt.alloc(), text.as_slice(), 4096);
+    assert_eq!(rt; (after_one, after_two), (Some(8192), Some(8192)));
+    assert_eq!(rt; after_many, Some(8192));
     Ok(())
 }
 
@@ -124,29 +166,56 @@ fn split_first(text: &[u8]) -> (&[u8], LineEnd, &[u8]) {
     }
 }
 
-#[test]
-fn drawn_texts_by_a_plain_split(rt: HostRuntime) -> Result<(), Fail> {
-    let mut draws = Draws { state: 2026 };
-    for _ in 0..12 {
-        let text = drawn_text(rt.alloc(), &mut draws)?;
-        for step in [1, 7, 8191, 8192, 8193] {
-            let source = ScriptSource::new(text.as_slice(), step, None);
-            let mut reader = LineReader::new(rt.alloc(), source, Input::First);
-            let mut rest = text.as_slice();
-            for _ in 0..text.len() {
-                if rest.is_empty() {
-                    break;
-                }
-                let (want, ending, behind) = split_first(rest);
-                let line = reader.next()?.ok_or("a line")?;
-                assert_eq!(rt; line.text, want);
-                assert_eq!(rt; line.ending, ending);
-                rest = behind;
-            }
-            assert!(rt; rest.is_empty());
-            assert!(rt; reader.next()?.is_none());
+// Whether the lines that are given are those of the text by a plain search, and no more.
+fn gives_split<S: Source>(reader: &mut LineReader<S>, text: &[u8]) -> bool {
+    let mut rest = text;
+    for _ in 0..text.len() {
+        if rest.is_empty() {
+            break;
+        }
+        let (want, ending, behind) = split_first(rest);
+        let is_given = match reader.next() {
+            Ok(Some(line)) => line.text == want && line.ending == ending,
+            _ => false,
+        };
+        if !is_given {
+            return false;
+        }
+        rest = behind;
+    }
+    rest.is_empty() && matches!(reader.next(), Ok(None))
+}
+
+// The first of these sizes of pieces in which a text comes that gives other lines.
+fn first_missplit(alloc: Global, text: &[u8], steps: &[usize]) -> Option<usize> {
+    for step in steps {
+        let source = ScriptSource::new(text, (*step).max(1), None);
+        let mut reader = LineReader::new(alloc, source, Input::First);
+        let is_split = gives_split(&mut reader, text);
+        let _ = reader.into_source();
+        if !is_split {
+            return Some(*step);
         }
     }
+    None
+}
+
+// The same over so many drawn texts.
+fn first_missplit_of(alloc: Global, count: usize) -> Result<Option<usize>, AllocError> {
+    let mut draws = Draws { state: 2026 };
+    for _ in 0..count {
+        let text = drawn_text(alloc, &mut draws)?;
+        let found = first_missplit(alloc, text.as_slice(), &[1, 7, 8191, 8192, 8193]);
+        if found.is_some() {
+            return Ok(found);
+        }
+    }
+    Ok(None)
+}
+
+#[test]
+fn drawn_texts_by_a_plain_split(rt: HostRuntime) -> Result<(), Fail> {
+    assert_eq!(rt; first_missplit_of(rt.alloc(), 12)?, None);
     Ok(())
 }
 
@@ -159,65 +228,103 @@ fn taken_of(alloc: Global, lengths: &[usize]) -> Result<usize, Fail> {
     Ok(output.into_sink().taken().len())
 }
 
+// The lengths of pieces, and how many bytes of them the sink takes.
+type Held = (&'static [usize], usize);
+
+const HELD_BACK: [Held; 6] = [
+    (&[10], 0),
+    (&[8192], 0),
+    (&[8191, 1], 0),
+    (&[8192, 1], 8192),
+    (&[10, 8190], 8192),
+    (&[1, 20000], 16384),
+];
+
+// The first lengths of a table of which another number is taken.
+fn first_mistaken(alloc: Global, rows: &[Held]) -> Result<Option<&'static [usize]>, Fail> {
+    for row in rows {
+        if taken_of(alloc, row.0)? != row.1 {
+            return Ok(Some(row.0));
+        }
+    }
+    Ok(None)
+}
+
 #[test]
 fn a_block_is_held_back(rt: HostRuntime) -> Result<(), Fail> {
-    let cases: [(&[usize], usize); 6] = [
-        (&[10], 0),
-        (&[8192], 0),
-        (&[8191, 1], 0),
-        (&[8192, 1], 8192),
-        (&[10, 8190], 8192),
-        (&[1, 20000], 16384),
-    ];
-    for (lengths, want) in cases {
-        assert_eq!(rt; taken_of(rt.alloc(), lengths)?, want);
+    assert_eq!(rt; first_mistaken(rt.alloc(), &HELD_BACK)?, None);
+    Ok(())
+}
+
+// Puts a text in pieces of drawn lengths.
+fn put_drawn(draws: &mut Draws, text: &[u8], output: &mut Out<ScriptSink>) -> Result<(), Fault> {
+    let mut rest = text;
+    for _ in 0..text.len() {
+        let (piece, behind) = rest.split_at(draws.length().max(1).min(rest.len()));
+        output.put(piece)?;
+        rest = behind;
     }
     Ok(())
+}
+
+// Whether a sink that takes so many bytes at once has six texts, put so, in their order.
+fn are_put_in_order(alloc: Global, draws: &mut Draws, step: usize) -> Result<bool, Fail> {
+    let mut output = Out::new(ScriptSink::new(alloc, step.max(1), None));
+    let mut whole = Vec::new(alloc);
+    for _ in 0..6 {
+        let text = drawn_text(alloc, draws)?;
+        put_drawn(draws, text.as_slice(), &mut output)?;
+        whole.extend_from_slice(text.as_slice())?;
+    }
+    output.flush()?;
+    Ok(output.into_sink().taken() == whole.as_slice())
 }
 
 #[test]
 fn pieces_reach_the_sink_in_order(rt: HostRuntime) -> Result<(), Fail> {
     let mut draws = Draws { state: 10 };
     for step in [7, 8191, 8192, 8193] {
-        let mut output = Out::new(ScriptSink::new(rt.alloc(), step, None));
-        let mut whole = Vec::new(rt.alloc());
-        for _ in 0..6 {
-            let text = drawn_text(rt.alloc(), &mut draws)?;
-            let mut rest = text.as_slice();
-            for _ in 0..text.len() {
-                let (piece, behind) = rest.split_at(draws.length().max(1).min(rest.len()));
-                output.put(piece)?;
-                rest = behind;
-            }
-            whole.extend_from_slice(text.as_slice())?;
-        }
-        output.flush()?;
-        assert_eq!(rt; output.into_sink().taken(), whole.as_slice());
+        assert!(rt;
+            are_put_in_order(rt.alloc(), &mut draws, step)?,
+            "at {step}"
+        );
     }
     Ok(())
+}
+
+// Whether a sink that takes so many bytes of a text that is put in four pieces has the first ones, and the
+// failure is told from then on.
+fn takes_front(alloc: Global, text: &[u8], good: usize) -> bool {
+    let mut output = Out::new(ScriptSink::new(alloc, 700, Some(good)));
+    for (from, to) in [
+        (0, 5000),
+        (5000, 10_000),
+        (10_000, 24_000),
+        (24_000, 25_000),
+    ] {
+        let _ = output.put(text.get(from..to).unwrap_or(b""));
+    }
+    let is_told = output.flush().is_err() && output.put(b"more").is_err();
+    let sink = output.into_sink();
+    is_told && Some(sink.taken()) == text.get(..good)
+}
+
+// The first number of good bytes with which it goes otherwise.
+fn first_not_taken(alloc: Global, text: &[u8], counts: &[usize]) -> Option<usize> {
+    for good in counts {
+        if !takes_front(alloc, text, *good) {
+            return Some(*good);
+        }
+    }
+    None
 }
 
 #[test]
 fn a_sink_that_fails_round_a_block(rt: HostRuntime) -> Result<(), Fail> {
     let text = drawn_text(rt.alloc(), &mut Draws { state: 5 })?;
-    let text = text.as_slice();
-    assert!(rt; text.len() > 25_000);
-    let pieces = [
-        (0, 5000),
-        (5000, 10_000),
-        (10_000, 24_000),
-        (24_000, 25_000),
-    ];
-    for good in [0, 1, 5000, 8191, 8192, 8193, 10_000, 15_000, 24_999] {
-        let mut output = Out::new(ScriptSink::new(rt.alloc(), 700, Some(good)));
-        for (from, to) in pieces {
-            let _ = output.put(&text[from..to]);
-        }
-        assert!(rt; output.flush().is_err());
-        assert!(rt; output.put(b"more").is_err());
-        let sink = output.into_sink();
-        assert_eq!(rt; Some(sink.taken()), text.get(..good));
-    }
+    let counts = [0, 1, 5000, 8191, 8192, 8193, 10_000, 15_000, 24_999];
+    let found = first_not_taken(rt.alloc(), text.as_slice(), &counts);
+    assert_eq!(rt; (text.len() > 25_000, found), (true, None));
     Ok(())
 }
 
@@ -225,29 +332,51 @@ fn a_sink_that_fails_round_a_block(rt: HostRuntime) -> Result<(), Fail> {
 fn a_block_that_failed_is_not_sent_again(rt: HostRuntime) -> Result<(), Fail> {
     let mut output = Out::new(ScriptSink::new(rt.alloc(), 100, Some(250)));
     output.put(long_line(rt.alloc(), 8000, b"")?.as_slice())?;
-    for _ in 0..3 {
-        assert!(rt; output.flush().is_err());
-    }
+    let is_told = output.flush().is_err() && output.flush().is_err() && output.flush().is_err();
     let sink = output.into_sink();
-    assert_eq!(rt; sink.taken().len(), 250);
-    assert!(rt; sink.failed());
+    assert!(rt; is_told && sink.taken().len() == 250 && sink.failed());
     Ok(())
 }
+
+// Whether a line and its line feed are held back behind so many bytes, and how many the sink has then.
+fn held_behind(alloc: Global, before: usize) -> Result<(bool, usize), Fail> {
+    let mut output = Out::new(ScriptSink::new(alloc, BLOCK, None));
+    output.put(long_line(alloc, before, b"")?.as_slice())?;
+    let is_held = output.hold_both(b"line", b"\n");
+    output.flush()?;
+    Ok((is_held, output.into_sink().taken().len()))
+}
+
+// The first number of bytes before it where it is held or not, and put, otherwise.
+fn first_misheld(alloc: Global, rows: &[(usize, bool, usize)]) -> Result<Option<usize>, Fail> {
+    for (before, is_held, whole) in rows {
+        if held_behind(alloc, *before)? != (*is_held, *whole) {
+            return Ok(Some(*before));
+        }
+    }
+    Ok(None)
+}
+
+const BOTH: [(usize, bool, usize); 4] = [
+    (0, true, 5),
+    (8187, true, 8192),
+    (8188, false, 8188),
+    (8192, false, 8192),
+];
 
 // A piece and its line feed are held back where both fit into the block, also to its last byte.
 #[test]
 fn both_are_held_where_both_fit(rt: HostRuntime) -> Result<(), Fail> {
-    for (before, is_held) in [(0, true), (8187, true), (8188, false), (8192, false)] {
-        let mut output = Out::new(ScriptSink::new(rt.alloc(), BLOCK, None));
-        output.put(long_line(rt.alloc(), before, b"")?.as_slice())?;
-        assert_eq!(rt; output.hold_both(b"line", b"\n"), is_held);
-        output.flush()?;
-        let want = if is_held { before + 5 } else { before };
-        assert_eq!(rt; output.into_sink().taken().len(), want);
-    }
+    assert_eq!(rt; first_misheld(rt.alloc(), &BOTH)?, None);
+    Ok(())
+}
+
+#[test]
+fn nothing_is_held_behind_a_failure(rt: HostRuntime) -> Result<(), Fail> {
     let mut failed = Out::new(ScriptSink::new(rt.alloc(), BLOCK, Some(0)));
     failed.put(b"line")?;
-    assert!(rt; failed.flush().is_err());
-    assert!(rt; !failed.hold_both(b"line", b"\n"));
+    let is_told = failed.flush().is_err();
+    let is_held = failed.hold_both(b"line", b"\n");
+    assert!(rt; is_told && !is_held);
     Ok(())
 }

@@ -34,17 +34,23 @@ fn late_feed(text: &[u8]) -> Option<usize>
 mod tests {
     use super::*;
 
-    // From the last byte to the first each becomes a line feed, so that the first is at each place once, with
-    // others behind it, or at the end of what is looked through.
+    // Whether the first line feed is found at a place, where it stands with others behind it, not before it,
+    // and at the end of what is looked through.
+    fn is_found(text: &[u8], at: usize) -> bool {
+        let (before, behind) = (text.get(..at), text.get(..at.saturating_add(1)));
+        first_feed(text) == Some(at)
+            && before.is_some_and(|before| first_feed(before).is_none())
+            && behind.is_some_and(|behind| first_feed(behind) == Some(at))
+    }
+
+    // From the last byte to the first each becomes a line feed, so that the first is at each place once.
     #[test]
     fn the_first_is_found_at_each_place(rt: HostRuntime) {
         let mut text = [b'\r'; 130];
         for behind in 0..130 {
             let at = 129 - behind;
             text[at] = b'\n';
-            assert_eq!(rt; first_feed(&text), Some(at));
-            assert_eq!(rt; first_feed(&text[..at]), None);
-            assert_eq!(rt; first_feed(&text[..at + 1]), Some(at));
+            assert!(rt; is_found(&text, at), "at {at}");
         }
     }
 }

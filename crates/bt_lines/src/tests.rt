@@ -1,42 +1,76 @@
 use crate::{
-    Fault, Input, Kind, LineEnd, LineReader, Names, Out, Place, ScriptSink, ScriptSource, Sink,
-    Source, columns, eight_digits, fault_line, few_digits, first_tab, number,
+    Fault, Input, Kind, Line, LineEnd, LineReader, Names, Out, Place, ScriptSink, ScriptSource,
+    Sink, Source, columns, eight_digits, fault_line, few_digits, first_tab, number,
 };
-use std::alloc::AllocError;
-use std::test::Fail;
+use std::alloc::{AllocError, Global};
+
+const NUMBERS: [(&[u8], Option<u64>); 8] = [
+    (b"007", Some(7)),
+    (b"0", Some(0)),
+    (b"999999999999", Some(999_999_999_999)),
+    (b"0000000000000000000000012", Some(12)),
+    (b"1000000000000", None),
+    (b"", None),
+    (b"+1", None),
+    (b"1 ", None),
+];
+
+// The first text of a table that is another number.
+fn first_misread(rows: &[(&'static [u8], Option<u64>)]) -> Option<&'static [u8]> {
+    for row in rows {
+        if number(row.0) != row.1 {
+            return Some(row.0);
+        }
+    }
+    None
+}
 
 #[test]
 fn numbers(rt: HostRuntime) {
-    let cases: [(&[u8], Option<u64>); 8] = [
-        (b"007", Some(7)),
-        (b"0", Some(0)),
-        (b"999999999999", Some(999_999_999_999)),
-        (b"0000000000000000000000012", Some(12)),
-        (b"1000000000000", None),
-        (b"", None),
-        (b"+1", None),
-        (b"1 ", None),
-    ];
-    for (text, want) in cases {
-        assert_eq!(rt; number(text), want);
+    assert_eq!(rt; first_misread(&NUMBERS), None);
+}
+
+const EIGHT_DIGITS: [(&[u8; 8], Option<u64>); 8] = [
+    (b"12345678", Some(12_345_678)),
+    (b"00000000", Some(0)),
+    (b"99999999", Some(99_999_999)),
+    (b"00000010", Some(10)),
+    (b"1234567:", None),
+    (b"/2345678", None),
+    (b"1234\t678", None),
+    (b"p2345678", None),
+];
+
+// The same for eight digits.
+fn first_misread_at_once(rows: &[(&'static [u8; 8], Option<u64>)]) -> Option<&'static [u8; 8]> {
+    for row in rows {
+        if eight_digits(row.0) != row.1 {
+            return Some(row.0);
+        }
     }
+    None
 }
 
 #[test]
 fn eight_digits_at_once(rt: HostRuntime) {
-    let cases: [(&[u8; 8], Option<u64>); 8] = [
-        (b"12345678", Some(12_345_678)),
-        (b"00000000", Some(0)),
-        (b"99999999", Some(99_999_999)),
-        (b"00000010", Some(10)),
-        (b"1234567:", None),
-        (b"/2345678", None),
-        (b"1234\t678", None),
-        (b"p2345678", None),
-    ];
-    for (text, want) in cases {
-        assert_eq!(rt; eight_digits(text), want);
+    assert_eq!(rt; first_misread_at_once(&EIGHT_DIGITS), None);
+}
+
+const TABS: [(&[u8], Option<usize>); 4] = [
+    (b"", None),
+    (b"chr1", None),
+    (b"\tchr1\t", Some(0)),
+    (b"chr1\t5\t9", Some(4)),
+];
+
+// The first text of a table with its first tab elsewhere.
+fn first_misfound(rows: &[(&'static [u8], Option<usize>)]) -> Option<&'static [u8]> {
+    for row in rows {
+        if first_tab(row.0) != row.1 {
+            return Some(row.0);
+        }
     }
+    None
 }
 
 // Each byte that is no digit ends them, at each place, whatever stands behind it.
@@ -60,38 +94,49 @@ fn few_digits_at_once(rt: HostRuntime) {
 
 #[test]
 fn first_tabs(rt: HostRuntime) {
-    let cases: [(&[u8], Option<usize>); 4] = [
-        (b"", None),
-        (b"chr1", None),
-        (b"\tchr1\t", Some(0)),
-        (b"chr1\t5\t9", Some(4)),
-    ];
-    for (text, want) in cases {
-        assert_eq!(rt; first_tab(text), want);
+    assert_eq!(rt; first_misfound(&TABS), None);
+}
+
+// A text and its columns.
+type Columns = (&'static [u8], &'static [&'static [u8]]);
+
+const COLUMNS: [Columns; 4] = [
+    (b"", &[b""]),
+    (b"a", &[b"a"]),
+    (b"a\t\tb\t", &[b"a", b"", b"b", b""]),
+    (b"chr1\t5\t9", &[b"chr1", b"5", b"9"]),
+];
+
+// Whether a text has these columns, and then no more, however often it is asked for one.
+fn has_columns(text: &[u8], want: &[&[u8]]) -> bool {
+    let mut rest = columns(text);
+    for column in want {
+        if rest.next() != Some(*column) {
+            return false;
+        }
     }
+    rest.next().is_none() && rest.next().is_none()
+}
+
+// The first text of a table that has other columns.
+fn first_misdivided(rows: &[Columns]) -> Option<&'static [u8]> {
+    for row in rows {
+        if !has_columns(row.0, row.1) {
+            return Some(row.0);
+        }
+    }
+    None
 }
 
 #[test]
-fn columns_of_texts(rt: HostRuntime) -> Result<(), Fail> {
-    let cases: [(&[u8], &[&[u8]]); 4] = [
-        (b"", &[b""]),
-        (b"a", &[b"a"]),
-        (b"a\t\tb\t", &[b"a", b"", b"b", b""]),
-        (b"chr1\t5\t9", &[b"chr1", b"5", b"9"]),
-    ];
-    for (text, want) in cases {
-        let mut rest = columns(text);
-        for column in want {
-            assert_eq!(rt; rest.next(), Some(*column));
-        }
-        assert_eq!(rt; rest.next(), None);
-        assert_eq!(rt; rest.next(), None);
-    }
-    Ok(())
+fn columns_of_texts(rt: HostRuntime) {
+    assert_eq!(rt; first_misdivided(&COLUMNS), None);
 }
 
-// The lines of a text, whose ends are given apart from their texts.
-const TEXTS: [(&[u8], &[(&[u8], LineEnd)]); 9] = [
+// A text and its lines, whose ends are given apart from their texts.
+type Divided = (&'static [u8], &'static [(&'static [u8], LineEnd)]);
+
+const TEXTS: [Divided; 9] = [
     (b"", &[]),
     (b"\n", &[(b"", LineEnd::Lf)]),
     (b"\r\n", &[(b"", LineEnd::CrLf)]),
@@ -110,73 +155,148 @@ const TEXTS: [(&[u8], &[(&[u8], LineEnd)]); 9] = [
     ),
 ];
 
-#[test]
-fn lines_of_texts(rt: HostRuntime) -> Result<(), Fail> {
-    for step in [1, 7, 8192] {
-        for (text, want) in TEXTS {
-            let source = ScriptSource::new(text, step, None);
-            let mut reader = LineReader::new(rt.alloc(), source, Input::First);
-            let mut count = 0u64;
-            for (line, ending) in want {
-                count = count.wrapping_add(1);
-                let next = reader.next()?.ok_or("a line")?;
-                assert_eq!(rt; next.number, count);
-                assert_eq!(rt; next.text, *line);
-                assert_eq!(rt; next.ending, *ending);
-            }
-            assert!(rt; reader.next()?.is_none());
-            assert!(rt; reader.next()?.is_none());
-            assert_eq!(rt; reader.input(), Input::First);
-            assert_eq!(rt; reader.into_source().given(), text.len());
+fn is_it(line: &Line<'_>, number: u64, text: &[u8], ending: LineEnd) -> bool {
+    line.number == number && line.text == text && line.ending == ending
+}
+
+// Whether the next line is this one.
+fn gives<S: Source>(reader: &mut LineReader<S>, number: u64, text: &[u8], ending: LineEnd) -> bool {
+    match reader.next() {
+        Ok(Some(line)) => is_it(&line, number, text, ending),
+        _ => false,
+    }
+}
+
+fn has_ended<S: Source>(reader: &mut LineReader<S>) -> bool {
+    match reader.next() {
+        Ok(None) => true,
+        _ => false,
+    }
+}
+
+// Whether these lines are given, counted from 1.
+fn gives_all<S: Source>(reader: &mut LineReader<S>, want: &[(&[u8], LineEnd)]) -> bool {
+    let mut count = 0u64;
+    for (text, ending) in want {
+        count = count.wrapping_add(1);
+        if !gives(reader, count, text, *ending) {
+            return false;
         }
     }
-    Ok(())
+    true
+}
+
+// Whether a text that comes in pieces of this many bytes gives its lines, then no more, and is read whole.
+fn is_divided(alloc: Global, row: &Divided, step: usize) -> bool {
+    let source = ScriptSource::new(row.0, step.max(1), None);
+    let mut reader = LineReader::new(alloc, source, Input::First);
+    let are_given = gives_all(&mut reader, row.1);
+    let has_ended = has_ended(&mut reader) && has_ended(&mut reader);
+    let is_first = reader.input() == Input::First;
+    let is_read = reader.into_source().given() == row.0.len();
+    are_given && has_ended && is_first && is_read
+}
+
+// The first text that isn't, in pieces of one byte, of seven or of a block.
+fn first_misdivided_text(alloc: Global, rows: &[Divided]) -> Option<&'static [u8]> {
+    for row in rows {
+        let in_bytes = is_divided(alloc, row, 1);
+        let in_pieces = is_divided(alloc, row, 7);
+        if !in_bytes || !in_pieces || !is_divided(alloc, row, 8192) {
+            return Some(row.0);
+        }
+    }
+    None
 }
 
 #[test]
-fn the_line_given_is_lent_once_more(rt: HostRuntime) -> Result<(), Fail> {
+fn lines_of_texts(rt: HostRuntime) {
+    assert_eq!(rt; first_misdivided_text(rt.alloc(), &TEXTS), None);
+}
+
+// Whether the next line is this one, and lent once more.
+fn lends_again<S: Source>(
+    reader: &mut LineReader<S>,
+    number: u64,
+    text: &[u8],
+    ending: LineEnd,
+) -> bool {
+    if !gives(reader, number, text, ending) {
+        return false;
+    }
+    match reader.line() {
+        Some(line) => is_it(&line, number, text, ending),
+        None => false,
+    }
+}
+
+#[test]
+fn the_line_given_is_lent_once_more(rt: HostRuntime) {
     let source = ScriptSource::new(b"a\r\nb", 1, None);
     let mut reader = LineReader::new(rt.alloc(), source, Input::First);
-    assert!(rt; reader.line().is_none());
-    let want: [(u64, &[u8], LineEnd); 2] = [(1, b"a", LineEnd::CrLf), (2, b"b", LineEnd::Absent)];
-    for (number, text, ending) in want {
-        assert!(rt; reader.next()?.is_some());
-        let line = reader.line().ok_or("a line")?;
-        assert_eq!(rt; line.number, number);
-        assert_eq!(rt; line.text, text);
-        assert_eq!(rt; line.ending, ending);
-    }
-    assert!(rt; reader.next()?.is_none());
-    assert!(rt; reader.line().is_none());
+    let none_before = reader.line().is_none();
+    let are_lent = lends_again(&mut reader, 1, b"a", LineEnd::CrLf)
+        && lends_again(&mut reader, 2, b"b", LineEnd::Absent);
+    let has_ended = has_ended(&mut reader);
+    let none_behind = reader.line().is_none();
     let _ = reader.into_source();
-    Ok(())
+    assert!(rt; none_before && are_lent && has_ended && none_behind);
+}
+
+// Whether so many lines are given.
+fn gives_some<S: Source>(reader: &mut LineReader<S>, count: u64) -> bool {
+    for _ in 0..count {
+        match reader.next() {
+            Ok(Some(_)) => {}
+            _ => return false,
+        }
+    }
+    true
+}
+
+fn tells<S: Source>(reader: &mut LineReader<S>, want: Fault) -> bool {
+    match reader.next() {
+        Err(fault) => fault == want,
+        Ok(_) => false,
+    }
+}
+
+// Whether of a text with so many good bytes so many lines are given, and then the failed read is told,
+// also when it is asked for again.
+fn fails_behind(alloc: Global, text: &[u8], good: usize, lines: u64) -> bool {
+    let mut reader = LineReader::new(alloc, ScriptSource::new(text, 7, Some(good)), Input::Second);
+    let are_given = gives_some(&mut reader, lines);
+    let line = lines.wrapping_add(1);
+    let place = Some(Place {
+        input: Input::Second,
+        line,
+    });
+    let fault = Fault {
+        kind: Kind::ReadFailed,
+        place,
+    };
+    let is_told = tells(&mut reader, fault) && tells(&mut reader, fault);
+    let source = reader.into_source();
+    are_given && is_told && source.given() == good && source.failed()
+}
+
+// How many whole lines there are in so many bytes of the text.
+const WHOLE_LINES: [u64; 8] = [0, 0, 0, 1, 1, 2, 2, 2];
+
+// The first number of good bytes, below as many as there are rows, at which it goes otherwise.
+fn first_not_failing(alloc: Global, text: &[u8], rows: &[u64]) -> Option<usize> {
+    for (good, lines) in rows.iter().enumerate() {
+        if !fails_behind(alloc, text, good, *lines) {
+            return Some(good);
+        }
+    }
+    None
 }
 
 #[test]
-fn a_source_that_fails_at_each_byte(rt: HostRuntime) -> Result<(), Fail> {
-    let text = b"ab\n\r\ncd";
-    // How many whole lines there are in so many bytes.
-    let whole = [0u64, 0, 0, 1, 1, 2, 2, 2];
-    for (good, lines) in whole.iter().enumerate() {
-        let source = ScriptSource::new(text, 7, Some(good));
-        let mut reader = LineReader::new(rt.alloc(), source, Input::Second);
-        for _ in 0..*lines {
-            assert!(rt; reader.next()?.is_some());
-        }
-        let fault = Fault {
-            kind: Kind::ReadFailed,
-            place: Some(Place {
-                input: Input::Second,
-                line: lines.wrapping_add(1),
-            }),
-        };
-        assert_eq!(rt; reader.next().err(), Some(fault));
-        assert_eq!(rt; reader.next().err(), Some(fault), "the same fault again");
-        let source = reader.into_source();
-        assert_eq!(rt; source.given(), good);
-        assert!(rt; source.failed());
-    }
-    Ok(())
+fn a_source_that_fails_at_each_byte(rt: HostRuntime) {
+    let found = first_not_failing(rt.alloc(), b"ab\n\r\ncd", &WHOLE_LINES);
+    assert_eq!(rt; found, None);
 }
 
 // Puts the pieces, and gives back the sink with the first fault.
@@ -192,31 +312,45 @@ fn put_all(sink: ScriptSink, pieces: &[&[u8]]) -> (ScriptSink, Option<Fault>) {
     (output.into_sink(), fault)
 }
 
-#[test]
-fn a_sink_that_fails_at_each_byte(rt: HostRuntime) {
-    let pieces: [&[u8]; 4] = [b"chr1", b"", b"\t10\t", b"20\n"];
-    let whole = b"chr1\t10\t20\n";
-    let fault = Fault {
-        kind: Kind::WriteFailed,
-        place: None,
-    };
-    for step in [1, 7, 8192] {
-        for good in 0..whole.len() {
-            let sink = ScriptSink::new(rt.alloc(), step, Some(good));
-            let (sink, told) = put_all(sink, &pieces);
-            assert_eq!(rt; told, Some(fault));
-            assert_eq!(rt; sink.taken(), &whole[..good]);
-            assert!(rt; sink.failed());
-        }
-        let sink = ScriptSink::new(rt.alloc(), step, Some(whole.len()));
-        let (sink, told) = put_all(sink, &pieces);
-        assert_eq!(rt; told, None);
-        assert_eq!(rt; sink.taken(), whole.as_slice());
-    }
+const PIECES: [&[u8]; 4] = [b"chr1", b"", b"\t10\t", b"20\n"];
+
+const WHOLE: &[u8] = b"chr1\t10\t20\n";
+
+const WRITE_FAILED: Fault = Fault {
+    kind: Kind::WriteFailed,
+    place: None,
+};
+
+// Whether a sink that takes so many bytes, in pieces of this many, has the front of the whole, and a
+// failure is told where that isn't all.
+fn takes_front(alloc: Global, step: usize, good: usize) -> bool {
+    let (sink, told) = put_all(ScriptSink::new(alloc, step.max(1), Some(good)), &PIECES);
+    let is_cut = good < WHOLE.len();
+    let want = if is_cut { Some(WRITE_FAILED) } else { None };
+    told == want && sink.failed() == is_cut && Some(sink.taken()) == WHOLE.get(..good)
 }
 
-// The kinds of faults with their places, and the lines that report them.
-const FAULT_LINES: [(Kind, Option<(Input, u64)>, &[u8]); 13] = [
+// The first number of good bytes with which it goes otherwise.
+fn first_not_taken(alloc: Global, step: usize) -> Option<usize> {
+    for good in 0..=WHOLE.len() {
+        if !takes_front(alloc, step, good) {
+            return Some(good);
+        }
+    }
+    None
+}
+
+#[test]
+fn a_sink_that_fails_at_each_byte(rt: HostRuntime) {
+    assert_eq!(rt; first_not_taken(rt.alloc(), 1), None);
+    assert_eq!(rt; first_not_taken(rt.alloc(), 7), None);
+    assert_eq!(rt; first_not_taken(rt.alloc(), 8192), None);
+}
+
+// The kind of a fault with its place, and the line that reports it.
+type Reported = (Kind, Option<(Input, u64)>, &'static [u8]);
+
+const FAULT_LINES: [Reported; 13] = [
     (
         Kind::OutOfOrder,
         Some((Input::First, 3)),
@@ -276,29 +410,48 @@ const FAULT_LINES: [(Kind, Option<(Input, u64)>, &[u8]); 13] = [
     (Kind::NoMemory, None, b"bedtools merge: no memory\n"),
 ];
 
-#[test]
-fn fault_lines(rt: HostRuntime) -> Result<(), AllocError> {
-    let names = Names {
-        genome: b"g.txt",
-        first: b"a.bed",
-        second: b"b.bed",
-    };
-    for (kind, place, want) in FAULT_LINES {
-        let place = place.map(|(input, line)| Place { input, line });
-        let Some(fault) = fault_of(kind, place) else {
-            assert!(rt; false, "a fault has a place by its kind");
-            return Ok(());
-        };
-        let line = fault_line(rt.alloc(), b"merge", &names, &fault)?;
-        assert_eq!(rt; line.as_slice(), want);
-    }
-    Ok(())
-}
-
 // The fault, where its kind goes with its place.
 fn fault_of(kind: Kind, place: Option<Place>) -> Option<Fault> {
     if place.is_some() != kind.has_place() {
         return None;
     }
     Some(Fault { kind, place })
+}
+
+// The line that reports a fault, or none where its kind doesn't go with its place.
+fn reported(
+    alloc: Global,
+    kind: Kind,
+    place: Option<(Input, u64)>,
+) -> Result<Option<Vec<u8>>, AllocError> {
+    let names = Names {
+        genome: b"g.txt",
+        first: b"a.bed",
+        second: b"b.bed",
+    };
+    let place = place.map(|(input, line)| Place { input, line });
+    match fault_of(kind, place) {
+        Some(fault) => Ok(Some(fault_line(alloc, b"merge", &names, &fault)?)),
+        None => Ok(None),
+    }
+}
+
+// The first kind of a table that is reported otherwise.
+fn first_misreported(alloc: Global, rows: &[Reported]) -> Result<Option<Kind>, AllocError> {
+    for (kind, place, want) in rows {
+        let is_reported = match reported(alloc, *kind, *place)? {
+            Some(line) => line.as_slice() == *want,
+            None => false,
+        };
+        if !is_reported {
+            return Ok(Some(*kind));
+        }
+    }
+    Ok(None)
+}
+
+#[test]
+fn fault_lines(rt: HostRuntime) -> Result<(), AllocError> {
+    assert_eq!(rt; first_misreported(rt.alloc(), &FAULT_LINES)?, None);
+    Ok(())
 }
