@@ -8,7 +8,7 @@ use Rattle.bt_lines.specs.Lines.{pieces}
 use Rattle.bt_lines.specs.Number.{value_of}
 use Rattle.bt_bed.specs.declared.leading.Leading.{Leading}
 
--- the first column ends here: it isn't empty, and a tab comes behind it
+-- the first column ends here: it isn't empty, and a tab comes after it
 pub record EndsName (text : List ℕ) (end : ℕ) : Type 0 where
   pub some : 0 < end
   pub within : end < length text

@@ -59,7 +59,7 @@ abbrev pub with_entry : Entry → Result (List Entry) Told → Result (List Entr
 with_entry entry (Ok entries) = Ok (entry ∷ entries)
 with_entry entry (Err fault) = Err fault
 
--- what a line says behind these names, and then what the lines after it say
+-- what a line says after these names, and then what the lines after it say
 abbrev pub genome_with : Input → ℕ → List (List ℕ) → Result (Option Entry) Kind →
     (List (List ℕ) → Result (List Entry) Told) → Result (List Entry) Told
 genome_with input line names (Err kind) rest = Err (fault_at_line input line kind)
@@ -67,7 +67,7 @@ genome_with input line names (Ok None) rest = rest names
 genome_with input line names (Ok (Some entry)) rest = with_entry entry
     (rest (names ++ entry.name ∷ []))
 
--- the entries of the lines behind these names, or the fault of the first line at fault
+-- the entries of the lines after these names, or the fault of the first line at fault
 unfoldable pub genome_from : Input → List (List ℕ) → List TextLine → Result (List Entry) Told
 genome_from input names [] = Ok []
 genome_from input names (line ∷ lines) = genome_with input line.number names
@@ -84,7 +84,7 @@ genome_cut (Some fault) (Ok entries) = Err fault
 genome_cut (Some fault) (Err first) = Err first
 
 -- The entries of a genome file that may have been cut off: those of the lines handed over, or the
--- fault of the first line at fault, or else the failed read behind them.
+-- fault of the first line at fault, or else the failed read after them.
 abbrev pub genome_handed : Input → Handed → Result (List Entry) Told
 genome_handed input handed = genome_cut (cut_fault input handed)
     (genome_of input (lines_handed handed))

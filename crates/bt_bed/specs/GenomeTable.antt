@@ -85,7 +85,7 @@ module _ {S : Type 0} where
   pub record EntryIsWrong (left : S → Option (List ℕ)) (failed : S → Bool) (old new : LineReader S)
       (fault : Told) : Type 0 where
     pub is : IfSome (lines_left left old) (λ lines. genome_of (input_of old) lines ≡ Err fault)
-    -- known or not, it is what is wrong with some text behind some names
+    -- known or not, it is what is wrong with some text after some names
     pub kind : Kind
     pub names : List (List ℕ)
     pub text : List ℕ
@@ -120,7 +120,7 @@ module _ {S : Type 0} where
     pub checked : IsToldFirst (input_of old) (lines_left left old)
         (lines_given new - lines_given old) fault
     pub bytes : (bytes : List ℕ) × Hands left old bytes new
-    -- of known bytes, those behind the lines given and one line more are left,
+    -- of known bytes, those after the lines given and one line more are left,
     -- but for a block at most
     pub near : fault_kept old ≡ None → IsSound left end old → IsNear left old new
 

@@ -22,14 +22,14 @@ pub record Good (A : Type 0) : Type 0 where
 abbrev pub items_in : {A : Type 0} → Good A → List A
 items_in good = map (λ m. m.item) good.members
 
--- What the lines of an input say, one behind another: nothing, a member, or what is wrong with the
+-- What the lines of an input say, one after another: nothing, a member, or what is wrong with the
 -- line.
 -- This depends on what is known of the members before it.
 pub record Format (A State : Type 0) : Type 0 where
   -- what is known at the start
   pub begin : State
   pub says : State → TextLine → Result (Option A) Kind
-  -- what is known behind this member
+  -- what is known after this member
   pub after : State → A → State
 
 -- no member, and a fault if there is one
@@ -40,7 +40,7 @@ ends_with fault = record { members = []; fault = fault }
 abbrev pub with_member : {A : Type 0} → Member A → Good A → Good A
 with_member m good = record { members = m ∷ good.members; fault = good.fault }
 
--- what a line says, and then what is good behind it
+-- what a line says, and then what is good after it
 abbrev pub good_with : {A State : Type 0} → Format A State → Input → ℕ → State
     → Result (Option A) Kind → (State → Good A) → Good A
 good_with format input line state (Err kind) rest = ends_with (Some (fault_at_line input line kind))
@@ -65,12 +65,12 @@ abbrev pub or_else : Option Told → Option Told → Option Told
 or_else None other = other
 or_else (Some fault) other = Some fault
 
--- the same members, and behind them this fault, where none of theirs comes before
+-- the same members, and after them this fault, where none of theirs comes before
 abbrev pub cut_by : {A : Type 0} → Option Told → Good A → Good A
 cut_by fault good = record { members = good.members; fault = or_else good.fault fault }
 
 -- What is good of an input that may have been cut off: the good members of the lines handed over,
--- and behind them the failed read, where none of these lines is at fault.
+-- and after them the failed read, where none of these lines is at fault.
 abbrev pub good_handed : {A State : Type 0} → Format A State → Input → Handed → Good A
 good_handed format input handed =
     cut_by (cut_fault input handed) (good format input (lines_handed handed))

@@ -23,21 +23,21 @@ use Rattle.bt_bed.specs.Sorting.{Sorting, falls_in, sorting_of}
 abbrev pub locus_at : Feature → Locus
 locus_at r = locus_of (interval_of r)
 
--- the record behind the last place, or what is wrong with it
+-- the record after the last place, or what is wrong with it
 abbrev pub in_order : Sorting → Option Locus → Feature → Result (Option Feature) Kind
 in_order sorting last r =
     if sorting.knows r.chrom
     then (if falls_in sorting last (locus_at r) then Err OutOfOrder else Ok (Some r))
     else Err UnknownChrom
 
--- what was said by itself, as it stands behind the last place
+-- what was said by itself, as it stands after the last place
 abbrev pub said_after : Sorting → Option Locus → Result (Option Feature) Kind → Result
     (Option Feature) Kind
 said_after sorting last (Err kind) = Err kind
 said_after sorting last (Ok None) = Ok None
 said_after sorting last (Ok (Some r)) = in_order sorting last r
 
--- what a line says behind the last place: nothing, a record, or what is wrong with it
+-- what a line says after the last place: nothing, a record, or what is wrong with it
 unfoldable pub line_says : Sorting → Option Locus → List ℕ → Result (Option Feature) Kind
 line_says sorting last text = said_after sorting last (record_of text)
 
@@ -69,7 +69,7 @@ abbrev pub good_are_non_empty : Type 0
 good_are_non_empty = (input : Input) (order : Order) (handed : Handed)
     → AreNonEmpty (intervals_of (items_in (bed_good input order handed)))
 
--- the members of a text stand on its lines, one behind another
+-- the members of a text stand on its lines, one after another
 abbrev pub good_stand_on_lines : Type 0
 good_stand_on_lines = (input : Input) (order : Order) (text : List ℕ)
     → AreAscending 1 (good (bed_format (sorting_of order)) input (text_lines text)).members

@@ -12,7 +12,7 @@ AreAscending line (m ∷ ms) = (line ≤ m.line) × AreAscending (suc m.line) ms
 abbrev pub IsFaultBeyond : ℕ → Told → Type 0
 IsFaultBeyond count fault = IfSome fault.place (λ place. count < place.line)
 
--- the members and the fault stand behind the first so many lines
+-- the members and the fault stand after the first so many lines
 pub record IsBeyond {A : Type 0} (count : ℕ) (good : Good A) : Type 0 where
   pub members : All (λ m. count < m.line) good.members
   pub fault : IfSome good.fault (IsFaultBeyond count)

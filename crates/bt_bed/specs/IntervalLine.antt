@@ -3,11 +3,11 @@
 use Rattle.std.specs.Prelude.{ℕ, List, ◌++◌, codes, decimal, flat_map}
 use Rattle.bt_bed.specs.Interval.{Interval}
 
--- the bounds behind the name: a tab, the start, a tab and the stop
+-- the bounds after the name: a tab, the start, a tab and the stop
 abbrev pub bounds_text : ℕ → ℕ → List ℕ
 bounds_text start stop = codes "\t" ++ (decimal start ++ (codes "\t" ++ decimal stop))
 
--- what stands behind the name: a tab, the start, a tab, the stop and a line feed
+-- what stands after the name: a tab, the start, a tab, the stop and a line feed
 abbrev pub span_text : ℕ → ℕ → List ℕ
 span_text start stop =
     codes "\t" ++ (decimal start ++ (codes "\t" ++ (decimal stop ++ codes "\n")))

@@ -19,7 +19,7 @@ use Rattle.bt_bed.specs.declared.neighbours.Neighbours.{Neighbours}
 abbrev pub IsKnownLast : Sorting → Option Locus → Type 0
 IsKnownLast sorting last = IfSome last (λ place. IsTrue (sorting.knows place.chrom))
 
--- the record fits behind the last one
+-- the record fits after the last one
 pub record Fits (sorting : Sorting) (last : Option Locus) (r : Feature) : Type 0 where
   pub known : IsTrue (sorting.knows r.chrom)
   pub in_order : falls_in sorting last (locus_at r) ≡ false

@@ -23,14 +23,14 @@ pub record MemberReader (S A State : Type 0) : Type 0 where
   pub format : Format A State
   -- the reader of lines below
   pub below : LineReader S
-  -- what is known behind the member that was passed last
+  -- what is known after the member that was passed last
   pub state : State
   -- the member ahead, once it was asked for
   pub ahead : Option (Member A)
   -- the fault that is kept
   pub fault : Option Told
 
--- what is good behind the last member: nothing but the fault, if one is kept
+-- what is good after the last member: nothing but the fault, if one is kept
 abbrev pub good_behind : {A State : Type 0} → Format A State → Input → Option Told → State
     → List TextLine → Good A
 good_behind format input (Some fault) state lines = ends_with (Some fault)
@@ -113,7 +113,7 @@ module _ {S A State : Type 0} where
     pub good : Remains (good_coming left old) (good_coming left new)
     pub first : IfSome (good_coming left old) (λ good. (rest : List (Member A))
         × (good.members ≡ m ∷ rest))
-    -- known or not, it is what a line says behind the member before it
+    -- known or not, it is what a line says after the member before it
     pub said : IsSaidBehind old.format old.state m.item
     -- where it was ahead before, nothing is read
     pub again : IsSome old.ahead → new ≡ old
@@ -155,7 +155,7 @@ module _ {S A State : Type 0} where
   pub record LineIsWrong (left : S → Option (List ℕ)) (failed : S → Bool)
       (old : MemberReader S A State) (fault : Told) (new : MemberReader S A State) : Type 0 where
     pub none_left : IfSome (good_coming left old) (λ good. good ≡ ends_with (Some fault))
-    -- known or not, it is what is wrong with some line behind the last member
+    -- known or not, it is what is wrong with some line after the last member
     pub kind : Kind
     pub line : TextLine
     pub says : old.format.says old.state line ≡ Err kind
@@ -213,7 +213,7 @@ module _ {S A State : Type 0} where
     -- the lines that were given are no longer left, where the line read last could be read
     pub rises : lines_given old.below ≤ lines_given new.below
     pub lines : line_fault new.below ≡ None → LinesPass left old.below new.below
-    -- of known bytes, those behind the lines given and one line more are left,
+    -- of known bytes, those after the lines given and one line more are left,
     -- but for a block at most
     pub near : old.fault ≡ None → IsSound left end old.below → IsNear left old.below new.below
 

@@ -1,4 +1,4 @@
--- A record in one text: its chromosome's name, and behind it the columns that are kept.
+-- A record in one text: its chromosome's name, and after it the columns that are kept.
 use Rattle.std.specs.Prelude.{ℕ, ◌≤◌, List, drop, length, take}
 use Rattle.bt_bed.specs.Feature.{Feature}
 use Rattle.bt_bed.specs.Record.{IsFeature}

@@ -15,7 +15,7 @@ use std::alloc::Global;
 // keeps its own.
 #[derive(Drop)]
 pub(crate) struct Cursor<S, Q> {
-    // At the line of the record ahead, where there is one, else behind the last line read.
+    // At the line of the record ahead, where there is one, else after the last line read.
     reader: LineReader<S>,
     pub(crate) neighbours: Neighbours<Q>,
     // `None` until a line is at fault; then it stays.

@@ -42,7 +42,7 @@ pub(crate) fn direct_feature(text: &[u8]) -> Option<BedRef<'_>>
     })
 }
 
-// Where the first column ends, if it isn't empty and has a tab behind it.
+// Where the first column ends, if it isn't empty and has a tab after it.
 fn name_end(text: &[u8]) -> Option<usize>
     ensures { IfSome result (EndsName text.now) }
 {
@@ -177,7 +177,7 @@ pub(crate) fn kept_strand(text: &[u8], from: usize) -> Strand
     third_column(text, from + 1)
 }
 
-// The strand that the third column of a text behind an index names.
+// The strand that the third column of a text after an index names.
 fn third_column(text: &[u8], from: usize) -> Strand
     requires { from ≤ length text.now }
     ensures { result ≡ strand_of (pieces 9 (drop from text.now)) }
@@ -204,7 +204,7 @@ fn late_column(text: &[u8]) -> Strand
     first_column(behind(text, second + 1))
 }
 
-// The strand that the first column of a text names, behind two others.
+// The strand that the first column of a text names, after two others.
 fn first_column(text: &[u8]) -> Strand
     ensures { (name score : List ℕ) → result ≡ strand_of (name ∷ score ∷ pieces 9 text.now) }
 {

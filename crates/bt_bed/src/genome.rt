@@ -106,7 +106,7 @@ impl Genome {
         }
     }
 
-    // Adds a new chromosome behind the others.
+    // Adds a new chromosome after the others.
     fn push(&mut self, alloc: Global, entry: EntryRef<'_>) -> Result<(), Fault>
         requires { is_among (names_of self.old) entry.name.now ≡ false }
         ensures added { OnOk result (entries self.new ≡ entries self.old ++ entry_lent entry.entry ∷ []) }
@@ -121,7 +121,7 @@ impl Genome {
         }
     }
 
-    // What a line says behind the lines before it.
+    // What a line says after the lines before it.
     fn new_entry<'t>(&self, text: &'t [u8]) -> Result<Option<EntryRef<'t>>, Kind>
         ensures { entry_said result ≡ new_entry (names_of self.now) (entry_of text.now) }
     {

@@ -26,7 +26,7 @@ pub fn put_interval<K: Sink>(
     put_both(chrom, &text[first..], out)
 }
 
-// Puts the bounds of an interval behind its name, without a line feed.
+// Puts the bounds of an interval after its name, without a line feed.
 #[inline]
 pub(crate) fn put_bounds<K: Sink>(start: u64, stop: u64, out: &mut Out<K>) -> Result<(), Fault>
     ensures { Puts out.old (bounds_text start stop) result out.new }

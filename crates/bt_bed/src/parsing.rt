@@ -32,7 +32,7 @@ pub fn parse_bed(text: &[u8]) -> Result<Option<BedRef<'_>>, Kind>
     Ok(Some(feature))
 }
 
-// The feature of a text's columns. What it keeps isn't copied: it begins at the tab behind the third
+// The feature of a text's columns. What it keeps isn't copied: it begins at the tab after the third
 // column.
 #[cold]
 #[inline(never)]

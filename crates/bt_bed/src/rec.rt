@@ -101,7 +101,7 @@ impl BedRef<'_> {
     }
 }
 
-// Makes a text of a name and what stands behind it, or where memory runs out leaves it as it was.
+// Makes a text of a name and what stands after it, or where memory runs out leaves it as it was.
 fn fill(text: &mut Vec<u8>, name: &[u8], rest: &[u8]) -> Result<(), AllocError>
     ensures filled { OnOk result (text.new.items ≡ name.now ++ rest.now) }
     ensures unchanged { OnErr result (text.new.items ≡ text.old.items) }

@@ -328,7 +328,7 @@ mod tests {
         Ok(())
     }
 
-    // How many records are left, and whether this is wrong behind them.
+    // How many records are left, and whether this is wrong after them.
     fn left<S: Source>(
         alloc: Global,
         genome: &Genome,
@@ -371,7 +371,7 @@ mod tests {
         agrees
     }
 
-    // Whether the records are lent so, one behind another.
+    // Whether the records are lent so, one after another.
     fn lends_all<S: Source>(records: &mut Records<'_, S, Genome>, rows: &[Lent]) -> bool {
         for row in rows {
             if !lends(records, *row) {

@@ -25,7 +25,7 @@ pub(crate) fn early_tab(text: &[u8]) -> Option<usize>
     Some(tabs.trailing_zeros() as usize)
 }
 
-// Where the second tab of a text behind an index stands, counted from there, if that is one of the
+// Where the second tab of a text after an index stands, counted from there, if that is one of the
 // sixteen bytes from there on. Where fewer follow, the last sixteen of the text are looked at, so that
 // short and long columns take one way.
 #[inline]

@@ -103,7 +103,7 @@ mod tests {
         ),
     ];
 
-    // What stands behind a sign that a record was written to.
+    // What stands after a sign that a record was written to.
     fn written(
         alloc: Global,
         text: &[u8],

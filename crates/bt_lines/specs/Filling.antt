@@ -58,7 +58,7 @@ module _ {S : Type 0} (left : S → Option (List ℕ)) (failed : S → Bool) (to
     pub within : taken < 2 ^ 63
     pub came : MoreComes more (left new) (failed old) (failed new) (told new) bytes block taken
 
--- what stands behind the line so far, and where the reading stopped
+-- what stands after the line so far, and where the reading stopped
 abbrev pub StopsAt : Stop → Option (List ℕ) → Bool → Bool → Bool → List ℕ → List ℕ → ℕ → Type 0
 StopsAt LineFeed left was_failed is_failed told behind block taken =
     (behind ≡ 10 ∷ block) × (is_failed ≡ was_failed)
@@ -72,14 +72,14 @@ StopsAt NoMemory left was_failed is_failed told behind block taken =
     (behind ≡ block) × (is_failed ≡ was_failed)
 
 module _ {S : Type 0} (left : S → Option (List ℕ)) (failed : S → Bool) (told : S → Bool) where
-  -- the bytes of the block, and those read behind them, were added to the line but for some
+  -- the bytes of the block, and those read after them, were added to the line but for some
   pub record Fills (old : S) (old_block : List ℕ) (old_taken : ℕ) (stop : Stop)
       (new : S) (block text : List ℕ) (taken : ℕ) : Type 0 where
     pub bytes : List ℕ
     pub consumed : Consumes (left old) (left new) bytes
     pub counted : taken + uncounted stop ≡ old_taken + length bytes
     pub within : taken < 2 ^ 63
-    -- those that stand behind the line
+    -- those that stand after the line
     pub behind : List ℕ
     pub joined : old_block ++ bytes ≡ text ++ behind
     pub clear : NoLineFeed text

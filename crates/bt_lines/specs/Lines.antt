@@ -17,7 +17,7 @@ pub record TextLine : Type 0 where
 abbrev pub pieces : ℕ → List ℕ → List (List ℕ)
 pieces separator bytes = slice_split (λ byte. byte == separator) bytes
 
--- the line of a piece with a line feed behind it
+-- the line of a piece with a line feed after it
 abbrev pub fed_line : ℕ → List ℕ → TextLine
 fed_line number piece =
     record {
@@ -26,7 +26,7 @@ fed_line number piece =
       ending = if ends_with_byte 13 piece then CrLf else Lf;
     }
 
--- the line of the last piece, which has no line feed behind it; an empty one is no line
+-- the line of the last piece, which has no line feed after it; an empty one is no line
 abbrev pub last_line : ℕ → List ℕ → List TextLine
 last_line number [] = []
 last_line number (byte ∷ bytes) =
@@ -50,7 +50,7 @@ lines_from number bytes = numbered number (pieces 10 bytes)
 abbrev pub text_lines : List ℕ → List TextLine
 text_lines bytes = lines_from 1 bytes
 
--- the lines of pieces of which the last was cut off: each of the others has its line feed behind it
+-- the lines of pieces of which the last was cut off: each of the others has its line feed after it
 abbrev pub numbered_whole : ℕ → List (List ℕ) → List TextLine
 numbered_whole number [] = []
 numbered_whole number (piece ∷ []) = []

@@ -19,7 +19,7 @@ pub record Output : Type 0 where
 abbrev pub HoldsBlock : Option (List ℕ) → Option (List ℕ) → Type 0
 HoldsBlock took put = (held : List ℕ) × Appends took put held × (length held ≤ block_size)
 
--- new is a front of the known bytes old, with more bytes behind them
+-- new is a front of the known bytes old, with more bytes after them
 abbrev pub IsFrontOf : Option (List ℕ) → Option (List ℕ) → List ℕ → Type 0
 IsFrontOf None old more = ⊤
 IsFrontOf (Some new) None more = ⊤

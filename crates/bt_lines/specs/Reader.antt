@@ -54,7 +54,7 @@ abbrev pub left_at : Bool → List ℕ → Option (List ℕ) → Option (List �
 left_at true held left = option_map (λ bytes. []) left
 left_at false held left = prepend_known held left
 
--- whether the reader is behind the last line
+-- whether the reader is after the last line
 abbrev pub ended_at : State → Bool
 ended_at Reading = false
 ended_at Carried = false
@@ -129,7 +129,7 @@ module _ {S : Type 0} where
   unfoldable pub end_told : LineReader S → Bool
   end_told reader = told_at reader.state
 
-  -- whether it is behind the last line
+  -- whether it is after the last line
   unfoldable pub has_ended : LineReader S → Bool
   has_ended reader = ended_at reader.state
 
@@ -158,7 +158,7 @@ module _ {S : Type 0} where
         → (told (source_of reader) ≡ true) × IsAtEnd (left (source_of reader))
     -- without a fault, fewer than 2^63 bytes were taken
     pub within : fault_kept reader ≡ None → bytes_taken reader < 2 ^ 63
-    -- without a fault, at most a block is held behind the lines given
+    -- without a fault, at most a block is held after the lines given
     pub near : fault_kept reader ≡ None → length (held reader) ≤ block_size
 
   -- the line that a reader is at
@@ -232,7 +232,7 @@ module _ {S : Type 0} where
     pub given : lines_given new
         ≡ feeds_taken old + line_feeds (take (2 ^ 63 - 1 - bytes_taken old) bytes)
 
-  -- of known bytes, those behind the lines given and one line more are left,
+  -- of known bytes, those after the lines given and one line more are left,
   -- but for at most a block
   abbrev pub IsNear : (S → Option (List ℕ)) → LineReader S → LineReader S → Type 0
   IsNear left old new =
@@ -255,7 +255,7 @@ module _ {S : Type 0} where
     pub first : fault_kept old ≡ None → FailsToRead left failed old fault new ⊎ (fault ≡ no_memory)
     pub cut_off : fault_kept old ≡ None → fault ≡ read_failed (input_of old) (suc (lines_given old))
         → CutsOff left old new
-    -- of known bytes, those behind the line that couldn't be given are left,
+    -- of known bytes, those after the line that couldn't be given are left,
     -- but for at most a block
     pub near : fault_kept old ≡ None → IsNear left old new
     pub served : fault ≡ no_memory → failed (source_of new) ≡ failed (source_of old)

@@ -10,7 +10,7 @@ use std::simd::prelude::*;
 // How many bytes are looked at at once.
 pub(crate) const WIDTH: usize = 32;
 
-// Where a byte first stands in the thirty-two bytes behind an index, counted from there.
+// Where a byte first stands in the thirty-two bytes after an index, counted from there.
 #[inline(always)]
 pub(crate) fn early_byte(text: &[u8], from: usize, byte: u8) -> Option<usize>
     requires { from + 32 ≤ length text.now }

@@ -22,7 +22,7 @@ pub(crate) enum Stop {
     End,
     // The source failed.
     Failed,
-    // A byte came behind the last one that may be read.
+    // A byte came after the last one that may be read.
     TooLong,
     // The line couldn't grow.
     NoMemory,
@@ -42,7 +42,7 @@ pub(crate) enum More {
 }
 
 // Adds the bytes up to the next line feed to an empty line, and counts all bytes that it takes. The
-// block holds what was taken behind the line feed.
+// block holds what was taken after the line feed.
 pub(crate) fn fill<S: Source>(
     source: &mut S,
     block: &mut Block,

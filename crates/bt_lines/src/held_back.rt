@@ -38,7 +38,7 @@ impl HeldBack {
         }
     }
 
-    // How many bytes fit behind those that are held back.
+    // How many bytes fit after those that are held back.
     pub(crate) fn room(&self) -> usize
         ensures { result + length self.now ≡ block_size }
     {

@@ -38,7 +38,7 @@ pub(crate) enum State {
 /// the block where it stands whole in it, and else from a buffer that is used again.
 #[derive(Drop)]
 pub struct LineReader<S> {
-    // Not asked any more behind the end and after a fault.
+    // Not asked any more after the end and after a fault.
     source: S,
     // What the source is called in faults.
     input: Input,

@@ -76,7 +76,7 @@ pub fn few_digits(bytes: &[u8; 8]) -> (u64, usize)
     if count == 0 || count == 8 {
         return (0, 0);
     }
-    // They come last, behind zeros.
+    // They come last, after zeros.
     let ones = ones << (64 - 8 * count);
     if ones & UPPER_HALVES != 0 {
         return (0, 0);

@@ -63,7 +63,7 @@ impl<K: Sink> Out<K> {
         }
     }
 
-    /// Puts a piece behind what was put before. It may stay held back until a `flush`.
+    /// Puts a piece after what was put before. It may stay held back until a `flush`.
     pub fn put(&mut self, piece: &[u8]) -> Result<(), Fault>
         ensures put { OnOk result (Appends self.old.put self.new.put piece.now) }
         ensures block { OnOk result (HoldsBlock self.new.took self.new.put) }

@@ -17,7 +17,7 @@ pub record IsQuiet (settled : List Feature → List ℕ) (held : List Feature �
 
 module _ {E : Type 0} (MayTake : E → List Feature → Type 0)
     (Stands : E → List Feature → E → Type 0) (old : E) where
-  -- after every past that the engine stands after, where it may take the record behind it
+  -- after every past that the engine stands after, where it may take the record after it
   abbrev pub AfterEach : Feature → (E → List Feature → Type 0) → Type 0
   AfterEach r P = (first : E) (past : List Feature) → Stands first past old
       → MayTake first (past ++ r ∷ []) → P first past

@@ -11,7 +11,7 @@ use Rattle.bt_runs.specs.StrandRuns.{StrandRun, passed_front}
 abbrev pub front_settled : ℕ → List StrandRun → Feature → List StrandRun
 front_settled gap items r = passed_front gap items (Some (interval_of r))
 
--- and those behind them
+-- and those after them
 abbrev pub behind_settled : ℕ → List StrandRun → Feature → List StrandRun
 behind_settled gap items r = drop (length (front_settled gap items r)) items
 

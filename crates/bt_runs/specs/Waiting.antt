@@ -57,7 +57,7 @@ placed_runs chrom runs = map (placed_run chrom) runs
 abbrev pub passed_runs : Bool → ℕ → List Waiting → List Waiting
 passed_runs here reach runs = take_while (λ (w : Waiting). not here || nat_lt w.stop reach) runs
 
--- and those behind them
+-- and those after them
 abbrev pub left_runs : Bool → ℕ → List Waiting → List Waiting
 left_runs here reach runs = drop (length (passed_runs here reach runs)) runs
 

@@ -91,7 +91,7 @@ pub(crate) fn expect_put(rt: &impl Abort, mut out: Out<ScriptSink>, wanted: &[u8
     same_bytes(rt, out.into_sink().taken(), wanted, name);
 }
 
-// Lets an engine finish, which has to put these bytes behind those before.
+// Lets an engine finish, which has to put these bytes after those before.
 pub(crate) fn expect_end<E: Engine>(
     rt: &impl Abort,
     engine: E,

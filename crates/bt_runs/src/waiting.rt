@@ -108,7 +108,7 @@ impl WaitingRuns {
         }
     }
 
-    // Adds a run behind the others.
+    // Adds a run after the others.
     pub(crate) fn push(&mut self, run: Waiting) -> Result<(), AllocError>
         ensures { OnOk result (self.new ≡ self.old ++ run ∷ []) }
     {

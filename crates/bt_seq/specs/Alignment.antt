@@ -19,7 +19,7 @@ pub record Alignment : Type 0 where
   pub first : Bool
   pub last : Bool
   pub reverse : Bool
-  -- where it lies: from the first reference base, counted from 0, up to the one behind the last
+  -- where it lies: from the first reference base, counted from 0, up to the one after the last
   pub chrom : List ℕ
   pub start : ℕ
   pub stop : ℕ
@@ -36,7 +36,7 @@ pub record Fields : Type 0 where
   pub quality : List ℕ
   pub cigar : List ℕ
 
--- The columns are QNAME, FLAG, RNAME, POS, MAPQ and CIGAR, and five at least behind them, which are
+-- The columns are QNAME, FLAG, RNAME, POS, MAPQ and CIGAR, and five at least after them, which are
 -- only counted: RNEXT, PNEXT, TLEN, SEQ and QUAL.
 abbrev pub fields_of : List (List ℕ) → Option Fields
 fields_of (name ∷ flag ∷ chrom ∷ position ∷ quality ∷ cigar ∷ rest) =

@@ -25,7 +25,7 @@ cuts before (operation ∷ operations) =
     record { before = before; behind = operation ∷ operations }
     ∷ cuts (before ++ operation ∷ []) operations
 
--- whether a block begins behind these operations: there are none, or the last of them is an N
+-- whether a block begins after these operations: there are none, or the last of them is an N
 abbrev pub begins_block : List Operation → Bool
 begins_block [] = true
 begins_block (operation ∷ []) = is_skip operation

@@ -5,7 +5,7 @@ use Rattle.bt_seq.specs.Alignment.{Alignment}
 use Rattle.bt_seq.specs.AlignmentEnd.{EndsAt}
 use Rattle.bt_seq.specs.AlignmentBlocks.{alignment_blocks}
 
--- these blocks lie one behind another from one place up to the other, each with a base
+-- these blocks lie one after another from one place up to the other, each with a base
 abbrev pub AreBetween : ℕ → ℕ → List Span → Type 0
 AreBetween start stop [] = start ≤ stop
 AreBetween start stop (block ∷ blocks) =

@@ -26,7 +26,7 @@ covered_by operation = if consumes_reference operation.letter then operation.len
 abbrev pub reference_length : List Operation → ℕ
 reference_length operations = sum_by covered_by operations
 
--- a part of a text: some bytes, and the letter behind them
+-- a part of a text: some bytes, and the letter after them
 pub record Part : Type 0 where
   pub digits : List ℕ
   pub letter : ℕ

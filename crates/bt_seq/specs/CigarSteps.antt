@@ -11,13 +11,13 @@ abbrev pub none_left : List ℕ → Option (List Operation)
 none_left [] = Some []
 none_left (byte ∷ bytes) = None
 
--- the first operation of a text, and the text behind it
+-- the first operation of a text, and the text after it
 abbrev pub IsFirst : List ℕ → Option (Operation × Bor (List ℕ)) → Type 0
 IsFirst text None = operations_in text ≡ none_left text
 IsFirst text (Some first) =
     operations_in text ≡ with_operation (Some first.0) (operations_in first.1.now)
 
--- the text behind the first operation is shorter, and the operation's length is a number
+-- the text after the first operation is shorter, and the operation's length is a number
 abbrev pub IsWithin : List ℕ → Option (Operation × Bor (List ℕ)) → Type 0
 IsWithin text None = ⊤
 IsWithin text (Some first) = (length first.1.now < length text) × (first.0.length ≤ max_number)

@@ -30,7 +30,7 @@ pub record Knows (names : List (List ℕ)) (records : List Feature) (m : Matched
   pub last : m.last ≡ last_chrom records
   pub where_last : KnowsOwn names records m ⊎ KnowsEarlier names records m
 
--- the sequence of a block behind which these names are left
+-- the sequence of a block after which these names are left
 abbrev pub owner_by : Option (List (List ℕ)) → Owner
 owner_by None = Nobody
 owner_by (Some []) = Own

@@ -1,4 +1,4 @@
--- The pieces of an alignment's line between and behind its columns of text.
+-- The pieces of an alignment's line between and after its columns of text.
 use Rattle.std.specs.Prelude.{ℕ, Bool, List, ◌++◌, codes, decimal, if◌then◌else◌}
 use Rattle.bt_seq.specs.Alignment.{Alignment}
 use Rattle.bt_seq.specs.BedLines.{strand_sign, text_if}
@@ -8,15 +8,15 @@ abbrev pub bounds_text : ℕ → ℕ → List ℕ
 bounds_text start stop =
     codes "\t" ++ (decimal start ++ (codes "\t" ++ (decimal stop ++ codes "\t")))
 
--- behind the name of the read
+-- after the name of the read
 abbrev pub marks : Bool → Bool → List ℕ
 marks first last = text_if first (codes "/1") ++ text_if last (codes "/2")
 
--- behind the strand, where the CIGAR is asked for, and where it isn't
+-- after the strand, where the CIGAR is asked for, and where it isn't
 abbrev pub end_sign : Bool → List ℕ
 end_sign with_cigar = if with_cigar then codes "\t" else codes "\n"
 
--- behind the marks
+-- after the marks
 abbrev pub quality_text : Bool → Alignment → List ℕ
 quality_text with_cigar a =
     codes "\t" ++ (decimal a.quality

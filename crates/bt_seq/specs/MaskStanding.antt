@@ -23,7 +23,7 @@ IsOpen (Some line) taken = (taken ≡ []) ⊎ (decided line taken ≡ false)
 abbrev pub kept_line : SequenceLine → Waiting
 kept_line line = record { text = line.text; ending = line.ending }
 
--- a line waits only while neither input has ended, and behind a header
+-- a line waits only while neither input has ended, and after a header
 pub record Waits (stage : MaskStage) (line : SequenceLine) : Type 0 where
   pub lines : stage.lines_ended ≡ false
   pub bed : stage.bed_ended ≡ false
@@ -40,7 +40,7 @@ pub record MaskStandsAt (how : MaskHow) (full : Bool) (stage : MaskStage)
   pub want_is : m.want ≡ want_at stage
   pub bed_ended_is : m.bed_ended ≡ stage.bed_ended
   pub waits : (line : SequenceLine) → stage.waiting ≡ Some line → Waits stage line
-  -- what is held is what the line given last needs: behind the last line too,
+  -- what is held is what the line given last needs: after the last line too,
   -- where the records of each block rise
   pub holds : (stage.lines_ended ≡ false) ⊎ AreInBlocks stage.taken
       → m.window.held ≡ map extent_of (held_by (line_given_last (given stage)) stage.taken)
@@ -50,7 +50,7 @@ pub record MaskStandsAt (how : MaskHow) (full : Bool) (stage : MaskStage)
   pub owned : is_some (left_after (reached stage).names stage.taken) ≡ true
   pub inside : KnowsStage stage m
 
--- No front of the records taken decides all lines given: so none was taken behind the first record
+-- No front of the records taken decides all lines given: so none was taken after the first record
 -- that did.
 abbrev pub taken_are_first : Type 0
 taken_are_first = (lines : List SequenceLine) (front rest : List Feature)

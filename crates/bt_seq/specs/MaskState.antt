@@ -39,7 +39,7 @@ pub record Masking : Type 0 where
   pub want : MaskWant
   pub bed_ended : Bool
   -- up to which base of the sequence the record ahead decides lines; it means something while a
-  -- line is asked for behind the first header and the records haven't ended
+  -- line is asked for after the first header and the records haven't ended
   pub decided_to : ℕ
 
 -- whether a line of this text is at fault: there is text, and no header yet
@@ -124,7 +124,7 @@ TakesLine old number line out (Err fault) new grown =
     × (may_grow (moved_to old line.text) line.text ≡ true)))))
 
 -- whether the next line, of this text, is known to be written as it is: it is no header but stands
--- behind one, nothing is held, and the records have ended or the record ahead decides it
+-- after one, nothing is held, and the records have ended or the record ahead decides it
 abbrev pub stays_as_given : Masking → List ℕ → Bool
 stays_as_given m text =
     not (is_header text) && (is_some m.matched.name && (nat_eq (length m.window.held) 0
@@ -203,7 +203,7 @@ has_owner Own = ⊤
 has_owner Earlier = ⊤
 has_owner Nobody = ⊥
 
--- checking a record behind the last line
+-- checking a record after the last line
 abbrev pub ChecksBed : {A : Type 0} → Masking → Feature → ℕ → Result A Fault → Masking → Type 0
 ChecksBed old r line (Ok done) new =
     has_owner (owner_of old.matched r.chrom) × (new ≡ with_owner old r.chrom)

@@ -113,7 +113,7 @@ module _ (how : MaskHow) (full : Bool) (stage : MaskStage) (line : SequenceLine)
       (new.want ≡ Nothing) × (FailsToWriteLine (told fault) grown
       ⊎ FailsToHoldRecord (told fault) grown)
 
--- one more record behind the last line, which stands on this line
+-- one more record after the last line, which stands on this line
 module _ (how : MaskHow) (full : Bool) (stage : MaskStage) (r : Feature) (number : ℕ)
     (out : Output) where
   -- its block belongs to a sequence
@@ -144,7 +144,7 @@ EndsRecords how full stage line out (Ok done) new grown =
 EndsRecords how full stage line out (Err fault) new grown =
     (new.want ≡ Nothing) × FailsToAdd out (masked_line how stage.taken line) (told fault) grown
 
--- what it does behind the last line: nothing is written, and nothing more is asked for
+-- what it does after the last line: nothing is written, and nothing more is asked for
 abbrev pub EndsCheck : {A : Type 0} → MaskHow → Bool → MaskStage → Output → Result A Fault → Masking
     → Output → Type 0
 EndsCheck how full stage out (Ok done) new grown =

@@ -1,5 +1,5 @@
 -- Which records mask which sequence. A block is a maximal run of records of one chromosome. It
--- belongs to the first sequence of its name behind that of the block before it; it belongs to none
+-- belongs to the first sequence of its name after that of the block before it; it belongs to none
 -- where there is no such sequence, or where the block before it belongs to none.
 use Rattle.std.specs.Prelude.{◌++◌, ◌≡◌, ◌≢◌, ◌↔◌, ℕ, ◌<◌, All, length, Bool, true, false, ⊤, List}
 use Rattle.std.specs.Prelude.{[], ◌∷◌}
@@ -34,18 +34,18 @@ AreApart [] = ⊤
 AreApart (b ∷ []) = ⊤
 AreApart (b ∷ c ∷ bs) = (bytes_eq b.chrom c.chrom ≡ false) × AreApart (c ∷ bs)
 
--- the names behind the first of this name, if it is among them
+-- the names after the first of this name, if it is among them
 abbrev pub names_behind : List ℕ → List (List ℕ) → Option (List (List ℕ))
 names_behind name [] = None
 names_behind name (n ∷ ns) = if bytes_eq n name then Some ns else names_behind name ns
 
--- the names behind the sequence to which a block belongs, where so many names were left by the
+-- the names after the sequence to which a block belongs, where so many names were left by the
 -- block before it; none where it belongs to no sequence
 abbrev pub left_by : Option (List (List ℕ)) → List ℕ → Option (List (List ℕ))
 left_by None name = None
 left_by (Some names) name = names_behind name names
 
--- a block, and the names behind the sequence to which it belongs
+-- a block, and the names after the sequence to which it belongs
 pub record Owned (A : Type 0) : Type 0 where
   pub block : Block A
   pub left : Option (List (List ℕ))
@@ -59,7 +59,7 @@ owned_from left (b ∷ bs) =
 abbrev pub owned : List (List ℕ) → List Feature → List (Owned Feature)
 owned names records = owned_from (Some names) (blocks_by (λ r. r.chrom) records)
 
--- the things of a block behind which these names are left,
+-- the things of a block after which these names are left,
 -- where it belongs to the last of all names
 abbrev pub items_if_last : {A : Type 0} → Option (List (List ℕ)) → List A → List A
 items_if_last None xs = []
@@ -70,7 +70,7 @@ items_if_last (Some (name ∷ names)) xs = []
 abbrev pub own_records : List (List ℕ) → List Feature → List Feature
 own_records names records = flat_map (λ o. items_if_last o.left o.block.items) (owned names records)
 
--- whether a block behind which these names are left decides a line of the last sequence, up to
+-- whether a block after which these names are left decides a line of the last sequence, up to
 -- whose end there are so many bases: a record of it starts there or later, or the block belongs to
 -- no sequence up to that one
 abbrev pub block_decides : ℕ → Option (List (List ℕ)) → List Feature → Bool
@@ -107,7 +107,7 @@ DividesAt name names behind =
     (before : List (List ℕ)) × (names ≡ before ++ name ∷ behind)
     × AllByRecursion (λ other. other ≢ name) before
 
--- a block belongs to the first sequence of its name, among those behind that of the block before it
+-- a block belongs to the first sequence of its name, among those after that of the block before it
 abbrev pub owners_are_first : Type 0
 owners_are_first = (name : List ℕ) (names behind : List (List ℕ))
     → (names_behind name names ≡ Some behind) ↔ DividesAt name names behind
@@ -117,7 +117,7 @@ abbrev pub unowned_find_no_name : Type 0
 unowned_find_no_name = (name : List ℕ) (names : List (List ℕ))
     → (names_behind name names ≡ None) ↔ AllByRecursion (λ other. other ≢ name) names
 
--- the names behind the sequence of the last block: these, where there is none
+-- the names after the sequence of the last block: these, where there is none
 abbrev pub left_at_last : {A : Type 0} → Option (List (List ℕ)) → List (Owned A)
     → Option (List (List ℕ))
 left_at_last left [] = left
@@ -132,7 +132,7 @@ goes_on [] r = false
 goes_on (s ∷ []) r = bytes_eq s.chrom r.chrom
 goes_on (s ∷ t ∷ ss) r = goes_on (t ∷ ss) r
 
--- a further record goes on with the last block, or begins one, whose sequence comes behind that of
+-- a further record goes on with the last block, or begins one, whose sequence comes after that of
 -- the last one
 abbrev pub next_goes_on_or_begins : Type 0
 next_goes_on_or_begins = (names : List (List ℕ)) (records : List Feature) (r : Feature)
@@ -140,8 +140,8 @@ next_goes_on_or_begins = (names : List (List ℕ)) (records : List Feature) (r :
     ≡ (if goes_on records r then left_after names records
     else left_by (left_after names records) r.chrom)
 
--- a block that belongs to a sequence among the first names belongs to it among all names too: behind
--- it then come the names that come behind it there, and the others
+-- a block that belongs to a sequence among the first names belongs to it among all names too: after
+-- it then come the names that come after it there, and the others
 abbrev pub owners_stay : Type 0
 owners_stay = (names more : List (List ℕ)) (records : List Feature) (rest : List (List ℕ))
     → left_after names records ≡ Some rest

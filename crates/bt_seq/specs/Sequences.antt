@@ -31,7 +31,7 @@ is_header (byte ∷ bytes) = byte == 62
 abbrev pub ends_name : ℕ → Bool
 ends_name byte = (byte == 32) || (byte == 9)
 
--- the name that a header gives: the text behind `>` up to the first space or tab, or all of it
+-- the name that a header gives: the text after `>` up to the first space or tab, or all of it
 -- where the full header is asked for
 abbrev pub name_in : Bool → List ℕ → List ℕ
 name_in full text =
@@ -66,14 +66,14 @@ header_behind full reached line =
       ending = line.ending;
     }
 
--- whether a text may stand behind sequences of these names without being a header:
--- behind none it is blank
+-- whether a text may stand after sequences of these names without being a header:
+-- after none it is blank
 abbrev pub may_stand : List (List ℕ) → List ℕ → Bool
 may_stand [] [] = true
 may_stand [] (byte ∷ bytes) = false
 may_stand (name ∷ names) text = true
 
--- what a line says behind those before it
+-- what a line says after those before it
 abbrev pub line_says : Bool → Reached → TextLine → Result (Option SequenceLine) Kind
 line_says full reached line =
     if is_header line.text then Ok (Some (header_behind full reached line))

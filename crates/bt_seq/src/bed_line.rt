@@ -17,7 +17,7 @@ const BOUNDS_ROOM: usize = 2 * COLUMN + 1;
 const TAIL_ROOM: usize = 28;
 
 // Puts the line of the block from `start` up to `stop`: the chromosome, the bounds, the name, and what
-// stands behind it.
+// stands after it.
 pub(crate) fn put_line<K: Sink>(
     sam: &SamRef<'_>,
     start: u64,
@@ -32,7 +32,7 @@ pub(crate) fn put_line<K: Sink>(
     put_read(sam, with_cigar, out)
 }
 
-// Puts the chromosome and the bounds of a block, with a tab between and behind them.
+// Puts the chromosome and the bounds of a block, with a tab between and after them.
 fn put_place<K: Sink>(chrom: &[u8], start: u64, stop: u64, out: &mut Out<K>) -> Result<(), Fault>
     ensures { Puts out.old (chrom.now ++ bounds_text start stop) result out.new }
 {

@@ -88,7 +88,7 @@ fn has_tab(text: &[u8]) -> bool
     text.rfind_byte(b'\t').is_some()
 }
 
-// The first column of a text, and what stands behind its tab, if it has one.
+// The first column of a text, and what stands after its tab, if it has one.
 fn cut_short(text: &[u8]) -> Option<(&[u8], &[u8])>
     ensures { IsCut text.now result }
 {

@@ -92,7 +92,7 @@ pub fn blocks_are_runs()
     ensures { blocks_are_maximal_runs }
 {}
 
-/// A further record goes on with the last block, or begins one behind it.
+/// A further record goes on with the last block, or begins one after it.
 pub fn blocks_follow_one_another()
     ensures { next_goes_on_or_begins }
 {}
@@ -109,7 +109,7 @@ pub fn owners_agree_among_more_names()
 {}
 
 /// A block belongs to the first sequence of its name behind that of the block before it, and to none where
-/// none behind that one has its name.
+/// none after that one has its name.
 pub fn owners_are_the_first_of_their_name()
     ensures first { owners_are_first }
     ensures none { unowned_find_no_name }

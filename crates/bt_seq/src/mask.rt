@@ -21,7 +21,7 @@ use std::marker::Model;
 /// ([`Mask::want`]): the lines of the FASTA input and the records of the BED input, each one after
 /// another, and at last the end of each. A line is written as soon as no later record can change it.
 /// The records of one chromosome that stand together are a block; a block masks the first sequence of
-/// its name behind that of the block before it. Only one line is kept, and of the records of its
+/// its name after that of the block before it. Only one line is kept, and of the records of its
 /// sequence's block those that reach into it. A first fault ends it: then it asks for nothing.
 #[derive(Drop)]
 pub struct Mask {

@@ -42,7 +42,7 @@ pub(crate) struct MaskState {
     // Whether the end of the records was given.
     bed_ended: bool,
     // Up to which base of the sequence the record ahead decides lines. Valid while a line is asked for
-    // behind the first header and the records haven't ended.
+    // after the first header and the records haven't ended.
     decided_to: u64,
 }
 
@@ -164,7 +164,7 @@ impl MaskState {
         Ok(Taken::Yes)
     }
 
-    // Checks that the block of a record behind the last line belongs to a sequence.
+    // Checks that the block of a record after the last line belongs to a sequence.
     pub(crate) fn check_bed(&mut self, bed: &BedRef<'_>, line: u64) -> Result<(), Fault>
         ensures { ChecksBed self.old (feature_lent bed.now) line result self.new }
     {
@@ -225,7 +225,7 @@ impl MaskState {
     }
 
     // Whether the next line, of this text, is known to be written as it is: it is no header but stands
-    // behind one, nothing is held, and the records have ended or the record ahead decides it.
+    // after one, nothing is held, and the records have ended or the record ahead decides it.
     fn stays_as_given(&self, text: &[u8]) -> bool
         ensures { result ≡ stays_as_given self.now text.now }
     {

@@ -16,7 +16,7 @@ CanHit a b = (b.chrom ≡ a.chrom) × (a.start < b.stop) × (b.start < b.stop)
 abbrev pub AreWith : Option Feature → List Feature → Type 0
 AreWith last held = ForSome last (λ a. All (CanHit a) held)
 
--- each starts at this position or behind it, and at the start of the one before it or behind that
+-- each starts at this position or after it, and at the start of the one before it or after that
 abbrev pub AreRisingFrom : ℕ → List Feature → Type 0
 AreRisingFrom low [] = ⊤
 AreRisingFrom low (b ∷ bs) = (low ≤ b.start) × AreRisingFrom b.start bs
@@ -25,7 +25,7 @@ AreRisingFrom low (b ∷ bs) = (low ≤ b.start) × AreRisingFrom b.start bs
 abbrev pub AreRising : List Feature → Type 0
 AreRising held = AreRisingFrom 0 held
 
--- each starts at this position or behind it
+-- each starts at this position or after it
 abbrev pub StartFrom : ℕ → List Feature → Type 0
 StartFrom place held = All (λ b. place ≤ b.start) held
 

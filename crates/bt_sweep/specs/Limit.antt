@@ -38,7 +38,7 @@ abbrev pub are_too_many : Order → ℕ → List Feature → List Feature → Bo
 are_too_many order most first second =
     nat_lt most (length (held_for (first_open order first second) second))
 
--- The members behind others, up to the first with which they are too many, where the fault of the
+-- The members after others, up to the first with which they are too many, where the fault of the
 -- limit lies; where there is none, all of them and their own fault.
 abbrev pub cut_behind : (List Feature → Bool) → List (Member Feature) → List (Member Feature)
     → Option Told → Good Feature

@@ -17,7 +17,7 @@ use Rattle.bt_sweep.specs.SweepState.{Sweeping, want_in}
 use Rattle.bt_sweep.specs.declared.shape.Shape.{Shape}
 use Rattle.bt_sweep.specs.declared.want.Want.TheVariants.{Nothing}
 
--- what is held once a is given, behind the one that was given last
+-- what is held once a is given, after the one that was given last
 abbrev pub held_with : Option Feature → List Feature → Feature → List Feature
 held_with None held a = []
 held_with (Some last) held a =

@@ -22,7 +22,7 @@ use Rattle.bt_sweep.specs.declared.shape.Shape.TheVariants.{Cut, Pieces}
 abbrev pub at : ℕ → ℕ → Feature
 at start stop = record { chrom = codes "chr1"; start = start; stop = stop; strand = Dot; rest = [] }
 
--- two records on two lines, and a fault behind them
+-- two records on two lines, and a fault after them
 abbrev pub two : Feature → Feature → Option Told → Good Feature
 two first next fault = record {
   members = record { line = 1; item = first } ∷ record { line = 2; item = next } ∷ [];
@@ -35,7 +35,7 @@ one first fault = record { members = record { line = 1; item = first } ∷ []; f
 abbrev pub only_chr1 : Order
 only_chr1 = rank_order (codes "chr1" ∷ [])
 
--- The second input has a fault behind 2 to 4 and 50 to 60: of 0 to 10 and 100 to 110 it decides the
+-- The second input has a fault after 2 to 4 and 50 to 60: of 0 to 10 and 100 to 110 it decides the
 -- first, whose lines are written, and then its fault is told.
 abbrev pub fault_behind_undecided : Type 0
 fault_behind_undecided = (fault : Told)
@@ -70,7 +70,7 @@ abbrev pub whole_is_left : Type 0
 whole_is_left =
     subtract true any_overlap (at 0 10 ∷ at 20 30 ∷ []) (at 5 20 ∷ []) ≡ codes "chr1\t20\t30\n"
 
--- three records on three lines, and a fault behind them
+-- three records on three lines, and a fault after them
 abbrev pub three : Feature → Feature → Feature → Option Told → Good Feature
 three first next last fault = record {
   members = record { line = 1; item = first } ∷ record { line = 2; item = next }
@@ -118,7 +118,7 @@ none_is_held =
     met_holding Pieces 0 (one (at 20 30) None) (two (at 0 5) (at 30 40) None)
     ≡ record { lines = codes "chr1\t20\t30\n"; fault = None }
 
--- a fault behind the second of two records, of which one may be held, or two
+-- a fault after the second of two records, of which one may be held, or two
 abbrev pub limit_before_the_fault : Type 0
 limit_before_the_fault = (fault : Told)
     → met_holding Cut 1 (one (at 0 100) None) (two (at 10 20) (at 20 30) (Some fault))

@@ -12,7 +12,7 @@ use std::alloc::Global;
 use std::collections::VecDeque;
 
 /// Held records as a queue of them. Where they come by their starts, those that ended at a place are
-/// dropped without going over those that start there or behind it.
+/// dropped without going over those that start there or after it.
 #[derive(Drop, Debug)]
 pub struct HeldList {
     // In file order.
@@ -55,7 +55,7 @@ impl HeldList {
         self.records.try_reserve(1).is_ok()
     }
 
-    // Adds a record behind the others, for which there is room.
+    // Adds a record after the others, for which there is room.
     pub(crate) fn add(&mut self, rec: Rec)
         requires { HasRoom self.old }
         ensures { records_in self.new ≡ records_in self.old ++ rec ∷ [] }
@@ -154,7 +154,7 @@ fn has_ended(records: &VecDeque<Rec>, count: usize, place: u64) -> bool
 }
 
 // Drops those of so many records from the first that end at or before the place. The others are moved
-// behind those that follow, and back at last.
+// after those that follow, and back at last.
 fn drop_ended_of(records: &mut VecDeque<Rec>, count: usize, place: u64)
     requires { count ≤ length records.old.items }
     ensures { records.new.items
@@ -167,7 +167,7 @@ fn drop_ended_of(records: &mut VecDeque<Rec>, count: usize, place: u64)
     records.rotate_right(kept);
 }
 
-// Drops the first record where it ends at or before the place, and else moves it behind the others.
+// Drops the first record where it ends at or before the place, and else moves it after the others.
 // Answers how many were moved there.
 fn pass_first(records: &mut VecDeque<Rec>, place: u64) -> usize
     ensures passed { records.new.items

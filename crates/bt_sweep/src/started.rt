@@ -7,7 +7,7 @@ ghost use Rattle.bt_sweep.specs.Held.{AreRising, StartBefore, StartFrom};
 use crate::held::Held;
 use bt_bed::Rec;
 
-// How many held records stand before the first one that starts at the place or behind it, where they
+// How many held records stand before the first one that starts at the place or after it, where they
 // come by their starts. The last record is looked at first, since mostly it starts before the place, and
 // then those near the first one: each index that is looked at is at most twice as great as the one before it.
 pub(crate) fn count_started<H: Held>(held: &H, place: u64) -> usize
@@ -34,7 +34,7 @@ pub(crate) fn count_started<H: Held>(held: &H, place: u64) -> usize
     high
 }
 
-// Whether there is a record and it starts at the place or behind it.
+// Whether there is a record and it starts at the place or after it.
 fn starts_from(rec: Option<&Rec>, place: u64) -> bool
     ensures { result ≡ list_any (λ r. nat_le place r.start) (option_to_list (option_copied rec.entry)) }
 {

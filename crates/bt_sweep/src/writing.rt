@@ -34,7 +34,7 @@ pub(crate) fn needs_hit(shape: Shape) -> bool
 }
 
 // Puts the lines of a record against these, which can hit it and come by their starts. Those that start
-// at its end or behind it are passed over. It takes no memory.
+// at its end or after it are passed over. It takes no memory.
 #[tactic(auto, using(crate::proofs::OpenLemmas::on_name))]
 pub(crate) fn put_lines<H: Held, K: Sink>(
     shape: Shape,
@@ -132,7 +132,7 @@ fn put_where<K: Sink>(is_put: bool, a: &BedRef<'_>, out: &mut Out<K>) -> Result<
     Ok(())
 }
 
-// Puts a part of a record, and another record behind it.
+// Puts a part of a record, and another record after it.
 fn put_both<K: Sink>(
     a: &BedRef<'_>,
     start: u64,

@@ -23,7 +23,7 @@ pub use Rattle.bt_tool.specs.Passed.{ComeFirst, member_items}
 use Rattle.bt_tool.specs.Passed.{AreAll, HasFaultBehind, IsReadFor, LacksMemory}
 use Rattle.bt_tool.specs.Telling.{IsPutTo}
 
--- these lines were put behind what was put before
+-- these lines were put after what was put before
 abbrev pub PutsLines : Output → List ℕ → Output → Type 0
 PutsLines old lines new =
     (before : List ℕ) → old.put ≡ Some before → new.put ≡ Some (before ++ lines)
@@ -48,7 +48,7 @@ pub record GoesOn (old new : Output) : Type 0 where
   pub put : (new.has_failed ≡ true) ⊎ Grows old.put new.put
   pub stays_failed : old.has_failed ≡ true → new.has_failed ≡ true
 
--- of these bytes, put behind what was put before, the sink took all but a block;
+-- of these bytes, put after what was put before, the sink took all but a block;
 -- and unless a write failed, all of them were put
 pub record TookButBlock (old : Output) (bytes : List ℕ) (new : Output) : Type 0 where
   pub took : (before taken : List ℕ) → old.put ≡ Some before → old.took ≡ Some taken

@@ -13,16 +13,16 @@ one_in_billionths = 1000000000
 abbrev pub is_point : ℕ → Bool
 is_point byte = byte == 46
 
--- decimals with zeros behind them, nine digits in all
+-- decimals with zeros after them, nine digits in all
 abbrev pub nine_decimals : List ℕ → List ℕ
 nine_decimals decimals = decimals ++ replicate (9 - length decimals) 48
 
--- the number of these digits before the point and behind it, in billionths
+-- the number of these digits before the point and after it, in billionths
 abbrev pub billionths_in : List ℕ → List ℕ → ℕ
 billionths_in whole decimals =
     digits_value 10 whole * one_in_billionths + digits_value 10 (nine_decimals decimals)
 
--- whether these stand before the point and behind it: digits, one at least and at most nine behind
+-- whether these stand before the point and after it: digits, one at least and at most nine after
 -- the point, of a number of at most one
 abbrev pub are_digits_of_fraction : List ℕ → List ℕ → Bool
 are_digits_of_fraction whole decimals =

@@ -19,7 +19,7 @@ pub record Shard : Type 0 where
   pub entries : List Entry
   pub text : List ℕ
 
--- the chromosomes of all parts, one behind another
+-- the chromosomes of all parts, one after another
 abbrev pub all_entries : List Shard → List Entry
 all_entries shards = flat_map (λ shard. shard.entries) shards
 

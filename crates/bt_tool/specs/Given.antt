@@ -5,6 +5,6 @@ use Rattle.bt_tool.specs.Items.{Item, items_of}
 use Rattle.bt_tool.specs.Plan.{words_seen}
 use Rattle.bt_tool.specs.TableLent.{table_lent}
 
--- the items into which the words behind the first divide
+-- the items into which the words after the first divide
 abbrev pub items_in : Given → List Item
 items_in given = items_of (table_lent given.table.now) (drop 1 (words_seen given.words.now))

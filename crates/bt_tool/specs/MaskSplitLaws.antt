@@ -46,7 +46,7 @@ MaskTheirOwn full (part ∷ parts) =
     MasksNone full part (joined_texts parts) × MasksNone full (joined_texts parts) part
     × MaskTheirOwn full parts
 
--- what the run of the whole writes goes on behind what the parts write up to the first fault: where
+-- what the run of the whole writes goes on after what the parts write up to the first fault: where
 -- a record has no sequence, the sequences of the later parts are written as they are
 abbrev pub GoesOn : List Report → Report → Type 0
 GoesOn parts whole =
@@ -70,7 +70,7 @@ maskfasta_divides =
     ⊎ GoesOn (masked_parts (MaskFasta how full) parts)
     (on_texts (MaskFasta how full) None (joined_texts parts)))
 
--- the first of the later records, put behind these, belongs to no sequence of these names
+-- the first of the later records, put after these, belongs to no sequence of these names
 abbrev pub HasNone : List (List ℕ) → List Feature → List Feature → Type 0
 HasNone names records [] = ⊤
 HasNone names records (r ∷ later) = left_after names (records ++ r ∷ []) ≡ None

@@ -23,7 +23,7 @@ pub record PairShard : Type 0 where
   pub entries : List Entry
   pub texts : Texts
 
--- the chromosomes of all parts, one behind another
+-- the chromosomes of all parts, one after another
 abbrev pub pair_entries : List PairShard → List Entry
 pair_entries shards = flat_map (λ shard. shard.entries) shards
 

@@ -46,7 +46,7 @@ module _ {A B X Y U V : Type 0} (making : Making X Y) (pair : Pair A B X Y U V)
     pub second_bytes : (bytes : List ℕ) × Hands pair.b_left pair.second.below bytes second.below
     pub grows : Grows out.took grown.took
 
-  -- the fault of the first input, behind these members
+  -- the fault of the first input, after these members
   abbrev pub FirstFails : List (Member X) → MemberReader A X U → Told → Type 0
   FirstFails past first fault = HasFaultBehind pair.a_left pair.a_failed pair.a_end pair.first
       making.first_kinds past fault first
@@ -60,7 +60,7 @@ module _ {A B X Y U V : Type 0} (making : Making X Y) (pair : Pair A B X Y U V)
     pub cause : FirstFails past first fault
     pub serves : Serves pair.b_failed pair.second second
 
-  -- the fault of the second input, behind these members
+  -- the fault of the second input, after these members
   pub record SecondFails (ended : Bool) (past : List (Member Y)) (second : MemberReader B Y V)
       (fault : Told) : Type 0 where
     pub cause : HasFaultBehind pair.b_left pair.b_failed pair.b_end pair.second making.second_kinds

@@ -12,17 +12,17 @@ use Rattle.bt_bed.specs.Order.{Order}
 use Rattle.bt_bed.specs.Record.{record_of}
 use Rattle.bt_tool.specs.RecordReport.{Report}
 
--- whether a text ends with a line feed, or is empty: what is put behind it begins a line
+-- whether a text ends with a line feed, or is empty: what is put after it begins a line
 abbrev pub ends_line : List ℕ → Bool
 ends_line [] = true
 ends_line (byte ∷ []) = byte == 10
 ends_line (byte ∷ next ∷ bytes) = ends_line (next ∷ bytes)
 
--- texts, one behind another
+-- texts, one after another
 abbrev pub joined : List (List ℕ) → List ℕ
 joined texts = flat_map (λ text. text) texts
 
--- what stands behind a text begins a line, or there is nothing
+-- what stands after a text begins a line, or there is nothing
 abbrev pub StandsBefore : List ℕ → List ℕ → Type 0
 StandsBefore text rest = IsTrue (ends_line text) ⊎ (rest ≡ [])
 
@@ -52,20 +52,20 @@ abbrev pub unless_fault : Option Told → List ℕ → List ℕ
 unless_fault None output = output
 unless_fault (Some fault) output = []
 
--- the outputs of the parts up to that of the first one at fault, one behind another
+-- the outputs of the parts up to that of the first one at fault, one after another
 abbrev pub outputs_to_fault : List Report → List ℕ
 outputs_to_fault [] = []
 outputs_to_fault (part ∷ parts) =
     part.output ++ unless_fault part.fault (outputs_to_fault parts)
 
 -- the run of the whole is without a fault exactly where those of the parts are, and then its output
--- is theirs, one behind another
+-- is theirs, one after another
 pub record AddUp (parts : List Report) (whole : Report) : Type 0 where
   pub faultless : (whole.fault ≡ None) ↔ AllByRecursion (λ part. part.fault ≡ None) parts
   pub output : whole.fault ≡ None → whole.output ≡ flat_map (λ part. part.output) parts
 
 -- what the run of the whole writes begins what the runs of the parts write up to the first fault:
--- it may be shorter, since a chromosome is settled by a record behind it
+-- it may be shorter, since a chromosome is settled by a record after it
 abbrev pub StopWithin : List Report → Report → Type 0
 StopWithin parts whole = (rest : List ℕ) × (outputs_to_fault parts ≡ whole.output ++ rest)
 

@@ -26,18 +26,18 @@ ComeFirst (Some old) past (Some now) = (old.members ≡ past ++ now.members) × 
 abbrev pub member_items : {A : Type 0} → List (Member A) → List A
 member_items members = map (λ m. m.item) members
 
--- what is known behind these items
+-- what is known after these items
 abbrev pub state_behind : {A State : Type 0} → Format A State → State → List A → State
 state_behind format state [] = state
 state_behind format state (item ∷ items) = state_behind format (format.after state item) items
 
--- each of these items is what a line says behind those before it
+-- each of these items is what a line says after those before it
 abbrev pub AreSaid : {A State : Type 0} → Format A State → State → List A → Type 0
 AreSaid format state [] = ⊤
 AreSaid format state (item ∷ items) =
     IsSaidBehind format state item × AreSaid format (format.after state item) items
 
--- a reader of lines as one of their members, where so much is known behind those that were given
+-- a reader of lines as one of their members, where so much is known after those that were given
 abbrev pub lines_read : {S A State : Type 0} → Format A State → State → LineReader S
     → MemberReader S A State
 lines_read format state lines =
@@ -91,7 +91,7 @@ module _ {S A State : Type 0} (left : S → Option (List ℕ)) (failed end : S �
       pub come : ComeFirst (good_coming left old) past (good_coming left now)
       pub behind : All (λ m. m.line ≤ lines_given now.below) past
       pub ahead_low : IfSome now.ahead (λ m. m.line ≤ lines_given now.below)
-      -- the lines left are those behind the lines given
+      -- the lines left are those after the lines given
       pub lines : IfSome (lines_left left old.below)
           (λ lines. lines_left left now.below ≡ Some (drop (lines_given now.below) lines))
       pub going : now.fault ≡ None
@@ -100,7 +100,7 @@ module _ {S A State : Type 0} (left : S → Option (List ℕ)) (failed end : S �
       pub served : failed (source_of now.below) ≡ failed (source_of old.below)
 
     -- How far the input was read: so many lines, one more and a block at most, and what is good
-    -- behind these members stands behind so many lines.
+    -- after these members stands after so many lines.
     pub record IsReadTo (past : List (Member A)) (now : MemberReader S A State) : Type 0 where
       pub count : ℕ
       pub near : IfSome (lines_left left old.below) (λ lines. IfSome (left (source_of now.below))
@@ -124,7 +124,7 @@ module _ {S A State : Type 0} (left : S → Option (List ℕ)) (failed end : S �
     AreAll past =
         IfSome (good_coming left old) (λ good. (good.members ≡ past) × (good.fault ≡ None))
 
-    -- a line behind them is at fault
+    -- a line after them is at fault
     pub record IsWrongBehind (Kinds : Kind → Type 0) (past : List (Member A)) (fault : Told)
         (new : MemberReader S A State) : Type 0 where
       pub whole : IfSome (good_coming left old)
@@ -136,7 +136,7 @@ module _ {S A State : Type 0} (left : S → Option (List ℕ)) (failed end : S �
       pub served : failed (source_of new.below) ≡ failed (source_of old.below)
       pub within : bytes_taken new.below < 2 ^ 63
 
-    -- the source failed, or its text is too long: behind the lines that were given
+    -- the source failed, or its text is too long: after the lines that were given
     pub record IsUnreadBehind (past : List (Member A)) (fault : Told)
         (new : MemberReader S A State) : Type 0 where
       pub is : fault ≡ read_failed (input_of old.below) (suc (lines_given new.below))
@@ -160,7 +160,7 @@ module _ {S A State : Type 0} (left : S → Option (List ℕ)) (failed end : S �
       pub is : fault ≡ no_memory
       pub served : failed (source_of new.below) ≡ failed (source_of old.below)
 
-    -- the reader stopped behind these members
+    -- the reader stopped after these members
     pub record StopsAfter (Kinds : Kind → Type 0) (past : List (Member A)) (fault : Told)
         (new : MemberReader S A State) : Type 0 where
       pub bytes : (bytes : List ℕ) × Hands left old.below bytes new.below

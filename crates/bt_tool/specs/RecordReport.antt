@@ -22,7 +22,7 @@ report_by written members None = record { output = written.whole members; fault 
 report_by written members (Some fault) =
     record { output = written.settled members; fault = Some fault }
 
--- the report on good members, and on the fault behind them, if there is one
+-- the report on good members, and on the fault after them, if there is one
 abbrev pub good_report : {A : Type 0} → Written A → Good A → Report
 good_report written good = report_by written (items_in good) good.fault
 

@@ -50,7 +50,7 @@ pub record Texts : Type 0 where
   pub first : List ℕ
   pub second : List ℕ
 
--- texts of parts, one behind another
+-- texts of parts, one after another
 abbrev pub joined_texts : List Texts → Texts
 joined_texts parts = record {
   first = joined (map (λ part. part.first) parts);

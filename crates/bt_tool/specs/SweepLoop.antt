@@ -35,7 +35,7 @@ use Rattle.bt_tool.specs.PairComes.{Comes, Stage as PairStage}
 use Rattle.bt_tool.specs.PairEnds.{Finishes, IsKnown}
 use Rattle.bt_tool.specs.Passed.{AreAll, Passes, StopsAfter}
 
--- Whatever comes behind them of either input, by these records of the first the limit doesn't lie
+-- Whatever comes after them of either input, by these records of the first the limit doesn't lie
 -- among these of the second.
 abbrev pub AreWithin : Order → Option ℕ → List Feature → List (Member Feature) → Type 0
 AreWithin order None as_given past = ⊤

@@ -75,7 +75,7 @@ pub record ReadsNoFurther (Beside : List TextLine → Type 0) (settles : List Te
       ⊎ IsPutTo (length (before ++ settles (take (n - 1) (text_lines text)))) put
   pub beside : Beside (take n (text_lines text))
 
--- the report is what came: its fault, and its output behind what was put before
+-- the report is what came: its fault, and its output after what was put before
 abbrev pub IsReported : Report → List ℕ → Option Told → Output → Type 0
 IsReported report before fault grown =
     (fault ≡ report.fault) × (grown.put ≡ Some (before ++ report.output))

@@ -11,7 +11,7 @@ use bt_lines::number;
 /// One, the greatest fraction, in billionths.
 const ONE: u64 = 1_000_000_000;
 
-/// How many digits may stand behind the point.
+/// How many digits may stand after the point.
 const DECIMALS: usize = 9;
 
 /// The fraction that a word denotes, in billionths. Leading zeros are allowed, a sign, a space or an
@@ -25,7 +25,7 @@ pub(crate) fn fraction(word: &str) -> Option<u64>
     }
 }
 
-// The fraction of these digits before the point and behind it.
+// The fraction of these digits before the point and after it.
 fn fraction_in(whole: &[u8], decimals: &[u8]) -> Option<u64>
     ensures { result ≡ fraction_in whole.now decimals.now }
 {
@@ -65,7 +65,7 @@ fn ones_in(whole: &[u8]) -> Option<u64>
     Some(ones)
 }
 
-// The number of nine digits behind the point: zeros stand behind those that are there.
+// The number of nine digits after the point: zeros stand after those that are there.
 fn billionths_behind(decimals: &[u8]) -> Option<u64>
     requires { length decimals.now ≤ 9 }
     ensures value { result ≡ if list_all is_ascii_digit decimals.now

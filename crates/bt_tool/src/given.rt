@@ -9,7 +9,7 @@ use crate::item::{Item, item_at};
 use crate::table::Table;
 use crate::usage::Usage;
 
-/// The words of a command line, all of which behind the first divide into items of a table.
+/// The words of a command line, all of which after the first divide into items of a table.
 #[derive(Clone, Copy)]
 pub(crate) struct Given<'a> {
     pub(crate) table: &'a Table,

@@ -1,5 +1,5 @@
 //! When a pipeline may divide its inputs, as by chromosome, run a job for each part and put the outputs one
-//! behind another. Each law is the contract of a function that does nothing.
+//! after another. Each law is the contract of a function that does nothing.
 
 ghost use Rattle.bt_tool.specs.GenomeSplitLaws.{complement_divides, genomecov_divides, merge_genomes_divide};
 ghost use Rattle.bt_tool.specs.MaskSplitLaws.{maskfasta_divides, repeated_names_divide};

@@ -96,7 +96,7 @@ fn sweep_all<A: Source, B: Source, O: ChromOrder, H: Held, K: Sink>(
     }
 }
 
-// Reads an input to its end, so that a fault behind the last record that was asked for is reported.
+// Reads an input to its end, so that a fault after the last record that was asked for is reported.
 fn check_rest<B: Source, O: ChromOrder>(second: &mut Records<'_, B, O>) -> Result<(), Fault>
     ensures reads { ReadsOn B.left B.has_failed B.end_told (IsBedKind (order_in second.old)) (view_of second.old) result (view_of second.new) }
     ensures own_failure { fault_kept second.old ≡ None → KeepsOwnFault B.read_fails (view_of second.new) }
