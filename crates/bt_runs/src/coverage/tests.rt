@@ -3,7 +3,7 @@ use crate::plain::PlainSpan;
 use crate::plain_depths::{PlainDepth, plain_depths};
 use crate::testing::{
     Bounds, Row, check_failing, check_row, check_spans, expect_end, feed_line, feed_row, genome,
-    holds, same_answer, same_count, spans_of,
+    holds, same_answer, spans_of,
 };
 use bt_lines::ScriptSink;
 use std::alloc::{AllocError, Global};
@@ -210,25 +210,81 @@ fn kept_with<K: Sink>(
     Ok(coverage.kept_len())
 }
 
+// Whether of a hundred records, each within the one before it, all are kept.
+fn keeps_long(
+    alloc: Global,
+    coverage: &mut Coverage<'_>,
+    out: &mut Out<ScriptSink>,
+) -> Result<bool, AllocError> {
+    let mut are_kept = true;
+    for long in 0..100u64 {
+        let kept = kept_with(alloc, coverage, long, 4000 - long, out)?;
+        are_kept = are_kept && kept as u64 == long + 1;
+    }
+    Ok(are_kept)
+}
+
+// Whether beside those each of five hundred short ones is kept alone.
+fn keeps_short(
+    alloc: Global,
+    coverage: &mut Coverage<'_>,
+    out: &mut Out<ScriptSink>,
+) -> Result<bool, AllocError> {
+    let mut are_kept = true;
+    for short in 0..500u64 {
+        let start = 100 + 3 * short;
+        let kept = kept_with(alloc, coverage, start, start + 2, out)?;
+        are_kept = are_kept && kept == 101;
+    }
+    Ok(are_kept)
+}
+
+// Whether where they end, from the innermost on, as many others take their places.
+fn keeps_late(
+    alloc: Global,
+    coverage: &mut Coverage<'_>,
+    out: &mut Out<ScriptSink>,
+) -> Result<bool, AllocError> {
+    let mut are_kept = true;
+    for late in 0..100u64 {
+        let kept = kept_with(alloc, coverage, 3901 + late, 4900, out)?;
+        are_kept = are_kept && kept == 101;
+    }
+    Ok(are_kept)
+}
+
 #[test]
 fn short_records_beside_long_ones(rt: HostRuntime) -> Result<(), Fail> {
     let genome = genome(rt.alloc(), b"chr1\t5000\n")?;
     let mut coverage = Coverage::new(rt.alloc(), &genome, false, None);
     let mut out = Out::new(ScriptSink::new(rt.alloc(), 512, None));
-    for long in 0..100u64 {
-        let kept = kept_with(rt.alloc(), &mut coverage, long, 4000 - long, &mut out)?;
-        same_count(&rt, kept, long as usize + 1, "long ones");
-    }
-    for short in 0..500u64 {
-        let start = 100 + 3 * short;
-        let kept = kept_with(rt.alloc(), &mut coverage, start, start + 2, &mut out)?;
-        same_count(&rt, kept, 101, "beside long ones");
-    }
-    for late in 0..100u64 {
-        let kept = kept_with(rt.alloc(), &mut coverage, 3901 + late, 4900, &mut out)?;
-        same_count(&rt, kept, 101, "beside long ones");
-    }
+    let long = keeps_long(rt.alloc(), &mut coverage, &mut out);
+    let short = keeps_short(rt.alloc(), &mut coverage, &mut out);
+    let late = keeps_late(rt.alloc(), &mut coverage, &mut out);
+    holds(&rt, long == Ok(true), "long ones");
+    holds(&rt, short == Ok(true), "beside long ones");
+    holds(&rt, late == Ok(true), "behind long ones");
     Ok(())
+}
+
+// Whether of so many records, each within the one before it, all are kept.
+fn keeps_all(
+    alloc: Global,
+    coverage: &mut Coverage<'_>,
+    count: u64,
+    out: &mut Out<ScriptSink>,
+) -> Result<bool, AllocError> {
+    let mut are_kept = true;
+    for start in 0..count.min(20000) {
+        let kept = kept_with(alloc, coverage, start, 20000 - start, out)?;
+        are_kept = are_kept && kept as u64 == start + 1;
+    }
+    Ok(are_kept)
+}
+
+// Whether a text has these first and last lines.
+fn begins_and_ends(text: &[u8], first: &[u8], last: &[u8]) -> bool {
+    text.starts_with(first) && text.ends_with(last)
 }
 
 #[test]
@@ -236,22 +292,17 @@ fn thousands_of_records_are_open_at_once(rt: HostRuntime) -> Result<(), Fail> {
     let genome = genome(rt.alloc(), b"chr1\t20000\n")?;
     let mut coverage = Coverage::new(rt.alloc(), &genome, false, None);
     let mut out = Out::new(ScriptSink::new(rt.alloc(), 512, None));
-    let mut all_open = true;
-    for start in 0..4000u64 {
-        let kept = kept_with(rt.alloc(), &mut coverage, start, 20000 - start, &mut out)?;
-        all_open = all_open && kept as u64 == start + 1;
-    }
-    holds(&rt, all_open, "all are open");
+    let all = keeps_all(rt.alloc(), &mut coverage, 4000, &mut out);
     // The 2001 that end at 18000 or past it, and the record itself.
-    let kept = kept_with(rt.alloc(), &mut coverage, 18000, 18001, &mut out)?;
-    same_count(&rt, kept, 2002, "open at 18000");
-    same_answer(&rt, coverage.finish(&mut out), Ok(()), "the end");
-    same_answer(&rt, out.flush(), Ok(()), "the flush");
-    let sink = out.into_sink();
-    let first: &[u8] = b"chr1\t0\t1\t1\nchr1\t1\t2\t2\n";
-    holds(&rt, sink.taken().starts_with(first), "the first");
-    let last: &[u8] = b"chr1\t19998\t19999\t2\nchr1\t19999\t20000\t1\n";
-    holds(&rt, sink.taken().ends_with(last), "the last");
+    let open = kept_with(rt.alloc(), &mut coverage, 18000, 18001, &mut out);
+    let answer = coverage.finish(&mut out).and(out.flush());
+    let first = b"chr1\t0\t1\t1\nchr1\t1\t2\t2\n";
+    let last = b"chr1\t19998\t19999\t2\nchr1\t19999\t20000\t1\n";
+    let is_written = begins_and_ends(out.into_sink().taken(), first, last);
+    holds(&rt, all == Ok(true), "all are open");
+    holds(&rt, open == Ok(2002), "open at 18000");
+    same_answer(&rt, answer, Ok(()), "the end");
+    holds(&rt, is_written, "the first and the last lines");
     Ok(())
 }
 

@@ -5,6 +5,7 @@ use crate::testing::{
 };
 use bt_bed::Strand;
 use bt_lines::ScriptSink;
+use std::alloc::AllocError;
 use std::process::Abort;
 use std::test::Fail;
 
@@ -407,40 +408,43 @@ fn gives_what_the_plain_program_gives(rt: HostRuntime) -> Result<(), Fail> {
     check_plain(&rt, rt.alloc(), &PLAIN_CASES)
 }
 
-// Feeds runs of one base behind an open one, and gives their lines.
+// Feeds runs of one base behind an open one.
 fn feed_runs(
     rt: &impl Abort,
     alloc: Global,
     merge: &mut Merge,
     count: u32,
     out: &mut Out<ScriptSink>,
-) -> Result<Vec<u8>, Fail> {
-    let mut lines = Vec::new(alloc);
+) -> Result<(), Fail> {
     for place in 0..count.min(10_000) {
         let start = 2 * place + 1;
         let line = format!(in alloc; "chr1\t{start}\t{}\tb\t0\t-", start + 1)?;
         feed_kept(rt, merge, line.as_bytes(), place as usize + 2, out, "a run");
-        let run = format!(in alloc; "chr1\t{start}\t{}\n", start + 1)?;
-        lines.extend_from_slice(run.as_bytes())?;
+    }
+    Ok(())
+}
+
+// The lines of the open one and of these.
+fn lines_of_runs(alloc: Global, count: u32) -> Result<Vec<u8>, AllocError> {
+    let mut lines = Vec::from_slice(alloc, OPEN)?;
+    for place in 0..count.min(10_000) {
+        let start = 2 * place + 1;
+        let line = format!(in alloc; "chr1\t{start}\t{}\n", start + 1)?;
+        lines.extend_from_slice(line.as_bytes())?;
     }
     Ok(lines)
 }
 
+const OPEN: &[u8] = b"chr1\t0\t99999\n";
+
 #[test]
 fn many_runs_behind_an_open_one(rt: HostRuntime) -> Result<(), Fail> {
+    let wanted = lines_of_runs(rt.alloc(), 1_000)?;
     let mut merge = Merge::new(rt.alloc(), 0, MergeStrand::Each);
     let mut out = Out::new(ScriptSink::new(rt.alloc(), 100, None));
-    feed_kept(
-        &rt,
-        &mut merge,
-        b"chr1\t0\t99999\ta\t0\t+",
-        1,
-        &mut out,
-        "open",
-    );
-    let mut wanted = Vec::from_slice(rt.alloc(), b"chr1\t0\t99999\n")?;
-    let lines = feed_runs(&rt, rt.alloc(), &mut merge, 1_000, &mut out)?;
-    wanted.extend_from_slice(lines.as_slice())?;
+    let open = b"chr1\t0\t99999\ta\t0\t+";
+    feed_kept(&rt, &mut merge, open, 1, &mut out, "open");
+    feed_runs(&rt, rt.alloc(), &mut merge, 1_000, &mut out)?;
     expect_end(&rt, merge, out, wanted.as_slice(), "runs in order");
     Ok(())
 }
