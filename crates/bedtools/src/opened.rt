@@ -1,6 +1,7 @@
 //! An input that the program has opened: a file or standard input.
 
-ghost use Rattle.std.specs.Prelude.{◌≡◌, None, true};
+ghost use Rattle.std.specs.Prelude.{◌≡◌, None};
+ghost use Rattle.bt_lines.specs.Device.{TellsFailure};
 ghost use Rattle.bedtools.specs.Opened.{input_meant, file_named, opened_has_failed, opened_end_told};
 
 use bt_lines::{DeviceFailed, FromRead, Source};
@@ -51,7 +52,7 @@ impl Source for Opened {
 
     ghost end_told = { opened_end_told };
 
-    ghost read_fails = { λ _ after. opened_has_failed after ≡ true };
+    ghost is_read = { λ _ count after. TellsFailure count (opened_has_failed after) };
 
     fn read(&mut self, block: &mut [u8]) -> Result<usize, DeviceFailed> {
         match self {

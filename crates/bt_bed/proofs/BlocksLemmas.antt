@@ -47,9 +47,9 @@ module _ {S : Type 0} (left : S → Option (List ℕ)) (failed end : S → Bool)
   stepped old new (Err fault) answers = answers
 
   -- a step of the reader below
-  pub steps_blocks : {T : Type 0} (Fails : S → S → Type 0) (old new : Blocks S) (result : Result T Fault) → Stepped left failed end (view_in block_sorting old.cursor) result (view_in block_sorting new.cursor) → TellsOwnFailure Fails (view_in block_sorting old.cursor).fault result new.cursor.reader → StepsBlocks left failed end Fails old result new
+  pub steps_blocks : {T : Type 0} (IsRead : S → Option ℕ → S → Type 0) (old new : Blocks S) (result : Result T Fault) → Stepped left failed end (view_in block_sorting old.cursor) result (view_in block_sorting new.cursor) → TellsOwnFailure IsRead (view_in block_sorting old.cursor).fault old.cursor.reader result new.cursor.reader → StepsBlocks left failed end IsRead old result new
   unfolding view_of view_with
-  steps_blocks Fails old new result there own = record { answers = stepped old new result there.answers; own_failure = own; sound = there.sound }
+  steps_blocks IsRead old new result there own = record { answers = stepped old new result there.answers; own_failure = own; sound = there.sound }
 
   answers_with : (old new : Blocks S) (ahead : Option (Member Feature)) (lent : Option BedRef) → option_map feature_lent lent ≡ option_map (λ m. m.item) ahead → BlocksStepsTo left failed old ahead new → Answers left failed end old (Ok lent) new
   answers_with old new None None e ends = ends

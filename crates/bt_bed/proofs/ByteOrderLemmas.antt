@@ -12,7 +12,7 @@ use Rattle.bt_bed.specs.ByteOrder.{byte_order, bytes_know_each_chromosome, first
 same_first : (byte : ℕ) (left right : List ℕ) → byte_order.compare (byte ∷ left) (byte ∷ right) ≡ byte_order.compare left right
 same_first byte left right = ap (λ o. ordering_then o (slice_cmp nat_cmp left right)) (tied_itself nat_cmp_total byte)
 
-less_cmp : (a b : ℕ) → a < b → nat_cmp a b ≡ Less
+pub less_cmp : (a b : ℕ) → a < b → nat_cmp a b ≡ Less
 less_cmp a b h = rw (lt-ltb a b h) refl
 
 pub prefix_first : prefixes_come_first

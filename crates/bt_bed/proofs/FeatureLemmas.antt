@@ -1,6 +1,6 @@
 -- Lemmas on the feature that a line says.
 use Rattle.std.proofs.Common.{◌≡◌, ℕ, ◌+◌, ◌-◌, ◌<◌, ◌≤◌, Bool, true, false, ◌&&◌, cond, List, [], ◌∷◌, ◌++◌, length, drop, Option, Some, None, Result, Ok, Err, refl, sym, ap, ◌∙◌, subst, arith, ltb, leb}
-use Rattle.std.proofs.lemmas.Bool.{false≢true, leb-true, ltb-true}
+use Rattle.std.proofs.lemmas.Bool.{leb-true, ltb-true, and_parts}
 use Rattle.std.proofs.lemmas.List.{length-append, drop_at}
 use Rattle.std.specs.List.{AllByRecursion, list_all}
 use Rattle.std.specs.Char.{is_ascii_digit}
@@ -17,10 +17,6 @@ use Rattle.bt_bed.specs.declared.strand.Strand.{Strand}
 use Rattle.bt_bed.proofs.Kept.{three_columns, kept_is_cut, pieces_are_columns, rest_of_three}
 use Rattle.bt_lines.proofs.ColumnLemmas.{IsColumn}
 
-last_of_both : (a b : Bool) → (a && b) ≡ true → b ≡ true
-last_of_both true b e = e
-last_of_both false b e = absurd (false≢true e)
-
 some_of : (b : Bool) (v n : ℕ) → (b ≡ true → v ≤ 999999999999) → cond b (Some v) None ≡ Some n → n ≤ 999999999999
 some_of true v n h e = let same : v ≡ n = cc in subst (λ k. k ≤ 999999999999) same (h refl)
 some_of false v n h e = cc
@@ -30,7 +26,7 @@ value_at_most : (text : List ℕ) (n : ℕ) → value_of text ≡ Some n → n �
 unfolding value_of
 value_at_most text n e =
     some_of (is_number text) (digits_value 10 text) n
-    (λ yes. leb-true (digits_value 10 text) 999999999999 (last_of_both (ltb 0 (length text) && list_all is_ascii_digit text) (leb (digits_value 10 text) 999999999999) yes)) e
+    (λ yes. leb-true (digits_value 10 text) 999999999999 ((and_parts (ltb 0 (length text) && list_all is_ascii_digit text) (leb (digits_value 10 text) 999999999999) yes).1)) e
 
 kept_is_kept : (columns : List (List ℕ)) → is_kept (kept_columns columns) ≡ true
 kept_is_kept [] = refl
@@ -143,10 +139,6 @@ record_said text f e = skipped_or_said (is_header text) (columns_say (pieces 9 t
 -- a line that is no header says the feature that its columns say
 pub columns_say_feature : (text : List ℕ) (f : Feature) → is_header text ≡ false → Ok f ≡ columns_say (pieces 9 text) → Ok (Some f) ≡ record_of text
 columns_say_feature text f h e = ap not_skipped e ∙ sym (columns_of_line text h)
-
--- what is kept of a line stands at its end
-pub kept_is_suffix : (text : List ℕ) (f : Feature) → record_of text ≡ Ok (Some f) → (front : List ℕ) × (text ≡ front ++ f.rest)
-kept_is_suffix text f e = let s = said_stands text f (record_said text f e).1 in (f.chrom ++ 9 ∷ s.0, s.1)
 
 -- three columns, the numbers of which were found
 pub three_say : (text a b c : List ℕ) (rest : List (List ℕ)) (bounds : ℕ × ℕ) → pieces 9 text ≡ a ∷ b ∷ c ∷ rest

@@ -1,14 +1,14 @@
 -- Lemmas on the first columns of a line that are in order.
-use Rattle.std.proofs.Common.{◌≡◌, ℕ, ◌+◌, ◌^◌, ◌<◌, ◌≤◌, Bool, true, false, List, [], ◌∷◌, ◌++◌, length, take, drop, get_or, Option, Some, Ok, refl, sym, ap, ◌∙◌, subst, arith, eqb, ltb, length-take}
-use Rattle.std.specs.Prelude.{nat_lt, ◌&&◌}
+use Rattle.std.proofs.Common.{◌≡◌, ℕ, ◌+◌, ◌^◌, ◌<◌, ◌≤◌, Bool, true, false, List, [], ◌∷◌, length, take, drop, get_or, Option, Some, Ok, refl, sym, ap, ◌∙◌, subst, arith, eqb, ltb, length-take}
+use Rattle.std.specs.Prelude.{nat_lt}
 use Rattle.std.specs.Char.{is_ascii_digit}
 use Rattle.std.specs.List.{list_all}
 use Rattle.std.specs.Str.Parse.{digits_value}
-use Rattle.std.proofs.lemmas.Bool.{eqb-true}
+use Rattle.std.proofs.lemmas.Bool.{eqb-true, and_parts}
 use Rattle.std.proofs.lemmas.Bool.Decides.{nat_tests}
-use Rattle.std.proofs.lemmas.List.{take-append-drop, drop-drop, drop_more, drop_all, take_all, take_more}
-use Rattle.std.proofs.lemmas.List.Elements.{All-nil, All-cons, All-push}
-use Rattle.std.proofs.lemmas.List.Splits.{slice_split_at, slice_split_none, length-slice_split}
+use Rattle.std.proofs.lemmas.List.{drop-drop, drop_more, drop_all, take_all}
+use Rattle.std.proofs.lemmas.List.Elements.{All-nil, All-cons}
+use Rattle.std.proofs.lemmas.List.Splits.{slice_split_none, length-slice_split}
 use Rattle.bt_lines.proofs.ColumnLemmas.{cut_at}
 use Rattle.bt_lines.proofs.NumberLemmas.{digits_below, value_of_digits}
 use Rattle.bt_lines.specs.Lines.{pieces}
@@ -38,7 +38,7 @@ kept_by bytes [] e some = absurd (omega arith)
 kept_by bytes (x ∷ xs) e some = ap (λ l. 9 ∷ l) (sym (cut_and_kept bytes x xs e))
 
 -- what is kept is its columns, each with a tab before it
-kept_again : (kept : List ℕ) → is_kept kept ≡ true → kept_columns (columns_in kept) ≡ kept
+pub kept_again : (kept : List ℕ) → is_kept kept ≡ true → kept_columns (columns_in kept) ≡ kept
 kept_again [] e = refl
 kept_again (byte ∷ bytes) e =
     kept_by bytes (pieces 9 bytes) refl (omega (arith, length-slice_split (λ byte. eqb byte 9) bytes)) ∙ ap (λ b. b ∷ bytes) (sym (eqb-true byte 9 e))
@@ -78,15 +78,11 @@ direct_say text first second kept name start stop strand f s k t n p inside q be
 digit_inside : (byte : ℕ) → is_ascii_digit byte ≡ true → IsInside byte
 digit_inside byte digit = grind (arith, nat_tests)
 
-both_true : (a b : Bool) → (a && b) ≡ true → (a ≡ true) × (b ≡ true)
-both_true true b e = (refl, e)
-both_true false b e = cc
-
 -- digits have no tab among them
 pub digits_column : (bytes : List ℕ) → list_all is_ascii_digit bytes ≡ true → IsColumn bytes
 digits_column [] e = All-nil IsInside
 digits_column (byte ∷ bytes) e =
-    let parts = both_true (is_ascii_digit byte) (list_all is_ascii_digit bytes) e in
+    let parts = and_parts (is_ascii_digit byte) (list_all is_ascii_digit bytes) e in
     All-cons IsInside byte bytes (digit_inside byte parts.0) (digits_column bytes parts.1)
 
 -- the digits up to a tab or the end denote a number

@@ -1,7 +1,7 @@
 -- Lemmas on the entries of a genome file.
-use Rattle.std.proofs.Common.{◌≡◌, ℕ, zero, suc, ◌+◌, ◌<◌, ◌≤◌, arith, take, Bool, true, false, ◌||◌, cond, List, [], ◌∷◌, ◌++◌, Option, Some, None, Result, Ok, Err, refl, sym, ap, ◌∙◌, subst, append_assoc, append-nil}
+use Rattle.std.proofs.Common.{◌≡◌, ℕ, zero, suc, ◌+◌, ◌<◌, ◌≤◌, arith, take, Bool, true, false, cond, List, [], ◌∷◌, ◌++◌, Option, Some, None, Result, Ok, Err, refl, sym, ap, ◌∙◌, subst, append_assoc, append-nil}
 use Rattle.std.specs.Prelude.{IfErr, bytes_eq}
-use Rattle.std.proofs.lemmas.Bool.{false≢true}
+use Rattle.std.proofs.lemmas.Bool.{or_parts}
 use Rattle.bt_lines.specs.Fault.{Told}
 use Rattle.bt_lines.proofs.TextLemmas.{lines_are_numbered}
 use Rattle.bt_lines.specs.Lines.{TextLine, AreNumbered, text_lines}
@@ -13,22 +13,18 @@ use Rattle.bt_bed.specs.Rank.{is_among, AreDistinct}
 use Rattle.bt_bed.specs.Genome.{Entry, genome_names, genome_from, genome_with, genome_names_are_distinct, first_lines_make_entries, new_entry, entry_of, with_entry}
 use Rattle.bt_bed.proofs.NameLemmas.{name_ne-sym}
 
-pub neither : (a b : Bool) → (a || b) ≡ false → (a ≡ false) × (b ≡ false)
-neither true b e = absurd (false≢true (sym e))
-neither false b e = (refl, e)
-
 -- a name that isn't among names is none of them
 pub among_push : (names : List (List ℕ)) (n name : List ℕ) → is_among names name ≡ false → bytes_eq n name ≡ false → is_among (names ++ n ∷ []) name ≡ false
 among_push [] n name e d = rw d refl
 among_push (m ∷ ms) n name e d =
-    let parts = neither (bytes_eq m name) (is_among ms name) e in
+    let parts = or_parts (bytes_eq m name) (is_among ms name) e in
     rw (parts.0, among_push ms n name parts.1 d) refl
 
 -- a new name keeps the names distinct
 pub distinct_push : (names : List (List ℕ)) (n : List ℕ) → AreDistinct names → is_among names n ≡ false → AreDistinct (names ++ n ∷ [])
 distinct_push [] n d e = (refl, tt)
 distinct_push (m ∷ ms) n d e =
-    let parts = neither (bytes_eq m n) (is_among ms n) e in
+    let parts = or_parts (bytes_eq m n) (is_among ms n) e in
     (among_push ms n m d.0 (name_ne-sym m n parts.0), distinct_push ms n d.1 parts.1)
 
 ok_entries : (entry : Entry) (rest : Result (List Entry) Told) (entries : List Entry) → with_entry entry rest ≡ Ok entries → (more : List Entry) × (rest ≡ Ok more) × (entries ≡ entry ∷ more)

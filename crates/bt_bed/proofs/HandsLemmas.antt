@@ -1,7 +1,6 @@
 -- Lemmas on lines that were given one after another.
 use Rattle.std.proofs.Common.{◌≡◌, ℕ, suc, ◌+◌, ◌-◌, ◌^◌, ◌<◌, ◌≤◌, List, [], ◌++◌, length, take, drop, Option, Some, None, refl, sym, ap, ◌∙◌, subst, arith}
-use Rattle.std.specs.Prelude.{Bool, true, false, IfSome, option_map}
-use Rattle.std.proofs.lemmas.Bool.{false≢true}
+use Rattle.std.specs.Prelude.{Bool, IfSome, option_map}
 use Rattle.std.proofs.Math.Seq.{take-append-add}
 use Rattle.std.proofs.lemmas.List.{drop-drop}
 use Rattle.bt_lines.proofs.ReaderLemmas.{given_drops, hands_none as none_handed, hands_both as both_handed, sound_near}
@@ -55,11 +54,6 @@ numbered_by n (Some bytes) = lines_are_numbered n bytes
 -- the first n bytes of two texts, where the first of these is no longer
 front_of_both : (first second : List ℕ) (n m : ℕ) → n ≡ length first + m → take n (first ++ second) ≡ first ++ take m second
 front_of_both first second n m e = rw e (take-append-add first second m)
-
--- an end that wasn't told wasn't told before
-pub not_ended : (old now : Bool) → (old ≡ true → now ≡ true) → now ≡ false → old ≡ false
-not_ended false now h e = refl
-not_ended true now h e = absurd (false≢true (sym e ∙ h refl))
 
 module _ {S : Type 0} (left : S → Option (List ℕ)) (end : S → Bool) where
   -- lines were given, in some calls one after another

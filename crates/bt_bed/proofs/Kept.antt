@@ -3,7 +3,7 @@ use Rattle.std.proofs.Common.{◌≡◌, ℕ, ◌+◌, ◌≤◌, Bool, true, fa
 use Rattle.std.proofs.lemmas.List.{length-append, drop_at}
 use Rattle.std.proofs.lemmas.List.Splits.{slice_split_at, slice_split_none, join_with_byte-slice_split}
 use Rattle.std.proofs.lemmas.List.Elements.{All-cons}
-use Rattle.std.specs.List.{All, AllByRecursion, join_with_byte, onto_first}
+use Rattle.std.specs.List.{AllByRecursion, join_with_byte, onto_first}
 use Rattle.bt_lines.specs.Lines.{pieces}
 use Rattle.bt_lines.proofs.ColumnLemmas.{IsColumn, IsInside}
 use Rattle.bt_bed.specs.Record.{kept_columns}

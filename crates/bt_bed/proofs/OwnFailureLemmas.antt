@@ -2,13 +2,14 @@
 use Rattle.std.proofs.Common.{◌≡◌, ℕ, List, Option, Some, None, Err, ap, sym, subst, ◌∙◌, true, inl, inr}
 use Rattle.std.specs.Prelude.{◌⊎◌}
 use Rattle.std.proofs.lemmas.Bool.{false≢true}
+use Rattle.bt_lines.proofs.ReadsLemmas.{some_is, tells_no_memory, tells_read, tells_then}
 use Rattle.bt_lines.specs.Fault.{Told, no_memory, read_failed}
 use Rattle.bt_lines.specs.Names.{told}
-use Rattle.bt_lines.specs.Reader.{TellsOwnFailure as LineTellsOwnFailure, fault_kept as line_fault}
+use Rattle.bt_lines.specs.Reader.{HasRead, TellsReads, TellsOwnFailure as LineTellsOwnFailure, fault_kept as line_fault}
 use Rattle.bt_lines.specs.declared.fault.Fault.{Fault}
 use Rattle.bt_lines.specs.declared.fault.Input.{Input}
 use Rattle.bt_lines.specs.declared.fault.Kind.{Kind}
-use Rattle.bt_lines.specs.declared.fault.Kind.TheVariants.{ReadFailed, NoMemory}
+use Rattle.bt_lines.specs.declared.fault.Kind.TheVariants.{ReadFailed}
 use Rattle.bt_lines.specs.declared.fault.Place.{Place}
 use Rattle.bt_lines.specs.declared.line.Line.{Line}
 use Rattle.bt_lines.specs.declared.line_reader.LineReader.{LineReader}
@@ -31,35 +32,33 @@ line_no_read place kind input line of_line e =
     let same : kind ≡ ReadFailed = ap (λ (f : Told). f.kind) e in
     false≢true (subst (λ k. is_of_line k ≡ true) same of_line)
 
-memory_no_read : (input : Input) (line : ℕ) → no_memory ≡ read_failed input line → ⊥
-memory_no_read input line e = let apart : NoMemory ≡ ReadFailed = ap (λ (f : Told). f.kind) e in cc
+module _ (T : Type 0) {S : Type 0} (IsRead : S → Option ℕ → S → Type 0) (before : Option Told) (old new : LineReader S) (fault : Fault) where
+  module _ (read : HasRead IsRead old new) where
+    -- a line at fault tells no failed read
+    pub line_is_own : (place : Place) (kind : Kind) → is_of_line kind ≡ true → told fault ≡ fault_at_line place.input place.line kind → TellsOwnFailure {T = T} IsRead before old (Err fault) new
+    line_is_own place kind of_line is none = tells_read IsRead old new (Some (told fault)) (λ input line e. line_no_read place kind input line of_line (sym is ∙ some_is (told fault) (read_failed input line) e)) read
 
-module _ (T : Type 0) {S : Type 0} (Fails : S → S → Type 0) (before : Option Told) (new : LineReader S) (fault : Fault) where
-  -- a line at fault tells no failed read
-  pub line_is_own : (place : Place) (kind : Kind) → is_of_line kind ≡ true → told fault ≡ fault_at_line place.input place.line kind → TellsOwnFailure {T = T} Fails before (Err fault) new
-  line_is_own place kind of_line is none input line e = absurd (line_no_read place kind input line of_line (sym is ∙ e))
+    -- nor does want of memory
+    pub memory_is_own : told fault ≡ no_memory → TellsOwnFailure {T = T} IsRead before old (Err fault) new
+    memory_is_own is none = tells_no_memory IsRead old new (told fault) is read
 
-  -- nor does want of memory
-  pub memory_is_own : told fault ≡ no_memory → TellsOwnFailure {T = T} Fails before (Err fault) new
-  memory_is_own is none input line e = absurd (memory_no_read input line (sym is ∙ e))
+    -- a line that wasn't taken
+    pub lost_is_own : {Q : Type 0} (sorting : Sorting) (place : Place) (text : List ℕ) (neighbours : Neighbours Q) → LineWrong sorting place text neighbours (told fault) ⊎ LineUnkept sorting text neighbours (told fault) → TellsOwnFailure {T = T} IsRead before old (Err fault) new
+    lost_is_own sorting place text neighbours (inl wrong) = line_is_own place wrong.kind (bed_of_line wrong.kind (says_of_line sorting (last_in neighbours) text wrong.kind wrong.says)) wrong.is
+    lost_is_own sorting place text neighbours (inr unkept) = memory_is_own unkept.is
 
-  -- a line that wasn't taken
-  pub lost_is_own : {Q : Type 0} (sorting : Sorting) (place : Place) (text : List ℕ) (old : Neighbours Q) → LineWrong sorting place text old (told fault) ⊎ LineUnkept sorting text old (told fault) → TellsOwnFailure {T = T} Fails before (Err fault) new
-  lost_is_own sorting place text old (inl wrong) = line_is_own place wrong.kind (bed_of_line wrong.kind (says_of_line sorting (last_in old) text wrong.kind wrong.says)) wrong.is
-  lost_is_own sorting place text old (inr unkept) = memory_is_own unkept.is
-
-  -- the same of a genome file
-  pub refused_is_own : (place : Place) (text : List ℕ) (old : Genome) → LineRefused place text old (told fault) ⊎ EntryUnkept text old (told fault) → TellsOwnFailure {T = T} Fails before (Err fault) new
-  refused_is_own place text old (inl refused) = line_is_own place refused.kind (genome_of_line refused.kind (refused_at_place (names_of old) text refused.kind refused.says)) refused.is
-  refused_is_own place text old (inr unkept) = memory_is_own unkept.is
+    -- the same of a genome file
+    pub refused_is_own : (place : Place) (text : List ℕ) (table : Genome) → LineRefused place text table (told fault) ⊎ EntryUnkept text table (told fault) → TellsOwnFailure {T = T} IsRead before old (Err fault) new
+    refused_is_own place text table (inl refused) = line_is_own place refused.kind (genome_of_line refused.kind (refused_at_place (names_of table) text refused.kind refused.says)) refused.is
+    refused_is_own place text table (inr unkept) = memory_is_own unkept.is
 
   -- a fault that is kept is told on
-  pub kept_is_own : (was : Option Told) (kept : Option Fault) → kept ≡ Some fault → (before ≡ None → was ≡ None) → TellsOwnFailure Fails was (answer_of kept) new → TellsOwnFailure {T = T} Fails before (Err fault) new
-  kept_is_own was None is going own none input line e = cc
-  kept_is_own was (Some other) is going own none input line e =
+  pub kept_is_own : (was : Option Told) (kept : Option Fault) → kept ≡ Some fault → (before ≡ None → was ≡ None) → TellsOwnFailure IsRead was old (answer_of kept) new → TellsOwnFailure {T = T} IsRead before old (Err fault) new
+  kept_is_own was None is going own none = cc
+  kept_is_own was (Some other) is going own none =
       let same : other ≡ fault = cc in
-      own (going none) input line (ap (λ (f : Fault). told f) same ∙ e)
+      subst (λ (f : Fault). TellsReads IsRead old (Some (told f)) new) same (own (going none))
 
   -- what the reader of lines tells is told on
-  pub read_is_own : (now : LineReader S) → (before ≡ None → line_fault now ≡ None) → LineTellsOwnFailure {A = Option Line} Fails now (Err fault) new → TellsOwnFailure {T = T} Fails before (Err fault) new
-  read_is_own now going own none input line e = own (going none) (λ is. memory_no_read input line (sym is ∙ e))
+  pub read_is_own : (now : LineReader S) → HasRead IsRead old now → (before ≡ None → line_fault now ≡ None) → LineTellsOwnFailure {A = Option Line} IsRead now (Err fault) new → TellsOwnFailure {T = T} IsRead before old (Err fault) new
+  read_is_own now so_far going own none = tells_then IsRead old now new (Some (told fault)) so_far (own (going none))

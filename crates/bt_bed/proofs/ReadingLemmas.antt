@@ -3,6 +3,7 @@ use Rattle.std.proofs.Common.{◌≡◌, ℕ, suc, ◌-◌, ◌≤◌, Bool, tru
 use Rattle.std.specs.Prelude.{◌⊎◌, IsSome, IfSome, is_some, option_map}
 use Rattle.std.specs.Option.{option_to_list}
 use Rattle.std.proofs.lemmas.Bool.{false≢true}
+use Rattle.bt_lines.proofs.ReaderLemmas.{not_told}
 use Rattle.bt_lines.specs.Fault.{Told, read_failed, no_memory}
 use Rattle.bt_lines.specs.LentLine.{GivesFirst}
 use Rattle.bt_lines.specs.Lines.{TextLine, AreNumbered}
@@ -11,7 +12,7 @@ use Rattle.bt_lines.specs.declared.fault.Input.{Input}
 use Rattle.bt_lines.specs.declared.fault.Kind.{Kind}
 use Rattle.bt_lines.specs.declared.line_reader.LineReader.{LineReader}
 use Rattle.bt_bed.proofs.GoodLemmas.{beyond_from}
-use Rattle.bt_bed.proofs.HandsLemmas.{Passed, cut_fault, hands_none, hands_both, left_numbered, near_fault, near_line, not_ended, passed_line, passed_none}
+use Rattle.bt_bed.proofs.HandsLemmas.{Passed, cut_fault, hands_none, hands_both, left_numbered, near_fault, near_line, passed_line, passed_none}
 use Rattle.bt_bed.specs.Good.{Format, Good, Member, ends_with, good, good_from, with_member}
 use Rattle.bt_bed.specs.GoodLines.{IsBeyond}
 use Rattle.bt_bed.specs.LineKind.{fault_at_line, is_of_line}
@@ -157,7 +158,7 @@ module _ {S A State : Type 0} (left : S → Option (List ℕ)) (failed end : S �
   -- the reader was asked for lines, and they came
   pub record Begun (old : MemberReader S A State) : Type 0 where
     pub was_going : old.fault ≡ None
-    pub not_ended : has_ended old.below ≡ false
+    pub not_told : has_ended old.below ≡ false
 
   -- how far a step is: no member has come yet, and no fault but one of the reader of lines
   pub record Going (old now : MemberReader S A State) : Type 0 where
@@ -195,8 +196,8 @@ module _ {S A State : Type 0} (left : S → Option (List ℕ)) (failed end : S �
     }
 
     begun_by : (now : MemberReader S A State) (line : TextLine) (reader : LineReader S) → (now ≡ old) ⊎ Begun old → now.fault ≡ line_fault now.below → GivesLine left failed now.below line reader → Begun old
-    begun_by now line reader (inl same) rest gives = record { was_going = ap (λ r. r.fault) (sym same) ∙ rest ∙ gives.was_going.0; not_ended = ap (λ r. has_ended r.below) (sym same) ∙ gives.was_going.1 }
-    begun_by now line reader (inr begun) rest gives = record { was_going = begun.was_going; not_ended = begun.not_ended }
+    begun_by now line reader (inl same) rest gives = record { was_going = ap (λ r. r.fault) (sym same) ∙ rest ∙ gives.was_going.0; not_told = ap (λ r. has_ended r.below) (sym same) ∙ gives.was_going.1 }
+    begun_by now line reader (inr begun) rest gives = record { was_going = begun.was_going; not_told = begun.not_told }
 
     -- the old reader had no fault
     was_faultless : (now : MemberReader S A State) → Going old now → line_fault now.below ≡ None → old.fault ≡ None
@@ -349,7 +350,7 @@ module _ {S A State : Type 0} (left : S → Option (List ℕ)) (failed end : S �
           fails = record {
             is = fails.is ∙ ap (λ i. read_failed i (suc (lines_given now.below))) (same_input now g) ∙ ap (λ n. read_failed (input_of old.below) (suc n)) (sym gives.counted);
             cause = fails.cause;
-            before_end = not_ended (end_told old.below) (end_told now.below) g.passed.bytes.1.told_stays (gives.before_end going);
+            before_end = not_told (end_told old.below) (end_told now.below) g.passed.bytes.1.told_stays (gives.before_end going);
             cut = cut_fault left end failed old.below now.below new.below g.passed fault gives going fails.is;
           };
           passed = said;
@@ -386,7 +387,7 @@ module _ {S A State : Type 0} (left : S → Option (List ℕ)) (failed end : S �
     end_again now new g gives rest track (inl same) ended =
         let reader = gives.again (ap (λ r. has_ended r.below) same ∙ ended) in
         track reader (rest ∙ ap line_fault reader ∙ sym g.rest) ∙ same
-    end_again now new g gives rest track (inr begun) ended = absurd (false≢true (sym begun.not_ended ∙ ended))
+    end_again now new g gives rest track (inr begun) ended = absurd (false≢true (sym begun.not_told ∙ ended))
 
     room_at_end : (now : LineReader S) (reader : LineReader S) → GivesEnd left failed now reader → line_room reader ≤ line_room now
     room_at_end now reader gives = let counted = gives.bytes.1.counted in rw gives.nothing_held (omega arith)

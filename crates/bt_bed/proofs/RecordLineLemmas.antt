@@ -5,7 +5,7 @@ use Rattle.bt_lines.specs.Fault.{Told}
 use Rattle.bt_lines.specs.Output.{Output}
 use Rattle.bt_lines.specs.Putting.{FailsToPut, Puts, PutsAll}
 use Rattle.bt_lines.specs.declared.fault.Fault.{Fault}
-use Rattle.bt_lines.proofs.PuttingLemmas.{fails_before, fails_behind, puts_more}
+use Rattle.bt_lines.proofs.PuttingLemmas.{fails_before, puts_more}
 use Rattle.bt_bed.specs.Feature.{Feature}
 use Rattle.bt_bed.specs.IntervalLine.{bounds_text, span_text}
 use Rattle.bt_bed.specs.Record.{bed_text}
@@ -30,22 +30,16 @@ record_parts : (r : Feature) (end : List ℕ) → r.chrom ++ (bounds_text r.star
 record_parts r end = simp append_assoc
 
 module _ (r : Feature) (end : List ℕ) where
-  -- the record was cut off in its name
-  pub cut_in_chrom : (old new : Output) (fault : Told) → FailsToPut old r.chrom fault new → FailsToPut old (bed_text r ++ end) fault new
-  cut_in_chrom old new fault p =
-      subst (λ bytes. FailsToPut old bytes fault new) (record_parts r end) (fails_before old new r.chrom (bounds_text r.start r.stop ++ (r.rest ++ end)) fault p)
+  front_parts : (r.chrom ++ bounds_text r.start r.stop) ++ (r.rest ++ end) ≡ bed_text r ++ end
+  front_parts = append_assoc r.chrom (bounds_text r.start r.stop) (r.rest ++ end) ∙ record_parts r end
 
-  -- or in its bounds
-  pub cut_in_bounds : (old mid new : Output) (fault : Told) → PutsAll old r.chrom mid → FailsToPut mid (bounds_text r.start r.stop) fault new → FailsToPut old (bed_text r ++ end) fault new
-  cut_in_bounds old mid new fault p q =
-      let rest = r.rest ++ end in
-      subst (λ bytes. FailsToPut old bytes fault new) (record_parts r end)
-      (fails_behind old mid new r.chrom (bounds_text r.start r.stop ++ rest) fault p (fails_before mid new (bounds_text r.start r.stop) rest fault q))
+  -- the record was cut off in its name or in its bounds
+  pub cut_in_front : (old new : Output) (fault : Told) → FailsToPut old (r.chrom ++ bounds_text r.start r.stop) fault new → FailsToPut old (bed_text r ++ end) fault new
+  cut_in_front old new fault p =
+      subst (λ bytes. FailsToPut old bytes fault new) front_parts (fails_before old new (r.chrom ++ bounds_text r.start r.stop) (r.rest ++ end) fault p)
 
   -- or behind them, or put whole
-  pub puts_record : {A : Type 0} (old mid next new : Output) (result : Result A Fault) → PutsAll old r.chrom mid → PutsAll mid (bounds_text r.start r.stop) next → Puts next (r.rest ++ end) result new
+  pub puts_record : {A : Type 0} (old mid new : Output) (result : Result A Fault) → PutsAll old (r.chrom ++ bounds_text r.start r.stop) mid → Puts mid (r.rest ++ end) result new
       → Puts old (bed_text r ++ end) result new
-  puts_record old mid next new result p q s =
-      let rest = r.rest ++ end in
-      subst (λ bytes. Puts old bytes result new) (record_parts r end)
-      (puts_more old mid new r.chrom (bounds_text r.start r.stop ++ rest) result p (puts_more mid next new (bounds_text r.start r.stop) rest result q s))
+  puts_record old mid new result p q =
+      subst (λ bytes. Puts old bytes result new) front_parts (puts_more old mid new (r.chrom ++ bounds_text r.start r.stop) (r.rest ++ end) result p q)

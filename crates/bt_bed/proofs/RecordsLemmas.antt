@@ -131,9 +131,9 @@ module _ {S O : Type 0} {g : Ghosts O} (left : S → Option (List ℕ)) (failed 
   was_view = refl
 
   -- a step of the reader below
-  pub steps_record : {T : Type 0} (Fails : S → S → Type 0) (result : Result T Fault) → IsTotal (order_in old) → Stepped left failed end (view_in (sorting_at g old.cursor) old.cursor) result (view_in (sorting_at g old.cursor) new.cursor) → TellsOwnFailure Fails (view_in (sorting_at g old.cursor) old.cursor).fault result new.cursor.reader → StepsRecord left failed end Fails old result new
+  pub steps_record : {T : Type 0} (IsRead : S → Option ℕ → S → Type 0) (result : Result T Fault) → IsTotal (order_in old) → Stepped left failed end (view_in (sorting_at g old.cursor) old.cursor) result (view_in (sorting_at g old.cursor) new.cursor) → TellsOwnFailure IsRead (view_in (sorting_at g old.cursor) old.cursor).fault old.cursor.reader result new.cursor.reader → StepsRecord left failed end IsRead old result new
   unfolding view_of view_with
-  steps_record Fails result total steps own =
+  steps_record IsRead result total steps own =
       let there : Stepped left failed end (view_of old) result (view_of new) = rw (same_view, ← was_view) steps in
       record {
         answers = stepped left failed end old new result total there.answers;

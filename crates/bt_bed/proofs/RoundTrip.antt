@@ -1,23 +1,23 @@
 -- What a line says is said by its bytes, written anew.
-use Rattle.std.proofs.Common.{◌≡◌, ℕ, ◌<◌, ◌≤◌, true, ◌==◌, ◌||◌, cond, List, [], ◌∷◌, ◌++◌, length, Some, Ok, refl, sym, ap, ◌∙◌, arith, ltb, leb, eqb, decimal, append_assoc}
-use Rattle.std.proofs.lemmas.Bool.{eqb-true, lt-ltb}
+use Rattle.std.proofs.Common.{◌≡◌, ℕ, ◌<◌, ◌≤◌, true, ◌==◌, ◌||◌, cond, List, [], ◌∷◌, ◌++◌, length, Some, Ok, refl, sym, ap, ◌∙◌, arith, ltb, leb, decimal, append_assoc}
+use Rattle.std.proofs.lemmas.Bool.{lt-ltb}
 use Rattle.std.proofs.lemmas.Bool.Decides.{nat_tests}
 use Rattle.std.proofs.lemmas.Fmt.{decimal_is_IsNumeral}
 use Rattle.std.proofs.lemmas.List.Elements.{All-cons}
-use Rattle.std.proofs.lemmas.List.Splits.{length-slice_split}
 use Rattle.std.proofs.lemmas.Str.Parse.{digit_from_value}
 use Rattle.std.specs.Char.{is_ascii_digit}
 use Rattle.std.specs.Int.{IsInRange}
 use Rattle.std.specs.List.{AllByRecursion, list_all}
 use Rattle.std.specs.Str.Parse.{AllDigits, digits_value}
+use Rattle.bt_bed.proofs.FirstColumnLemmas.{kept_again}
 use Rattle.bt_lines.specs.Lines.{pieces}
 use Rattle.bt_lines.specs.Number.{value_of}
 use Rattle.bt_bed.specs.Feature.{Feature}
 use Rattle.bt_bed.specs.Header.{ends_word, first_word, is_header, is_header_word}
-use Rattle.bt_bed.specs.Record.{IsFeature, is_kept, bed_text, columns_in, columns_say, feature_of, kept_columns, not_skipped, read_are_rewritten, said_are_features, written_are_read}
+use Rattle.bt_bed.specs.Record.{IsFeature, bed_text, columns_in, columns_say, feature_of, kept_columns, not_skipped, read_are_rewritten, said_are_features, written_are_read}
 use Rattle.bt_bed.proofs.FeatureLemmas.{columns_of_line, record_said, said_is_feature, said_stands, whole}
 use Rattle.bt_bed.proofs.HeaderLemmas.{of_word}
-use Rattle.bt_bed.proofs.Kept.{cut_and_kept, kept_is_cut, pieces_are_columns}
+use Rattle.bt_bed.proofs.Kept.{kept_is_cut, pieces_are_columns}
 use Rattle.bt_lines.proofs.ColumnLemmas.{IsColumn, IsInside}
 
 -- a decimal digit is a digit and no tab
@@ -49,16 +49,6 @@ value_of_decimal n small = let d = decimal_is_IsNumeral n (omega arith) in value
 decimal_is_column : (n : ℕ) → n ≤ 999999999999 → IsColumn (decimal n)
 decimal_is_column n small = digits_are_column (decimal n) (decimal_is_IsNumeral n (omega arith)).0.1
 
--- the pieces of a text, each with a tab before it, are the text with a tab before it
-kept_pieces : (bytes : List ℕ) (columns : List (List ℕ)) → pieces 9 bytes ≡ columns → kept_columns columns ≡ 9 ∷ bytes
-kept_pieces bytes [] e = absurd (omega (arith, length-slice_split (λ byte. eqb byte 9) bytes, ap length e))
-kept_pieces bytes (x ∷ xs) e = ap (λ l. 9 ∷ l) (sym (cut_and_kept bytes x xs e))
-
--- a kept rest is its columns
-kept_rest : (rest : List ℕ) → is_kept rest ≡ true → kept_columns (columns_in rest) ≡ rest
-kept_rest [] h = refl
-kept_rest (byte ∷ bytes) h = kept_pieces bytes (pieces 9 bytes) refl ∙ ap (λ b. b ∷ bytes) (sym (eqb-true byte 9 h))
-
 rest_are_columns : (rest : List ℕ) → AllByRecursion IsColumn (columns_in rest)
 rest_are_columns [] = tt
 rest_are_columns (byte ∷ bytes) = pieces_are_columns bytes
@@ -72,7 +62,7 @@ columns_of_text : (f : Feature) → IsFeature f → pieces 9 (bed_text f) ≡ f.
 columns_of_text f is =
     let small : f.start ≤ 999999999999 = omega (arith, is.non_empty, is.in_range) in
     let text : bed_text f ≡ f.chrom ++ kept_columns (decimal f.start ∷ decimal f.stop ∷ columns_in f.rest) =
-    ap (λ l. f.chrom ++ 9 ∷ [] ++ decimal f.start ++ 9 ∷ [] ++ decimal f.stop ++ l) (sym (kept_rest f.rest is.kept)) ∙ simp append_assoc in
+    ap (λ l. f.chrom ++ 9 ∷ [] ++ decimal f.start ++ 9 ∷ [] ++ decimal f.stop ++ l) (sym (kept_again f.rest is.kept)) ∙ simp append_assoc in
     ap (pieces 9) text
     ∙ kept_is_cut f.chrom (decimal f.start ∷ decimal f.stop ∷ columns_in f.rest) is.named.one_column
     (decimal_is_column f.start small, (decimal_is_column f.stop is.in_range, rest_are_columns f.rest))
@@ -80,7 +70,7 @@ columns_of_text f is =
 -- a feature is made of its columns
 whole_again : (f : Feature) → IsFeature f → whole f.chrom f.start f.stop (columns_in f.rest) ≡ f
 whole_again f is = ap (λ s. record { chrom = f.chrom; start = f.start; stop = f.stop; strand = s; rest = kept_columns (columns_in f.rest) }) (sym is.stranded)
-    ∙ ap (λ r. record { chrom = f.chrom; start = f.start; stop = f.stop; strand = f.strand; rest = r }) (kept_rest f.rest is.kept)
+    ∙ ap (λ r. record { chrom = f.chrom; start = f.start; stop = f.stop; strand = f.strand; rest = r }) (kept_again f.rest is.kept)
 
 text_says : (f : Feature) → IsFeature f → columns_say (pieces 9 (bed_text f)) ≡ Ok f
 text_says f is =

@@ -16,17 +16,19 @@ use Rattle.bt_lines.specs.declared.fault.Kind.{Kind}
 use Rattle.bt_lines.specs.declared.fault.Kind.TheVariants.{TooFewColumns, EmptyName, BadLength, RepeatedChrom}
 use Rattle.bt_lines.specs.declared.fault.Place.{Place}
 use Rattle.bt_lines.specs.declared.line_reader.LineReader.{LineReader}
-use Rattle.bt_bed.proofs.GenomeLemmas.{before_err, before_ok, distinct_push, is_new, neither, says_then}
+use Rattle.bt_bed.proofs.GenomeLemmas.{before_err, before_ok, distinct_push, is_new, says_then}
 use Rattle.bt_bed.proofs.NameLemmas.{name_eq-sym}
 use Rattle.std.specs.List.{position_from}
 use Rattle.std.specs.Map.{keys_of}
 use Rattle.std.specs.declared.alloc.Global.{Global}
 use Rattle.std.proofs.lemmas.Iterator.Adapters.{position_from-zero}
+use Rattle.std.proofs.lemmas.Bool.{or_parts}
+use Rattle.bt_lines.proofs.ReaderLemmas.{not_told}
 use Rattle.indexmap.specs.IndexMap.{insert_entry}
 use Rattle.bt_bed.specs.Genome.{Entry, is_skipped, genome_names, genome_from, genome_of, new_entry, entry_of, entry_from, columns_give}
 use Rattle.bt_bed.specs.LineKind.{fault_at_line, is_genome_kind}
 use Rattle.bt_bed.specs.Rank.{is_among, rank_of, AreDistinct}
-use Rattle.bt_bed.proofs.HandsLemmas.{Passed, cut_fault, hands_both, near_fault, near_line, not_ended, passed_line, passed_none}
+use Rattle.bt_bed.proofs.HandsLemmas.{Passed, cut_fault, hands_both, near_fault, near_line, passed_line, passed_none}
 use Rattle.bt_bed.specs.Record.{not_skipped}
 use Rattle.bt_bed.specs.GenomeTable.{entries, names_of, entry_seen, IsToldFirst, LineAdded, LineRefused, LineUnkept, ReadsAll, EntryIsWrong, ReadingStops, StopCause}
 use Rattle.bt_bed.specs.declared.genome.Genome.{Genome}
@@ -114,7 +116,7 @@ inserted_last : (chromosomes : List (Vec ℕ Global × ℕ)) (name : Vec ℕ Glo
     → insert_entry (λ a b. bytes_eq a.items b.items) chromosomes name size ≡ chromosomes ++ (name, size) ∷ []
 inserted_last [] name size e = refl
 inserted_last (chromosome ∷ more) name size e =
-    let parts = neither (bytes_eq chromosome.0.items name.items) (is_among (genome_names (map entry_seen more)) name.items) e in
+    let parts = or_parts (bytes_eq chromosome.0.items name.items) (is_among (genome_names (map entry_seen more)) name.items) e in
     rw (name_eq-sym name.items chromosome.0.items, parts.0, inserted_last more name size parts.1) refl
 
 -- a name that isn't among the chromosomes goes last
@@ -321,7 +323,7 @@ module _ {S : Type 0} (left : S → Option (List ℕ)) (failed end : S → Bool)
     fails = record {
       is = fails.is ∙ ap (λ i. read_failed i (suc (lines_given now))) (same_input now genome g) ∙ ap (λ n. read_failed (input_of old) (suc n)) (sym gives.counted);
       cause = fails.cause;
-      before_end = not_ended (end_told old) (end_told now) g.passed.bytes.1.told_stays (gives.before_end going);
+      before_end = not_told (end_told old) (end_told now) g.passed.bytes.1.told_stays (gives.before_end going);
       cut = cut_fault left end failed old now new g.passed fault gives going fails.is;
     };
     passed = rw gives.counted (given_entries (input_of old) (lines_left left old) (lines_left left now) (lines_given old) (lines_given now) (entries genome) g.continues);

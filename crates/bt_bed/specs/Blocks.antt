@@ -78,10 +78,10 @@ module _ {S : Type 0} where
 
   -- a call of `peek`, with the record held in place of lent
   pub record StepsBlocks {A : Type 0} (left : S → Option (List ℕ)) (failed end : S → Bool)
-      (Fails : S → S → Type 0)
+      (IsRead : S → Option ℕ → S → Type 0)
       (old : Blocks S) (answer : Result A Fault) (new : Blocks S) : Type 0 where
     pub answers : StepAnswers left failed end old answer new
-    pub own_failure : TellsOwnFailure Fails (fault_kept old) answer (below new)
+    pub own_failure : TellsOwnFailure IsRead (fault_kept old) (below old) answer (below new)
     pub sound : IsSound left end (below old) → IsSound left end (below new)
 
   -- what an answer says
@@ -95,10 +95,10 @@ module _ {S : Type 0} where
 
   -- one call of `peek`
   pub record PeeksBlocks (left : S → Option (List ℕ)) (failed end : S → Bool)
-      (Fails : S → S → Type 0) (old : Blocks S)
+      (IsRead : S → Option ℕ → S → Type 0) (old : Blocks S)
       (answer : Result (Option BedRef) Fault) (new : Blocks S) : Type 0 where
     pub answers : Answers left failed end old answer new
-    pub own_failure : TellsOwnFailure Fails (fault_kept old) answer (below new)
+    pub own_failure : TellsOwnFailure IsRead (fault_kept old) (below old) answer (below new)
     pub sound : IsSound left end (below old) → IsSound left end (below new)
 
   -- one call of `advance`: the record ahead is the last one, and nothing is read

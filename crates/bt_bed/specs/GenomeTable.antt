@@ -133,8 +133,8 @@ module _ {S : Type 0} where
 
   -- what reading a genome file does
   pub record ReadsGenome (left : S → Option (List ℕ)) (failed end : S → Bool)
-      (Fails : S → S → Type 0) (old : LineReader S)
+      (IsRead : S → Option ℕ → S → Type 0) (old : LineReader S)
       (answer : Result Genome Fault) (new : LineReader S) : Type 0 where
     pub answers : GenomeAnswers left failed end old answer new
-    pub own_failure : TellsOwnFailure Fails (fault_kept old) answer new
+    pub own_failure : TellsOwnFailure IsRead (fault_kept old) old answer new
     pub sound : IsSound left end old → IsSound left end new

@@ -4,10 +4,10 @@ use Rattle.std.specs.Prelude.{[], ◌∷◌, drop, length, Option, Some, None, o
 use Rattle.std.specs.Prelude.{Err, IsSome, IfSome, ⊤}
 use Rattle.std.specs.Option.{option_to_list}
 use Rattle.bt_lines.specs.Fault.{Told, read_failed, no_memory}
-use Rattle.bt_lines.specs.Filling.{LastReadFails}
 use Rattle.bt_lines.specs.Lines.{TextLine}
 use Rattle.bt_lines.specs.Names.{told}
-use Rattle.bt_lines.specs.Reader.{CutsOff, Hands, IsNear, IsSound, end_told, source_of, input_of}
+use Rattle.bt_lines.specs.Reader.{CutsOff, Hands, HasRead, IsNear, IsSound, TellsReads}
+use Rattle.bt_lines.specs.Reader.{end_told, input_of, source_of}
 use Rattle.bt_lines.specs.Reader.{lines_given, bytes_taken, has_ended, lines_left}
 use Rattle.bt_lines.specs.Reader.{room as line_room, fault_kept as line_fault}
 use Rattle.bt_lines.specs.declared.fault.Fault.{Fault}
@@ -70,13 +70,13 @@ module _ {S : Type 0} where
     pub cut : IsSound left end old → CutsOff left old new
 
   -- A failed read is told for the first time only where a read of this call failed, whatever the
-  -- source did before, or where the text is too long.
-  abbrev pub TellsOwnFailure : {T : Type 0} → (S → S → Type 0) → Option Told → Result T Fault
-      → LineReader S → Type 0
-  TellsOwnFailure Fails before (Ok done) new = ⊤
-  TellsOwnFailure Fails before (Err fault) new = before ≡ None → (input : Input) → (line : ℕ)
-      → told fault ≡ read_failed input line
-      → LastReadFails Fails (source_of new) ⊎ (2 ^ 63 ≤ bytes_taken new)
+  -- source did before, or where the text is too long, by what its reads gave; else all reads of the
+  -- call served.
+  abbrev pub TellsOwnFailure : {T : Type 0} → (S → Option ℕ → S → Type 0) → Option Told
+      → LineReader S → Result T Fault → LineReader S → Type 0
+  TellsOwnFailure IsRead before old (Ok done) new = HasRead IsRead old new
+  TellsOwnFailure IsRead before old (Err fault) new = before ≡ None
+      → TellsReads IsRead old (Some (told fault)) new
 
   -- memory ran out
   pub record MemoryRanOut (failed : S → Bool) (old new : LineReader S) (fault : Told) : Type 0 where

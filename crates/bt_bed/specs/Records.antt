@@ -85,10 +85,10 @@ module _ {S O : Type 0} {g : Ghosts O} where
 
   -- a call of `peek`, with the record held in place of lent
   pub record StepsRecord {A : Type 0} (left : S → Option (List ℕ)) (failed end : S → Bool)
-      (Fails : S → S → Type 0)
+      (IsRead : S → Option ℕ → S → Type 0)
       (old : Records S O g) (answer : Result A Fault) (new : Records S O g) : Type 0 where
     pub answers : StepAnswers left failed end old answer new
-    pub own_failure : TellsOwnFailure Fails (fault_kept old) answer (below new)
+    pub own_failure : TellsOwnFailure IsRead (fault_kept old) (below old) answer (below new)
     pub sound : IsSound left end (below old) → IsSound left end (below new)
     pub order : order_in new ≡ order_in old
 
@@ -103,10 +103,10 @@ module _ {S O : Type 0} {g : Ghosts O} where
 
   -- one call of `peek`
   pub record PeeksRecord (left : S → Option (List ℕ)) (failed end : S → Bool)
-      (Fails : S → S → Type 0) (old : Records S O g)
+      (IsRead : S → Option ℕ → S → Type 0) (old : Records S O g)
       (answer : Result (Option BedRef) Fault) (new : Records S O g) : Type 0 where
     pub answers : Answers left failed end old answer new
-    pub own_failure : TellsOwnFailure Fails (fault_kept old) answer (below new)
+    pub own_failure : TellsOwnFailure IsRead (fault_kept old) (below old) answer (below new)
     pub sound : IsSound left end (below old) → IsSound left end (below new)
     pub order : order_in new ≡ order_in old
 

@@ -52,7 +52,7 @@ impl<S: Source> Blocks<S> {
     #[inline]
     pub fn peek(&mut self) -> Result<Option<BedRef<'_>>, Fault>
         ensures* after { sem 𝓛 (Rests (the_row S.row) self.entry
-            (λ new. PeeksBlocks S.left S.has_failed S.end_told S.read_fails self.old result new)) }
+            (λ new. PeeksBlocks S.left S.has_failed S.end_told S.is_read self.old result new)) }
     {
         self.step()?;
         Ok(self.cursor.record())
@@ -84,7 +84,7 @@ impl<S: Source> Blocks<S> {
 
     // Reads on to the next record, if none is ahead and there is one.
     fn step(&mut self) -> Result<(), Fault>
-        ensures { StepsBlocks S.left S.has_failed S.end_told S.read_fails self.old result self.new }
+        ensures { StepsBlocks S.left S.has_failed S.end_told S.is_read self.old result self.new }
     {
         self.cursor.step()
     }

@@ -74,8 +74,8 @@ impl<S: Source, Q: Sorted + Drop> Cursor<S, Q> {
         ensures step { Stepped S.left S.has_failed S.end_told
             (view_in (Q.sorting self.old.neighbours.rule) self.old) result
             (view_in (Q.sorting self.old.neighbours.rule) self.new) }
-        ensures own_failure { TellsOwnFailure S.read_fails
-            (view_in (Q.sorting self.old.neighbours.rule) self.old).fault result self.new.reader }
+        ensures own_failure { TellsOwnFailure S.is_read
+            (view_in (Q.sorting self.old.neighbours.rule) self.old).fault self.old.reader result self.new.reader }
         ensures placed { IsPlaced (Q.sorting self.old.neighbours.rule)
             (view_in (Q.sorting self.old.neighbours.rule) self.new) }
     {
@@ -124,7 +124,7 @@ impl<S: Source, Q: Sorted + Drop> Cursor<S, Q> {
         ensures step { Stepped S.left S.has_failed S.end_told
             (view_in (Q.sorting self.old.neighbours.rule) self.old) (answer_of self.new.fault)
             (view_in (Q.sorting self.old.neighbours.rule) self.new) }
-        ensures own_failure { TellsOwnFailure S.read_fails (line_fault self.old.reader)
+        ensures own_failure { TellsOwnFailure S.is_read (line_fault self.old.reader) self.old.reader
             (answer_of self.new.fault) self.new.reader }
         ensures placed { IsPlaced (Q.sorting self.old.neighbours.rule)
             (view_in (Q.sorting self.old.neighbours.rule) self.new) }
@@ -145,7 +145,8 @@ impl<S: Source, Q: Sorted + Drop> Cursor<S, Q> {
         ensures step { Stepped S.left S.has_failed S.end_told
             (view_with (Q.sorting self.old.neighbours.rule) None self.old.reader self.old.neighbours) result
             (view_with (Q.sorting self.old.neighbours.rule) (fault_in result) self.new.reader self.new.neighbours) }
-        ensures own_failure { TellsOwnFailure S.read_fails (line_fault self.old.reader) result self.new.reader }
+        ensures own_failure { TellsOwnFailure S.is_read (line_fault self.old.reader) self.old.reader result
+            self.new.reader }
         ensures placed { IsPlaced (Q.sorting self.old.neighbours.rule)
             (view_with (Q.sorting self.old.neighbours.rule) (fault_in result) self.new.reader self.new.neighbours) }
     {

@@ -26,14 +26,19 @@ pub fn put_interval<K: Sink>(
     put_both(chrom, &text[first..], out)
 }
 
-// Puts the bounds of an interval after its name, without a line feed.
+// Puts the name and the bounds of an interval, without a line feed.
 #[inline]
-pub(crate) fn put_bounds<K: Sink>(start: u64, stop: u64, out: &mut Out<K>) -> Result<(), Fault>
-    ensures { Puts out.old (bounds_text start stop) result out.new }
+pub(crate) fn put_columns<K: Sink>(
+    chrom: &[u8],
+    start: u64,
+    stop: u64,
+    out: &mut Out<K>,
+) -> Result<(), Fault>
+    ensures { Puts out.old (chrom.now ++ bounds_text start stop) result out.new }
 {
     let mut text = [0; ROOM];
     let first = write_span(start, stop, &mut text);
-    out.put(&text[first..ROOM - 1])
+    put_both(chrom, &text[first..ROOM - 1], out)
 }
 
 // Writes what follows the name so that it ends where the text does, and gives where it begins.

@@ -6,8 +6,8 @@ ghost use Rattle.bt_bed.specs.Bed.{feature_lent};
 ghost use Rattle.bt_bed.specs.Record.{bed_text, cut_to};
 
 use crate::bed::BedRef;
-use crate::interval_line::put_bounds;
-use bt_lines::{Fault, Out, Sink, put_column};
+use crate::interval_line::put_columns;
+use bt_lines::{Fault, Out, Sink, put_line};
 
 /// Puts a record and what ends it, as a tab or a line feed: chromosome, start, end and the kept
 /// columns, with tabs between them. Start and end are printed without leading zeros. It takes no
@@ -29,9 +29,8 @@ pub fn put_cut<K: Sink>(
 ) -> Result<(), Fault>
     ensures { Puts out.old (bed_text (cut_to start stop (feature_lent bed.now)) ++ end.now) result out.new }
 {
-    out.put(bed.chrom)?;
-    put_bounds(start, stop, out)?;
-    put_column(bed.rest, end, out)
+    put_columns(bed.chrom, start, stop, out)?;
+    put_line(bed.rest, end, out)
 }
 
 #[cfg(test)]

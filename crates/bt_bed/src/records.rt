@@ -61,7 +61,7 @@ impl<'o, S: Source, O: ChromOrder> Records<'o, S, O> {
     pub fn peek(&mut self) -> Result<Option<BedRef<'_>>, Fault>
         ensures* after { sem 𝓛 (Rests (the_row (record { mir = named 0; lft = [] }) S.row O.row O.ChromOrder)
             self.entry
-            (λ new. PeeksRecord S.left S.has_failed S.end_told S.read_fails self.old result new)) }
+            (λ new. PeeksRecord S.left S.has_failed S.end_told S.is_read self.old result new)) }
     {
         self.step()?;
         Ok(self.cursor.record())
@@ -95,7 +95,7 @@ impl<'o, S: Source, O: ChromOrder> Records<'o, S, O> {
     /// it: with [`Records::record`] its line can be asked for while it is lent.
     #[inline]
     pub fn step(&mut self) -> Result<(), Fault>
-        ensures { StepsRecord S.left S.has_failed S.end_told S.read_fails self.old result self.new }
+        ensures { StepsRecord S.left S.has_failed S.end_told S.is_read self.old result self.new }
     {
         self.cursor.step()
     }

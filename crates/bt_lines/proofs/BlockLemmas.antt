@@ -1,27 +1,23 @@
 -- Lemmas on the bytes of a block.
-use Rattle.std.proofs.Common.{◌≡◌, ℕ, ◌+◌, ◌-◌, ◌<◌, ◌≤◌, Bool, true, false, List, ◌∷◌, ◌++◌, length, take, drop, get_or, slice_range, Some, None, refl, sym, ap, ◌∙◌, arith}
+use Rattle.std.proofs.Common.{◌≡◌, ℕ, ◌+◌, ◌-◌, ◌<◌, ◌≤◌, List, ◌∷◌, ◌++◌, length, take, drop, get_or, slice_range, Some, None, sym, ap, ◌∙◌, arith}
 use Rattle.std.proofs.lemmas.List.{take-append-drop, drop_more, get_or-take, get_or_default, length-take, length-take-le, drop-take, drop-drop}
-use Rattle.std.proofs.lemmas.Bool.{eqb-true}
+use Rattle.std.proofs.lemmas.Bool.{eqb-true, false_from_ne_true}
 use Rattle.memchr.specs.Find.{IsFirstByte, is_byte}
 use Rattle.bt_lines.specs.Block.{IsFirstFeed, unread}
 use Rattle.bt_lines.specs.declared.block.Block.{Block}
 use Rattle.bt_lines.specs.Output.{block_size}
 use Rattle.bt_lines.specs.LentLine.{NoLineFeed}
 
-not_true : (b : Bool) → (b ≡ true → ⊥) → b ≡ false
-not_true true h = absurd (h refl)
-not_true false h = refl
-
 -- the first line feed, as a search finds it
 pub first_feed : (bytes : List ℕ) (found : _) → IsFirstByte (is_byte 10) bytes found → IsFirstFeed bytes found
-first_feed bytes None nowhere = λ k d h. rw (get_or_default bytes k d 0 h) (not_true _ (nowhere k (omega arith) h))
+first_feed bytes None nowhere = λ k d h. rw (get_or_default bytes k d 0 h) (false_from_ne_true _ (nowhere k (omega arith) h))
 first_feed bytes (Some i) first =
     let below : i < length bytes = first.0.high in
     let size : length (take i bytes) ≡ i = length-take-le i bytes (omega arith) in
     let is : get_or bytes i 0 ≡ 10 = eqb-true (get_or bytes i 0) 10 first.1 in
     let clear : NoLineFeed (take i bytes) =
     λ k d h. let small : k < i = omega (arith, size, h) in
-    rw (get_or-take i bytes k d small, get_or_default bytes k d 0 (omega arith)) (not_true _ (first.0.before k (omega arith) small)) in
+    rw (get_or-take i bytes k d small, get_or_default bytes k d 0 (omega arith)) (false_from_ne_true _ (first.0.before k (omega arith) small)) in
     (below, sym (take-append-drop i bytes) ∙ ap (λ l. take i bytes ++ l) (drop_more bytes i 0 below ∙ ap (λ b. b ∷ drop (i + 1) bytes) is), clear)
 
 -- the rest behind some bytes that were taken

@@ -10,6 +10,7 @@ use Rattle.std.specs.Int.Bits.{and_zero_r, xor_add_and, xor_zero_r}
 use Rattle.std.specs.List.{list_all}
 use Rattle.std.specs.Str.Parse.{digits_value}
 use Rattle.bt_lines.proofs.NumberLemmas.{digit_is, refused_second, value_of_digits}
+use Rattle.bt_lines.specs.Digits.{AreOnes}
 use Rattle.bt_lines.specs.Number.{value_of}
 
 -- the number whose bytes these are, the first the lowest
@@ -344,11 +345,11 @@ eight_small (a ∷ b ∷ c ∷ d ∷ e ∷ f ∷ []) n all = absurd (omega arith
 eight_small (a ∷ b ∷ c ∷ d ∷ e ∷ f ∷ g ∷ []) n all = absurd (omega arith)
 eight_small (a ∷ b ∷ c ∷ d ∷ e ∷ f ∷ g ∷ h ∷ i ∷ more) n all = absurd (omega arith)
 
--- the code's value is that of the digits
-pub value_by_pairs : (bytes : List ℕ) → length bytes ≡ 8 → AreWithin 48 57 bytes → Some (value_in (pairs_in (ones_in bytes))) ≡ value_of bytes
-value_by_pairs bytes n all =
+-- eight digits denote their value
+pub value_of_eight_digits : (bytes : List ℕ) → length bytes ≡ 8 → AreWithin 48 57 bytes → Some (digits_value 10 bytes) ≡ value_of bytes
+value_of_eight_digits bytes n all =
     let is = eight_small bytes n all in
-    ap Some is.0 ∙ value_of_digits bytes (omega arith) (within_digits bytes all) is.1
+    value_of_digits bytes (omega arith) (within_digits bytes all) is.1
 
 -- the first of eight bytes behind zeros' codes, so that they come last
 pub record Behind (bytes : List ℕ) (count : ℕ) : Type 0 where
@@ -356,7 +357,7 @@ pub record Behind (bytes : List ℕ) (count : ℕ) : Type 0 where
   pub size : length padded ≡ 8
   pub within : AreWithin 0 255 padded
   pub shifted : ones_in bytes * 2 ^ (64 - 8 * count) % 18446744073709551616 ≡ ones_in padded
-  pub digits : AreWithin 48 57 padded → AreWithin 48 57 (take count bytes)
+  pub digits : AreWithin 48 57 (take count bytes) → AreWithin 48 57 padded
   pub same : digits_value 10 padded ≡ digits_value 10 (take count bytes)
 
 shift_1 : (a b c d e f g h : ℕ) → AreWithin 0 255 (a ∷ b ∷ c ∷ d ∷ e ∷ f ∷ g ∷ h ∷ [])
@@ -387,7 +388,7 @@ shift_7 : (a b c d e f g h : ℕ) → AreWithin 0 255 (a ∷ b ∷ c ∷ d ∷ e
     → worth (a ∷ b ∷ c ∷ d ∷ e ∷ f ∷ g ∷ h ∷ []) * 256 % 18446744073709551616 ≡ worth (0 ∷ a ∷ b ∷ c ∷ d ∷ e ∷ f ∷ g ∷ [])
 shift_7 a b c d e f g h (a1, a2, (b1, b2, (c1, c2, (d1, d2, (e1, e2, (f1, f2, (g1, g2, (h1, h2, none)))))))) = omega arith
 
-behind : (a b c d e f g h count : ℕ) → 0 < count → count < 8 → AreWithin 0 255 (a ∷ b ∷ c ∷ d ∷ e ∷ f ∷ g ∷ h ∷ []) → Behind (a ∷ b ∷ c ∷ d ∷ e ∷ f ∷ g ∷ h ∷ []) count
+behind : (a b c d e f g h count : ℕ) → 0 < count → count ≤ 8 → AreWithin 0 255 (a ∷ b ∷ c ∷ d ∷ e ∷ f ∷ g ∷ h ∷ []) → Behind (a ∷ b ∷ c ∷ d ∷ e ∷ f ∷ g ∷ h ∷ []) count
 behind a b c d e f g h zero some few all = absurd (omega (arith, some))
 behind a b c d e f g h (suc zero) some few (a1, a2, (b1, b2, (c1, c2, (d1, d2, (e1, e2, (f1, f2, (g1, g2, (h1, h2, none)))))))) =
     let all : AreWithin 0 255 (a ∷ b ∷ c ∷ d ∷ e ∷ f ∷ g ∷ h ∷ []) = (a1, a2, (b1, b2, (c1, c2, (d1, d2, (e1, e2, (f1, f2, (g1, g2, (h1, h2, tt)))))))) in
@@ -400,7 +401,7 @@ behind a b c d e f g h (suc zero) some few (a1, a2, (b1, b2, (c1, c2, (d1, d2, (
           ap (λ n. n * 72057594037927936 % 18446744073709551616) (ones_are (a ∷ b ∷ c ∷ d ∷ e ∷ f ∷ g ∷ h ∷ []) refl all)
           ∙ shift_1 (bit_xor a 48) (bit_xor b 48) (bit_xor c 48) (bit_xor d 48) (bit_xor e 48) (bit_xor f 48) (bit_xor g 48) (bit_xor h 48) (flipped_within (a ∷ b ∷ c ∷ d ∷ e ∷ f ∷ g ∷ h ∷ []) all)
           ∙ sym (ones_are (48 ∷ 48 ∷ 48 ∷ 48 ∷ 48 ∷ 48 ∷ 48 ∷ a ∷ []) refl within);
-      digits = λ digits. digits.2.2.2.2.2.2.2;
+      digits = λ digits. (omega arith, omega arith, (omega arith, omega arith, (omega arith, omega arith, (omega arith, omega arith, (omega arith, omega arith, (omega arith, omega arith, (omega arith, omega arith, digits)))))));
       same = refl;
     }
 behind a b c d e f g h (suc (suc zero)) some few (a1, a2, (b1, b2, (c1, c2, (d1, d2, (e1, e2, (f1, f2, (g1, g2, (h1, h2, none)))))))) =
@@ -414,7 +415,7 @@ behind a b c d e f g h (suc (suc zero)) some few (a1, a2, (b1, b2, (c1, c2, (d1,
           ap (λ n. n * 281474976710656 % 18446744073709551616) (ones_are (a ∷ b ∷ c ∷ d ∷ e ∷ f ∷ g ∷ h ∷ []) refl all)
           ∙ shift_2 (bit_xor a 48) (bit_xor b 48) (bit_xor c 48) (bit_xor d 48) (bit_xor e 48) (bit_xor f 48) (bit_xor g 48) (bit_xor h 48) (flipped_within (a ∷ b ∷ c ∷ d ∷ e ∷ f ∷ g ∷ h ∷ []) all)
           ∙ sym (ones_are (48 ∷ 48 ∷ 48 ∷ 48 ∷ 48 ∷ 48 ∷ a ∷ b ∷ []) refl within);
-      digits = λ digits. digits.2.2.2.2.2.2;
+      digits = λ digits. (omega arith, omega arith, (omega arith, omega arith, (omega arith, omega arith, (omega arith, omega arith, (omega arith, omega arith, (omega arith, omega arith, digits))))));
       same = refl;
     }
 behind a b c d e f g h (suc (suc (suc zero))) some few (a1, a2, (b1, b2, (c1, c2, (d1, d2, (e1, e2, (f1, f2, (g1, g2, (h1, h2, none)))))))) =
@@ -428,7 +429,7 @@ behind a b c d e f g h (suc (suc (suc zero))) some few (a1, a2, (b1, b2, (c1, c2
           ap (λ n. n * 1099511627776 % 18446744073709551616) (ones_are (a ∷ b ∷ c ∷ d ∷ e ∷ f ∷ g ∷ h ∷ []) refl all)
           ∙ shift_3 (bit_xor a 48) (bit_xor b 48) (bit_xor c 48) (bit_xor d 48) (bit_xor e 48) (bit_xor f 48) (bit_xor g 48) (bit_xor h 48) (flipped_within (a ∷ b ∷ c ∷ d ∷ e ∷ f ∷ g ∷ h ∷ []) all)
           ∙ sym (ones_are (48 ∷ 48 ∷ 48 ∷ 48 ∷ 48 ∷ a ∷ b ∷ c ∷ []) refl within);
-      digits = λ digits. digits.2.2.2.2.2;
+      digits = λ digits. (omega arith, omega arith, (omega arith, omega arith, (omega arith, omega arith, (omega arith, omega arith, (omega arith, omega arith, digits)))));
       same = refl;
     }
 behind a b c d e f g h (suc (suc (suc (suc zero)))) some few (a1, a2, (b1, b2, (c1, c2, (d1, d2, (e1, e2, (f1, f2, (g1, g2, (h1, h2, none)))))))) =
@@ -442,7 +443,7 @@ behind a b c d e f g h (suc (suc (suc (suc zero)))) some few (a1, a2, (b1, b2, (
           ap (λ n. n * 4294967296 % 18446744073709551616) (ones_are (a ∷ b ∷ c ∷ d ∷ e ∷ f ∷ g ∷ h ∷ []) refl all)
           ∙ shift_4 (bit_xor a 48) (bit_xor b 48) (bit_xor c 48) (bit_xor d 48) (bit_xor e 48) (bit_xor f 48) (bit_xor g 48) (bit_xor h 48) (flipped_within (a ∷ b ∷ c ∷ d ∷ e ∷ f ∷ g ∷ h ∷ []) all)
           ∙ sym (ones_are (48 ∷ 48 ∷ 48 ∷ 48 ∷ a ∷ b ∷ c ∷ d ∷ []) refl within);
-      digits = λ digits. digits.2.2.2.2;
+      digits = λ digits. (omega arith, omega arith, (omega arith, omega arith, (omega arith, omega arith, (omega arith, omega arith, digits))));
       same = refl;
     }
 behind a b c d e f g h (suc (suc (suc (suc (suc zero))))) some few (a1, a2, (b1, b2, (c1, c2, (d1, d2, (e1, e2, (f1, f2, (g1, g2, (h1, h2, none)))))))) =
@@ -456,7 +457,7 @@ behind a b c d e f g h (suc (suc (suc (suc (suc zero))))) some few (a1, a2, (b1,
           ap (λ n. n * 16777216 % 18446744073709551616) (ones_are (a ∷ b ∷ c ∷ d ∷ e ∷ f ∷ g ∷ h ∷ []) refl all)
           ∙ shift_5 (bit_xor a 48) (bit_xor b 48) (bit_xor c 48) (bit_xor d 48) (bit_xor e 48) (bit_xor f 48) (bit_xor g 48) (bit_xor h 48) (flipped_within (a ∷ b ∷ c ∷ d ∷ e ∷ f ∷ g ∷ h ∷ []) all)
           ∙ sym (ones_are (48 ∷ 48 ∷ 48 ∷ a ∷ b ∷ c ∷ d ∷ e ∷ []) refl within);
-      digits = λ digits. digits.2.2.2;
+      digits = λ digits. (omega arith, omega arith, (omega arith, omega arith, (omega arith, omega arith, digits)));
       same = refl;
     }
 behind a b c d e f g h (suc (suc (suc (suc (suc (suc zero)))))) some few (a1, a2, (b1, b2, (c1, c2, (d1, d2, (e1, e2, (f1, f2, (g1, g2, (h1, h2, none)))))))) =
@@ -470,7 +471,7 @@ behind a b c d e f g h (suc (suc (suc (suc (suc (suc zero)))))) some few (a1, a2
           ap (λ n. n * 65536 % 18446744073709551616) (ones_are (a ∷ b ∷ c ∷ d ∷ e ∷ f ∷ g ∷ h ∷ []) refl all)
           ∙ shift_6 (bit_xor a 48) (bit_xor b 48) (bit_xor c 48) (bit_xor d 48) (bit_xor e 48) (bit_xor f 48) (bit_xor g 48) (bit_xor h 48) (flipped_within (a ∷ b ∷ c ∷ d ∷ e ∷ f ∷ g ∷ h ∷ []) all)
           ∙ sym (ones_are (48 ∷ 48 ∷ a ∷ b ∷ c ∷ d ∷ e ∷ f ∷ []) refl within);
-      digits = λ digits. digits.2.2;
+      digits = λ digits. (omega arith, omega arith, (omega arith, omega arith, digits));
       same = refl;
     }
 behind a b c d e f g h (suc (suc (suc (suc (suc (suc (suc zero))))))) some few (a1, a2, (b1, b2, (c1, c2, (d1, d2, (e1, e2, (f1, f2, (g1, g2, (h1, h2, none)))))))) =
@@ -484,12 +485,23 @@ behind a b c d e f g h (suc (suc (suc (suc (suc (suc (suc zero))))))) some few (
           ap (λ n. n * 256 % 18446744073709551616) (ones_are (a ∷ b ∷ c ∷ d ∷ e ∷ f ∷ g ∷ h ∷ []) refl all)
           ∙ shift_7 (bit_xor a 48) (bit_xor b 48) (bit_xor c 48) (bit_xor d 48) (bit_xor e 48) (bit_xor f 48) (bit_xor g 48) (bit_xor h 48) (flipped_within (a ∷ b ∷ c ∷ d ∷ e ∷ f ∷ g ∷ h ∷ []) all)
           ∙ sym (ones_are (48 ∷ a ∷ b ∷ c ∷ d ∷ e ∷ f ∷ g ∷ []) refl within);
-      digits = λ digits. digits.2;
+      digits = λ digits. (omega arith, omega arith, digits);
       same = refl;
     }
-behind a b c d e f g h (suc (suc (suc (suc (suc (suc (suc (suc count)))))))) some few all = absurd (omega (arith, few))
+behind a b c d e f g h (suc (suc (suc (suc (suc (suc (suc (suc zero)))))))) some few all =
+    let most : ones_in (a ∷ b ∷ c ∷ d ∷ e ∷ f ∷ g ∷ h ∷ []) ≤ 18446744073709551615 =
+    rw (ones_are (a ∷ b ∷ c ∷ d ∷ e ∷ f ∷ g ∷ h ∷ []) refl all) (worth_up_to (flipped (a ∷ b ∷ c ∷ d ∷ e ∷ f ∷ g ∷ h ∷ [])) 0 255 (flipped_within (a ∷ b ∷ c ∷ d ∷ e ∷ f ∷ g ∷ h ∷ []) all)) in
+    record {
+      padded = (a ∷ b ∷ c ∷ d ∷ e ∷ f ∷ g ∷ h ∷ []);
+      size = refl;
+      within = all;
+      shifted = omega arith;
+      digits = λ digits. digits;
+      same = refl;
+    }
+behind a b c d e f g h (suc (suc (suc (suc (suc (suc (suc (suc (suc count))))))))) some few all = absurd (omega (arith, few))
 
-pub few_behind : (bytes : List ℕ) (count : ℕ) → length bytes ≡ 8 → 0 < count → count < 8 → AreWithin 0 255 bytes → Behind bytes count
+pub few_behind : (bytes : List ℕ) (count : ℕ) → length bytes ≡ 8 → 0 < count → count ≤ 8 → AreWithin 0 255 bytes → Behind bytes count
 few_behind (a ∷ b ∷ c ∷ d ∷ e ∷ f ∷ g ∷ h ∷ []) count n some few all = behind a b c d e f g h count some few all
 few_behind [] count n some few all = absurd (omega arith)
 few_behind (a ∷ []) count n some few all = absurd (omega arith)
@@ -501,10 +513,21 @@ few_behind (a ∷ b ∷ c ∷ d ∷ e ∷ f ∷ []) count n some few all = absur
 few_behind (a ∷ b ∷ c ∷ d ∷ e ∷ f ∷ g ∷ []) count n some few all = absurd (omega arith)
 few_behind (a ∷ b ∷ c ∷ d ∷ e ∷ f ∷ g ∷ h ∷ i ∷ more) count n some few all = absurd (omega arith)
 
--- so many bytes are digits
-pub few_are_digits : (bytes : List ℕ) (count : ℕ) (b : Behind bytes count) → AreWithin 48 57 b.padded → list_all is_ascii_digit (take count bytes) ≡ true
-few_are_digits bytes count b digits = within_digits (take count bytes) (b.digits digits)
+-- eight digits' values are so large at most
+ones_of_digits : (bytes : List ℕ) → length bytes ≡ 8 → AreWithin 48 57 bytes → ones_in bytes ≤ 651061555542690057
+ones_of_digits bytes n all =
+    rw (ones_are bytes n (looser bytes 48 57 0 255 (omega arith) (omega arith) all), ← (masks bytes n).nines)
+    (worth_up_to (flipped bytes) 0 9 (flipped_digits bytes all))
+
+-- what is read of eight digits
+pub ones_read : (bytes : List ℕ) → length bytes ≡ 8 → AreWithin 48 57 bytes → (ones_in bytes ≤ 651061555542690057) × AreOnes bytes (ones_in bytes)
+ones_read bytes n all = (ones_of_digits bytes n all, (n, within_digits bytes all, refl))
 
 -- and the code's value is theirs
-pub few_value : (bytes : List ℕ) (count : ℕ) (b : Behind bytes count) → AreWithin 48 57 b.padded → value_in (pairs_in (ones_in b.padded)) ≡ digits_value 10 (take count bytes)
-few_value bytes count b digits = (eight_small b.padded b.size digits).0 ∙ b.same
+pub joined_value : (digits : List ℕ) (ones : ℕ) → AreOnes digits ones → value_in (pairs_in ones) ≡ digits_value 10 digits
+joined_value digits ones (n, all, is) = rw is ((eight_small digits n (digits_within digits all)).0)
+
+-- the digits that come first, behind zeros
+pub few_read : (bytes : List ℕ) (count : ℕ) (b : Behind bytes count) → list_all is_ascii_digit (take count bytes) ≡ true
+    → (ones_in b.padded ≤ 651061555542690057) × AreOnes b.padded (ones_in b.padded)
+few_read bytes count b all = ones_read b.padded b.size (b.digits (digits_within (take count bytes) all))

@@ -91,9 +91,6 @@ module _ {S : Type 0} (left : S → Option (List ℕ)) (failed told : S → Bool
         served = asks.came.2 ∙ so_far.served;
       }
 
-      pub more_counts : AsksMore left failed told mid taken Bytes new next_block next_taken → taken < next_taken
-      more_counts asks = omega (arith, asks.counted, asks.came.0)
-
       pub none_came : AsksMore left failed told mid taken NoBytes new next_block next_taken → Fills left failed told old old_block old_taken End new next_block new_text next_taken
       none_came asks = record {
         bytes = so_far.bytes ++ asks.bytes;

@@ -3,6 +3,7 @@ pub mod BlockLemmas
 pub mod ColumnLemmas
 pub mod CopyLemmas
 pub mod EightLemmas
+pub mod DigitLemmas
 pub mod EarlyLemmas
 pub mod FillingLemmas
 pub mod NumberLemmas
@@ -12,5 +13,6 @@ pub mod ResultLemmas
 pub mod LinesLemmas
 pub mod TextLemmas
 pub mod ScriptLemmas
+pub mod ReadsLemmas
 pub mod ReaderLemmas
 pub mod StepLemmas

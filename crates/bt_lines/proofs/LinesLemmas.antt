@@ -1,11 +1,11 @@
 -- Lemmas on the lines of a text.
-use Rattle.std.proofs.Common.{◌≡◌, ℕ, suc, ◌+◌, ◌-◌, ◌<◌, Bool, true, false, cond, ◌&&◌, List, [], ◌∷◌, ◌++◌, length, take, drop, get_or, refl, sym, ap, ◌∙◌, append_assoc, append-nil, eqb, arith}
+use Rattle.std.proofs.Common.{◌≡◌, ℕ, suc, ◌+◌, ◌-◌, ◌<◌, Bool, true, false, cond, List, [], ◌∷◌, ◌++◌, length, take, drop, get_or, refl, sym, ap, ◌∙◌, append_assoc, append-nil, eqb, arith}
 use Rattle.std.specs.Prelude.{flat_map, nat_lt}
 use Rattle.std.specs.List.{join_with_byte}
 use Rattle.std.specs.Io.BufRead.{ends_with_byte, strip_last}
 use Rattle.std.proofs.lemmas.List.{take-append-drop, drop_more, drop_all}
 use Rattle.std.proofs.lemmas.List.Splits.{slice_split_at, slice_split_none, length-slice_split, join_with_byte-slice_split}
-use Rattle.std.proofs.lemmas.Bool.{false≢true, eqb-true, ltb-true}
+use Rattle.std.proofs.lemmas.Bool.{eqb-true, ltb-true, and_parts}
 use Rattle.bt_lines.specs.Lines.{pieces, fed_line, last_line, numbered, lines_from, spelled, end_bytes}
 use Rattle.bt_lines.specs.LentLine.{NoLineFeed}
 use Rattle.bt_lines.specs.declared.line.LineEnd.TheVariants.{Absent, Lf, CrLf, Cr}
@@ -31,14 +31,10 @@ pub lines_from-nil : (n : ℕ) → lines_from n [] ≡ []
 unfolding lines_from
 lines_from-nil n = refl
 
-both_true : (a b : Bool) → (a && b) ≡ true → (a ≡ true) × (b ≡ true)
-both_true true b e = (refl, e)
-both_true false b e = absurd (false≢true e)
-
 -- a byte that ends a text, and the text before it
 pub strip_last-push : (byte : ℕ) (xs : List ℕ) → ends_with_byte byte xs ≡ true → strip_last byte xs ++ byte ∷ [] ≡ xs
 strip_last-push byte xs e =
-    let tests = both_true (nat_lt 0 (length xs)) (eqb (get_or xs (length xs - 1) 0) byte) e in
+    let tests = and_parts (nat_lt 0 (length xs)) (eqb (get_or xs (length xs - 1) 0) byte) e in
     let some : 0 < length xs = ltb-true 0 (length xs) tests.0 in
     let i = length xs - 1 in
     let is : get_or xs i 0 ≡ byte = eqb-true (get_or xs i 0) byte tests.1 in

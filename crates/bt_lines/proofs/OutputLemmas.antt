@@ -4,11 +4,6 @@ use Rattle.std.proofs.KnownBytes.{Appends-trans}
 use Rattle.std.specs.Io.KnownBytes.{Appends, Keeps, append_known}
 use Rattle.bt_lines.specs.Output.{IsFrontOf, Grows, HoldsBlock, block_size}
 
--- what was taken before is a front of itself, whatever was to follow
-pub front_nothing : (old : Option (List ℕ)) (more : List ℕ) → IsFrontOf old old more
-front_nothing None more = tt
-front_nothing (Some old) more = (more, refl)
-
 -- a part of the piece was taken, and then nothing
 pub front_part : (old mid new : Option (List ℕ)) (taken rest piece : List ℕ) → piece ≡ taken ++ rest → Appends old mid taken → Keeps mid new → IsFrontOf new old piece
 front_part old mid None taken rest piece e p q = tt

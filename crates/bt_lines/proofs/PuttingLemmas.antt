@@ -1,10 +1,11 @@
 -- What one put after another does to an output.
-use Rattle.std.proofs.Common.{◌≡◌, ◌≤◌, ℕ, Bool, length, subst, List, [], ◌∷◌, ◌++◌, Option, None, Some, Result, Ok, Err, true, false, refl, sym, ap, ◌∙◌, append_assoc}
-use Rattle.std.specs.Prelude.{OnOk, OnErr, IfErr, IsErr}
+use Rattle.std.proofs.Common.{◌≡◌, ◌≤◌, ℕ, Bool, length, subst, List, [], ◌∷◌, ◌++◌, Option, None, Some, Result, Ok, Err, true, false, refl, sym, ap, ◌∙◌, append_assoc, append-nil}
+use Rattle.std.specs.Prelude.{OnOk, OnErr, IfErr, IsErr, flat_map}
+use Rattle.std.proofs.lemmas.Grind.{flat_map-append}
 use Rattle.std.proofs.KnownBytes.{Appends-trans, Appends-nil}
 use Rattle.std.proofs.lemmas.Bool.{false≢true}
 use Rattle.std.specs.Io.KnownBytes.{Appends, append_known}
-use Rattle.bt_lines.proofs.OutputLemmas.{holds_held}
+use Rattle.bt_lines.proofs.OutputLemmas.{holds_held, grows_both}
 use Rattle.bt_lines.specs.Fault.{Told, write_failed}
 use Rattle.bt_lines.specs.Names.{told}
 use Rattle.bt_lines.specs.Output.{Output, HoldsBlock, IsFrontOf, Grows, block_size}
@@ -25,16 +26,6 @@ front_behind (Some new) None mid xs ys p f = tt
 front_behind (Some new) (Some old) None xs ys p f = absurd p
 front_behind (Some new) (Some old) (Some mid) xs ys p f = (f.0, f.1 ∙ ap (λ l. l ++ ys) p ∙ append_assoc old xs ys)
 
--- where the sink took all but a block, it took a front
-pub front_held : (took put old : Option (List ℕ)) (xs : List ℕ) → HoldsBlock took put → Appends old put xs → IsFrontOf took old xs
-front_held None put old xs h p = tt
-front_held (Some took) put None xs h p = tt
-front_held (Some took) None (Some old) xs h p = absurd p
-front_held (Some took) (Some put) (Some old) xs h p = (h.0, sym h.1 ∙ p)
-
-pub grows_more : (a b c : Option (List ℕ)) → Grows a b → Grows b c → Grows a c
-grows_more a b c p q = (p.0 ++ q.0, Appends-trans a b c p.0 q.0 p.1 q.1)
-
 pub grows_nothing : (a : Option (List ℕ)) → Grows a a
 grows_nothing a = ([], Appends-nil a)
 
@@ -43,7 +34,7 @@ module _ (old mid new : Output) (xs ys : List ℕ) where
   put_more p q = record {
     appends = Appends-trans old.put mid.put new.put xs ys p.appends q.appends;
     block = q.block;
-    grows = grows_more old.took mid.took new.took p.grows q.grows;
+    grows = grows_both old.took mid.took new.took p.grows q.grows;
     was_served = p.was_served;
     served = q.served;
     sink_served = q.sink_served ∙ p.sink_served;
@@ -53,7 +44,7 @@ module _ (old mid new : Output) (xs ys : List ℕ) where
   fails_behind fault p q = record {
     is = q.is;
     front = front_behind new.took old.put mid.put xs ys p.appends q.front;
-    grows = grows_more old.took mid.took new.took p.grows q.grows;
+    grows = grows_both old.took mid.took new.took p.grows q.grows;
     failed = q.failed;
     sink_failed = q.sink_failed;
     again = λ e. absurd (false≢true (sym p.was_served ∙ e));
@@ -155,7 +146,7 @@ module _ (old mid new : Output) (xs ys : List ℕ) where
   grown_more p q = record {
     appends = Appends-trans old.put mid.put new.put xs ys p.appends q.appends;
     block = λ h. q.block (p.block h);
-    grows = grows_more old.took mid.took new.took p.grows q.grows;
+    grows = grows_both old.took mid.took new.took p.grows q.grows;
     served = q.served ∙ p.served;
     sink_served = q.sink_served ∙ p.sink_served;
     again = λ e. q.again (p.served ∙ e) ∙ p.again e;
@@ -167,7 +158,7 @@ module _ (old mid new : Output) (xs ys : List ℕ) where
     puts = record {
       is = q.puts.is;
       front = front_behind new.took old.put mid.put xs ys p.appends q.puts.front;
-      grows = grows_more old.took mid.took new.took p.grows q.puts.grows;
+      grows = grows_both old.took mid.took new.took p.grows q.puts.grows;
       failed = q.puts.failed;
       sink_failed = q.puts.sink_failed;
       again = λ e. q.puts.again (p.served ∙ e) ∙ p.again e;
@@ -190,3 +181,15 @@ cut_off old new xs ys fault p = record {
 pub adds_some : {A : Type 0} (old new : Output) (bytes : List ℕ) (r : Result A Fault) → (bytes ≡ [] → ⊥) → Puts old bytes r new → Adds old bytes r new
 adds_some old new bytes (Ok done) some p = grown_all old new bytes some p
 adds_some old new bytes (Err fault) some p = record { puts = p; some = some }
+
+-- the lines of items, one list after another, and that of an item alone
+module _ {X : Type 0} (line : X → List ℕ) where
+  module _ (old mid new : Output) (xs ys : List X) where
+    pub adds_lines : {A : Type 0} (r : Result A Fault) → Grown old (flat_map line xs) mid → Adds mid (flat_map line ys) r new → Adds old (flat_map line (xs ++ ys)) r new
+    adds_lines r p q = rw (flat_map-append line xs ys) (adds_more old mid new (flat_map line xs) (flat_map line ys) r p q)
+
+  pub cut_lines : (old new : Output) (xs ys : List X) (fault : Told) → FailsToAdd old (flat_map line xs) fault new → FailsToAdd old (flat_map line (xs ++ ys)) fault new
+  cut_lines old new xs ys fault p = rw (flat_map-append line xs ys) (cut_off old new (flat_map line xs) (flat_map line ys) fault p)
+
+  pub line_alone : {A : Type 0} (x : X) (old new : Output) (r : Result A Fault) → (line x ≡ [] → ⊥) → Puts old (line x) r new → Adds old (flat_map line (x ∷ [])) r new
+  line_alone x old new r some p = rw (append-nil (line x)) (adds_some old new (line x) r some p)

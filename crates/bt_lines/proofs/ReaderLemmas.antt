@@ -20,7 +20,7 @@ hands_none left reader = record {
   told_stays = λ t. t;
 }
 
-not_told : (a b : Bool) → (a ≡ true → b ≡ true) → b ≡ false → a ≡ false
+pub not_told : (a b : Bool) → (a ≡ true → b ≡ true) → b ≡ false → a ≡ false
 not_told false b stays e = refl
 not_told true b stays e = absurd (false≢true (sym e ∙ stays refl))
 

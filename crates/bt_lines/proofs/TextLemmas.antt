@@ -92,12 +92,6 @@ whole_lines_are_numbered = by_lines (λ n bytes. AreNumbered n (whole_lines_from
     (λ n piece clear. subst (AreNumbered n) (sym (whole_lines_from-last n piece clear)) tt)
     (λ n piece rest clear is. subst (AreNumbered n) (sym (whole_lines_from-fed n piece rest clear)) (refl, is))
 
--- and all but the first of them
-pub numbered-drop : (k n : ℕ) (lines : List TextLine) → AreNumbered n lines → AreNumbered (k + n) (drop k lines)
-numbered-drop zero n lines is = subst (λ m. AreNumbered m lines) (omega arith) is
-numbered-drop (suc k) n [] is = tt
-numbered-drop (suc k) n (line ∷ lines) is = subst (λ m. AreNumbered m (drop k lines)) (omega arith) (numbered-drop k (suc n) lines is.1)
-
 -- ---- bytes
 
 -- lines after one another have the bytes of both

@@ -1,7 +1,8 @@
 -- What reading up to a line feed does to a source, a block, a line and the count of bytes.
-use Rattle.std.specs.Prelude.{◌≡◌, ℕ, ◌+◌, ◌-◌, ◌^◌, ◌<◌, Bool, true, false, List, [], ◌∷◌, ◌++◌}
-use Rattle.std.specs.Prelude.{length, Option, Result, Ok, Err}
+use Rattle.std.specs.Prelude.{◌≡◌, ℕ, suc, ◌+◌, ◌-◌, ◌^◌, ◌<◌, Bool, true, false, List, [], ◌∷◌}
+use Rattle.std.specs.Prelude.{◌++◌, length, Option, Result, Ok, Err}
 use Rattle.std.specs.Io.KnownBytes.{Consumes, IsAtEnd}
+use Rattle.bt_lines.specs.Device.{ReadsCounted, ReadsFail}
 use Rattle.bt_lines.specs.LentLine.{NoLineFeed}
 use Rattle.bt_lines.specs.declared.filling.More.{More}
 use Rattle.bt_lines.specs.declared.filling.More.TheVariants.{Bytes, NoBytes, BadRead, PastBound}
@@ -17,11 +18,6 @@ MovesPiece block text (Ok true) new_block new_text =
 MovesPiece block text (Ok false) new_block new_text =
     NoLineFeed block × (new_block ≡ []) × (new_text ≡ text ++ block)
 MovesPiece block text (Err e) new_block new_text = (new_block ≡ block) × (new_text ≡ text)
-
--- the last read of the source failed
-pub record LastReadFails {S : Type 0} (Fails : S → S → Type 0) (source : S) : Type 0 where
-  pub before : S
-  pub fails : Fails before source
 
 -- what came of asking for more bytes, with so many taken before
 abbrev pub MoreComes : More → Option (List ℕ) → Bool → Bool → Bool → List ℕ → List ℕ → ℕ → Type 0
@@ -57,6 +53,22 @@ module _ {S : Type 0} (left : S → Option (List ℕ)) (failed : S → Bool) (to
     pub counted : taken + uncounted_more more ≡ old_taken + length bytes
     pub within : taken < 2 ^ 63
     pub came : MoreComes more (left new) (failed old) (failed new) (told new) bytes block taken
+
+module _ {S : Type 0} (IsRead : S → Option ℕ → S → Type 0) where
+  -- the read that was asked for more bytes gave as many as are counted, or failed
+  abbrev pub IsCounted : More → S → ℕ → S → ℕ → Type 0
+  IsCounted Bytes old old_taken new taken = ReadsCounted IsRead old old_taken new taken
+  IsCounted NoBytes old old_taken new taken = ReadsCounted IsRead old old_taken new taken
+  IsCounted BadRead old old_taken new taken = ReadsFail IsRead old new
+  IsCounted PastBound old old_taken new taken = ReadsCounted IsRead old old_taken new (suc taken)
+
+  -- the reads up to a stop gave as many bytes as are counted, or the last one failed
+  abbrev pub AreCounted : Stop → S → ℕ → S → ℕ → Type 0
+  AreCounted LineFeed old old_taken new taken = ReadsCounted IsRead old old_taken new taken
+  AreCounted End old old_taken new taken = ReadsCounted IsRead old old_taken new taken
+  AreCounted Failed old old_taken new taken = ReadsFail IsRead old new
+  AreCounted TooLong old old_taken new taken = ReadsCounted IsRead old old_taken new (suc taken)
+  AreCounted NoMemory old old_taken new taken = ReadsCounted IsRead old old_taken new taken
 
 -- what stands after the line so far, and where the reading stopped
 abbrev pub StopsAt : Stop → Option (List ℕ) → Bool → Bool → Bool → List ℕ → List ℕ → ℕ → Type 0

@@ -6,6 +6,7 @@ pub mod Script
 pub mod Lines
 pub mod Handed
 pub mod Number
+pub mod Digits
 pub mod Columns
 pub mod Copying
 pub mod Output

@@ -1,13 +1,13 @@
 -- What a reader of lines holds, and what one call of `next` does.
-use Rattle.std.specs.Prelude.{◌≡◌, ◌≢◌, ℕ, suc, ◌+◌, ◌-◌, ◌^◌, ◌<◌, ◌≤◌, ◌⊎◌, ⊤, Bool, true, false, List}
+use Rattle.std.specs.Prelude.{◌≡◌, ◌≢◌, ℕ, suc, ◌+◌, ◌-◌, ◌^◌, ◌<◌, ◌≤◌, ◌⊎◌, Bool, true, false, List}
 use Rattle.std.specs.Prelude.{[], ◌++◌, length, Option, Some, None, option_map, Result, Ok, Err}
-use Rattle.std.specs.Prelude.{IfSome, nat_lt, if◌then◌else◌, take, drop}
+use Rattle.std.specs.Prelude.{IfSome, IsSome, nat_lt, if◌then◌else◌, take, drop}
 use Rattle.std.specs.Io.KnownBytes.{Consumes, IsAtEnd, prepend_known}
 use Rattle.bt_lines.specs.Block.{unread, text_in}
+use Rattle.bt_lines.specs.Device.{ReadsCounted, ReadsFail}
 use Rattle.bt_lines.specs.Lines.{TextLine, lines_from, line_feeds, bytes_in, spelled}
 use Rattle.bt_lines.specs.Output.{block_size}
 use Rattle.bt_lines.specs.Fault.{Told, read_failed, no_memory}
-use Rattle.bt_lines.specs.Filling.{LastReadFails}
 use Rattle.bt_lines.specs.Names.{told}
 use Rattle.bt_lines.specs.LentLine.{line_seen, GivesFirst}
 use Rattle.bt_lines.specs.declared.fault.Input.{Input}
@@ -267,20 +267,40 @@ module _ {S : Type 0} where
   Answers left failed old (Ok None) new = GivesEnd left failed old new
   Answers left failed old (Err fault) new = GivesFault left failed old (told fault) new
 
+  -- the reads of the source in between all served, and gave as many bytes as the reader counts
+  abbrev pub HasRead : (S → Option ℕ → S → Type 0) → LineReader S → LineReader S → Type 0
+  HasRead IsRead old new =
+      ReadsCounted IsRead (source_of old) (bytes_taken old) (source_of new) (bytes_taken new)
+
+  -- a read in between failed, or the reads up to now gave more bytes than a text may have
+  abbrev pub IsUnread : (S → Option ℕ → S → Type 0) → LineReader S → LineReader S → Type 0
+  IsUnread IsRead old new = ReadsFail IsRead (source_of old) (source_of new)
+      ⊎ (HasRead IsRead old new × (2 ^ 63 ≤ bytes_taken new))
+
+  -- of the reads in between a failed one is told exactly where one failed or the text is too long
+  pub record TellsReads (IsRead : S → Option ℕ → S → Type 0) (old : LineReader S)
+      (fault : Option Told) (new : LineReader S) : Type 0 where
+    pub unread : (input : Input) (line : ℕ) → fault ≡ Some (read_failed input line)
+        → IsUnread IsRead old new
+    pub read : ((input : Input) (line : ℕ) → fault ≢ Some (read_failed input line))
+        → HasRead IsRead old new
+
   -- A failed read is told for the first time only where a read of this call failed, whatever the
-  -- source did before, or where the text is too long.
-  abbrev pub TellsOwnFailure : {A : Type 0} → (S → S → Type 0) → LineReader S → Result A Fault
-      → LineReader S → Type 0
-  TellsOwnFailure Fails old (Ok done) new = ⊤
-  TellsOwnFailure Fails old (Err fault) new = fault_kept old ≡ None → told fault ≢ no_memory
-      → LastReadFails Fails (source_of new) ⊎ (2 ^ 63 ≤ bytes_taken new)
+  -- source did before, or where the text is too long, by what its reads gave; else all reads of the
+  -- call served.
+  abbrev pub TellsOwnFailure : {A : Type 0} → (S → Option ℕ → S → Type 0) → LineReader S
+      → Result A Fault → LineReader S → Type 0
+  TellsOwnFailure IsRead old (Ok done) new = HasRead IsRead old new
+  TellsOwnFailure IsRead old (Err fault) new = fault_kept old ≡ None
+      → TellsReads IsRead old (Some (told fault)) new
 
   -- one call of `next`
   pub record NextLine (left : S → Option (List ℕ)) (failed : S → Bool) (end : S → Bool)
-      (Fails : S → S → Type 0) (old : LineReader S) (answer : Result (Option Line) Fault)
+      (IsRead : S → Option ℕ → S → Type 0) (old : LineReader S)
+      (answer : Result (Option Line) Fault)
       (new : LineReader S) : Type 0 where
     pub answers : Answers left failed old answer new
-    pub own_failure : TellsOwnFailure Fails old answer new
+    pub own_failure : TellsOwnFailure IsRead old answer new
     pub sound : IsSound left end old → IsSound left end new
 
   -- what a step to the next line gives, or to the end where there is none
@@ -298,4 +318,22 @@ module _ {S : Type 0} where
   pub record Stepped {A : Type 0} (left : S → Option (List ℕ)) (failed : S → Bool) (end : S → Bool)
       (old : LineReader S) (answer : Result A Fault) (new : LineReader S) : Type 0 where
     pub answers : StepAnswers left failed old answer new
+    pub sound : IsSound left end old → IsSound left end new
+
+  -- a step that met no fault
+  pub record Moves (left : S → Option (List ℕ)) (failed : S → Bool) (end : S → Bool)
+      (IsRead : S → Option ℕ → S → Type 0) (old new : LineReader S) : Type 0 where
+    pub steps : StepsTo left failed old (line_at new) new
+    pub read : HasRead IsRead old new
+    pub sound : IsSound left end old → IsSound left end new
+
+  -- a step that met a fault, which the reader keeps
+  pub record Stops (left : S → Option (List ℕ)) (failed : S → Bool) (end : S → Bool)
+      (IsRead : S → Option ℕ → S → Type 0) (old new : LineReader S) : Type 0 where
+    pub kept : IsSome (fault_kept new)
+    -- whatever has this fault for an answer
+    pub answers : (fault : Fault) → fault_kept new ≡ Some (told fault)
+        → GivesFault left failed old (told fault) new
+    pub own_failure : (fault : Fault) → fault_kept new ≡ Some (told fault)
+        → TellsOwnFailure {A = Option Line} IsRead old (Err fault) new
     pub sound : IsSound left end old → IsSound left end new

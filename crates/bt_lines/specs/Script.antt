@@ -1,5 +1,6 @@
 -- What scripted devices hold: they stand for a file or a terminal in tests.
-use Rattle.std.specs.Prelude.{ℕ, ◌-◌, Bool, List, min, length, Option, Some, None, nat_le, false}
+use Rattle.std.specs.Prelude.{◌≡◌, ℕ, ◌+◌, ◌-◌, Bool, List, min, length, Option, Some, None, nat_le}
+use Rattle.std.specs.Prelude.{false, true}
 
 -- a source that hands over its bytes in order, at most step of them a call,
 -- and fails once good bytes were given
@@ -10,6 +11,11 @@ pub record Reading : Type 0 where
   pub given : ℕ
   pub has_failed : Bool
   pub end_told : Bool
+
+-- a read of a script gave so many bytes, or failed
+abbrev pub IsScriptRead : Reading → Option ℕ → Reading → Type 0
+IsScriptRead before None after = after.has_failed ≡ true
+IsScriptRead before (Some count) after = after.given ≡ before.given + count
 
 -- a sink that takes at most step bytes a call, and fails once good bytes were taken
 pub record Writing : Type 0 where

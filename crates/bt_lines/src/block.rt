@@ -125,7 +125,8 @@ impl Block {
         ensures served { OnOk result (S.has_failed source.new ≡ S.has_failed source.old) }
         ensures failed { OnErr result ((S.has_failed source.new ≡ true)
             × (unread self.new ≡ []) × Keeps (S.left source.old) (S.left source.new)) }
-        ensures refused { OnErr result (S.read_fails source.old source.new) }
+        ensures counted { IfOk result (λ n. S.is_read source.old (Some n) source.new) }
+        ensures refused { OnErr result (S.is_read source.old None source.new) }
     {
         self.start = 0;
         self.end = 0;
@@ -158,7 +159,8 @@ fn read_front<S: Source>(
     ensures served { OnOk result (S.has_failed source.new ≡ S.has_failed source.old) }
     ensures failed { OnErr result ((S.has_failed source.new ≡ true)
         × Keeps (S.left source.old) (S.left source.new)) }
-    ensures refused { OnErr result (S.read_fails source.old source.new) }
+    ensures counted { IfOk result (λ n. S.is_read source.old (Some n) source.new) }
+    ensures refused { OnErr result (S.is_read source.old None source.new) }
 {
     source.read(&mut bytes[..most])
 }

@@ -1,6 +1,6 @@
 //! Where bytes come from and where they go to.
 
-ghost use Rattle.std.specs.Prelude.{◌≡◌, ℕ, ◌<◌, ◌≤◌, Bool, true, Option, List, length, IfOk, OnOk, OnErr};
+ghost use Rattle.std.specs.Prelude.{◌≡◌, ℕ, ◌<◌, ◌≤◌, Bool, true, Option, Some, None, List, length, IfOk, OnOk, OnErr};
 ghost use Rattle.std.specs.Io.KnownBytes.{Keeps, ReadConsumes, WriteAppends};
 ghost use Rattle.bt_lines.specs.Device.{TellsEnd};
 
@@ -20,8 +20,9 @@ pub trait Source {
     // Whether a read has answered the end, by 0 to a block with room.
     ghost end_told: { Self → Bool };
 
-    // A read made the one source the other, and failed. Only `read` gives it.
-    ghost read_fails: { Self → Self → Type 0 };
+    // A read made the one source the other and gave so many bytes, or failed where there is no count.
+    // Only `read` gives it.
+    ghost is_read: { Self → Option ℕ → Self → Type 0 };
 
     /// Hands over the next bytes, as many as it likes of those that fit the block, and 0 for a block
     /// with room only at the end. An error isn't tried again.
@@ -30,7 +31,8 @@ pub trait Source {
         ensures bytes { ReadConsumes (left self.old) (left self.new) result block.new }
         ensures served { OnOk result (has_failed self.new ≡ has_failed self.old) }
         ensures failed { OnErr result (has_failed self.new ≡ true) }
-        ensures refused { OnErr result (read_fails self.old self.new) }
+        ensures counted { IfOk result (λ n. is_read self.old (Some n) self.new) }
+        ensures refused { OnErr result (is_read self.old None self.new) }
         ensures end { TellsEnd (end_told self.old) (end_told self.new) result block.new };
 
     /// Whether a read has failed. Once true, it stays so.

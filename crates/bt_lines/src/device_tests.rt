@@ -82,7 +82,7 @@ impl Source for ServesAgain {
 
     ghost end_told = { λ s. s.end_told };
 
-    ghost read_fails = { λ _ after. ⊤ };
+    ghost is_read = { λ _ _ _. ⊤ };
 
     fn read(&mut self, block: &mut [u8]) -> Result<usize, DeviceFailed> {
         if block.is_empty() {

@@ -1,9 +1,14 @@
 //! The line feed that ends a line.
 
+ghost use Rattle.std.specs.Prelude.{◌-◌, ◌≤◌, length};
 ghost use Rattle.bt_lines.specs.Block.{IsFirstFeed};
+ghost use Rattle.bt_lines.specs.Early.{NoneFrom, StandsEarly};
 
-use crate::early::{WIDTH, early_byte};
+use crate::early::{WIDE, WIDTH, early_byte, wide_byte};
 use memchr::memchr;
+
+// Behind so many bytes `memchr` is faster.
+const FAR: usize = 9 * WIDE;
 
 // Where the first line feed of a text stands. Most lines end in the first sixty-four bytes, which are
 // looked at without a call.
@@ -20,7 +25,36 @@ pub(crate) fn first_feed(text: &[u8]) -> Option<usize>
     if let Some(at) = early_byte(text, WIDTH, b'\n') {
         return Some(WIDTH + at);
     }
-    late_feed(text)
+    later_feed(text)
+}
+
+// The same where it isn't one of the first sixty-four bytes: by as many at once.
+#[inline(never)]
+fn later_feed(text: &[u8]) -> Option<usize>
+    requires room { 64 ≤ length text.now }
+    requires none { NoneFrom 10 text.now 0 64 }
+    ensures { IsFirstFeed text.now result }
+{
+    let most = text.len().min(FAR);
+    let mut at = WIDE;
+    while at + WIDE <= most {
+        if let Some(length) = wide_byte(text, at, b'\n') {
+            return Some(at + length);
+        }
+        at += WIDE;
+    }
+    match late_byte(text, at) {
+        Some(length) => Some(at + length),
+        None => None,
+    }
+}
+
+// Where the first line feed of a text after an index stands, counted from there.
+fn late_byte(text: &[u8], from: usize) -> Option<usize>
+    requires { from ≤ length text.now }
+    ensures { StandsEarly (length text.now - from) 10 text.now from result }
+{
+    memchr(b'\n', &text[from..])
 }
 
 // The same wherever it stands.
@@ -46,9 +80,9 @@ mod tests {
     // From the last byte to the first each becomes a line feed, so that the first is at each place once.
     #[test]
     fn the_first_is_found_at_each_place(rt: HostRuntime) {
-        let mut text = [b'\r'; 130];
-        for behind in 0..130 {
-            let at = 129 - behind;
+        let mut text = [b'\r'; 800];
+        for behind in 0..800 {
+            let at = 799 - behind;
             text[at] = b'\n';
             assert!(rt; is_found(&text, at), "at {at}");
         }

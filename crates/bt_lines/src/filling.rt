@@ -2,9 +2,7 @@
 
 ghost use Rattle.std.specs.Prelude.{◌≡◌, ◌<◌, ◌^◌, []};
 ghost use Rattle.bt_lines.specs.Block.{unread};
-ghost use Rattle.bt_lines.specs.Filling.{AsksMore, Fills, LastReadFails, MovesPiece};
-ghost use Rattle.bt_lines.specs.declared.filling.More.TheVariants.{BadRead};
-ghost use Rattle.bt_lines.specs.declared.filling.Stop.TheVariants.{Failed};
+ghost use Rattle.bt_lines.specs.Filling.{AreCounted, AsksMore, Fills, IsCounted, MovesPiece};
 
 use crate::block::{BLOCK, Block};
 use crate::device::Source;
@@ -53,7 +51,7 @@ pub(crate) fn fill<S: Source>(
     requires empty { text.old.items ≡ [] }
     ensures fills { Fills S.left S.has_failed S.end_told source.old (unread block.old) taken.old result
         source.new (unread block.new) text.new.items taken.new }
-    ensures refused { result ≡ Failed → LastReadFails S.read_fails source.new }
+    ensures counted { AreCounted S.is_read result source.old taken.old source.new taken.new }
 {
     'reads: loop {
         match move_piece(block, text) {
@@ -95,7 +93,7 @@ fn ask_more<S: Source>(source: &mut S, block: &mut Block, taken: &mut u64) -> Mo
     requires counted { taken.old < 2 ^ 63 }
     ensures asks { AsksMore S.left S.has_failed S.end_told source.old taken.old result
         source.new (unread block.new) taken.new }
-    ensures refused { result ≡ BadRead → LastReadFails S.read_fails source.new }
+    ensures counted { IsCounted S.is_read result source.old taken.old source.new taken.new }
 {
     let room = BOUND - *taken;
     let most = room.min(BLOCK as u64).max(1) as usize;

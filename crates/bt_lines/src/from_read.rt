@@ -2,7 +2,7 @@
 
 ghost use Rattle.std.specs.Prelude.{◌≡◌, ℕ, ◌≤◌, false, true, IsTrue, IsErr, length, IfOk, OnOk, OnErr};
 ghost use Rattle.std.specs.Io.KnownBytes.{ReadConsumes};
-ghost use Rattle.bt_lines.specs.Device.{TellsEnd};
+ghost use Rattle.bt_lines.specs.Device.{TellsEnd, TellsFailure};
 ghost use Rattle.bt_lines.specs.Adapter.{reader_of, read_has_failed, read_end_told};
 
 use crate::device::{DeviceFailed, Source};
@@ -54,7 +54,7 @@ impl<R: Read> Source for FromRead<R> {
 
     ghost end_told = { read_end_told };
 
-    ghost read_fails = { λ _ after. read_has_failed after ≡ true };
+    ghost is_read = { λ _ count after. TellsFailure count (read_has_failed after) };
 
     fn read(&mut self, block: &mut [u8]) -> Result<usize, DeviceFailed>
         ensures within { IfOk result (λ n. n ≤ length block.new) }

@@ -1,6 +1,7 @@
 //! The bytes that an output holds back.
 
 ghost use Rattle.std.specs.Prelude.{◌≡◌, ◌+◌, ◌-◌, ◌≤◌, ◌<◌, ◌++◌, [], ◌∷◌, length};
+ghost use Rattle.bt_lines.specs.Copying.{IsShort};
 ghost use Rattle.bt_lines.specs.Output.{block_size};
 
 use crate::block::BLOCK;
@@ -77,6 +78,22 @@ impl HeldBack {
         let stop = middle + end.len();
         copy_short(&mut self.bytes[len..middle], piece);
         copy_end(&mut self.bytes[middle..stop], end);
+        self.len = stop;
+    }
+
+    // Holds back two short pieces too.
+    #[inline(always)]
+    pub(crate) fn append_short(&mut self, piece: &[u8], next: &[u8])
+        requires piece { IsShort (length piece.now) }
+        requires next { IsShort (length next.now) }
+        requires room { length self.old + (length piece.now + length next.now) ≤ block_size }
+        ensures { self.new ≡ self.old ++ (piece.now ++ next.now) }
+    {
+        let len = self.len;
+        let middle = len + piece.len();
+        let stop = middle + next.len();
+        copy_short(&mut self.bytes[len..middle], piece);
+        copy_short(&mut self.bytes[middle..stop], next);
         self.len = stop;
     }
 

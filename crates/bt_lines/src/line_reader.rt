@@ -61,11 +61,11 @@ pub struct LineReader<S> {
 
 #[tactic(auto, unfolding(crate::specs::Reader::source_of, crate::specs::Reader::input_of, crate::specs::Reader::lines_given, crate::specs::Reader::bytes_taken, crate::specs::Reader::held, crate::specs::Reader::fault_kept, crate::specs::Reader::has_ended, crate::specs::Reader::line_at, crate::specs::Reader::end_told, crate::specs::Reader::bytes_left, crate::specs::Reader::feeds_taken))]
 impl<S: Source> LineReader<S> {
-    ghost use Rattle.std.specs.Prelude.{◌≡◌, ℕ, suc, ◌<◌, ◌-◌, ◌≤◌, ◌^◌, None, [], false, true, option_map};
+    ghost use Rattle.std.specs.Prelude.{◌≡◌, ℕ, suc, ◌<◌, ◌-◌, ◌≤◌, ◌^◌, None, Some, IsSome, [], false, true, option_map};
     ghost use Rattle.std.specs.Borrow.{sem};
     ghost use Rattle.std.specs.Io.BufRead.{Rests};
     ghost use Rattle.bt_lines.specs.contracts.line_reader.LineReader.{the_row};
-    ghost use Rattle.bt_lines.specs.Reader.{IsSound, NextLine, Stepped, TellsOwnFailure, line_at, feeds_taken, is_going, taken_ahead, source_of, input_of, lines_given, bytes_taken, held, fault_kept, has_ended, lines_left};
+    ghost use Rattle.bt_lines.specs.Reader.{HasRead, IsSound, Moves, NextLine, Stepped, Stops, TellsOwnFailure, line_at, feeds_taken, is_going, taken_ahead, source_of, input_of, lines_given, bytes_taken, held, fault_kept, has_ended, lines_left};
     ghost use Rattle.bt_lines.specs.LentLine.{NoLineFeed, line_seen};
     ghost use Rattle.bt_lines.specs.Lines.{text_lines};
     ghost use Rattle.bt_lines.specs.Fault.{read_failed};
@@ -100,12 +100,14 @@ impl<S: Source> LineReader<S> {
     #[inline(always)]
     pub fn next(&mut self) -> Result<Option<Line<'_>>, Fault>
         ensures* after { sem 𝓛 (Rests (the_row S.row) self.entry (λ new.
-            NextLine S.left S.has_failed S.end_told S.read_fails self.old result new)) }
+            NextLine S.left S.has_failed S.end_told S.is_read self.old result new)) }
     {
         if self.cuts_line() {
             return Ok(Some(self.line_in_block()));
         }
-        self.step()?;
+        if !self.moves_on() {
+            return Err(self.fault());
+        }
         Ok(self.line())
     }
 
@@ -175,6 +177,7 @@ impl<S: Source> LineReader<S> {
     fn cuts_line(&mut self) -> bool
         ensures cut { result ≡ true → Stepped S.left S.has_failed S.end_told self.old (Ok result) self.new }
         ensures at_block { result ≡ true → (self.new.state ≡ Reading) × (0 < self.new.lines) }
+        ensures reads_nothing { result ≡ true → HasRead S.is_read self.old self.new }
         ensures unchanged { result ≡ false → self.new ≡ self.old }
         ensures none { result ≡ false → is_going self.old ≡ true → NoLineFeed (taken_ahead self.old) }
     {
@@ -190,13 +193,38 @@ impl<S: Source> LineReader<S> {
         true
     }
 
-    // Moves on where no whole line stands in the block: reads one, if there is one.
+    // Moves on where no whole line stands in the block, and answers whether it could. The fault isn't
+    // answered here: room for it would be cleared for each line, also for those that stand in the block.
     #[cold]
     #[inline(never)]
+    fn moves_on(&mut self) -> bool
+        requires { is_going self.old ≡ true → NoLineFeed (taken_ahead self.old) }
+        ensures moved { result ≡ true → Moves S.left S.has_failed S.end_told S.is_read self.old self.new }
+        ensures stopped { result ≡ false → Stops S.left S.has_failed S.end_told S.is_read self.old self.new }
+    {
+        match self.step() {
+            Ok(()) => true,
+            Err(_fault) => false,
+        }
+    }
+
+    // The fault that ended the reading.
+    #[inline(always)]
+    fn fault(&self) -> Fault
+        requires { IsSome (fault_kept self.now) }
+        ensures { fault_kept self.now ≡ Some (told result) }
+    {
+        match self.state {
+            State::ReadFailed | State::TooLong => self.read_failed(),
+            _ => no_memory(),
+        }
+    }
+
+    // Moves on where no whole line stands in the block: reads one, if there is one.
     fn step(&mut self) -> Result<(), Fault>
         requires { is_going self.old ≡ true → NoLineFeed (taken_ahead self.old) }
         ensures steps { Stepped S.left S.has_failed S.end_told self.old result self.new }
-        ensures own_failure { TellsOwnFailure S.read_fails self.old result self.new }
+        ensures own_failure { TellsOwnFailure S.is_read self.old result self.new }
     {
         match self.state {
             State::Reading | State::Carried => self.read_on(),
@@ -215,7 +243,7 @@ impl<S: Source> LineReader<S> {
         requires going { is_going self.old ≡ true }
         requires no_line { NoLineFeed (taken_ahead self.old) }
         ensures steps { Stepped S.left S.has_failed S.end_told self.old result self.new }
-        ensures own_failure { TellsOwnFailure S.read_fails self.old result self.new }
+        ensures own_failure { TellsOwnFailure S.is_read self.old result self.new }
     {
         self.carried.clear();
         let stop = fill(

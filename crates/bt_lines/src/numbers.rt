@@ -1,10 +1,14 @@
 //! Numbers in decimal.
 
-ghost use Rattle.std.specs.Prelude.{◌≡◌, ◌<◌, ◌≤◌, length, take, true};
+ghost use Rattle.std.specs.Prelude.{◌≡◌, ◌<◌, ◌≤◌, ℕ, List, false, get_or, length, map, take, true};
 ghost use Rattle.std.specs.Char.{is_ascii_digit};
 ghost use Rattle.std.specs.List.{list_all};
+ghost use Rattle.std.specs.Simd.Lanes.{mask_l};
 ghost use Rattle.std.specs.Str.Parse.{digits_value};
+ghost use Rattle.bt_lines.specs.Digits.{AreOnes, is_other};
 ghost use Rattle.bt_lines.specs.Number.{value_of};
+
+use std::simd::prelude::*;
 
 /// The greatest number that a text may denote.
 pub const MAX_NUMBER: u64 = 999_999_999_999;
@@ -57,45 +61,61 @@ pub fn eight_digits(bytes: &[u8; 8]) -> Option<u64>
     if (ones + SIXES) & UPPER_HALVES != 0 {
         return None;
     }
-    // The bytes 0, 2, 4 and 6 are the values of two digits each, and then the pairs of bytes 0 and 4 of four.
-    let pairs = (ones * 10 + ones / 0x100) & EVEN_BYTES;
-    let fours = pairs * 100 + pairs / 0x1_0000;
-    Some(fours % 0x1_0000 * 10_000 + fours / 0x1_0000_0000 % 0x1_0000)
+    Some(joined(ones))
 }
 
-/// The digits that come first in eight bytes, where fewer than eight do: the number that they denote, and how
-/// many they are. All are read at once.
+/// The digits that come first in eight bytes: the number that they denote, and how many they are. All are
+/// read at once.
 #[inline]
 pub fn few_digits(bytes: &[u8; 8]) -> (u64, usize)
-    ensures few { result.1 < 8 }
+    ensures few { result.1 ≤ 8 }
     ensures digits { list_all is_ascii_digit (take result.1 bytes.now) ≡ true }
+    ensures all { result.1 < 8 → is_ascii_digit (get_or bytes.now result.1 0) ≡ false }
     ensures value { result.0 ≡ digits_value 10 (take result.1 bytes.now) }
 {
-    let ones = u64::from_le_bytes(*bytes) ^ ZEROS;
-    let count = small_bytes(ones);
-    if count == 0 || count == 8 {
+    let count = digits_in_front(bytes);
+    if count == 0 {
         return (0, 0);
     }
     // They come last, after zeros.
-    let ones = ones << (64 - 8 * count);
-    if ones & UPPER_HALVES != 0 {
-        return (0, 0);
-    }
-    if (ones + SIXES) & UPPER_HALVES != 0 {
-        return (0, 0);
-    }
-    let pairs = (ones * 10 + ones / 0x100) & EVEN_BYTES;
-    let fours = pairs * 100 + pairs / 0x1_0000;
-    let value = fours % 0x1_0000 * 10_000 + fours / 0x1_0000_0000 % 0x1_0000;
-    (value, count)
+    let ones = u64::from_le_bytes(*bytes) ^ ZEROS;
+    (joined(ones << (64 - 8 * count)), count)
 }
 
-// How many bytes come before the first one above 9.
-fn small_bytes(ones: u64) -> usize
-    ensures { result ≤ 8 }
+// How many digits come first in eight bytes.
+#[inline]
+fn digits_in_front(bytes: &[u8; 8]) -> usize
+    ensures few { result ≤ 8 }
+    ensures digits { list_all is_ascii_digit (take result bytes.now) ≡ true }
+    ensures all { result < 8 → is_ascii_digit (get_or bytes.now result 0) ≡ false }
 {
-    let others = (ones | ones.wrapping_add(SIXES)) & UPPER_HALVES;
-    (others.trailing_zeros() / 8) as usize
+    let others = other_bits(u8x8::from_slice(bytes));
+    if others == 0 {
+        return 8;
+    }
+    others.trailing_zeros() as usize
+}
+
+// The bits of the bytes that are no digits, the first byte's the lowest.
+#[inline]
+fn other_bits(bytes: u8x8) -> u64
+    ensures { result ≡ mask_l (map is_other bytes) }
+{
+    let below = bytes.simd_lt(u8x8::splat(b'0')).to_bitmask();
+    let above = bytes.simd_gt(u8x8::splat(b'9')).to_bitmask();
+    below | above
+}
+
+// The number that eight digits denote, of their values in the bytes of one number, the first in the lowest.
+#[inline]
+fn joined(ones: u64) -> u64
+    requires { ones ≤ 0x0909_0909_0909_0909 }
+    ensures { (digits : List ℕ) → AreOnes digits ones → result ≡ digits_value 10 digits }
+{
+    // The bytes 0, 2, 4 and 6 are the values of two digits each, and then the pairs of bytes 0 and 4 of four.
+    let pairs = (ones * 10 + ones / 0x100) & EVEN_BYTES;
+    let fours = pairs * 100 + pairs / 0x1_0000;
+    fours % 0x1_0000 * 10_000 + fours / 0x1_0000_0000 % 0x1_0000
 }
 
 // The number of a text of more digits: they are too many but for leading zeros.

@@ -8,6 +8,7 @@ ghost use Rattle.bt_lines.specs.Names.{told};
 ghost use Rattle.bt_lines.specs.Putting.{PutsAll};
 
 use crate::block::BLOCK;
+use crate::copying::is_short;
 use crate::device::{DeviceFailed, Sink};
 use crate::fault::Fault;
 use crate::faults::write_failed;
@@ -104,6 +105,22 @@ impl<K: Sink> Out<K> {
             return false;
         }
         self.held.append_both(piece, end);
+        true
+    }
+
+    // Puts two short pieces, as `hold_both` does, and no others: so nothing is called where they are put.
+    #[inline(always)]
+    pub(crate) fn hold_short(&mut self, piece: &[u8], next: &[u8]) -> bool
+        ensures held { result ≡ true → PutsAll self.old (piece.now ++ next.now) self.new }
+        ensures unchanged { result ≡ false → self.new ≡ self.old }
+    {
+        if self.has_failed || self.held.room() < piece.len() + next.len() {
+            return false;
+        }
+        if !is_short(piece.len()) || !is_short(next.len()) {
+            return false;
+        }
+        self.held.append_short(piece, next);
         true
     }
 

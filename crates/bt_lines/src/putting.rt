@@ -27,7 +27,7 @@ pub fn put_line<K: Sink>(text: &[u8], end: &[u8], out: &mut Out<K>) -> Result<()
     put_across(text, end, out)
 }
 
-/// Puts two pieces of a line as [`put_line`] does, by a call that they share.
+/// Puts two pieces of a line as [`put_line`] does, by a call that they share. It is fast where both have 4 to 64 bytes.
 #[inline(always)]
 pub fn put_both<K: Sink>(piece: &[u8], next: &[u8], out: &mut Out<K>) -> Result<(), Fault>
     ensures { Puts out.old (piece.now ++ next.now) result out.new }
@@ -38,16 +38,16 @@ pub fn put_both<K: Sink>(piece: &[u8], next: &[u8], out: &mut Out<K>) -> Result<
     put_across(piece, next, out)
 }
 
-// Puts both where there is room for them, and answers whether it did.
+// Puts both where they are short and there is room for them, and answers whether it did.
 #[inline(never)]
 fn hold_pieces<K: Sink>(piece: &[u8], next: &[u8], out: &mut Out<K>) -> bool
     ensures held { result ≡ true → PutsAll out.old (piece.now ++ next.now) out.new }
     ensures unchanged { result ≡ false → out.new ≡ out.old }
 {
-    out.hold_both(piece, next)
+    out.hold_short(piece, next)
 }
 
-// Puts both where there is no room for them.
+// Puts both where there is no room for them, or one is long.
 #[cold]
 #[inline(never)]
 fn put_across<K: Sink>(text: &[u8], end: &[u8], out: &mut Out<K>) -> Result<(), Fault>
@@ -61,7 +61,7 @@ pub fn put_number<K: Sink>(number: u64, end: &[u8], out: &mut Out<K>) -> Result<
     ensures { Puts out.old (decimal number ++ end.now) result out.new }
 {
     let mut digits = Buffer::new();
-    put_column(digits.format(number).as_bytes(), end, out)
+    put_line(digits.format(number).as_bytes(), end, out)
 }
 
 #[cfg(test)]

@@ -3,7 +3,7 @@
 ghost use Rattle.std.specs.Prelude.{◌≡◌, ℕ, ◌<◌, ◌≤◌, ◌↔◌, IsTrue, length, IfOk, OnOk, OnErr, Some, true, false, drop, take, IsErr, ◌+◌};
 ghost use Rattle.std.specs.Io.KnownBytes.{ReadConsumes};
 ghost use Rattle.bt_lines.specs.Device.{TellsEnd};
-ghost use Rattle.bt_lines.specs.Script.{is_spent, hands_over};
+ghost use Rattle.bt_lines.specs.Script.{IsScriptRead, is_spent, hands_over};
 
 use crate::device::{DeviceFailed, Source};
 use std::marker::Model;
@@ -117,7 +117,7 @@ impl Source for ScriptSource<'_> {
 
     ghost end_told = { λ s. s.end_told };
 
-    ghost read_fails = { λ _ after. after.has_failed ≡ true };
+    ghost is_read = { IsScriptRead };
 
     fn read(&mut self, block: &mut [u8]) -> Result<usize, DeviceFailed>
         ensures within { IfOk result (λ n. n ≤ length block.new) }

@@ -96,6 +96,7 @@ fn few_digits_at_once(rt: HostRuntime) {
     for byte in 0..=u8::MAX {
         assert!(rt; byte.is_ascii_digit() || ends_digits(byte));
     }
+    assert_eq!(rt; few_digits(b"98765432"), (98_765_432, 8));
 }
 
 #[test]

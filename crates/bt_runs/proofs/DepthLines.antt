@@ -1,13 +1,13 @@
 -- The lines of intervals with their depths, and what the private calls of a coverage write of them.
-use Rattle.std.proofs.Common.{◌≡◌, ℕ, List, [], ◌∷◌, ◌++◌, Result, Err, sym, ap, ◌∙◌, subst, append_assoc, append-nil, codes, decimal, arith, length, length-append, ◌<◌, refl, Bool, true, false, Option, Some, None, Ok}
+use Rattle.std.proofs.Common.{◌≡◌, ℕ, List, [], ◌∷◌, ◌++◌, Result, Err, sym, ap, ◌∙◌, subst, append_assoc, codes, decimal, arith, length, length-append, ◌<◌, refl, Bool, true, false, Option, Some, None, Ok}
 use Rattle.std.proofs.lemmas.Grind.{flat_map-append}
 use Rattle.std.proofs.lemmas.List.{map-append}
-use Rattle.bt_lines.specs.Fault.{Told, write_failed}
+use Rattle.bt_lines.specs.Fault.{write_failed}
 use Rattle.bt_lines.specs.Names.{told}
 use Rattle.bt_lines.specs.Output.{Output}
-use Rattle.bt_lines.specs.Putting.{Adds, FailsToAdd, FailsToPut, Grown, Puts, PutsAll}
+use Rattle.bt_lines.specs.Putting.{Adds, FailsToAdd, Grown, Puts}
 use Rattle.bt_lines.specs.declared.fault.Fault.{Fault}
-use Rattle.bt_lines.proofs.PuttingLemmas.{adds_more, adds_some, cut_off, fails_before, puts_more, fails_then}
+use Rattle.bt_lines.proofs.PuttingLemmas.{fails_then, line_alone, adds_lines, cut_lines}
 use Rattle.bt_runs.specs.Depth.{DepthInterval, depth_line, depth_lines, depth_on}
 use Rattle.bt_runs.specs.DepthStep.{levels_on, Known, bare_of, depth_walk, depths_left, unknown}
 use Rattle.bt_runs.specs.Levels.{Level}
@@ -41,16 +41,6 @@ line_parts r =
     ∙ sym (append_assoc (first ++ decimal r.stop) tab last)
     ∙ sym (append_assoc ((first ++ decimal r.stop) ++ tab) (decimal r.depth) (codes "\n")))
 
--- the line was cut off in its name
-pub cut_in_name : (r : DepthInterval) (old new : Output) (fault : Told) → FailsToPut old r.chrom fault new → FailsToPut old (depth_line r) fault new
-cut_in_name r old new fault p =
-    subst (λ bytes. FailsToPut old bytes fault new) (line_parts r) (fails_before old new r.chrom (depth_text r.start r.stop r.depth) fault p)
-
--- or behind it, or put whole
-pub puts_line : {A : Type 0} (r : DepthInterval) (old mid new : Output) (result : Result A Fault) → PutsAll old r.chrom mid → Puts mid (depth_text r.start r.stop r.depth) result new → Puts old (depth_line r) result new
-puts_line r old mid new result p q =
-    subst (λ bytes. Puts old bytes result new) (line_parts r) (puts_more old mid new r.chrom (depth_text r.start r.stop r.depth) result p q)
-
 -- no line is empty
 pub line_has_bytes : (r : DepthInterval) → depth_line r ≡ [] → ⊥
 line_has_bytes r e =
@@ -60,33 +50,22 @@ line_has_bytes r e =
     let none : length (depth_line r) ≡ 0 = ap length e in
     absurd (omega arith)
 
--- the lines of intervals, one list after another
-pub lines-append : (xs ys : List DepthInterval) → depth_lines (xs ++ ys) ≡ depth_lines xs ++ depth_lines ys
-lines-append xs ys = flat_map-append depth_line xs ys
-
-module _ (old mid new : Output) (xs ys : List DepthInterval) where
-  pub adds_lines : {A : Type 0} (r : Result A Fault) → Grown old (depth_lines xs) mid → Adds mid (depth_lines ys) r new → Adds old (depth_lines (xs ++ ys)) r new
-  adds_lines r p q = rw (lines-append xs ys) (adds_more old mid new (depth_lines xs) (depth_lines ys) r p q)
-
-pub cut_lines : (old new : Output) (xs ys : List DepthInterval) (fault : Told) → FailsToAdd old (depth_lines xs) fault new → FailsToAdd old (depth_lines (xs ++ ys)) fault new
-cut_lines old new xs ys fault p = rw (lines-append xs ys) (cut_off old new (depth_lines xs) (depth_lines ys) fault p)
-
 -- the line of an interval alone
 pub adds_line : {A : Type 0} (r : DepthInterval) (old new : Output) (result : Result A Fault) → Puts old (depth_line r) result new → Adds old (depth_lines (r ∷ [])) result new
-adds_line r old new result p = rw (append-nil (depth_line r)) (adds_some old new (depth_line r) result (line_has_bytes r) p)
+adds_line r old new result p = line_alone depth_line r old new result (line_has_bytes r) p
 
 -- levels on a chromosome, one list after another
 module _ (chrom : List ℕ) (old mid new : Output) (xs ys all : List Level) where
   pub adds_levels : {A : Type 0} (r : Result A Fault) → all ≡ xs ++ ys → Grown old (depth_lines (levels_on chrom xs)) mid → Adds mid (depth_lines (levels_on chrom ys)) r new → Adds old (depth_lines (levels_on chrom all)) r new
-  adds_levels r is p q = rw (is, map-append (depth_on chrom) xs ys) (adds_lines old mid new (levels_on chrom xs) (levels_on chrom ys) r p q)
+  adds_levels r is p q = rw (is, map-append (depth_on chrom) xs ys) (adds_lines depth_line old mid new (levels_on chrom xs) (levels_on chrom ys) r p q)
 
   pub cut_levels : (zs : List Level) (fault : Fault) → all ≡ (xs ++ ys) ++ zs → Grown old (depth_lines (levels_on chrom xs)) mid → FailsToAdd mid (depth_lines (levels_on chrom ys)) (told fault) new → FailsToAdd old (depth_lines (levels_on chrom all)) (told fault) new
   cut_levels zs fault is p q =
       rw (is, map-append (depth_on chrom) (xs ++ ys) zs, map-append (depth_on chrom) xs ys)
-      (cut_lines old new (levels_on chrom xs ++ levels_on chrom ys) (levels_on chrom zs) (told fault) (adds_lines old mid new (levels_on chrom xs) (levels_on chrom ys) {A = Unit {0}} (Err fault) p q))
+      (cut_lines depth_line old new (levels_on chrom xs ++ levels_on chrom ys) (levels_on chrom zs) (told fault) (adds_lines depth_line old mid new (levels_on chrom xs) (levels_on chrom ys) {A = Unit {0}} (Err fault) p q))
 
 pub left_cut : (chrom : List ℕ) (old new : Output) (xs ys : List Level) (fault : Fault) → FailsToAdd old (depth_lines (levels_on chrom xs)) (told fault) new → FailsToAdd old (depth_lines (levels_on chrom (xs ++ ys))) (told fault) new
-left_cut chrom old new xs ys fault p = rw (map-append (depth_on chrom) xs ys) (cut_lines old new (levels_on chrom xs) (levels_on chrom ys) (told fault) p)
+left_cut chrom old new xs ys fault p = rw (map-append (depth_on chrom) xs ys) (cut_lines depth_line old new (levels_on chrom xs) (levels_on chrom ys) (told fault) p)
 
 -- one bare chromosome
 pub bare_some : (zeros : Bool) (entries : List Entry) (rank size : ℕ) (name : List ℕ) → (entry_at entries rank).length ≡ size → (entry_at entries rank).name ≡ name → zeros ≡ true → 0 < size
@@ -101,9 +80,9 @@ begun_same (Some r) held = refl
 -- lines before those of a step
 pub advances_more : (next : Option (Place Known)) (xs ys : List DepthInterval) (entries : List Entry) (result : Result (Option DepthPlace) Failure) (held : OpenAt) (old mid new : Output)
     → Grown old (depth_lines xs) mid → AdvanceAnswers (next, ys) entries result held mid new → AdvanceAnswers (next, xs ++ ys) entries result held old new
-advances_more next xs ys entries (Ok current) held old mid new p a = record { puts = adds_lines old mid new xs ys {A = Unit {0}} (Ok tt) p a.puts; reached = a.reached; at = a.at }
-advances_more next xs ys entries (Err Write) held old mid new p a = rw (lines-append xs ys) (fails_then old mid new (depth_lines xs) (depth_lines ys) write_failed p a)
-advances_more next xs ys entries (Err Memory) held old mid new p a = adds_lines old mid new xs ys {A = Unit {0}} (Ok tt) p a
+advances_more next xs ys entries (Ok current) held old mid new p a = record { puts = adds_lines depth_line old mid new xs ys {A = Unit {0}} (Ok tt) p a.puts; reached = a.reached; at = a.at }
+advances_more next xs ys entries (Err Write) held old mid new p a = rw (flat_map-append depth_line xs ys) (fails_then old mid new (depth_lines xs) (depth_lines ys) write_failed p a)
+advances_more next xs ys entries (Err Memory) held old mid new p a = adds_lines depth_line old mid new xs ys {A = Unit {0}} (Ok tt) p a
 
 -- a record on another chromosome: what is left before that, and then what it settles there
 pub count_begins : (zeros : Bool) (strand : Option Strand) (entries : List Entry) (current : Option (Place Known)) (r : Feature) (rank : ℕ) → is_on entries current r.chrom ≡ false → Some rank ≡ rank_of (genome_names entries) r.chrom
@@ -113,4 +92,4 @@ count_begins zeros strand entries current r rank off is =
     step_goes (depth_walk zeros strand) entries current r place (left_before (depths_left zeros) (bare_of zeros) entries current rank) (going_to (depth_walk zeros strand) entries current r.chrom (Some rank) off is)
 
 pub begins_cut : (xs ys : List DepthInterval) (old new : Output) (fault : Fault) → FailsToAdd old (depth_lines xs) (told fault) new → FailsToAdd old (depth_lines (xs ++ ys)) write_failed new
-begins_cut xs ys old new fault p = subst (λ f. FailsToAdd old (depth_lines (xs ++ ys)) f new) p.puts.is (cut_lines old new xs ys (told fault) p)
+begins_cut xs ys old new fault p = subst (λ f. FailsToAdd old (depth_lines (xs ++ ys)) f new) p.puts.is (cut_lines depth_line old new xs ys (told fault) p)

@@ -4,7 +4,7 @@ use Rattle.bt_bed.specs.Feature.{Feature, intervals_of}
 use Rattle.bt_bed.specs.Genome.{Entry, genome_names}
 use Rattle.bt_bed.specs.Rank.{AreDistinct}
 use Rattle.bt_bed.specs.declared.strand.Strand.{Strand}
-use Rattle.bt_runs.specs.Depth.{coverage, settled_depths, DepthInterval, begun_across, counted_on, depth_lines, depth_of, kept_by, kept_records, known_place, open_at, unfinished, unfinished_by}
+use Rattle.bt_runs.specs.Depth.{coverage, settled_depths, DepthInterval, begun_across, counted_on, depth_lines, depth_of, kept_by, kept_records, known_place, open_at, unfinished, unfinished_by, depth_line}
 use Rattle.bt_runs.specs.DepthStep.{Known, bare_of, depths_left, depth_walk}
 use Rattle.bt_runs.specs.Gaps.{AreTaken, length_in}
 use Rattle.bt_runs.specs.Settling.{Settles}
@@ -12,6 +12,7 @@ use Rattle.bt_runs.specs.Walk.{AreReached, Place, left_before, places, walk_step
 use Rattle.bt_runs.proofs.CoverageForm.{Own, depths, owes, written}
 use Rattle.bt_runs.proofs.Walks.{Held, Steps, ends, reaches, settles_items, steps, rank_entry, same_place, taken_front}
 use Rattle.std.proofs.lemmas.Bool.{cases_lt, lt-ltb, le-ltb}
+use Rattle.std.proofs.lemmas.Grind.{flat_map-append}
 use Rattle.bt_lines.specs.Fault.{Told, no_memory}
 use Rattle.bt_lines.specs.Names.{told}
 use Rattle.bt_lines.specs.Output.{Output}
@@ -31,7 +32,6 @@ use Rattle.bt_runs.specs.declared.failure.Failure.{Failure}
 use Rattle.bt_runs.specs.declared.failure.Failure.TheVariants.{Write, Memory}
 use Rattle.bt_runs.proofs.OneDepth.{across_known, known_at}
 use Rattle.bt_runs.proofs.DepthLemmas.{none_open}
-use Rattle.bt_runs.proofs.DepthLines.{lines-append}
 use Rattle.bt_runs.proofs.EngineLemmas.{feeds_cut, feeds_short, feeds_taken, finishes_by}
 use Rattle.bt_runs.proofs.GenomeRanks.{name_at, size_there}
 use Rattle.bt_runs.proofs.Standing.{apart}
@@ -180,7 +180,7 @@ module _ (table : List Entry) (zeros : Bool) (strand : Option Strand) (current :
         let s = same first past stands in
         let more = rw s.same_entries at taken in
         rw (s.same_entries, s.same_zeros, s.same_strand) (ap depth_lines (moves zeros strand table past r (seen current held) more (s.reached (taken_front table past (r ∷ []) more))).settles
-        ∙ lines-append (settled_depths zeros strand table past) (walk_step (depth_walk zeros strand) table (seen current held) r).1)
+        ∙ flat_map-append depth_line (settled_depths zeros strand table past) (walk_step (depth_walk zeros strand) table (seen current held) r).1)
 
     none : AfterEach may_take stands_after old r (λ first past. is_quiet first past r → step_lines ≡ [])
     none first past stands taken q = absurd q
@@ -225,7 +225,7 @@ module _ (table : List Entry) (zeros : Bool) (strand : Option Strand) (current :
       let s = same first past stands in
       let t = rw s.same_entries at taken in
       rw (s.same_entries, s.same_zeros, s.same_strand, all) (ap depth_lines (leaves zeros strand table past (seen current held) t.distinct (s.reached t))
-      ∙ lines-append (settled_depths zeros strand table past) (left (length table)))
+      ∙ flat_map-append depth_line (settled_depths zeros strand table past) (left (length table)))
 
   pub finishes_left : {A : Type 0} (stop : ℕ) (result : Result A Fault) (grown : Output) → stop ≡ length table → Adds out (depth_lines (left stop)) result grown
       → Finishes may_take stands_after kept_fault settled_lines whole_output old out result grown

@@ -34,17 +34,11 @@ gap_of_one = refl
 abbrev records : List Feature
 records = feature 3 0 4 Plus ∷ feature 1 1 2 Dot ∷ feature 1 4 6 Minus ∷ []
 
-all_runs : merged_runs 0 All records ≡ on 3 0 4 ∷ on 1 1 2 ∷ on 1 4 6 ∷ []
-unfolding merged runs_of is_bridged stretches_from with_position
-all_runs = refl
-
-settled : settled_runs 0 All records ≡ on 3 0 4 ∷ on 1 1 2 ∷ []
-unfolding merged settled_runs runs_of is_bridged stretches_from with_position
-settled = refl
-
-kept : kept_runs 0 All records ≡ on 1 4 6 ∷ []
-unfolding merged settled_runs kept_runs runs_of is_bridged stretches_from with_position
-kept = refl
+all_runs : (merged_runs 0 All records ≡ on 3 0 4 ∷ on 1 1 2 ∷ on 1 4 6 ∷ [])
+    × (settled_runs 0 All records ≡ on 3 0 4 ∷ on 1 1 2 ∷ [])
+    × (kept_runs 0 All records ≡ on 1 4 6 ∷ [])
+unfolding merged runs_of is_bridged stretches_from with_position settled_runs kept_runs
+all_runs = (refl, refl, refl)
 
 -- across a gap of two the last two records are one run, which is open
 settled_bridged : settled_runs 2 All records ≡ on 3 0 4 ∷ []
@@ -65,13 +59,10 @@ settled_by_others = refl
 abbrev apart : List Feature
 apart = feature 1 0 2 Plus ∷ feature 1 4 6 Minus ∷ []
 
-not_settled : settled_runs 2 (One Plus) apart ≡ []
+apart_settled : (settled_runs 2 (One Plus) apart ≡ [])
+    × (settled_runs 1 (One Plus) apart ≡ on 1 0 2 ∷ [])
 unfolding merged settled_runs runs_of is_bridged stretches_from with_position
-not_settled = refl
-
-settled_further : settled_runs 1 (One Plus) apart ≡ on 1 0 2 ∷ []
-unfolding merged settled_runs runs_of is_bridged stretches_from with_position
-settled_further = refl
+apart_settled = (refl, refl)
 
 -- each strand by itself: the finished run of the strand - waits behind the open one
 abbrev of : Strand → Interval → StrandRun
@@ -80,22 +71,16 @@ of strand run = record { strand = strand; run = run }
 abbrev two_strands : List Feature
 two_strands = feature 1 0 6 Plus ∷ feature 1 1 2 Minus ∷ feature 1 4 5 Minus ∷ feature 1 5 8 Plus ∷ []
 
-by_first_record : strand_runs 0 two_strands ≡ of Plus (on 1 0 8) ∷ of Minus (on 1 1 2) ∷ of Minus (on 1 4 5) ∷ []
-unfolding strand_runs merged runs_of is_bridged stretches_from with_position
-by_first_record = refl
-
-waits : settled_strand_runs 0 two_strands ≡ []
-unfolding settled_strand_runs strand_runs merged runs_of is_bridged stretches_from with_position
-waits = refl
+by_first_record : (strand_runs 0 two_strands ≡ of Plus (on 1 0 8) ∷ of Minus (on 1 1 2) ∷ of Minus (on 1 4 5) ∷ [])
+    × (settled_strand_runs 0 two_strands ≡ [])
+unfolding strand_runs merged runs_of is_bridged stretches_from with_position settled_strand_runs
+by_first_record = (refl, refl)
 
 -- a record that has passed the open run settles all before its own
 abbrev passed_all : List Feature
 passed_all = feature 1 0 3 Plus ∷ feature 1 1 2 Minus ∷ feature 1 4 5 Dot ∷ []
 
-two_settled : settled_strand_runs 0 passed_all ≡ of Plus (on 1 0 3) ∷ of Minus (on 1 1 2) ∷ []
-unfolding settled_strand_runs strand_runs merged runs_of is_bridged stretches_from with_position
-two_settled = refl
-
-one_waits : kept_strand_runs 0 passed_all ≡ of Dot (on 1 4 5) ∷ []
-unfolding kept_strand_runs settled_strand_runs strand_runs merged runs_of is_bridged stretches_from with_position
-one_waits = refl
+passed_settled : (settled_strand_runs 0 passed_all ≡ of Plus (on 1 0 3) ∷ of Minus (on 1 1 2) ∷ [])
+    × (kept_strand_runs 0 passed_all ≡ of Dot (on 1 4 5) ∷ [])
+unfolding settled_strand_runs strand_runs merged runs_of is_bridged stretches_from with_position kept_strand_runs
+passed_settled = (refl, refl)

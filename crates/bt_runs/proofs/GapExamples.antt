@@ -23,33 +23,21 @@ abbrev genome : List Entry
 genome = record { name = 1 ∷ []; length = 10 } ∷ record { name = 2 ∷ []; length = 5 } ∷ record { name = 3 ∷ []; length = 3 } ∷ []
 
 -- with no record each chromosome comes whole, and with -L none does
-no_record : complement false genome [] ≡ gap 1 0 10 ∷ gap 2 0 5 ∷ gap 3 0 3 ∷ []
-unfolding complement gaps_of stretches_from with_position
-no_record = refl
-
-no_record_asked : complement true genome [] ≡ []
-unfolding complement gaps_of stretches_from with_position
-no_record_asked = refl
-
-nothing_settled : settled_gaps false genome [] ≡ []
-unfolding settled_gaps complement gaps_of stretches_from with_position
-nothing_settled = refl
+no_record : (complement false genome [] ≡ gap 1 0 10 ∷ gap 2 0 5 ∷ gap 3 0 3 ∷ [])
+    × (complement true genome [] ≡ [])
+    × (settled_gaps false genome [] ≡ [])
+unfolding complement gaps_of stretches_from with_position settled_gaps
+no_record = (refl, refl, refl)
 
 -- a record that goes past its chromosome's length
 abbrev past_the_length : List Feature
 past_the_length = on 1 0 1 ∷ on 1 8 12 ∷ []
 
-cut : complement false genome past_the_length ≡ gap 1 1 8 ∷ gap 2 0 5 ∷ gap 3 0 3 ∷ []
-unfolding complement gaps_of stretches_from with_position
-cut = refl
-
-cut_asked : complement true genome past_the_length ≡ gap 1 1 8 ∷ []
-unfolding complement gaps_of stretches_from with_position
-cut_asked = refl
-
-cut_place : kept_place genome past_the_length ≡ place 1 10 ∷ []
-unfolding kept_place
-cut_place = refl
+cut_gaps : (complement false genome past_the_length ≡ gap 1 1 8 ∷ gap 2 0 5 ∷ gap 3 0 3 ∷ [])
+    × (complement true genome past_the_length ≡ gap 1 1 8 ∷ [])
+    × (kept_place genome past_the_length ≡ place 1 10 ∷ [])
+unfolding complement gaps_of stretches_from with_position kept_place
+cut_gaps = (refl, refl, refl)
 
 -- the gap before a record is settled by it, and the one after it isn't
 abbrev two : List Feature
@@ -63,37 +51,28 @@ two_settled = refl
 abbrev second : List Feature
 second = on 2 1 2 ∷ []
 
-second_settled : settled_gaps false genome second ≡ gap 1 0 10 ∷ gap 2 0 1 ∷ []
+second_gaps : (settled_gaps false genome second ≡ gap 1 0 10 ∷ gap 2 0 1 ∷ [])
+    × (settled_gaps true genome second ≡ gap 2 0 1 ∷ [])
 unfolding settled_gaps complement gaps_of stretches_from with_position
-second_settled = refl
-
-second_asked : settled_gaps true genome second ≡ gap 2 0 1 ∷ []
-unfolding settled_gaps complement gaps_of stretches_from with_position
-second_asked = refl
+second_gaps = (refl, refl)
 
 -- a record wholly past the length settles its whole chromosome
 abbrev beyond : List Feature
 beyond = on 1 11 12 ∷ []
 
-beyond_settled : settled_gaps true genome beyond ≡ gap 1 0 10 ∷ []
+beyond_gaps : (settled_gaps true genome beyond ≡ gap 1 0 10 ∷ [])
+    × (complement false genome beyond ≡ gap 1 0 10 ∷ gap 2 0 5 ∷ gap 3 0 3 ∷ [])
 unfolding settled_gaps complement gaps_of stretches_from with_position
-beyond_settled = refl
-
-beyond_whole : complement false genome beyond ≡ gap 1 0 10 ∷ gap 2 0 5 ∷ gap 3 0 3 ∷ []
-unfolding complement gaps_of stretches_from with_position
-beyond_whole = refl
+beyond_gaps = (refl, refl)
 
 -- the kept place is the greatest end, and not the last
 abbrev within : List Feature
 within = on 1 2 9 ∷ on 1 3 5 ∷ []
 
-within_place : kept_place genome within ≡ place 1 9 ∷ []
-unfolding kept_place
-within_place = refl
-
-within_whole : complement false genome within ≡ gap 1 0 2 ∷ gap 1 9 10 ∷ gap 2 0 5 ∷ gap 3 0 3 ∷ []
-unfolding complement gaps_of stretches_from with_position
-within_whole = refl
+within_gaps : (kept_place genome within ≡ place 1 9 ∷ [])
+    × (complement false genome within ≡ gap 1 0 2 ∷ gap 1 9 10 ∷ gap 2 0 5 ∷ gap 3 0 3 ∷ [])
+unfolding kept_place complement gaps_of stretches_from with_position
+within_gaps = (refl, refl)
 
 -- a chromosome that is covered has no gap
 abbrev covered : List Feature

@@ -1,6 +1,8 @@
 -- What a complement keeps tells which chromosome its walk has reached, and up to where; so its exact step writes what the records settle. What its private calls write of that stands first.
 use Rattle.std.proofs.Common.{◌≡◌, ℕ, List, [], ◌∷◌, ◌++◌, refl, ap, ◌∙◌, subst, sym, min, flat_map, slice_range, nat_lt, append-nil, Bool, true, false, Option, Some, Result, ◌≤◌, ap₂, arith, length, None, Ok, Err}
 use Rattle.std.proofs.lemmas.Bool.{cond-true}
+use Rattle.std.proofs.lemmas.Grind.{flat_map-append}
+use Rattle.bt_lines.proofs.PuttingLemmas.{adds_lines}
 use Rattle.bt_lines.specs.Output.{Output}
 use Rattle.bt_lines.specs.Putting.{Adds, Grown, Puts, FailsToAdd, FailsToPut}
 use Rattle.bt_lines.specs.declared.fault.Fault.{Fault}
@@ -8,7 +10,7 @@ use Rattle.bt_bed.specs.Feature.{Feature, intervals_of}
 use Rattle.bt_bed.specs.Genome.{Entry, genome_names}
 use Rattle.bt_bed.specs.Interval.{Interval, last_of}
 use Rattle.bt_bed.specs.IntervalLine.{interval_line, interval_lines}
-use Rattle.bt_bed.proofs.IntervalLineLemmas.{adds_line, adds_lines, lines-append}
+use Rattle.bt_bed.proofs.IntervalLineLemmas.{adds_line}
 use Rattle.bt_runs.specs.GapStep.{bare_gap, covering, gap_between, gap_walk, last_gap, seen, whole_of}
 use Rattle.bt_runs.specs.Walk.{Place, begun, going, left_before, left_of, taking, walk_step, AreReached, places}
 use Rattle.bt_runs.specs.declared.complement.GapPlace.{GapPlace}
@@ -56,8 +58,7 @@ module _ (limit : Bool) (entries : List Entry) (current : Option GapPlace) (r : 
   pub step_writes : {A : Type 0} (old mid new : Output) (result : Result A Fault) → Grown old (interval_lines (going (gap_walk limit) entries (seen current) r.chrom).1) mid → Adds mid (interval_lines (covering entries reached r.start r.stop).1) result new
       → Adds old (interval_lines (walk_step (gap_walk limit) entries (seen current) r).1) result new
   step_writes old mid new result p q =
-      subst (λ (gaps : List Interval). Adds old (interval_lines gaps) result new) (sym (ap (λ s. s.1) step_is))
-      (adds_lines old mid new (going (gap_walk limit) entries (seen current) r.chrom).1 (covering entries reached r.start r.stop).1 result p q)
+      rw (ap (λ s. s.1) step_is) (adds_lines interval_line old mid new (going (gap_walk limit) entries (seen current) r.chrom).1 (covering entries reached r.start r.stop).1 result p q)
 
 -- a gap with a base is written by its line
 pub adds_gap : {A : Type 0} (name : List ℕ) (start stop : ℕ) (old new : Output) (r : Result A Fault) → nat_lt start stop ≡ true → Puts old (interval_line (record { chrom = name; start = start; stop = stop })) r new → Adds old (interval_lines (gap_between name start stop)) r new
@@ -146,7 +147,7 @@ module _ (table : List Entry) (limit : Bool) (current : Option GapPlace) (at : A
     next_lines first past stands taken =
         let s = same first past stands in
         rw (s.same_entries, s.same_limit) (ap interval_lines (moves limit table past r (seen current) (rw s.same_entries at taken) at s.kept).settles
-        ∙ lines-append (settled_gaps limit table past) (walk_step (gap_walk limit) table (seen current) r).1)
+        ∙ flat_map-append interval_line (settled_gaps limit table past) (walk_step (gap_walk limit) table (seen current) r).1)
 
     none : AfterEach may_take stands_after old r (λ first past. is_quiet first past r → step_lines ≡ [])
     none = quiet_none may_take stands_after kept_fault settled_lines old (λ first past stands. stands.going) was_going out step_lines held_count r next_lines
@@ -182,7 +183,7 @@ module _ (table : List Entry) (limit : Bool) (current : Option GapPlace) (at : A
   lines_left stop all first past stands taken =
       let s = same first past stands in
       rw (s.same_entries, s.same_limit, all) (ap interval_lines (leaves limit table past (seen current) (rw s.same_entries at taken) at s.kept)
-      ∙ lines-append (settled_gaps limit table past) (left (length table)))
+      ∙ flat_map-append interval_line (settled_gaps limit table past) (left (length table)))
 
   pub finishes_left : {A : Type 0} (stop : ℕ) (result : Result A Fault) (grown : Output) → stop ≡ length table → Adds out (interval_lines (left stop)) result grown
       → Finishes may_take stands_after kept_fault settled_lines whole_output old out result grown

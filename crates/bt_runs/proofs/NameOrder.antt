@@ -1,6 +1,6 @@
 -- Names that are put in order: each comes before the next, and none is lost.
-use Rattle.std.proofs.Common.{◌≡◌, ℕ, Bool, true, false, ◌||◌, List, [], ◌∷◌, refl, sym, ap, ◌∙◌, subst}
-use Rattle.std.proofs.lemmas.Bool.{false≢true}
+use Rattle.std.proofs.Common.{◌≡◌, ℕ, Bool, true, false, ◌||◌, List, [], ◌∷◌, refl, sym, ap, ◌∙◌}
+use Rattle.std.proofs.lemmas.Bool.{false≢true, or_parts}
 use Rattle.std.specs.Cmp.Lexicographic.{bytes_decides}
 use Rattle.std.specs.Ordering.{is_lt, ordering_reverse}
 use Rattle.std.specs.Prelude.{IsTrue, bytes_eq, if◌then◌else◌}
@@ -15,10 +15,6 @@ or_swap true true c = refl
 or_swap true false c = refl
 or_swap false true c = refl
 or_swap false false c = refl
-
-or_false : (a b : Bool) → (a || b) ≡ false → (a ≡ false) × (b ≡ false)
-or_false true b e = absurd (false≢true (sym e))
-or_false false b e = (refl, e)
 
 module _ (order : Order) where
   among_if : (c : Bool) (name n x : List ℕ) (ns : List (List ℕ))
@@ -65,7 +61,7 @@ module _ (order : Order) where
   ascending_by total name n ns one known none old rest Less e = (e, old)
   ascending_by total name n ns one known none old rest Equal e =
       let same : name ≡ n = total.equal name n one known.0 e in
-      absurd (false≢true (sym (or_false (bytes_eq n name) (is_among ns name) none).0 ∙ (bytes_decides n name).1 (sym same)))
+      absurd (false≢true (sym (or_parts (bytes_eq n name) (is_among ns name) none).0 ∙ (bytes_decides n name).1 (sym same)))
   ascending_by total name n ns one known none old rest Greater e =
       (before_put n name ns old.0 (total.swapped name n one known.0 ∙ ap ordering_reverse e), rest)
 
@@ -74,7 +70,7 @@ module _ (order : Order) where
   ascending_put total name [] one known none old = (tt, tt)
   ascending_put total name (n ∷ ns) one known none old =
       ascending_by total name n ns one known none old
-      (ascending_put total name ns one known.1 (or_false (bytes_eq n name) (is_among ns name) none).1 old.1)
+      (ascending_put total name ns one known.1 (or_parts (bytes_eq n name) (is_among ns name) none).1 old.1)
       (order.compare name n) refl
 
   ascending_order : IsTotal order → (ns : List (List ℕ)) → AreKnown order ns → AreDistinct ns → AreAscending order (in_order order ns)

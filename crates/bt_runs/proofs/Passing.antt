@@ -60,7 +60,7 @@ module _ (strand : MergeStrand) where
       let all : has_records name (intervals_of past ++ []) ≡ false = ap (λ rs. has_records name rs) (append-nil (intervals_of past)) ∙ f in
       ap (λ rs. has_records name rs) (sym (append-nil (counted strand past))) ∙ some_absent (λ r. is_counted strand r.strand) name past [] all
 
-  counted-append : (xs ys : List Feature) → counted strand (xs ++ ys) ≡ counted strand xs ++ counted strand ys
+  pub counted-append : (xs ys : List Feature) → counted strand (xs ++ ys) ≡ counted strand xs ++ counted strand ys
   counted-append xs ys =
       let keep : Feature → Bool = λ r. is_counted strand r.strand in
       ap intervals_of (filter-append keep xs ys) ∙ map-append interval_of (filter keep xs) (filter keep ys)

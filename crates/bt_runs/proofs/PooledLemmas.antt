@@ -50,18 +50,11 @@ module _ (gap : ℕ) (strand : MergeStrand) (past : List Feature) (old : Pooling
   -- the lines of the step are those that the record settles
   pub settles_next : (r : Feature) → AreTaken (past ++ r ∷ []) → interval_lines (settled_runs gap strand (past ++ r ∷ [])) ≡ interval_lines (settled_runs gap strand past) ++ lines_by old r
   settles_next r taken =
-      let before = settled_runs gap strand past in
-      ap interval_lines (next_taken gap strand past r taken).settles
-      ∙ flat_map-append interval_line before (settled_by gap (kept_runs gap strand past) (interval_of r))
-      ∙ ap (λ runs. interval_lines before ++ interval_lines (settled_by gap runs (interval_of r))) (sym stands.kept)
-      ∙ ap (λ g. interval_lines before ++ interval_lines (settled_by g old.kept (interval_of r))) (sym stands.same_gap)
+      rw (stands.same_gap, stands.kept) (ap interval_lines (next_taken gap strand past r taken).settles
+      ∙ flat_map-append interval_line (settled_runs gap strand past) (settled_by gap (kept_runs gap strand past) (interval_of r)))
 
   keeps_next : (r : Feature) → AreTaken (past ++ r ∷ []) → kept_runs gap strand (past ++ r ∷ []) ≡ kept_by old.gap old.strand old.kept r
-  keeps_next r taken =
-      (next_taken gap strand past r taken).keeps
-      ∙ ap (λ runs. kept_by gap strand runs r) (sym stands.kept)
-      ∙ ap (λ s. kept_by gap s old.kept r) (sym stands.same_strand)
-      ∙ ap (λ g. kept_by g old.strand old.kept r) (sym stands.same_gap)
+  keeps_next r taken = rw (stands.same_gap, stands.same_strand, stands.kept) (next_taken gap strand past r taken).keeps
 
   -- the merge stands after the record too
   pub stands_next : (r : Feature) (out : Output) (new : Pooling) (grown : Output) → AreTaken (past ++ r ∷ []) → Takes old r out new grown → StandsAfter gap strand (past ++ r ∷ []) new
@@ -87,10 +80,7 @@ module _ (gap : ℕ) (strand : MergeStrand) (past : List Feature) (old : Pooling
   -- the kept run's line is the one that is left
   pub unsettled : AreTaken past → interval_lines (merged_runs gap strand past) ≡ interval_lines (settled_runs gap strand past) ++ interval_lines old.kept
   unsettled taken =
-      let before = settled_runs gap strand past in
-      ap interval_lines (whole_taken gap strand past taken).all
-      ∙ flat_map-append interval_line before (kept_runs gap strand past)
-      ∙ ap (λ runs. interval_lines before ++ interval_lines runs) (sym stands.kept)
+      rw stands.kept (ap interval_lines (whole_taken gap strand past taken).all ∙ flat_map-append interval_line (settled_runs gap strand past) (kept_runs gap strand past))
 
 module _ (old : Pooling) (was_going : kept_fault old ≡ None) (out : Output) where
   module _ (r : Feature) where

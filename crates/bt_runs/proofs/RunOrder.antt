@@ -1,5 +1,5 @@
 -- Records in a total order: the names of their chromosomes come in that order.
-use Rattle.std.proofs.Common.{◌≡◌, ℕ, inl, inr, List, [], ◌∷◌, refl, sym, ap, ◌∙◌, subst, false}
+use Rattle.std.proofs.Common.{◌≡◌, ℕ, inl, inr, List, [], ◌∷◌, refl, sym, ap, ◌∙◌, false}
 use Rattle.std.specs.Prelude.{if◌then◌else◌}
 use Rattle.std.specs.Ordering.{is_lt}
 use Rattle.std.specs.declared.cmp.Ordering.TheVariants.{Equal, Less}
@@ -29,8 +29,7 @@ module _ (order : Order) (total : IsTotal order) where
       elim (placed_together order (r ∷ s ∷ ss) total placed).0 [
         | inl same ↦
             let equal : order.compare r.chrom s.chrom ≡ Equal
-            = subst (λ (c : List ℕ). order.compare r.chrom c ≡ Equal) (sym same.0)
-            (total.same r.chrom placed.0) in
+            = rw same.0 (total.same r.chrom placed.0) in
             absurd (let apart : Less ≡ Equal = sym less ∙ equal in cc)
         | inr absent ↦ absent
       ]

@@ -181,8 +181,7 @@ module _ (gap : ℕ) (past : List Feature) (r : Feature) (taken : AreTaken (past
   runs_next strand = elim (cases_Bool (is_strand strand r.strand)) [
     | inl t ↦
         let is = same_strand strand r.strand t in
-        subst (λ z. runs_of_strand gap (past ++ r ∷ []) z ≡ map (joined_to gap r) (runs_of_strand gap past z) ++ new_run some_reached r) (sym is)
-        (same_next gap past r taken ∙ ap (λ b. map (joined_to gap r) (runs_of_strand gap past r.strand) ++ new_run b r) reached_split)
+        rw is (same_next gap past r taken ∙ ap (λ b. map (joined_to gap r) (runs_of_strand gap past r.strand) ++ new_run b r) reached_split)
         ∙ ap (λ l. map (joined_to gap r) (runs_of_strand gap past strand) ++ l) (sym (cond-true (is_strand strand r.strand) (new_run some_reached r) [] t))
     | inr f ↦
         other_next gap past r taken strand f

@@ -3,7 +3,7 @@ use Rattle.std.proofs.Common.{◌≡◌, ℕ, zero, suc, ◌+◌, ◌<◌, ◌�
 use Rattle.std.proofs.Common.{arith, subst, List, [], ◌∷◌, ◌++◌, append_assoc, append-nil, length}
 use Rattle.std.proofs.Common.{map, Bool, true, false, not, Some, option_map}
 use Rattle.std.specs.Prelude.{IsTrue}
-use Rattle.std.specs.List.{find, list_any, position_or_len, slice_index}
+use Rattle.std.specs.List.{find, list_any, position_or_len}
 use Rattle.std.specs.List.Sorted.{IsStrictlyIncreasing}
 use Rattle.std.proofs.lemmas.Bool.{cases_Bool, cond-true, cond-false, not_from_true}
 use Rattle.std.proofs.lemmas.Bool.{not_from_false}
@@ -103,8 +103,7 @@ rise_increases (n ∷ []) r k h = absurd (omega arith)
 rise_increases (n ∷ m ∷ ms) r zero h = r.0.0
 rise_increases (n ∷ m ∷ ms) r (suc k) h =
     let later : suc (k + 1) ≡ suc k + 1 = omega arith in
-    subst (λ i. slice_index (m ∷ ms) k < slice_index (n ∷ m ∷ ms) i) later
-    (rise_increases (m ∷ ms) r.1 k (omega arith))
+    rw (← later) (rise_increases (m ∷ ms) r.1 k (omega arith))
 
 map_same : {A B : Type 0} (f g : A → B) (xs : List A) → Each (λ x. f x ≡ g x) xs
     → map f xs ≡ map g xs
@@ -233,8 +232,7 @@ module _ (gap : ℕ) (past : List Feature) (r : Feature)
             ap (map (first_place next)) is ∙ map-append (first_place next) joined (run_from r ∷ [])
             ∙ ap₂ (λ (a : List ℕ) (n : ℕ). a ++ n ∷ []) places_old new.place in
             record {
-              rise = subst (λ l. Rise l) (sym places)
-                  (rise_more before (length past) firsts.rise all_below);
+              rise = rw places (rise_more before (length past) firsts.rise all_below);
               start = rw is (each_append (λ item. first_start next item ≡ Some (locus_of item.run))
                   joined (run_from r ∷ []) (starts_old firsts.start) (new.start, tt));
             }
@@ -249,8 +247,7 @@ module _ (gap : ℕ) (past : List Feature) (r : Feature)
     before_same [] [] a b e p = tt
     before_same [] (s ∷ ss) a b e p = subst (λ (l : Locus). IsUpTo order l (locus_of s)) e p
     before_same (x ∷ xs) rest a b e p =
-        subst (λ (l : Locus). IsUpTo order (locus_of b) l) (sym (same_start gap r x))
-        (subst (λ (l : Locus). IsUpTo order l (locus_of x.run)) e p)
+        rw (same_start gap r x) (subst (λ (l : Locus). IsUpTo order l (locus_of x.run)) e p)
 
     placed_same : (items : List StrandRun) (rest : List Interval)
         → ArePlaced order (places_of items ++ rest)

@@ -215,17 +215,10 @@ module _ (gap : ℕ) (past : List Feature) (merge : Stranding) (stands : StandsA
   -- the lines of the step are those that the record settles
   pub settles_next : (r : Feature) → AreTaken (past ++ r ∷ []) → strand_lines (settled_strand_runs gap (past ++ r ∷ [])) ≡ strand_lines (settled_strand_runs gap past) ++ lines_by merge r
   settles_next r taken =
-      let before = settled_strand_runs gap past in
-      ap strand_lines (strand_next gap past r taken).settled
-      ∙ places-append before (front_settled gap (kept_strand_runs gap past) r)
-      ∙ ap (λ items. strand_lines before ++ strand_lines (front_settled gap items r)) (sym stands.kept)
-      ∙ ap (λ g. strand_lines before ++ strand_lines (front_settled g merge.kept r)) (sym stands.same_gap)
+      rw (stands.same_gap, stands.kept) (ap strand_lines (strand_next gap past r taken).settled ∙ places-append (settled_strand_runs gap past) (front_settled gap (kept_strand_runs gap past) r))
 
   keeps_next : (r : Feature) → AreTaken (past ++ r ∷ []) → kept_strand_runs gap (past ++ r ∷ []) ≡ kept_with merge.gap merge.kept r
-  keeps_next r taken =
-      (strand_next gap past r taken).kept
-      ∙ ap (λ items. kept_with gap items r) (sym stands.kept)
-      ∙ ap (λ g. kept_with g merge.kept r) (sym stands.same_gap)
+  keeps_next r taken = rw (stands.same_gap, stands.kept) (strand_next gap past r taken).kept
 
   -- it stands after the record too
   pub stands_next : (r : Feature) (out : Output) (new : Stranding) (grown : Output) → AreTaken (past ++ r ∷ []) → Takes merge r out new grown → StandsAfter gap (past ++ r ∷ []) new
@@ -248,10 +241,7 @@ module _ (gap : ℕ) (past : List Feature) (merge : Stranding) (stands : StandsA
 
   -- the kept runs' lines are those that are left
   pub unsettled : strand_lines (strand_runs gap past) ≡ strand_lines (settled_strand_runs gap past) ++ strand_lines merge.kept
-  unsettled =
-      let before = settled_strand_runs gap past in
-      ap strand_lines (strand_runs_are_all gap past) ∙ places-append before (kept_strand_runs gap past)
-      ∙ ap (λ items. strand_lines before ++ strand_lines items) (sym stands.kept)
+  unsettled = rw stands.kept (ap strand_lines (strand_runs_are_all gap past) ∙ places-append (settled_strand_runs gap past) (kept_strand_runs gap past))
 
 module _ (merge : Stranding) (was_going : kept_fault merge ≡ None) (out : Output) where
   module _ (r : Feature) where

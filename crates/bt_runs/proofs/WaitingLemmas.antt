@@ -4,6 +4,7 @@ use Rattle.std.specs.List.{slice_get}
 use Rattle.std.proofs.lemmas.Bool.{cond-true, cond-false, not_from_false, not_from_true, or_from, or_left, or_right}
 use Rattle.std.proofs.lemmas.List.{set-get_or, map-append}
 use Rattle.std.proofs.lemmas.Option.{get_or_from_slice_get, slice_get_read, slice_get_within}
+use Rattle.bt_lines.proofs.PuttingLemmas.{adds_lines, cut_lines}
 use Rattle.bt_bed.specs.declared.strand.Strand.{Strand}
 use Rattle.bt_bed.specs.declared.strand.Strand.TheVariants.{Plus, Minus, Dot}
 use Rattle.bt_bed.specs.Strands.{is_strand}
@@ -13,8 +14,8 @@ use Rattle.bt_runs.specs.declared.waiting.Waiting.{Waiting}
 use Rattle.bt_lines.specs.Output.{Output}
 use Rattle.bt_lines.specs.Putting.{Adds, Grown, Puts}
 use Rattle.bt_lines.specs.declared.fault.Fault.{Fault}
-use Rattle.bt_bed.specs.IntervalLine.{interval_line, interval_lines}
-use Rattle.bt_bed.proofs.IntervalLineLemmas.{adds_line, adds_lines, cut_lines}
+use Rattle.bt_bed.specs.IntervalLine.{interval_line}
+use Rattle.bt_bed.proofs.IntervalLineLemmas.{adds_line}
 use Rattle.bt_runs.specs.StrandRuns.{StrandRun, places_of}
 use Rattle.bt_runs.specs.Stranding.{strand_lines}
 use Rattle.bt_runs.proofs.StrandSettling.{take_ends, take_goes}
@@ -168,8 +169,7 @@ placed-append chrom xs ys = ap places_of (map-append (placed_run chrom) xs ys) �
 pub line_more : {A : Type 0} (chrom : List ℕ) (done : List Waiting) (w : Waiting) (old mid new : Output) (result : Result A Fault) → Grown old (strand_lines (placed_runs chrom done)) mid → Puts mid (interval_line (placed_run chrom w).run) result new
     → Adds old (strand_lines (placed_runs chrom (done ++ w ∷ []))) result new
 line_more chrom done w old mid new result p q =
-    subst (λ l. Adds old (interval_lines l) result new) (sym (placed-append chrom done (w ∷ [])))
-    (adds_lines old mid new (places_of (placed_runs chrom done)) ((placed_run chrom w).run ∷ []) result p (adds_line (placed_run chrom w).run mid new result q))
+    rw (placed-append chrom done (w ∷ [])) (adds_lines interval_line old mid new (places_of (placed_runs chrom done)) ((placed_run chrom w).run ∷ []) result p (adds_line (placed_run chrom w).run mid new result q))
 
 -- the lines of more runs are cut off there
 pub line_cut : (A : Type 0) (chrom : List ℕ) (here : Bool) (reach : ℕ) (runs now : List Waiting) (w : Waiting) (old mid new : Output) (e : Fault) (p : Written here reach runs now) → slice_get now 0 ≡ Some w → is_over here reach w ≡ true
@@ -178,9 +178,7 @@ pub line_cut : (A : Type 0) (chrom : List ℕ) (here : Bool) (reach : ℕ) (runs
 line_cut A chrom here reach runs now w old mid new e p is t grown q =
     let next = next_written here reach runs now w is t p in
     let rest = passed_runs here reach (drop 1 now) in
-    subst (λ (l : List Waiting). Adds {A = A} old (strand_lines (placed_runs chrom l)) (Err e) new) (sym next.front)
-    (subst (λ l. Adds {A = A} old (interval_lines l) (Err e) new) (sym (placed-append chrom (p.done ++ w ∷ []) rest))
-    (cut_lines old new (places_of (placed_runs chrom (p.done ++ w ∷ []))) (places_of (placed_runs chrom rest)) _ (line_more {A = A} chrom p.done w old mid new (Err e) grown q)))
+    rw next.front (rw (placed-append chrom (p.done ++ w ∷ []) rest) (cut_lines interval_line old new (places_of (placed_runs chrom (p.done ++ w ∷ []))) (places_of (placed_runs chrom rest)) _ (line_more {A = A} chrom p.done w old mid new (Err e) grown q)))
 
 -- where the record lies elsewhere, none is left
 pub left_none : (reach : ℕ) (runs : List Waiting) → left_runs false reach runs ≡ []

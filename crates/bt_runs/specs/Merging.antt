@@ -5,10 +5,10 @@ use Rattle.bt_lines.specs.Fault.{Told}
 use Rattle.bt_lines.specs.declared.fault.Fault.{Fault}
 use Rattle.bt_bed.specs.Feature.{Feature}
 use Rattle.bt_bed.specs.Interval.{Interval}
-use Rattle.bt_runs.specs.MergedRuns.{AreTaken, merged_runs, settled_runs}
+use Rattle.bt_runs.specs.MergedRuns.{AreTaken}
 use Rattle.bt_runs.specs.Pooling as pool
 use Rattle.bt_runs.specs.Stranding as strands
-use Rattle.bt_runs.specs.StrandRuns.{places_of, settled_strand_runs, strand_runs}
+use Rattle.bt_runs.specs.StrandRuns.{places_of}
 use Rattle.bt_runs.specs.StrandTaking as taking
 use Rattle.bt_runs.specs.Taking as pooled_taking
 use Rattle.bt_runs.specs.declared.merge_strand.MergeStrand.{MergeStrand}
@@ -75,15 +75,3 @@ kept_places (Apart merge) = places_of merge.kept
 abbrev pub IsForRun : {A : Type 0} → Merging → Feature → Result A Fault → Type 0
 IsForRun (Together old) r result = pooled_taking.IsForRun old r result
 IsForRun (Apart old) r result = taking.IsForRun old r result
-
--- the runs of all records, as options -s and -S of `bedtools merge` ask for them,
--- and those that the records settle
-abbrev pub listed_runs : ℕ → MergeStrand → List Feature → List Interval
-listed_runs gap Each records = places_of (strand_runs gap records)
-listed_runs gap All records = merged_runs gap All records
-listed_runs gap (One strand) records = merged_runs gap (One strand) records
-
-abbrev pub listed_settled : ℕ → MergeStrand → List Feature → List Interval
-listed_settled gap Each records = places_of (settled_strand_runs gap records)
-listed_settled gap All records = settled_runs gap All records
-listed_settled gap (One strand) records = settled_runs gap (One strand) records

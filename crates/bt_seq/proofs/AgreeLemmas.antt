@@ -1,8 +1,8 @@
 -- A block belongs to the same sequence among the names up to a line and among all names.
-use Rattle.std.proofs.Common.{◌≡◌, ℕ, ◌+◌, ◌<◌, ◌≤◌, Bool, true, false, cond, List, [], ◌∷◌, ◌++◌, length, Option, Some, None, refl, sym, ap, ◌∙◌, length-append, arith, bytes_eq}
+use Rattle.std.proofs.Common.{◌≡◌, ℕ, ◌<◌, ◌≤◌, Bool, true, false, cond, List, [], ◌∷◌, ◌++◌, length, Option, Some, None, refl, sym, ap, ◌∙◌, length-append, arith, bytes_eq}
 use Rattle.std.proofs.lemmas.List.{append_cancel_right}
 use Rattle.bt_bed.specs.Feature.{Feature}
-use Rattle.bt_seq.specs.Owners.{Block, blocks_by, left_after, left_at_last, left_by, names_behind, owned_from, owners_stay, owners_were}
+use Rattle.bt_seq.specs.Owners.{Block, blocks_by, left_at_last, names_behind, owned_from, owners_stay, owners_were}
 
 -- ---- one name
 

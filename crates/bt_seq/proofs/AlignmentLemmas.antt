@@ -2,7 +2,6 @@
 use Rattle.std.proofs.Common.{◌≡◌, ℕ, ◌+◌, ◌-◌, ◌<◌, ◌≤◌, Bool, true, false, List, [], ◌∷◌, length, Option, Some, None, Result, Ok, Err, refl, sym, ap, ◌∙◌, arith, option_map, eqb, cond, codes}
 use Rattle.std.specs.Prelude.{min, nat_lt, ◌||◌, bytes_eq}
 use Rattle.std.proofs.lemmas.Bool.Decides.{nat_tests}
-use Rattle.std.proofs.lemmas.List.Splits.{length-slice_split}
 use Rattle.bt_lines.specs.Lines.{pieces}
 use Rattle.bt_lines.specs.declared.fault.Kind.{Kind}
 use Rattle.bt_lines.specs.declared.fault.Kind.TheVariants.{TooFewColumns, EmptyName, BadFlag, BadPosition, BadQuality, BadCigar, StopTooLarge}
@@ -11,10 +10,6 @@ use Rattle.bt_seq.specs.Cigar.{length_of, operations_of, reference_length}
 use Rattle.bt_seq.specs.CigarSteps.{span_with}
 use Rattle.bt_seq.specs.Flag.{is_unmapped}
 use Rattle.bt_seq.specs.declared.operation.Operation.{Operation}
-
--- a text has one column at least
-pub has_a_column : (text : List ℕ) → 1 ≤ length (pieces 9 text)
-has_a_column text = omega (arith, length-slice_split (λ byte. eqb byte 9) text)
 
 -- what is said, by the values of the columns
 pub say_is : (f : Fields) (flag position quality span : Option ℕ) → value_up_to 65535 f.flag ≡ flag → value_up_to 2147483647 f.position ≡ position → value_up_to 255 f.quality ≡ quality

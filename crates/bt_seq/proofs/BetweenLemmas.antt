@@ -5,7 +5,7 @@ use Rattle.std.proofs.lemmas.Bool.Decides.{nat_tests}
 use Rattle.std.proofs.lemmas.List.Sums.{sum_by-cons}
 use Rattle.bt_bed.specs.Interval.{Span}
 use Rattle.bt_seq.specs.Between.{AreBetween, blocks_are_within}
-use Rattle.bt_seq.specs.AlignmentBlocks.{blocks_in, blocks_of, is_skip, with_bases}
+use Rattle.bt_seq.specs.AlignmentBlocks.{blocks_in, is_skip, with_bases}
 use Rattle.bt_seq.specs.Cigar.{covered_by, operations_of, reference_length}
 use Rattle.bt_seq.specs.declared.operation.Operation.{Operation}
 use Rattle.bt_seq.proofs.BlockLemmas.{blocks_open, open_blocks, skip_covers}
@@ -49,20 +49,17 @@ open_between start stop (operation ∷ operations) h =
     between_by (is_skip operation) operation operations start stop last refl h
     (λ e.
     let same : stop + operation.length + reference_length operations ≡ last = omega (arith, size, skip_covers operation e) in
-    subst (λ n. AreBetween (stop + operation.length) n (open_blocks (stop + operation.length) (stop + operation.length) operations)) same
-    (open_between (stop + operation.length) (stop + operation.length) operations (omega arith)))
+    rw (← same) (open_between (stop + operation.length) (stop + operation.length) operations (omega arith)))
     (λ e.
     let same : stop + covered_by operation + reference_length operations ≡ last = omega (arith, size) in
-    subst (λ n. AreBetween start n (open_blocks start (stop + covered_by operation) operations)) same
-    (open_between start (stop + covered_by operation) operations (omega arith)))
+    rw (← same) (open_between start (stop + covered_by operation) operations (omega arith)))
 
 cut_between : (start stop : ℕ) (operations : Option (List Operation)) → option_map (λ length. start + length) (option_map reference_length operations) ≡ Some stop
     → AreBetween start stop (blocks_in start operations)
 cut_between start stop None e = cc
 cut_between start stop (Some operations) e =
     let same : start + reference_length operations ≡ stop = cc in
-    subst (λ n. AreBetween start n (blocks_of start operations)) same
-    (subst (λ blocks. AreBetween start (start + reference_length operations) blocks) (sym (blocks_open start operations)) (open_between start start operations (omega arith)))
+    rw (← same) (subst (λ blocks. AreBetween start (start + reference_length operations) blocks) (sym (blocks_open start operations)) (open_between start start operations (omega arith)))
 
 pub within : blocks_are_within
 within true a h e = cut_between a.start a.stop (operations_of a.cigar) e

@@ -2,13 +2,12 @@
 use Rattle.std.proofs.Common.{◌≡◌, ℕ, ◌+◌, ◌≤◌, Bool, true, false, List, [], ◌∷◌, ◌++◌, length, Option, Some, None, refl, sym, ap, ◌∙◌, arith, cond, append-nil, add_assoc, add-zero, append_assoc}
 use Rattle.std.specs.Prelude.{flat_map, nat_le, nat_lt, not}
 use Rattle.std.specs.List.{list_all}
-use Rattle.std.proofs.lemmas.Bool.{false≢true}
+use Rattle.std.proofs.lemmas.Bool.{false≢true, not-true, and_parts}
 use Rattle.std.proofs.lemmas.Bool.Decides.{nat_tests}
 use Rattle.std.proofs.lemmas.List.Sums.{sum_by-cons, sum_by_push, take_while-cons}
 use Rattle.bt_bed.specs.Interval.{Span}
 use Rattle.bt_seq.specs.AlignmentBlocks.{begins_block, block_at, blocks_in, blocks_of, cuts, is_skip, unskipped_are_one_block, up_to_skip, with_bases}
 use Rattle.bt_seq.specs.Cigar.{covered_by, operations_in, reference_length, with_operation}
-use Rattle.bt_seq.proofs.CigarLemmas.{both_true}
 use Rattle.bt_seq.specs.CigarSteps.{none_left}
 use Rattle.bt_seq.specs.Room.{FitBehind, fit_behind}
 use Rattle.bt_seq.specs.declared.operation.Operation.{Operation}
@@ -95,9 +94,6 @@ pub blocks_open_in : (start : ℕ) (operations : Option (List Operation)) → bl
 blocks_open_in start None = refl
 blocks_open_in start (Some operations) = blocks_open start operations
 
-le_from : (n m : ℕ) → nat_le n m ≡ true → n ≤ m
-le_from n m e = grind (arith, nat_tests)
-
 le_to : (n m : ℕ) → n ≤ m → nat_le n m ≡ true
 le_to n m e = grind (arith, nat_tests)
 
@@ -129,10 +125,6 @@ pub nothing_fits : (start : ℕ) → start ≤ 999999999999 → FitBehind start 
 unfolding operations_in
 nothing_fits start small = le_to (start + 0) 999999999999 (omega arith)
 
-flipped : (b : Bool) → not b ≡ true → b ≡ false
-flipped true e = absurd (false≢true e)
-flipped false e = refl
-
 second : (b : Bool) (x y : List Span) → b ≡ false → cond b x y ≡ y
 second true x y e = absurd (false≢true (sym e))
 second false x y e = refl
@@ -141,8 +133,8 @@ second false x y e = refl
 open_unskipped : (start stop : ℕ) (operations : List Operation) → list_all (λ operation. not (is_skip operation)) operations ≡ true → open_blocks start stop operations ≡ with_bases start (stop + reference_length operations)
 open_unskipped start stop [] all = ap (with_bases start) (sym (add-zero stop))
 open_unskipped start stop (operation ∷ operations) all =
-    let p = both_true (not (is_skip operation)) (list_all (λ o. not (is_skip o)) operations) all in
-    let goes : is_skip operation ≡ false = flipped (is_skip operation) p.0 in
+    let p = and_parts (not (is_skip operation)) (list_all (λ o. not (is_skip o)) operations) all in
+    let goes : is_skip operation ≡ false = not-true (is_skip operation) p.0 in
     let sum : stop + covered_by operation + reference_length operations ≡ stop + reference_length (operation ∷ operations) = omega (arith, sum_by-cons covered_by operation operations) in
     second (is_skip operation) (with_bases start stop ++ open_blocks (stop + operation.length) (stop + operation.length) operations) (open_blocks start (stop + covered_by operation) operations) goes
     ∙ open_unskipped start (stop + covered_by operation) operations p.1 ∙ ap (with_bases start) sum

@@ -1,14 +1,12 @@
 -- Lemmas on the operations of a CIGAR.
-use Rattle.std.proofs.Common.{◌≡◌, ℕ, ◌+◌, ◌<◌, ◌≤◌, Bool, true, false, ◌&&◌, List, [], ◌∷◌, ◌++◌, length, take, drop, get_or, Option, Some, None, refl, sym, ap, ◌∙◌, arith, cond, option_map, append-nil, length-append, length-take}
-use Rattle.std.specs.Prelude.{min}
+use Rattle.std.proofs.Common.{◌≡◌, ℕ, ◌+◌, ◌<◌, ◌≤◌, Bool, true, false, List, [], ◌∷◌, ◌++◌, length, take, drop, get_or, Option, Some, None, refl, sym, ap, ◌∙◌, arith, cond, option_map, append-nil, length-append, length-take}
 use Rattle.std.specs.Char.{is_ascii_digit}
 use Rattle.std.specs.List.{list_all}
 use Rattle.std.proofs.lemmas.List.Folds.{list_all_more}
 use Rattle.std.specs.Str.Parse.{digits_value}
 use Rattle.std.proofs.lemmas.Bool.Decides.{nat_tests}
-use Rattle.std.proofs.lemmas.Bool.{false≢true}
+use Rattle.std.proofs.lemmas.Bool.{false≢true, and_parts}
 use Rattle.std.proofs.lemmas.List.{take-append-drop, drop_more, take-append-le, get_or_append_left, take_all}
-use Rattle.std.proofs.lemmas.List.Sums.{sum_by-cons}
 use Rattle.bt_lines.proofs.NumberLemmas.{value_of_digits, value_of_empty, value_of_large, value_of_other}
 use Rattle.bt_lines.specs.Number.{value_of}
 use Rattle.bt_seq.specs.Cigar.{Part, is_letter, onto_part, operation_of, operations_in, operations_of_parts, parts_of, covered_by, with_operation, with_part}
@@ -28,10 +26,6 @@ onto_front (byte ∷ bytes) parts = onto_part byte (onto_front bytes parts)
 abbrev pub no_letters : List ℕ → Bool
 no_letters bytes = list_all (λ byte. cond (is_letter byte) false true) bytes
 
-pub both_true : (a b : Bool) → (a && b) ≡ true → (a ≡ true) × (b ≡ true)
-both_true true b e = (refl, e)
-both_true false b e = absurd (false≢true e)
-
 flipped : (b : Bool) → cond b false true ≡ true → b ≡ false
 flipped true e = absurd (false≢true e)
 flipped false e = refl
@@ -39,7 +33,7 @@ flipped false e = refl
 parts_behind : (front rest : List ℕ) → no_letters front ≡ true → parts_of (front ++ rest) ≡ onto_front front (parts_of rest)
 parts_behind [] rest e = refl
 parts_behind (byte ∷ bytes) rest e =
-    let p = both_true (cond (is_letter byte) false true) (no_letters bytes) e in
+    let p = and_parts (cond (is_letter byte) false true) (no_letters bytes) e in
     let no : is_letter byte ≡ false = flipped (is_letter byte) p.0 in
     rw (no, parts_behind bytes rest p.1) refl
 
@@ -94,7 +88,7 @@ none_left_some (byte ∷ bytes) some = refl
 pub digits_no_letters : (bytes : List ℕ) → list_all is_ascii_digit bytes ≡ true → no_letters bytes ≡ true
 digits_no_letters [] e = refl
 digits_no_letters (byte ∷ bytes) e =
-    let p = both_true (is_ascii_digit byte) (list_all is_ascii_digit bytes) e in
+    let p = and_parts (is_ascii_digit byte) (list_all is_ascii_digit bytes) e in
     rw (digit_no_letter byte p.0, digits_no_letters bytes p.1) refl
 
 cut_there : (text : List ℕ) (n : ℕ) → n < length text → text ≡ take n text ++ get_or text n 0 ∷ drop (n + 1) text
@@ -164,13 +158,6 @@ digits_alone (byte ∷ bytes) end past digits =
     let all : list_all is_ascii_digit (byte ∷ bytes) ≡ true = sym (ap (list_all is_ascii_digit) (take_all end (byte ∷ bytes) past)) ∙ digits in
     ap (λ l. operations_of_parts (parts_of l)) (sym (append-nil (byte ∷ bytes)))
     ∙ ap operations_of_parts (parts_behind (byte ∷ bytes) [] (digits_no_letters (byte ∷ bytes) all) ∙ onto_nothing byte bytes)
-
--- one more operation
-pub span_more : (total limit : ℕ) (operation : Operation) (rest : Option (List Operation))
-    → span_with (min (total + covered_by operation) 1000000000000) rest ≡ span_with total (with_operation (Some operation) rest)
-span_more total limit operation None = refl
-span_more total limit operation (Some operations) =
-    ap Some (rw (sum_by-cons covered_by operation operations) (grind (arith, nat_tests)))
 
 -- no operation is left
 pub span_end : (total : ℕ) (rest : List ℕ) → length rest ≡ 0 → total ≤ 1000000000000 → Some total ≡ span_with total (operations_in rest)

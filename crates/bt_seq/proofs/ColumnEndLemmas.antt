@@ -1,5 +1,5 @@
 -- Lemmas on the first column of a text that is looked through by several bytes at a time.
-use Rattle.std.proofs.Common.{◌≡◌, ℕ, zero, suc, ◌+◌, ◌<◌, ◌≤◌, List, length, take, get_or, subst, arith}
+use Rattle.std.proofs.Common.{ℕ, zero, suc, ◌+◌, ◌<◌, ◌≤◌, List, length, take, get_or, subst, arith}
 use Rattle.bt_lines.proofs.ColumnLemmas.{IsColumn, IsInside, column_more}
 
 -- so many more bytes that are no tabs

@@ -2,6 +2,7 @@
 use Rattle.std.proofs.Common.{◌≡◌, ℕ, suc, ◌+◌, ◌<◌, ◌≤◌, min, Bool, true, false, cond, ◌&&◌, ◌||◌, nat_le, nat_lt, length, List, [], ◌∷◌, ◌++◌, Option, Some, None, map, filter, refl, sym, ap, ◌∙◌, subst, arith}
 use Rattle.std.specs.List.{AllByRecursion, list_any}
 use Rattle.std.proofs.lemmas.Bool.Decides.{nat_tests}
+use Rattle.std.proofs.lemmas.Bool.{or_parts}
 use Rattle.bt_bed.specs.Feature.{Feature}
 use Rattle.bt_lines.specs.Number.{max_number}
 use Rattle.bt_seq.proofs.HeldLemmas.{held_alone}
@@ -53,16 +54,12 @@ module _ (low : ℕ) where
   item_low (Some []) r e h = ((lt_false r.start e, h), tt)
   item_low (Some (n ∷ ns)) r e h = tt
 
-  both_false : (a b : Bool) → (a || b) ≡ false → (a ≡ false) × (b ≡ false)
-  both_false true b e = absurd (let apart : true ≡ false = e in cc)
-  both_false false b e = (refl, e)
-
   pub own_low : (left : Option (List (List ℕ))) (last : Option (List ℕ)) (rs : List Feature) → list_any (tag_decides low) (tags chrom_of left last rs) ≡ false → AreInRange rs
       → AllByRecursion (IsLow low) (own_in (tags chrom_of left last rs))
   own_low left last [] e h = tt
   own_low left last (r ∷ rs) e h =
       let next = next_left chrom_of left last r in
-      let both = both_false (block_decides low next (r ∷ [])) (list_any (tag_decides low) (tags chrom_of next (Some r.chrom) rs)) e in
+      let both = or_parts (block_decides low next (r ∷ [])) (list_any (tag_decides low) (tags chrom_of next (Some r.chrom) rs)) e in
       all_both (IsLow low) (items_if_last next (r ∷ [])) (own_in (tags chrom_of next (Some r.chrom) rs)) (item_low next r both.0 h.0) (own_low next (Some r.chrom) rs both.1 h.1)
 
 -- what is held goes on to be held by the next line, where it reaches that far

@@ -4,11 +4,11 @@ use Rattle.std.specs.Prelude.{flat_map, nat_lt, nat_le}
 use Rattle.std.specs.Char.{is_ascii_digit}
 use Rattle.std.specs.List.{list_all}
 use Rattle.std.specs.Str.Parse.{digits_value}
-use Rattle.std.proofs.lemmas.Bool.{false≢true}
+use Rattle.std.proofs.lemmas.Bool.{false≢true, and_parts}
 use Rattle.bt_lines.specs.Number.{is_number, value_of}
 use Rattle.bt_seq.specs.Cigar.{Divides, Part, division_is_found, division_is_one, each_operation, is_letter, is_operation, onto_part, operation_of, operations_are_divided, operations_in, operations_of_parts, parts_of, spelled, with_operation, with_part}
 use Rattle.bt_seq.specs.declared.operation.Operation.{Operation}
-use Rattle.bt_seq.proofs.CigarLemmas.{both_true, digits_no_letters, parts_cut}
+use Rattle.bt_seq.proofs.CigarLemmas.{digits_no_letters, parts_cut}
 
 number_digits : (a b c : Bool) → ((a && b) && c) ≡ true → b ≡ true
 number_digits true true c e = refl
@@ -19,8 +19,8 @@ number_digits false b c e = absurd (false≢true e)
 found : (parts : List Part) → list_all is_operation parts ≡ true → parts_of (flat_map spelled parts) ≡ Some parts
 found [] all = refl
 found (part ∷ parts) all =
-    let here = both_true (is_operation part) (list_all is_operation parts) all in
-    let p = both_true (is_number part.digits) (is_letter part.letter) here.0 in
+    let here = and_parts (is_operation part) (list_all is_operation parts) all in
+    let p = and_parts (is_number part.digits) (is_letter part.letter) here.0 in
     let digits = number_digits (nat_lt 0 (length part.digits)) (list_all is_ascii_digit part.digits) (nat_le (digits_value 10 part.digits) 999999999999) p.0 in
     ap parts_of (append_assoc part.digits (part.letter ∷ []) (flat_map spelled parts))
     ∙ parts_cut part.digits part.letter (flat_map spelled parts) parts (digits_no_letters part.digits digits) p.1 (found parts here.1)
@@ -102,7 +102,7 @@ all_by : (number letter rest : Bool) → number ≡ true → letter ≡ true →
 all_by number letter rest p q r = rw (p, q, r) refl
 
 split_letters : (part : Part) (parts : List Part) → letters (part ∷ parts) ≡ true → (is_letter part.letter ≡ true) × (letters parts ≡ true)
-split_letters part parts e = both_true (is_letter part.letter) (letters parts) e
+split_letters part parts e = and_parts (is_letter part.letter) (letters parts) e
 
 value_there : (part : Part) (value : Option ℕ) (rest : Option (List Operation)) (operations : List Operation) → with_operation (option_map (λ length. record { length = length; letter = part.letter }) value) rest ≡ Some operations
     → value ≡ None → ⊥

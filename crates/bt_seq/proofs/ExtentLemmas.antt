@@ -1,5 +1,5 @@
 -- Lemmas on masked extents.
-use Rattle.std.proofs.Common.{◌≡◌, ℕ, ◌+◌, ◌-◌, ◌<◌, ◌≤◌, zero, suc, min, Bool, true, false, cond, ◌||◌, map, length, List, [], ◌∷◌, ◌++◌, take, drop, get_or, refl, ap, sym, ◌∙◌, arith}
+use Rattle.std.proofs.Common.{◌≡◌, ℕ, ◌+◌, ◌-◌, ◌≤◌, zero, suc, min, Bool, true, false, cond, ◌||◌, map, length, List, [], ◌∷◌, ◌++◌, take, drop, refl, ap, sym, ◌∙◌, arith}
 use Rattle.std.specs.List.{list_any}
 use Rattle.std.proofs.lemmas.Bool.Decides.{nat_tests}
 use Rattle.std.proofs.lemmas.List.Folds.{list_any-append}
@@ -29,10 +29,6 @@ by_both how base true false = refl
 by_both how base false true = refl
 by_both how base false false = refl
 
-or_none : (b : Bool) → (b || false) ≡ b
-or_none true = refl
-or_none false = refl
-
 -- extents mask one behind another
 pub one_behind : (how : MaskHow) (extents : List Extent) (s : Extent) (position : ℕ) (bases : List ℕ) → masked_in how (extents ++ s ∷ []) position bases ≡ masked_in how (s ∷ []) position (masked_in how extents position bases)
 one_behind how extents s position [] = refl
@@ -40,11 +36,6 @@ one_behind how extents s position (base ∷ bases) =
     ap (λ b. cond b (masked_byte how base) base ∷ masked_in how (extents ++ s ∷ []) (suc position) bases) (list_any-append (has_position position) extents (s ∷ []))
     ∙ ap (λ b. b ∷ masked_in how (extents ++ s ∷ []) (suc position) bases) (by_both how base (list_any (has_position position) extents) (list_any (has_position position) (s ∷ [])))
     ∙ ap (λ bs. cond (list_any (has_position position) (s ∷ [])) (masked_byte how (cond (list_any (has_position position) extents) (masked_byte how base) base)) (cond (list_any (has_position position) extents) (masked_byte how base) base) ∷ bs) (one_behind how extents s (suc position) bases)
-
-pub next_taken : {X : Type 0} (xs : List X) (i : ℕ) (d : X) → i < length xs → take (i + 1) xs ≡ take i xs ++ get_or xs i d ∷ []
-next_taken [] i d low = absurd (omega arith)
-next_taken (x ∷ xs) zero d low = refl
-next_taken (x ∷ xs) (suc i) d low = let next : suc i + 1 ≡ suc (i + 1) = omega arith in rw next (ap (λ ys. x ∷ ys) (next_taken xs i d (omega arith)))
 
 module _ (how : MaskHow) (s : Extent) where
   outside : (position base : ℕ) (bases : List ℕ) → has_position position s ≡ false → base ∷ masked_in how (s ∷ []) (suc position) bases ≡ masked_in how (s ∷ []) position (base ∷ bases)

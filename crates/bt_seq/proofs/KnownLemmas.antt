@@ -183,10 +183,6 @@ module _ (names : List (List ℕ)) (taken : List Feature) (r : Feature) (m : Mat
       ∙ ap owner_by (goes_on_or_begins names (taken ++ r ∷ []) r
       ∙ ap (λ b. cond b (left_after names (taken ++ r ∷ [])) (left_by (left_after names (taken ++ r ∷ [])) r.chrom)) (goes_more taken r))
 
-  -- what may be next
-  pub CanBe : Type 0
-  CanBe = KnowsNone names taken m ⊎ (MayTake ⊎ KnowsLast names (taken ++ r ∷ []) m)
-
   pub next_can_be : (waits : Bool) (ahead : Option Feature) → KnowsNext waits names taken ahead m → IsNext ahead r → KnowsNone names taken m ⊎ (MayTake ⊎ KnowsLast names (taken ++ r ∷ []) m)
   next_can_be waits None known next = elim known [
     | inl none ↦ inl none

@@ -1,5 +1,5 @@
 -- Lemmas on bases that are masked by lanes.
-use Rattle.std.proofs.Common.{◌≡◌, ℕ, ◌+◌, ◌-◌, ◌≤◌, Bool, true, cond, eqb, List, [], ◌∷◌, ◌++◌, length, take, drop, Fits, w8, refl, sym, ap, ap₂, ◌∙◌, subst, append-nil, append_assoc, length-append, arith}
+use Rattle.std.proofs.Common.{◌≡◌, ℕ, ◌+◌, ◌-◌, ◌≤◌, true, cond, eqb, List, [], ◌∷◌, ◌++◌, length, take, drop, Fits, w8, refl, sym, ap, ap₂, ◌∙◌, subst, append-nil, append_assoc, length-append, arith}
 use Rattle.std.specs.Prelude.{map}
 use Rattle.std.specs.Simd.Lanes.{Each1, chunk, put_chunk, sel_l, top}
 use Rattle.std.proofs.lemmas.Bool.{agree_below, agree_below_at}

@@ -7,7 +7,6 @@ pub mod LineLemmas
 pub mod SamKindLemmas
 pub mod MaskLemmas
 pub mod OwnerLemmas
-pub mod NameLemmas
 pub mod ExtentLemmas
 pub mod TextLemmas
 pub mod MaskingLemmas

@@ -29,8 +29,7 @@ module _ (with_cigar : Bool) (a : Alignment) where
   -- name and tail were cut off before the CIGAR
   pub read_cut : (piece : List ℕ) (old new : Output) (fault : Told) → piece ≡ marks a.first a.last ++ quality_text with_cigar a → FailsToPut old (a.name ++ piece) fault new → FailsToPut old (a.name ++ line_tail with_cigar a) fault new
   read_cut piece old new fault e p =
-      subst (λ l. FailsToPut old l fault new) read_parts
-      (fails_before old new read_head (text_if with_cigar (a.cigar ++ codes "\n")) fault (subst (λ l. FailsToPut old (a.name ++ l) fault new) e p))
+      rw (← read_parts) (fails_before old new read_head (text_if with_cigar (a.cigar ++ codes "\n")) fault (subst (λ l. FailsToPut old (a.name ++ l) fault new) e p))
 
   pub read_alone : {A : Type 0} (piece : List ℕ) (old new : Output) (result : Result A Fault) → piece ≡ marks a.first a.last ++ quality_text with_cigar a → with_cigar ≡ false → Puts old (a.name ++ piece) result new → Puts old (a.name ++ line_tail with_cigar a) result new
   read_alone piece old new result e unasked p =
@@ -39,8 +38,7 @@ module _ (with_cigar : Bool) (a : Alignment) where
   pub read_puts : {A : Type 0} (piece : List ℕ) (old mid new : Output) (result : Result A Fault) → piece ≡ marks a.first a.last ++ quality_text with_cigar a → with_cigar ≡ true
       → PutsAll old (a.name ++ piece) mid → Puts mid (a.cigar ++ codes "\n") result new → Puts old (a.name ++ line_tail with_cigar a) result new
   read_puts piece old mid new result e asked p q =
-      subst (λ l. Puts old l result new) read_parts
-      (puts_more old mid new read_head (text_if with_cigar (a.cigar ++ codes "\n")) result
+      rw (← read_parts) (puts_more old mid new read_head (text_if with_cigar (a.cigar ++ codes "\n")) result
       (subst (λ l. PutsAll old (a.name ++ l) mid) e p)
       (subst (λ b. Puts mid (text_if b (a.cigar ++ codes "\n")) result new) (sym asked) q))
 
@@ -51,13 +49,11 @@ module _ (with_cigar : Bool) (a : Alignment) where
 
     pub cut_place : (p : Output) → FailsToPut o (a.chrom ++ bounds_text s.start s.stop) fault p → FailsToPut o (bed_line with_cigar a s) fault p
     cut_place p x =
-        whole p (subst (λ l. FailsToPut o l fault p) (append_assoc a.chrom (bounds_text s.start s.stop) (a.name ++ line_tail with_cigar a))
-        (fails_before o p (a.chrom ++ bounds_text s.start s.stop) (a.name ++ line_tail with_cigar a) fault x))
+        whole p (rw (← append_assoc a.chrom (bounds_text s.start s.stop) (a.name ++ line_tail with_cigar a)) (fails_before o p (a.chrom ++ bounds_text s.start s.stop) (a.name ++ line_tail with_cigar a) fault x))
 
   pub puts_line : {A : Type 0} (s : Span) (o p new : Output) (result : Result A Fault) → PutsAll o (a.chrom ++ bounds_text s.start s.stop) p → Puts p (a.name ++ line_tail with_cigar a) result new → Puts o (bed_line with_cigar a s) result new
   puts_line s o p new result x y =
-      subst (λ l. Puts o l result new) (append_assoc a.chrom (bounds_text s.start s.stop) (a.name ++ line_tail with_cigar a) ∙ line_parts with_cigar a s)
-      (puts_more o p new (a.chrom ++ bounds_text s.start s.stop) (a.name ++ line_tail with_cigar a) result x y)
+      rw (← append_assoc a.chrom (bounds_text s.start s.stop) (a.name ++ line_tail with_cigar a) ∙ line_parts with_cigar a s) (puts_more o p new (a.chrom ++ bounds_text s.start s.stop) (a.name ++ line_tail with_cigar a) result x y)
 
   pub line_has_bytes : (s : Span) → bed_line with_cigar a s ≡ [] → ⊥
   line_has_bytes s e =
@@ -77,8 +73,7 @@ module _ (with_cigar : Bool) (a : Alignment) where
 
   pub grown_line : (done : List Span) (s : Span) (old mid new : Output) → Grown old (lines_of done) mid → PutsAll mid (bed_line with_cigar a s) new → Grown old (lines_of (done ++ s ∷ [])) new
   grown_line done s old mid new p q =
-      subst (λ l. Grown old l new) (sym (one_more done s))
-      (grown_more old mid new (lines_of done) (bed_line with_cigar a s) p (grown_all mid new (bed_line with_cigar a s) (line_has_bytes s) q))
+      rw (one_more done s) (grown_more old mid new (lines_of done) (bed_line with_cigar a s) p (grown_all mid new (bed_line with_cigar a s) (line_has_bytes s) q))
 
   -- one of them was cut off
   pub cut_line : (done : List Span) (s : Span) (rest all : List Span) (old mid new : Output) (fault : Told) → done ++ s ∷ rest ≡ all → Grown old (lines_of done) mid → FailsToPut mid (bed_line with_cigar a s) fault new

@@ -4,6 +4,7 @@ use Rattle.std.specs.List.{AllByRecursion, list_any}
 use Rattle.std.specs.Prelude.{is_none, is_some, option_map, option_to_list}
 use Rattle.std.proofs.lemmas.Bool.Decides.{nat_tests}
 use Rattle.std.proofs.lemmas.List.{length-map}
+use Rattle.std.proofs.lemmas.Bool.{not-true, not-false, or_parts}
 use Rattle.bt_bed.specs.Feature.{Feature}
 use Rattle.bt_lines.specs.Lines.{TextLine, end_bytes}
 use Rattle.bt_lines.specs.Names.{told}
@@ -20,7 +21,7 @@ use Rattle.bt_seq.proofs.TagLemmas.{own_tagged, tag_decides, tags_of}
 use Rattle.bt_seq.specs.HeldMasks.{extent_of}
 use Rattle.bt_seq.specs.MaskInside.{AreInRange, Counts, KnowsNext, decided_up_to, last_name}
 use Rattle.bt_seq.specs.MaskStage.{MaskStage, given, held_by, is_written_ahead, is_written_at_once, line_given_last, reached, reached_by, want_of, with_line}
-use Rattle.bt_seq.specs.MaskStanding.{IsOpen, MaskStandsAt, Waits, kept_line}
+use Rattle.bt_seq.specs.MaskStanding.{IsOpen, MaskStandsAt, kept_line}
 use Rattle.bt_seq.specs.MaskSteps.{FailsWithLine, GivesNextLine, IsSettled, RefusesLine, TakesNextLine, bytes_with, may_need_memory}
 use Rattle.bt_seq.specs.Masked.{decided, held_for, is_unnamed, masked_line}
 use Rattle.bt_seq.specs.MaskState.{Masking, TakesLine, Waiting, bytes_at_once, is_stray, line_bytes, may_grow, moved_to, writes_at_once}
@@ -33,8 +34,13 @@ use Rattle.bt_seq.specs.declared.mask_how.MaskHow.{MaskHow}
 use Rattle.bt_seq.specs.declared.mask_want.MaskWant.TheVariants.{Line, Bed, Nothing}
 use Rattle.bt_seq.specs.declared.extent.Extent.{Extent}
 
+pub neither : (a b c : Bool) → (a || (b || c)) ≡ false → (a ≡ false) × (b ≡ false)
+neither true b c e = absurd (never (sym e))
+neither false true c e = absurd (never (sym e))
+neither false false c e = (refl, refl)
+
 -- a list that there is
-some_list : (o : Option (List (List ℕ))) → is_some o ≡ true → (l : List (List ℕ)) × (o ≡ Some l)
+pub some_list : (o : Option (List (List ℕ))) → is_some o ≡ true → (l : List (List ℕ)) × (o ≡ Some l)
 some_list None e = absurd (never e)
 some_list (Some l) e = (l, refl)
 
@@ -43,10 +49,6 @@ nothing_masked held e = sym (ap (λ (l : List Feature). map extent_of l) e)
 
 no_own : (p : Feature → Bool) (own : List Feature) → own ≡ [] → filter p own ≡ []
 no_own p own e = ap (filter p) e
-
-or_second : (a b : Bool) → (a || b) ≡ false → b ≡ false
-or_second true b e = absurd (never (sym e))
-or_second false b e = e
 
 -- what the next line of a sequence goes on to hold
 module _ (taken : List Feature) (range : AreInRange taken) (line : TextLine) (plain : is_header line.text ≡ false) where
@@ -63,7 +65,7 @@ module _ (taken : List Feature) (range : AreInRange taken) (line : TextLine) (pl
       ∙ sym (ap (λ (rs : List Feature). map extent_of (held_for (next (Some l)) rs)) none)
 
   undecided_tags : (l : SequenceLine) → decided l taken ≡ false → list_any (tag_decides (bases_up_to l)) (tags_of l.names taken) ≡ false
-  undecided_tags l e = or_second (is_unnamed l.names) (list_any (tag_decides (bases_up_to l)) (tags_of l.names taken)) (sym (decided_by_tags l taken) ∙ e)
+  undecided_tags l e = (or_parts (is_unnamed l.names) (list_any (tag_decides (bases_up_to l)) (tags_of l.names taken)) (sym (decided_by_tags l taken) ∙ e)).1
 
   held_next : (l : SequenceLine) (w : Bounds) → w.bases ≡ min (bases_up_to l) limit → decided l taken ≡ false → w.held ≡ map extent_of (held_for l taken)
       → filter (λ (s : Extent). nat_lt w.bases s.stop) w.held ≡ map extent_of (held_for (next (Some l)) taken)
@@ -97,10 +99,6 @@ or_third false false c d e = e refl refl
 no_and : (a b : Bool) → a ≡ true → (not a && b) ≡ false
 no_and true b e = refl
 no_and false b e = absurd (never e)
-
-yes_and : (a b : Bool) → a ≡ false → (not a && b) ≡ b
-yes_and true b e = absurd (never (sym e))
-yes_and false b e = refl
 
 -- the record ahead doesn't decide a header, and where it decides a line there is one
 header_ahead : (o : Option Feature) (taken : List Feature) (item : SequenceLine) → is_header item.text ≡ true
@@ -164,14 +162,6 @@ not_strayed : (names : List (List ℕ)) (text : List ℕ) → may_stand names te
 not_strayed [] [] = refl
 not_strayed [] (byte ∷ bytes) = let some : nat_lt 0 (length (byte ∷ bytes)) ≡ true = grind (arith, nat_tests) in sym (ap not some)
 not_strayed (n ∷ ns) text = refl
-
-pub not_true : (b : Bool) → not b ≡ true → b ≡ false
-not_true true e = absurd (never e)
-not_true false e = refl
-
-pub not_false : (b : Bool) → not b ≡ false → b ≡ true
-not_false true e = refl
-not_false false e = absurd (never (sym e))
 
 module _ (how : MaskHow) (full : Bool) (stage : MaskStage) (old : Masking) (s : MaskStandsAt how full stage old) (wants : old.want ≡ Line) where
   asked : (stage.waiting ≡ None) × (stage.lines_ended ≡ false)
@@ -347,11 +337,11 @@ module _ (how : MaskHow) (full : Bool) (stage : MaskStage) (old : Masking) (s : 
       says = plain_says e ∙ ap (λ b. cond b (Ok (Some plain_item)) (Err TextBeforeHeader)) may;
       moved = subst (λ b. Moved plain_item (cond b header_moved plain_moved)) (sym e) (plain_by e);
       kept = refl;
-      fine = stray_is e ∙ not_true (is_unnamed names && nat_lt 0 (length line.text)) (sym (not_strayed names line.text) ∙ may);
+      fine = stray_is e ∙ not-true (is_unnamed names && nat_lt 0 (length line.text)) (sym (not_strayed names line.text) ∙ may);
     })
     plain_goes e false may = inr (record {
       says = plain_says e ∙ ap (λ b. cond b (Ok (Some plain_item)) (Err TextBeforeHeader)) may;
-      stray = stray_is e ∙ not_false (is_unnamed names && nat_lt 0 (length line.text)) (sym (not_strayed names line.text) ∙ may);
+      stray = stray_is e ∙ not-false (is_unnamed names && nat_lt 0 (length line.text)) (sym (not_strayed names line.text) ∙ may);
     })
 
     goes_by : (h : Bool) → is_header line.text ≡ h → Goes ⊎ Strays
@@ -390,8 +380,7 @@ module _ (how : MaskHow) (full : Bool) (stage : MaskStage) (old : Masking) (s : 
           waiting_is = refl;
           want_is = refl;
           bed_ended_is = m.bed_ended_is;
-          waits = λ l e. let same : item ≡ l = cc in subst (λ (l : SequenceLine). Waits (record stage { waiting = Some item }) l) same
-              (record { lines = asked.1; bed = going; named = is_named; header = m.header });
+          waits = λ l e. let same : item ≡ l = cc in rw (← same) (record { lines = asked.1; bed = going; named = is_named; header = m.header });
           counts = m.counts;
           name_is = m.name_is;
           holds = λ e. m.holds;
@@ -437,28 +426,21 @@ module _ (how : MaskHow) (full : Bool) (stage : MaskStage) (old : Masking) (s : 
               (or_rest stage.bed_ended (is_unnamed item.names || ahead) now going);
           owned = m.owned;
           in_range = s.inside.in_range;
-          knows = λ going. subst (λ (w : Option SequenceLine). KnowsNext (is_some w) item.names stage.taken stage.ahead moved.matched) (sym asked.0)
-              (m.written_known going now);
+          knows = λ going. rw asked.0 (m.written_known going now);
           has_ahead = λ e going u. decided_some stage.ahead stage.taken item
               (or_true stage.bed_ended (is_unnamed item.names) (is_written_ahead stage.ahead stage.taken item) now going u);
           ahead_in_range = s.inside.ahead_in_range;
           decided_to_is = λ e going. m.written_to going now;
         })
 
-    or_both : (a b c : Bool) → (a || (b || c)) ≡ false → (a ≡ false) × (b ≡ false)
-    or_both true b c e = absurd (never (sym e))
-    or_both false true c e = absurd (never (sym e))
-    or_both false false c e = (refl, refl)
-
     stands_with : (b : Bool) → is_written_at_once stage item ≡ b
         → MaskStandsAt how full (cond b written_stage (record stage { waiting = Some item })) (record moved { waiting = cond b None (Some (kept_line item)); want = cond b Line Bed })
     stands_with true e = written_stands e
-    stands_with false e = let both = or_both stage.bed_ended (is_unnamed item.names) (is_written_ahead stage.ahead stage.taken item) e in waiting_stands both.0 both.1
+    stands_with false e = let both = neither stage.bed_ended (is_unnamed item.names) (is_written_ahead stage.ahead stage.taken item) e in waiting_stands both.0 both.1
 
     with_it : MaskStandsAt how full (with_line stage item) (record moved { waiting = cond (writes_at_once moved item.text) None (Some (kept_line item)); want = cond (writes_at_once moved item.text) Line Bed })
     with_it =
-        subst (λ b. MaskStandsAt how full (with_line stage item) (record moved { waiting = cond b None (Some (kept_line item)); want = cond b Line Bed })) (sym m.at_once)
-        (stands_with (is_written_at_once stage item) refl)
+        rw m.at_once (stands_with (is_written_at_once stage item) refl)
 
     bytes_now : bytes_at_once moved (kept_line item) ≡ bytes_with how stage item
     bytes_now = ap (λ b. cond b (line_bytes moved (kept_line item)) []) m.at_once ∙ ap (λ (l : List ℕ). cond (is_written_at_once stage item) l []) bytes_are

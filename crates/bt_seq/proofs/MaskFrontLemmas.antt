@@ -185,7 +185,7 @@ text_same how line rs extra behind false h =
     let low : line.before + length line.text ≤ bases_up_to line = omega (arith, count) in
     masked_same (bases_up_to line) how rs extra line.before line.text low behind
 
-none_next : (t : Bool) (name : List ℕ) → cond t None (left_by None name) ≡ None
+pub none_next : (t : Bool) (name : List ℕ) → cond t None (left_by None name) ≡ None
 none_next true name = refl
 none_next false name = refl
 

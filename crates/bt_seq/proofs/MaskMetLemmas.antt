@@ -1,5 +1,5 @@
 -- Lemmas on masking as a meeting of two inputs.
-use Rattle.std.proofs.Common.{◌≡◌, ℕ, Bool, true, false, cond, ◌&&◌, List, [], ◌∷◌, ◌++◌, Option, Some, None, map, refl, sym, ap, ◌∙◌}
+use Rattle.std.proofs.Common.{◌≡◌, ℕ, true, false, ◌&&◌, List, [], ◌∷◌, ◌++◌, Option, Some, None, map, refl, sym, ap, ◌∙◌}
 use Rattle.std.specs.Prelude.{is_none, is_some}
 use Rattle.std.specs.List.{AllByRecursion, list_all}
 use Rattle.std.proofs.lemmas.Bool.{or_left, or_right}
@@ -13,7 +13,7 @@ use Rattle.bt_lines.specs.Fault.{Told}
 use Rattle.bt_lines.specs.declared.fault.Input.TheVariants.{Second}
 use Rattle.bt_lines.specs.declared.fault.Kind.TheVariants.{NoSequence}
 use Rattle.bt_seq.proofs.LeftLemmas.{is_last, leave, leave_all}
-use Rattle.bt_seq.proofs.MaskFrontLemmas.{decided_stays, masked_stay}
+use Rattle.bt_seq.proofs.MaskFrontLemmas.{decided_stays, masked_stay, none_next}
 use Rattle.bt_seq.proofs.TagLemmas.{AllHaveOne, HasOne, Tagged, blocks_have_one, next_left, spread, tag_items, tags, tags_all}
 use Rattle.bt_seq.specs.MaskFronts.{early_mask_rule, faultless_are_masked, first_unowned_is_told, masked_are_a_front, owned_lack_none}
 use Rattle.bt_seq.specs.Masked.{decided, mask_rule, masked_line, no_sequence, no_sequence_for, told_at_first}
@@ -49,7 +49,7 @@ faultless_masked how names first fault second e =
 abbrev chrom_at : Member Feature → List ℕ
 chrom_at m = m.item.chrom
 
-abbrev items : List (Member Feature) → List Feature
+abbrev pub items : List (Member Feature) → List Feature
 items ms = map (λ (m : Member Feature). m.item) ms
 
 -- what is told of a record behind which these names are left, or later
@@ -83,10 +83,6 @@ told_spread left (b ∷ bs) h =
 told_tagged : (names : List (List ℕ)) (ms : List (Member Feature)) → no_sequence names ms ≡ told_of (tags chrom_at (Some names) None ms)
 told_tagged names ms =
     told_spread (Some names) (blocks_by chrom_at ms) (blocks_have_one chrom_at ms) ∙ sym (ap told_of (tags_all chrom_at (Some names) ms))
-
-none_next : (t : Bool) (name : List ℕ) → cond t None (left_by None name) ≡ None
-none_next true name = refl
-none_next false name = refl
 
 -- behind a block that belongs to none, all belong to none
 pub none_leaves : (last : Option (List ℕ)) (rs : List Feature) → leave None last rs ≡ None

@@ -10,7 +10,7 @@ use Rattle.bt_lines.specs.Lines.{end_bytes}
 use Rattle.bt_lines.specs.Putting.{Adds, FailsToAdd, Grown}
 use Rattle.bt_lines.specs.declared.fault.Fault.{Fault}
 use Rattle.bt_seq.proofs.ExtentLemmas.{none_masked}
-use Rattle.bt_seq.specs.MaskState.{Keeps, Masking, PassesLine, TakesLine, Waiting, Writes, WritesGiven, decides, decides_by, decides_up_to, is_stray, line_bytes, may_grow, moved_to, with_owner, writes_at_once}
+use Rattle.bt_seq.specs.MaskState.{Keeps, Masking, PassesLine, TakesLine, Waiting, Writes, WritesGiven, decides, decides_by, decides_up_to, is_stray, line_bytes, moved_to, with_owner, writes_at_once}
 use Rattle.bt_seq.specs.Matching.{Matched, matched_with, named, owner_of}
 use Rattle.bt_seq.specs.Sequences.{is_header, name_in}
 use Rattle.bt_seq.specs.Window.{gone_on, no_bases}
@@ -64,10 +64,6 @@ or_middle : (a b c : Bool) → b ≡ false → (a || (not b || c)) ≡ true
 or_middle true b c e = refl
 or_middle false false c e = refl
 or_middle false true c e = absurd (let apart : true ≡ false = e in cc)
-
-or_first : (a b : Bool) → a ≡ true → (a || b) ≡ true
-or_first true b e = refl
-or_first false b e = absurd (let apart : false ≡ true = e in cc)
 
 written_now : {A : Type 0} (r : Result A Fault) (old new : Masking) (number : ℕ) (line : Waiting) (out grown : Output)
     → is_stray old line.text ≡ false → writes_at_once (moved_to old line.text) line.text ≡ true
@@ -167,10 +163,6 @@ passes_line done old new number line out grown p =
     (is_moved, named_not_stray old.matched.name (is_header line.text) (nat_lt 0 (length line.text)) ahead.1)
     (decided_now old.bed_ended (is_none old.matched.name) (is_header line.text) (nat_le moved.window.bases old.decided_to) ahead.0 ahead.3)
     (p.1, subst (λ (l : List ℕ). Grown out l grown) (plain_bytes moved line none) p.2)
-
--- there was no memory for the name of a header
-pub header_may_grow : (m : Masking) (text : List ℕ) → is_header text ≡ true → may_grow m text ≡ true
-header_may_grow m text e = or_first (is_header text) (not (writes_at_once m text) || nat_lt 0 (length m.window.held)) e
 
 -- a record decided the line that waits, which was written
 pub wrote_line : (old inside known new : Masking) (r : Feature) (owner : Owner) (matched : Matched) (line : Waiting) (out grown : Output)

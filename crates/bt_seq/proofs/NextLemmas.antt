@@ -4,6 +4,7 @@ use Rattle.std.specs.List.{list_any}
 use Rattle.std.proofs.lemmas.Bool.Decides.{nat_tests}
 use Rattle.std.proofs.lemmas.Grind.{flat_map-append}
 use Rattle.std.proofs.lemmas.List.Folds.{list_any-append}
+use Rattle.std.proofs.lemmas.Bool.{or_parts, or_from}
 use Rattle.bt_bed.specs.Feature.{Feature}
 use Rattle.bt_seq.proofs.LeftLemmas.{is_last, leave, leave_all, one_leaves}
 use Rattle.bt_seq.proofs.MaskFrontLemmas.{chrom_of, decided_by_tags}
@@ -116,25 +117,17 @@ module _ (low high : ℕ) (up : low ≤ high) where
   not_yet (Some []) r e = grind (arith, nat_tests)
   not_yet (Some (n ∷ ns)) r e = refl
 
-  both_false : (a b : Bool) → (a || b) ≡ false → (a ≡ false) × (b ≡ false)
-  both_false true b e = absurd (let apart : true ≡ false = e in cc)
-  both_false false b e = (refl, e)
-
-  false_both : (a b : Bool) → a ≡ false → b ≡ false → (a || b) ≡ false
-  false_both true b e d = e
-  false_both false b e d = d
-
   none_yet : (ts : List (Tagged Feature)) → list_any (tag_decides low) ts ≡ false → list_any (tag_decides high) ts ≡ false
   none_yet [] e = refl
   none_yet (t ∷ ts) e =
-      let both = both_false (tag_decides low t) (list_any (tag_decides low) ts) e in
-      false_both (tag_decides high t) (list_any (tag_decides high) ts) (not_yet t.left t.item both.0) (none_yet ts both.1)
+      let both = or_parts (tag_decides low t) (list_any (tag_decides low) ts) e in
+      or_from (tag_decides high t) (list_any (tag_decides high) ts) (not_yet t.left t.item both.0) (none_yet ts both.1)
 
   pub undecided_next : (line next : SequenceLine) (rs : List Feature) → next.names ≡ line.names → bases_up_to line ≡ low → bases_up_to next ≡ high → decided line rs ≡ false → decided next rs ≡ false
   undecided_next line next rs same is next_is e =
       let ts = tags_of line.names rs in
-      let both = both_false (is_unnamed line.names) (list_any (tag_decides (bases_up_to line)) ts) (sym (decided_by_tags line rs) ∙ e) in
+      let both = or_parts (is_unnamed line.names) (list_any (tag_decides (bases_up_to line)) ts) (sym (decided_by_tags line rs) ∙ e) in
       decided_by_tags next rs
       ∙ ap (λ l. is_unnamed l || list_any (tag_decides (bases_up_to next)) (tags_of l rs)) same
       ∙ ap (λ b. is_unnamed line.names || list_any (tag_decides b) ts) next_is
-      ∙ false_both (is_unnamed line.names) (list_any (tag_decides high) ts) both.0 (none_yet ts (ap (λ b. list_any (tag_decides b) ts) (sym is) ∙ both.1))
+      ∙ or_from (is_unnamed line.names) (list_any (tag_decides high) ts) both.0 (none_yet ts (ap (λ b. list_any (tag_decides b) ts) (sym is) ∙ both.1))

@@ -1,5 +1,5 @@
 -- Lemmas on where a masking engine stands, by the line given last.
-use Rattle.std.proofs.Common.{◌≡◌, ℕ, ◌<◌, Bool, true, false, ◌||◌, List, [], ◌∷◌, ◌++◌, map, Option, Some, None, refl, sym, ap, ◌∙◌, subst, append-nil, inl, inr, ◌⊎◌}
+use Rattle.std.proofs.Common.{◌≡◌, ℕ, ◌<◌, Bool, true, false, ◌||◌, List, [], ◌∷◌, ◌++◌, map, Option, Some, None, refl, sym, ap, ◌∙◌, subst, inl, inr, ◌⊎◌}
 use Rattle.std.specs.List.{list_any}
 use Rattle.std.specs.Prelude.{is_none, is_some, option_map, option_to_list}
 use Rattle.bt_bed.specs.Feature.{Feature}
@@ -95,9 +95,6 @@ last_more (l ∷ k ∷ ls) line = last_more (k ∷ ls) line
 -- the line that waits was given last
 pub last_waits : (stage : MaskStage) (line : SequenceLine) → stage.waiting ≡ Some line → line_given_last (given stage) ≡ Some line
 last_waits stage line e = ap (λ (w : Option SequenceLine). line_given_last (stage.written ++ option_to_list w)) e ∙ last_more stage.written line
-
-pub last_none : (stage : MaskStage) → stage.waiting ≡ None → given stage ≡ stage.written
-last_none stage e = ap (λ (w : Option SequenceLine). stage.written ++ option_to_list w) e ∙ append-nil stage.written
 
 -- what is asked for tells what waits
 pub wants_line : (w : Option SequenceLine) (lines_ended bed_ended : Bool) → want_of (is_some w) lines_ended bed_ended ≡ Line → (w ≡ None) × (lines_ended ≡ false)

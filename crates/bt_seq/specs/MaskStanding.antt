@@ -1,5 +1,5 @@
 -- Where a masking engine stands.
-use Rattle.std.specs.Prelude.{◌≡◌, ◌⊎◌, ℕ, Bool, true, false, List, [], ◌++◌, map, Option, Some}
+use Rattle.std.specs.Prelude.{◌≡◌, ◌⊎◌, Bool, true, false, List, [], ◌++◌, map, Option, Some}
 use Rattle.std.specs.Prelude.{None, is_some, option_map}
 use Rattle.std.specs.List.{AllByRecursion}
 use Rattle.bt_bed.specs.Feature.{Feature}

@@ -75,21 +75,18 @@ pub(crate) fn covered_by(operation: Operation) -> u64
     }
 }
 
-// Whether the operations of this letter consume reference bases.
+// Whether the operations of this letter consume reference bases. Most are M, which is looked for first.
 fn consumes_reference(letter: u8) -> bool
     ensures { result ≡ consumes_reference letter }
 {
-    matches!(letter, b'M' | b'D' | b'N' | b'=' | b'X')
+    letter == b'M' || matches!(letter, b'D' | b'N' | b'=' | b'X')
 }
 
 // Whether a byte is the letter of an operation.
 fn is_letter(byte: u8) -> bool
     ensures { result ≡ is_letter byte }
 {
-    matches!(
-        byte,
-        b'M' | b'I' | b'D' | b'N' | b'S' | b'H' | b'P' | b'=' | b'X'
-    )
+    byte == b'M' || matches!(byte, b'I' | b'D' | b'N' | b'S' | b'H' | b'P' | b'=' | b'X')
 }
 
 #[cfg(test)]

@@ -7,7 +7,7 @@ ghost use Rattle.bt_bed.specs.Bed.{feature_lent};
 ghost use Rattle.bt_bed.specs.LineKind.{fault_at_line};
 ghost use Rattle.bt_seq.specs.MaskState.{ChecksBed, Keeps, Moves, PassesLine, TakesBed, TakesLine, Waiting, Writes, WritesGiven, decides_by, decides_up_to, stays_as_given, with_extent, writes_at_once};
 ghost use Rattle.bt_seq.specs.Sequences.{is_header};
-ghost use Rattle.bt_seq.specs.Window.{no_bases};
+ghost use Rattle.bt_seq.specs.Window.{gone_on, no_bases};
 
 use crate::header_name::{is_header, name_in};
 use crate::mask_how::MaskHow;
@@ -215,24 +215,27 @@ impl MaskState {
             (record { text = text.now; ending = ending }) out.old self.new out.new }
         ensures unchanged { result ≡ false → (self.new ≡ self.old) × (out.new ≡ out.old) }
     {
-        if !self.stays_as_given(text) || !hold_text(text, ending, out) {
+        let bases = self.window.bases_with(text.len());
+        if !self.stays_as_given(text, bases) || !hold_text(text, ending, out) {
             return false;
         }
-        self.window.go_on(text.len());
+        self.window.go_to(bases);
         self.waits = false;
         self.want = MaskWant::Line;
         true
     }
 
-    // Whether the next line, of this text, is known to be written as it is: it is no header but stands
-    // after one, nothing is held, and the records have ended or the record ahead decides it.
-    fn stays_as_given(&self, text: &[u8]) -> bool
+    // Whether the next line, of this text and up to so many bases of its sequence, is known to be written as
+    // it is: it is no header but stands after one, nothing is held, and the records have ended or the record
+    // ahead decides it.
+    fn stays_as_given(&self, text: &[u8], bases: u64) -> bool
+        requires { bases ≡ (gone_on self.now.window (length text.now)).bases }
         ensures { result ≡ stays_as_given self.now text.now }
     {
         !is_header(text)
             && self.matching.is_named()
             && self.window.is_empty()
-            && (self.bed_ended || !self.window.next_reaches(self.decided_to, text.len()))
+            && (self.bed_ended || bases <= self.decided_to)
     }
 
     // Whether a line of this text is written at once: the records have ended, no header has come, or it is

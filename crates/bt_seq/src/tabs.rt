@@ -32,8 +32,24 @@ fn tab_bits(bytes: u8x32) -> u64
 }
 
 // Where the first tab of a text stands. Behind the first columns of an alignment stand its bases, so
-// that mostly there are as many bytes as are looked at together.
+// that mostly there are as many bytes as are looked at together, and the tab is one of these.
+#[inline(always)]
 pub(crate) fn first_tab_by_lanes(text: &[u8]) -> Option<usize>
+    ensures within { IfSome result (λ at. at < length text.now) }
+    ensures cut { CutAt text.now result }
+{
+    if text.len() >= LANES {
+        let column = bytes_before_tab(text, 0);
+        if column < LANES {
+            return Some(column);
+        }
+    }
+    late_tab(text)
+}
+
+// The same wherever it stands.
+#[inline(never)]
+fn late_tab(text: &[u8]) -> Option<usize>
     ensures within { IfSome result (λ at. at < length text.now) }
     ensures cut { CutAt text.now result }
 {

@@ -67,6 +67,15 @@ impl Window {
         }
     }
 
+    // Goes on to the next line of the sequence, up to whose end so many bases stand, where nothing is held.
+    pub(crate) fn go_to(&mut self, bases: u64)
+        requires held { self.old.held ≡ [] }
+        requires within { bases ≤ limit }
+        ensures { self.new ≡ record { before = self.old.bases; bases = bases; held = [] } }
+    {
+        self.before = std::mem::replace(&mut self.bases, bases);
+    }
+
     // Whether a place lies before the end of the line.
     pub(crate) fn reaches(&self, place: u64) -> bool
         ensures { result ≡ nat_lt place self.now.bases }
@@ -74,11 +83,11 @@ impl Window {
         place < self.bases
     }
 
-    // Whether a place lies before the end of the next line, which has so many bases.
-    pub(crate) fn next_reaches(&self, place: u64, count: usize) -> bool
-        ensures { result ≡ nat_lt place (gone_on self.now count).bases }
+    // How many bases stand up to the end of the next line, which has so many.
+    pub(crate) fn bases_with(&self, count: usize) -> u64
+        ensures { result ≡ (gone_on self.now count).bases }
     {
-        place < up_to_limit(self.bases, count)
+        up_to_limit(self.bases, count)
     }
 
     // Holds the part of a record that reaches past the start of the line.

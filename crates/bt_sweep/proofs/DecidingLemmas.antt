@@ -34,7 +34,7 @@ here_at Less start stop e h = cc
 here_at Equal start stop e h = ap not (le-ltb start stop h)
 here_at Greater start stop e h = cc
 
-later_at : (c : Ordering) (start stop : ℕ) → c ≡ Greater → not (is_below_at c start stop) ≡ true
+pub later_at : (c : Ordering) (start stop : ℕ) → c ≡ Greater → not (is_below_at c start stop) ≡ true
 later_at Less start stop e = cc
 later_at Equal start stop e = cc
 later_at Greater start stop e = refl
@@ -67,9 +67,6 @@ past_moves order a b m total ka kb km up past =
 
 pub decides_next : (order : Order) (a b m : Feature) → IsTotal order → IsTrue (order.knows a.chrom) → IsTrue (order.knows b.chrom) → IsTrue (order.knows m.chrom) → IsUpTo order (locus_at b) (locus_at m) → decides order a b ≡ true → decides order a m ≡ true
 decides_next order a b m total ka kb km up e = decides_from order a m total ka (past_moves order a b m total ka kb km up (past_from order a b total ka kb e))
-
-pub first_known : (order : Order) (x : Feature) (xs : List Feature) → ArePlaced order (intervals_of (x ∷ xs)) → IsTrue (order.knows x.chrom)
-first_known order x xs placed = placed.0
 
 -- all that follows what decides a decides it
 pub all_decide : (order : Order) (a b : Feature) (xs : List Feature) → IsTotal order → IsTrue (order.knows a.chrom) → ArePlaced order (intervals_of (b ∷ xs)) → decides order a b ≡ true → list_all (decides order a) xs ≡ true

@@ -2,9 +2,10 @@
 use Rattle.std.proofs.Common.{inl, inr, ◌≡◌, Bool, true, false, not, ◌||◌, cond, List, [], ◌∷◌, ◌++◌, refl, sym, ap, ◌∙◌, subst, append_assoc}
 use Rattle.std.specs.Prelude.{IsTrue}
 use Rattle.std.specs.List.{list_all, take_while}
-use Rattle.std.proofs.lemmas.Bool.{false≢true, and_parts, or_from, cases_Bool}
+use Rattle.std.proofs.lemmas.Bool.{and_parts, or_from, cases_Bool}
 use Rattle.std.proofs.lemmas.List.Sums.{take_while-cons}
 use Rattle.std.proofs.lemmas.List.Folds.{list_any-append}
+use Rattle.bt_sweep.proofs.StartedLemmas.{only_one}
 use Rattle.bt_bed.specs.Feature.{Feature, intervals_of}
 use Rattle.bt_bed.specs.Order.{Order, IsTotal}
 use Rattle.bt_bed.specs.Locus.{ArePlaced}
@@ -13,15 +14,11 @@ use Rattle.bt_sweep.specs.Deciding.{decides, decided}
 use Rattle.bt_sweep.specs.Standing.{leaves_some, taken_are_first}
 use Rattle.bt_sweep.proofs.DecidingLemmas.{later_decide}
 
-last_or : (d : Bool) → (d || false) ≡ true → d ≡ true
-last_or true e = refl
-last_or false e = absurd (false≢true e)
-
 last_of_some : (order : Order) (a : Feature) (taken : List Feature) (b : Feature) → IsTotal order → IsTrue (order.knows a.chrom) → ArePlaced order (intervals_of (taken ++ b ∷ [])) → decided order a (taken ++ b ∷ []) ≡ true → decides order a b ≡ true
 last_of_some order a taken b total ka placed some =
     elim (cases_Bool (decided order a taken)) [
       | inl early ↦ (and_parts (decides order a b) true (later_decide order a taken (b ∷ []) total ka placed early)).0
-      | inr late ↦ last_or (decides order a b) (ap (λ c. c || (decides order a b || false)) (sym late) ∙ sym (list_any-append (decides order a) taken (b ∷ [])) ∙ some)
+      | inr late ↦ only_one (decides order a b) (ap (λ c. c || (decides order a b || false)) (sym late) ∙ sym (list_any-append (decides order a) taken (b ∷ [])) ∙ some)
     ]
 
 leaves_none : (order : Order) (given taken : List Feature) (b : Feature) → IsTotal order → ArePlaced order (intervals_of given) → ArePlaced order (intervals_of (taken ++ b ∷ [])) → list_all (λ a. decided order a (taken ++ b ∷ [])) given ≡ true → leaves_some order given b ≡ false

@@ -1,11 +1,11 @@
 -- Lemmas on a walk through what is held.
 use Rattle.std.proofs.Common.{◌≡◌, ℕ, ◌+◌, ◌<◌, ◌≤◌, Bool, true, false, ◌||◌, cond, List, [], ◌∷◌, ◌++◌, Option, Some, None, Err, refl, sym, ap, ◌∙◌, subst, append_assoc, add-one, arith, filter, flat_map, take, drop, length, option_to_list, length-append, zero, suc}
-use Rattle.std.specs.Prelude.{All}
-use Rattle.std.specs.List.{AllByRecursion, list_any, slice_get}
+use Rattle.std.specs.List.{list_any, slice_get}
 use Rattle.std.proofs.lemmas.Bool.{false≢true, or_left, or_right, or_from}
 use Rattle.std.proofs.lemmas.List.{take-append-drop}
-use Rattle.std.proofs.lemmas.List.Elements.{filter-append, recursion_from_All, All-from_recursion}
+use Rattle.std.proofs.lemmas.List.Elements.{filter-append}
 use Rattle.std.proofs.lemmas.List.Folds.{list_any-append}
+use Rattle.bt_sweep.proofs.StartedLemmas.{only_one}
 use Rattle.bt_lines.specs.Names.{told}
 use Rattle.bt_lines.specs.Output.{Output}
 use Rattle.bt_lines.specs.Putting.{Adds, FailsToAdd, Grown}
@@ -41,27 +41,7 @@ module _ {X : Type 0} where
   took_few [] (suc n) = omega arith
   took_few (x ∷ xs) (suc n) = omega (arith, took_few xs n)
 
-  pub took_twice : (xs : List X) (n : ℕ) → take n (take n xs) ≡ take n xs
-  took_twice xs zero = refl
-  took_twice [] (suc n) = refl
-  took_twice (x ∷ xs) (suc n) = ap (λ l. x ∷ l) (took_twice xs n)
-
-  module _ (P : X → Type 0) where
-    at_rec : (xs : List X) (i : ℕ) → AllByRecursion P xs → AllByRecursion P (option_to_list (slice_get xs i))
-    at_rec [] zero all = tt
-    at_rec [] (suc i) all = tt
-    at_rec (x ∷ xs) zero all = (all.0, tt)
-    at_rec (x ∷ xs) (suc i) all = at_rec xs i all.1
-
-    -- what holds of all holds of each
-    pub all_at : (xs : List X) (i : ℕ) → All P xs → All P (option_to_list (slice_get xs i))
-    all_at xs i all = All-from_recursion P (option_to_list (slice_get xs i)) (at_rec xs i (recursion_from_All P xs all))
-
   module _ (p : X → Bool) where
-    only_one : (c : Bool) → (c || false) ≡ true → c ≡ true
-    only_one true e = refl
-    only_one false e = absurd (false≢true e)
-
     -- one that passes is one of all
     pub any_at : (xs : List X) (i : ℕ) → list_any p (option_to_list (slice_get xs i)) ≡ true → list_any p xs ≡ true
     any_at [] zero e = e
@@ -107,8 +87,7 @@ module _ (f : Feature → List ℕ) (p : Feature → Bool) (xs : List Feature) w
     -- the lines of one more
     pub lines_next : (old mid new : Output) → Grown old (flat_map f (filter p (take i xs))) mid → Grown mid (flat_map f (filter p (option_to_list (slice_get xs i)))) new → Grown old (flat_map f (filter p (take (i + 1) xs))) new
     lines_next old mid new so_far here =
-        subst (λ (l : List ℕ). Grown old l new) (sym next_lines)
-        (grown_more old mid new (flat_map f (filter p (take i xs))) (flat_map f (filter p (option_to_list (slice_get xs i)))) so_far here)
+        rw next_lines (grown_more old mid new (flat_map f (filter p (take i xs))) (flat_map f (filter p (option_to_list (slice_get xs i)))) so_far here)
 
     all_lines : flat_map f (filter p (take (i + 1) xs)) ++ flat_map f (filter p (drop (i + 1) xs)) ≡ flat_map f (filter p xs)
     all_lines = sym (lines_append (take (i + 1) xs) (drop (i + 1) xs)) ∙ ap (λ l. flat_map f (filter p l)) (take-append-drop (i + 1) xs)
@@ -118,5 +97,4 @@ module _ (f : Feature → List ℕ) (p : Feature → Bool) (xs : List Feature) w
     lines_cut A old mid new fault so_far here =
         let cut = fails_then old mid new (flat_map f (filter p (take i xs))) (flat_map f (filter p (option_to_list (slice_get xs i)))) (told fault) so_far here in
         let next : FailsToAdd old (flat_map f (filter p (take (i + 1) xs))) (told fault) new = subst (λ (l : List ℕ). FailsToAdd old l (told fault) new) (sym next_lines) cut in
-        subst (λ (l : List ℕ). FailsToAdd old l (told fault) new) all_lines
-        (cut_off old new (flat_map f (filter p (take (i + 1) xs))) (flat_map f (filter p (drop (i + 1) xs))) (told fault) next)
+        rw (← all_lines) (cut_off old new (flat_map f (filter p (take (i + 1) xs))) (flat_map f (filter p (drop (i + 1) xs))) (told fault) next)

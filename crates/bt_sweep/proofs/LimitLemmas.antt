@@ -1,8 +1,8 @@
 -- Lemmas on a limit on how many records are held.
-use Rattle.std.proofs.Common.{◌≡◌, ℕ, ◌<◌, ◌≤◌, Bool, true, false, not, cond, suc, List, [], ◌∷◌, ◌++◌, Option, Some, None, refl, sym, ap, ◌∙◌, subst, arith, append_assoc, append-nil, filter, length, length-append, bytes_eq, ltb, map}
+use Rattle.std.proofs.Common.{◌≡◌, ℕ, ◌≤◌, Bool, true, false, not, cond, suc, List, [], ◌∷◌, ◌++◌, Option, Some, None, refl, sym, ap, ◌∙◌, arith, append_assoc, append-nil, filter, length, length-append, bytes_eq, ltb, map}
 use Rattle.std.specs.Prelude.{IfSome, if◌then◌else◌, nat_lt}
 use Rattle.std.specs.List.{find, list_all}
-use Rattle.std.proofs.lemmas.Bool.{false≢true, and_from, and_parts, lt-ltb, le-ltb, ltb-true}
+use Rattle.std.proofs.lemmas.Bool.{false≢true, and_from, and_parts, lt-ltb, le-ltb, ltb-true, false_from_ne_true}
 use Rattle.bt_lines.specs.Fault.{Told}
 use Rattle.bt_lines.specs.declared.fault.Input.TheVariants.{Second}
 use Rattle.bt_lines.specs.declared.fault.Kind.TheVariants.{TooManyHeld}
@@ -168,13 +168,9 @@ module _ (order : Order) (most : ℕ) (second : List Feature) where
   too_many_for (x ∷ first) many =
       found_at (decided order x second) x first refl many (too_many_for first)
 
-  few_by : (b : Bool) → (b ≡ true → ⊥) → b ≡ false
-  few_by true h = absurd (h refl)
-  few_by false h = refl
-
   pub enough_few : (first : List Feature) → HoldsEnough order most first second → are_too_many order most first second ≡ false
   enough_few first enough =
-      few_by (are_too_many order most first second) (λ many. let found = too_many_for first many in enough found.0 found.1 found.2 found.3 found.4)
+      false_from_ne_true (are_too_many order most first second) (λ many. let found = too_many_for first many in enough found.0 found.1 found.2 found.3 found.4)
 
 pub limit_kept : limit_is_kept
 limit_kept order most first second enough =

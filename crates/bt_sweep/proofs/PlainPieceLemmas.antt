@@ -1,5 +1,5 @@
 -- The scan of a record's positions, from the last one on, against the definition of its pieces.
-use Rattle.std.proofs.Common.{◌≡◌, ℕ, ◌+◌, ◌-◌, ◌<◌, ◌≤◌, le-leb, suc, Bool, true, false, not, ◌&&◌, ◌||◌, cond, List, [], ◌∷◌, ◌++◌, refl, sym, ap, ap₂, ◌∙◌, add-one, arith, map, flat_map, append_assoc, ◌==◌}
+use Rattle.std.proofs.Common.{◌≡◌, ℕ, ◌+◌, ◌-◌, ◌<◌, ◌≤◌, le-leb, suc, Bool, true, false, not, ◌&&◌, ◌||◌, cond, List, [], ◌∷◌, ◌++◌, refl, sym, ap, ap₂, ◌∙◌, add-one, arith, map, ◌==◌}
 use Rattle.std.specs.List.{list_any}
 use Rattle.std.proofs.lemmas.Bool.{ne_eqb, eq-eqb, cond-true, cond-false}
 use Rattle.std.proofs.lemmas.List.{reverse-append}
@@ -7,7 +7,6 @@ use Rattle.bt_bed.specs.Feature.{Feature}
 use Rattle.bt_bed.specs.Interval.{Span}
 use Rattle.bt_bed.specs.Stretches.{stretches_from, with_position}
 use Rattle.bt_sweep.specs.Hits.{hits, hits_among}
-use Rattle.bt_sweep.specs.IntersectLines.{piece_line}
 use Rattle.bt_sweep.specs.Pieces.{has_position, is_left, pieces}
 use Rattle.bt_sweep.specs.PlainPieces.{piece_in, pieces_in}
 use Rattle.bt_sweep.specs.declared.hit_rule.HitRule.{HitRule}
@@ -78,13 +77,6 @@ any_at rule a p b bs false e = refl
 pub any_hit_has : (rule : HitRule) (a : Feature) (p : ℕ) (bs : List Feature) → list_any (λ b. hits rule a b && has_position p b) bs ≡ list_any (has_position p) (hits_among rule a bs)
 any_hit_has rule a p [] = refl
 any_hit_has rule a p (b ∷ bs) = ap (λ c. (hits rule a b && has_position p b) || c) (any_hit_has rule a p bs) ∙ any_at rule a p b bs (hits rule a b) refl
-
--- the last one found is written
-pub piece_written : (a : Feature) (old text new : List ℕ) (total : List ℕ) (front : List PlainPiece) (piece : PlainPiece) (found : List PlainPiece) → found ≡ front ++ piece ∷ []
-    → text ++ flat_map (piece_line a) (pieces_in found) ≡ total → new ≡ text ++ piece_line a (piece_in piece) → new ++ flat_map (piece_line a) (pieces_in front) ≡ total
-piece_written a old text new total front piece found is so_far adds =
-    ap (λ l. l ++ flat_map (piece_line a) (pieces_in front)) adds ∙ append_assoc text (piece_line a (piece_in piece)) (flat_map (piece_line a) (pieces_in front))
-    ∙ ap (λ l. text ++ flat_map (piece_line a) l) (sym (ap pieces_in is ∙ found_push front piece)) ∙ so_far
 
 -- a position from the start on that none of the others has
 pub left_by : (a : Feature) (others : List Feature) (p : ℕ) (taken : Bool) → a.start ≤ p → taken ≡ list_any (has_position p) others → not taken ≡ is_left a others p

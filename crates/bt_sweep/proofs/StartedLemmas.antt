@@ -6,7 +6,7 @@ use Rattle.std.proofs.lemmas.List.Elements.{All-from_recursion}
 use Rattle.bt_bed.specs.Feature.{Feature}
 use Rattle.bt_sweep.specs.Held.{AreRising, AreRisingFrom, StartBefore, StartFrom}
 
-only_one : (c : Bool) → (c || false) ≡ true → c ≡ true
+pub only_one : (c : Bool) → (c || false) ≡ true → c ≡ true
 only_one true e = refl
 only_one false e = absurd (false≢true e)
 

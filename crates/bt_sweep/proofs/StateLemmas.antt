@@ -50,8 +50,7 @@ with_new (Some l) a held on = kept_hit (bytes_eq l.chrom a.chrom) a a held (λ t
 -- what is held once a is given can hit the last record, whether a became that or not
 pub moved_with : {T E : Type 0} (r : Result T E) (old new : Option Feature) (held left : List Feature) (a : Feature) → AreWith old held → left ≡ held_with old held a → OnOk r (new ≡ Some a) → OnErr r (new ≡ old) → AreWith new left
 moved_with (Ok done) old new held left a on is now before =
-    λ x e. subst (λ (l : List Feature). All (CanHit x) l) (sym is)
-    (subst (λ (f : Feature). All (CanHit f) (held_with old held a)) (same_some a x (sym now ∙ e)) (with_new old a held on))
+    λ x e. rw is (subst (λ (f : Feature). All (CanHit f) (held_with old held a)) (same_some a x (sym now ∙ e)) (with_new old a held on))
 moved_with (Err f) old new held left a on is now before =
     λ x e. subst (λ (l : List Feature). All (CanHit x) l) (sym is) (with_old old a held on x (sym before ∙ e))
 
@@ -97,6 +96,5 @@ pub writes_none : (inside now : Sweeping) (a : Feature) (out : Output) → insid
     → (record inside { waits = false } ≡ record now { waits = false }) × Grown out (lines_for now.shape now.rule a now.held) out
 writes_none inside now a out e needs none = (
   ap (λ (s : Sweeping). record s { waits = false }) e,
-  subst (λ (s : Sweeping). Grown out (lines_for s.shape s.rule a s.held) out) e
-      (subst (λ (l : List ℕ). Grown out l out) (sym (none_of inside.shape inside.rule a inside.held needs none)) (grown_none out)),
+  rw (← e) (subst (λ (l : List ℕ). Grown out l out) (sym (none_of inside.shape inside.rule a inside.held needs none)) (grown_none out)),
 )

@@ -238,9 +238,7 @@ module _ (order : Order) (shape : Shape) (rule : HitRule) (limit : Option ℕ) (
         waits = stands.waits;
         done = stands.done;
         b_ended = stands.b_ended;
-        holds = subst (λ (gs : List Feature). HoldsFor order gs (stage.taken ++ b ∷ []) (sweep.held ++ filter (is_held_by sweep.last) (b ∷ []))) (sym given_is)
-            (subst (λ (h : List Feature). HoldsFor order (stage.written ++ a ∷ []) (stage.taken ++ b ∷ []) h) (sym kept)
-            (holds_b order stage.written stage.taken sweep.held a b (subst (λ (gs : List Feature). HoldsFor order gs stage.taken sweep.held) given_is stands.holds) undecided));
+        holds = rw given_is (rw kept (holds_b order stage.written stage.taken sweep.held a b (subst (λ (gs : List Feature). HoldsFor order gs stage.taken sweep.held) given_is stands.holds) undecided));
         within = within_more limit sweep.last b sweep.held (λ h. ap (λ (l : Option ℕ). has_room l (length sweep.held)) (sym stands.limit_is) ∙ holds.1 h) stands.within;
         unended = stands.unended;
       } in

@@ -80,8 +80,7 @@ module _ (rule : HitRule) (a : Feature) (held : List Feature) where
         → FailsToAdd old (flat_map (piece_line a) (pieces a (hits_among rule a held))) (told fault) new
     pieces_cut A old mid new fault rises so_far here =
         let cut = fails_then old mid new (before_to i) (lines_before a free (found_at i)) (told fault) so_far here in
-        subst (λ (l : List ℕ). FailsToAdd old l (told fault) new) (all_lines rises)
-        (cut_off old new (before_to (i + 1)) lines_behind (told fault) (subst (λ (l : List ℕ). FailsToAdd old l (told fault) new) (sym next_lines) cut))
+        rw (← all_lines rises) (cut_off old new (before_to (i + 1)) lines_behind (told fault) (subst (λ (l : List ℕ). FailsToAdd old l (told fault) new) (sym next_lines) cut))
 
   -- the last piece
   pub pieces_end : {A : Type 0} (r : Result A Fault) (i free : ℕ) (old mid new : Output) → length held ≤ i → free ≡ free_after a.start (found_to i) → AreRising held

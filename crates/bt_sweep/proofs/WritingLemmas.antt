@@ -68,16 +68,14 @@ module _ {A : Type 0} (a : Feature) (bs : List Feature) (out grown : Output) (r 
   pub once_adds : (any : Bool) → shape ≡ Once → any ≡ list_any (hits rule a) bs → Adds out (cond any (line_with (bed_text a ∷ [])) []) r grown → Adds out (lines_for shape rule a bs) r grown
   unfolding lines_for
   once_adds any is e adds =
-      subst (λ (s : Shape). Adds out (lines_of s a (hits_among rule a bs)) r grown) (sym is)
-      (subst (λ (l : List ℕ). Adds out l r grown) (ap (λ (b : Bool). cond b (line_with (bed_text a ∷ [])) []) e ∙ sym (once_of a (hits rule a) bs)) adds)
+      rw is (subst (λ (l : List ℕ). Adds out l r grown) (ap (λ (b : Bool). cond b (line_with (bed_text a ∷ [])) []) e ∙ sym (once_of a (hits rule a) bs)) adds)
 
   -- a record that is put where nothing does
   missing_as : (s : Shape) (any : Bool) → shape ≡ s → lines_of s a (hits_among rule a bs) ≡ cond (not (list_any (hits rule a) bs)) (line_with (bed_text a ∷ [])) [] → any ≡ list_any (hits rule a) bs
       → Adds out (cond (not any) (line_with (bed_text a ∷ [])) []) r grown → Adds out (lines_for shape rule a bs) r grown
   unfolding lines_for
   missing_as s any is lines e adds =
-      subst (λ (s : Shape). Adds out (lines_of s a (hits_among rule a bs)) r grown) (sym is)
-      (subst (λ (l : List ℕ). Adds out l r grown) (ap (λ (b : Bool). cond (not b) (line_with (bed_text a ∷ [])) []) e ∙ sym lines) adds)
+      rw is (subst (λ (l : List ℕ). Adds out l r grown) (ap (λ (b : Bool). cond (not b) (line_with (bed_text a ∷ [])) []) e ∙ sym lines) adds)
 
   pub missing_adds : (any : Bool) → (shape ≡ Missing) ⊎ (shape ≡ Whole) → any ≡ list_any (hits rule a) bs → Adds out (cond (not any) (line_with (bed_text a ∷ [])) []) r grown → Adds out (lines_for shape rule a bs) r grown
   missing_adds any is e adds =
@@ -95,8 +93,7 @@ module _ {A : Type 0} (a : Feature) (bs : List Feature) (out grown : Output) (r 
   pub count_adds : (n : ℕ) → shape ≡ Count → n ≡ length (hits_among rule a bs) → Puts out (line_with (bed_text a ∷ decimal n ∷ [])) r grown → Adds out (lines_for shape rule a bs) r grown
   unfolding lines_for
   count_adds n is e puts =
-      subst (λ (s : Shape). Adds out (lines_of s a (hits_among rule a bs)) r grown) (sym is)
-      (line_adds (bed_text a ∷ decimal (length (hits_among rule a bs)) ∷ []) out grown r
+      rw is (line_adds (bed_text a ∷ decimal (length (hits_among rule a bs)) ∷ []) out grown r
       (subst (λ (m : ℕ). Puts out (line_with (bed_text a ∷ decimal m ∷ [])) r grown) e puts))
 
   -- a line for each hit

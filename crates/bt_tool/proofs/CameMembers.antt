@@ -14,7 +14,7 @@ use Rattle.bt_bed.specs.Good.{Format, Good, Member, good, good_handed, or_else}
 use Rattle.bt_bed.specs.GoodLines.{IsBeyond}
 use Rattle.bt_bed.specs.Reading.{MemberReader, good_coming}
 use Rattle.bt_tool.specs.Coming.{Came}
-use Rattle.bt_tool.specs.Driving.{TellsInput}
+use Rattle.bt_tool.specs.Telling.{TellsInput}
 use Rattle.bt_tool.specs.Passed.{HasFaultBehind, IsUnreadBehind}
 use Rattle.bt_tool.proofs.HandedLemmas.{cut_good, handed_near}
 use Rattle.bt_tool.proofs.HandedReader.{consumed_by, consumes_parts, cut_text, handed_all, handed_part, passes_by}
@@ -86,8 +86,7 @@ module _ {S A State : Type 0} (left : S → Option (List ℕ)) (failed end : S �
       ∙ cut_good format input front more past members.0 (good format input (text_lines (front ++ more))).fault
       (subst (λ t. (good format input (text_lines t)).members ≡ past ++ members.0) (sym text) members.1) refl
       (subst (λ n. All (λ m. m.line ≤ n) past) given unread.behind)
-      (subst (λ t. IsBeyond (line_feeds front) (record { members = members.0; fault = (good format input (text_lines t)).fault })) (sym text)
-      (subst (λ n. IsBeyond n (record { members = members.0; fault = (good format input (text_lines reads.text)).fault })) given members.2))
+      (rw text (subst (λ n. IsBeyond n (record { members = members.0; fault = (good format input (text_lines reads.text)).fault })) given members.2))
       ∙ ap (λ f. record { members = past; fault = f }) told
 
   -- one with a fault

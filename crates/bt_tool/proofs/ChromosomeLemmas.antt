@@ -1,12 +1,13 @@
 -- Lemmas on the genome file of a run, where it has one.
-use Rattle.std.proofs.Common.{◌≡◌, ℕ, suc, ◌-◌, ◌^◌, ◌≤◌, Bool, true, List, ◌++◌, take, Option, None, Some, Ok, Err, refl, sym, ap, ◌∙◌, subst, arith, inl, inr, ⊎_elim}
+use Rattle.std.proofs.Common.{◌≡◌, ℕ, suc, ◌-◌, ◌^◌, Bool, true, List, ◌++◌, take, Option, None, Some, Ok, Err, refl, sym, ap, ◌∙◌, subst, arith, inl, inr, ⊎_elim}
 use Rattle.std.specs.Prelude.{◌⊎◌, ◌≢◌, IfSome, option_map}
 use Rattle.std.proofs.lemmas.Bool.{false≢true}
+use Rattle.bt_lines.proofs.ReadsLemmas.{memory_no_read, some_is}
+use Rattle.bt_tool.proofs.CameMembers.{some_of}
 use Rattle.bt_lines.specs.Fault.{Told, no_memory, write_failed, read_failed}
-use Rattle.bt_lines.specs.Filling.{LastReadFails}
 use Rattle.bt_lines.specs.Handed.{Handed, whole_text}
 use Rattle.bt_lines.specs.Lines.{TextLine, line_feeds, text_lines, whole_lines}
-use Rattle.bt_lines.specs.Reader.{Hands, IsSound, source_of, input_of, bytes_taken, fault_kept, feeds_taken, lines_given, lines_left}
+use Rattle.bt_lines.specs.Reader.{Hands, IsSound, IsUnread, source_of, input_of, bytes_taken, fault_kept, feeds_taken, lines_given, lines_left}
 use Rattle.bt_lines.specs.declared.fault.Input.{Input}
 use Rattle.bt_lines.specs.declared.fault.Input.TheVariants.{First, Second, Genome as FromGenome}
 use Rattle.bt_lines.specs.declared.fault.Kind.TheVariants.{ReadFailed}
@@ -20,40 +21,18 @@ use Rattle.bt_bed.specs.declared.genome.Genome.{Genome}
 use Rattle.bt_tool.specs.Behaviour.{order_of}
 use Rattle.bt_tool.specs.Kinds.{IsOneOf}
 use Rattle.bt_tool.specs.Chromosomes.{KnowsChromosomes, LacksChromosomes}
-use Rattle.bt_tool.specs.Driving.{IsOfInput, TellsInput}
+use Rattle.bt_tool.specs.Telling.{IsOfInput, TellsInput}
 use Rattle.bt_tool.specs.Inputs.{HoldsIf, Reads, ReadsIf}
 use Rattle.bt_tool.specs.Report.{chromosomes_of, of_file}
 use Rattle.bt_tool.specs.OwnReads.{IsOwnFailure, TellsOwnReads}
-use Rattle.bt_tool.proofs.FaultLemmas.{memory_no_read, memory_no_write, placed_no_write, some_is}
-use Rattle.bt_tool.proofs.OwnFailureLemmas.{same_input}
+use Rattle.bt_tool.proofs.FaultLemmas.{memory_no_write, placed_no_write}
+use Rattle.bt_tool.proofs.OwnFailureLemmas.{own_failure_of, same_input}
 use Rattle.bt_tool.proofs.HandedReader.{cut_text, handed_all, handed_part, passes_by}
 
 -- the order in use, by the genome file's entries
 pub order_is : (genome : Option Genome) → order_by genome ≡ order_of (option_map entries genome)
 order_is None = refl
 order_is (Some genome) = refl
-
--- without a genome file there are no chromosomes
-none_read : {G : Type 0} (left : G → Option (List ℕ)) (failed : G → Bool) (handed : Option Handed) → ReadsIf left failed None None handed → chromosomes_of handed ≡ Ok None
-none_read left failed None h = refl
-none_read left failed (Some handed) h = absurd h
-
-none_held : {G : Type 0} (left : G → Option (List ℕ)) (handed : Option Handed) → HoldsIf left None handed → chromosomes_of handed ≡ Ok None
-none_held left None h = refl
-none_held left (Some handed) h = absurd h
-
-pub knows_none : {G : Type 0} (left : G → Option (List ℕ)) (failed : G → Bool) → KnowsChromosomes left failed None None None
-knows_none left failed = record {
-  whole = none_read left failed;
-  told = none_held left;
-  named = refl;
-  distinct = tt;
-  served = tt;
-}
-
-of_some : {A : Type 0} (o : Option A) (x : A) (P : A → Type 0) → o ≡ Some x → IfSome o P → P x
-of_some None x P e h = cc
-of_some (Some y) x P e h = let same : y ≡ x = cc in subst P same h
 
 -- what is said of the whole text is said of what the device holds
 held_as : {G : Type 0} (left : G → Option (List ℕ)) (genome : G) (P : Option Handed → Type 0) → ((text : List ℕ) → left genome ≡ Some text → P (Some (whole_text text)))
@@ -77,7 +56,7 @@ cut_genome cut more made e =
 module _ {G : Type 0} (left : G → Option (List ℕ)) (failed end : G → Bool) (genome after : G) (old new : LineReader G) (source : source_of old ≡ genome) (ended : source_of new ≡ after) (input : input_of old ≡ FromGenome)
     (fresh : bytes_taken old ≡ 0) (unfed : feeds_taken old ≡ 0) (none_given : lines_given old ≡ 0) (clear : fault_kept old ≡ None) (lines : lines_left left old ≡ option_map text_lines (left genome)) (sound : IsSound left end old) where
   at_genome : (text : List ℕ) (P : List TextLine → Type 0) → left genome ≡ Some text → IfSome (lines_left left old) P → P (text_lines text)
-  at_genome text P e h = of_some (lines_left left old) (text_lines text) P (lines ∙ ap (option_map text_lines) e) h
+  at_genome text P e h = some_of (lines_left left old) (text_lines text) P (lines ∙ ap (option_map text_lines) e) h
 
   pub knows_read : (table : Genome) → ReadsAll left failed old new table → IsSound left end new → KnowsChromosomes left failed (Some genome) (Some after) (Some table)
   knows_read table reads next =
@@ -152,22 +131,22 @@ module _ {G : Type 0} (left : G → Option (List ℕ)) (failed end : G → Bool)
   lacks_read fault stops next = lacks_by fault stops.bytes next (stops.first clear)
 
   -- a failed read that is told is of a read that failed then
-  module _ (Fails : G → G → Type 0) (fault : Told) (own : (input : Input) (line : ℕ) → fault ≡ read_failed input line → LastReadFails Fails (source_of new) ⊎ (2 ^ 63 ≤ bytes_taken new)) (bytes : (bytes : List ℕ) × Hands left old bytes new) where
-    own_by : StopCause left failed end old new fault → (other : Input) (line : ℕ) → fault ≡ read_failed other line → (other ≡ FromGenome) × IsOwnFailure left Fails genome after
+  module _ (IsRead : G → Option ℕ → G → Type 0) (fault : Told) (own : (input : Input) (line : ℕ) → fault ≡ read_failed input line → IsUnread IsRead old new) where
+    own_by : StopCause left failed end old new fault → (other : Input) (line : ℕ) → fault ≡ read_failed other line → (other ≡ FromGenome) × IsOwnFailure IsRead genome after
     own_by (inl wrong) other line e = absurd (false≢true (ap (λ (f : Told). is_genome_kind f.kind) (sym e ∙ wrong.place) ∙ wrong.of_line))
     own_by (inr (inl unread)) other line e = (
       sym (same_input (input_of old) other (suc (lines_given new)) line (sym unread.fails.is ∙ e)) ∙ input,
-      ⊎_elim (λ fails. inl (subst (LastReadFails Fails) ended fails)) (λ past. inr (passes_by left failed genome after old new source ended fresh bytes past)) (own other line e),
+      own_failure_of IsRead genome after old new source ended fresh (own other line e),
     )
     own_by (inr (inr ran)) other line e = absurd (memory_no_read other line (sym ran.is ∙ e))
 
-    tells_own : StopCause left failed end old new fault → TellsOwnReads (IsOwnFailure left Fails genome after) ⊥ ⊥ (Some fault)
+    tells_own : StopCause left failed end old new fault → TellsOwnReads (IsOwnFailure IsRead genome after) ⊥ ⊥ (Some fault)
     tells_own cause = record {
       genome_file = λ line e. (own_by cause FromGenome line (some_is fault (read_failed FromGenome line) e)).1;
       first_input = λ line e. let apart : First ≡ FromGenome = (own_by cause First line (some_is fault (read_failed First line) e)).0 in cc;
       second_input = λ line e. let apart : Second ≡ FromGenome = (own_by cause Second line (some_is fault (read_failed Second line) e)).0 in cc;
     }
 
-  pub lacks_own : (Fails : G → G → Type 0) (fault : Told) → ReadingStops left failed end old new fault → ((input : Input) (line : ℕ) → fault ≡ read_failed input line → LastReadFails Fails (source_of new) ⊎ (2 ^ 63 ≤ bytes_taken new))
-      → TellsOwnReads (IsOwnFailure left Fails genome after) ⊥ ⊥ (Some fault)
-  lacks_own Fails fault stops own = tells_own Fails fault own stops.bytes (stops.first clear)
+  pub lacks_own : (IsRead : G → Option ℕ → G → Type 0) (fault : Told) → ReadingStops left failed end old new fault → ((input : Input) (line : ℕ) → fault ≡ read_failed input line → IsUnread IsRead old new)
+      → TellsOwnReads (IsOwnFailure IsRead genome after) ⊥ ⊥ (Some fault)
+  lacks_own IsRead fault stops own = tells_own IsRead fault own (stops.first clear)

@@ -1,10 +1,11 @@
 -- Lemmas on writing the alignments of an input, line by line.
-use Rattle.std.proofs.Common.{◌≡◌, ℕ, Bool, List, [], ◌∷◌, ◌++◌, Option, None, Some, Ok, refl, sym, ap, ◌∙◌, subst, append-nil}
+use Rattle.std.proofs.Common.{◌≡◌, ℕ, Bool, true, List, [], ◌∷◌, ◌++◌, Option, None, Some, Ok, refl, sym, ap, ◌∙◌, subst, append-nil}
 use Rattle.std.specs.Prelude.{⊤, option_map}
 use Rattle.std.proofs.lemmas.Grind.{flat_map-append}
 use Rattle.std.proofs.lemmas.List.{map-append}
 use Rattle.std.proofs.KnownBytes.{Appends-nil}
 use Rattle.std.proofs.lemmas.Bool.{false≢true}
+use Rattle.bt_lines.proofs.ReadsLemmas.{some_is}
 use Rattle.bt_lines.specs.Fault.{Told, read_failed}
 use Rattle.bt_lines.specs.Lines.{TextLine, text_lines}
 use Rattle.bt_lines.specs.Output.{Output, HoldsBlock}
@@ -23,21 +24,22 @@ use Rattle.bt_seq.specs.GoodSam.{sam_format}
 use Rattle.bt_seq.specs.SamKind.{is_sam_kind}
 use Rattle.bt_seq.proofs.SamKindLemmas.{kinds_of_lines, wrong_kinds}
 use Rattle.bt_tool.specs.Kinds.{IsOneOf}
-use Rattle.bt_tool.specs.ConvertReport.{alignment_lines, bamtobed_report, bamtobed_settles}
+use Rattle.bt_tool.specs.ConvertReport.{alignment_lines}
 use Rattle.bt_tool.specs.ConvertSteps.{LineRefused, LineUnwritten, LineWritten, lines_if, sam_reader}
-use Rattle.bt_tool.specs.Driving.{WritesInput}
+use Rattle.bt_tool.specs.Behaviour.{of_bamtobed, of_members}
+use Rattle.bt_tool.specs.Writing.{WritesAlone}
 use Rattle.bt_tool.specs.Feeding.{FeedsAll, FeedsUpTo, IsFresh}
 use Rattle.bt_tool.specs.Passed.{IsAhead, IsStopped, KeepsOwnFault, member_items}
-use Rattle.bt_tool.specs.RecordReport.{members_report, members_settle, report_by}
+use Rattle.bt_tool.specs.RecordReport.{report_by}
 use Rattle.bt_tool.specs.OwnReads.{IsOwnFailure, TellsOwnReads}
 use Rattle.bt_tool.specs.Written.{Written}
 use Rattle.bt_tool.proofs.DrivingLemmas.{drives_all, drives_fault}
 use Rattle.bt_tool.proofs.FeedLemmas.{Fed, fails_writing, fed_all, fed_more, fed_none, fed_same, fed_up_to, goes_same}
 use Rattle.bt_bed.proofs.ReadingLemmas.{Going as Steps, advanced, going_end, going_member, going_more, going_start as steps_start, going_unread, going_wrong, good_at_first}
 use Rattle.bt_tool.proofs.CameMembers.{BeginsAt}
-use Rattle.bt_tool.proofs.FaultLemmas.{line_no_read, some_is}
+use Rattle.bt_tool.proofs.FaultLemmas.{line_no_read}
 use Rattle.bt_tool.proofs.OwnFailureLemmas.{feeds_own}
-use Rattle.bt_tool.proofs.WriteLemmas.{writes_same}
+use Rattle.bt_tool.proofs.WritingLemmas.{alone_writes}
 
 -- an alignment on its line
 abbrev member_on : TextLine → Alignment → Member Alignment
@@ -181,9 +183,6 @@ reported split cigar members (Some fault) = refl
 -- a reader that has given nothing yet, over the input of a run
 module _ {S : Type 0} (split cigar : Bool) (left : S → Option (List ℕ)) (failed end : S → Bool) (first : S) (reader : LineReader S) (source : source_of reader ≡ first) (input : input_of reader ≡ First)
     (taken : bytes_taken reader ≡ 0) (fed : feeds_taken reader ≡ 0) (given : lines_given reader ≡ 0) (going : fault_kept reader ≡ None) (lines : lines_left left reader ≡ option_map text_lines (left first)) (sound : IsSound left end reader) where
-  pub fresh_reader : IsFresh left end (sam_reader reader)
-  fresh_reader = record { none_given = (given, taken, fed); none_ahead = refl; going = going; sound = sound }
-
   starts_reader : BeginsAt left sam_format First first (sam_reader reader)
   starts_reader = record {
     source = source;
@@ -199,13 +198,12 @@ module _ {S : Type 0} (split cigar : Bool) (left : S → Option (List ℕ)) (fai
 
   module _ (converting : Converting) (same : converting ≡ record { split = split; with_cigar = cigar; fault = None }) (out : Output) (new : MemberReader S Alignment ⊤) (last : S) (ended : source_of new.below ≡ last) (grown : Output) where
     abbrev Writes : Option Told → Type 0
-    Writes fault = WritesInput left failed (IsOneOf is_sam_kind) (bamtobed_report split cigar) (bamtobed_settles split cigar) first out fault last grown
+    Writes fault = WritesAlone left failed (of_bamtobed split cigar) first out fault last grown
 
-    as_reported : (fault : Option Told) → WritesInput left failed (IsOneOf is_sam_kind) (members_report (bamtobed_written split cigar) sam_format) (members_settle (bamtobed_written split cigar) sam_format) first out fault last grown
-        → Writes fault
+    as_reported : (fault : Option Told) → WritesAlone left failed (of_members (IsOneOf is_sam_kind) (bamtobed_written split cigar) sam_format) first out fault last grown → Writes fault
     as_reported fault =
-        writes_same left failed (IsOneOf is_sam_kind) (members_report (bamtobed_written split cigar) sam_format) (bamtobed_report split cigar) (members_settle (bamtobed_written split cigar) sam_format) (bamtobed_settles split cigar)
-        (λ handed. reported split cigar _ _) (λ lines. refl) first out fault last grown
+        alone_writes left failed (λ source. true) left failed (of_members (IsOneOf is_sam_kind) (bamtobed_written split cigar) sam_format) (of_bamtobed split cigar)
+        (λ one two. reported split cigar _ _) (λ two lines. refl) first None out fault last grown (λ t tells. tells)
 
     -- the whole input was read
     pub writes_all : FeedsAll (alignment_lines converting.split converting.with_cigar) (IsOneOf is_sam_kind) (λ past. ⊤) left failed end (λ past. ⊤) (sam_reader reader) out new grown → Writes None
@@ -223,7 +221,7 @@ module _ {S : Type 0} (split cigar : Bool) (left : S → Option (List ℕ)) (fai
         fault grown (subst (λ (m : Converting). FeedsUpTo (alignment_lines m.split m.with_cigar) (IsOneOf is_sam_kind) (λ past. ⊤) left failed end (sam_reader reader) out fault new grown) same fed))
 
     -- a failed read that is told is of a read that failed then
-    pub own_up_to : (Fails : S → S → Type 0) → KeepsOwnFault Fails new → (fault : Told) → FeedsUpTo (alignment_lines converting.split converting.with_cigar) (IsOneOf is_sam_kind) (λ past. ⊤) left failed end (sam_reader reader) out fault new grown
-        → TellsOwnReads ⊥ (IsOwnFailure left Fails first last) ⊥ (Some fault)
-    own_up_to Fails own fault fed =
-        feeds_own left failed end Fails sam_format first (sam_reader reader) starts_reader new last ended own (alignment_lines converting.split converting.with_cigar) (IsOneOf is_sam_kind) (λ kind. false≢true kind) (λ past. ⊤) out fault grown fed
+    pub own_up_to : (IsRead : S → Option ℕ → S → Type 0) → KeepsOwnFault IsRead reader new → (fault : Told) → FeedsUpTo (alignment_lines converting.split converting.with_cigar) (IsOneOf is_sam_kind) (λ past. ⊤) left failed end (sam_reader reader) out fault new grown
+        → TellsOwnReads ⊥ (IsOwnFailure IsRead first last) ⊥ (Some fault)
+    own_up_to IsRead own fault fed =
+        feeds_own left failed end IsRead sam_format first (sam_reader reader) starts_reader new last ended own (alignment_lines converting.split converting.with_cigar) (IsOneOf is_sam_kind) (λ kind. false≢true kind) (λ past. ⊤) out fault grown fed

@@ -1,8 +1,10 @@
 -- Lemmas on driving an engine, from the records that it takes to the report on what its input hands over.
-use Rattle.std.proofs.Common.{◌≡◌, ℕ, suc, ◌-◌, Bool, true, List, [], ◌++◌, take, Option, None, Some, Ok, Err, refl, sym, ap, ◌∙◌, subst, append-nil, append_assoc, arith, inl, inr}
+use Rattle.std.proofs.Common.{◌≡◌, ℕ, suc, ◌-◌, Bool, true, false, List, [], ◌++◌, take, Option, None, Some, Ok, Err, refl, sym, ap, ◌∙◌, subst, append-nil, append_assoc, arith, inl, inr}
 use Rattle.std.specs.Prelude.{◌⊎◌, ◌≢◌, ⊤, IfSome, option_map}
 use Rattle.std.proofs.lemmas.List.{map-append}
 use Rattle.std.specs.Io.KnownBytes.{Appends, Consumes}
+use Rattle.bt_lines.proofs.ReadsLemmas.{some_is}
+use Rattle.bt_lines.proofs.OutputLemmas.{grows_both}
 use Rattle.bt_lines.specs.Fault.{Told, write_failed, no_memory}
 use Rattle.bt_lines.specs.Handed.{Handed, whole_text}
 use Rattle.bt_lines.specs.Lines.{text_lines}
@@ -32,22 +34,26 @@ use Rattle.bt_bed.specs.Sorting.{sorting_of}
 use Rattle.bt_bed.specs.declared.order.ChromOrder.{Ghosts}
 use Rattle.bt_bed.specs.declared.records.Records.{Records}
 use Rattle.bt_bed.proofs.GoodBedLemmas.{placed_good, non_empty_good}
-use Rattle.bt_tool.specs.Driving.{IsReported, ReadsNoFurther, TellsDevice, TellsInput, WritesInput}
+use Rattle.bt_tool.specs.Telling.{IsReported, ReadsNoFurther, TellsDevice, TellsInput}
+use Rattle.bt_tool.specs.Behaviour.{of_members}
+use Rattle.bt_tool.specs.Inputs.{Holds, HoldsIf}
+use Rattle.bt_tool.specs.Writing.{WritesAlone}
 use Rattle.bt_tool.specs.Coming.{Came}
 use Rattle.bt_tool.specs.Feeding.{StopCause, CutsLines, IsFresh, PutsFront, FeedsAll, FeedsUpTo, GoesOn, TookButBlock}
 use Rattle.bt_tool.specs.Passed.{IsReadFor, member_items}
 use Rattle.bt_tool.specs.RecordReport.{Report, members_report, members_settle, report_by}
 use Rattle.bt_tool.specs.Written.{Written}
-use Rattle.bt_tool.proofs.FeedLemmas.{front_all, goes_works, grows_both, text_grows, took_later}
-use Rattle.bt_tool.proofs.FaultLemmas.{memory_no_write, placed_no_write, some_is}
+use Rattle.bt_tool.proofs.FeedLemmas.{front_all, goes_works, text_grows, took_later}
+use Rattle.bt_tool.proofs.FaultLemmas.{memory_no_write, placed_no_write}
 use Rattle.bt_tool.proofs.CameMembers.{BeginsAt, at_whole, came_whole, good_whole, handed_to, says_fault, tells_fault}
 use Rattle.bt_tool.proofs.SeenLemmas.{puts_front}
+use Rattle.bt_tool.proofs.WritingLemmas.{is_whole, named_alone}
 
 items_both : {A : Type 0} (past rest : List (Member A)) → member_items (past ++ rest) ≡ member_items past ++ member_items rest
 items_both past rest = map-append (λ m. m.item) past rest
 
 -- the beginning of a run's input, from a reader that has given nothing and a reader of records over it
-none_of : {A B : Type 0} (f : A → B) (o : Option A) → option_map f o ≡ None → o ≡ None
+pub none_of : {A B : Type 0} (f : A → B) (o : Option A) → option_map f o ≡ None → o ≡ None
 none_of f None e = refl
 none_of f (Some x) e = cc
 
@@ -127,17 +133,20 @@ module _ {S A State : Type 0} (written : Written A) (kinds : Kind → Type 0) (S
   begins_by items past rest (Some fault) e t = let b = stays past rest (subst Taken e t) in (b.0, ap written.settled e ∙ b.1)
 
   -- a front of the records gives a front of the output
-  begins_output : (text : List ℕ) (past : List (Member A)) → left first ≡ Some text → IfSome (good_coming left old) (λ good. (rest : List (Member A)) × (good.members ≡ past ++ rest))
-      → (rest : List ℕ) × ((report (whole_text text)).output ≡ written.settled (member_items past) ++ rest)
-  begins_output text past e b =
-      let here = of_text text e (λ good. (rest : List (Member A)) × (good.members ≡ past ++ rest)) b in
-      begins_by (items_in (good_of (whole_text text))) (member_items past) (member_items here.0) (good_of (whole_text text)).fault (ap member_items here.1 ∙ items_both past here.0) (taken text)
+  begins_output : (one : Handed) (past : List (Member A)) → Holds left first one → IfSome (good_coming left old) (λ good. (rest : List (Member A)) × (good.members ≡ past ++ rest))
+      → (rest : List ℕ) × ((report one).output ≡ written.settled (member_items past) ++ rest)
+  begins_output one past holds b =
+      let here = of_text holds.text holds.known (λ good. (rest : List (Member A)) × (good.members ≡ past ++ rest)) b in
+      let begun = begins_by (items_in (good_of (whole_text holds.text))) (member_items past) (member_items here.0) (good_of (whole_text holds.text)).fault (ap member_items here.1 ∙ items_both past here.0) (taken holds.text) in
+      (begun.0, ap (λ (h : Handed). (report h).output) holds.is ∙ begun.1)
 
   -- how far the input was read
-  near_by : (text before took : List ℕ) → left first ≡ Some text → out.put ≡ Some before → out.took ≡ Some took → (bytes : List ℕ) × Hands left old.below bytes new.below
+  near_by : (one : Handed) (before took : List ℕ) → Holds left first one → out.put ≡ Some before → out.took ≡ Some took → (bytes : List ℕ) × Hands left old.below bytes new.below
       → (past : List (Member A)) → IsReadFor left failed end old past past new → (grown : Output) → TookButBlock out (written.settled (member_items past)) grown
-      → ReadsNoFurther (λ lines. ⊤) (members_settle written format) text (left last) before grown.took (grown.has_failed ≡ true) grown.put
-  near_by text before took e put known hands past read grown kept =
+      → ReadsNoFurther (λ lines. true ≡ false → ⊤) (members_settle written format) one.text (left last) before grown.took (grown.has_failed ≡ true) grown.put
+  near_by one before took holds put known hands past read grown kept =
+      let text = holds.text in
+      let e = holds.known in
       let count = read.to.count in
       let handed = handed_to left failed end format First first old starts new last ended count text e read.to.near hands in
       let all = good format First (text_lines text) in
@@ -148,7 +157,7 @@ module _ {S A State : Type 0} (written : Written A) (kinds : Kind → Type 0) (S
       (first_from format First count count 1 format.begin (text_lines text) past b.0 all.fault (omega arith) (lines_are_numbered 1 text) b.1 refl read.low b.2)) in
       let settled = subst (λ l. TookButBlock out l grown) on_lines kept in
       let less : suc count - 1 ≡ count = omega arith in
-      record {
+      subst (λ (h : Handed). ReadsNoFurther (λ lines. true ≡ false → ⊤) (members_settle written format) h.text (left last) before grown.took (grown.has_failed ≡ true) grown.put) (sym holds.is) (record {
         n = suc count;
         some = omega arith;
         handed = handed.0;
@@ -156,8 +165,8 @@ module _ {S A State : Type 0} (written : Written A) (kinds : Kind → Type 0) (S
         read = handed.2;
         settled = rw less (settled.took before took put known);
         kept = rw less (elim settled.put [ inl failed ↦ inl failed | inr kept ↦ inr (kept before put) ]);
-        beside = tt;
-      }
+        beside = λ e. tt;
+      })
 
   module _ (fault : Told) (grown : Output) where
     abbrev Cause : List (Member A) → Type 0
@@ -192,27 +201,26 @@ module _ {S A State : Type 0} (written : Written A) (kinds : Kind → Type 0) (S
     named_by past hands (inr (inl growing)) = inr (inr growing.lacks.is)
     named_by past hands (inr (inr writing)) = inr (inl (writing.is, writing.cuts.sink_failed))
 
-    pub drives_fault : FeedsUpTo written.settled kinds Sorted left failed end old out fault new grown → WritesInput left failed kinds report (members_settle written format) first out (Some fault) last grown
+    pub drives_fault : FeedsUpTo written.settled kinds Sorted left failed end old out fault new grown → WritesAlone left failed (of_members kinds written format) first out (Some fault) last grown
     drives_fault fed = record {
-      whole = λ handed before reads put write memory. reported_by fed.past handed before (inl reads) put write memory fed.took.bytes fed.cause;
-      told = λ text before e put is.
-          reported_by fed.past (whole_text text) before (inr (record { text = text; known = e; is = refl; no_read = λ input line. is.no_read input line })) put is.no_write is.no_growth fed.took.bytes fed.cause;
-      cut = λ is text before e put.
-          let more = begins_output text fed.past e fed.begins in
+      whole = λ one two before reads others put write memory. reported_by fed.past one before (inl reads) put write memory fed.took.bytes fed.cause;
+      told = λ one two before holds others put is. reported_by fed.past one before (inr (is_whole left failed first last (Some fault) one holds is)) put is.no_write is.no_growth fed.took.bytes fed.cause;
+      cut = λ is one two before holds others put.
+          let more = begins_output one fed.past holds fed.begins in
           (written.settled (member_items fed.past), more.0, more.1, (cut_by fed.past fed.cause (some_is fault write_failed is)).front before put);
-      kept = λ other text before e put.
-          let more = begins_output text fed.past e fed.begins in
+      kept = λ other one two before holds others put.
+          let more = begins_output one fed.past holds fed.begins in
           let part = puts_by fed.past fed.cause (λ is. other (ap Some is)) in
           (part.front, part.rest ++ more.0, more.1 ∙ ap (λ l. l ++ more.0) part.parts ∙ append_assoc part.front part.rest more.0, part.puts before put);
       grows = fed.took.grows;
       served = λ e. cc;
-      near = λ text before taken e put known. near_by text before taken e put known fed.took.bytes fed.took.before fed.took.read grown fed.took.kept;
-      named = λ told e. subst (λ t. TellsInput left failed kinds First first last t ⊎ TellsDevice grown.sink_has_failed t) (some_is fault told e) (named_by fed.past fed.took.bytes fed.cause);
+      near = λ one two before taken holds others put known. near_by one before taken holds put known fed.took.bytes fed.took.before fed.took.read grown fed.took.kept;
+      named = λ told e. named_alone (subst (λ t. TellsInput left failed kinds First first last t ⊎ TellsDevice grown.sink_has_failed t) (some_is fault told e) (named_by fed.past fed.took.bytes fed.cause));
     }
 
   module _ (Stands : List A → Type 0) (grown : Output) (fed : FeedsAll written.settled kinds Sorted left failed end Stands old out new grown) (finished : Output) (goes : GoesOn grown finished) where
     abbrev Ends : Option Told → Type 0
-    Ends fault = WritesInput left failed kinds report (members_settle written format) first out fault last finished
+    Ends fault = WritesAlone left failed (of_members kinds written format) first out fault last finished
 
     -- the report where all records were taken
     report_all : (other : Option Told) (handed : Handed) → Came left failed first last other handed → report handed ≡ report_by written (member_items fed.past) None
@@ -220,12 +228,13 @@ module _ {S A State : Type 0} (written : Written A) (kinds : Kind → Type 0) (S
         report_of handed fed.past None
         (came_whole left failed end format First first old starts new last ended other handed came fed.took.bytes fed.served fed.within (λ good. (good.members ≡ fed.past) × (good.fault ≡ None)) fed.whole)
 
-    report_whole : (text : List ℕ) → left first ≡ Some text → report (whole_text text) ≡ report_by written (member_items fed.past) None
-    report_whole text e = report_of (whole_text text) fed.past None (of_text text e (λ good. (good.members ≡ fed.past) × (good.fault ≡ None)) fed.whole)
+    report_whole : (one : Handed) → Holds left first one → report one ≡ report_by written (member_items fed.past) None
+    report_whole one holds = rw holds.is (report_of (whole_text holds.text) fed.past None (of_text holds.text holds.known (λ good. (good.members ≡ fed.past) × (good.fault ≡ None)) fed.whole))
 
-    near_end : (text before taken : List ℕ) → left first ≡ Some text → out.put ≡ Some before → out.took ≡ Some taken → ReadsNoFurther (λ lines. ⊤) (members_settle written format) text (left last) before finished.took (finished.has_failed ≡ true) finished.put
-    near_end text before taken e put known =
-        near_by text before taken e put known fed.took.bytes fed.took.before fed.took.read finished
+    near_end : (one : Handed) (two : Option Handed) (before taken : List ℕ) → Holds left first one → HoldsIf left None two → out.put ≡ Some before → out.took ≡ Some taken
+        → ReadsNoFurther (λ lines. true ≡ false → ⊤) (members_settle written format) one.text (left last) before finished.took (finished.has_failed ≡ true) finished.put
+    near_end one two before taken holds others put known =
+        near_by one before taken holds put known fed.took.bytes fed.took.before fed.took.read finished
         (took_later out grown finished (written.settled (member_items fed.took.before)) fed.took.grows goes fed.took.kept)
 
     pub drives_all : (rest : List ℕ) → written.whole (member_items fed.past) ≡ written.settled (member_items fed.past) ++ rest → Appends grown.put finished.put rest → finished.sink_has_failed ≡ grown.sink_has_failed → Ends None
@@ -237,13 +246,13 @@ module _ {S A State : Type 0} (written : Written A) (kinds : Kind → Type 0) (S
         let all = report_all other handed came in
         (sym (ap (λ r. r.fault) all), put_all before put ∙ ap (λ r. Some (before ++ r.output)) (sym all)) in
         record {
-          whole = λ handed before reads put write memory. ends None handed before (inl reads) put;
-          told = λ text before e put is. ends None (whole_text text) before (inr (record { text = text; known = e; is = refl; no_read = λ input line. is.no_read input line })) put;
+          whole = λ one two before reads others put write memory. ends None one before (inl reads) put;
+          told = λ one two before holds others put is. ends None one before (inr (is_whole left failed first last None one holds is)) put;
           cut = λ e. cc;
-          kept = λ other text before e put.
-              (written.whole (member_items fed.past), [], ap (λ r. r.output) (report_whole text e) ∙ sym (append-nil (written.whole (member_items fed.past))), put_all before put);
+          kept = λ other one two before holds others put.
+              (written.whole (member_items fed.past), [], ap (λ r. r.output) (report_whole one holds) ∙ sym (append-nil (written.whole (member_items fed.past))), put_all before put);
           grows = grows_both out.took grown.took finished.took fed.took.grows goes.took;
-          served = λ e. (ap failed (sym ended) ∙ fed.served ∙ ap failed starts.source, works ∙ fed.works.sink_served);
+          served = λ e. ((ap failed (sym ended) ∙ fed.served ∙ ap failed starts.source, tt), works ∙ fed.works.sink_served);
           near = near_end;
           named = λ told e. cc;
         }
@@ -251,12 +260,12 @@ module _ {S A State : Type 0} (written : Written A) (kinds : Kind → Type 0) (S
     pub drives_cut : (fault : Told) → fault ≡ write_failed → (rest : List ℕ) → written.whole (member_items fed.past) ≡ written.settled (member_items fed.past) ++ rest
         → IsFrontOf finished.took grown.put rest → finished.sink_has_failed ≡ true → Ends (Some fault)
     drives_cut fault is rest whole front sink = record {
-      whole = λ handed before reads put write memory. absurd (write (ap Some is));
-      told = λ text before e put of_input. absurd (of_input.no_write (ap Some is));
-      cut = λ e text before known put. (
+      whole = λ one two before reads others put write memory. absurd (write (ap Some is));
+      told = λ one two before holds others put of_input. absurd (of_input.no_write (ap Some is));
+      cut = λ e one two before holds others put. (
         written.whole (member_items fed.past),
         [],
-        ap (λ r. r.output) (report_whole text known) ∙ sym (append-nil (written.whole (member_items fed.past))),
+        ap (λ r. r.output) (report_whole one holds) ∙ sym (append-nil (written.whole (member_items fed.past))),
         front_all finished.took grown.put before (written.settled (member_items fed.past)) rest (written.whole (member_items fed.past)) whole (fed.puts before put) front,
       );
       kept = λ other. absurd (other (ap Some is));

@@ -3,8 +3,9 @@ use Rattle.std.proofs.Common.{◌≡◌, ℕ, ◌+◌, ◌<◌, ◌≤◌, Bool,
 use Rattle.std.specs.Prelude.{◌⊎◌, IfSome}
 use Rattle.std.proofs.lemmas.List.{map-append}
 use Rattle.std.proofs.lemmas.List.Elements.{All-push}
-use Rattle.std.proofs.KnownBytes.{Appends-nil, Appends-trans}
 use Rattle.std.specs.Io.KnownBytes.{Appends}
+use Rattle.bt_lines.proofs.PuttingLemmas.{grows_nothing}
+use Rattle.bt_lines.proofs.OutputLemmas.{grows_both}
 use Rattle.bt_lines.specs.Fault.{Told, write_failed, no_memory}
 use Rattle.bt_lines.specs.Lines.{TextLine}
 use Rattle.bt_lines.specs.Output.{Output, HoldsBlock, IsFrontOf, Grows, block_size}
@@ -45,9 +46,6 @@ front_all (Some took) put before done lines whole e p f =
     let at : IsFrontOf (Some took) (Some (before ++ done)) lines = subst (λ x. IsFrontOf (Some took) x lines) p f in
     (at.0, at.1 ∙ append_assoc before done lines ∙ ap (λ l. before ++ l) (sym e) ∙ sym (append-nil (before ++ whole)))
 
-pub grows_both : (old mid new : Option (List ℕ)) → Grows old mid → Grows mid new → Grows old new
-grows_both old mid new h more = (h.0 ++ more.0, Appends-trans old mid new h.0 more.0 h.1 more.1)
-
 pub works_both : (old mid new : Output) → WorksAsBefore old mid → WorksAsBefore mid new → WorksAsBefore old new
 works_both old mid new w more = record {
   served = more.served ∙ w.served;
@@ -74,7 +72,7 @@ took_held (Some taken) (Some put) bytes h e =
     let parts : put ≡ taken ++ h.0 = h.1 in
     omega (arith, ap length same, ap length parts, length-append taken h.0, h.2)
 
-took_more_than : (first took more : Option (List ℕ)) (taken : List ℕ) (size : ℕ) → first ≡ Some taken → Grows first took → Grows took more
+pub took_more_than : (first took more : Option (List ℕ)) (taken : List ℕ) (size : ℕ) → first ≡ Some taken → Grows first took → Grows took more
     → IfSome took (λ now. size ≤ length now + block_size) → IfSome more (λ now. size ≤ length now + block_size)
 took_more_than None took more taken size e f g h = cc
 took_more_than (Some first) None more taken size e f g h = absurd f.1
@@ -83,12 +81,9 @@ took_more_than (Some first) (Some took) (Some more) taken size e f g h =
     let parts : more ≡ took ++ g.0 = g.1 in
     omega (arith, ap length parts, length-append took g.0, h)
 
-pub none_grows : (o : Option (List ℕ)) → Grows o o
-none_grows o = ([], Appends-nil o)
-
 -- an output goes on as it is, after a failed write, or as it works
 pub goes_same : (out : Output) → GoesOn out out
-goes_same out = record { took = none_grows out.took; put = inr (none_grows out.put); stays_failed = λ failed. failed }
+goes_same out = record { took = grows_nothing out.took; put = inr (grows_nothing out.put); stays_failed = λ failed. failed }
 
 pub goes_failed : (old new : Output) → Grows old.took new.took → new.has_failed ≡ true → GoesOn old new
 goes_failed old new grows failed = record { took = grows; put = inl failed; stays_failed = λ was. failed }
@@ -146,9 +141,9 @@ pub fed_none : {S A State : Type 0} (settled : List A → List ℕ) (left : S �
 fed_none settled left failed end old out fresh clear nothing block = record {
   passes = passes_start left failed end old fresh clear;
   none_ahead = fresh.none_ahead;
-  grows = none_grows out.took;
+  grows = grows_nothing out.took;
   puts = λ before e. e ∙ ap Some (sym (ap (λ l. before ++ l) nothing ∙ append-nil before));
-  works = record { served = refl; sink_served = refl; put = none_grows out.put; block = λ h. h };
+  works = record { served = refl; sink_served = refl; put = grows_nothing out.put; block = λ h. h };
   block = block;
 }
 

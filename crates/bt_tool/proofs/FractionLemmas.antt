@@ -3,7 +3,7 @@ use Rattle.std.proofs.Common.{◌≡◌, ℕ, ◌+◌, ◌-◌, ◌*◌, ◌<◌
 use Rattle.std.proofs.Math.ListN.{get_or-append, get_or-eq_default}
 use Rattle.std.proofs.Math.Seq.{get_or-append_right}
 use Rattle.std.proofs.lemmas.Grind.{get_or_default_zero}
-use Rattle.std.proofs.lemmas.Bool.{false≢true}
+use Rattle.std.proofs.lemmas.Bool.{false≢true, and_right, and_parts, and_left}
 use Rattle.std.proofs.lemmas.Bool.Decides.{nat_tests}
 use Rattle.std.proofs.lemmas.List.{get_or-replicate, length-append, length-replicate, take_all}
 use Rattle.std.proofs.lemmas.List.Folds.{list_all-append, list_all_at}
@@ -28,20 +28,9 @@ none_if b v e = rw e refl
 some_if : (b : Bool) (v n : ℕ) → b ≡ true → v ≡ n → Some n ≡ cond b (Some v) None
 some_if b v n e f = rw (e, f) refl
 
-and_second : (a b : Bool) → b ≡ false → (a && b) ≡ false
-and_second true b e = e
-and_second false b e = refl
-
-and_left : (a b : Bool) → (a && b) ≡ true → a ≡ true
-and_left true b e = refl
-and_left false b e = e
-
 and_true : (b : Bool) → (b && true) ≡ b
 and_true true = refl
 and_true false = refl
-
-and_first : (a b : Bool) → a ≡ false → (a && b) ≡ false
-and_first a b e = rw e refl
 
 -- what isn't a number of twelve digits isn't one of at most one
 ones_false : (a b : Bool) (v : ℕ) → a ≡ true → ((a && b) && leb v 999999999999) ≡ false → (b && leb v 1) ≡ false
@@ -71,7 +60,7 @@ module _ (text : List ℕ) where
   many_ones n e h =
       let is = (number_is n e).1 in
       let above : leb (digits_value 10 text) 1 ≡ false = rw is (grind (arith, nat_tests)) in
-      none_if _ (digits_value 10 text) (and_second (list_all is_ascii_digit text) _ above)
+      none_if _ (digits_value 10 text) (and_right (list_all is_ascii_digit text) _ above)
 
   pub few_ones : (n : ℕ) → number_of text ≡ Some n → n ≤ 1 → Some n ≡ cond (list_all is_ascii_digit text && leb (digits_value 10 text) 1) (Some (digits_value 10 text)) None
   few_ones n e h =
@@ -146,25 +135,25 @@ module _ (whole decimals : List ℕ) where
   pub no_digit : length whole ≡ 0 → length decimals ≡ 0 → None ≡ fraction_in whole decimals
   no_digit e f =
       let none : (some_digit whole decimals) ≡ false = rw (e, f) refl in
-      no_fraction (and_first (some_digit whole decimals) _ none)
+      no_fraction (and_left (some_digit whole decimals) _ none)
 
   pub many_decimals : 9 < length decimals → None ≡ fraction_in whole decimals
   many_decimals h =
       let many : (few_decimals whole decimals) ≡ false = grind (arith, nat_tests) in
-      no_fraction (and_second (some_digit whole decimals) _ (and_second (whole_digits whole decimals) _ (and_second (decimal_digits whole decimals) _ (and_first (few_decimals whole decimals) (within_one whole decimals) many))))
+      no_fraction (and_right (some_digit whole decimals) _ (and_right (whole_digits whole decimals) _ (and_right (decimal_digits whole decimals) _ (and_left (few_decimals whole decimals) (within_one whole decimals) many))))
 
   other_ones : (b : Bool) → list_all is_ascii_digit whole ≡ b → (b && leb (digits_value 10 whole) 1) ≡ false → None ≡ fraction_in whole decimals
-  other_ones false e f = no_fraction (and_second (some_digit whole decimals) _ (and_first (whole_digits whole decimals) _ e))
+  other_ones false e f = no_fraction (and_right (some_digit whole decimals) _ (and_left (whole_digits whole decimals) _ e))
   other_ones true e f =
       let more : 1 < digits_value 10 whole = grind (arith, nat_tests) in
       let above : (within_one whole decimals) ≡ false = grind (arith, nat_tests) in
-      no_fraction (and_second (some_digit whole decimals) _ (and_second (whole_digits whole decimals) _ (and_second (decimal_digits whole decimals) _ (and_second (few_decimals whole decimals) (within_one whole decimals) above))))
+      no_fraction (and_right (some_digit whole decimals) _ (and_right (whole_digits whole decimals) _ (and_right (decimal_digits whole decimals) _ (and_right (few_decimals whole decimals) (within_one whole decimals) above))))
 
   pub no_whole : None ≡ cond (list_all is_ascii_digit whole && leb (digits_value 10 whole) 1) (Some (digits_value 10 whole)) None → None ≡ fraction_in whole decimals
   no_whole e = other_ones (whole_digits whole decimals) refl (if_none _ (digits_value 10 whole) (sym e))
 
   pub no_decimals : None ≡ cond (list_all is_ascii_digit decimals) (Some (digits_value 10 (nine_decimals decimals))) None → None ≡ fraction_in whole decimals
-  no_decimals e = no_fraction (and_second (some_digit whole decimals) _ (and_second (whole_digits whole decimals) _ (and_first (decimal_digits whole decimals) _ (if_none _ (digits_value 10 (nine_decimals decimals)) (sym e)))))
+  no_decimals e = no_fraction (and_right (some_digit whole decimals) _ (and_right (whole_digits whole decimals) _ (and_left (decimal_digits whole decimals) _ (if_none _ (digits_value 10 (nine_decimals decimals)) (sym e)))))
 
   -- the parts of a fraction that isn't above one, or is
   module _ (ones billionths : ℕ)
@@ -180,14 +169,14 @@ module _ (whole decimals : List ℕ) where
     above_one h =
         let is = billionths_are in
         let above : (within_one whole decimals) ≡ false = grind (arith, nat_tests) in
-        no_fraction (and_second (some_digit whole decimals) _ (and_second (whole_digits whole decimals) _ (and_second (decimal_digits whole decimals) _ (and_second (few_decimals whole decimals) (within_one whole decimals) above))))
+        no_fraction (and_right (some_digit whole decimals) _ (and_right (whole_digits whole decimals) _ (and_right (decimal_digits whole decimals) _ (and_right (few_decimals whole decimals) (within_one whole decimals) above))))
 
     pub is_fraction : 0 < length whole + length decimals → length decimals ≤ 9 → ones * 1000000000 + billionths ≤ 1000000000 → Some (ones * 1000000000 + billionths) ≡ fraction_in whole decimals
     unfolding fraction_in
     is_fraction some few h =
         let is = billionths_are in
         let here : (some_digit whole decimals) ≡ true = grind (arith, nat_tests) in
-        let digits : (whole_digits whole decimals) ≡ true = and_left (whole_digits whole decimals) _ (if_some _ (digits_value 10 whole) ones (sym is_whole)).0 in
+        let digits : (whole_digits whole decimals) ≡ true = (and_parts (whole_digits whole decimals) _ (if_some _ (digits_value 10 whole) ones (sym is_whole)).0).0 in
         let behind : (decimal_digits whole decimals) ≡ true = (if_some _ (digits_value 10 (nine_decimals decimals)) billionths (sym are_decimals)).0 in
         let nine : (few_decimals whole decimals) ≡ true = grind (arith, nat_tests) in
         let within : (within_one whole decimals) ≡ true = grind (arith, nat_tests) in

@@ -4,7 +4,7 @@ use Rattle.std.specs.Prelude.{All, String, bytes_eq, option_and_then, unwrap_or}
 use Rattle.std.specs.Char.{is_ascii_digit}
 use Rattle.std.specs.List.{list_all}
 use Rattle.std.specs.Str.Parse.{digits_value}
-use Rattle.std.proofs.lemmas.Bool.{false≢true, le-leb}
+use Rattle.std.proofs.lemmas.Bool.{le-leb, and_parts}
 use Rattle.std.specs.Option.{option_or}
 use Rattle.std.specs.declared.alloc.Global.{Global}
 use Rattle.std.proofs.lemmas.List.Elements.{All-head, All-tail}
@@ -107,10 +107,6 @@ valued given option file e =
     valued-last table option (last_item option items) file
     (λ item f. last-is table option items item (allowed table (drop 1 (words_seen given.words.now))) f) e
 
-last-of_both : (a b : Bool) → (a && b) ≡ true → b ≡ true
-last-of_both true b e = e
-last-of_both false b e = absurd (false≢true e)
-
 some-of : (b : Bool) (v n : ℕ) → (b ≡ true → v ≤ max_number) → cond b (Some v) None ≡ Some n → n ≤ max_number
 some-of true v n h e = let same : v ≡ n = cc in subst (λ k. k ≤ max_number) same (h refl)
 some-of false v n h e = cc
@@ -120,7 +116,7 @@ pub number-limit : (text : List ℕ) (n : ℕ) → number_of text ≡ Some n →
 unfolding number_of
 number-limit text n e =
     some-of (is_number text) (digits_value 10 text) n
-    (λ yes. leb-true (digits_value 10 text) max_number (last-of_both (ltb 0 (length text) && list_all is_ascii_digit text) (leb (digits_value 10 text) max_number) yes)) e
+    (λ yes. leb-true (digits_value 10 text) max_number ((and_parts (ltb 0 (length text) && list_all is_ascii_digit text) (leb (digits_value 10 text) max_number) yes).1)) e
 
 either : (o : Option ℕ) → ((n : ℕ) → o ≡ Some n → n ≤ max_number) → unwrap_or o 0 ≤ max_number
 either None h = omega arith

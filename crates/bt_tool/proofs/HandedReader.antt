@@ -8,7 +8,7 @@ use Rattle.bt_lines.specs.Handed.{Handed, whole_text}
 use Rattle.bt_lines.specs.Lines.{line_feeds}
 use Rattle.bt_lines.specs.Reader.{CutsOff, Hands, source_of, bytes_taken, feeds_taken, lines_given}
 use Rattle.bt_lines.specs.declared.line_reader.LineReader.{LineReader}
-use Rattle.bt_tool.specs.Driving.{PassesBound}
+use Rattle.bt_tool.specs.Telling.{PassesBound}
 use Rattle.bt_tool.specs.Inputs.{Reads}
 use Rattle.bt_tool.proofs.HandedLemmas.{handed_cut, handed_past, handed_whole}
 

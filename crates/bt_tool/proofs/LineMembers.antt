@@ -2,6 +2,8 @@
 use Rattle.std.proofs.Common.{◌≡◌, ℕ, Bool, true, false, cond, List, Option, None, Some, Result, Ok, Err, refl, sym, ap, ◌∙◌, subst, inl, inr}
 use Rattle.std.specs.Prelude.{is_none, is_some, option_map}
 use Rattle.std.proofs.lemmas.Bool.{false≢true}
+use Rattle.std.proofs.lemmas.Option.{same_Some}
+use Rattle.bt_tool.proofs.PassedLemmas.{or_none}
 use Rattle.bt_lines.specs.Fault.{Told}
 use Rattle.bt_lines.specs.Lines.{TextLine}
 use Rattle.bt_lines.specs.Names.{told}
@@ -15,7 +17,7 @@ use Rattle.bt_bed.specs.Blocks.{GivesRecord, PeeksBlocks, below, fault_kept, lin
 use Rattle.bt_bed.specs.declared.bed.BedRef.{BedRef}
 use Rattle.bt_bed.specs.Cursor.{view_with}
 use Rattle.bt_bed.specs.Feature.{Feature}
-use Rattle.bt_bed.specs.Good.{Member, or_else}
+use Rattle.bt_bed.specs.Good.{Member}
 use Rattle.bt_bed.specs.LineKind.{fault_at_line, is_of_line}
 use Rattle.bt_bed.specs.Locus.{Locus}
 use Rattle.bt_bed.specs.Reading.{Advances, AnswersFault, EndsMembers, MemberReader}
@@ -93,10 +95,6 @@ module _ {S : Type 0} (left : S → Option (List ℕ)) (failed end : S → Bool)
     sound = sound;
   }
 
-or_none : (a b : Option Told) → or_else a b ≡ None → b ≡ None
-or_none None b e = e
-or_none (Some a) b e = cc
-
 -- a reader of records without a fault has a reader of lines without one
 pub blocks_going : {S : Type 0} (records : Blocks S) → fault_kept records ≡ None → line_fault (below records) ≡ None
 unfolding view_of view_with
@@ -112,29 +110,26 @@ module _ {S : Type 0} (left : S → Option (List ℕ)) (failed end : S → Bool)
   pub blocks_stopped : (fault : Told) → AnswersFault left failed end (view_of old) fault (view_of new) → IsStopped left failed end (view_of old) fault (view_of new)
   blocks_stopped fault answers = record { answers = answers; sound = sound }
 
-some_same : {A : Type 0} (a b : A) → Some a ≡ Some b → a ≡ b
-some_same a b e = cc
-
 module _ {S : Type 0} (left : S → Option (List ℕ)) (failed end : S → Bool) where
   -- the reader of records was asked, and has none
-  pub none_peeked : (Fails : S → S → Type 0) (old new : Blocks S) (o : Option BedRef) → PeeksBlocks left failed end Fails old (Ok o) new → is_none o ≡ true → IsOver left failed end (view_of old) (view_of new)
-  none_peeked Fails old new None peek e = blocks_over left failed end old new peek.sound peek.answers
-  none_peeked Fails old new (Some bed) peek e = absurd (false≢true e)
+  pub none_peeked : (IsRead : S → Option ℕ → S → Type 0) (old new : Blocks S) (o : Option BedRef) → PeeksBlocks left failed end IsRead old (Ok o) new → is_none o ≡ true → IsOver left failed end (view_of old) (view_of new)
+  none_peeked IsRead old new None peek e = blocks_over left failed end old new peek.sound peek.answers
+  none_peeked IsRead old new (Some bed) peek e = absurd (false≢true e)
 
   -- or has one, on this line
-  pub line_peeked : (Fails : S → S → Type 0) (old new : Blocks S) (o : Option BedRef) → PeeksBlocks left failed end Fails old (Ok o) new → is_none o ≡ false → (line : ℕ) → line_at_next new ≡ Some line
+  pub line_peeked : (IsRead : S → Option ℕ → S → Type 0) (old new : Blocks S) (o : Option BedRef) → PeeksBlocks left failed end IsRead old (Ok o) new → is_none o ≡ false → (line : ℕ) → line_at_next new ≡ Some line
       → (item : Feature) × IsAhead left failed end (view_of old) (record { line = line; item = item }) (view_of new)
-  line_peeked Fails old new None peek e line at = absurd (false≢true (sym e))
-  line_peeked Fails old new (Some bed) peek e line at =
+  line_peeked IsRead old new None peek e line at = absurd (false≢true (sym e))
+  line_peeked IsRead old new (Some bed) peek e line at =
       let gives = peek.answers in
       let is : Some gives.line ≡ Some line = sym (ap (option_map (λ (m : Member Feature). m.line)) gives.read.ahead) ∙ at in
       let same : gives.line ≡ line = cc in
       (feature_lent bed, subst (λ (n : ℕ). IsAhead left failed end (view_of old) (record { line = n; item = feature_lent bed }) (view_of new)) same (block_ahead left failed end old new peek.sound (feature_lent bed) gives))
 
   -- without a fault it goes on
-  pub peeked_goes : (Fails : S → S → Type 0) (old new : Blocks S) (o : Option BedRef) → PeeksBlocks left failed end Fails old (Ok o) new → fault_kept old ≡ None → fault_kept new ≡ None
-  peeked_goes Fails old new None peek none = peek.answers.goes
-  peeked_goes Fails old new (Some bed) peek none = peek.answers.read.goes ∙ none
+  pub peeked_goes : (IsRead : S → Option ℕ → S → Type 0) (old new : Blocks S) (o : Option BedRef) → PeeksBlocks left failed end IsRead old (Ok o) new → fault_kept old ≡ None → fault_kept new ≡ None
+  peeked_goes IsRead old new None peek none = peek.answers.goes
+  peeked_goes IsRead old new (Some bed) peek none = peek.answers.read.goes ∙ none
 
   -- asked again, it gives the same record
   pub peeked_again : (old : MemberReader S Feature (Option Locus)) (mid new : Blocks S) (line : ℕ) (item r : Feature) → IsAhead left failed end old (record { line = line; item = item }) (view_of mid)
@@ -143,7 +138,7 @@ module _ {S : Type 0} (left : S → Option (List ℕ)) (failed end : S → Bool)
       let same : view_of new ≡ view_of mid = gives.read.again (ap is_some ahead.read.ahead) in
       let both : Some (record { line = gives.line; item = r }) ≡ Some (record { line = line; item = item }) =
       sym gives.read.ahead ∙ ap (λ (reader : MemberReader S Feature (Option Locus)). reader.ahead) same ∙ ahead.read.ahead in
-      let one : record { line = gives.line; item = r } ≡ record { line = line; item = item } = some_same _ _ both in
+      let one : record { line = gives.line; item = r } ≡ record { line = line; item = item } = same_Some _ _ both in
       let is : item ≡ r = ap (λ (m : Member Feature). m.item) (sym one) in
       subst (λ (reader : MemberReader S Feature (Option Locus)). IsAhead left failed end old (record { line = line; item = r }) reader) (sym same)
       (subst (λ (i : Feature). IsAhead left failed end old (record { line = line; item = i }) (view_of mid)) is ahead)

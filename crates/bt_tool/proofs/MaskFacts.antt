@@ -12,7 +12,7 @@ use Rattle.bt_seq.specs.Masked.{decided}
 use Rattle.bt_seq.specs.Sequences.{SequenceLine}
 use Rattle.bt_seq.specs.declared.mask_how.MaskHow.{MaskHow}
 use Rattle.bt_seq.proofs.MaskFrontLemmas.{decided_stays}
-use Rattle.bt_tool.specs.Both.{bytes_up_to}
+use Rattle.bt_tool.specs.SweepReport.{bytes_up_to}
 use Rattle.bt_tool.specs.Feeding.{member_items}
 use Rattle.bt_tool.specs.MaskReport.{last_needed}
 use Rattle.bt_tool.specs.MaskLoop.{leaves_some, mask_making}

@@ -1,6 +1,7 @@
 -- Lemmas on the beginning of masking over two readers.
 use Rattle.std.proofs.Common.{◌≡◌, ℕ, Bool, false, List, [], Option, None, Some, refl, sym, ap, ◌∙◌, subst}
 use Rattle.std.specs.Prelude.{option_map}
+use Rattle.bt_tool.proofs.DrivingLemmas.{none_of}
 use Rattle.bt_lines.specs.Lines.{text_lines}
 use Rattle.bt_lines.specs.Output.{Output, HoldsBlock}
 use Rattle.bt_lines.specs.Reader.{IsSound, bytes_taken, fault_kept as line_fault, feeds_taken, input_of, lines_given, lines_left, source_of}
@@ -49,10 +50,6 @@ module _ {S : Type 0} (left : S → Option (List ℕ)) (end : S → Bool) (full 
     good = good_at_first left (λ s. false) end (line_members full nothing_reached reader) refl going refl
         ∙ ap (λ i. option_map (good (sequence_format full) i) (lines_left left reader)) same ∙ ap (option_map (good (sequence_format full) input)) lines;
   }
-
-none_of : {A B : Type 0} (f : A → B) (o : Option A) → option_map f o ≡ None → o ≡ None
-none_of f None e = refl
-none_of f (Some x) e = cc
 
 pub blocks_format : {S : Type 0} (records : Blocks S) → (view_of records).format ≡ block_format
 unfolding view_of view_with
@@ -115,7 +112,6 @@ module _ {A B : Type 0} (a_left : A → Option (List ℕ)) (a_failed a_end : A �
   as_asked lines second out fault new second_now grown own own_full how full same same_full ends = (
     ends.0,
     ends.1,
-    subst (λ (h : MaskHow). MaskEnds a_left a_failed a_end b_left b_failed b_end h full (line_members full nothing_reached lines) second out fault ends.0 second_now grown) same
-        (subst (λ (f : Bool). MaskEnds a_left a_failed a_end b_left b_failed b_end own f (line_members f nothing_reached lines) second out fault ends.0 second_now grown) same_full ends.2),
+    rw (← same) (subst (λ (f : Bool). MaskEnds a_left a_failed a_end b_left b_failed b_end own f (line_members f nothing_reached lines) second out fault ends.0 second_now grown) same_full ends.2),
     ends.3,
   )

@@ -2,6 +2,7 @@
 use Rattle.std.proofs.Common.{◌≡◌, ℕ, ◌+◌, ◌*◌, ◌≤◌, ◌<◌, Bool, true, false, List, [], ◌∷◌, ◌++◌, Option, None, Some, refl, sym, ap, ◌∙◌, subst, arith, inl, inr}
 use Rattle.std.specs.Prelude.{◌⊎◌, Err, is_some, option_map}
 use Rattle.std.proofs.lemmas.Bool.{false≢true}
+use Rattle.bt_lines.proofs.ReadsLemmas.{some_is}
 use Rattle.bt_lines.specs.Fault.{Told, read_failed}
 use Rattle.bt_lines.specs.Output.{Output}
 use Rattle.bt_lines.specs.Putting.{FailsToAdd, Grown}
@@ -28,7 +29,7 @@ use Rattle.bt_tool.specs.MaskTurns.{EndsBed, EndsLines, FailsAtEnd, FailsBed, Fa
 use Rattle.bt_tool.specs.MaskLoop.{MaskEnds, Masks, line_members, mask_making}
 use Rattle.bt_tool.specs.PairComes.{IsOpenAt}
 use Rattle.bt_tool.specs.Passed.{IsKeptBelow, IsOver}
-use Rattle.bt_tool.proofs.FaultLemmas.{line_no_read, some_is}
+use Rattle.bt_tool.proofs.FaultLemmas.{line_no_read}
 use Rattle.bt_tool.proofs.LineMembers.{gives_advance, gives_ahead, gives_over, gives_unread, gives_wrong, line_ahead, member_given, stopped_lines, wrong_is_text}
 use Rattle.bt_tool.proofs.MaskedLemmas.{come_so_far, ends_alone, ends_lines, ends_waiting, fails_at_end, fails_first, fails_to_hold, fails_waiting, finishes, gave_by, goes_peeked, is_next, lacks_first, lacks_sequence, leaves_by, lines_over, none_waits, stops_first, stops_second, takes_by}
 
@@ -114,8 +115,7 @@ module _ {A B : Type 0} (a_left : A → Option (List ℕ)) (a_failed a_end : A �
     over_for None e masked later waits alone =
         let ends = alone s.stage s.stands e in
         let done = lines_over a_left a_failed a_end b_left b_failed b_end how full old_lines old_second out is_blocks (line_members full r lines) second mask grown s wants e in (
-          subst (λ o. Going (line_members full r lines) new masked o) (sym ends.1)
-              (ends_alone a_left a_failed a_end b_left b_failed b_end how full old_lines old_second out is_blocks (line_members full r lines) second mask grown s wants new masked e over ends.0),
+          rw ends.1 (ends_alone a_left a_failed a_end b_left b_failed b_end how full old_lines old_second out is_blocks (line_members full r lines) second mask grown s wants new masked e over ends.0),
           omega (
             arith,
             over.ends.shrinks,
@@ -174,8 +174,7 @@ module _ {A B : Type 0} (a_left : A → Option (List ℕ)) (a_failed a_end : A �
           let shrinks = over.ends.shrinks in (
             (
               r,
-              subst (λ o. Going (line_members full r new) second masked o) (sym turn.same_output)
-                  (ends_lines a_left a_failed a_end b_left b_failed b_end how full old_lines old_second out is_blocks first second mask grown s wants (line_members full r new) masked over stands),
+              rw turn.same_output (ends_lines a_left a_failed a_end b_left b_failed b_end how full old_lines old_second out is_blocks first second mask grown s wants (line_members full r new) masked over stands),
             ),
             omega (arith, shrinks, asks_line (is_some mask.waiting) mask.want wants, few),
           )
@@ -189,8 +188,7 @@ module _ {A B : Type 0} (a_left : A → Option (List ℕ)) (a_failed a_end : A �
       lacks_line fault new later turn = (
         line_members full r new,
         refl,
-        subst (λ o. Ends (Some fault) (line_members full r new) second o) (sym turn.same_output)
-            (stops_first a_left a_failed a_end b_left b_failed b_end how full old_lines old_second out is_blocks first second mask grown s wants fault (line_members full r new)
+        rw turn.same_output (stops_first a_left a_failed a_end b_left b_failed b_end how full old_lines old_second out is_blocks first second mask grown s wants fault (line_members full r new)
             (gives_unread a_left a_failed a_end full r lines new turn.sound fault turn.gives)),
         λ input line e. e,
       )
@@ -211,8 +209,7 @@ module _ {A B : Type 0} (a_left : A → Option (List ℕ)) (a_failed a_end : A �
                 (refuses.is ∙ sym (at_input turn.line.number refuses.kind)) in (
                   stopped_lines a_left a_failed a_end full r lines new turn.has.sound fault,
                   refl,
-                  subst (λ o. Ends (Some fault) (stopped_lines a_left a_failed a_end full r lines new turn.has.sound fault) second o) (sym refuses.same_output)
-                      (stops_first a_left a_failed a_end b_left b_failed b_end how full old_lines old_second out is_blocks first second mask grown s wants fault
+                  rw refuses.same_output (stops_first a_left a_failed a_end b_left b_failed b_end how full old_lines old_second out is_blocks first second mask grown s wants fault
                       (stopped_lines a_left a_failed a_end full r lines new turn.has.sound fault) wrong),
                   λ input at e. absurd (never_read turn.line refuses.kind fault refuses.says refuses.is input at e),
                 )
@@ -226,8 +223,7 @@ module _ {A B : Type 0} (a_left : A → Option (List ℕ)) (a_failed a_end : A �
                   | inr ran ↦ (
                     peeked,
                     refl,
-                    subst (λ o. Ends (Some fault) peeked second o) (sym ran.1)
-                        (lacks_first a_left a_failed a_end b_left b_failed b_end how full old_lines old_second out is_blocks first second mask grown s wants m peeked ahead fault ran.0),
+                    rw ran.1 (lacks_first a_left a_failed a_end b_left b_failed b_end how full old_lines old_second out is_blocks first second mask grown s wants m peeked ahead fault ran.0),
                     λ input at e. e,
                   )
                 ]
@@ -255,16 +251,14 @@ module _ {A B : Type 0} (a_left : A → Option (List ℕ)) (a_failed a_end : A �
           → Going first new masked later × (left_to_ask lines new masked < left_to_ask lines second mask)
       takes_for (Some a) e new masked later turn =
           let takes = turn.waits how full stage a s.stands e (is_next a_left a_failed a_end b_left b_failed b_end how full old_lines old_second out is_blocks first second mask grown s wants turn.m turn.peeked turn.ahead) in (
-            subst (λ o. Going first new masked o) (sym takes.same_output)
-                (takes_by a_left a_failed a_end b_left b_failed b_end how full old_lines old_second out is_blocks first second mask grown s wants turn.m turn.peeked turn.ahead new turn.passes masked takes.stands
+            rw takes.same_output (takes_by a_left a_failed a_end b_left b_failed b_end how full old_lines old_second out is_blocks first second mask grown s wants turn.m turn.peeked turn.ahead new turn.passes masked takes.stands
                 (λ going. subst (λ (w : Option SequenceLine). IsOpenAt (mask_making how) w (stage.taken ++ turn.m.item ∷ [])) (sym e) takes.undecided)),
             omega (arith, turn.passes.shrinks, turn.ahead.read.shrinks, asks_waiting (is_some mask.waiting) mask.want (waits_by (Some a) e) wants, asks_most (is_some masked.waiting) masked.want),
           )
       takes_for None e new masked later turn =
           let takes = turn.none_waits how full stage s.stands e (is_next a_left a_failed a_end b_left b_failed b_end how full old_lines old_second out is_blocks first second mask grown s wants turn.m turn.peeked turn.ahead) in
           let over = lines_over a_left a_failed a_end b_left b_failed b_end how full old_lines old_second out is_blocks first second mask grown s wants e in (
-            subst (λ o. Going first new masked o) (sym takes.same_output)
-                (takes_by a_left a_failed a_end b_left b_failed b_end how full old_lines old_second out is_blocks first second mask grown s wants turn.m turn.peeked turn.ahead new turn.passes masked takes.stands
+            rw takes.same_output (takes_by a_left a_failed a_end b_left b_failed b_end how full old_lines old_second out is_blocks first second mask grown s wants turn.m turn.peeked turn.ahead new turn.passes masked takes.stands
                 (λ going. absurd (false≢true (sym going ∙ over)))),
             omega (
               arith,
@@ -308,13 +302,11 @@ module _ {A B : Type 0} (a_left : A → Option (List ℕ)) (a_failed a_end : A �
       fails_for (Some a) e fault new later turn =
           elim (turn.waits how full stage a s.stands e (is_next a_left a_failed a_end b_left b_failed b_end how full old_lines old_second out is_blocks first second mask grown s wants turn.m new turn.ahead)) [
             | inl writes ↦ fails_waiting a_left a_failed a_end b_left b_failed b_end how full old_lines old_second out is_blocks first second mask grown s wants turn.m new turn.ahead a e fault later writes
-            | inr holds ↦ subst (λ o. Ends (Some fault) first new o) (sym holds.same_output)
-                (fails_to_hold a_left a_failed a_end b_left b_failed b_end how full old_lines old_second out is_blocks first second mask grown s wants turn.m new turn.ahead a e fault holds.is)
+            | inr holds ↦ rw holds.same_output (fails_to_hold a_left a_failed a_end b_left b_failed b_end how full old_lines old_second out is_blocks first second mask grown s wants turn.m new turn.ahead a e fault holds.is)
           ]
       fails_for None e fault new later turn =
           let lacks = turn.none_waits how full stage s.stands e (is_next a_left a_failed a_end b_left b_failed b_end how full old_lines old_second out is_blocks first second mask grown s wants turn.m new turn.ahead) in
-          subst (λ o. Ends (Some fault) first new o) (sym lacks.same_output)
-          (lacks_sequence a_left a_failed a_end b_left b_failed b_end how full old_lines old_second out is_blocks first second mask grown s wants turn.m new turn.ahead e fault later lacks)
+          rw lacks.same_output (lacks_sequence a_left a_failed a_end b_left b_failed b_end how full old_lines old_second out is_blocks first second mask grown s wants turn.m new turn.ahead e fault later lacks)
 
       pub bed_stops : (fault : Told) (new : MemberReader B Feature (Option Locus)) (later : Output)
           → LacksBed b_left b_failed b_end second mask grown fault new later ⊎ (FailsBed b_left b_failed b_end second mask grown fault new later ⊎ FailsAtEnd b_left b_failed b_end second mask grown fault new later)
@@ -323,8 +315,7 @@ module _ {A B : Type 0} (a_left : A → Option (List ℕ)) (a_failed a_end : A �
           let going = asked_goes turn.asked turn.has_asked in (
             first,
             refl,
-            subst (λ o. Ends (Some fault) first new o) (sym turn.same_output)
-                (stops_second a_left a_failed a_end b_left b_failed b_end how full old_lines old_second out is_blocks first turn.asked mask grown going wants fault new turn.stopped),
+            rw turn.same_output (stops_second a_left a_failed a_end b_left b_failed b_end how full old_lines old_second out is_blocks first turn.asked mask grown going wants fault new turn.stopped),
             λ input line e. e,
           )
       bed_stops fault new later (inr (inl turn)) = (first, refl, fails_for stage.waiting refl fault new later turn, λ input line e. e)

@@ -1,7 +1,8 @@
 -- Lemmas on the turns of a masking engine over two readers: what it takes, writes and fails at.
-use Rattle.std.proofs.Common.{◌≡◌, ℕ, Bool, true, false, cond, not, ◌&&◌, ◌||◌, List, [], ◌∷◌, ◌++◌, Option, None, Some, Err, refl, sym, ap, ◌∙◌, subst, append-nil, append_assoc, option_to_list, inl, inr}
+use Rattle.std.proofs.Common.{◌≡◌, ℕ, Bool, true, false, cond, not, ◌||◌, List, [], ◌∷◌, ◌++◌, Option, None, Some, Err, refl, sym, ap, ◌∙◌, subst, append-nil, append_assoc, option_to_list, inl, inr}
 use Rattle.std.specs.Prelude.{◌⊎◌, IfSome, IsSome, IsTrue, is_some, option_map}
-use Rattle.std.proofs.lemmas.Bool.{false≢true, or_left, or_right}
+use Rattle.std.proofs.lemmas.Bool.{false≢true, or_left, or_right, and_parts}
+use Rattle.bt_seq.proofs.LineStepLemmas.{neither}
 use Rattle.bt_lines.specs.Fault.{Told, no_memory}
 use Rattle.bt_lines.specs.Lines.{TextLine}
 use Rattle.bt_lines.specs.Output.{Output}
@@ -17,7 +18,7 @@ use Rattle.bt_bed.specs.LineKind.{fault_at_line}
 use Rattle.bt_bed.specs.Locus.{Locus}
 use Rattle.bt_bed.specs.Reading.{Advances, GivesMember, MemberReader, good_coming}
 use Rattle.bt_seq.specs.MaskFronts.{LineBefore}
-use Rattle.bt_seq.proofs.MaskFrontLemmas.{decided_stays, masked_stay}
+use Rattle.bt_seq.proofs.MaskFrontLemmas.{decided_stays, masked_stay, blocks_front}
 use Rattle.bt_seq.proofs.MaskMetLemmas.{first_is_told, lack_none}
 use Rattle.bt_seq.specs.MaskStage.{IsNext, MaskStage, given, is_written_ahead, is_written_at_once, line_given_last, reached, reached_by, want_of, with_bed_ended, with_decided, with_lines_ended, with_record}
 use Rattle.bt_seq.specs.MaskStanding.{IsOpen, MaskStandsAt}
@@ -66,12 +67,6 @@ none_by : (o : Option SequenceLine) → is_some o ≡ false → o ≡ None
 none_by None e = refl
 none_by (Some x) e = absurd (false≢true (sym e))
 
--- records that come first are in blocks too
-in_front : (xs ys : List Feature) → AreInBlocks (xs ++ ys) → AreInBlocks xs
-in_front [] ys h = tt
-in_front (x ∷ []) ys h = tt
-in_front (x ∷ y ∷ xs) ys h = (h.0, in_front (y ∷ xs) ys h.1)
-
 -- a line before the first header is decided, whatever comes
 pub unnamed_decided : (line : SequenceLine) (records : List Feature) → is_unnamed line.names ≡ true → decided line records ≡ true
 unnamed_decided line records e = or_left (is_unnamed line.names) _ e
@@ -89,15 +84,6 @@ reached_said full line (next ∷ lines) state = reached_said full next lines ((s
 pub reached_behind : (full : Bool) (lines : List SequenceLine) → state_behind (sequence_format full) (record { names = []; bases = 0 }) lines ≡ reached_by (line_given_last lines)
 reached_behind full [] = refl
 reached_behind full (line ∷ lines) = reached_said full line lines (record { names = []; bases = 0 })
-
-neither : (a b c : Bool) → (a || (b || c)) ≡ false → (a ≡ false) × (b ≡ false)
-neither true b c e = absurd (false≢true (sym e))
-neither false true c e = absurd (false≢true (sym e))
-neither false false c e = (refl, refl)
-
-and_second : (a b : Bool) → (a && b) ≡ true → b ≡ true
-and_second true b e = e
-and_second false b e = absurd (false≢true e)
 
 some_ahead : (o : Option (Member Feature)) (r : Feature) → option_map (λ m. m.item) o ≡ Some r → IsSome o
 some_ahead None r e = cc
@@ -194,8 +180,7 @@ module _ {A B : Type 0} (a_left : A → Option (List ℕ)) (a_failed a_end : A �
 
       owned_alone : AreOwned stage.written (member_items s.past_second)
       owned_alone =
-          subst (λ (l : List Feature). AreOwned stage.written l) s.comes.all_taken
-          (subst (λ (names : List (List ℕ)). is_some (left_after names stage.taken) ≡ true) (sym names_alone) s.stands.owned)
+          rw (← s.comes.all_taken) (subst (λ (names : List (List ℕ)). is_some (left_after names stage.taken) ≡ true) (sym names_alone) s.stands.owned)
 
       none_lacks : making.last stage.written s.past_second ≡ None
       none_lacks = lack_none (names_of stage.written) s.past_second owned_alone
@@ -213,7 +198,7 @@ module _ {A B : Type 0} (a_left : A → Option (List ℕ)) (a_failed a_end : A �
       settles_ahead None is decides goes known = absurd (false≢true decides)
       settles_ahead (Some r) is decides goes known =
           let decided_by : decided m.item (stage.taken ++ r ∷ []) ≡ true =
-          and_second (not (is_header m.item.text)) (decided m.item (stage.taken ++ r ∷ [])) decides in
+          (and_parts (not (is_header m.item.text)) (decided m.item (stage.taken ++ r ∷ [])) decides).1 in
           settles_with making stage.written s.comes.bytes seen stage.bed_ended m.item (masked_line how stage.taken m.item) (s.comes.settles known)
           (λ rest ordered.
           let here : seen ++ rest ≡ (stage.taken ++ r ∷ []) ++ rest = ap (λ (o : Option Feature). (stage.taken ++ option_to_list o) ++ rest) (s.kept_ahead r goes is) in
@@ -228,7 +213,7 @@ module _ {A B : Type 0} (a_left : A → Option (List ℕ)) (a_failed a_end : A �
       settles_at_once false true e u once known =
           settles_with making stage.written s.comes.bytes seen stage.bed_ended m.item (masked_line how stage.taken m.item) (s.comes.settles known)
           (λ rest ordered.
-          let front : AreInBlocks stage.taken = in_front stage.taken (option_to_list (item_ahead second) ++ rest) (subst AreInBlocks (append_assoc stage.taken (option_to_list (item_ahead second)) rest) ordered) in (
+          let front : AreInBlocks stage.taken = blocks_front stage.taken (option_to_list (item_ahead second) ++ rest) (subst AreInBlocks (append_assoc stage.taken (option_to_list (item_ahead second)) rest) ordered) in (
             unnamed_decided m.item (seen ++ rest) u,
             masked_stay how m.item [] (seen ++ rest) ordered (unnamed_decided m.item [] u) ∙ sym (masked_stay how m.item [] stage.taken front (unnamed_decided m.item [] u)),
           ))

@@ -3,6 +3,7 @@ use Rattle.std.proofs.Common.{◌≡◌, ℕ, suc, ◌+◌, ◌-◌, ◌≤◌, 
 use Rattle.std.specs.Prelude.{◌⊎◌, All, IfSome, IsSome, option_map}
 use Rattle.std.proofs.lemmas.List.{map-append, take-append-drop}
 use Rattle.std.proofs.lemmas.List.Elements.{All-head, All-push, All-tail}
+use Rattle.bt_lines.proofs.ReadsLemmas.{memory_no_read}
 use Rattle.bt_lines.specs.Fault.{Told, read_failed}
 use Rattle.std.proofs.lemmas.Bool.{false≢true}
 use Rattle.std.specs.Io.KnownBytes.{Consumes}
@@ -21,7 +22,7 @@ use Rattle.bt_bed.specs.LineKind.{fault_at_line}
 use Rattle.bt_bed.specs.Reading.{Advances, AnswersFault, Cause as PeekCause, GivesMember, IsSaidBehind, MemberReader, Remains, good_at, good_behind, good_coming}
 use Rattle.bt_tool.specs.Feeding.{IsFresh}
 use Rattle.bt_tool.specs.Passed.{ComeFirst, member_items, AreAll, AreSaid, IsAhead, IsOver, IsReadFor, IsReadTo, IsStopped, IsUnreadBehind, IsWrongBehind, LacksMemory, Passes, StopsAfter, state_behind}
-use Rattle.bt_tool.proofs.FaultLemmas.{line_no_read, memory_no_read}
+use Rattle.bt_tool.proofs.FaultLemmas.{line_no_read}
 use Rattle.bt_tool.proofs.ComeLemmas.{begins_beyond, begins_more, begins_with, come_more, come_none, cuts_both, lines_on, near_from_start, none_passed, numbered_lines, up_to, whole_with}
 use Rattle.bt_tool.proofs.StopLemmas.{StopsBehind, coming_is, given_next, stops_ended, stops_faulty, stops_given}
 
@@ -287,8 +288,7 @@ module _ {S A State : Type 0} (left : S → Option (List ℕ)) (failed end : S �
             said = said_next;
             come = come_more (good_coming left old) (good_coming left now) (good_coming left peeked) (good_coming left next) past m g.come ahead.read.good ahead.read.first
                 (passes.good m ahead.read.ahead);
-            behind = subst (λ reader. All (λ m. m.line ≤ lines_given reader) (past ++ m ∷ [])) (sym same)
-                (All-push (λ m. m.line ≤ lines_given peeked.below) past m peek.behind rises_now.0);
+            behind = rw same (All-push (λ m. m.line ≤ lines_given peeked.below) past m peek.behind rises_now.0);
             ahead_low = subst (λ o. IfSome o (λ m. m.line ≤ lines_given next.below)) (sym passes.none_ahead) tt;
             lines = subst (λ reader. IfSome (lines_left left old.below) (λ lines. lines_left left reader ≡ Some (drop (lines_given reader) lines))) (sym same) peek.lines;
             state = passes.state m ahead.read.ahead ∙ ap (λ (f : Format A State). f.after peeked.state m.item) peek.format
@@ -438,8 +438,7 @@ module _ {S A State : Type 0} (left : S → Option (List ℕ)) (failed end : S �
         record {
           to = record {
             count = stops.0;
-            near = subst (λ reader. IfSome (lines_left left old.below) (λ lines. IfSome (left (source_of reader)) (λ rest. bytes_in (drop (suc stops.0) lines) ≤ length rest + block_size))) (sym same)
-                (read_at peeked stops).near;
+            near = rw same (read_at peeked stops).near;
             behind = (read_at peeked stops).behind;
           };
           low = up_to (lines_given now.below) stops.0 past stops.1.from g.behind;

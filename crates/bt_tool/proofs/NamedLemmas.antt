@@ -3,7 +3,7 @@ use Rattle.std.proofs.Common.{◌≡◌, Bool, true, false, cond, List, [], ◌�
 use Rattle.std.specs.Prelude.{◌||◌, not, bytes_eq, codes, is_some, option_map, string_bytes, String, IsTrue, IsSome, IsNone}
 use Rattle.std.specs.List.{list_any}
 use Rattle.std.specs.declared.alloc.Global.{Global}
-use Rattle.std.proofs.lemmas.Bool.{false≢true}
+use Rattle.std.proofs.lemmas.Bool.{false≢true, not-false, or_parts}
 use Rattle.std.proofs.lemmas.Slice.Eq.{bytes_eq-Decides}
 use Rattle.bt_tool.specs.Given.{items_in}
 use Rattle.bt_tool.specs.Items.{Item}
@@ -24,24 +24,11 @@ none-lacks : (lacks exclusive twice : Bool)
 none-lacks true exclusive twice e = cc
 none-lacks false exclusive twice e = refl
 
-none-first : (a b : Bool) → (a || b) ≡ false → a ≡ false
-none-first true b e = e
-none-first false b e = refl
-
-none-second : (a b : Bool) → (a || b) ≡ false → b ≡ false
-none-second true b e = absurd (false≢true (sym e))
-none-second false b e = e
-
-not-false : (b : Bool) → not b ≡ false → b ≡ true
-not-false true e = refl
-not-false false e = absurd (false≢true (sym e))
-
 nothing-lacks : (table : Table) (items : List Item) → fault_together table items ≡ None
     → list_any (λ option. not (is_given items option)) table.required ≡ false
 nothing-lacks table items e =
-    none-first _ (lacks_one_of table.one_of items)
-    (none-lacks (lacks_option table items) (has_exclusive table items || overwrites (named_by table items))
-    (reads_twice (named_by table items)) e)
+    (or_parts _ (lacks_one_of table.one_of items) (none-lacks (lacks_option table items) (has_exclusive table items || overwrites (named_by table items))
+    (reads_twice (named_by table items)) e)).0
 
 -- an option among those of which none is missing is given
 given-at : (items : List Item) (option other : Word) (same : Bool) (others : List Word)
@@ -59,8 +46,8 @@ given-among : (items : List Item) (option : Word) (required : List Word)
 given-among items option [] h k = absurd (false≢true k)
 given-among items option (other ∷ others) h k =
     given-at items option other (bytes_eq option other) others refl
-    (given-among items option others (none-second (not (is_given items other)) _ h))
-    (none-first (not (is_given items other)) _ h) k
+    (given-among items option others (or_parts (not (is_given items other)) _ h).1)
+    (or_parts (not (is_given items other)) _ h).0 k
 
 not-given : (items : List Item) (option : Word) → last_item option items ≡ None
     → is_given items option ≡ true → ⊥

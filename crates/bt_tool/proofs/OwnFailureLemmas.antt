@@ -1,12 +1,13 @@
 -- Lemmas on failed reads that are told: each is of a read that failed in the run, whatever its source did before.
-use Rattle.std.proofs.Common.{◌≡◌, ℕ, Option, None, Some, Err, Bool, List, ap, sym, subst, ◌∙◌, inl, inr, ⊎_elim}
-use Rattle.std.specs.Prelude.{◌⊎◌, ⊤, MatchResult, Ok, Result}
+use Rattle.std.proofs.Common.{◌≡◌, ℕ, Option, None, Some, Err, Bool, List, ap, sym, subst, ◌∙◌, inl, inr, arith}
+use Rattle.std.specs.Prelude.{◌⊎◌, ◌≢◌, ⊤, MatchResult, Ok, Result}
 use Rattle.std.proofs.lemmas.Bool.{false≢true}
+use Rattle.bt_lines.proofs.ReadsLemmas.{memory_no_read, some_is, unread_then}
 use Rattle.bt_lines.specs.Fault.{Told, no_memory, read_failed, write_failed}
-use Rattle.bt_lines.specs.Filling.{LastReadFails}
+use Rattle.bt_lines.specs.Device.{ReadsFail, ReadsOn, begun}
 use Rattle.bt_lines.specs.Names.{told}
 use Rattle.bt_lines.specs.Output.{Output}
-use Rattle.bt_lines.specs.Reader.{Hands, TellsOwnFailure as LineTellsOwnFailure, fault_kept as line_fault, source_of}
+use Rattle.bt_lines.specs.Reader.{HasRead, IsUnread, TellsOwnFailure as LineTellsOwnFailure, bytes_taken, fault_kept as line_fault, source_of}
 use Rattle.bt_lines.specs.declared.fault.Fault.{Fault}
 use Rattle.bt_lines.specs.declared.fault.Input.{Input}
 use Rattle.bt_lines.specs.declared.fault.Input.TheVariants.{Genome, First, Second}
@@ -27,11 +28,10 @@ use Rattle.bt_tool.specs.Pair.{Making, Pair}
 use Rattle.bt_tool.specs.PairEnds.{Finishes, InputsEnd, Why}
 use Rattle.bt_tool.specs.Passed.{HasFaultBehind, IsKeptBelow, IsOwnFault, KeepsOwnFault}
 use Rattle.bt_tool.specs.SweepReport.{IsSweptKind}
-use Rattle.bt_tool.specs.OwnReads.{IsOwnFailure, TellsOwnReads}
+use Rattle.bt_tool.specs.OwnReads.{AnswersNoRead, IsOwnFailure, ReadsServe, ReadsServeIf, TellsNoRead, TellsOwnReads}
 use Rattle.bt_tool.specs.declared.plan_type.Command.{Command}
 use Rattle.bt_tool.proofs.CameMembers.{BeginsAt}
-use Rattle.bt_tool.proofs.FaultLemmas.{memory_no_read, some_is, write_no_read}
-use Rattle.bt_tool.proofs.HandedReader.{passes_by}
+use Rattle.bt_tool.proofs.FaultLemmas.{write_no_read}
 
 -- a failed read is of one input
 pub same_input : (one other : Input) (m n : ℕ) → read_failed one m ≡ read_failed other n → one ≡ other
@@ -52,24 +52,52 @@ swept_no_read order limit (inl kind) = false≢true kind.0
 swept_no_read order limit (inr held) = let apart : ReadFailed ≡ TooManyHeld = held.1 in cc
 
 -- a reader that keeps no fault
-pub none_kept : {S : Type 0} (Fails : S → S → Type 0) (kept : Option Told) (lines : LineReader S) → kept ≡ None → IsOwnFault Fails kept lines
-none_kept Fails kept lines none input line e = absurd (let apart : None ≡ Some (read_failed input line) = sym none ∙ e in cc)
+pub none_kept : {S : Type 0} (IsRead : S → Option ℕ → S → Type 0) (old : LineReader S) (kept : Option Told) (lines : LineReader S) → kept ≡ None → IsOwnFault IsRead old kept lines
+none_kept IsRead old kept lines none input line e = absurd (let apart : None ≡ Some (read_failed input line) = sym none ∙ e in cc)
 
 -- one that keeps the fault that it told
-pub told_kept : {S : Type 0} (Fails : S → S → Type 0) (before kept : Option Told) (lines : LineReader S) (fault : Fault) → kept ≡ Some (told fault) → before ≡ None → TellsOwnFailure {T = Unit {0}} Fails before (Err fault) lines
-    → IsOwnFault Fails kept lines
-told_kept Fails before kept lines fault is none own input line e = own none input line (some_is (told fault) (read_failed input line) (sym is ∙ e))
+pub told_kept : {S : Type 0} (IsRead : S → Option ℕ → S → Type 0) (before kept : Option Told) (old lines : LineReader S) (fault : Fault) → kept ≡ Some (told fault) → before ≡ None
+    → TellsOwnFailure {T = Unit {0}} IsRead before old (Err fault) lines → IsOwnFault IsRead old kept lines
+told_kept IsRead before kept old lines fault is none own input line e = (own none).unread input line (sym is ∙ e)
 
 -- the same of a reader of lines
-pub line_told_kept : {S : Type 0} (Fails : S → S → Type 0) (old lines : LineReader S) (fault : Fault) → line_fault lines ≡ Some (told fault) → line_fault old ≡ None → LineTellsOwnFailure {A = Option Line} Fails old (Err fault) lines
-    → IsOwnFault Fails (line_fault lines) lines
-line_told_kept Fails old lines fault is none own input line e =
-    let same = some_is (told fault) (read_failed input line) (sym is ∙ e) in
-    own none (λ memory. memory_no_read input line (sym memory ∙ same))
+pub line_told_kept : {S : Type 0} (IsRead : S → Option ℕ → S → Type 0) (old lines : LineReader S) (fault : Fault) → line_fault lines ≡ Some (told fault) → line_fault old ≡ None
+    → LineTellsOwnFailure {A = Option Line} IsRead old (Err fault) lines → IsOwnFault IsRead old (line_fault lines) lines
+line_told_kept IsRead old lines fault is none own input line e = (own none).unread input line (sym is ∙ e)
+
+-- it is one of the reads since before those that served
+pub own_then : {S : Type 0} (IsRead : S → Option ℕ → S → Type 0) (old now : LineReader S) (kept : Option Told) (lines : LineReader S) → HasRead IsRead old now → IsOwnFault IsRead now kept lines → IsOwnFault IsRead old kept lines
+own_then IsRead old now kept lines so_far own input line e = unread_then IsRead old now lines so_far (own input line e)
 
 -- what its reader of lines keeps
-pub kept_below : {S A State : Type 0} (Fails : S → S → Type 0) (reader : MemberReader S A State) (lines : LineReader S) → reader.below ≡ lines → IsKeptBelow reader lines → IsOwnFault Fails (line_fault lines) lines → KeepsOwnFault Fails reader
-kept_below Fails reader lines is below own input line e = subst (IsOwnFault Fails (line_fault lines)) (sym is) own input line (below input line e)
+pub kept_below : {S A State : Type 0} (IsRead : S → Option ℕ → S → Type 0) (old : LineReader S) (reader : MemberReader S A State) (lines : LineReader S) → reader.below ≡ lines → IsKeptBelow reader lines → IsOwnFault IsRead old (line_fault lines) lines
+    → KeepsOwnFault IsRead old reader
+kept_below IsRead old reader lines is below own input line e = subst (IsOwnFault IsRead old (line_fault lines)) (sym is) own input line (below input line e)
+
+-- the reads of a reader are those of its run
+pub own_failure_of : {S : Type 0} (IsRead : S → Option ℕ → S → Type 0) (first last : S) (old new : LineReader S) → source_of old ≡ first → source_of new ≡ last → bytes_taken old ≡ 0 → IsUnread IsRead old new → IsOwnFailure IsRead first last
+own_failure_of IsRead first last old new starts ends fresh (inl fails) = inl (subst (λ s. ReadsFail IsRead s last) starts (subst (λ s. ReadsFail IsRead (source_of old) s) ends fails))
+own_failure_of IsRead first last old new starts ends fresh (inr (read, past)) =
+    inr (record {
+      given = read.given;
+      served = subst (λ s. ReadsOn IsRead s read.given last) starts (subst (λ s. ReadsOn IsRead (source_of old) read.given s) ends read.served);
+      past = omega (arith, past, read.counted, fresh);
+    })
+
+-- what the reads of a reader gave is what those of its run did
+pub served_of : {S : Type 0} (IsRead : S → Option ℕ → S → Type 0) (first last : S) (old new : LineReader S) → source_of old ≡ first → source_of new ≡ last → HasRead IsRead old new → ReadsServe IsRead first last
+served_of IsRead first last old new starts ends read = record {
+  given = read.given;
+  served = subst (λ s. ReadsOn IsRead s read.given last) starts (subst (λ s. ReadsOn IsRead (source_of old) read.given s) ends read.served);
+}
+
+-- a source that wasn't read
+pub serve_same : {S : Type 0} (IsRead : S → Option ℕ → S → Type 0) (source : S) → ReadsServe IsRead source source
+serve_same IsRead source = record { given = 0; served = begun }
+
+pub serve_same_if : {S : Type 0} (IsRead : S → Option ℕ → S → Type 0) (source : Option S) → ReadsServeIf IsRead source source
+serve_same_if IsRead None = tt
+serve_same_if IsRead (Some source) = serve_same IsRead source
 
 -- no failed read is told
 pub tells_none : (G F S : Type 0) (fault : Option Told) → ((input : Input) (line : ℕ) → fault ≡ Some (read_failed input line) → ⊥) → TellsOwnReads G F S fault
@@ -90,29 +118,28 @@ pub tells_first : (S F : Type 0) (fault : Option Told) → TellsOwnReads ⊥ F �
 tells_first S F fault own = record { genome_file = own.genome_file; first_input = own.first_input; second_input = λ line e. absurd (own.second_input line e) }
 
 -- an input at its end, and what it was at first
-module _ {S A State : Type 0} (left : S → Option (List ℕ)) (failed end : S → Bool) (Fails : S → S → Type 0) (format : Format A State) (input : Input) (first : S) (old : MemberReader S A State) (begins : BeginsAt left format input first old)
-    (new : MemberReader S A State) (last : S) (ended : source_of new.below ≡ last) (hands : (bytes : List ℕ) × Hands left old.below bytes new.below) (own : KeepsOwnFault Fails new) where
+module _ {S A State : Type 0} (left : S → Option (List ℕ)) (failed end : S → Bool) (IsRead : S → Option ℕ → S → Type 0) (format : Format A State) (input : Input) (first : S) (old : MemberReader S A State) (begins : BeginsAt left format input first old)
+    (new : MemberReader S A State) (last : S) (ended : source_of new.below ≡ last) (own : KeepsOwnFault IsRead old.below new) where
   -- a failed read that is told behind some members
   pub behind_own : (Kinds : Kind → Type 0) → (Kinds ReadFailed → ⊥) → (past : List (Member A)) (fault : Told) → HasFaultBehind left failed end old Kinds past fault new → (other : Input) (line : ℕ) → fault ≡ read_failed other line
-      → (other ≡ input) × IsOwnFailure left Fails first last
+      → (other ≡ input) × IsOwnFailure IsRead first last
   behind_own Kinds never past fault (inl wrong) other line e = absurd (never_read Kinds never _ wrong.line wrong.kind wrong.of_kind other line (sym wrong.is ∙ e))
   behind_own Kinds never past fault (inr unread) other line e = (
     sym (same_input _ other _ line (sym unread.is ∙ e)) ∙ begins.input_is,
-    ⊎_elim (λ fails. inl (subst (LastReadFails Fails) ended fails)) (λ bound. inr (passes_by left failed first last old.below new.below begins.source ended begins.bytes hands bound))
-        (own other line (unread.kept ∙ ap Some e)),
+    own_failure_of IsRead first last old.below new.below begins.source ended begins.bytes (own other line (unread.kept ∙ ap Some e)),
   )
 
 -- the members of the first input were fed to an engine up to a fault
-module _ {S A State : Type 0} (left : S → Option (List ℕ)) (failed end : S → Bool) (Fails : S → S → Type 0) (format : Format A State) (first : S) (old : MemberReader S A State) (begins : BeginsAt left format First first old)
-    (new : MemberReader S A State) (last : S) (ended : source_of new.below ≡ last) (own : KeepsOwnFault Fails new) where
+module _ {S A State : Type 0} (left : S → Option (List ℕ)) (failed end : S → Bool) (IsRead : S → Option ℕ → S → Type 0) (format : Format A State) (first : S) (old : MemberReader S A State) (begins : BeginsAt left format First first old)
+    (new : MemberReader S A State) (last : S) (ended : source_of new.below ≡ last) (own : KeepsOwnFault IsRead old.below new) where
   pub feeds_own : (settled : List A → List ℕ) (Kinds : Kind → Type 0) → (Kinds ReadFailed → ⊥) → (Sorted : List A → Type 0) (out : Output) (fault : Told) (grown : Output)
-      → FeedsUpTo settled Kinds Sorted left failed end old out fault new grown → TellsOwnReads ⊥ (IsOwnFailure left Fails first last) ⊥ (Some fault)
+      → FeedsUpTo settled Kinds Sorted left failed end old out fault new grown → TellsOwnReads ⊥ (IsOwnFailure IsRead first last) ⊥ (Some fault)
   feeds_own settled Kinds never Sorted out fault grown fed =
-      let by : (other : Input) (line : ℕ) → Some fault ≡ Some (read_failed other line) → (other ≡ First) × IsOwnFailure left Fails first last =
+      let by : (other : Input) (line : ℕ) → Some fault ≡ Some (read_failed other line) → (other ≡ First) × IsOwnFailure IsRead first last =
       λ other line e.
       let is = some_is fault (read_failed other line) e in
       elim fed.cause [
-        | inl reading ↦ behind_own left failed end Fails format First first old begins new last ended fed.took.bytes own Kinds never fed.past fault reading.behind other line is
+        | inl reading ↦ behind_own left failed end IsRead format First first old begins new last ended own Kinds never fed.past fault reading.behind other line is
         | inr others ↦ elim others [
           | inl growing ↦ absurd (memory_no_read other line (sym growing.lacks.is ∙ is))
           | inr writing ↦ absurd (write_no_read other line (sym writing.is ∙ is))
@@ -126,23 +153,23 @@ module _ {S A State : Type 0} (left : S → Option (List ℕ)) (failed end : S �
       }
 
 -- a run over two readers ended
-module _ {A B X Y U V : Type 0} (making : Making X Y) (pair : Pair A B X Y U V) (out : Output) (a_fails : A → A → Type 0) (b_fails : B → B → Type 0) (first_format : Format X U) (second_format : Format Y V)
+module _ {A B X Y U V : Type 0} (making : Making X Y) (pair : Pair A B X Y U V) (out : Output) (a_read : A → Option ℕ → A → Type 0) (b_read : B → Option ℕ → B → Type 0) (first_format : Format X U) (second_format : Format Y V)
     (one_before : A) (two_before : B) (begins : BeginsAt pair.a_left first_format First one_before pair.first) (begins_second : BeginsAt pair.b_left second_format Second two_before pair.second)
     (first : MemberReader A X U) (second : MemberReader B Y V) (one_after : A) (two_after : B) (ended : source_of first.below ≡ one_after) (ended_second : source_of second.below ≡ two_after) (fault : Option Told) (grown : Output)
-    (w : Finishes making pair out fault first second grown) (no_first : making.first_kinds ReadFailed → ⊥) (no_second : making.second_kinds ReadFailed → ⊥) (own : KeepsOwnFault a_fails first) (own_second : KeepsOwnFault b_fails second) where
+    (w : Finishes making pair out fault first second grown) (no_first : making.first_kinds ReadFailed → ⊥) (no_second : making.second_kinds ReadFailed → ⊥) (own : KeepsOwnFault a_read pair.first.below first) (own_second : KeepsOwnFault b_read pair.second.below second) where
   abbrev OwnFirst : Input → Type 0
-  OwnFirst input = (input ≡ First) × IsOwnFailure pair.a_left a_fails one_before one_after
+  OwnFirst input = (input ≡ First) × IsOwnFailure a_read one_before one_after
 
   abbrev OwnSecond : Input → Type 0
-  OwnSecond input = (input ≡ Second) × IsOwnFailure pair.b_left b_fails two_before two_after
+  OwnSecond input = (input ≡ Second) × IsOwnFailure b_read two_before two_after
 
   of_first : (past : List (Member X)) (other : Told) → HasFaultBehind pair.a_left pair.a_failed pair.a_end pair.first making.first_kinds past other first → (input : Input) (line : ℕ) → other ≡ read_failed input line → OwnFirst input
   of_first past other behind =
-      behind_own pair.a_left pair.a_failed pair.a_end a_fails first_format First one_before pair.first begins first one_after ended w.wrote.first_bytes own making.first_kinds no_first past other behind
+      behind_own pair.a_left pair.a_failed pair.a_end a_read first_format First one_before pair.first begins first one_after ended own making.first_kinds no_first past other behind
 
   of_second : (past : List (Member Y)) (other : Told) → HasFaultBehind pair.b_left pair.b_failed pair.b_end pair.second making.second_kinds past other second → (input : Input) (line : ℕ) → other ≡ read_failed input line → OwnSecond input
   of_second past other behind =
-      behind_own pair.b_left pair.b_failed pair.b_end b_fails second_format Second two_before pair.second begins_second second two_after ended_second w.wrote.second_bytes own_second making.second_kinds no_second past other behind
+      behind_own pair.b_left pair.b_failed pair.b_end b_read second_format Second two_before pair.second begins_second second two_after ended_second own_second making.second_kinds no_second past other behind
 
   -- the inputs told it
   by_inputs : InputsEnd making pair out w.written w.wrote.given w.wrote.ended first second fault → (input : Input) (line : ℕ) → fault ≡ Some (read_failed input line) → OwnFirst input ⊎ OwnSecond input
@@ -168,15 +195,15 @@ module _ {A B X Y U V : Type 0} (making : Making X Y) (pair : Pair A B X Y U V) 
   never_genome (inl own) = let apart : Genome ≡ First = own.0 in cc
   never_genome (inr own) = let apart : Genome ≡ Second = own.0 in cc
 
-  only_first : OwnFirst First ⊎ OwnSecond First → IsOwnFailure pair.a_left a_fails one_before one_after
+  only_first : OwnFirst First ⊎ OwnSecond First → IsOwnFailure a_read one_before one_after
   only_first (inl own) = own.1
   only_first (inr own) = absurd (let apart : First ≡ Second = own.0 in cc)
 
-  only_second : OwnFirst Second ⊎ OwnSecond Second → IsOwnFailure pair.b_left b_fails two_before two_after
+  only_second : OwnFirst Second ⊎ OwnSecond Second → IsOwnFailure b_read two_before two_after
   only_second (inl own) = absurd (let apart : Second ≡ First = own.0 in cc)
   only_second (inr own) = own.1
 
-  pub both_own : TellsOwnReads ⊥ (IsOwnFailure pair.a_left a_fails one_before one_after) (IsOwnFailure pair.b_left b_fails two_before two_after) fault
+  pub both_own : TellsOwnReads ⊥ (IsOwnFailure a_read one_before one_after) (IsOwnFailure b_read two_before two_after) fault
   both_own = record {
     genome_file = λ line e. never_genome (by_cause w.why Genome line e);
     first_input = λ line e. only_first (by_cause w.why First line e);
@@ -197,6 +224,16 @@ flushed_own G F S old new fault answer flush own = record {
   second_input = λ line e. own.second_input line (flushed_read old new fault answer flush.ends Second line e);
 }
 
+-- nor hides it one, unless a write failed
+pub flushed_no_read : (old new : Output) (fault answer : Option Told) → Flushes old fault answer new → answer ≢ Some write_failed → TellsNoRead answer → TellsNoRead fault
+flushed_no_read old new fault answer flush no_write never input line e = elim flush.ends [
+  | inl handed ↦ elim handed [
+    | inl all ↦ never input line (all.same_fault ∙ e)
+    | inr fails ↦ no_write fails.is
+  ]
+  | inr stays ↦ no_write stays.is
+]
+
 -- the genome file was read, or its fault told, and then the other inputs
 module _ {A B : Type 0} (a_left : A → Option (List ℕ)) (a_failed a_end : A → Bool) (b_left : B → Option (List ℕ)) (b_failed : B → Bool) (command : Command) (first : A) (second : Option B) (out : Output) (fault : Option Told) (first_after : A)
     (second_after : Option B) (grown : Output) where
@@ -209,3 +246,8 @@ module _ {A B : Type 0} (a_left : A → Option (List ℕ)) (a_failed a_end : A �
     first_input = λ line e. absurd (read.first_input line (sym written.is ∙ e));
     second_input = λ line e. absurd (read.second_input line (sym written.is ∙ e));
   }
+
+  -- where no failed read is told, the genome file has none
+  pub genome_no_read : (chromosomes : Result (Option GenomeTable) Fault) → WritesOutput a_left a_failed a_end b_left b_failed command chromosomes first second out fault first_after second_after grown → TellsNoRead fault → AnswersNoRead chromosomes
+  genome_no_read (Ok table) written never = tt
+  genome_no_read (Err wrong) written never = λ input line e. never input line (written.is ∙ e)

@@ -6,31 +6,42 @@ use Rattle.std.specs.Option.{option_or}
 use Rattle.std.proofs.lemmas.Bool.{false≢true, or_from}
 use Rattle.std.proofs.lemmas.List.{map-append}
 use Rattle.std.proofs.lemmas.List.Elements.{All-head, All-tail}
+use Rattle.bt_lines.proofs.ReadsLemmas.{some_is}
 use Rattle.bt_lines.specs.Fault.{Told, no_memory, write_failed}
 use Rattle.bt_lines.specs.Handed.{Handed, whole_text}
 use Rattle.bt_lines.specs.Lines.{TextLine}
 use Rattle.bt_lines.specs.Output.{Output, IsFrontOf, block_size}
 use Rattle.bt_lines.specs.Reader.{input_of, lines_given, source_of}
-use Rattle.bt_lines.specs.declared.fault.Input.{Input}
 use Rattle.bt_lines.specs.declared.fault.Input.TheVariants.{First, Second}
-use Rattle.bt_lines.specs.declared.fault.Kind.{Kind}
-use Rattle.bt_lines.specs.declared.fault.Kind.TheVariants.{ReadFailed}
 use Rattle.bt_bed.specs.Good.{Format, Good, Member, good_handed, items_in, or_else}
 use Rattle.bt_bed.specs.GoodLines.{IsBeyond}
 use Rattle.bt_bed.specs.Meeting.{written}
 use Rattle.bt_bed.specs.Reading.{MemberReader, good_coming}
 use Rattle.bt_bed.proofs.MeetingLemmas.{all_stop, all_written, met_fault_all, met_fault_stop, met_lines, written_past, written_stop}
-use Rattle.bt_tool.specs.Both.{WritesBoth, met_report}
+use Rattle.bt_tool.specs.Behaviour.{Behaviour}
+use Rattle.bt_tool.specs.SweepReport.{met_report}
+use Rattle.bt_tool.specs.Writing.{WritesBy}
 use Rattle.bt_tool.specs.Coming.{Came}
-use Rattle.bt_tool.specs.Driving.{IsReported, ReadsNoFurther, TellsDevice, TellsInput}
+use Rattle.bt_tool.specs.Telling.{IsReported, ReadsNoFurther, TellsDevice, TellsInput}
 use Rattle.bt_tool.specs.Feeding.{PutsFront, PutsLines, member_items}
-use Rattle.bt_tool.specs.Inputs.{HandsUpTo}
+use Rattle.bt_tool.specs.Inputs.{HandsUpTo, Holds, HoldsIf, Reads, ReadsIf, or_empty}
 use Rattle.bt_tool.specs.Pair.{Making, MayCome, Pair, Serves, met_by, met_whole, rule_of}
 use Rattle.bt_tool.specs.PairEnds.{Finishes, FirstFails, FirstStops, InputsEnd, LimitStops, RestStops, SecondFails, SecondStops, Why}
 use Rattle.bt_tool.proofs.CameMembers.{BeginsAt, at_whole, came_cut, came_whole, is_known, says_fault, tells_fault, text_known}
-use Rattle.bt_tool.proofs.FaultLemmas.{memory_no_write, placed_no_write, some_is}
+use Rattle.bt_tool.proofs.FaultLemmas.{memory_no_write, tells_no_write}
 use Rattle.bt_tool.proofs.PairLimits.{AreLimits}
 use Rattle.bt_tool.proofs.SeenLemmas.{puts_front}
+use Rattle.bt_tool.proofs.WritingLemmas.{is_whole}
+
+-- an input that is there
+module _ {S : Type 0} (left : S → Option (List ℕ)) where
+  held_if : (source : S) (handed : Option Handed) → HoldsIf left (Some source) handed → Holds left source (or_empty handed)
+  held_if source None h = absurd h
+  held_if source (Some handed) h = h
+
+  read_if : (failed : S → Bool) (before after : S) (handed : Option Handed) → ReadsIf left failed (Some before) (Some after) handed → Reads left failed before after (or_empty handed)
+  read_if failed before after None h = absurd h
+  read_if failed before after (Some handed) h = h
 
 module _ {X Y : Type 0} (making : Making X Y) where
   -- what the lines and the fault of a meeting are
@@ -119,11 +130,6 @@ module _ {Y : Type 0} where
 pub from_known : {T : Type 0} (o : Option T) (P : Type 0) → IsSome o → IfSome o (λ x. P) → P
 from_known None P k h = absurd (false≢true k)
 from_known (Some x) P k h = h
-
--- a fault of an input isn't a failed write
-tells_no_write : {S : Type 0} (left : S → Option (List ℕ)) (failed : S → Bool) (kinds : Kind → Type 0) (input : Input) (before after : S) → TellsInput left failed kinds input before after write_failed → ⊥
-tells_no_write left failed kinds input before after (inl line) = placed_no_write input line.line line.kind (sym line.is)
-tells_no_write left failed kinds input before after (inr read) = placed_no_write input read.line ReadFailed (sym read.is)
 
 module _ {A B X Y U V : Type 0} (making : Making X Y) (pair : Pair A B X Y U V) (out : Output)
     (first_format : Format X U) (second_format : Format Y V) (in_order : (two : Handed) → making.InOrder (items_in (good_handed second_format Second two))) (limits : AreLimits making)
@@ -292,8 +298,7 @@ module _ {A B X Y U V : Type 0} (making : Making X Y) (pair : Pair A B X Y U V) 
         let says = second_wrong stops.past other two (subst (λ f. CameTwo f two) is came_second) stops.fails in
         let waits = first_whole fault one came stops.serves (λ good. (rest : List X) × (items_in good ≡ w.written ++ stops.waiting ∷ rest)) stops.begins in
         let all = items_in (good_one one) in
-        let fits : making.Fits all stops.past = subst (λ (l : List X). making.Fits l stops.past) (append_assoc w.written (stops.waiting ∷ []) waits.0 ∙ sym waits.1)
-        (limits.more (w.written ++ stops.waiting ∷ []) waits.0 stops.past (stops.fits known_now)) in
+        let fits : making.Fits all stops.past = rw (← append_assoc w.written (stops.waiting ∷ []) waits.0 ∙ sym waits.1) (limits.more (w.written ++ stops.waiting ∷ []) waits.0 stops.past (stops.fits known_now)) in
         let cut = good_is (good_two two) stops.past (Some other) says.0 says.1 in
         let same : limit one two ≡ good_two two = ap (making.limited all) cut ∙ limits.whole all stops.past (Some other) fits ∙ sym cut in
         let undecided_by : making.decided stops.waiting (items_in (limit one two)) ≡ false =
@@ -369,14 +374,18 @@ module _ {A B X Y U V : Type 0} (making : Making X Y) (pair : Pair A B X Y U V) 
     reported before put end puts = let met = meets end in (sym met.1, puts before put ∙ ap (λ l. Some (before ++ l)) (sym met.0))
 
   -- what was written begins the report on the whole texts
-  front_of : (one two : List ℕ) → pair.a_left one_before ≡ Some one → pair.b_left two_before ≡ Some two
-      → (more : List ℕ) × ((met_by making (good_one (whole_text one)) (good_two (whole_text two))).lines ≡ w.bytes ++ more)
-  front_of one two e f =
+  front_of : (first second : Handed) → Holds pair.a_left one_before first → Holds pair.b_left two_before second
+      → (more : List ℕ) × ((met_by making (good_one first) (good_two second)).lines ≡ w.bytes ++ more)
+  front_of first_handed second_handed holds others =
+      let one = holds.text in
+      let two = others.text in
+      let e = holds.known in
+      let f = others.known in
       let sees = at_whole pair.b_left pair.b_failed pair.b_end second_format Second two_before pair.second begins_second second two_after ended_second two f SeesTwo second_sees in
       let begun = at_whole pair.a_left pair.a_failed pair.a_end first_format First one_before pair.first begins first one_after ended one e Begins w.wrote.given_begin in
       let may = limited_may (good_one (whole_text one)) (good_two (whole_text two)) (known_by two f) begun sees in
       let rest = at_whole pair.a_left pair.a_failed pair.a_end first_format First one_before pair.first begins first one_after ended one e (λ good. (rest : List X) × (items_in good ≡ w.written ++ rest)) w.wrote.first_begins in
-      meets_front making (good_one (whole_text one)) (limit (whole_text one) (whole_text two)) w.written w.bytes (here_by (whole_text one) (whole_text two) (known_by two f) may) rest.0 rest.1
+      rw (holds.is, others.is) (meets_front making (good_one (whole_text one)) (limit (whole_text one) (whole_text two)) w.written w.bytes (here_by (whole_text one) (whole_text two) (known_by two f) may) rest.0 rest.1)
 
   first_named : (past : List (Member X)) (other : Told) → FirstFails making pair out past first other → TellsInput pair.a_left pair.a_failed making.first_kinds First one_before one_after other
   first_named past other fails =
@@ -460,24 +469,33 @@ module _ {A B X Y U V : Type 0} (making : Making X Y) (pair : Pair A B X Y U V) 
         → ReadsNoFurther (λ lines. pair.a_end one_after ≡ false → HandsUpTo pair.b_left (reaches (whole_text two) lines + block_size) two_before two_after)
         (settles (whole_text two)) one (pair.a_left one_after) before grown.took (grown.has_failed ≡ true) grown.put
 
+    abbrev behaviour : Behaviour
+    behaviour = record {
+      report = λ one two. met_report (met_by making (good_one one) (good_two (or_empty two)));
+      settles = λ two. settles (or_empty two);
+      reaches = λ two. reaches (or_empty two);
+      FirstKinds = making.first_kinds;
+      SecondKinds = making.second_kinds;
+    }
+
     -- the report on how the inputs meet, by how far they were read
-    pub writes_both : NearBoth → WritesBoth pair.a_left pair.a_failed pair.a_end pair.b_left pair.b_failed making.first_kinds making.second_kinds
-        (λ one two. met_report (met_by making (good_one one) (good_two two))) settles reaches one_before two_before out fault one_after two_after grown
+    pub writes_both : NearBoth → WritesBy pair.a_left pair.a_failed pair.a_end pair.b_left pair.b_failed behaviour one_before (Some two_before) out fault one_after (Some two_after) grown
     writes_both near = record {
-      whole = λ one two before reads reads_second put write memory. whole_by one two before (inl reads) (inl reads_second) put write memory w.why;
-      told = λ one two before e f put is.
-          whole_by (whole_text one) (whole_text two) before
-          (inr (record { text = one; known = e; is = refl; no_read = λ input line. is.no_read input line }))
-          (inr (record { text = two; known = f; is = refl; no_read = λ input line. is.no_read input line })) put is.no_write is.no_growth w.why;
-      cut = λ is one two before e f put.
-          let more = front_of one two e f in
+      whole = λ one two before reads others put write memory. whole_by one (or_empty two) before (inl reads) (inl (read_if pair.b_left pair.b_failed two_before two_after two others)) put write memory w.why;
+      told = λ one two before holds others put is.
+          whole_by one (or_empty two) before (inr (is_whole pair.a_left pair.a_failed one_before one_after fault one holds is))
+          (inr (is_whole pair.b_left pair.b_failed two_before two_after fault (or_empty two) (held_if pair.b_left two_before two others) is)) put is.no_write is.no_growth w.why;
+      cut = λ is one two before holds others put.
+          let more = front_of one (or_empty two) holds (held_if pair.b_left two_before two others) in
           (w.bytes, more.0, more.1, cut_by is before put w.why);
-      kept = λ other one two before e f put.
-          let more = front_of one two e f in
+      kept = λ other one two before holds others put.
+          let more = front_of one (or_empty two) holds (held_if pair.b_left two_before two others) in
           let part = kept_by other w.why in
           (part.front, part.rest ++ more.0, more.1 ∙ ap (λ l. l ++ more.0) part.parts ∙ append_assoc part.front part.rest more.0, part.puts before put);
       grows = w.wrote.grows;
       served = λ e. served_by e w.why;
-      near = near;
+      near = λ one two before taken holds others put took.
+          let held = held_if pair.b_left two_before two others in
+          rw (holds.is, held.is) (near holds.text held.text before taken holds.known held.known put took);
       named = λ told e. named_by told e w.why;
     }

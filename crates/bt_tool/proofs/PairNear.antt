@@ -19,8 +19,8 @@ use Rattle.bt_bed.specs.Good.{Format, Good, Member, good, good_from, good_handed
 use Rattle.bt_bed.specs.GoodLines.{AreAscending, IsBeyond}
 use Rattle.bt_bed.specs.Reading.{MemberReader, good_coming}
 use Rattle.bt_bed.proofs.GoodLemmas.{ascend_from, first_from}
-use Rattle.bt_tool.specs.Both.{bytes_up_to}
-use Rattle.bt_tool.specs.Driving.{ReadsNoFurther}
+use Rattle.bt_tool.specs.SweepReport.{bytes_up_to}
+use Rattle.bt_tool.specs.Telling.{ReadsNoFurther}
 use Rattle.bt_tool.specs.Feeding.{TookButBlock, member_items}
 use Rattle.bt_tool.specs.Inputs.{HandsUpTo}
 use Rattle.bt_tool.specs.Pair.{Making, MayCome, Pair}
@@ -158,8 +158,7 @@ module _ {A B X Y U V : Type 0} (making : Making X Y) (pair : Pair A B X Y U V) 
         let is : making.reaches given (asks.past ++ b.0) (text_lines two) ≡ reaches (whole_text two) (take (suc count) (text_lines one)) =
         ap (λ (ms : List (Member Y)). making.reaches given ms (text_lines two)) (sym b.1) ∙ ap (λ (xs : List X). making.reaches xs good_two.members (text_lines two)) (sym given_on.1) in
         let least : bytes_in (take (suc read.count) (text_lines two)) ≤ reaches (whole_text two) (take (suc count) (text_lines one)) =
-        subst (λ n. bytes_in (take (suc read.count) (text_lines two)) ≤ n) is
-        (needed (member_items near.given_first) (member_items given_on.0) asks.past b.0 (text_lines two) read.count asks.reached b.2.members) in
+        rw (← is) (needed (member_items near.given_first) (member_items given_on.0) asks.past b.0 (text_lines two) read.count asks.reached b.2.members) in
         record { handed = handed.0; consumed = handed.1; read = omega (arith, handed.2, least) }
 
     beside : pair.a_end one_after ≡ false → (pair.a_end (source_of first.below) ≡ true) ⊎ AsksFor making pair out near.given_first second

@@ -3,6 +3,7 @@ use Rattle.std.proofs.Common.{◌≡◌, ℕ, ◌≤◌, Bool, true, false, List
 use Rattle.std.specs.Prelude.{◌⊎◌, IfSome, is_some, option_map}
 use Rattle.std.proofs.lemmas.Bool.{false≢true}
 use Rattle.std.proofs.lemmas.List.{map-append}
+use Rattle.bt_lines.proofs.OutputLemmas.{grows_both}
 use Rattle.bt_lines.specs.Fault.{Told, no_memory, read_failed}
 use Rattle.bt_lines.specs.Lines.{TextLine}
 use Rattle.bt_lines.specs.Output.{Output, Grows}
@@ -20,7 +21,7 @@ use Rattle.bt_tool.specs.PairComes.{Comes, IsOpenAt, Stage, given}
 use Rattle.bt_tool.specs.PairEnds.{AsksFor, Finishes, IsKnown, LastTold, SecondFails, StaysNear, Why, Wrote}
 use Rattle.bt_tool.specs.Passed.{AreAll, IsAhead, IsOver, IsReadFor, IsReadTo, IsStopped, Passes, StopsAfter}
 use Rattle.bt_tool.proofs.ComeLemmas.{begins_more, begins_with, up_to}
-use Rattle.bt_tool.proofs.FeedLemmas.{goes_failed, goes_same, grows_both, took_later, took_lines}
+use Rattle.bt_tool.proofs.FeedLemmas.{goes_failed, goes_same, took_later, took_lines}
 use Rattle.bt_tool.proofs.MemberLemmas.{ahead_at, ahead_first, bytes_more, ended_at, no_ahead_at_end, no_ahead_at_stop, passes_all, passes_end, passes_peek, passes_stop, read_ahead, read_at, read_for, rises_now, stopped_at}
 use Rattle.bt_tool.proofs.PairSettles.{settles_end}
 use Rattle.bt_tool.proofs.PairTurns.{all_with, seen_peeked, settles_ended, with_waiting}
@@ -439,8 +440,7 @@ module _ {A B X Y U V : Type 0} (making : Making X Y) (pair : Pair A B X Y U V) 
               written = stage.written ++ a ∷ [];
               bytes = s.bytes ++ more;
               wrote = wrote_by past_second second_now second_now p (omega arith) p.bytes first s.first_passes.bytes (stage.written ++ a ∷ []) (s.bytes ++ more) true now
-                  (λ known. subst (λ (l : List Y). Settles making (stage.written ++ a ∷ []) (s.bytes ++ more) l true) seen
-                  (settles_end making stage.written s.bytes stage.taken false a (settles_ended making pair out stage past_first past_second first second grown s goes second_now over known)))
+                  (λ known. rw (← seen) (settles_end making stage.written s.bytes stage.taken false a (settles_ended making pair out stage past_first past_second first second grown s goes second_now over known)))
                   begins_here (λ e. (passes_all pair.b_left pair.b_failed pair.b_end pair.second past_second second s.second_passes second_now over, over.ends.none_ahead))
                   (grows_both out.took grown.took now.took s.grows fails.puts.grows) (given stage) given_now fits;
               why = inr (inr (ap Some fails.puts.is, cuts_more out grown now s.bytes more fault s.puts fails));

@@ -3,6 +3,8 @@ use Rattle.std.proofs.Common.{◌≡◌, ℕ, Bool, true, false, List, [], ◌�
 use Rattle.std.specs.Prelude.{is_some, option_map}
 use Rattle.std.proofs.KnownBytes.{Appends-nil}
 use Rattle.std.proofs.lemmas.Bool.{false≢true}
+use Rattle.bt_lines.proofs.PuttingLemmas.{grown_works}
+use Rattle.bt_lines.proofs.OutputLemmas.{grows_both}
 use Rattle.bt_lines.specs.Output.{Output, Grows, HoldsBlock}
 use Rattle.bt_lines.specs.Putting.{Grown, WorksAsBefore}
 use Rattle.bt_bed.specs.Good.{Member}
@@ -12,16 +14,13 @@ use Rattle.bt_tool.specs.Pair.{Making, Pair, Settles, item_ahead}
 use Rattle.bt_tool.specs.PairComes.{Comes, IsOpenAt, Stage, given}
 use Rattle.bt_tool.specs.PairEnds.{IsKnown}
 use Rattle.bt_tool.specs.Passed.{IsAhead, IsOver, IsReadTo, Passes}
-use Rattle.bt_tool.proofs.FeedLemmas.{grows_both, text_grows, works_both}
+use Rattle.bt_tool.proofs.FeedLemmas.{text_grows, works_both}
 use Rattle.bt_tool.proofs.MemberLemmas.{ended_at, items_next, no_ahead_at_end, passes_all, passes_end, passes_more, passes_peek, read_ahead, read_at, read_for, read_given, read_passed}
 use Rattle.bt_tool.proofs.PairSettles.{seen_by, settles_close, settles_end, settles_nothing}
 
 -- the output grew by bytes
 pub grown_puts : (out old new : Output) (bytes more : List ℕ) → PutsLines out bytes old → Grown old more new → PutsLines out (bytes ++ more) new
 grown_puts out old new bytes more puts grown before e = text_grows old.put new.put before bytes more (bytes ++ more) refl grown.appends (puts before e)
-
-pub grown_works : (old new : Output) (more : List ℕ) → Grown old more new → WorksAsBefore old new
-grown_works old new more grown = record { served = grown.served; sink_served = grown.sink_served; put = (more, grown.appends); block = grown.block }
 
 module _ {A B X Y U V : Type 0} (making : Making X Y) (pair : Pair A B X Y U V) (out : Output) where
   -- nothing was given yet
@@ -154,9 +153,7 @@ module _ {A B X Y U V : Type 0} (making : Making X Y) (pair : Pair A B X Y U V) 
         → Settles making (stage.written ++ a ∷ []) (s.bytes ++ making.bytes a stage.taken) (stage.taken ++ option_to_list (item_ahead second)) stage.second_ended
     settles_at_end e a known =
         let seen = seen_alone stage.taken second (s.second_all e).2 in
-        subst (λ (b : Bool). Settles making (stage.written ++ a ∷ []) (s.bytes ++ making.bytes a stage.taken) (stage.taken ++ option_to_list (item_ahead second)) b) (sym e)
-        (subst (λ (l : List Y). Settles making (stage.written ++ a ∷ []) (s.bytes ++ making.bytes a stage.taken) l true) (sym seen)
-        (settles_end making stage.written s.bytes stage.taken stage.second_ended a (subst (λ (l : List Y). Settles making stage.written s.bytes l stage.second_ended) seen (s.settles known))))
+        rw e (rw seen (settles_end making stage.written s.bytes stage.taken stage.second_ended a (subst (λ (l : List Y). Settles making stage.written s.bytes l stage.second_ended) seen (s.settles known))))
 
     -- where a member waits
     module _ (a : X) (waits : stage.waiting ≡ Some a) where
@@ -196,8 +193,7 @@ module _ {A B X Y U V : Type 0} (making : Making X Y) (pair : Pair A B X Y U V) 
           all_given = s.all_given;
           all_taken = s.all_taken;
           bytes = s.bytes;
-          settles = λ known. subst (λ (b : Bool). Settles making stage.written s.bytes (stage.taken ++ option_to_list (item_ahead peeked)) b) (sym goes)
-              (subst (λ (l : List Y). Settles making stage.written s.bytes l false) seen_peeked (settles_peeked known));
+          settles = λ known. rw goes (subst (λ (l : List Y). Settles making stage.written s.bytes l false) seen_peeked (settles_peeked known));
           is_open = λ going. inl (ap is_some ahead.read.ahead);
           first_all = s.first_all;
           second_all = λ e. absurd (false≢true (sym goes ∙ e));
@@ -221,8 +217,7 @@ module _ {A B X Y U V : Type 0} (making : Making X Y) (pair : Pair A B X Y U V) 
               all_given = s.all_given;
               all_taken = taken_next;
               bytes = s.bytes;
-              settles = λ known. subst (λ (b : Bool). Settles making stage.written s.bytes ((stage.taken ++ m.item ∷ []) ++ option_to_list (item_ahead second_now)) b) (sym goes)
-                  (subst (λ (l : List Y). Settles making stage.written s.bytes l false) (sym seen) (settles_peeked known));
+              settles = λ known. rw goes (subst (λ (l : List Y). Settles making stage.written s.bytes l false) (sym seen) (settles_peeked known));
               is_open = λ going. inr (inr (opens going));
               first_all = s.first_all;
               second_all = λ e. absurd (false≢true (sym goes ∙ e));
@@ -245,9 +240,7 @@ module _ {A B X Y U V : Type 0} (making : Making X Y) (pair : Pair A B X Y U V) 
           all_given = append-nil (given stage) ∙ s.all_given;
           all_taken = s.all_taken;
           bytes = s.bytes ++ more;
-          settles = λ known. subst (λ (b : Bool). Settles making (given stage) (s.bytes ++ more) (stage.taken ++ option_to_list (item_ahead peeked)) b) (sym goes)
-              (subst (λ (l : List Y). Settles making (given stage) (s.bytes ++ more) l false) seen_peeked
-              (subst (λ (w : List X). Settles making w (s.bytes ++ more) (stage.taken ++ m.item ∷ []) false) (sym (with_waiting a waits)) (settles known)));
+          settles = λ known. rw goes (rw (← seen_peeked) (subst (λ (w : List X). Settles making w (s.bytes ++ more) (stage.taken ++ m.item ∷ []) false) (sym (with_waiting a waits)) (settles known)));
           is_open = λ going. inl (ap is_some ahead.read.ahead);
           first_all = λ e. first_waits a waits e;
           second_all = λ e. absurd (false≢true (sym goes ∙ e));

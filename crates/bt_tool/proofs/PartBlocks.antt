@@ -19,7 +19,7 @@ use Rattle.bt_seq.proofs.LeftLemmas.{is_last}
 use Rattle.bt_seq.proofs.TagLemmas.{last_from}
 use Rattle.bt_tool.specs.Parts.{StandsBefore, record_in, records_in}
 use Rattle.bt_tool.proofs.PartBed.{alike_records, records_on}
-use Rattle.bt_tool.proofs.PartGood.{IsLike, like_from}
+use Rattle.bt_tool.proofs.PartGood.{IsLike, like_from, none_like}
 use Rattle.bt_tool.proofs.PartLines.{alike_lines, lines_join}
 use Rattle.bt_tool.proofs.PartLists.{all_back, all_front}
 use Rattle.bt_tool.proofs.PartSequences.{go_from, put_on, reached}
@@ -170,11 +170,6 @@ module _ (input : Input) where
     none_by : (fault : Option Told) (g h : Good Feature) → g.fault ≡ fault → (put_on block_format fault g h).fault ≡ None → (fault ≡ None) × (h.fault ≡ None)
     none_by None g h is e = (refl, e)
     none_by (Some fault) g h is e = let apart : Some fault ≡ None = sym is ∙ e in cc
-
-    none_like : (f g : Option Told) → is_none f ≡ is_none g → f ≡ None → g ≡ None
-    none_like None None e d = refl
-    none_like None (Some g) e d = cc
-    none_like (Some f) g e d = cc
 
     -- or where the whole has no fault
     pub calm_joint : Whole-good.fault ≡ None → (First-good.fault ≡ None) × (Second-good.fault ≡ None) × (items_in Whole-good ≡ items_in First-good ++ items_in Second-good)

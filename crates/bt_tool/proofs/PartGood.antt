@@ -16,6 +16,11 @@ pub record IsLike {A : Type 0} (g h : Good A) : Type 0 where
   pub items : items_in g ≡ items_in h
   pub fault : is_none g.fault ≡ is_none h.fault
 
+pub none_like : (f g : Option Told) → is_none f ≡ is_none g → f ≡ None → g ≡ None
+none_like None None e d = refl
+none_like None (Some g) e d = cc
+none_like (Some f) g e d = cc
+
 put_by : {A : Type 0} → Option Told → Good A → Good A → Good A
 put_by None g h = record { members = g.members ++ h.members; fault = h.fault }
 put_by (Some fault) g h = g

@@ -5,6 +5,8 @@ use Rattle.std.specs.List.{AllByRecursion, list_all, list_any}
 use Rattle.std.specs.Option.{option_or}
 use Rattle.std.proofs.lemmas.Bool.{or_left}
 use Rattle.std.proofs.lemmas.Grind.{flat_map-append}
+use Rattle.bt_tool.proofs.PartGood.{none_like}
+use Rattle.bt_seq.proofs.LineStepLemmas.{some_list}
 use Rattle.bt_lines.specs.Fault.{Told}
 use Rattle.bt_lines.specs.Lines.{text_lines}
 use Rattle.bt_lines.specs.declared.fault.Input.TheVariants.{First, Second}
@@ -26,9 +28,9 @@ use Rattle.bt_tool.specs.Parts.{records_in}
 use Rattle.bt_tool.specs.RecordReport.{Report}
 use Rattle.bt_tool.specs.SplitLaws.{Texts}
 use Rattle.bt_tool.proofs.PartBlocks.{BeginsElsewhere, among_from, faulty_same, first_front, fresh_joint}
-use Rattle.bt_tool.proofs.PartLists.{all_so, flat_map_same}
+use Rattle.bt_tool.proofs.PartLists.{all_so, flat_map_same, all_map}
 use Rattle.bt_tool.proofs.PartMasked.{line_second, lines_both, lines_first, report_sound, sound_output, sound_report, told_lost}
-use Rattle.bt_tool.proofs.PartMaskSound.{AreTwo, block_records, blocks_of, fasta_names, fasta_of, joined_two, left_some, lines_of_both, names_of_both, texts_report}
+use Rattle.bt_tool.proofs.PartMaskSound.{AreTwo, block_records, blocks_of, fasta_names, fasta_of, joined_two, lines_of_both, names_of_both, texts_report}
 use Rattle.bt_tool.proofs.PartOwners.{AreOff, IsLost, any_behind, any_first, any_lost, any_second, apart_next, later_leave, lost_behind, lost_fewer, lost_more, lost_off, none_behind, or_true}
 use Rattle.bt_tool.proofs.PartReports.{Stops}
 use Rattle.bt_tool.proofs.PartSequences.{AreBothBy, fasta_both, line_after, names_begin, names_grown, second_named, second_sound, unnamed_from}
@@ -50,13 +52,6 @@ module _ (mine yours : Rule SequenceLine ℕ Told) (move : SequenceLine → Sequ
 none_written : (rule : Rule SequenceLine ℕ Told) (xs : List SequenceLine) → AllByRecursion (λ x. rule.decided x ≡ false) xs → written rule xs ≡ []
 none_written rule [] h = refl
 none_written rule (x ∷ xs) h = written_at rule x xs false h.0
-
-map_all : {A B : Type 0} (P : B → Type 0) (f : A → B) (xs : List A) → AllByRecursion (λ x. P (f x)) xs → AllByRecursion P (map f xs)
-map_all P f [] h = tt
-map_all P f (x ∷ xs) h = (h.0, map_all P f xs h.1)
-
-some_none : (f : Option Told) (fault : Told) → f ≡ Some fault → is_none f ≡ false
-some_none f fault e = ap is_none e
 
 module _ (how : MaskHow) (full : Bool) where
   abbrev report_on : Texts → Report
@@ -188,7 +183,7 @@ module _ (how : MaskHow) (full : Bool) where
       -- records of the first part alone decide no line of the second
       undecided : (fault : Told) (second : Good Feature) → second.fault ≡ Some fault → items_in second ≡ R one.second → (names : List (List ℕ))
           → AllByRecursion (λ line. (mask_rule how names second).decided line ≡ false) (map (line_after (N one.first)) (items_in (F two.first)))
-      undecided fault second e same names = map_all _ (line_after (N one.first)) (items_in (F two.first)) (all_so _ _ (items_in (F two.first)) (λ line u. each line u) named_two)
+      undecided fault second e same names = all_map _ (line_after (N one.first)) (items_in (F two.first)) (all_so _ _ (items_in (F two.first)) (λ line u. each line u) named_two)
         where
           by_names : (line : SequenceLine) (own : List (List ℕ)) → line.names ≡ own → is_unnamed own ≡ false → (is_unnamed (N one.first ++ line.names) || list_any (tag_decides (bases_up_to line)) (tags_of (N one.first ++ line.names) (R one.second))) ≡ false
           by_names line [] is u = cc
@@ -326,14 +321,9 @@ module _ (how : MaskHow) (full : Bool) where
               undecided told.0 (B (one.second ++ two.second)) told.1 (joint.0 ∙ ap (λ twos. R one.second ++ twos) is ∙ append-nil (R one.second)) (N (one.first ++ two.first))))),
         )
 
-        none_same : (f g : Option Told) → is_none f ≡ is_none g → g ≡ None → f ≡ None
-        none_same None g e is = refl
-        none_same (Some f) None e is = cc
-        none_same (Some f) (Some g) e is = cc
-
         no_fault : (B two.second).fault ≡ None → (report_on both).output ≡ (report_on one).output ++ (report_on two).output
         no_fault e =
-            sound_output how (F (one.first ++ two.first)) (B (one.second ++ two.second)) (none_same (B (one.second ++ two.second)).fault (B two.second).fault joint.1 e)
+            sound_output how (F (one.first ++ two.first)) (B (one.second ++ two.second)) (none_like (B two.second).fault (B (one.second ++ two.second)).fault (sym joint.1) e)
             ∙ all_lines ∙ sym (ap₂ (λ a b. a ++ b) first_output (sound_output how (F two.first) (B two.second) e))
 
         either : (g : Option Told) → (B two.second).fault ≡ g → (ts : List Feature) → R two.second ≡ ts → (rest : List ℕ) × ((report_on one).output ++ (report_on two).output ≡ (report_on both).output ++ rest)
@@ -372,11 +362,11 @@ module _ (how : MaskHow) (full : Bool) where
     pub sound_stops : (report_on one).fault ≡ None → Stops (report_on one) (report_on two) (report_on both)
     sound_stops none =
         let sound = report_sound how (F one.first) (B one.second) none in
-        let rest = left_some (leave (Some (N one.first)) None (R one.second)) sound.owned in
+        let rest = some_list (leave (Some (N one.first)) None (R one.second)) sound.owned in
         stops_sound sound.lines rest.0 rest.1 sound.records none
 
     pub sound_goes : (report_on one).fault ≡ None → Lacks two → Lacks both × ((report_on both).output ≡ (report_on one).output ++ (report_on two).output)
     sound_goes none lacks =
         let sound = report_sound how (F one.first) (B one.second) none in
-        let rest = left_some (leave (Some (N one.first)) None (R one.second)) sound.owned in
+        let rest = some_list (leave (Some (N one.first)) None (R one.second)) sound.owned in
         (both_lack sound.lines rest.0 rest.1 sound.records lacks, both_lines sound.lines rest.0 rest.1 sound.records lacks)

@@ -1,6 +1,8 @@
 -- The reports of maskfasta on two parts without a fault, and on both.
 use Rattle.std.proofs.Common.{◌≡◌, ℕ, Bool, true, false, List, [], ◌∷◌, ◌++◌, map, Option, Some, None, refl, sym, ap, ap₂, ◌∙◌, subst}
-use Rattle.std.specs.Prelude.{IsTrue, flat_map, is_none, is_some}
+use Rattle.std.specs.Prelude.{IsTrue, flat_map, is_some}
+use Rattle.bt_tool.proofs.PartGood.{none_like}
+use Rattle.bt_seq.proofs.LineStepLemmas.{some_list}
 use Rattle.bt_lines.specs.Fault.{Told}
 use Rattle.bt_lines.specs.Lines.{text_lines}
 use Rattle.bt_lines.specs.declared.fault.Input.TheVariants.{First, Second}
@@ -22,10 +24,6 @@ use Rattle.bt_tool.proofs.PartMasked.{IsSound, lines_both, mask_good, report_sou
 use Rattle.bt_tool.proofs.PartOwners.{AreOff, IsLost, apart_next, both_owned, leave_append, lost_more, lost_off}
 use Rattle.bt_tool.proofs.PartReports.{Adds}
 use Rattle.bt_tool.proofs.PartSequences.{AreBothBy, fasta_both, line_after, names_begin, names_both, names_grown, second_named, second_sound}
-
-pub left_some : (o : Option (List (List ℕ))) → is_some o ≡ true → (rest : List (List ℕ)) × (o ≡ Some rest)
-left_some None e = cc
-left_some (Some rest) e = (rest, refl)
 
 module _ (how : MaskHow) (full : Bool) where
   -- what is good of FASTA text, and of records in blocks
@@ -78,7 +76,7 @@ module _ (how : MaskHow) (full : Bool) where
     module _ (first : IsSound (fasta_of one.first) (blocks_of one.second)) (second : IsSound (fasta_of two.first) (blocks_of two.second))
         (lost : IsLost (fasta_names one.first) (block_records one.second) (block_records two.second)) where
       rest_of : (rest : List (List ℕ)) × (leave (Some (fasta_names one.first)) None (block_records one.second) ≡ Some rest)
-      rest_of = left_some (leave (Some (fasta_names one.first)) None (block_records one.second)) first.owned
+      rest_of = some_list (leave (Some (fasta_names one.first)) None (block_records one.second)) first.owned
 
       elsewhere : (twos : List Feature) → IsLost (fasta_names one.first) (block_records one.second) twos → BeginsElsewhere (last_from None (block_records one.second)) twos
       elsewhere [] lost = tt
@@ -90,12 +88,7 @@ module _ (how : MaskHow) (full : Bool) where
       records_both : (block_records (one.second ++ two.second) ≡ block_records one.second ++ block_records two.second) × ((blocks_of (one.second ++ two.second)).fault ≡ None)
       records_both =
           let joint = fresh_joint Second one.second two.second are.second first.records (subst (BeginsElsewhere (last_from None (block_records one.second))) records_two (elsewhere (block_records two.second) lost)) in
-          (joint.0, none_like (blocks_of (one.second ++ two.second)).fault (blocks_of two.second).fault joint.1 second.records)
-        where
-          none_like : (f g : Option Told) → is_none f ≡ is_none g → g ≡ None → f ≡ None
-          none_like None g e d = refl
-          none_like (Some f) None e d = cc
-          none_like (Some f) (Some g) e d = cc
+          (joint.0, none_like (blocks_of two.second).fault (blocks_of (one.second ++ two.second)).fault (sym joint.1) second.records)
 
       pub whole_sound : IsSound (fasta_of (one.first ++ two.first)) (blocks_of (one.second ++ two.second))
       whole_sound = record {

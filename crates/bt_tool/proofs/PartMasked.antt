@@ -15,7 +15,7 @@ use Rattle.bt_bed.specs.LineKind.{fault_at_line}
 use Rattle.bt_bed.specs.Meeting.{Rule, meet}
 use Rattle.bt_bed.proofs.MeetingLemmas.{met_fault_all, met_fault_stop}
 use Rattle.bt_seq.proofs.LeftLemmas.{leave, leave_all}
-use Rattle.bt_seq.proofs.MaskMetLemmas.{faultless_masked, first_is_told, lack_none}
+use Rattle.bt_seq.proofs.MaskMetLemmas.{faultless_masked, first_is_told, lack_none, items}
 use Rattle.bt_seq.specs.Masked.{is_unnamed, mask_met, mask_rule, masked_from, masked_line, names_of, no_sequence}
 use Rattle.bt_seq.specs.Owners.{own_records}
 use Rattle.bt_seq.specs.Sequences.{SequenceLine, is_header, sequence_format}
@@ -29,10 +29,6 @@ use Rattle.bt_tool.proofs.CameMembers.{good_whole}
 use Rattle.bt_tool.proofs.PartLists.{all_so, flat_map_same}
 use Rattle.bt_tool.proofs.PartOwners.{IsLost, lost_fewer, own_first, own_second}
 use Rattle.bt_tool.proofs.PartSequences.{line_after}
-
--- the records, without their lines
-abbrev pub items : List (Member Feature) → List Feature
-items ms = map (λ m. m.item) ms
 
 -- ---- which fault is told
 

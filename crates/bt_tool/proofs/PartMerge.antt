@@ -7,7 +7,7 @@ use Rattle.std.proofs.lemmas.List.{map-append}
 use Rattle.std.proofs.lemmas.List.Elements.{filter-append}
 use Rattle.bt_bed.specs.Feature.{Feature, interval_of, intervals_of}
 use Rattle.bt_bed.specs.Interval.{AreNonEmpty, Interval, last_from, last_of, placed_on, spans_on}
-use Rattle.bt_bed.specs.IntervalLine.{interval_line, interval_lines}
+use Rattle.bt_bed.specs.IntervalLine.{interval_lines, interval_line}
 use Rattle.bt_bed.specs.Locus.{ArePlaced}
 use Rattle.bt_bed.specs.Order.{Order, IsTotal}
 use Rattle.bt_bed.specs.Together.{has_records}
@@ -19,7 +19,7 @@ use Rattle.bt_runs.specs.RunOrder.{ordered_runs}
 use Rattle.bt_runs.specs.declared.merge_strand.MergeStrand.{MergeStrand}
 use Rattle.bt_runs.proofs.ChromosomeLemmas.{among_chromosomes}
 use Rattle.bt_runs.proofs.FileOrder.{without_absent}
-use Rattle.bt_runs.proofs.Passing.{placed_elsewhere}
+use Rattle.bt_runs.proofs.Passing.{placed_elsewhere, counted-append}
 use Rattle.bt_runs.proofs.RunOrder.{ordered_come}
 use Rattle.bt_runs.proofs.SettledRuns.{runs_begin}
 use Rattle.bt_tool.proofs.PartBed.{Earlier}
@@ -83,12 +83,9 @@ module _ (gap : ℕ) where
       ∙ ap₂ (λ a b. a ++ b) (placed_elsewhere gap last n (runs_of gap (spans_on n xs)) h.0) (passed_all last names xs h.1)
 
   module _ (strand : MergeStrand) where
-    counted_both : (ones twos : List Feature) → counted strand (ones ++ twos) ≡ counted strand ones ++ counted strand twos
-    counted_both ones twos = ap intervals_of (filter-append (λ r. is_counted strand r.strand) ones twos) ∙ map-append interval_of (filter (λ r. is_counted strand r.strand) ones) (filter (λ r. is_counted strand r.strand) twos)
-
     pub runs_both : (ones twos : List Feature) → Away (intervals_of ones) (intervals_of twos) → merged_runs gap strand (ones ++ twos) ≡ merged_runs gap strand ones ++ merged_runs gap strand twos
     runs_both ones twos away =
-        ap (λ c. merged (chromosomes c) gap c) (counted_both ones twos)
+        ap (λ c. merged (chromosomes c) gap c) (counted-append strand ones twos)
         ∙ merged_both (counted strand ones) (counted strand twos) (away_some (λ r. is_counted strand r.strand) ones twos away)
 
     -- a record of the second part passes all runs of the first
@@ -106,9 +103,6 @@ module _ (gap : ℕ) where
         ∙ filter-append (is_passed gap last) (merged_runs gap strand ones) (merged_runs gap strand (s ∷ twos))
         ∙ ap (λ l. l ++ filter (is_passed gap last) (merged_runs gap strand (s ∷ twos))) (passed_first last ones (last_is (λ r. has_records r.chrom (intervals_of ones) ≡ false) (interval_of s) (intervals_of twos) away.second))
 
-    lines_both : (xs ys : List Interval) → interval_lines (xs ++ ys) ≡ interval_lines xs ++ interval_lines ys
-    lines_both xs ys = flat_map-append interval_line xs ys
-
     settled_is : (records : List Feature) → settled_runs gap strand records ≡ passed_by gap (merged_runs gap strand records) (last_of (intervals_of records))
     unfolding settled_runs
     settled_is records = refl
@@ -124,11 +118,11 @@ module _ (gap : ℕ) where
     begin_by ones [] taken away =
         let front = begins ones taken in (
           interval_lines front.0,
-          append-nil (interval_lines (merged_runs gap strand ones)) ∙ ap interval_lines front.1 ∙ lines_both _ front.0
+          append-nil (interval_lines (merged_runs gap strand ones)) ∙ ap interval_lines front.1 ∙ flat_map-append interval_line _ front.0
               ∙ ap (λ rs. interval_lines (passed_by gap (merged_runs gap strand rs) (last_of (intervals_of rs))) ++ interval_lines front.0) (sym (append-nil ones)),
         )
     begin_by ones (s ∷ twos) taken away =
-        ([], sym (append-nil _ ∙ ap interval_lines (passed_both ones s twos away) ∙ lines_both (merged_runs gap strand ones) _))
+        ([], sym (append-nil _ ∙ ap interval_lines (passed_both ones s twos away) ∙ flat_map-append interval_line (merged_runs gap strand ones) _))
 
     module _ (order : Order) (total : IsTotal order) (ones twos : List Feature) (one : ArePlaced order (intervals_of ones)) (two : ArePlaced order (intervals_of twos))
         (full : AreNonEmpty (intervals_of ones)) (early : Earlier order total ones twos) where
@@ -145,7 +139,7 @@ module _ (gap : ℕ) where
       pooled_split =
           let front = begin_by ones twos (record { together = placed_together order (intervals_of ones) total one; full = full }) away in
           record {
-            all = ap interval_lines (come (ones ++ twos) both_placed ∙ runs_both ones twos away ∙ ap₂ (λ a b. a ++ b) (sym (come ones one)) (sym (come twos two))) ∙ lines_both (ordered_runs order gap strand ones) (ordered_runs order gap strand twos);
+            all = ap interval_lines (come (ones ++ twos) both_placed ∙ runs_both ones twos away ∙ ap₂ (λ a b. a ++ b) (sym (come ones one)) (sym (come twos two))) ∙ flat_map-append interval_line (ordered_runs order gap strand ones) (ordered_runs order gap strand twos);
             first = refl;
             begin = (
               front.0,

@@ -35,7 +35,7 @@ use Rattle.bt_tool.specs.SweepReport.{met_report}
 use Rattle.bt_tool.specs.declared.plan_type.Command.TheVariants.{Intersect, Subtract}
 use Rattle.bt_tool.proofs.PartBed.{items_all}
 use Rattle.bt_tool.proofs.PartGenomes.{agree_good, names_both, records_both}
-use Rattle.bt_tool.proofs.PartLists.{all_back, all_both, all_front, all_so}
+use Rattle.bt_tool.proofs.PartLists.{all_back, all_both, all_front, all_so, all_map}
 use Rattle.bt_tool.proofs.PartRanks.{Agree, Within, among_append, first_agree, first_less, second_agree}
 use Rattle.bt_tool.proofs.PartSam.{lines_less}
 use Rattle.bt_tool.proofs.PartShards.{distinct_in}
@@ -132,10 +132,6 @@ joined_all P (t ∷ []) lines h = subst (λ text. AllByRecursion P (records_in t
 joined_all P (t ∷ u ∷ ts) lines h =
     subst (AllByRecursion P) (sym (records_both t (joined (u ∷ ts)) lines.0)) (all_both P (records_in t) (records_in (joined (u ∷ ts))) h.0 (joined_all P (u ∷ ts) lines.1 h.1))
 
-all_mapped : {A B : Type 0} (P : B → Type 0) (f : A → B) (xs : List A) → AllByRecursion (λ x. P (f x)) xs → AllByRecursion P (map f xs)
-all_mapped P f [] h = tt
-all_mapped P f (x ∷ xs) h = (h.0, all_mapped P f xs h.1)
-
 module _ (whole : List Entry) (distinct : AreDistinct (genome_names whole)) where
   abbrev Lies : PairShard → Type 0
   Lies shard = AllByRecursion (LiesWithin shard.entries whole) (records_of shard.texts)
@@ -163,9 +159,9 @@ module _ (whole : List Entry) (distinct : AreDistinct (genome_names whole)) wher
       let all = lie_all shards h in
       all_both _ (records_in (joined (map (λ (p : Texts). p.first) (pair_texts shards)))) (records_in (joined (map (λ (p : Texts). p.second) (pair_texts shards))))
       (joined_all _ (map (λ (p : Texts). p.first) (pair_texts shards)) lines.0
-      (all_mapped _ _ (pair_texts shards) (all_mapped _ _ shards (all_so _ _ shards (λ s k. all_front _ (records_in s.texts.first) (records_in s.texts.second) k) all))))
+      (all_map _ _ (pair_texts shards) (all_map _ _ shards (all_so _ _ shards (λ s k. all_front _ (records_in s.texts.first) (records_in s.texts.second) k) all))))
       (joined_all _ (map (λ (p : Texts). p.second) (pair_texts shards)) lines.1
-      (all_mapped _ _ (pair_texts shards) (all_mapped _ _ shards (all_so _ _ shards (λ s k. all_back _ (records_in s.texts.first) (records_in s.texts.second) k) all))))
+      (all_map _ _ (pair_texts shards) (all_map _ _ shards (all_so _ _ shards (λ s k. all_back _ (records_in s.texts.first) (records_in s.texts.second) k) all))))
 
   -- where these are the names before the parts
   module _ (before : List (List ℕ)) where

@@ -10,10 +10,10 @@ use Rattle.bt_bed.specs.Rank.{is_among}
 use Rattle.bt_bed.proofs.NameLemmas.{same_name}
 use Rattle.bt_seq.proofs.AgreeLemmas.{owners_stay_so}
 use Rattle.bt_seq.proofs.LeftLemmas.{is_last, leave, one_leaves}
-use Rattle.bt_seq.proofs.MaskFrontLemmas.{chrom_of}
+use Rattle.bt_seq.proofs.MaskFrontLemmas.{chrom_of, none_next}
 use Rattle.bt_seq.proofs.MaskMetLemmas.{none_leaves}
 use Rattle.bt_seq.proofs.TagLemmas.{Tagged, last_from, next_left, own_in, own_tagged, tag_decides, tag_items, tags, tags_append, tags_of}
-use Rattle.bt_seq.specs.Owners.{items_if_last, left_by, names_behind, own_records}
+use Rattle.bt_seq.specs.Owners.{items_if_last, names_behind, own_records}
 
 abbrev Names : Type 0
 Names = List (List ℕ)
@@ -53,10 +53,6 @@ off_behind name other (x ∷ xs) now off e =
 pub leave_append : (left : Option Names) (last : Option (List ℕ)) (rs more : List Feature) → leave left last (rs ++ more) ≡ leave (leave left last rs) (last_from last rs) more
 leave_append left last [] more = refl
 leave_append left last (r ∷ rs) more = leave_append (one_leaves left last r) (Some r.chrom) rs more
-
-none_next : (t : Bool) (name : List ℕ) → cond t None (left_by None name) ≡ None
-none_next true name = refl
-none_next false name = refl
 
 -- behind a block that belongs to none, all belong to none
 none_tags : (last : Option (List ℕ)) (rs : List Feature) → tags chrom_of None last rs ≡ tag_items None rs

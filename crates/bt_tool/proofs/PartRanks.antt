@@ -3,7 +3,7 @@ use Rattle.std.proofs.Common.{◌≡◌, ℕ, suc, ◌+◌, ◌<◌, Bool, true,
 use Rattle.std.specs.Prelude.{IsTrue, bytes_eq, is_some, option_map}
 use Rattle.std.specs.Ordering.{nat_cmp}
 use Rattle.std.specs.declared.cmp.Ordering.TheVariants.{Less}
-use Rattle.std.proofs.lemmas.Bool.{cases_lt, or_parts}
+use Rattle.std.proofs.lemmas.Bool.{cases_lt, or_parts, cases_Bool, or_right}
 use Rattle.bt_bed.specs.Order.{Order}
 use Rattle.bt_bed.specs.Rank.{AreDistinct, compare_ranks, is_among, rank_of, rank_order}
 use Rattle.bt_bed.proofs.NameLemmas.{same_name}
@@ -22,14 +22,14 @@ shift_more : (k : ℕ) (rank : Option ℕ) → option_map (λ r. suc r) (shifted
 shift_more k None = refl
 shift_more k (Some r) = ap Some (omega arith)
 
+pub or_assoc : (a b c : Bool) → (a || (b || c)) ≡ ((a || b) || c)
+or_assoc true b c = refl
+or_assoc false b c = refl
+
 -- whether a name is among two lists of names
 pub among_append : (xs ys : List (List ℕ)) (name : List ℕ) → is_among (xs ++ ys) name ≡ (is_among xs name || is_among ys name)
 among_append [] ys name = refl
-among_append (x ∷ xs) ys name = ap (λ b. bytes_eq x name || b) (among_append xs ys name) ∙ assoc (bytes_eq x name) (is_among xs name) (is_among ys name)
-  where
-    assoc : (a b c : Bool) → (a || (b || c)) ≡ ((a || b) || c)
-    assoc true b c = refl
-    assoc false b c = refl
+among_append (x ∷ xs) ys name = ap (λ b. bytes_eq x name || b) (among_append xs ys name) ∙ or_assoc (bytes_eq x name) (is_among xs name) (is_among ys name)
 
 rank_none : (xs : List (List ℕ)) (name : List ℕ) → is_among xs name ≡ false → rank_of xs name ≡ None
 rank_none xs name e = none_by (rank_of xs name) (among_ranked xs name ∙ e)
@@ -90,21 +90,14 @@ pub record Agree (mine yours : Order) (P : List ℕ → Type 0) : Type 0 where
   pub knows : (a : List ℕ) → P a → mine.knows a ≡ yours.knows a
   pub compare : (a b : List ℕ) → P a → P b → mine.compare a b ≡ yours.compare a b
 
-either_name : (b : Bool) → (b ≡ true) ⊎ (b ≡ false)
-either_name true = inl refl
-either_name false = inr refl
-
 module _ (xs ys : List (List ℕ)) where
-  or_false : (a b : Bool) → a ≡ false → b ≡ false → (a || b) ≡ false
-  or_false a b e d = ap₂ (λ x y. x || y) e d
-
   not_within : (a b : Bool) → (IsTrue a → IsTrue b) → b ≡ false → a ≡ false
   not_within true b h e = absurd (let t : b ≡ true = h refl in let apart : true ≡ false = sym t ∙ e in cc)
   not_within false b h e = refl
 
   rank_of_part : (name : List ℕ) → Within xs (xs ++ ys) name → rank_of (xs ++ ys) name ≡ rank_of xs name
   rank_of_part name within =
-      elim (either_name (is_among xs name)) [
+      elim (cases_Bool (is_among xs name)) [
         | inl e ↦ rank_first xs ys name e
         | inr e ↦ rank_before xs ys name (or_parts (is_among xs name) (is_among ys name) (sym (among_append xs ys name) ∙ not_within (is_among (xs ++ ys) name) (is_among xs name) within e)).1
       ]
@@ -116,19 +109,15 @@ module _ (xs ys : List (List ℕ)) where
   }
 
   module _ (distinct : AreDistinct (xs ++ ys)) where
-    or_right_of : (a b : Bool) → b ≡ true → (a || b) ≡ true
-    or_right_of true b e = refl
-    or_right_of false b e = e
-
     -- no name is among both
     not_first : (xs ys : List (List ℕ)) (name : List ℕ) → AreDistinct (xs ++ ys) → is_among ys name ≡ true → is_among xs name ≡ false
     not_first [] ys name distinct e = refl
-    not_first (x ∷ xs) ys name distinct e = by_first (either_name (bytes_eq x name)) (not_first xs ys name distinct.1 e)
+    not_first (x ∷ xs) ys name distinct e = by_first (cases_Bool (bytes_eq x name)) (not_first xs ys name distinct.1 e)
       where
         by_first : (bytes_eq x name ≡ true) ⊎ (bytes_eq x name ≡ false) → is_among xs name ≡ false → is_among (x ∷ xs) name ≡ false
         by_first (inl is) more =
             let same = same_name x name is in
-            let there : is_among (xs ++ ys) x ≡ true = among_append xs ys x ∙ or_right_of (is_among xs x) (is_among ys x) (ap (is_among ys) same ∙ e) in
+            let there : is_among (xs ++ ys) x ≡ true = among_append xs ys x ∙ or_right (is_among xs x) (is_among ys x) (ap (is_among ys) same ∙ e) in
             absurd (let apart : false ≡ true = sym distinct.0 ∙ there in cc)
         by_first (inr is) more = ap (λ b. b || is_among xs name) is ∙ more
 
@@ -137,7 +126,7 @@ module _ (xs ys : List (List ℕ)) where
 
     rank_of_second : (name : List ℕ) → Within ys (xs ++ ys) name → rank_of (xs ++ ys) name ≡ shifted (length xs) (rank_of ys name)
     rank_of_second name within =
-        elim (either_name (is_among ys name)) [
+        elim (cases_Bool (is_among ys name)) [
           | inl e ↦ rank_behind xs ys name (no_first name e)
           | inr e ↦ rank_behind xs ys name (or_parts (is_among xs name) (is_among ys name) (sym (among_append xs ys name) ∙ not_within (is_among (xs ++ ys) name) (is_among ys name) within e)).0
         ]

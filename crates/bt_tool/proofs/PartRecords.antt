@@ -1,9 +1,10 @@
 -- Records of two parts, none of which lies on a chromosome of the other part.
-use Rattle.std.proofs.Common.{◌≡◌, ℕ, Bool, true, false, ◌||◌, List, [], ◌∷◌, ◌++◌, append-nil, Some, inl, refl, sym, ap, ◌∙◌, subst}
+use Rattle.std.proofs.Common.{◌≡◌, ℕ, false, ◌||◌, List, [], ◌∷◌, ◌++◌, append-nil, Some, inl, refl, sym, ap, ◌∙◌, subst}
 use Rattle.std.specs.Prelude.{IsTrue, bytes_eq}
 use Rattle.std.specs.List.{AllByRecursion}
 use Rattle.std.specs.declared.cmp.Ordering.TheVariants.{Less, Equal}
 use Rattle.std.proofs.lemmas.Bool.{or_parts}
+use Rattle.bt_tool.proofs.PartRanks.{or_assoc}
 use Rattle.bt_bed.specs.Feature.{Feature, interval_of, intervals_of}
 use Rattle.bt_bed.specs.Interval.{Interval, last_from, last_of, spans_on}
 use Rattle.bt_bed.specs.Locus.{ArePlaced, IsPlacedBefore}
@@ -53,10 +54,6 @@ spans_second name ones twos e = spans_on-append name ones twos ∙ ap (λ l. l +
 pub has_append : (name : List ℕ) (xs ys : List Interval) → has_records name (xs ++ ys) ≡ (has_records name xs || has_records name ys)
 has_append name [] ys = refl
 has_append name (x ∷ xs) ys = ap (λ b. bytes_eq x.chrom name || b) (has_append name xs ys) ∙ or_assoc (bytes_eq x.chrom name) (has_records name xs) (has_records name ys)
-  where
-    or_assoc : (a b c : Bool) → (a || (b || c)) ≡ ((a || b) || c)
-    or_assoc true b c = refl
-    or_assoc false b c = refl
 
 module _ (order : Order) (total : IsTotal order) where
   apart_names : (a b : List ℕ) → IsTrue (order.knows a) → order.compare a b ≡ Less → bytes_eq a b ≡ false

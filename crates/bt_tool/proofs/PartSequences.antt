@@ -1,6 +1,6 @@
 -- What is good of FASTA text that is put behind other FASTA text.
 use Rattle.std.proofs.Common.{◌≡◌, ℕ, suc, ◌-◌, Bool, true, false, cond, List, [], ◌∷◌, ◌++◌, length, map, take, append-nil, append_assoc, Option, Some, None, Result, Ok, Err, refl, sym, ap, ap₂, ◌∙◌, subst, eqb, arith}
-use Rattle.std.specs.Prelude.{IsTrue, ⊤, flat_map, is_none}
+use Rattle.std.specs.Prelude.{IsTrue, ⊤, flat_map}
 use Rattle.std.specs.List.{AllByRecursion}
 use Rattle.std.specs.Io.BufRead.{ends_with_byte, strip_last}
 use Rattle.std.proofs.lemmas.Bool.{eqb-true}
@@ -17,7 +17,7 @@ use Rattle.bt_seq.specs.Masked.{is_unnamed, names_of}
 use Rattle.bt_seq.specs.Sequences.{Reached, SequenceLine, header_behind, is_header, line_behind, line_says, may_stand, name_in, sequence_format}
 use Rattle.bt_tool.specs.MaskSplitLaws.{begins_sequence, name_on, sequence_names}
 use Rattle.bt_tool.specs.Parts.{StandsBefore}
-use Rattle.bt_tool.proofs.PartGood.{like_from}
+use Rattle.bt_tool.proofs.PartGood.{like_from, none_like}
 use Rattle.bt_tool.proofs.PartLines.{alike_lines, lines_join}
 
 module _ {A State : Type 0} (format : Format A State) where
@@ -278,11 +278,6 @@ module _ (full : Bool) (input : Input) where
       (λ n piece rest clear is e. subst BeginsAtHeader (sym (lines_from-fed n piece rest clear)) (fed_header n piece rest (lines_from (suc n) rest) e))
       n text
 
-  none_like : (f g : Option Told) → is_none f ≡ is_none g → f ≡ None → g ≡ None
-  none_like None None e d = refl
-  none_like None (Some g) e d = cc
-  none_like (Some f) g e d = cc
-
   -- the lines of the second text, whatever the numbers of its lines
   moved_lines : (r : Reached) (n : ℕ) (two : List ℕ) → IsTrue (begins_sequence two) → AreMoved r.names (good_from Fasta input r (lines_from n two)) (good Fasta input (text_lines two))
   moved_lines r n two e =
@@ -309,12 +304,6 @@ module _ (full : Bool) (input : Input) where
   both_by (Some fault) one two behind moved = refl
 
   module _ (one two : List ℕ) (ends : StandsBefore one two) (begins : IsTrue (begins_sequence two)) where
-    abbrev pub GoodOne : Good SequenceLine
-    GoodOne = good Fasta input (text_lines one)
-
-    abbrev pub GoodTwo : Good SequenceLine
-    GoodTwo = good Fasta input (text_lines two)
-
     pub fasta_both : AreBothBy (good Fasta input (text_lines one)).fault (good Fasta input (text_lines one)) (good Fasta input (text_lines two)) (good Fasta input (text_lines (one ++ two)))
     fasta_both =
         let split = lines_join 1 one two ends in

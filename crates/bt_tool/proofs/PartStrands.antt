@@ -6,6 +6,7 @@ use Rattle.std.proofs.lemmas.Grind.{flat_map-append}
 use Rattle.std.proofs.lemmas.List.{map-append}
 use Rattle.std.proofs.lemmas.List.Elements.{filter-append}
 use Rattle.std.proofs.lemmas.List.Sums.{take_while-cons}
+use Rattle.std.proofs.lemmas.Bool.{and_left}
 use Rattle.bt_bed.specs.Feature.{Feature, interval_of, intervals_of}
 use Rattle.bt_bed.specs.Interval.{Interval, last_from, last_of, placed_on, spans_on}
 use Rattle.bt_bed.specs.IntervalLine.{interval_line, interval_lines}
@@ -34,9 +35,6 @@ Elsewhere name item = bytes_eq item.run.chrom name ≡ false
 in_no : (a b c : Bool) → b ≡ false → (a && (b && c)) ≡ false
 in_no true b c e = ap (λ x. x && c) e
 in_no false b c e = refl
-
-and_no : (a b : Bool) → a ≡ false → (a && b) ≡ false
-and_no a b e = ap (λ x. x && b) e
 
 not_in : (item : StrandRun) (r : Feature) → Elsewhere r.chrom item → is_in item r ≡ false
 not_in item r e = in_no (is_strand item.strand r.strand) (bytes_eq item.run.chrom r.chrom) (nat_le item.run.start r.start && nat_le r.stop item.run.stop) e
@@ -73,7 +71,7 @@ module _ (gap : ℕ) where
         ap (filter test) (all_strand r.strand)
         ∙ filter-append test (runs_of_strand gap ones r.strand) (runs_of_strand gap twos r.strand)
         ∙ ap (λ l. filter test (runs_of_strand gap ones r.strand) ++ l) (filter_none test (runs_of_strand gap twos r.strand)
-        (all_so (Elsewhere r.chrom) (λ item. test item ≡ false) (runs_of_strand gap twos r.strand) (λ item out. and_no (is_in item r) (not (list_any (is_in item) before)) (not_in item r out)) (items_elsewhere r.chrom twos r.strand e)))
+        (all_so (Elsewhere r.chrom) (λ item. test item ≡ false) (runs_of_strand gap twos r.strand) (λ item out. and_left (is_in item r) (not (list_any (is_in item) before)) (not_in item r out)) (items_elsewhere r.chrom twos r.strand e)))
         ∙ append-nil (filter test (runs_of_strand gap ones r.strand))
 
     listed_first : (before rs : List Feature) → AllByRecursion (λ r. has_records r.chrom (intervals_of twos) ≡ false) rs → listed_behind (runs_of_strand gap (ones ++ twos)) before rs ≡ listed_behind (runs_of_strand gap ones) before rs
@@ -100,7 +98,7 @@ module _ (gap : ℕ) where
         ∙ filter-append test (runs_of_strand gap ones r.strand) (runs_of_strand gap twos r.strand)
         ∙ ap₂ (λ a b. a ++ b)
         (filter_none test (runs_of_strand gap ones r.strand)
-        (all_so (Elsewhere r.chrom) (λ item. test item ≡ false) (runs_of_strand gap ones r.strand) (λ item out. and_no (is_in item r) (not (list_any (is_in item) (ones ++ before))) (not_in item r out)) (items_elsewhere r.chrom ones r.strand e)))
+        (all_so (Elsewhere r.chrom) (λ item. test item ≡ false) (runs_of_strand gap ones r.strand) (λ item out. and_left (is_in item r) (not (list_any (is_in item) (ones ++ before))) (not_in item r out)) (items_elsewhere r.chrom ones r.strand e)))
         (filter_same test here (runs_of_strand gap twos r.strand)
         (all_so (λ item. AllByRecursion (λ r. is_in item r ≡ false) ones) (λ item. test item ≡ here item) (runs_of_strand gap twos r.strand) (λ item none. ap (λ b. is_in item r && not b) (none_in item ones before none)) (none_first r.strand)))
 

@@ -9,6 +9,8 @@ use Rattle.std.specs.declared.cmp.Ordering.TheVariants.{Less, Equal, Greater}
 use Rattle.std.proofs.lemmas.Grind.{flat_map-append}
 use Rattle.std.proofs.lemmas.List.Elements.{filter-append}
 use Rattle.std.proofs.lemmas.List.Sums.{take_while-cons}
+use Rattle.bt_tool.proofs.PartOwners.{or_true}
+use Rattle.bt_sweep.proofs.DecidingLemmas.{later_at}
 use Rattle.bt_lines.specs.Fault.{Told}
 use Rattle.bt_bed.specs.Feature.{Feature}
 use Rattle.bt_bed.specs.Locus.{is_below_at}
@@ -66,10 +68,6 @@ any_behind t (x ∷ xs) ys h = ap (λ b. b || list_any t (xs ++ ys)) h.0 ∙ any
 any_here : {A : Type 0} (t : A → Bool) (xs : List A) (y : A) (ys : List A) → t y ≡ true → list_any t (xs ++ y ∷ ys) ≡ true
 any_here t [] y ys e = ap (λ b. b || list_any t ys) e
 any_here t (x ∷ xs) y ys e = ap (λ b. t x || b) (any_here t xs y ys e) ∙ or_true (t x)
-  where
-    or_true : (b : Bool) → (b || true) ≡ true
-    or_true true = refl
-    or_true false = refl
 
 kept_by : {A : Type 0} (P : A → Type 0) (x : A) (kept : List A) (b : Bool) → P x → AllByRecursion P kept → AllByRecursion P (cond b (x ∷ kept) [])
 kept_by P x kept true p h = (p, h)
@@ -90,11 +88,6 @@ written_before rule xs ys h = ap (flat_map rule.lines) (take_before rule.decided
 -- ---- what decides, and what hits
 
 module _ (order : Order) (total : IsTotal order) where
-  not_below : (o : Ordering) (start other : ℕ) → o ≡ Greater → not (is_below_at o start other) ≡ true
-  not_below Less start other e = cc
-  not_below Equal start other e = cc
-  not_below Greater start other e = refl
-
   is_below_less : (o : Ordering) (start other : ℕ) → o ≡ Less → not (is_below_at o start other) ≡ false
   is_below_less Less start other e = refl
   is_below_less Equal start other e = cc
@@ -105,7 +98,7 @@ module _ (order : Order) (total : IsTotal order) where
 
   -- a record on a later chromosome decides one before it
   pub later_decides : (a b : Feature) → IsTrue (order.knows a.chrom) → IsTrue (order.knows b.chrom) → order.compare a.chrom b.chrom ≡ Less → decides order a b ≡ true
-  later_decides a b ka kb less = not_below (order.compare b.chrom a.chrom) b.start a.stop (greater_by (order.compare a.chrom b.chrom) (order.compare b.chrom a.chrom) less (total.swapped a.chrom b.chrom ka kb))
+  later_decides a b ka kb less = later_at (order.compare b.chrom a.chrom) b.start a.stop (greater_by (order.compare a.chrom b.chrom) (order.compare b.chrom a.chrom) less (total.swapped a.chrom b.chrom ka kb))
 
   -- and one on an earlier chromosome doesn't
   pub earlier_leaves : (a b : Feature) → order.compare b.chrom a.chrom ≡ Less → decides order a b ≡ false
@@ -316,10 +309,6 @@ module _ (order : Order) (total : IsTotal order) (shape : Shape) (rule : HitRule
 
     or_decided : (a : Feature) → decided order a (bones ++ btwos) ≡ true → Rule-of-both.decided a ≡ true
     or_decided a e = ap (λ d. is_none fb || d) (ap (decided order a) jb.0 ∙ e) ∙ or_true (is_none fb)
-      where
-        or_true : (b : Bool) → (b || true) ≡ true
-        or_true true = refl
-        or_true false = refl
 
     either : (g : Option Told) → fb2 ≡ g → (ts : List Feature) → btwos ≡ ts → all ≡ aones ++ atwos → (rest : List ℕ) × (first_report.output ++ second_report.output ≡ (sweep_report order shape rule all fa bs fb).output ++ rest)
     either None e ts d is = past_first (all_any _ aones (λ a. ap (λ b. b || decided order a bs) (jb.1 ∙ ap is_none e))) is

@@ -21,7 +21,7 @@ use Rattle.bt_tool.specs.Passed.{member_items, IsAhead, IsOver, IsStopped}
 use Rattle.bt_tool.specs.SweepLoop.{IsPlaced}
 use Rattle.bt_tool.specs.Turns.{HasAhead, HasEnded, HasStopped}
 
-or_none : (a b : Option Told) → or_else a b ≡ None → b ≡ None
+pub or_none : (a b : Option Told) → or_else a b ≡ None → b ≡ None
 or_none None b e = e
 or_none (Some a) b e = cc
 

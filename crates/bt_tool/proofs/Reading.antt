@@ -154,10 +154,6 @@ option_or_assoc : {A : Type 0} (a b c : Option A)
 option_or_assoc None b c = refl
 option_or_assoc (Some x) b c = refl
 
-option_or_none : {A : Type 0} (a : Option A) → option_or a None ≡ a
-option_or_none None = refl
-option_or_none (Some x) = refl
-
 -- one item moves from the words to come into what is kept
 last_item-moves : (table : Table) (words : List Word) (at past : ℕ) (item : Item) (option : Word)
     (kept : Option Item) → IsItem table item → drop at words ≡ words_of item ++ drop past words
@@ -174,12 +170,6 @@ fault-moves : (table : Table) (words : List Word) (at : ℕ) (item : Item)
     → IsItem table item → drop at words ≡ words_of item ++ drop (at + length (words_of item)) words
     → word_fault table at (drop at words) ≡ word_fault table (at + length (words_of item)) (drop (at + length (words_of item)) words)
 fault-moves table words at item h here = rw here (word_fault-item table at item (drop (at + length (words_of item)) words) h)
-
-pub reads-start : (table : Table) (words : List Word) (option : Word) → Reads table words option 1 None
-reads-start table words option = record { fault = refl; last = sym (option_or_none (last_item option (items_of table (drop 1 words)))) }
-
-pub reads-on-start : (table : Table) (words : List Word) → ReadsOn table words 1
-reads-on-start table words = record { fault = refl }
 
 pub reads-on-item : (table : Table) (words : List Word) (at : ℕ) (item : Item)
     → IsItem table item → drop at words ≡ words_of item ++ drop (at + length (words_of item)) words

@@ -4,7 +4,7 @@ use Rattle.std.specs.Prelude.{Bool, IsSome}
 use Rattle.std.proofs.lemmas.Bool.{false≢true}
 use Rattle.bt_lines.specs.Fault.{Told}
 use Rattle.bt_lines.specs.Lines.{TextLine}
-use Rattle.bt_lines.specs.Reader.{Hands, lines_given}
+use Rattle.bt_lines.specs.Reader.{lines_given}
 use Rattle.bt_lines.specs.declared.fault.Kind.{Kind}
 use Rattle.bt_lines.proofs.ReaderLemmas.{hands_none, hands_both}
 use Rattle.bt_bed.specs.Good.{Member}
@@ -35,15 +35,13 @@ module _ {S A State : Type 0} (left : S → Option (List ℕ)) (failed end : S �
         let hands = ahead.read.stays.bytes in
         let up = rises_up left failed now peeked m now.ahead refl ahead.read in
         record {
-          bytes = subst (λ reader. (bytes : List ℕ) × Hands left before.below bytes reader) (sym passes.reads_nothing)
-              (on.bytes.0 ++ hands.0, hands_both left before.below now.below peeked.below on.bytes.0 hands.0 on.bytes.1 hands.1);
+          bytes = rw passes.reads_nothing (on.bytes.0 ++ hands.0, hands_both left before.below now.below peeked.below on.bytes.0 hands.0 on.bytes.1 hands.1);
           rises = subst (λ reader. lines_given before.below ≤ lines_given reader) (sym passes.reads_nothing) (omega (arith, on.rises, up));
           going = λ none. passes.goes ∙ ahead.read.goes ∙ on.going none;
           passes = λ old past p.
               let was = on.passes old past p in (
                 was.0 ++ m ∷ [],
-                subst (λ l. Passes left failed end old l next) (append_assoc past was.0 (m ∷ []))
-                    (passes_more left failed end old (past ++ was.0) now was.1 m peeked ahead next passes),
+                rw (← append_assoc past was.0 (m ∷ [])) (passes_more left failed end old (past ++ was.0) now was.1 m peeked ahead next passes),
               );
         }
 

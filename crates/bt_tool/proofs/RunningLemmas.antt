@@ -1,10 +1,13 @@
 -- Lemmas on a run, from its devices to the report on what its inputs hand over.
-use Rattle.std.proofs.Common.{◌≡◌, ℕ, ◌+◌, ◌-◌, ◌≤◌, Bool, true, false, List, [], ◌++◌, length, take, Option, None, Some, Ok, Err, refl, sym, ap, ◌∙◌, subst, append-nil, append_assoc, length-append, arith, inl, inr, ⊎_elim}
+use Rattle.std.proofs.Common.{◌≡◌, ℕ, ◌+◌, ◌≤◌, Bool, true, false, List, [], ◌++◌, length, take, Option, None, Some, Ok, Err, refl, sym, ap, ◌∙◌, subst, append-nil, append_assoc, arith, inl, inr, ⊎_elim}
 use Rattle.std.specs.Prelude.{◌⊎◌, ◌≢◌, IfSome, Result, is_some, option_map}
 use Rattle.std.proofs.lemmas.Bool.{false≢true}
 use Rattle.std.proofs.lemmas.List.{append_cancel_left}
 use Rattle.std.specs.Io.KnownBytes.{Consumes, Keeps}
 use Rattle.std.proofs.KnownBytes.{Appends-nil, Consumes-nil}
+use Rattle.bt_lines.proofs.ReadsLemmas.{some_is}
+use Rattle.bt_tool.proofs.FeedLemmas.{took_more_than}
+use Rattle.bt_lines.proofs.OutputLemmas.{grows_both}
 use Rattle.bt_lines.specs.Fault.{Told, write_failed, no_memory}
 use Rattle.bt_lines.specs.Handed.{Handed}
 use Rattle.bt_lines.specs.Lines.{TextLine, text_lines}
@@ -22,9 +25,9 @@ use Rattle.bt_bed.specs.declared.genome.Genome.{Genome}
 use Rattle.bt_runs.specs.Depth.{settled_depths}
 use Rattle.bt_runs.specs.Gaps.{settled_gaps}
 use Rattle.bt_tool.specs.Kinds.{IsOneOf}
-use Rattle.bt_tool.specs.Chromosomes.{KnowsChromosomes, LacksChromosomes, ReadsChromosomes, StopsAtGenome, WritesBy, WritesOutput}
-use Rattle.bt_tool.specs.Driving.{IsOfInput, ReadsNoFurther, TellsDevice, TellsInput, TellsInputIf, TellsLine, TellsRead}
-use Rattle.bt_tool.specs.Telling.{IsPutTo}
+use Rattle.bt_tool.specs.Chromosomes.{KnowsChromosomes, LacksChromosomes, ReadsChromosomes, StopsAtGenome, WritesOutput}
+use Rattle.bt_tool.specs.Telling.{IsOfInput, IsPutTo, ReadsNoFurther, TellsDevice, TellsInput, TellsInputIf, TellsLine, TellsRead}
+use Rattle.bt_tool.specs.Writing.{WritesBy}
 use Rattle.bt_tool.specs.Flushing.{Flushes, FlushesAll, FlushFails, StaysFailed}
 use Rattle.bt_tool.specs.Gives.{Runs, TellsOther, is_of_genome, lies_in_genome}
 use Rattle.bt_tool.specs.Inputs.{HandsUpToIf, Inputs}
@@ -33,10 +36,9 @@ use Rattle.bt_tool.specs.Behaviour.{behaviour_of, order_of}
 use Rattle.bt_tool.specs.Report.{chromosomes_of, reaches_on, report_of, report_on, settles_on}
 use Rattle.bt_tool.specs.declared.plan_type.Command.{Command}
 use Rattle.bt_tool.specs.declared.plan_type.Command.TheVariants.{Merge, Complement, Intersect, Subtract, Coverage, BamToBed, MaskFasta}
-use Rattle.bt_tool.proofs.FeedLemmas.{grows_both}
 use Rattle.bt_tool.proofs.WriteLemmas.{merge_settles_none}
-use Rattle.bt_tool.proofs.WritingLemmas.{hands_none}
-use Rattle.bt_tool.proofs.FaultLemmas.{memory_no_write, placed_no_write, some_is, write_no_read}
+use Rattle.bt_tool.proofs.WritingLemmas.{hands_none, near_as}
+use Rattle.bt_tool.proofs.FaultLemmas.{memory_no_write, tells_no_write}
 
 -- known bytes that are kept
 kept_known : (a b : Option (List ℕ)) (x : List ℕ) → a ≡ Some x → Keeps a b → b ≡ Some x
@@ -126,30 +128,6 @@ module _ (out mid new : Output) (fault answer : Option Told) where
   placed_by t e lies (inl (inr fails)) = absurd (false≢true (sym (ap (λ (f : Told). lies_in_genome f.place) (some_is t write_failed (sym e ∙ fails.is))) ∙ lies))
   placed_by t e lies (inr stays) = stays.was ∙ sym stays.is ∙ e
 
-later_known : (first took more : Option (List ℕ)) (known : List ℕ) (size : ℕ) → first ≡ Some known → Grows first took → Grows took more
-    → IfSome took (λ taken. size ≤ length taken + block_size) → IfSome more (λ taken. size ≤ length taken + block_size)
-later_known None took more known size e f g h = cc
-later_known (Some first) None more known size e f g h = absurd f.1
-later_known (Some first) (Some took) None known size e f g h = absurd g.1
-later_known (Some first) (Some took) (Some more) known size e f g h =
-    let parts : more ≡ took ++ g.0 = g.1 in
-    omega (arith, ap length parts, length-append took g.0, h)
-
--- what the sink takes later only adds to it
-near_later : (Beside More : List TextLine → Type 0) → ((lines : List TextLine) → Beside lines → More lines) → (settles : List TextLine → List ℕ) (text : List ℕ) (left : Option (List ℕ)) (before : List ℕ) (first took more : Option (List ℕ)) (known : List ℕ) → first ≡ Some known
-    → (Cut Failed : Type 0) (put later : Option (List ℕ)) → ((size : ℕ) → Cut ⊎ IsPutTo size put → Failed ⊎ IsPutTo size later)
-    → Grows first took → Grows took more → ReadsNoFurther Beside settles text left before took Cut put → ReadsNoFurther More settles text left before more Failed later
-near_later Beside More adds settles text left before first took more known e Cut Failed put later carries f g near = record {
-  n = near.n;
-  some = near.some;
-  handed = near.handed;
-  consumed = near.consumed;
-  read = near.read;
-  settled = later_known first took more known (length (before ++ settles (take (near.n - 1) (text_lines text)))) e f g near.settled;
-  kept = carries (length (before ++ settles (take (near.n - 1) (text_lines text)))) near.kept;
-  beside = adds (take near.n (text_lines text)) near.beside;
-}
-
 -- no line settles nothing
 none_settle : (command : Command) (chromosomes : Option (List Entry)) (second : Option Handed) → (behaviour_of command chromosomes).settles second [] ≡ []
 unfolding good_from settled_gaps settled_depths
@@ -207,14 +185,10 @@ write_by b other (inl p) = absurd (other p)
 write_by b other (inr (inl write)) = write.1
 write_by b other (inr (inr memory)) = absurd (memory_no_write (sym memory))
 
-write_of_input : {A : Type 0} (left : A → Option (List ℕ)) (failed : A → Bool) (kinds : Kind → Type 0) (input : Input) (before after : A) → TellsInput left failed kinds input before after write_failed → ⊥
-write_of_input left failed kinds input before after (inl tells) = placed_no_write input tells.line tells.kind (sym tells.is)
-write_of_input left failed kinds input before after (inr tells) = write_no_read input tells.line tells.is
-
 write_of_if : {B : Type 0} (left : B → Option (List ℕ)) (failed : B → Bool) (kinds : Kind → Type 0) (input : Input) (before after : Option B) → TellsInputIf left failed kinds input before after write_failed → ⊥
 write_of_if left failed kinds input None after tells = absurd tells
 write_of_if left failed kinds input (Some before) None tells = absurd tells
-write_of_if left failed kinds input (Some before) (Some after) tells = write_of_input left failed kinds input before after tells
+write_of_if left failed kinds input (Some before) (Some after) tells = tells_no_write left failed kinds input before after tells
 
 -- an input that wasn't touched was read no further than its first line
 near_untouched : (Beside : List TextLine → Type 0) → ((lines : List TextLine) → Beside lines) → (command : Command) (chromosomes : Result (Option (List Entry)) Told) (second : Option Handed) (text before : List ℕ) (left took more : Option (List ℕ)) → left ≡ Some text → took ≡ Some before → Grows took more
@@ -227,7 +201,7 @@ near_untouched Beside has command chromosomes second text before left took more 
   consumed = subst (λ o. Consumes o left []) e (Consumes-nil left);
   read = omega arith;
   beside = has (take 1 (text_lines text));
-  settled = rw (none_settle_on command chromosomes second) (later_known took took more before (length (before ++ [])) t ([], Appends-nil took) g (taken_all took before t));
+  settled = rw (none_settle_on command chromosomes second) (took_more_than took took more before (length (before ++ [])) t ([], Appends-nil took) g (taken_all took before t));
   kept = rw (none_settle_on command chromosomes second) kept;
 }
 
@@ -260,7 +234,7 @@ module _ {G A B K : Type 0} (g_left : G → Option (List ℕ)) (g_failed : G →
     Tells t = TellsInput a_left a_failed (behaviour_of command chromosomes).FirstKinds First first first_after t ⊎ TellsInputIf b_left b_failed (behaviour_of command chromosomes).SecondKinds Second second second_after t
 
     write_of_others : Tells write_failed → ⊥
-    write_of_others (inl tells) = write_of_input a_left a_failed (behaviour_of command chromosomes).FirstKinds First first first_after tells
+    write_of_others (inl tells) = tells_no_write a_left a_failed (behaviour_of command chromosomes).FirstKinds First first first_after tells
     write_of_others (inr tells) = write_of_if b_left b_failed (behaviour_of command chromosomes).SecondKinds Second second second_after tells
 
     others_elsewhere : (t : Told) → Tells t ⊎ TellsDevice mid.sink_has_failed t → lies_in_genome t.place ≡ true → ⊥
@@ -299,12 +273,9 @@ module _ {G A B K : Type 0} (g_left : G → Option (List ℕ)) (g_failed : G →
           (f.0, f.1, took_after ∙ f.2, ap (λ (r : Report). r.output) same ∙ f.3);
       near = λ inputs before holds known.
           let near = writes.near inputs.first inputs.second before before holds.first_input holds.second_input (put ∙ known) (took ∙ known) in
-          let read = knows.told inputs.genome holds.genome_file in
-          let later = near_later (λ lines. a_end first_after ≡ false → HandsUpToIf b_left ((behaviour_of command chromosomes).reaches inputs.second lines + block_size) second second_after) (Beside inputs)
-          (λ lines beside. subst (λ c. a_end first_after ≡ false → HandsUpToIf b_left (reaches_on command c inputs.second lines + block_size) second second_after) (sym read) beside)
-          ((behaviour_of command chromosomes).settles inputs.second) inputs.first.text (a_left first_after) before begun.took mid.took new.took before (took ∙ known) (mid.has_failed ≡ true) (answer ≡ Some write_failed) mid.put new.took (λ size kept. kept_by begun mid new fault answer size kept flushes.ends) writes.grows flushes.grows near in
-          subst (λ c. ReadsNoFurther (Beside inputs) (settles_on command c inputs.second) inputs.first.text (a_left first_after) before (k_took out_after) (answer ≡ Some write_failed) (k_took out_after)) (sym read)
-          (subst (λ taken. ReadsNoFurther (Beside inputs) ((behaviour_of command chromosomes).settles inputs.second) inputs.first.text (a_left first_after) before taken (answer ≡ Some write_failed) taken) (sym took_after) later);
+          rw (knows.told inputs.genome holds.genome_file, took_after)
+          (near_as _ _ (λ lines beside. beside) ((behaviour_of command chromosomes).settles inputs.second) ((behaviour_of command chromosomes).settles inputs.second) (λ lines. refl) inputs.first.text (a_left first_after) before mid.took new.took (mid.has_failed ≡ true)
+          (answer ≡ Some write_failed) mid.put new.took (λ size. took_more_than begun.took mid.took new.took before size (took ∙ known) writes.grows flushes.grows) (λ size kept. kept_by begun mid new fault answer size kept flushes.ends) near);
       served = λ none.
           let was = served_by begun mid new fault answer flushes.ends none in
           let devices = writes.served was.0 in
@@ -312,8 +283,7 @@ module _ {G A B K : Type 0} (g_left : G → Option (List ℕ)) (g_failed : G →
       after_genome = λ file holds wrong e. absurd (other_chromosomes (chromosomes_of file) chromosomes wrong (knows.told file holds) e);
       untouched = λ t e lies. absurd (others_elsewhere t (writes.named t (placed_by begun mid new fault answer t e lies flushes.ends)) lies);
       named = λ t e.
-          subst (λ b. (GenomeTells t ⊎ OthersTell t) ⊎ TellsDevice b t) (sym failed_after)
-          (named_by begun mid new fault answer (λ t e. of_others t (writes.named t e)) flushes.ends t e);
+          rw failed_after (named_by begun mid new fault answer (λ t e. of_others t (writes.named t e)) flushes.ends t e);
     }
 
   -- the genome file is at fault, and nothing else was touched
@@ -353,21 +323,17 @@ module _ {G A B K : Type 0} (g_left : G → Option (List ℕ)) (g_failed : G →
           (f.0, f.1, took_after ∙ f.2, f.3);
       near = λ inputs before holds known.
           let text = holds.first_input in
-          let settles = settles_on command (chromosomes_of inputs.genome) inputs.second in
-          subst (λ (h : Handed). ReadsNoFurther (Beside inputs) settles h.text (a_left first_after) before (k_took out_after) (answer ≡ Some write_failed) (k_took out_after)) (sym text.is)
-          (subst (λ f. ReadsNoFurther (Beside inputs) settles text.text (a_left f) before (k_took out_after) (answer ≡ Some write_failed) (k_took out_after)) (sym stops.untouched)
-          (subst (λ taken. ReadsNoFurther (Beside inputs) settles text.text (a_left first) before taken (answer ≡ Some write_failed) taken) (sym took_after)
-          (near_untouched (Beside inputs) (λ lines end. subst (HandsUpToIf b_left (reaches_on command (chromosomes_of inputs.genome) inputs.second lines + block_size) second) (sym stops.other_untouched) (hands_none b_left second inputs.second (reaches_on command (chromosomes_of inputs.genome) inputs.second lines + block_size) holds.second_input))
+          rw (text.is, stops.untouched, stops.other_untouched, took_after)
+          (near_untouched _ (λ lines end. hands_none b_left second inputs.second (reaches_on command (chromosomes_of inputs.genome) inputs.second lines + block_size) holds.second_input)
           command (chromosomes_of inputs.genome) inputs.second text.text before (a_left first) begun.took new.took text.known (took ∙ known) (grows_both begun.took mid.took new.took mid_grows flushes.grows)
-          (answer ≡ Some write_failed) new.took (kept_by begun mid new fault answer (length (before ++ [])) (inr (before ++ [], begun_put before known, omega arith)) flushes.ends))));
+          (answer ≡ Some write_failed) new.took (kept_by begun mid new fault answer (length (before ++ [])) (inr (before ++ [], begun_put before known, omega arith)) flushes.ends));
       served = λ none.
           let was = served_by begun mid new fault answer flushes.ends none in
           absurd (let apart : None ≡ Some wrong = sym was.0 ∙ stops.is in cc);
       after_genome = λ file holds wrong e. (stops.untouched, stops.other_untouched);
       untouched = λ t e lies. (stops.untouched, stops.other_untouched);
       named = λ t e.
-          subst (λ b. (GenomeTells t ⊎ OthersTell t) ⊎ TellsDevice b t) (sym failed_after)
-          (named_by begun mid new fault answer (λ t e. genome_named t lacks.named (some_is wrong t (sym stops.is ∙ e))) flushes.ends t e);
+          rw failed_after (named_by begun mid new fault answer (λ t e. genome_named t lacks.named (some_is wrong t (sym stops.is ∙ e))) flushes.ends t e);
     }
 
   pub runs_by : (chromosomes : Result (Option Genome) Fault) → ReadsChromosomes g_left g_failed genome chromosomes genome_after → WritesOutput a_left a_failed a_end b_left b_failed command chromosomes first second begun fault first_after second_after mid → RunsSo

@@ -1,8 +1,8 @@
 -- The facts of a sweep that its report and its reading rest on.
-use Rattle.std.proofs.Common.{◌≡◌, ℕ, suc, ◌<◌, ◌≤◌, Bool, true, false, ◌&&◌, not, List, [], ◌∷◌, ◌++◌, Option, take, refl, sym, ◌∙◌, subst}
+use Rattle.std.proofs.Common.{◌≡◌, ℕ, suc, ◌<◌, ◌≤◌, not, List, [], ◌∷◌, ◌++◌, Option, take, refl, sym, ◌∙◌, subst}
 use Rattle.std.specs.Prelude.{All, IsTrue}
 use Rattle.std.specs.List.{list_all}
-use Rattle.std.proofs.lemmas.Bool.{false≢true, and_from, or_left}
+use Rattle.std.proofs.lemmas.Bool.{and_from, or_left, and_parts}
 use Rattle.std.proofs.lemmas.List.Elements.{All-head, All-tail}
 use Rattle.std.proofs.lemmas.List.Folds.{list_any-append}
 use Rattle.bt_lines.specs.Lines.{TextLine, bytes_in}
@@ -13,26 +13,18 @@ use Rattle.bt_sweep.specs.Deciding.{decides}
 use Rattle.bt_sweep.specs.Standing.{leaves_some}
 use Rattle.bt_sweep.specs.declared.hit_rule.HitRule.{HitRule}
 use Rattle.bt_sweep.specs.declared.shape.Shape.{Shape}
-use Rattle.bt_tool.specs.Both.{bytes_up_to, decider}
+use Rattle.bt_tool.specs.SweepReport.{bytes_up_to, decider}
 use Rattle.bt_tool.specs.Feeding.{member_items}
 use Rattle.bt_tool.specs.SweepLoop.{sweep_making}
 use Rattle.bt_tool.proofs.PairNear.{AreNeeded, least_by, not_all, skip_by, take_whole}
-
-and_first : (a b : Bool) → (a && b) ≡ true → a ≡ true
-and_first true b e = refl
-and_first false b e = e
-
-and_second : (a b : Bool) → (a && b) ≡ true → b ≡ true
-and_second true b e = e
-and_second false b e = absurd (false≢true e)
 
 module _ (order : Order) where
   -- who leaves one of some records undecided, leaves one of more undecided
   leaves_more : (as_given extra taken : List Feature) → IsTrue (list_all (leaves_some order as_given) taken) → IsTrue (list_all (leaves_some order (as_given ++ extra)) taken)
   leaves_more as_given extra [] h = refl
   leaves_more as_given extra (b ∷ bs) h =
-      let here = and_first (leaves_some order as_given b) (list_all (leaves_some order as_given) bs) h in
-      let rest = and_second (leaves_some order as_given b) (list_all (leaves_some order as_given) bs) h in
+      let here = (and_parts (leaves_some order as_given b) (list_all (leaves_some order as_given) bs) h).0 in
+      let rest = (and_parts (leaves_some order as_given b) (list_all (leaves_some order as_given) bs) h).1 in
       and_from (leaves_some order (as_given ++ extra) b) (list_all (leaves_some order (as_given ++ extra)) bs)
       (list_any-append (λ a. not (decides order a b)) as_given extra ∙ or_left (leaves_some order as_given b) (leaves_some order extra b) here)
       (leaves_more as_given extra bs rest)
@@ -42,8 +34,8 @@ module _ (order : Order) where
       → decider order as_given (past ++ rest) ≡ decider order as_given rest
   decider_behind as_given [] rest h = refl
   decider_behind as_given (m ∷ ms) rest h =
-      let here = and_first (leaves_some order as_given m.item) (list_all (leaves_some order as_given) (member_items ms)) h in
-      let more = and_second (leaves_some order as_given m.item) (list_all (leaves_some order as_given) (member_items ms)) h in
+      let here = (and_parts (leaves_some order as_given m.item) (list_all (leaves_some order as_given) (member_items ms)) h).0 in
+      let more = (and_parts (leaves_some order as_given m.item) (list_all (leaves_some order as_given) (member_items ms)) h).1 in
       skip_by (list_all (λ a. decides order a m.item) as_given) m (decider order as_given (ms ++ rest)) (not_all (λ a. decides order a m.item) as_given here)
       ∙ decider_behind as_given ms rest more
 

@@ -2,7 +2,7 @@
 use Rattle.std.proofs.Common.{◌≡◌, ℕ, Bool, true, false, cond, List, [], ◌∷◌, ◌++◌, Option, None, Some, Result, Ok, Err, refl, sym, ap, ◌∙◌, subst, append-nil, append_assoc, option_to_list, inl, inr, filter, length, ◌≤◌}
 use Rattle.std.specs.Prelude.{IfSome, IsTrue, is_some}
 use Rattle.std.specs.List.{list_all}
-use Rattle.std.proofs.lemmas.Bool.{false≢true, or_left, or_right}
+use Rattle.std.proofs.lemmas.Bool.{false≢true, or_left, or_right, false_from_ne_true}
 use Rattle.std.proofs.lemmas.List.{map-append}
 use Rattle.std.proofs.lemmas.List.Folds.{list_any-append}
 use Rattle.bt_lines.specs.Fault.{Told, no_memory}
@@ -76,10 +76,6 @@ done_by : (waits done : Bool) → want_of waits done ≡ Nothing → done ≡ tr
 done_by true done e = absurd (let apart : WantB ≡ Nothing = e in cc)
 done_by false true e = refl
 done_by false false e = absurd (let apart : WantA ≡ Nothing = e in cc)
-
-not_true : (b : Bool) → (b ≡ true → ⊥) → b ≡ false
-not_true true h = absurd (h refl)
-not_true false h = refl
 
 says_bed : (order : Order) (format : Format Feature (Option Locus)) → format ≡ bed_format (sorting_of order) → (state : Option Locus) (line : TextLine) (kind : Kind) → format.says state line ≡ Err kind → IsBedKind order kind
 says_bed order format is state line kind e = wrong_of_bed order state line.text kind (ap (λ (f : Format Feature (Option Locus)). f.says state line) (sym is) ∙ e)
@@ -211,8 +207,7 @@ module _ {A B O : Type 0} {g : Ghosts O} (a_left : A → Option (List ℕ)) (a_f
       -- and its end
       pub ends_first : (first_now : Records A O g) (swept : Sweeping) (now : Output) → EndsFirst a_left a_failed a_end order first sweep grown first_now swept now → Going first_now second swept now
       ends_first first_now swept now turn =
-          subst (λ o. Going first_now second swept o) (sym turn.same_output)
-          (record {
+          rw turn.same_output (record {
             past_first = s.past_first;
             past_second = s.past_second;
             stage = with_a_ended stage;
@@ -226,15 +221,13 @@ module _ {A B O : Type 0} {g : Ghosts O} (a_left : A → Option (List ℕ)) (a_f
       -- the first input couldn't give a record
       pub stops_first : (fault : Told) (first_now : Records A O g) (swept : Sweeping) (now : Output) → StopsTurn a_left a_failed a_end order first sweep grown fault first_now swept now → Ends (Some fault) first_now second now
       stops_first fault first_now swept now turn =
-          subst (λ o. Ends (Some fault) first_now second o) (sym turn.same_output)
-          (stop.stops_first making pair out wrong wrong_second (stage_of stage) s.past_first s.past_second (view_of first) (view_of second) grown s.comes asked s.fits none_waits not_ended fault (view_of first_now)
+          rw turn.same_output (stop.stops_first making pair out wrong wrong_second (stage_of stage) s.past_first s.past_second (view_of first) (view_of second) grown s.comes asked s.fits none_waits not_ended fault (view_of first_now)
           (is_stopped a_left a_failed a_end first first_now fault turn.stopped))
 
       fails_first_by : (b : Bool) → stage.b_ended ≡ b → (fault : Told) (first_now : Records A O g) (swept : Sweeping) (now : Output) (turn : FailsFirst a_left a_failed a_end order first sweep grown fault first_now swept now)
           → Fails grown (cond b (lines_for shape rule turn.item stage.taken) []) fault now → Ends (Some fault) first_now second now
       fails_first_by b e fault first_now swept now turn (inr ran) =
-          subst (λ o. Ends (Some fault) first_now second o) (sym ran.1)
-          (stop.lacks_first making pair out wrong wrong_second (stage_of stage) s.past_first s.past_second (view_of first) (view_of second) grown s.comes asked s.fits none_waits not_ended (next turn.item first_now turn.ahead) (view_of first_now)
+          rw ran.1 (stop.lacks_first making pair out wrong wrong_second (stage_of stage) s.past_first s.past_second (view_of first) (view_of second) grown s.comes asked s.fits none_waits not_ended (next turn.item first_now turn.ahead) (view_of first_now)
           (is_ahead a_left a_failed a_end first first_now turn.item turn.ahead) fault ran.0)
       fails_first_by false e fault first_now swept now turn (inl adds) = absurd (adds.some refl)
       fails_first_by true e fault first_now swept now turn (inl adds) =
@@ -255,7 +248,7 @@ module _ {A B O : Type 0} {g : Ghosts O} (a_left : A → Option (List ℕ)) (a_f
       a = waiting.0
 
       goes : stage.b_ended ≡ false
-      goes = not_true stage.b_ended (λ e. turned.second_waits making pair out (stage_of stage) s.past_first s.past_second (view_of first) (view_of second) grown s.comes a waiting.1 e)
+      goes = false_from_ne_true stage.b_ended (λ e. turned.second_waits making pair out (stage_of stage) s.past_first s.past_second (view_of first) (view_of second) grown s.comes a waiting.1 e)
 
       is_known : IsTrue (order.knows a.chrom)
       is_known = last_known order stage.written a
@@ -268,8 +261,7 @@ module _ {A B O : Type 0} {g : Ghosts O} (a_left : A → Option (List ℕ)) (a_f
         placed_with : ArePlaced order (intervals_of (stage.taken ++ r ∷ []))
         placed_with = subst (λ (l : List Feature). ArePlaced order (intervals_of l))
             (sym (turned.taken_next making pair out (stage_of stage) s.past_first s.past_second (view_of first) (view_of second) grown s.comes goes next_second (view_of peeked) (is_ahead b_left b_failed b_end second peeked r ahead)))
-            (subst (λ (o : Order). ArePlaced o (intervals_of (member_items (s.past_second ++ next_second ∷ [])))) same_order
-            (placed_next b_left b_failed b_end old_second s.past_second second s.second_placed r peeked ahead))
+            (rw (← same_order) (placed_next b_left b_failed b_end old_second s.past_second second s.second_placed r peeked ahead))
 
         -- where it decides a, the lines of a stay
         settles_decided : decides order a r ≡ true → IsKnown pair → Settles making (stage.written ++ a ∷ []) (s.comes.bytes ++ lines_for shape rule a stage.taken) (stage.taken ++ r ∷ []) false
@@ -302,8 +294,7 @@ module _ {A B O : Type 0} {g : Ghosts O} (a_left : A → Option (List ℕ)) (a_f
             let held : swept.held ≡ filter (is_held a) (stage.taken ++ r ∷ []) =
             stands.holds.held_is ∙ ap (λ (gs : List Feature). held_for (last_given gs) (stage.taken ++ r ∷ [])) given_is ∙ ap (λ (o : Option Feature). held_for o (stage.taken ++ r ∷ [])) (last_given-push stage.written a) in
             within_taken order limit (given stage) s.past_second next_second (s.fits known)
-            (subst (λ (gs : List Feature). IfSome limit (λ most. (later : List Feature) → are_too_many order most (gs ++ later) (member_items (s.past_second ++ next_second ∷ [])) ≡ false)) (sym given_is)
-            (subst (λ (l : List Feature). IfSome limit (λ most. (later : List Feature) → are_too_many order most ((stage.written ++ a ∷ []) ++ later) l ≡ false)) taken_is
+            (rw given_is (subst (λ (l : List Feature). IfSome limit (λ most. (later : List Feature) → are_too_many order most ((stage.written ++ a ∷ []) ++ later) l ≡ false)) taken_is
             (held_few order limit stage.written a (stage.taken ++ r ∷ []) (decided_written known) (none_before order a stage.taken r total is_known placed_with undecided)
             (subst (λ (l : List Feature). IfSome limit (λ most. length l ≤ most)) held stands.within))))
 
@@ -322,8 +313,7 @@ module _ {A B O : Type 0} {g : Ghosts O} (a_left : A → Option (List ℕ)) (a_f
       takes_second second_now swept now turn =
           let takes = turn.given shape rule limit stage a s.stands waiting.1 placed_taken in
           let r = turn.item in
-          subst (λ o. Going first second_now swept o) (sym takes.same_output)
-          (record {
+          rw takes.same_output (record {
             past_first = s.past_first;
             past_second = s.past_second ++ next_second r turn.peeked turn.ahead ∷ [];
             stage = with_b stage r;
@@ -371,8 +361,7 @@ module _ {A B O : Type 0} {g : Ghosts O} (a_left : A → Option (List ℕ)) (a_f
       -- the second input couldn't give a record
       pub stops_second : (fault : Told) (second_now : Records B O g) (swept : Sweeping) (now : Output) → StopsTurn b_left b_failed b_end order second sweep grown fault second_now swept now → Ends (Some fault) first second_now now
       stops_second fault second_now swept now turn =
-          subst (λ o. Ends (Some fault) first second_now o) (sym turn.same_output)
-          (stop.stops_second making pair out wrong wrong_second (stage_of stage) s.past_first s.past_second (view_of first) (view_of second) grown s.comes asked s.fits goes a waiting.1 fault (view_of second_now)
+          rw turn.same_output (stop.stops_second making pair out wrong wrong_second (stage_of stage) s.past_first s.past_second (view_of first) (view_of second) grown s.comes asked s.fits goes a waiting.1 fault (view_of second_now)
           (is_stopped b_left b_failed b_end second second_now fault turn.stopped))
 
       -- its record wasn't held, or the lines of a weren't written
@@ -382,13 +371,11 @@ module _ {A B O : Type 0} {g : Ghosts O} (a_left : A → Option (List ℕ)) (a_f
             | inl writes ↦ stop.fails_waiting making pair out wrong wrong_second (stage_of stage) s.past_first s.past_second (view_of first) (view_of second) grown s.comes asked s.fits goes a waiting.1 (next_second turn.item second_now turn.ahead) (view_of second_now)
                 (is_ahead b_left b_failed b_end second second_now turn.item turn.ahead) (lines_for shape rule a stage.taken) (settles_decided turn.item second_now turn.ahead writes.decides) fault now writes.fails
             | inr others ↦ elim others [
-              | inl full ↦ subst (λ o. Ends (Some fault) first second_now o) (sym full.same_output)
-                  (stop.passes_limit making pair out wrong wrong_second (stage_of stage) s.past_first s.past_second (view_of first) (view_of second) grown s.comes asked s.fits goes a waiting.1 (next_second turn.item second_now turn.ahead) (view_of second_now)
+              | inl full ↦ rw full.same_output (stop.passes_limit making pair out wrong wrong_second (stage_of stage) s.past_first s.past_second (view_of first) (view_of second) grown s.comes asked s.fits goes a waiting.1 (next_second turn.item second_now turn.ahead) (view_of second_now)
                   (is_ahead b_left b_failed b_end second second_now turn.item turn.ahead) TooManyHeld (inr (some_limit limit (length (held_for (Some a) stage.taken)) full.is_full, refl)) fault full.is
                   (subst (λ (l : List Feature). decided order a l ≡ false) (taken_is turn.item second_now turn.ahead) (none_before order a stage.taken turn.item total is_known (placed_with turn.item second_now turn.ahead) full.undecided))
                   (cuts_here turn.item second_now turn.ahead fault full.is full.undecided full.to_hold full.is_full))
-              | inr holds ↦ subst (λ o. Ends (Some fault) first second_now o) (sym holds.same_output)
-                  (stop.lacks_second making pair out wrong wrong_second (stage_of stage) s.past_first s.past_second (view_of first) (view_of second) grown s.comes asked s.fits goes a waiting.1 (next_second turn.item second_now turn.ahead) (view_of second_now)
+              | inr holds ↦ rw holds.same_output (stop.lacks_second making pair out wrong wrong_second (stage_of stage) s.past_first s.past_second (view_of first) (view_of second) grown s.comes asked s.fits goes a waiting.1 (next_second turn.item second_now turn.ahead) (view_of second_now)
                   (is_ahead b_left b_failed b_end second second_now turn.item turn.ahead) fault holds.is)
             ]
           ]

@@ -1,21 +1,18 @@
 -- Lemmas on the lines that an engine writes, from its intervals, and on the report that they make.
-use Rattle.std.proofs.Common.{◌≡◌, ℕ, ◌+◌, ◌-◌, ◌≤◌, Bool, true, List, [], ◌++◌, length, take, Option, None, Some, refl, sym, ap, ◌∙◌, subst}
-use Rattle.std.specs.Prelude.{◌⊎◌, IfSome}
+use Rattle.std.proofs.Common.{◌≡◌, ℕ, Bool, true, List, [], Option, None, Some, refl, sym, ap, ◌∙◌}
 use Rattle.std.proofs.lemmas.Grind.{flat_map-append}
 use Rattle.std.proofs.lemmas.List.{map-append}
 use Rattle.bt_lines.specs.Fault.{Told}
-use Rattle.bt_lines.specs.Handed.{Handed, whole_text}
-use Rattle.bt_lines.specs.Lines.{TextLine, text_lines}
-use Rattle.bt_lines.specs.Output.{Output, block_size}
+use Rattle.bt_lines.specs.Handed.{Handed}
+use Rattle.bt_lines.specs.Lines.{TextLine}
+use Rattle.bt_lines.specs.Output.{Output}
 use Rattle.bt_lines.specs.declared.fault.Input.TheVariants.{First}
-use Rattle.bt_lines.specs.declared.fault.Kind.{Kind}
 use Rattle.bt_bed.specs.Feature.{Feature, intervals_of}
 use Rattle.bt_bed.specs.Genome.{Entry}
 use Rattle.bt_bed.specs.Good.{good, items_in}
 use Rattle.bt_bed.specs.GoodBed.{bed_format, bed_good}
 use Rattle.bt_bed.specs.Interval.{Interval, last_of}
 use Rattle.bt_bed.specs.IntervalLine.{interval_line, interval_lines}
-use Rattle.bt_bed.specs.LineKind.{IsBedKind}
 use Rattle.bt_bed.specs.Order.{IsTotal, Order}
 use Rattle.bt_bed.specs.Locus.{ArePlaced}
 use Rattle.bt_bed.specs.Sorting.{sorting_of}
@@ -30,9 +27,10 @@ use Rattle.bt_runs.specs.declared.merge_strand.MergeStrand.TheVariants.{All, Eac
 use Rattle.bt_runs.proofs.RunOrder.{ordered_come}
 use Rattle.bt_runs.proofs.SettledRuns.{runs_begin, runs_stay}
 use Rattle.bt_runs.proofs.StrandSettling.{begin, no_strand_settled, stay}
-use Rattle.bt_tool.specs.Telling.{IsPutTo}
-use Rattle.bt_tool.specs.Driving.{IsReported, WritesInput, WritesRecords}
-use Rattle.bt_tool.specs.RecordReport.{Report, records_report, records_settle, report_by}
+use Rattle.bt_tool.specs.Behaviour.{of_records}
+use Rattle.bt_tool.specs.Writing.{WritesRecords}
+use Rattle.bt_tool.proofs.WritingLemmas.{alone_writes}
+use Rattle.bt_tool.specs.RecordReport.{records_report, records_settle, report_by}
 use Rattle.bt_tool.specs.Written.{Written, merge_written, pooled_written}
 
 -- intervals that stay give lines that stay
@@ -81,37 +79,6 @@ pub complement_begins : (limit : Bool) (entries : List Entry) → interval_lines
 unfolding settled_gaps
 complement_begins limit entries = refl
 
--- a report in the place of an equal one
-pub writes_same : {A : Type 0} (left : A → Option (List ℕ)) (failed : A → Bool) (kinds : Kind → Type 0) (mine report : Handed → Report) (mine_settle settles : List TextLine → List ℕ)
-    → ((handed : Handed) → mine handed ≡ report handed) → ((lines : List TextLine) → mine_settle lines ≡ settles lines)
-    → (first : A) (out : Output) (fault : Option Told) (new : A) (grown : Output) → WritesInput left failed kinds mine mine_settle first out fault new grown
-    → WritesInput left failed kinds report settles first out fault new grown
-writes_same left failed kinds mine report mine_settle settles same same_settle first out fault new grown w = record {
-  whole = λ handed before reads put write memory. subst (λ r. IsReported r before fault grown) (same handed) (w.whole handed before reads put write memory);
-  told = λ text before e put is. subst (λ r. IsReported r before fault grown) (same (whole_text text)) (w.told text before e put is);
-  cut = λ is text before e put.
-      let c = w.cut is text before e put in
-      (c.0, c.1, ap (λ (r : Report). r.output) (sym (same (whole_text text))) ∙ c.2, c.3);
-  kept = λ other text before e put.
-      let k = w.kept other text before e put in
-      (k.0, k.1, ap (λ (r : Report). r.output) (sym (same (whole_text text))) ∙ k.2, k.3);
-  grows = w.grows;
-  served = w.served;
-  near = λ text before taken e put known.
-      let n = w.near text before taken e put known in
-      record {
-        n = n.n;
-        some = n.some;
-        handed = n.handed;
-        consumed = n.consumed;
-        read = n.read;
-        settled = subst (λ l. IfSome grown.took (λ taken. length (before ++ l) ≤ length taken + block_size)) (same_settle (take (n.n - 1) (text_lines text))) n.settled;
-        kept = subst (λ l. (grown.has_failed ≡ true) ⊎ IsPutTo (length (before ++ l)) grown.put) (same_settle (take (n.n - 1) (text_lines text))) n.kept;
-        beside = n.beside;
-      };
-  named = w.named;
-}
-
 -- the records of a report are in order
 module _ (order : Order) (total : IsTotal order) where
   -- merged runs come in that order
@@ -159,8 +126,8 @@ module _ (order : Order) (total : IsTotal order) where
       → (first : A) (out : Output) (fault : Option Told) (new : A) (grown : Output)
       → WritesRecords left failed (merge_as_they_come merge) order first out fault new grown
       → WritesRecords left failed (merge_written order d strand) order first out fault new grown
-  merge_writes left failed d strand merge begun =
-      writes_same left failed (IsBedKind order) (records_report (merge_as_they_come merge) order) (records_report (merge_written order d strand) order)
-      (records_settle (merge_as_they_come merge) order) (records_settle (merge_written order d strand) order)
-      (λ handed. ap (λ m. records_report (merge_as_they_come m) order handed) begun ∙ merge_reports d strand handed)
-      (λ lines. ap (λ m. records_settle (merge_as_they_come m) order lines) begun ∙ merge_settles d strand lines)
+  merge_writes left failed d strand merge begun first out fault new grown =
+      alone_writes left failed (λ source. true) left failed (of_records order (merge_as_they_come merge)) (of_records order (merge_written order d strand))
+      (λ one two. ap (λ m. records_report (merge_as_they_come m) order one) begun ∙ merge_reports d strand one)
+      (λ two lines. ap (λ m. records_settle (merge_as_they_come m) order lines) begun ∙ merge_settles d strand lines)
+      first None out fault new grown (λ t tells. tells)

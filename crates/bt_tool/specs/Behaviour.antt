@@ -1,24 +1,28 @@
 -- What a command does with its inputs: the report on what they hand over, what the first lines of
 -- the first input settle and ask for, and which faults a line of each can have.
 use Rattle.std.specs.Prelude.{ℕ, Bool, List, [], Option, Some, None, unwrap_or}
-use Rattle.bt_lines.specs.Handed.{Handed, whole_text}
+use Rattle.bt_lines.specs.Handed.{Handed}
 use Rattle.bt_lines.specs.Lines.{TextLine}
 use Rattle.bt_lines.specs.declared.fault.Kind.{Kind}
 use Rattle.bt_bed.specs.ByteOrder.{byte_order}
 use Rattle.bt_bed.specs.Feature.{Feature}
 use Rattle.bt_bed.specs.Genome.{Entry, genome_names}
+use Rattle.bt_bed.specs.Good.{Format}
+use Rattle.bt_bed.specs.GoodBed.{bed_format}
 use Rattle.bt_bed.specs.LineKind.{IsBedKind}
 use Rattle.bt_bed.specs.Order.{Order}
 use Rattle.bt_bed.specs.Rank.{rank_order}
+use Rattle.bt_bed.specs.Sorting.{sorting_of}
 use Rattle.bt_seq.specs.SamKind.{is_sam_kind}
 use Rattle.bt_seq.specs.declared.mask_how.MaskHow.{MaskHow}
 use Rattle.bt_sweep.specs.declared.hit_rule.HitRule.{HitRule}
 use Rattle.bt_sweep.specs.declared.shape.Shape.{Shape}
 use Rattle.bt_tool.specs.ConvertReport.{bamtobed_report, bamtobed_settles}
+use Rattle.bt_tool.specs.Inputs.{or_empty}
 use Rattle.bt_tool.specs.Kinds.{IsNoKind, IsOneOf}
 use Rattle.bt_tool.specs.MaskReport.{is_fasta_kind, is_mask_kind, mask_reaches, mask_report}
 use Rattle.bt_tool.specs.MaskReport.{mask_settles}
-use Rattle.bt_tool.specs.RecordReport.{Report, records_report, records_settle}
+use Rattle.bt_tool.specs.RecordReport.{Report, members_report, members_settle}
 use Rattle.bt_tool.specs.SweepReport.{IsSweptKind, intersect_reaches, intersect_report}
 use Rattle.bt_tool.specs.SweepReport.{intersect_settles}
 use Rattle.bt_tool.specs.SweepReport.{subtract_reaches, subtract_report, subtract_settles}
@@ -41,19 +45,19 @@ pub record Behaviour : Type 1 where
   pub FirstKinds : Kind → Type 0
   pub SecondKinds : Kind → Type 0
 
--- an input that isn't there is as an empty one
-abbrev pub or_empty : Option Handed → Handed
-or_empty handed = unwrap_or handed (whole_text [])
+-- a command of one input, which writes these lines of its members
+abbrev pub of_members : {A State : Type 0} → (Kind → Type 0) → Written A → Format A State → Behaviour
+of_members Kinds written format = record {
+  report = λ first second. members_report written format first;
+  settles = λ second. members_settle written format;
+  reaches = λ second lines. 0;
+  FirstKinds = Kinds;
+  SecondKinds = IsNoKind;
+}
 
 -- a command of one input of records, in an order of their chromosomes
 abbrev pub of_records : Order → Written Feature → Behaviour
-of_records order written = record {
-  report = λ first second. records_report written order first;
-  settles = λ second. records_settle written order;
-  reaches = λ second lines. 0;
-  FirstKinds = IsBedKind order;
-  SecondKinds = IsNoKind;
-}
+of_records order written = of_members (IsBedKind order) written (bed_format (sorting_of order))
 
 -- intersect, and what subtract does by the same records
 abbrev pub of_intersect : Order → Shape → HitRule → Option ℕ → Behaviour

@@ -12,11 +12,11 @@ use Rattle.bt_bed.specs.LineKind.{is_genome_kind}
 use Rattle.bt_bed.specs.Rank.{AreDistinct}
 use Rattle.bt_bed.specs.declared.genome.Genome.{Genome}
 use Rattle.bt_tool.specs.Kinds.{IsOneOf}
-use Rattle.bt_tool.specs.Behaviour.{Behaviour, behaviour_of}
+use Rattle.bt_tool.specs.Behaviour.{behaviour_of}
 use Rattle.bt_tool.specs.Telling.{IsOfInput, TellsInputIf}
 use Rattle.bt_tool.specs.Inputs.{HoldsIf, ReadsIf, ServesIf}
 use Rattle.bt_tool.specs.Report.{chromosomes_of}
-use Rattle.bt_tool.specs.Writing.{WritesInputs}
+use Rattle.bt_tool.specs.Writing.{WritesBy}
 use Rattle.bt_tool.specs.declared.plan_type.Command.{Command}
 
 module _ {G : Type 0} (left : G → Option (List ℕ)) (failed : G → Bool) where
@@ -57,18 +57,12 @@ pub record StopsAtGenome {A B : Type 0} (first : A) (second : Option B) (out : O
 
 module _ {A B : Type 0} (a_left : A → Option (List ℕ)) (a_failed a_end : A → Bool)
     (b_left : B → Option (List ℕ)) (b_failed : B → Bool) where
-  -- the output of a command was written
-  abbrev pub WritesBy : Behaviour → A → Option B → Output → Option Told → A → Option B → Output
-      → Type 0
-  WritesBy behaviour =
-      WritesInputs a_left a_failed a_end b_left b_failed behaviour.FirstKinds
-      behaviour.SecondKinds behaviour.report behaviour.settles behaviour.reaches
-
-  -- it was written by the chromosomes that were read, or the run ended with their fault
+  -- the output was written by the chromosomes that were read, or the run ended with their fault
   abbrev pub WritesOutput : Command → Result (Option Genome) Fault → A → Option B → Output
       → Option Told → A → Option B → Output → Type 0
   WritesOutput command (Ok table) first second out fault first_after second_after grown =
-      WritesBy (behaviour_of command (option_map entries table)) first second out fault first_after
+      WritesBy a_left a_failed a_end b_left b_failed
+      (behaviour_of command (option_map entries table)) first second out fault first_after
       second_after grown
   WritesOutput command (Err genome_fault) first second out fault first_after second_after grown =
       StopsAtGenome first second out (told genome_fault) fault first_after second_after grown

@@ -1,6 +1,6 @@
 -- What the inputs of a run hand over to it.
-use Rattle.std.specs.Prelude.{◌≡◌, ℕ, ◌-◌, ◌^◌, ◌≤◌, Bool, true, false, ⊤, List, length, nat_le}
-use Rattle.std.specs.Prelude.{take, Option, Some, None}
+use Rattle.std.specs.Prelude.{◌≡◌, ℕ, ◌-◌, ◌^◌, ◌≤◌, Bool, true, false, ⊤, List, [], length}
+use Rattle.std.specs.Prelude.{nat_le, take, Option, Some, None, unwrap_or}
 use Rattle.std.specs.Io.KnownBytes.{Consumes}
 use Rattle.bt_lines.specs.Handed.{Handed, whole_text}
 
@@ -9,6 +9,10 @@ pub record Inputs : Type 0 where
   pub genome : Option Handed
   pub first : Handed
   pub second : Option Handed
+
+-- an input that isn't there is as an empty one
+abbrev pub or_empty : Option Handed → Handed
+or_empty handed = unwrap_or handed (whole_text [])
 
 -- a source handed over no more than so many bytes
 pub record HandsUpTo {S : Type 0} (left : S → Option (List ℕ)) (most : ℕ)

@@ -20,12 +20,10 @@ pub mod Telling
 pub mod OwnReads
 pub mod Flushing
 pub mod Feeding
-pub mod Driving
 pub mod ConvertReport
 pub mod ConvertSteps
 pub mod Writing
 pub mod SweepReport
-pub mod Both
 pub mod MaskReport
 pub mod Turns
 pub mod Passed

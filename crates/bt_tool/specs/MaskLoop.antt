@@ -20,7 +20,7 @@ use Rattle.bt_seq.specs.Owners.{left_after}
 use Rattle.bt_seq.specs.Sequences.{Reached, SequenceLine, sequence_format}
 use Rattle.bt_seq.specs.declared.mask_how.MaskHow.{MaskHow}
 use Rattle.bt_tool.specs.Kinds.{IsOneOf}
-use Rattle.bt_tool.specs.Both.{bytes_up_to}
+use Rattle.bt_tool.specs.SweepReport.{bytes_up_to}
 use Rattle.bt_tool.specs.MaskReport.{is_fasta_kind, is_mask_kind, last_needed}
 use Rattle.bt_tool.specs.Pair.{Making, Pair, item_ahead}
 use Rattle.bt_tool.specs.PairComes.{Comes, Stage as PairStage}

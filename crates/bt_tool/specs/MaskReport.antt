@@ -2,10 +2,8 @@
 use Rattle.std.specs.Prelude.{ℕ, Bool, true, false, List, [], ◌∷◌, ◌++◌, Option, Some, None}
 use Rattle.std.specs.Prelude.{flat_map, if◌then◌else◌}
 use Rattle.std.specs.List.{list_all}
-use Rattle.bt_lines.specs.Fault.{Told}
 use Rattle.bt_lines.specs.Handed.{Handed}
 use Rattle.bt_lines.specs.Lines.{TextLine, text_lines}
-use Rattle.bt_lines.specs.Output.{Output}
 use Rattle.bt_lines.specs.declared.fault.Input.TheVariants.{First, Second}
 use Rattle.bt_lines.specs.declared.fault.Kind.{Kind}
 use Rattle.bt_lines.specs.declared.fault.Kind.TheVariants.{TextBeforeHeader, TooFewColumns}
@@ -17,8 +15,6 @@ use Rattle.bt_bed.specs.GoodBlocks.{block_good}
 use Rattle.bt_seq.specs.Masked.{decided, mask_met, masked_line}
 use Rattle.bt_seq.specs.Sequences.{SequenceLine, sequence_format, sequence_good}
 use Rattle.bt_seq.specs.declared.mask_how.MaskHow.{MaskHow}
-use Rattle.bt_tool.specs.Kinds.{IsOneOf}
-use Rattle.bt_tool.specs.Both.{WritesBoth}
 use Rattle.bt_tool.specs.SweepReport.{bytes_up_to, met_report}
 use Rattle.bt_tool.specs.RecordReport.{Report}
 
@@ -67,11 +63,3 @@ is_mask_kind EmptyFeature = true
 is_mask_kind OutOfOrder = true
 is_mask_kind NoSequence = true
 is_mask_kind _ = false
-
--- the lines of one input were masked by the records of another
-abbrev pub MasksBoth : {A B : Type 0} → (A → Option (List ℕ)) → (A → Bool) → (A → Bool)
-    → (B → Option (List ℕ)) → (B → Bool)
-    → MaskHow → Bool → A → B → Output → Option Told → A → B → Output → Type 0
-MasksBoth a_left a_failed a_end b_left b_failed how full =
-    WritesBoth a_left a_failed a_end b_left b_failed (IsOneOf is_fasta_kind) (IsOneOf is_mask_kind)
-    (mask_report how full) (mask_settles how full) (mask_reaches full)

@@ -1,21 +1,49 @@
 -- A failed read is told only where a read of the run failed, whatever its source did before.
-use Rattle.std.specs.Prelude.{◌≡◌, ℕ, ◌⊎◌, List, Option, Some}
+use Rattle.std.specs.Prelude.{◌≡◌, ◌≢◌, ℕ, ◌^◌, ◌≤◌, ◌⊎◌, ⊤, Option, Some, None, Result, Ok, Err}
+use Rattle.bt_lines.specs.Device.{ReadsFail, ReadsOn}
 use Rattle.bt_lines.specs.Fault.{Told, read_failed}
-use Rattle.bt_lines.specs.Filling.{LastReadFails}
+use Rattle.bt_lines.specs.Names.{told}
+use Rattle.bt_lines.specs.declared.fault.Fault.{Fault}
+use Rattle.bt_lines.specs.declared.fault.Input.{Input}
 use Rattle.bt_lines.specs.declared.fault.Input.TheVariants.{Genome, First, Second}
-use Rattle.bt_tool.specs.Telling.{PassesBound}
 
--- The last read of the source failed, whatever the source did before, or it handed over too many
--- bytes (of unknown bytes that can't be told).
-abbrev pub IsOwnFailure : {S : Type 0} → (S → Option (List ℕ)) → (S → S → Type 0) → S → S → Type 0
-IsOwnFailure left Fails before after =
-    LastReadFails Fails after ⊎ PassesBound (left before) (left after)
+-- the reads of a run served, and gave more bytes than a text may have
+pub record GivesTooMany {S : Type 0} (IsRead : S → Option ℕ → S → Type 0)
+    (before after : S) : Type 0 where
+  pub given : ℕ
+  pub served : ReadsOn IsRead before given after
+  pub past : 2 ^ 63 ≤ given
+
+-- The last read of a run failed, whatever the source did before, or its reads gave too many bytes.
+abbrev pub IsOwnFailure : {S : Type 0} → (S → Option ℕ → S → Type 0) → S → S → Type 0
+IsOwnFailure IsRead before after = ReadsFail IsRead before after ⊎ GivesTooMany IsRead before after
 
 -- the same of an input that may not be there
-abbrev pub IsOwnFailureIf : {S : Type 0} → (S → Option (List ℕ)) → (S → S → Type 0) → Option S
-    → Option S → Type 0
-IsOwnFailureIf left Fails (Some before) (Some after) = IsOwnFailure left Fails before after
-IsOwnFailureIf left Fails _ _ = ⊥
+abbrev pub IsOwnFailureIf : {S : Type 0} → (S → Option ℕ → S → Type 0) → Option S → Option S
+    → Type 0
+IsOwnFailureIf IsRead (Some before) (Some after) = IsOwnFailure IsRead before after
+IsOwnFailureIf IsRead _ _ = ⊥
+
+-- no failed read is told
+abbrev pub TellsNoRead : Option Told → Type 0
+TellsNoRead fault = (input : Input) (line : ℕ) → fault ≢ Some (read_failed input line)
+
+abbrev pub AnswersNoRead : {T : Type 0} → Result T Fault → Type 0
+AnswersNoRead (Ok done) = ⊤
+AnswersNoRead (Err fault) = TellsNoRead (Some (told fault))
+
+-- all reads of a run served
+pub record ReadsServe {S : Type 0} (IsRead : S → Option ℕ → S → Type 0)
+    (before after : S) : Type 0 where
+  pub given : ℕ
+  pub served : ReadsOn IsRead before given after
+
+-- the same of an input that may not be there
+abbrev pub ReadsServeIf : {S : Type 0} → (S → Option ℕ → S → Type 0) → Option S → Option S
+    → Type 0
+ReadsServeIf IsRead None None = ⊤
+ReadsServeIf IsRead (Some before) (Some after) = ReadsServe IsRead before after
+ReadsServeIf IsRead _ _ = ⊥
 
 -- a failed read is told of an input only where this holds of it
 pub record TellsOwnReads (OfGenome OfFirst OfSecond : Type 0) (fault : Option Told) : Type 0 where

@@ -2,10 +2,10 @@
 use Rattle.std.specs.Prelude.{◌≡◌, ℕ, suc, ◌+◌, ◌^◌, ◌<◌, ◌≤◌, ◌⊎◌, ⊤, All, Bool, true, List, []}
 use Rattle.std.specs.Prelude.{◌∷◌, ◌++◌, drop, length, map, Option, Some, None, IfSome}
 use Rattle.bt_lines.specs.Fault.{Told, read_failed, no_memory}
-use Rattle.bt_lines.specs.Filling.{LastReadFails}
 use Rattle.bt_lines.specs.Lines.{bytes_in}
 use Rattle.bt_lines.specs.Output.{block_size}
-use Rattle.bt_lines.specs.Reader.{CutsOff, Hands, IsSound, source_of, input_of, bytes_taken}
+use Rattle.bt_lines.specs.Reader.{CutsOff, Hands, IsSound, IsUnread, source_of, input_of}
+use Rattle.bt_lines.specs.Reader.{bytes_taken}
 use Rattle.bt_lines.specs.Reader.{fault_kept as line_fault, lines_given, lines_left}
 use Rattle.bt_lines.specs.declared.fault.Input.{Input}
 use Rattle.bt_lines.specs.declared.fault.Kind.{Kind}
@@ -43,17 +43,17 @@ abbrev pub lines_read : {S A State : Type 0} → Format A State → State → Li
 lines_read format state lines =
     record { format = format; below = lines; state = state; ahead = None; fault = line_fault lines }
 
--- a failed read that is kept is of the reader's own: the last read of its source failed, whatever
--- the source did before, or its text is too long
-abbrev pub IsOwnFault : {S : Type 0} → (S → S → Type 0) → Option Told → LineReader S → Type 0
-IsOwnFault Fails kept lines =
-    (input : Input) (line : ℕ) → kept ≡ Some (read_failed input line)
-    → LastReadFails Fails (source_of lines) ⊎ (2 ^ 63 ≤ bytes_taken lines)
+-- a failed read that is kept is of the reads since then: the last of them failed, whatever the
+-- source did before, or the text is too long
+abbrev pub IsOwnFault : {S : Type 0} → (S → Option ℕ → S → Type 0) → LineReader S → Option Told
+    → LineReader S → Type 0
+IsOwnFault IsRead old kept new =
+    (input : Input) (line : ℕ) → kept ≡ Some (read_failed input line) → IsUnread IsRead old new
 
 -- so it is of the one that a reader of members keeps
-abbrev pub KeepsOwnFault : {S A State : Type 0} → (S → S → Type 0) → MemberReader S A State
-    → Type 0
-KeepsOwnFault Fails reader = IsOwnFault Fails reader.fault reader.below
+abbrev pub KeepsOwnFault : {S A State : Type 0} → (S → Option ℕ → S → Type 0) → LineReader S
+    → MemberReader S A State → Type 0
+KeepsOwnFault IsRead old reader = IsOwnFault IsRead old reader.fault reader.below
 
 -- a failed read that a reader of members keeps is kept by its reader of lines
 abbrev pub IsKeptBelow : {S A State : Type 0} → MemberReader S A State → LineReader S → Type 0

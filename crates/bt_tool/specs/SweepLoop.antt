@@ -28,7 +28,7 @@ use Rattle.bt_sweep.specs.SweepState.{Sweeping, want_in}
 use Rattle.bt_sweep.specs.declared.hit_rule.HitRule.{HitRule}
 use Rattle.bt_sweep.specs.declared.shape.Shape.{Shape}
 use Rattle.bt_sweep.specs.declared.want.Want.TheVariants.{Nothing}
-use Rattle.bt_tool.specs.Both.{IsSweptKind, bytes_up_to, decider}
+use Rattle.bt_tool.specs.SweepReport.{IsSweptKind, bytes_up_to, decider}
 use Rattle.bt_tool.specs.Feeding.{member_items}
 use Rattle.bt_tool.specs.Pair.{Making, Pair}
 use Rattle.bt_tool.specs.PairComes.{Comes, Stage as PairStage}

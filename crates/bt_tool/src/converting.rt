@@ -4,15 +4,13 @@ ghost use Rattle.std.specs.Prelude.{◌≡◌, None, option_map};
 ghost use Rattle.bt_lines.specs.LentLine.{line_seen};
 ghost use Rattle.bt_lines.specs.Names.{told};
 ghost use Rattle.bt_lines.specs.Output.{HoldsBlock};
-ghost use Rattle.bt_lines.specs.Reader.{fault_kept};
-ghost use Rattle.bt_seq.specs.SamKind.{is_sam_kind};
-ghost use Rattle.bt_tool.specs.Kinds.{IsOneOf};
-ghost use Rattle.bt_tool.specs.ConvertReport.{bamtobed_report, bamtobed_settles};
+ghost use Rattle.bt_lines.specs.Reader.{HasRead, fault_kept};
+ghost use Rattle.bt_tool.specs.Behaviour.{of_bamtobed};
 ghost use Rattle.bt_tool.specs.ConvertSteps.{ConvertsAll, ConvertsLine, sam_reader};
-ghost use Rattle.bt_tool.specs.Driving.{WritesInput};
+ghost use Rattle.bt_tool.specs.Writing.{WritesAlone};
 ghost use Rattle.bt_tool.specs.Feeding.{IsFresh};
 ghost use Rattle.bt_tool.specs.Passed.{IsOwnFault};
-ghost use Rattle.bt_tool.specs.OwnReads.{IsOwnFailure, TellsOwnReads};
+ghost use Rattle.bt_tool.specs.OwnReads.{AnswersNoRead, IsOwnFailure, ReadsServe, TellsNoRead, TellsOwnReads};
 
 use bt_bed::at_line;
 use bt_lines::{Fault, Input, Line, LineReader, Out, Place, Sink, Source};
@@ -50,7 +48,8 @@ fn convert_all<S: Source, K: Sink>(
     requires block { HoldsBlock out.old.took out.old.put }
     ensures converts { ConvertsAll S.left S.has_failed S.end_told converter.old lines.old out.old result
         lines.new out.new }
-    ensures own_failure { IsOwnFault S.read_fails (fault_kept lines.new) lines.new }
+    ensures reads { AnswersNoRead result → HasRead S.is_read lines.old lines.new }
+    ensures own_failure { IsOwnFault S.is_read lines.old (fault_kept lines.new) lines.new }
 {
     let input = lines.input();
     while let Some(line) = lines.next()? {
@@ -69,9 +68,10 @@ pub(crate) fn convert<A: Source, K: Sink>(
     out: &mut Out<K>,
 ) -> (Option<Fault>, A)
     requires { HoldsBlock out.old.took out.old.put }
-    ensures written { WritesInput A.left A.has_failed (IsOneOf is_sam_kind) (bamtobed_report split cigar) (bamtobed_settles split cigar)
+    ensures written { WritesAlone A.left A.has_failed (of_bamtobed split cigar)
         first out.old (option_map told result.0) result.1 out.new }
-    ensures own_failure { TellsOwnReads ⊥ (IsOwnFailure A.left A.read_fails first result.1) ⊥
+    ensures reads { TellsNoRead (option_map told result.0) → ReadsServe A.is_read first result.1 }
+    ensures own_failure { TellsOwnReads ⊥ (IsOwnFailure A.is_read first result.1) ⊥
         (option_map told result.0) }
 {
     let mut lines = LineReader::new(alloc, first, Input::First);

@@ -3,18 +3,19 @@
 ghost use Rattle.std.specs.Prelude.{◌≡◌, [], List, None, option_map};
 ghost use Rattle.bt_lines.specs.Names.{told};
 ghost use Rattle.bt_lines.specs.Output.{HoldsBlock};
+ghost use Rattle.bt_lines.specs.Reader.{HasRead};
 ghost use Rattle.bt_bed.specs.Feature.{Feature, intervals_of};
 ghost use Rattle.bt_bed.specs.Interval.{AreNonEmpty};
 ghost use Rattle.bt_bed.specs.Order.{IsTotal};
 ghost use Rattle.bt_bed.specs.Locus.{ArePlaced};
 ghost use Rattle.bt_bed.specs.GoodBed.{bed_format};
-ghost use Rattle.bt_bed.specs.Records.{last_locus, order_in, view_of};
+ghost use Rattle.bt_bed.specs.Records.{below, last_locus, order_in, view_of};
 ghost use Rattle.bt_bed.specs.Sorting.{sorting_of};
 ghost use Rattle.bt_runs.specs.Settling.{SettledBegins, SettledStays};
-ghost use Rattle.bt_tool.specs.Driving.{WritesRecords};
+ghost use Rattle.bt_tool.specs.Writing.{WritesRecords};
 ghost use Rattle.bt_tool.specs.Feeding.{FeedsRecords, IsFresh};
 ghost use Rattle.bt_tool.specs.Passed.{KeepsOwnFault};
-ghost use Rattle.bt_tool.specs.OwnReads.{IsOwnFailure, TellsOwnReads};
+ghost use Rattle.bt_tool.specs.OwnReads.{AnswersNoRead, IsOwnFailure, ReadsServe, TellsNoRead, TellsOwnReads};
 
 use bt_bed::{ChromOrder, Records};
 use bt_lines::{Fault, Input, LineReader, Out, Sink, Source};
@@ -38,7 +39,8 @@ fn feed_all<S: Source, O: ChromOrder, E: Engine, K: Sink>(
     requires block { HoldsBlock out.old.took out.old.put }
     ensures feeds { FeedsRecords (E.settled engine.old) S.left S.has_failed S.end_told
         (λ past. E.stands engine.old past engine.new) records.old out.old result records.new out.new }
-    ensures own_failure { KeepsOwnFault S.read_fails (view_of records.new) }
+    ensures reads { AnswersNoRead result → HasRead S.is_read (below records.old) (below records.new) }
+    ensures own_failure { KeepsOwnFault S.is_read (below records.old) (view_of records.new) }
 {
     while let Some(record) = records.peek()? {
         engine.feed(&record, out)?;
@@ -66,7 +68,8 @@ pub(crate) fn drive<A: Source, O: ChromOrder, E: Engine + Drop, K: Sink>(
     ensures written { WritesRecords A.left A.has_failed
         (record { whole = E.whole engine; settled = E.settled engine }) (O.order order.now)
         first out.old (option_map told result.0) result.1 out.new }
-    ensures own_failure { TellsOwnReads ⊥ (IsOwnFailure A.left A.read_fails first result.1) ⊥
+    ensures reads { TellsNoRead (option_map told result.0) → ReadsServe A.is_read first result.1 }
+    ensures own_failure { TellsOwnReads ⊥ (IsOwnFailure A.is_read first result.1) ⊥
         (option_map told result.0) }
 {
     let reader = LineReader::new(alloc, first, Input::First);

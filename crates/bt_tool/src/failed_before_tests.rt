@@ -1,6 +1,6 @@
 //! Sources that failed before a run, and serve in it.
 
-ghost use Rattle.std.specs.Prelude.{◌≡◌, None, is_some, true};
+ghost use Rattle.std.specs.Prelude.{◌≡◌, IsSome, None, is_some, true};
 
 use crate::tests::{Answer, GENOME, expect, strings};
 use crate::{plan, run};
@@ -23,7 +23,7 @@ impl Source for FailedBefore {
 
     ghost end_told = { λ s. s.end_told };
 
-    ghost read_fails = { λ _ _. ⊥ };
+    ghost is_read = { λ _ count _. IsSome count };
 
     fn read(&mut self, block: &mut [u8]) -> Result<usize, DeviceFailed> {
         if block.is_empty() {

@@ -1,16 +1,17 @@
 //! The loop over a FASTA input and a BED input: a masking engine is given the lines and the records.
 
-ghost use Rattle.std.specs.Prelude.{◌≡◌, [], None, option_map};
+ghost use Rattle.std.specs.Prelude.{◌≡◌, [], None, Some, option_map};
 ghost use Rattle.bt_lines.specs.Names.{told};
 ghost use Rattle.bt_lines.specs.Output.{HoldsBlock};
-ghost use Rattle.bt_lines.specs.Reader.{fault_kept as line_fault, input_of};
-ghost use Rattle.bt_bed.specs.Blocks.{fault_kept, view_of};
+ghost use Rattle.bt_lines.specs.Reader.{HasRead, fault_kept as line_fault, input_of};
+ghost use Rattle.bt_bed.specs.Blocks.{below, fault_kept, view_of};
 ghost use Rattle.bt_bed.specs.GoodBlocks.{block_format};
-ghost use Rattle.bt_tool.specs.MaskReport.{MasksBoth};
+ghost use Rattle.bt_tool.specs.Behaviour.{of_maskfasta};
 ghost use Rattle.bt_tool.specs.MaskLoop.{FinishesMask, Masks, line_members};
 ghost use Rattle.bt_tool.specs.MaskTurns.{AsksLine, TurnsBed, TurnsLine};
 ghost use Rattle.bt_tool.specs.Passed.{IsOwnFault, KeepsOwnFault};
-ghost use Rattle.bt_tool.specs.OwnReads.{IsOwnFailure, TellsOwnReads};
+ghost use Rattle.bt_tool.specs.OwnReads.{AnswersNoRead, IsOwnFailure, ReadsServe, TellsNoRead, TellsOwnReads};
+ghost use Rattle.bt_tool.specs.Writing.{WritesBy};
 
 use bt_bed::Blocks;
 use bt_lines::{Fault, Input, LineReader, Out, Sink, Source};
@@ -25,7 +26,8 @@ fn turn_line<A: Source, K: Sink>(
 ) -> Result<(), Fault>
     requires { mask.old.want ≡ MaskWant.Line }
     ensures turns { TurnsLine A.left A.has_failed A.end_told lines.old mask.old out.old result lines.new mask.new out.new }
-    ensures own_failure { line_fault lines.old ≡ None → IsOwnFault A.read_fails (line_fault lines.new) lines.new }
+    ensures reads { line_fault lines.old ≡ None → AnswersNoRead result → HasRead A.is_read lines.old lines.new }
+    ensures own_failure { line_fault lines.old ≡ None → IsOwnFault A.is_read lines.old (line_fault lines.new) lines.new }
 {
     match lines.next()? {
         Some(line) => mask.give_line(&line, out),
@@ -39,7 +41,8 @@ fn turn_line<A: Source, K: Sink>(
 // The line of the next record, if there is one.
 fn line_ahead<B: Source>(records: &mut Blocks<B>) -> Result<Option<u64>, Fault>
     ensures asks { AsksLine B.left B.has_failed B.end_told (view_of records.old) result (view_of records.new) }
-    ensures own_failure { fault_kept records.old ≡ None → KeepsOwnFault B.read_fails (view_of records.new) }
+    ensures reads { fault_kept records.old ≡ None → AnswersNoRead result → HasRead B.is_read (below records.old) (below records.new) }
+    ensures own_failure { fault_kept records.old ≡ None → KeepsOwnFault B.is_read (below records.old) (view_of records.new) }
 {
     if records.peek()?.is_none() {
         return Ok(None);
@@ -56,7 +59,8 @@ fn turn_bed<B: Source, K: Sink>(
     requires { mask.old.want ≡ MaskWant.Bed }
     ensures turns { TurnsBed B.left B.has_failed B.end_told (view_of records.old) mask.old out.old result
         (view_of records.new) mask.new out.new }
-    ensures own_failure { fault_kept records.old ≡ None → KeepsOwnFault B.read_fails (view_of records.new) }
+    ensures reads { fault_kept records.old ≡ None → AnswersNoRead result → HasRead B.is_read (below records.old) (below records.new) }
+    ensures own_failure { fault_kept records.old ≡ None → KeepsOwnFault B.is_read (below records.old) (view_of records.new) }
 {
     let Some(line) = line_ahead(records)? else {
         return mask.end_bed(out);
@@ -86,8 +90,10 @@ fn mask_all<A: Source, B: Source, K: Sink>(
         (line_members mask.old.full (record { names = []; bases = 0 }) lines.old) (view_of records.old) mask.old out.old }
     ensures finishes { FinishesMask A.left A.has_failed A.end_told B.left B.has_failed B.end_told mask.old.how mask.old.full
         lines.old (view_of records.old) out.old result lines.new (view_of records.new) out.new }
-    ensures own_failure { IsOwnFault A.read_fails (line_fault lines.new) lines.new }
-    ensures own_failure_second { KeepsOwnFault B.read_fails (view_of records.new) }
+    ensures reads_first { AnswersNoRead result → HasRead A.is_read lines.old lines.new }
+    ensures reads_second { AnswersNoRead result → HasRead B.is_read (below records.old) (below records.new) }
+    ensures own_failure { IsOwnFault A.is_read lines.old (line_fault lines.new) lines.new }
+    ensures own_failure_second { KeepsOwnFault B.is_read (below records.old) (view_of records.new) }
 {
     loop {
         match mask.want() {
@@ -110,10 +116,11 @@ pub(crate) fn mask<A: Source, B: Source, K: Sink>(
     out: &mut Out<K>,
 ) -> (Option<Fault>, A, B)
     requires { HoldsBlock out.old.took out.old.put }
-    ensures written { MasksBoth A.left A.has_failed A.end_told B.left B.has_failed how full first second out.old
-        (option_map told result.0) result.1 result.2 out.new }
-    ensures own_failure { TellsOwnReads ⊥ (IsOwnFailure A.left A.read_fails first result.1)
-        (IsOwnFailure B.left B.read_fails second result.2) (option_map told result.0) }
+    ensures written { WritesBy A.left A.has_failed A.end_told B.left B.has_failed (of_maskfasta how full)
+        first (Some second) out.old (option_map told result.0) result.1 (Some result.2) out.new }
+    ensures reads { TellsNoRead (option_map told result.0) → ReadsServe A.is_read first result.1 × ReadsServe B.is_read second result.2 }
+    ensures own_failure { TellsOwnReads ⊥ (IsOwnFailure A.is_read first result.1)
+        (IsOwnFailure B.is_read second result.2) (option_map told result.0) }
 {
     let mut lines = LineReader::new(alloc, first, Input::First);
     let mut records = Blocks::new(alloc, LineReader::new(alloc, second, Input::Second));

@@ -1,6 +1,6 @@
 //! Running a plan over its devices.
 
-ghost use Rattle.std.specs.Prelude.{IfSome, IsSome, IsTrue, MatchResult, ◌≡◌, ◌≤◌, ◌⊎◌, ⊤, true, Some, is_some, option_map};
+ghost use Rattle.std.specs.Prelude.{IfSome, IsSome, IsTrue, MatchResult, ◌≡◌, ◌≢◌, ◌≤◌, ◌⊎◌, ⊤, true, Some, is_some, option_map};
 ghost use Rattle.bt_lines.specs.Number.{max_number};
 ghost use Rattle.bt_lines.specs.Fault.{write_failed};
 ghost use Rattle.bt_lines.specs.Names.{told};
@@ -9,13 +9,12 @@ ghost use Rattle.bt_bed.specs.GenomeTable.{entries, names_of};
 ghost use Rattle.bt_bed.specs.Rank.{AreDistinct};
 ghost use Rattle.bt_sweep.specs.Subtract.{subtract_shape};
 ghost use Rattle.bt_tool.specs.Behaviour.{behaviour_of, entries_in, of_intersect, of_maskfasta, order_of};
-ghost use Rattle.bt_tool.specs.Both.{Intersects};
-ghost use Rattle.bt_tool.specs.Chromosomes.{ReadsChromosomes, WritesBy, WritesOutput};
-ghost use Rattle.bt_tool.specs.Driving.{WritesRecords};
+ghost use Rattle.bt_tool.specs.Chromosomes.{ReadsChromosomes, WritesOutput};
 ghost use Rattle.bt_tool.specs.Gives.{Runs};
 ghost use Rattle.bt_tool.specs.Limits.{is_within_limits};
 ghost use Rattle.bt_tool.specs.Table.{IsNamedBy, table_of, tool_of};
-ghost use Rattle.bt_tool.specs.OwnReads.{IsOwnFailure, IsOwnFailureIf, TellsOwnReads};
+ghost use Rattle.bt_tool.specs.OwnReads.{AnswersNoRead, IsOwnFailure, IsOwnFailureIf, ReadsServe, ReadsServeIf, TellsNoRead, TellsOwnReads};
+ghost use Rattle.bt_tool.specs.Writing.{WritesBy, WritesRecords};
 ghost use Rattle.bt_tool.specs.Written.{complement_written, coverage_written, merge_written};
 
 use crate::converting::convert;
@@ -64,9 +63,12 @@ pub fn run<G: Source, A: Source, B: Source, K: Sink>(
     ensures report { Runs G.left G.has_failed A.left A.has_failed A.end_told B.left B.has_failed K.took K.has_failed
         plan.now.command genome first second out (option_map told result.outcome.fault)
         result.genome result.first result.second result.out }
-    ensures own_failure { TellsOwnReads (IsOwnFailureIf G.left G.read_fails genome result.genome)
-        (IsOwnFailure A.left A.read_fails first result.first)
-        (IsOwnFailureIf B.left B.read_fails second result.second)
+    ensures reads { option_map told result.outcome.fault ≢ Some write_failed → TellsNoRead (option_map told result.outcome.fault)
+        → ReadsServeIf G.is_read genome result.genome × ReadsServe A.is_read first result.first
+        × ReadsServeIf B.is_read second result.second }
+    ensures own_failure { TellsOwnReads (IsOwnFailureIf G.is_read genome result.genome)
+        (IsOwnFailure A.is_read first result.first)
+        (IsOwnFailureIf B.is_read second result.second)
         (option_map told result.outcome.fault) }
 {
     let mut out = Out::new(out);
@@ -97,8 +99,9 @@ fn read_genome<G: Source>(
     ensures genome { is_some result.1 ≡ is_some genome }
     ensures named { MatchResult result.0 (λ table. is_some table ≡ is_some genome) (λ _. ⊤) }
     ensures read { ReadsChromosomes G.left G.has_failed genome result.0 result.1 }
+    ensures reads { AnswersNoRead result.0 → ReadsServeIf G.is_read genome result.1 }
     ensures own_failure { MatchResult result.0 (λ _. ⊤) (λ fault. TellsOwnReads
-        (IsOwnFailureIf G.left G.read_fails genome result.1) ⊥ ⊥ (Some (told fault))) }
+        (IsOwnFailureIf G.is_read genome result.1) ⊥ ⊥ (Some (told fault))) }
 {
     let Some(genome) = genome else {
         return (Ok(None), None);
@@ -132,9 +135,11 @@ fn write_output<A: Source, B: Source, K: Sink>(
     ensures written { WritesOutput A.left A.has_failed A.end_told B.left B.has_failed command chromosomes first second
         out.old (option_map told result.0) result.1 result.2 out.new }
     ensures second { is_some result.2 ≡ is_some second }
+    ensures reads { TellsNoRead (option_map told result.0)
+        → ReadsServe A.is_read first result.1 × ReadsServeIf B.is_read second result.2 }
     ensures own_failure { MatchResult chromosomes (λ _. TellsOwnReads ⊥
-        (IsOwnFailure A.left A.read_fails first result.1)
-        (IsOwnFailureIf B.left B.read_fails second result.2) (option_map told result.0)) (λ _. ⊤) }
+        (IsOwnFailure A.is_read first result.1)
+        (IsOwnFailureIf B.is_read second result.2) (option_map told result.0)) (λ _. ⊤) }
 {
     match chromosomes {
         Ok(table) => write_records(alloc, command, &table, first, second, out),
@@ -161,8 +166,10 @@ fn write_records<A: Source, B: Source, K: Sink>(
         (behaviour_of command (option_map entries genome.now))
         first second out.old (option_map told result.0) result.1 result.2 out.new }
     ensures second { is_some result.2 ≡ is_some second }
-    ensures own_failure { TellsOwnReads ⊥ (IsOwnFailure A.left A.read_fails first result.1)
-        (IsOwnFailureIf B.left B.read_fails second result.2) (option_map told result.0) }
+    ensures reads { TellsNoRead (option_map told result.0)
+        → ReadsServe A.is_read first result.1 × ReadsServeIf B.is_read second result.2 }
+    ensures own_failure { TellsOwnReads ⊥ (IsOwnFailure A.is_read first result.1)
+        (IsOwnFailureIf B.is_read second result.2) (option_map told result.0) }
 {
     match command {
         Command::Merge { d, strand } => {
@@ -205,7 +212,8 @@ fn merge<A: Source, K: Sink>(
     requires block { HoldsBlock out.old.took out.old.put }
     ensures written { WritesRecords A.left A.has_failed (merge_written (order_of (option_map entries genome.now)) d strand)
         (order_of (option_map entries genome.now)) first out.old (option_map told result.0) result.1 out.new }
-    ensures own_failure { TellsOwnReads ⊥ (IsOwnFailure A.left A.read_fails first result.1) ⊥
+    ensures reads { TellsNoRead (option_map told result.0) → ReadsServe A.is_read first result.1 }
+    ensures own_failure { TellsOwnReads ⊥ (IsOwnFailure A.is_read first result.1) ⊥
         (option_map told result.0) }
 {
     let engine = Merge::new(alloc, d, strand);
@@ -226,7 +234,8 @@ fn complement<A: Source, K: Sink>(
     ensures written { WritesRecords A.left A.has_failed
         (complement_written (entries_in (option_map entries genome.now)) limit)
         (order_of (option_map entries genome.now)) first out.old (option_map told result.0) result.1 out.new }
-    ensures own_failure { TellsOwnReads ⊥ (IsOwnFailure A.left A.read_fails first result.1) ⊥
+    ensures reads { TellsNoRead (option_map told result.0) → ReadsServe A.is_read first result.1 }
+    ensures own_failure { TellsOwnReads ⊥ (IsOwnFailure A.is_read first result.1) ⊥
         (option_map told result.0) }
 {
     let Some(genome) = genome else { unreachable!() };
@@ -249,7 +258,8 @@ fn cover<A: Source, K: Sink>(
     ensures written { WritesRecords A.left A.has_failed
         (coverage_written (entries_in (option_map entries genome.now)) zeros strand)
         (order_of (option_map entries genome.now)) first out.old (option_map told result.0) result.1 out.new }
-    ensures own_failure { TellsOwnReads ⊥ (IsOwnFailure A.left A.read_fails first result.1) ⊥
+    ensures reads { TellsNoRead (option_map told result.0) → ReadsServe A.is_read first result.1 }
+    ensures own_failure { TellsOwnReads ⊥ (IsOwnFailure A.is_read first result.1) ⊥
         (option_map told result.0) }
 {
     let Some(genome) = genome else { unreachable!() };
@@ -282,8 +292,10 @@ fn sweep_both<A: Source, B: Source, K: Sink>(
         (of_intersect (order_of (option_map entries genome.now)) shape rule limit)
         first second out.old (option_map told result.0) result.1 result.2 out.new }
     ensures second { is_some result.2 ≡ is_some second }
-    ensures own_failure { TellsOwnReads ⊥ (IsOwnFailure A.left A.read_fails first result.1)
-        (IsOwnFailureIf B.left B.read_fails second result.2) (option_map told result.0) }
+    ensures reads { TellsNoRead (option_map told result.0)
+        → ReadsServe A.is_read first result.1 × ReadsServeIf B.is_read second result.2 }
+    ensures own_failure { TellsOwnReads ⊥ (IsOwnFailure A.is_read first result.1)
+        (IsOwnFailureIf B.is_read second result.2) (option_map told result.0) }
 {
     let Some(second) = second else { unreachable!() };
     let (fault, first, second) = sweep(alloc, genome, shape, rule, limit, first, second, out);
@@ -304,8 +316,10 @@ fn mask_both<A: Source, B: Source, K: Sink>(
     ensures written { WritesBy A.left A.has_failed A.end_told B.left B.has_failed (of_maskfasta how full)
         first second out.old (option_map told result.0) result.1 result.2 out.new }
     ensures second { is_some result.2 ≡ is_some second }
-    ensures own_failure { TellsOwnReads ⊥ (IsOwnFailure A.left A.read_fails first result.1)
-        (IsOwnFailureIf B.left B.read_fails second result.2) (option_map told result.0) }
+    ensures reads { TellsNoRead (option_map told result.0)
+        → ReadsServe A.is_read first result.1 × ReadsServeIf B.is_read second result.2 }
+    ensures own_failure { TellsOwnReads ⊥ (IsOwnFailure A.is_read first result.1)
+        (IsOwnFailureIf B.is_read second result.2) (option_map told result.0) }
 {
     let Some(second) = second else { unreachable!() };
     let (fault, first, second) = mask(alloc, how, full, first, second, out);

@@ -1,20 +1,22 @@
 //! The loop over two sorted inputs: a sweep is given the records of both.
 
-ghost use Rattle.std.specs.Prelude.{◌≡◌, None, option_map};
+ghost use Rattle.std.specs.Prelude.{◌≡◌, None, Some, option_map};
 ghost use Rattle.bt_lines.specs.Names.{told};
 ghost use Rattle.bt_lines.specs.Output.{HoldsBlock};
+ghost use Rattle.bt_lines.specs.Reader.{HasRead};
 ghost use Rattle.bt_bed.specs.GoodBed.{bed_format};
 ghost use Rattle.bt_bed.specs.LineKind.{IsBedKind};
 ghost use Rattle.bt_bed.specs.Order.{IsTotal};
-ghost use Rattle.bt_bed.specs.Records.{fault_kept, order_in, view_of};
+ghost use Rattle.bt_bed.specs.Records.{below, fault_kept, order_in, view_of};
 ghost use Rattle.bt_bed.specs.Sorting.{sorting_of};
 ghost use Rattle.bt_sweep.specs.SweepView.{order_of, state_of};
 ghost use Rattle.bt_sweep.specs.SweepState.{want_in};
-ghost use Rattle.bt_tool.specs.Both.{Intersects};
+ghost use Rattle.bt_tool.specs.Behaviour.{of_intersect};
 ghost use Rattle.bt_tool.specs.Passed.{KeepsOwnFault};
 ghost use Rattle.bt_tool.specs.SweepLoop.{FinishesBoth, ReadsOn, Sweeps, SweepsOrStops};
-ghost use Rattle.bt_tool.specs.OwnReads.{IsOwnFailure, TellsOwnReads};
+ghost use Rattle.bt_tool.specs.OwnReads.{AnswersNoRead, IsOwnFailure, ReadsServe, TellsNoRead, TellsOwnReads};
 ghost use Rattle.bt_tool.specs.Turns.{TurnsFirst, TurnsSecond};
+ghost use Rattle.bt_tool.specs.Writing.{WritesBy};
 
 use bt_bed::{ChromOrder, Records};
 use bt_lines::{Fault, Input, LineReader, Out, Sink, Source};
@@ -32,7 +34,8 @@ fn turn_first<A: Source, O: ChromOrder, H: Held, K: Sink>(
     ensures turns { TurnsFirst A.left A.has_failed A.end_told (order_of sweep.old) first.old (state_of sweep.old) out.old
         result first.new (state_of sweep.new) out.new }
     ensures order { order_of sweep.new ≡ order_of sweep.old }
-    ensures own_failure { fault_kept first.old ≡ None → KeepsOwnFault A.read_fails (view_of first.new) }
+    ensures reads { fault_kept first.old ≡ None → AnswersNoRead result → HasRead A.is_read (below first.old) (below first.new) }
+    ensures own_failure { fault_kept first.old ≡ None → KeepsOwnFault A.is_read (below first.old) (view_of first.new) }
 {
     match first.peek()? {
         Some(record) => {
@@ -55,7 +58,8 @@ fn turn_second<B: Source, O: ChromOrder, H: Held, K: Sink>(
     ensures turns { TurnsSecond B.left B.has_failed B.end_told (order_of sweep.old) second.old (state_of sweep.old) out.old
         result second.new (state_of sweep.new) out.new }
     ensures order { order_of sweep.new ≡ order_of sweep.old }
-    ensures own_failure { fault_kept second.old ≡ None → KeepsOwnFault B.read_fails (view_of second.new) }
+    ensures reads { fault_kept second.old ≡ None → AnswersNoRead result → HasRead B.is_read (below second.old) (below second.new) }
+    ensures own_failure { fault_kept second.old ≡ None → KeepsOwnFault B.is_read (below second.old) (view_of second.new) }
 {
     second.step()?;
     match second.record() {
@@ -84,8 +88,10 @@ fn sweep_all<A: Source, B: Source, O: ChromOrder, H: Held, K: Sink>(
         (state_of sweep.old).shape (state_of sweep.old).rule (state_of sweep.old).limit first.old second.old out.old first.old second.old (state_of sweep.old) out.old }
     ensures sweeps { SweepsOrStops A.left A.has_failed A.end_told B.left B.has_failed B.end_told (order_in first.old)
         (state_of sweep.old).shape (state_of sweep.old).rule (state_of sweep.old).limit first.old second.old out.old result first.new second.new (state_of sweep.new) out.new }
-    ensures own_failure { KeepsOwnFault A.read_fails (view_of first.new) }
-    ensures own_failure_second { KeepsOwnFault B.read_fails (view_of second.new) }
+    ensures reads_first { AnswersNoRead result → HasRead A.is_read (below first.old) (below first.new) }
+    ensures reads_second { AnswersNoRead result → HasRead B.is_read (below second.old) (below second.new) }
+    ensures own_failure { KeepsOwnFault A.is_read (below first.old) (view_of first.new) }
+    ensures own_failure_second { KeepsOwnFault B.is_read (below second.old) (view_of second.new) }
 {
     loop {
         match sweep.want() {
@@ -99,7 +105,8 @@ fn sweep_all<A: Source, B: Source, O: ChromOrder, H: Held, K: Sink>(
 // Reads an input to its end, so that a fault after the last record that was asked for is reported.
 fn check_rest<B: Source, O: ChromOrder>(second: &mut Records<'_, B, O>) -> Result<(), Fault>
     ensures reads { ReadsOn B.left B.has_failed B.end_told (IsBedKind (order_in second.old)) (view_of second.old) result (view_of second.new) }
-    ensures own_failure { fault_kept second.old ≡ None → KeepsOwnFault B.read_fails (view_of second.new) }
+    ensures rest { fault_kept second.old ≡ None → AnswersNoRead result → HasRead B.is_read (below second.old) (below second.new) }
+    ensures own_failure { fault_kept second.old ≡ None → KeepsOwnFault B.is_read (below second.old) (view_of second.new) }
 {
     while let Some(_record) = second.peek()? {
         second.advance();
@@ -123,8 +130,10 @@ fn read_both<A: Source, B: Source, O: ChromOrder, H: Held, K: Sink>(
         (state_of sweep.old).shape (state_of sweep.old).rule (state_of sweep.old).limit first.old second.old out.old first.old second.old (state_of sweep.old) out.old }
     ensures finishes { FinishesBoth A.left A.has_failed A.end_told B.left B.has_failed B.end_told (order_in first.old)
         (state_of sweep.old).shape (state_of sweep.old).rule (state_of sweep.old).limit first.old second.old out.old result first.new second.new out.new }
-    ensures own_failure { KeepsOwnFault A.read_fails (view_of first.new) }
-    ensures own_failure_second { KeepsOwnFault B.read_fails (view_of second.new) }
+    ensures reads_first { AnswersNoRead result → HasRead A.is_read (below first.old) (below first.new) }
+    ensures reads_second { AnswersNoRead result → HasRead B.is_read (below second.old) (below second.new) }
+    ensures own_failure { KeepsOwnFault A.is_read (below first.old) (view_of first.new) }
+    ensures own_failure_second { KeepsOwnFault B.is_read (below second.old) (view_of second.new) }
 {
     sweep_all(first, second, sweep, out)?;
     check_rest(second)
@@ -146,10 +155,12 @@ pub(crate) fn sweep<A: Source, B: Source, O: ChromOrder, K: Sink>(
 ) -> (Option<Fault>, A, B)
     requires total { IsTotal (O.order order.now) }
     requires block { HoldsBlock out.old.took out.old.put }
-    ensures written { Intersects A.left A.has_failed A.end_told B.left B.has_failed (O.order order.now) shape rule limit
-        first second out.old (option_map told result.0) result.1 result.2 out.new }
-    ensures own_failure { TellsOwnReads ⊥ (IsOwnFailure A.left A.read_fails first result.1)
-        (IsOwnFailure B.left B.read_fails second result.2) (option_map told result.0) }
+    ensures written { WritesBy A.left A.has_failed A.end_told B.left B.has_failed
+        (of_intersect (O.order order.now) shape rule limit)
+        first (Some second) out.old (option_map told result.0) result.1 (Some result.2) out.new }
+    ensures reads { TellsNoRead (option_map told result.0) → ReadsServe A.is_read first result.1 × ReadsServe B.is_read second result.2 }
+    ensures own_failure { TellsOwnReads ⊥ (IsOwnFailure A.is_read first result.1)
+        (IsOwnFailure B.is_read second result.2) (option_map told result.0) }
 {
     let mut firsts = Records::new(alloc, LineReader::new(alloc, first, Input::First), order);
     let mut seconds = Records::new(alloc, LineReader::new(alloc, second, Input::Second), order);

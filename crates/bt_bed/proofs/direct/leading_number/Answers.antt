@@ -1,4 +1,4 @@
-use Rattle.std.proofs.Common.{◌<◌, ◌≤◌, arith}
+use Rattle.std.proofs.Common.{◌<◌, arith}
 use Rattle.bt_lines.proofs.NumberLemmas.{value_short}
 use Rattle.bt_bed.proofs.FirstColumnLemmas.{begins_below, leads_by}
 use Rattle.bt_bed.proofs.direct.leading_number.Goals as goal

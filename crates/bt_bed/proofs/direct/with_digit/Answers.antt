@@ -1,5 +1,5 @@
-use Rattle.std.proofs.Common.{◌∙◌, ◌<◌, ◌≤◌, ◌+◌, ◌-◌, ◌*◌, get_or, length, sym, arith}
-use Rattle.bt_lines.proofs.NumberLemmas.{value_more, digits_more, value_short, digit_small}
+use Rattle.std.proofs.Common.{◌∙◌, ◌<◌, get_or, length, sym, arith}
+use Rattle.bt_lines.proofs.NumberLemmas.{value_more, digits_more, value_short}
 use Rattle.bt_bed.proofs.FirstColumnLemmas.{begins_below, digit_bound}
 use Rattle.bt_bed.proofs.direct.with_digit.Goals as goal
 

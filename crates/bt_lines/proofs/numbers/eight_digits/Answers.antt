@@ -1,5 +1,5 @@
-use Rattle.std.proofs.Common.{◌≡◌, ◌+◌, ℕ, arith, subst, bit_and, bit_xor}
-use Rattle.bt_lines.proofs.EightLemmas.{all_digits, are_bytes, none_by_sixes, none_by_uppers, ones_up_to, some_uppers, value_by_pairs}
+use Rattle.std.proofs.Common.{Some, ap, ◌∙◌, ◌≡◌, ◌+◌, ℕ, arith, subst, bit_and, bit_xor}
+use Rattle.bt_lines.proofs.EightLemmas.{all_digits, are_bytes, none_by_sixes, none_by_uppers, ones_read, ones_up_to, some_uppers, value_of_eight_digits}
 use Rattle.bt_lines.proofs.numbers.eight_digits.Goals as goal
 
 pub returns-then-ones-ne0 : goal.returns-then-ones-ne0
@@ -25,21 +25,14 @@ returns-then-ones-ne0-2 c =
     none_by_sixes bytes c.told-bytes all small
     (subst (λ (word : ℕ). bit_and (bit_xor word 3472328296227680304 + 434041037028460038) 17361641481138401520 ≡ 0 → ⊥) word c.if-ones-ne0-2.true)
 
-pub overflow_mul-pairs : goal.overflow_mul-pairs
-overflow_mul-pairs c =
+pub joined-requires : goal.joined-requires
+joined-requires c =
     let bytes = c.args.bytes.now in
     let word = c.from_le_bytes-ones.ensures in
     let all = are_bytes bytes c.fits-bytes in
-    let most = ones_up_to bytes c.told-bytes all (some_uppers bytes c.told-bytes all (rw word at c.if-ones-ne0.false)) in
-    rw word (omega arith)
-
-pub overflow_add-pairs : goal.overflow_add-pairs
-overflow_add-pairs c =
-    let bytes = c.args.bytes.now in
-    let word = c.from_le_bytes-ones.ensures in
-    let all = are_bytes bytes c.fits-bytes in
-    let most = ones_up_to bytes c.told-bytes all (some_uppers bytes c.told-bytes all (rw word at c.if-ones-ne0.false)) in
-    rw word (omega arith)
+    let small = some_uppers bytes c.told-bytes all (rw word at c.if-ones-ne0.false) in
+    let digits = all_digits bytes c.told-bytes all small (rw word at c.if-ones-ne0-2.false) in
+    rw word (ones_read bytes c.told-bytes digits).0
 
 pub returns : goal.returns
 returns c =
@@ -48,4 +41,4 @@ returns c =
     let all = are_bytes bytes c.fits-bytes in
     let small = some_uppers bytes c.told-bytes all (rw word at c.if-ones-ne0.false) in
     let digits = all_digits bytes c.told-bytes all small (rw word at c.if-ones-ne0-2.false) in
-    rw word (value_by_pairs bytes c.told-bytes digits)
+    ap Some (c.joined.ensures bytes (rw word (ones_read bytes c.told-bytes digits).1)) ∙ value_of_eight_digits bytes c.told-bytes digits

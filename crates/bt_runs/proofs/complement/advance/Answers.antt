@@ -1,8 +1,9 @@
 use Rattle.std.proofs.Common.{ap, sym, ◌∙◌, Ok, Err}
 use Rattle.std.proofs.lemmas.Result.{err_from_is_err_and}
+use Rattle.bt_bed.specs.IntervalLine.{interval_line}
+use Rattle.bt_lines.proofs.PuttingLemmas.{cut_lines}
 use Rattle.bt_bed.specs.Bed.{feature_lent}
 use Rattle.bt_bed.specs.GenomeTable.{entries}
-use Rattle.bt_bed.proofs.IntervalLineLemmas.{cut_lines}
 use Rattle.bt_runs.specs.GapStep.{gap_walk, seen}
 use Rattle.bt_runs.specs.Walk.{going}
 use Rattle.bt_runs.specs.declared.complement.GapPlace.{GapPlace}
@@ -16,7 +17,7 @@ returns-in_err-reached-clause-adds g c =
     let r = feature_lent c.args.bed.now in
     let walk = gap_walk c.args.limit in
     let starts = step_starts walk (entries c.args.genome.now) (seen c.args.current) r in
-    rw (p.1, p.2, starts.1) (cut_lines _ _ (going walk (entries c.args.genome.now) (seen c.args.current) r.chrom).1 starts.0 _ c.in_err-reached.ensures.adds)
+    rw (p.1, p.2, starts.1) (cut_lines interval_line _ _ (going walk (entries c.args.genome.now) (seen c.args.current) r.chrom).1 starts.0 _ c.in_err-reached.ensures.adds)
 
 pub returns-in_err-reached-2-clause-adds : goal.returns-in_err-reached-2-clause-adds
 returns-in_err-reached-2-clause-adds g c =

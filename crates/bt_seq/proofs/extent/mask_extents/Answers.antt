@@ -1,7 +1,8 @@
 use Rattle.std.proofs.Common.{◌∙◌, [], ◌∷◌, get_or, ap, sym, take}
+use Rattle.std.proofs.lemmas.List.{take_more}
 use Rattle.bt_seq.specs.MaskedBases.{masked_in}
 use Rattle.bt_seq.specs.declared.extent.Extent.{Extent}
-use Rattle.bt_seq.proofs.ExtentLemmas.{next_taken, none_masked, one_behind}
+use Rattle.bt_seq.proofs.ExtentLemmas.{none_masked, one_behind}
 use Rattle.bt_seq.proofs.extent.mask_extents.Goals as goal
 
 pub loop-extent-init : goal.loop-extent-init
@@ -15,5 +16,5 @@ loop-extent-preserved c =
     let none : Extent = record { start = 0; stop = 0 } in
     c.mask_extent.ensures
     ∙ ap (λ bases. masked_in how (get_or all i none ∷ []) c.args.position bases) c.loop-extent.invariant
-    ∙ sym (ap (λ extents. masked_in how extents c.args.position c.args.bases.now) (next_taken all i none c.loop-extent-test.true)
+    ∙ sym (ap (λ extents. masked_in how extents c.args.position c.args.bases.now) (take_more all i none c.loop-extent-test.true)
     ∙ one_behind how (take i all) (get_or all i none) c.args.position c.args.bases.now)

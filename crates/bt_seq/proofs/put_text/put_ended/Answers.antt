@@ -1,5 +1,4 @@
-use Rattle.std.proofs.Common.{◌++◌, ◌<◌, length, max, subst, arith}
-use Rattle.bt_lines.specs.Putting.{Adds}
+use Rattle.std.proofs.Common.{◌<◌, length, max, arith}
 use Rattle.bt_seq.proofs.TextLemmas.{some_put}
 use Rattle.bt_seq.proofs.put_text.put_ended.Goals as goal
 
@@ -7,5 +6,4 @@ pub returns : goal.returns
 returns g c =
     let end = c.bytes_of-end.result.now in
     let some : 0 < max (length c.args.text.now) (length end) = omega (arith, c.max.ensures, c.if-max-eq0.false) in
-    subst (λ e. Adds c.args.out.now (c.args.text.now ++ e) c.put_line.result c.put_line.new.out) c.bytes_of-end.ensures
-    (some_put c.args.out.now c.put_line.new.out c.args.text.now end c.put_line.result some c.put_line.ensures)
+    rw (← c.bytes_of-end.ensures) (some_put c.args.out.now c.put_line.new.out c.args.text.now end c.put_line.result some c.put_line.ensures)

@@ -1,7 +1,6 @@
-use Rattle.std.proofs.Common.{◌∙◌, ◌≡◌, ℕ, ◌+◌, ◌-◌, ◌<◌, ap, arith, length, nat_le, option_to_list, subst, sym, take}
+use Rattle.std.proofs.Common.{◌∙◌, ◌≡◌, ◌+◌, ◌-◌, ◌<◌, ap, arith, length, nat_le, option_to_list, sym}
 use Rattle.std.specs.List.{list_any}
 use Rattle.bt_bed.specs.Feature.{Feature}
-use Rattle.bt_sweep.specs.Held.{StartBefore}
 use Rattle.bt_sweep.proofs.StartedLemmas.{start_ahead, start_behind}
 use Rattle.bt_sweep.proofs.started.count_started.Goals as goal
 
@@ -12,8 +11,7 @@ returns-then-not-starts_from-clause-before g c = λ rises.
     let at = ap (λ o. list_any (λ (r : Feature). nat_le c.args.place r.start) (option_to_list o)) c.nth.ensures in
     let within : n - 1 < length held = omega (arith, c.if-high-eq0.false, c.len-high.ensures) in
     let all : (n - 1) + 1 ≡ n = omega (arith, c.if-high-eq0.false) in
-    subst (λ (k : ℕ). StartBefore c.args.place (take k held)) all
-    (start_ahead c.args.place held (n - 1) within (sym (c.if-not-starts_from.ensures ∙ at)) rises)
+    rw (← all) (start_ahead c.args.place held (n - 1) within (sym (c.if-not-starts_from.ensures ∙ at)) rises)
 
 pub loop-low-preserved-then-starts_from : goal.loop-low-preserved-then-starts_from
 loop-low-preserved-then-starts_from g c =

@@ -1,12 +1,15 @@
 use Rattle.std.proofs.Common.{◌∙◌, ap, refl, subst, ⊎_elim}
+use Rattle.bt_lines.proofs.ReadsLemmas.{has_read_then, reads_same}
 use Rattle.bt_lines.specs.LentLine.{line_seen}
 use Rattle.bt_lines.specs.Names.{told}
 use Rattle.bt_lines.specs.declared.fault.Input.{Input}
+use Rattle.bt_lines.specs.Reader.{HasRead}
 use Rattle.bt_bed.proofs.ResultLemmas.{passed_on}
 use Rattle.bt_seq.specs.BamToBedState.{Converting}
 use Rattle.bt_tool.specs.ConvertSteps.{ConvertsAll, LineRefused, sam_reader}
+use Rattle.bt_tool.specs.OwnReads.{AnswersNoRead}
 use Rattle.bt_tool.proofs.ConvertLemmas.{converts_all, going_line, going_start, refused_no_read, stops_at_line, stops_reading, stops_writing}
-use Rattle.bt_tool.proofs.OwnFailureLemmas.{line_told_kept, none_kept}
+use Rattle.bt_tool.proofs.OwnFailureLemmas.{line_told_kept, none_kept, own_then}
 use Rattle.bt_tool.proofs.converting.convert_all.Goals as goal
 
 pub loop-line-init : goal.loop-line-init
@@ -14,6 +17,7 @@ loop-line-init g c = record {
   going = going_start _ _ _ _ _ c.args.lines.now c.args.out.now c.requires.fresh c.requires.block;
   same = refl;
   input = c.input-input.ensures;
+  read = reads_same g.S.Source.is_read c.args.lines.now c.args.lines.now refl;
 }
 
 pub convert_line-requires : goal.convert_line-requires
@@ -35,6 +39,7 @@ loop-line-preserved g c =
           gives.sound c.loop-line.converter c.convert_line.new.converter (ap (λ (m : Converting). m.split) now.same) (ap (λ (m : Converting). m.with_cigar) now.same) c.convert_line.new.out written;
       same = written.unchanged ∙ now.same;
       input = now.input;
+      read = has_read_then g.S.Source.is_read c.args.lines.now c.loop-line.lines c.next.follows.lender-at-none now.read gives.own_failure;
     }
 
 pub returns-in_err-line-clause-converts : goal.returns-in_err-line-clause-converts
@@ -88,14 +93,32 @@ pub returns-in_err-line-clause-own_failure : goal.returns-in_err-line-clause-own
 returns-in_err-line-clause-own_failure g c =
     let gives = rw c.in_err-line.was at c.next.follows.holds-at-none in
     let now = c.loop-line.invariant.going in
-    line_told_kept g.S.Source.read_fails c.loop-line.lines c.next.follows.lender-at-none c.in_err-line.field-0.0 gives.answers.kept (now.steps.going now.fed.passes.going) gives.own_failure
+    own_then g.S.Source.is_read c.args.lines.now c.loop-line.lines _ _ c.loop-line.invariant.read
+    (line_told_kept g.S.Source.is_read c.loop-line.lines c.next.follows.lender-at-none c.in_err-line.field-0.0 gives.answers.kept (now.steps.going now.fed.passes.going) gives.own_failure)
 
 pub returns-in_err-convert_line-clause-own_failure : goal.returns-in_err-convert_line-clause-own_failure
 returns-in_err-convert_line-clause-own_failure g c =
     let gives = rw (c.in_ok-line.was, c.in-Some.is) at c.next.follows.holds-at-none in
-    none_kept g.S.Source.read_fails _ _ gives.answers.goes
+    none_kept g.S.Source.is_read _ _ _ gives.answers.goes
 
 pub returns-clause-own_failure : goal.returns-clause-own_failure
 returns-clause-own_failure g c =
     let gives = rw (c.in_ok-line.was, c.in_default.is) at c.next.follows.holds-at-none in
-    none_kept g.S.Source.read_fails _ _ gives.answers.goes
+    none_kept g.S.Source.is_read _ _ _ gives.answers.goes
+
+pub returns-in_err-line-clause-reads : goal.returns-in_err-line-clause-reads
+returns-in_err-line-clause-reads g c =
+    let gives = rw c.in_err-line.was at c.next.follows.holds-at-none in
+    let now = c.loop-line.invariant.going in
+    passed_on (λ r. AnswersNoRead r → HasRead g.S.Source.is_read c.args.lines.now c.next.follows.lender-at-none) c.from_residual.result c.in_err-line.field-0.0 c.from_residual.ensures.1
+    (λ never. has_read_then g.S.Source.is_read c.args.lines.now c.loop-line.lines c.next.follows.lender-at-none c.loop-line.invariant.read ((gives.own_failure (now.steps.going now.fed.passes.going)).read never))
+
+pub returns-in_err-convert_line-clause-reads : goal.returns-in_err-convert_line-clause-reads
+returns-in_err-convert_line-clause-reads g c = λ never.
+    let gives = rw (c.in_ok-line.was, c.in-Some.is) at c.next.follows.holds-at-none in
+    has_read_then g.S.Source.is_read c.args.lines.now c.loop-line.lines c.next.follows.lender-at-none c.loop-line.invariant.read gives.own_failure
+
+pub returns-clause-reads : goal.returns-clause-reads
+returns-clause-reads g c = λ never.
+    let gives = rw (c.in_ok-line.was, c.in_default.is) at c.next.follows.holds-at-none in
+    has_read_then g.S.Source.is_read c.args.lines.now c.loop-line.lines c.next.follows.lender-at-none c.loop-line.invariant.read gives.own_failure

@@ -1,5 +1,5 @@
 use Rattle.std.proofs.Common.{◌≡◌}
-use Rattle.bt_lines.specs.Reader.{input_of, room}
+use Rattle.bt_lines.specs.Reader.{HasRead, input_of, room}
 use Rattle.bt_tool.proofs.ConvertLemmas.{Going}
 use Rattle.bt_tool.proofs.converting.convert_all.Given as goal
 
@@ -9,6 +9,7 @@ invariant-loop-line g l = record {
   going : Going l.initial.converter.split l.initial.converter.with_cigar g.S.Source.left g.S.Source.has_failed g.S.Source.end_told l.initial.lines l.initial.out l.lines l.out;
   same : l.converter ≡ l.initial.converter;
   input : l.input ≡ input_of l.initial.lines;
+  read : HasRead g.S.Source.is_read l.initial.lines l.lines;
 }
 
 abbrev pub decreases-loop-line : goal.decreases-loop-line

@@ -1,4 +1,4 @@
-use Rattle.std.proofs.Common.{◌∙◌, ap, refl, sym, subst, Some, None}
+use Rattle.std.proofs.Common.{◌∙◌, ap, refl, sym, subst, None}
 use Rattle.bt_lines.specs.Names.{told}
 use Rattle.bt_lines.specs.Reader.{source_of}
 use Rattle.bt_lines.specs.declared.fault.Input.TheVariants.{First}
@@ -6,17 +6,14 @@ use Rattle.bt_bed.specs.Feature.{Feature, intervals_of}
 use Rattle.bt_bed.specs.GoodBed.{bed_format}
 use Rattle.bt_bed.specs.LineKind.{IsBedKind}
 use Rattle.bt_bed.specs.Locus.{ArePlaced}
-use Rattle.bt_bed.specs.Order.{Order}
-use Rattle.bt_bed.specs.Records.{order_in, view_of}
+use Rattle.bt_bed.specs.Records.{below, order_in, view_of}
 use Rattle.bt_bed.specs.Sorting.{sorting_of}
 use Rattle.bt_tool.specs.Feeding.{AreInOrder, member_items}
-use Rattle.bt_tool.specs.Driving.{WritesInput}
-use Rattle.bt_tool.specs.RecordReport.{records_report, records_settle}
 use Rattle.bt_tool.specs.Written.{Written}
 use Rattle.bt_tool.proofs.FeedLemmas.{goes_failed}
 use Rattle.bt_tool.proofs.DrivingLemmas.{drives_all, drives_cut, drives_fault, finish_cut, finish_goes, finish_put, finish_serves, fresh_start, records_sorted, sorted_start}
 use Rattle.bt_tool.proofs.StartLemmas.{begins_by}
-use Rattle.bt_tool.proofs.OwnFailureLemmas.{bed_no_read, feeds_own, tells_nothing, tells_write}
+use Rattle.bt_tool.proofs.OwnFailureLemmas.{bed_no_read, feeds_own, served_of, tells_nothing, tells_write}
 use Rattle.bt_tool.proofs.driving.drive.Goals as goal
 
 pub feed_all-fed-requires-clause-fresh : goal.feed_all-fed-requires-clause-fresh
@@ -37,8 +34,7 @@ returns-in-Err-clause-written g c =
     let written : Written Feature = record { whole = g.E.Engine.whole c.args.engine; settled = g.E.Engine.settled c.args.engine } in
     let starts = begins_by left order First c.args.first c.new-reader.result c.new-records.result records.below reader.source reader.input reader.none_taken.0 reader.none_fed reader.going.0 reader.lines records.good in
     let ended = sym (c.into_source-first.ensures ∙ ap source_of c.into_reader.ensures) in
-    subst (λ (o : Order). WritesInput left g.A.Source.has_failed (IsBedKind o) (records_report written order) (records_settle written order) c.args.first c.args.out.now (Some (told c.in-Err.fault)) c.into_source-first.result c.feed_all-fed.new.out) records.order
-    (drives_fault written (IsBedKind (order_in c.new-records.result)) (AreInOrder (order_in c.new-records.result)) (g.E.Engine.takes c.args.engine) c.requires.stays c.requires.begins left g.A.Source.has_failed g.A.Source.end_told (bed_format (sorting_of order))
+    rw records.order at (drives_fault written (IsBedKind (order_in c.new-records.result)) (AreInOrder (order_in c.new-records.result)) (g.E.Engine.takes c.args.engine) c.requires.stays c.requires.begins left g.A.Source.has_failed g.A.Source.end_told (bed_format (sorting_of order))
     (records_sorted (g.E.Engine.takes c.args.engine) order (g.met.O.ChromOrder.total c.args.order.now) c.requires.takes) (view_of c.new-records.result) c.args.first c.args.out.now starts (view_of c.feed_all-fed.new.records) c.into_source-first.result ended
     (told c.in-Err.fault) c.feed_all-fed.new.out c.in-Err.ensures.feeds)
 
@@ -54,8 +50,7 @@ returns-in-Err-finish-clause-written g c =
     let fed = c.in_default.ensures.feeds in
     let takes = c.requires.takes (member_items fed.past) (subst (λ o. ArePlaced o (intervals_of (member_items fed.past))) records.order fed.took.sorted.0) fed.took.sorted.1 in
     let said = finish_cut g.E.Engine.takes g.E.Engine.stands g.E.Engine.fault g.E.Engine.settled g.E.Engine.whole c.args.engine c.feed_all-fed.new.engine (member_items fed.past) c.feed_all-fed.new.out c.finish.new.out c.in-Err-finish.fault fed.stands takes c.in-Err-finish.ensures in
-    subst (λ (o : Order). WritesInput left g.A.Source.has_failed (IsBedKind o) (records_report written order) (records_settle written order) c.args.first c.args.out.now (Some (told c.in-Err-finish.fault)) c.into_source-first.result c.finish.new.out) records.order
-    (drives_cut written (IsBedKind (order_in c.new-records.result)) (AreInOrder (order_in c.new-records.result)) (g.E.Engine.takes c.args.engine) c.requires.stays c.requires.begins left g.A.Source.has_failed g.A.Source.end_told (bed_format (sorting_of order))
+    rw records.order at (drives_cut written (IsBedKind (order_in c.new-records.result)) (AreInOrder (order_in c.new-records.result)) (g.E.Engine.takes c.args.engine) c.requires.stays c.requires.begins left g.A.Source.has_failed g.A.Source.end_told (bed_format (sorting_of order))
     (records_sorted (g.E.Engine.takes c.args.engine) order (g.met.O.ChromOrder.total c.args.order.now) c.requires.takes) (view_of c.new-records.result) c.args.first c.args.out.now starts (view_of c.feed_all-fed.new.records) c.into_source-first.result ended
     (λ past. g.E.Engine.stands c.args.engine past c.feed_all-fed.new.engine) c.feed_all-fed.new.out fed c.finish.new.out (goes_failed c.feed_all-fed.new.out c.finish.new.out c.in-Err-finish.ensures.grows said.failed)
     (told c.in-Err-finish.fault) said.is said.cuts.bytes said.cuts.goes_on said.cuts.front said.sink_failed)
@@ -72,8 +67,7 @@ returns-clause-written g c =
     let fed = c.in_default.ensures.feeds in
     let takes = c.requires.takes (member_items fed.past) (subst (λ o. ArePlaced o (intervals_of (member_items fed.past))) records.order fed.took.sorted.0) fed.took.sorted.1 in
     let puts = finish_put g.E.Engine.takes g.E.Engine.stands g.E.Engine.fault g.E.Engine.settled g.E.Engine.whole c.args.engine c.feed_all-fed.new.engine (member_items fed.past) c.feed_all-fed.new.out c.finish.new.out fed.stands takes c.in_default-finish.ensures in
-    subst (λ (o : Order). WritesInput left g.A.Source.has_failed (IsBedKind o) (records_report written order) (records_settle written order) c.args.first c.args.out.now None c.into_source-first.result c.finish.new.out) records.order
-    (drives_all written (IsBedKind (order_in c.new-records.result)) (AreInOrder (order_in c.new-records.result)) (g.E.Engine.takes c.args.engine) c.requires.stays c.requires.begins left g.A.Source.has_failed g.A.Source.end_told (bed_format (sorting_of order))
+    rw records.order at (drives_all written (IsBedKind (order_in c.new-records.result)) (AreInOrder (order_in c.new-records.result)) (g.E.Engine.takes c.args.engine) c.requires.stays c.requires.begins left g.A.Source.has_failed g.A.Source.end_told (bed_format (sorting_of order))
     (records_sorted (g.E.Engine.takes c.args.engine) order (g.met.O.ChromOrder.total c.args.order.now) c.requires.takes) (view_of c.new-records.result) c.args.first c.args.out.now starts (view_of c.feed_all-fed.new.records) c.into_source-first.result ended
     (λ past. g.E.Engine.stands c.args.engine past c.feed_all-fed.new.engine) c.feed_all-fed.new.out fed c.finish.new.out (finish_goes g.E.Engine.takes g.E.Engine.stands g.E.Engine.fault g.E.Engine.settled g.E.Engine.whole c.args.engine c.feed_all-fed.new.engine (member_items fed.past) c.feed_all-fed.new.out c.finish.new.out c.in_default-finish.ensures)
     puts.bytes puts.goes_on puts.appends
@@ -87,7 +81,7 @@ returns-in-Err-clause-own_failure g c =
     let order = g.O.ChromOrder.order c.args.order.now in
     let starts = begins_by left order First c.args.first c.new-reader.result c.new-records.result records.below reader.source reader.input reader.none_taken.0 reader.none_fed reader.going.0 reader.lines records.good in
     let ended = sym (c.into_source-first.ensures ∙ ap source_of c.into_reader.ensures) in
-    feeds_own left g.A.Source.has_failed g.A.Source.end_told g.A.Source.read_fails (bed_format (sorting_of order)) c.args.first (view_of c.new-records.result) starts (view_of c.feed_all-fed.new.records) c.into_source-first.result ended c.feed_all-fed.ensures.own_failure
+    feeds_own left g.A.Source.has_failed g.A.Source.end_told g.A.Source.is_read (bed_format (sorting_of order)) c.args.first (view_of c.new-records.result) starts (view_of c.feed_all-fed.new.records) c.into_source-first.result ended c.feed_all-fed.ensures.own_failure
     (g.E.Engine.settled c.args.engine) (IsBedKind (order_in c.new-records.result)) (bed_no_read (order_in c.new-records.result)) (AreInOrder (order_in c.new-records.result)) c.args.out.now (told c.in-Err.fault) c.feed_all-fed.new.out c.in-Err.ensures.feeds
 
 pub returns-in-Err-finish-clause-own_failure : goal.returns-in-Err-finish-clause-own_failure
@@ -100,3 +94,18 @@ returns-in-Err-finish-clause-own_failure g c =
 
 pub returns-clause-own_failure : goal.returns-clause-own_failure
 returns-clause-own_failure g c = tells_nothing ⊥ _ ⊥ None refl
+
+pub returns-in-Err-clause-reads : goal.returns-in-Err-clause-reads
+returns-in-Err-clause-reads g c = λ never.
+    served_of g.A.Source.is_read c.args.first c.into_source-first.result (below c.new-records.result) (below c.feed_all-fed.new.records) (ap source_of c.new-records.ensures.below ∙ c.new-reader.ensures.source)
+    (sym (c.into_source-first.ensures ∙ ap source_of c.into_reader.ensures)) (c.in-Err.ensures.reads never)
+
+pub returns-in-Err-finish-clause-reads : goal.returns-in-Err-finish-clause-reads
+returns-in-Err-finish-clause-reads g c = λ never.
+    served_of g.A.Source.is_read c.args.first c.into_source-first.result (below c.new-records.result) (below c.feed_all-fed.new.records) (ap source_of c.new-records.ensures.below ∙ c.new-reader.ensures.source)
+    (sym (c.into_source-first.ensures ∙ ap source_of c.into_reader.ensures)) (c.in_default.ensures.reads tt)
+
+pub returns-clause-reads : goal.returns-clause-reads
+returns-clause-reads g c = λ never.
+    served_of g.A.Source.is_read c.args.first c.into_source-first.result (below c.new-records.result) (below c.feed_all-fed.new.records) (ap source_of c.new-records.ensures.below ∙ c.new-reader.ensures.source)
+    (sym (c.into_source-first.ensures ∙ ap source_of c.into_reader.ensures)) (c.in_default.ensures.reads tt)

@@ -1,4 +1,5 @@
-use Rattle.bt_bed.specs.Records.{room}
+use Rattle.bt_lines.specs.Reader.{HasRead}
+use Rattle.bt_bed.specs.Records.{below, room}
 use Rattle.bt_tool.proofs.FeedLemmas.{Going}
 use Rattle.bt_tool.proofs.driving.feed_all.Given as goal
 
@@ -7,6 +8,7 @@ abbrev pub invariant-loop-record : goal.invariant-loop-record
 invariant-loop-record g l =
     Going (g.E.Engine.settled l.initial.engine) (λ past. g.E.Engine.stands l.initial.engine past l.engine)
     g.S.Source.left g.S.Source.has_failed g.S.Source.end_told l.initial.records l.initial.out l.records l.out
+    × HasRead g.S.Source.is_read (below l.initial.records) (below l.records)
 
 abbrev pub decreases-loop-record : goal.decreases-loop-record
 decreases-loop-record g l = room l.records

@@ -3,7 +3,7 @@ use Rattle.std.proofs.lemmas.Bool.{false≢true}
 use Rattle.bt_lines.specs.Names.{told}
 use Rattle.bt_lines.specs.Reader.{source_of}
 use Rattle.bt_lines.specs.declared.fault.Input.TheVariants.{First, Second}
-use Rattle.bt_bed.specs.Blocks.{view_of}
+use Rattle.bt_bed.specs.Blocks.{below, view_of}
 use Rattle.bt_bed.specs.GoodBlocks.{block_format}
 use Rattle.bt_bed.proofs.GoodBlocksLemmas.{good_in_blocks}
 use Rattle.bt_seq.specs.Sequences.{sequence_format}
@@ -13,7 +13,7 @@ use Rattle.bt_tool.proofs.MaskFacts.{mask_limits, mask_needs}
 use Rattle.bt_tool.proofs.MaskStart.{as_asked, begin_blocks, begin_lines, blocks_format, fresh_blocks, fresh_lines, masks_as_new, nothing_reached}
 use Rattle.bt_tool.proofs.PairMet.{writes_both}
 use Rattle.bt_tool.proofs.PairNear.{near_both}
-use Rattle.bt_tool.proofs.OwnFailureLemmas.{both_own, kept_below, tells_nothing}
+use Rattle.bt_tool.proofs.OwnFailureLemmas.{both_own, kept_below, served_of, tells_nothing}
 use Rattle.bt_tool.proofs.masking.mask.Goals as goal
 
 pub mask_all-masked-requires-clause-blocks : goal.mask_all-masked-requires-clause-blocks
@@ -89,6 +89,20 @@ returns-clause-own_failure g c =
     let ended_second = sym (c.into_source-second.ensures ∙ ap source_of c.into_reader.ensures) in
     let making = mask_making c.args.how in
     let pair = mask_pair g.A.Source.left g.A.Source.has_failed g.A.Source.end_told g.B.Source.left g.B.Source.has_failed g.B.Source.end_told c.args.how c.args.full (line_members c.args.full nothing_reached c.new-lines.result) (view_of c.new-records.result) in
-    both_own making pair c.args.out.now g.A.Source.read_fails g.B.Source.read_fails (sequence_format c.args.full) block_format c.args.first c.args.second begins begins_second
+    both_own making pair c.args.out.now g.A.Source.is_read g.B.Source.is_read (sequence_format c.args.full) block_format c.args.first c.args.second begins begins_second
     ends.0 (view_of c.mask_all-masked.new.records) c.into_source-first.result c.into_source-second.result ended ended_second fault c.mask_all-masked.new.out ends.2
-    (λ kind. false≢true kind) (λ kind. false≢true kind) (kept_below g.A.Source.read_fails ends.0 c.mask_all-masked.new.lines ends.1 ends.3 c.mask_all-masked.ensures.own_failure) c.mask_all-masked.ensures.own_failure_second
+    (λ kind. false≢true kind) (λ kind. false≢true kind) (kept_below g.A.Source.is_read c.new-lines.result ends.0 c.mask_all-masked.new.lines ends.1 ends.3 c.mask_all-masked.ensures.own_failure) c.mask_all-masked.ensures.own_failure_second
+
+pub returns-in-Ok-clause-reads : goal.returns-in-Ok-clause-reads
+returns-in-Ok-clause-reads g c = λ never. (
+  served_of g.A.Source.is_read c.args.first c.into_source-first.result c.new-lines.result c.mask_all-masked.new.lines c.new-lines.ensures.source (sym c.into_source-first.ensures) (c.in-Ok.ensures.reads_first tt),
+  served_of g.B.Source.is_read c.args.second c.into_source-second.result (below c.new-records.result) (below c.mask_all-masked.new.records) (ap source_of c.new-records.ensures.below ∙ c.new.ensures.source)
+      (sym (c.into_source-second.ensures ∙ ap source_of c.into_reader.ensures)) (c.in-Ok.ensures.reads_second tt),
+)
+
+pub returns-clause-reads : goal.returns-clause-reads
+returns-clause-reads g c = λ never. (
+  served_of g.A.Source.is_read c.args.first c.into_source-first.result c.new-lines.result c.mask_all-masked.new.lines c.new-lines.ensures.source (sym c.into_source-first.ensures) (c.in-Err.ensures.reads_first never),
+  served_of g.B.Source.is_read c.args.second c.into_source-second.result (below c.new-records.result) (below c.mask_all-masked.new.records) (ap source_of c.new-records.ensures.below ∙ c.new.ensures.source)
+      (sym (c.into_source-second.ensures ∙ ap source_of c.into_reader.ensures)) (c.in-Err.ensures.reads_second never),
+)

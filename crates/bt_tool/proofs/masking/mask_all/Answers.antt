@@ -1,14 +1,22 @@
-use Rattle.std.proofs.Common.{sym, ◌∙◌, []}
+use Rattle.std.proofs.Common.{refl, sym, ◌∙◌, []}
+use Rattle.bt_lines.proofs.ReadsLemmas.{has_read_then, reads_same}
 use Rattle.bt_lines.specs.Names.{told}
-use Rattle.bt_bed.specs.Blocks.{view_of}
+use Rattle.bt_lines.specs.Reader.{HasRead}
+use Rattle.bt_bed.specs.Blocks.{below, view_of}
 use Rattle.bt_bed.proofs.ResultLemmas.{passed_on}
 use Rattle.bt_tool.specs.MaskLoop.{FinishesMask}
+use Rattle.bt_tool.specs.OwnReads.{AnswersNoRead}
 use Rattle.bt_tool.proofs.MaskTurnLemmas.{bed_stops, ends_all, line_stops, turns_bed, turns_line}
-use Rattle.bt_tool.proofs.OwnFailureLemmas.{none_kept}
+use Rattle.bt_tool.proofs.OwnFailureLemmas.{none_kept, own_then}
 use Rattle.bt_tool.proofs.masking.mask_all.Goals as goal
 
 pub loop-lines-init : goal.loop-lines-init
-loop-lines-init g c = (record { names = []; bases = 0 }, c.requires.starts)
+loop-lines-init g c = (
+  record { names = []; bases = 0 },
+  c.requires.starts,
+  reads_same g.A.Source.is_read c.args.lines.now c.args.lines.now refl,
+  reads_same g.B.Source.is_read (below c.args.records.now) (below c.args.records.now) refl,
+)
 
 pub loop-lines-smaller-in-Continue-1 : goal.loop-lines-smaller-in-Continue-1
 loop-lines-smaller-in-Continue-1 g c =
@@ -20,9 +28,15 @@ loop-lines-smaller-in-Continue-1 g c =
 pub loop-lines-preserved-in-Continue-1 : goal.loop-lines-preserved-in-Continue-1
 loop-lines-preserved-in-Continue-1 g c =
     let now = c.loop-lines.invariant in
+    let turned =
     (turns_line g.A.Source.left g.A.Source.has_failed g.A.Source.end_told g.B.Source.left g.B.Source.has_failed g.B.Source.end_told c.args.mask.now.how c.args.mask.now.full c.args.lines.now (view_of c.args.records.now) c.args.out.now
     c.requires.blocks c.requires.first c.loop-lines.lines now.0 (view_of c.loop-lines.records) c.loop-lines.mask c.loop-lines.out now.1
-    (sym c.want.ensures.is ∙ c.in-Line.is) c.turn_line.new.lines c.turn_line.new.mask c.turn_line.new.out c.in_ok-turn_line-in-Line.ensures.turns).0
+    (sym c.want.ensures.is ∙ c.in-Line.is) c.turn_line.new.lines c.turn_line.new.mask c.turn_line.new.out c.in_ok-turn_line-in-Line.ensures.turns).0 in (
+      turned.0,
+      turned.1,
+      has_read_then g.A.Source.is_read c.args.lines.now c.loop-lines.lines c.turn_line.new.lines now.2 (c.in_ok-turn_line-in-Line.ensures.reads now.1.comes.first_passes.going tt),
+      now.3,
+    )
 
 pub returns-in_err-turn_line-in-Line-clause-finishes : goal.returns-in_err-turn_line-in-Line-clause-finishes
 returns-in_err-turn_line-in-Line-clause-finishes g c =
@@ -47,6 +61,8 @@ loop-lines-preserved g c =
       (turns_bed g.A.Source.left g.A.Source.has_failed g.A.Source.end_told g.B.Source.left g.B.Source.has_failed g.B.Source.end_told c.args.mask.now.how c.args.mask.now.full c.args.lines.now (view_of c.args.records.now) c.args.out.now
           c.requires.blocks c.requires.first c.loop-lines.lines now.0 (view_of c.loop-lines.records) c.loop-lines.mask c.loop-lines.out now.1
           (sym c.want.ensures.is ∙ c.in-Bed.is) (view_of c.turn_bed.new.records) c.turn_bed.new.mask c.turn_bed.new.out c.in_ok-turn_bed-in-Bed.ensures.turns).0,
+      now.2,
+      has_read_then g.B.Source.is_read (below c.args.records.now) (below c.loop-lines.records) (below c.turn_bed.new.records) now.3 (c.in_ok-turn_bed-in-Bed.ensures.reads now.1.comes.second_passes.going tt),
     )
 
 pub returns-in_err-turn_bed-in-Bed-clause-finishes : goal.returns-in_err-turn_bed-in-Bed-clause-finishes
@@ -66,19 +82,47 @@ returns-in-Nothing-clause-finishes g c =
     (sym c.want.ensures.is ∙ c.in-Nothing.is)
 
 pub returns-in_err-turn_line-in-Line-clause-own_failure : goal.returns-in_err-turn_line-in-Line-clause-own_failure
-returns-in_err-turn_line-in-Line-clause-own_failure g c = c.turn_line.ensures.own_failure c.loop-lines.invariant.1.comes.first_passes.going
+returns-in_err-turn_line-in-Line-clause-own_failure g c =
+    let now = c.loop-lines.invariant in
+    own_then g.A.Source.is_read c.args.lines.now c.loop-lines.lines _ _ now.2 (c.turn_line.ensures.own_failure now.1.comes.first_passes.going)
 
 pub returns-in_err-turn_line-in-Line-clause-own_failure_second : goal.returns-in_err-turn_line-in-Line-clause-own_failure_second
-returns-in_err-turn_line-in-Line-clause-own_failure_second g c = none_kept g.B.Source.read_fails _ _ c.loop-lines.invariant.1.comes.second_passes.going
+returns-in_err-turn_line-in-Line-clause-own_failure_second g c = none_kept g.B.Source.is_read _ _ _ c.loop-lines.invariant.1.comes.second_passes.going
 
 pub returns-in_err-turn_bed-in-Bed-clause-own_failure : goal.returns-in_err-turn_bed-in-Bed-clause-own_failure
-returns-in_err-turn_bed-in-Bed-clause-own_failure g c = none_kept g.A.Source.read_fails _ _ c.loop-lines.invariant.1.comes.first_passes.going
+returns-in_err-turn_bed-in-Bed-clause-own_failure g c = none_kept g.A.Source.is_read _ _ _ c.loop-lines.invariant.1.comes.first_passes.going
 
 pub returns-in_err-turn_bed-in-Bed-clause-own_failure_second : goal.returns-in_err-turn_bed-in-Bed-clause-own_failure_second
-returns-in_err-turn_bed-in-Bed-clause-own_failure_second g c = c.turn_bed.ensures.own_failure c.loop-lines.invariant.1.comes.second_passes.going
+returns-in_err-turn_bed-in-Bed-clause-own_failure_second g c =
+    let now = c.loop-lines.invariant in
+    own_then g.B.Source.is_read (below c.args.records.now) (below c.loop-lines.records) _ _ now.3 (c.turn_bed.ensures.own_failure now.1.comes.second_passes.going)
 
 pub returns-in-Nothing-clause-own_failure : goal.returns-in-Nothing-clause-own_failure
-returns-in-Nothing-clause-own_failure g c = none_kept g.A.Source.read_fails _ _ c.loop-lines.invariant.1.comes.first_passes.going
+returns-in-Nothing-clause-own_failure g c = none_kept g.A.Source.is_read _ _ _ c.loop-lines.invariant.1.comes.first_passes.going
 
 pub returns-in-Nothing-clause-own_failure_second : goal.returns-in-Nothing-clause-own_failure_second
-returns-in-Nothing-clause-own_failure_second g c = none_kept g.B.Source.read_fails _ _ c.loop-lines.invariant.1.comes.second_passes.going
+returns-in-Nothing-clause-own_failure_second g c = none_kept g.B.Source.is_read _ _ _ c.loop-lines.invariant.1.comes.second_passes.going
+
+pub returns-in_err-turn_line-in-Line-clause-reads_first : goal.returns-in_err-turn_line-in-Line-clause-reads_first
+returns-in_err-turn_line-in-Line-clause-reads_first g c =
+    let now = c.loop-lines.invariant in
+    passed_on (λ r. AnswersNoRead r → HasRead g.A.Source.is_read c.args.lines.now c.turn_line.new.lines) c.from_residual.result c.in_err-turn_line-in-Line.field-0.0 c.from_residual.ensures.1
+    (λ never. has_read_then g.A.Source.is_read c.args.lines.now c.loop-lines.lines c.turn_line.new.lines now.2 (c.in_err-turn_line-in-Line.ensures.reads now.1.comes.first_passes.going never))
+
+pub returns-in_err-turn_line-in-Line-clause-reads_second : goal.returns-in_err-turn_line-in-Line-clause-reads_second
+returns-in_err-turn_line-in-Line-clause-reads_second g c = λ never. c.loop-lines.invariant.3
+
+pub returns-in_err-turn_bed-in-Bed-clause-reads_first : goal.returns-in_err-turn_bed-in-Bed-clause-reads_first
+returns-in_err-turn_bed-in-Bed-clause-reads_first g c = λ never. c.loop-lines.invariant.2
+
+pub returns-in_err-turn_bed-in-Bed-clause-reads_second : goal.returns-in_err-turn_bed-in-Bed-clause-reads_second
+returns-in_err-turn_bed-in-Bed-clause-reads_second g c =
+    let now = c.loop-lines.invariant in
+    passed_on (λ r. AnswersNoRead r → HasRead g.B.Source.is_read (below c.args.records.now) (below c.turn_bed.new.records)) c.from_residual-in_err-turn_bed-in-Bed.result c.in_err-turn_bed-in-Bed.field-0.0 c.from_residual-in_err-turn_bed-in-Bed.ensures.1
+    (λ never. has_read_then g.B.Source.is_read (below c.args.records.now) (below c.loop-lines.records) (below c.turn_bed.new.records) now.3 (c.in_err-turn_bed-in-Bed.ensures.reads now.1.comes.second_passes.going never))
+
+pub returns-in-Nothing-clause-reads_first : goal.returns-in-Nothing-clause-reads_first
+returns-in-Nothing-clause-reads_first g c = λ never. c.loop-lines.invariant.2
+
+pub returns-in-Nothing-clause-reads_second : goal.returns-in-Nothing-clause-reads_second
+returns-in-Nothing-clause-reads_second g c = λ never. c.loop-lines.invariant.3

@@ -1,5 +1,6 @@
 use Rattle.std.specs.Prelude.{[]}
-use Rattle.bt_bed.specs.Blocks.{view_of}
+use Rattle.bt_lines.specs.Reader.{HasRead}
+use Rattle.bt_bed.specs.Blocks.{below, view_of}
 use Rattle.bt_seq.specs.Sequences.{Reached}
 use Rattle.bt_tool.specs.MaskLoop.{Masks, line_members}
 use Rattle.bt_tool.proofs.MaskTurnLemmas.{left_to_ask}
@@ -11,6 +12,7 @@ invariant-loop-lines g l =
     (reached : Reached) × Masks g.A.Source.left g.A.Source.has_failed g.A.Source.end_told g.B.Source.left g.B.Source.has_failed g.B.Source.end_told l.initial.mask.how l.initial.mask.full
     (line_members l.initial.mask.full (record { names = []; bases = 0 }) l.initial.lines) (view_of l.initial.records) l.initial.out
     (line_members l.initial.mask.full reached l.lines) (view_of l.records) l.mask l.out
+    × HasRead g.A.Source.is_read l.initial.lines l.lines × HasRead g.B.Source.is_read (below l.initial.records) (below l.records)
 
 abbrev pub decreases-loop-lines : goal.decreases-loop-lines
 decreases-loop-lines g l = left_to_ask l.lines (view_of l.records) l.mask

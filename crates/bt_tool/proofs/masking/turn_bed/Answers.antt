@@ -1,11 +1,14 @@
-use Rattle.std.proofs.Common.{◌∙◌, inl, inr, refl}
+use Rattle.std.proofs.Common.{◌∙◌, inl, inr, refl, subst, sym}
+use Rattle.bt_lines.proofs.ReadsLemmas.{has_read_then}
 use Rattle.bt_lines.specs.Names.{told}
+use Rattle.bt_lines.specs.Reader.{HasRead}
 use Rattle.bt_bed.specs.Bed.{feature_lent}
-use Rattle.bt_bed.specs.Blocks.{view_of}
+use Rattle.bt_bed.specs.Blocks.{below, view_of}
 use Rattle.bt_bed.proofs.ResultLemmas.{passed_on}
 use Rattle.bt_tool.specs.MaskTurns.{TurnsBed}
+use Rattle.bt_tool.specs.OwnReads.{AnswersNoRead}
 use Rattle.bt_tool.proofs.LineMembers.{blocks_over, blocks_stopped, ends_turn, peeked_again}
-use Rattle.bt_tool.proofs.OwnFailureLemmas.{none_kept, told_kept}
+use Rattle.bt_tool.proofs.OwnFailureLemmas.{none_kept, own_then, told_kept}
 use Rattle.bt_tool.proofs.masking.turn_bed.Goals as goal
 
 pub returns-in_err-line-clause-turns : goal.returns-in_err-line-clause-turns
@@ -109,32 +112,73 @@ pub returns-in_err-record-clause-own_failure : goal.returns-in_err-record-clause
 returns-in_err-record-clause-own_failure g c = λ none.
     let first = rw c.in-Some.is at c.in_ok-line.ensures.asks in
     let peek = rw c.in_err-record.was at c.peek.follows.holds-at-none in
-    told_kept g.B.Source.read_fails _ _ _ c.in_err-record.field-0.0 peek.answers.kept (first.1.read.goes ∙ none) peek.own_failure
+    own_then g.B.Source.is_read (below c.args.records.now) (below c.line_ahead.new.records) _ _ (c.in_ok-line.ensures.reads none tt)
+    (told_kept g.B.Source.is_read _ _ (below c.line_ahead.new.records) _ c.in_err-record.field-0.0 peek.answers.kept (first.1.read.goes ∙ none) peek.own_failure)
 
 pub returns-in_err-give_bed-in-Some-2-clause-own_failure : goal.returns-in_err-give_bed-in-Some-2-clause-own_failure
 returns-in_err-give_bed-in-Some-2-clause-own_failure g c = λ none.
     let first = rw c.in-Some.is at c.in_ok-line.ensures.asks in
     let peek = rw (c.in_ok-record.was, c.in-Some-2.is) at c.peek.follows.holds-at-none in
-    none_kept g.B.Source.read_fails _ _ (peek.answers.read.goes ∙ first.1.read.goes ∙ none)
+    none_kept g.B.Source.is_read _ _ _ (peek.answers.read.goes ∙ first.1.read.goes ∙ none)
 
 pub returns-in-Yes-clause-own_failure : goal.returns-in-Yes-clause-own_failure
 returns-in-Yes-clause-own_failure g c = λ none.
     let first = rw c.in-Some.is at c.in_ok-line.ensures.asks in
     let peek = rw (c.in_ok-record.was, c.in-Some-2.is) at c.peek.follows.holds-at-none in
-    none_kept g.B.Source.read_fails _ _ (c.advance.ensures.passes.goes ∙ peek.answers.read.goes ∙ first.1.read.goes ∙ none)
+    none_kept g.B.Source.is_read _ _ _ (c.advance.ensures.passes.goes ∙ peek.answers.read.goes ∙ first.1.read.goes ∙ none)
 
 pub returns-in-No-clause-own_failure : goal.returns-in-No-clause-own_failure
 returns-in-No-clause-own_failure g c = λ none.
     let first = rw c.in-Some.is at c.in_ok-line.ensures.asks in
     let peek = rw (c.in_ok-record.was, c.in-Some-2.is) at c.peek.follows.holds-at-none in
-    none_kept g.B.Source.read_fails _ _ (peek.answers.read.goes ∙ first.1.read.goes ∙ none)
+    none_kept g.B.Source.is_read _ _ _ (peek.answers.read.goes ∙ first.1.read.goes ∙ none)
 
 pub returns-in_err-end_bed-in-None-clause-own_failure : goal.returns-in_err-end_bed-in-None-clause-own_failure
 returns-in_err-end_bed-in-None-clause-own_failure g c = λ none.
     let peek = rw (c.in_ok-record.was, c.in-None.is) at c.peek.follows.holds-at-none in
-    none_kept g.B.Source.read_fails _ _ peek.answers.goes
+    none_kept g.B.Source.is_read _ _ _ peek.answers.goes
 
 pub returns-in_ok-end_bed-in-None-clause-own_failure : goal.returns-in_ok-end_bed-in-None-clause-own_failure
 returns-in_ok-end_bed-in-None-clause-own_failure g c = λ none.
     let peek = rw (c.in_ok-record.was, c.in-None.is) at c.peek.follows.holds-at-none in
-    none_kept g.B.Source.read_fails _ _ peek.answers.goes
+    none_kept g.B.Source.is_read _ _ _ peek.answers.goes
+
+pub returns-in_err-line-clause-reads : goal.returns-in_err-line-clause-reads
+returns-in_err-line-clause-reads g c = λ none.
+    passed_on (λ r. AnswersNoRead r → HasRead g.B.Source.is_read (below c.args.records.now) (below c.line_ahead.new.records)) c.from_residual.result c.in_err-line.field-0.0 c.from_residual.ensures.1 (c.in_err-line.ensures.reads none)
+
+pub returns-in_default-clause-reads : goal.returns-in_default-clause-reads
+returns-in_default-clause-reads g c = λ none never. c.in_ok-line.ensures.reads none tt
+
+pub returns-in_err-record-clause-reads : goal.returns-in_err-record-clause-reads
+returns-in_err-record-clause-reads g c = λ none.
+    let first = rw c.in-Some.is at c.in_ok-line.ensures.asks in
+    let peek = rw c.in_err-record.was at c.peek.follows.holds-at-none in
+    passed_on (λ r. AnswersNoRead r → HasRead g.B.Source.is_read (below c.args.records.now) (below c.peek.follows.lender-at-none)) c.from_residual-in_err-record.result c.in_err-record.field-0.0 c.from_residual-in_err-record.ensures.1
+    (λ never. has_read_then g.B.Source.is_read (below c.args.records.now) (below c.line_ahead.new.records) (below c.peek.follows.lender-at-none) (c.in_ok-line.ensures.reads none tt) ((peek.own_failure (first.1.read.goes ∙ none)).read never))
+
+pub returns-in_err-give_bed-in-Some-2-clause-reads : goal.returns-in_err-give_bed-in-Some-2-clause-reads
+returns-in_err-give_bed-in-Some-2-clause-reads g c = λ none never.
+    let peek = rw (c.in_ok-record.was, c.in-Some-2.is) at c.peek.follows.holds-at-none in
+    has_read_then g.B.Source.is_read (below c.args.records.now) (below c.line_ahead.new.records) (below c.peek.follows.lender-at-none) (c.in_ok-line.ensures.reads none tt) peek.own_failure
+
+pub returns-in_err-end_bed-in-None-clause-reads : goal.returns-in_err-end_bed-in-None-clause-reads
+returns-in_err-end_bed-in-None-clause-reads g c = λ none never.
+    let peek = rw (c.in_ok-record.was, c.in-None.is) at c.peek.follows.holds-at-none in
+    has_read_then g.B.Source.is_read (below c.args.records.now) (below c.line_ahead.new.records) (below c.peek.follows.lender-at-none) (c.in_ok-line.ensures.reads none tt) peek.own_failure
+
+pub returns-in-Yes-clause-reads : goal.returns-in-Yes-clause-reads
+returns-in-Yes-clause-reads g c = λ none never.
+    let peek = rw (c.in_ok-record.was, c.in-Some-2.is) at c.peek.follows.holds-at-none in
+    has_read_then g.B.Source.is_read (below c.args.records.now) (below c.line_ahead.new.records) (below c.advance.new.self) (c.in_ok-line.ensures.reads none tt)
+    (subst (HasRead g.B.Source.is_read (below c.line_ahead.new.records)) (sym c.advance.ensures.passes.reads_nothing) peek.own_failure)
+
+pub returns-in-No-clause-reads : goal.returns-in-No-clause-reads
+returns-in-No-clause-reads g c = λ none never.
+    let peek = rw (c.in_ok-record.was, c.in-Some-2.is) at c.peek.follows.holds-at-none in
+    has_read_then g.B.Source.is_read (below c.args.records.now) (below c.line_ahead.new.records) (below c.peek.follows.lender-at-none) (c.in_ok-line.ensures.reads none tt) peek.own_failure
+
+pub returns-in_ok-end_bed-in-None-clause-reads : goal.returns-in_ok-end_bed-in-None-clause-reads
+returns-in_ok-end_bed-in-None-clause-reads g c = λ none never.
+    let peek = rw (c.in_ok-record.was, c.in-None.is) at c.peek.follows.holds-at-none in
+    has_read_then g.B.Source.is_read (below c.args.records.now) (below c.line_ahead.new.records) (below c.peek.follows.lender-at-none) (c.in_ok-line.ensures.reads none tt) peek.own_failure

@@ -1,7 +1,7 @@
-use Rattle.std.proofs.Common.{◌≡◌, ◌∙◌, ap, subst, sym}
+use Rattle.std.proofs.Common.{◌≡◌, ◌∙◌, ap}
 use Rattle.bt_tool.specs.Given.{items_in}
 use Rattle.bt_tool.specs.Options.{Named, named_by}
-use Rattle.bt_tool.specs.Table.{IsNamedBy, table_of, tool_of}
+use Rattle.bt_tool.specs.Table.{table_of, tool_of}
 use Rattle.bt_tool.proofs.NamedLemmas.{genome-file, named, named-output, second-file, tool-by}
 use Rattle.bt_tool.proofs.options.made.Goals as goal
 
@@ -13,13 +13,10 @@ invariant_of-result c =
     let is : tool_of c.command.result ≡ tool = ap tool_of c.command.ensures.asked ∙ tool-by tool (items_in given) in
     record {
       limits = c.command.ensures.limits;
-      genome_named = subst (λ t. IsNamedBy (table_of t) (table_of t).genome c.in_ok-genome.genome) (sym is)
-          (named given (table_of tool) (table_of tool).genome c.in_ok-genome.genome c.requires.table c.requires.whole
+      genome_named = rw is (named given (table_of tool) (table_of tool).genome c.in_ok-genome.genome c.requires.table c.requires.whole
           (genome-file tool) (c.in_ok-genome.ensures ∙ ap (λ (n : Named). n.genome) names));
-      second_named = subst (λ t. IsNamedBy (table_of t) (table_of t).second c.in_ok-second.second) (sym is)
-          (named given (table_of tool) (table_of tool).second c.in_ok-second.second c.requires.table c.requires.whole
+      second_named = rw is (named given (table_of tool) (table_of tool).second c.in_ok-second.second c.requires.table c.requires.whole
           (second-file tool) (c.in_ok-second.ensures ∙ ap (λ (n : Named). n.second) names));
-      output_named = subst (λ t. IsNamedBy (table_of t) (table_of t).output c.in_ok-output.output) (sym is)
-          (named-output tool (items_in given) c.in_ok-output.output
+      output_named = rw is (named-output tool (items_in given) c.in_ok-output.output
           (c.in_ok-output.ensures ∙ ap (λ (n : Named). n.output) names));
     }

@@ -1,16 +1,6 @@
-use Rattle.std.proofs.Common.{Option, List, subst, sym}
-use Rattle.std.specs.Prelude.{option_map}
-use Rattle.bt_lines.specs.Names.{told}
-use Rattle.bt_bed.specs.Genome.{Entry}
-use Rattle.bt_bed.specs.GenomeTable.{entries, names_of}
-use Rattle.bt_bed.specs.Rank.{rank_order}
-use Rattle.bt_bed.specs.declared.genome.Genome.{Genome}
 use Rattle.bt_runs.specs.Gaps.{AreTaken, complement as whole_gaps, settled_gaps}
 use Rattle.bt_runs.proofs.GapSteps.{settles_gaps}
 use Rattle.bt_runs.proofs.SettlingLemmas.{begins, stays}
-use Rattle.bt_tool.specs.Behaviour.{entries_in, order_of}
-use Rattle.bt_tool.specs.Driving.{WritesRecords}
-use Rattle.bt_tool.specs.Written.{complement_written}
 use Rattle.bt_tool.proofs.WriteLemmas.{complement_begins, lines_begin, lines_stay}
 use Rattle.bt_tool.proofs.running.complement.Goals as goal
 
@@ -32,9 +22,5 @@ drive-requires-clause-begins g c =
 
 pub returns-clause-written : goal.returns-clause-written
 returns-clause-written g c =
-    let drive = c.drive in
-    let engine = c.new-engine in
-    let order = rank_order (names_of c.in-Some.genome) in
-    subst (λ (genome : Option Genome). WritesRecords g.A.Source.left g.A.Source.has_failed (complement_written (entries_in (option_map entries genome)) c.args.limit) (order_of (option_map entries genome)) c.args.first c.args.out.now (option_map told drive.result.0) drive.result.1 drive.new.out) (sym c.in-Some.is)
-    (subst (λ limit. WritesRecords g.A.Source.left g.A.Source.has_failed (complement_written (entries c.in-Some.genome) limit) order c.args.first c.args.out.now (option_map told drive.result.0) drive.result.1 drive.new.out) engine.ensures.limit
-    (subst (λ (es : List Entry). WritesRecords g.A.Source.left g.A.Source.has_failed (complement_written es engine.result.limit) order c.args.first c.args.out.now (option_map told drive.result.0) drive.result.1 drive.new.out) engine.ensures.entries drive.ensures.written))
+    let engine = c.new-engine.ensures in
+    rw c.in-Some.is (rw (engine.entries, engine.limit) at c.drive.ensures.written)

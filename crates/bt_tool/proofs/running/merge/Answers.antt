@@ -1,12 +1,8 @@
 use Rattle.std.specs.Prelude.{option_map}
-use Rattle.std.proofs.Common.{subst}
 use Rattle.bt_lines.specs.Names.{told}
 use Rattle.bt_bed.specs.Feature.{intervals_of}
-use Rattle.bt_bed.specs.Order.{Order}
 use Rattle.bt_bed.specs.OrderInUse.{order_by, orders_total}
 use Rattle.bt_bed.proofs.TogetherLemmas.{placed_together}
-use Rattle.bt_tool.specs.Driving.{WritesRecords}
-use Rattle.bt_tool.specs.Written.{merge_written}
 use Rattle.bt_tool.proofs.ChromosomeLemmas.{order_is}
 use Rattle.bt_tool.proofs.WriteLemmas.{merge_begins, merge_begins_whole, merge_stays, merge_writes}
 use Rattle.bt_tool.proofs.running.merge.Goals as goal
@@ -26,7 +22,6 @@ drive-requires-clause-begins g c = merge_begins_whole c.new-engine.result
 
 pub returns-clause-written : goal.returns-clause-written
 returns-clause-written g c =
-    subst (λ (order : Order). WritesRecords g.A.Source.left g.A.Source.has_failed (merge_written order c.args.d c.args.strand) order c.args.first c.args.out.now (option_map told c.drive.result.0) c.drive.result.1 c.drive.new.out)
-    (order_is c.args.genome.now)
+    rw (← order_is c.args.genome.now)
     (merge_writes (order_by c.args.genome.now) (orders_total c.args.genome.now) g.A.Source.left g.A.Source.has_failed c.args.d c.args.strand c.new-engine.result c.new-engine.ensures.begun
     c.args.first c.args.out.now (option_map told c.drive.result.0) c.drive.result.1 c.drive.new.out c.drive.ensures.written)

@@ -1,8 +1,9 @@
-use Rattle.std.proofs.Common.{Some, subst, sym}
+use Rattle.std.proofs.Common.{Some, ap, subst, sym}
 use Rattle.bt_lines.specs.Names.{told}
 use Rattle.bt_tool.specs.Chromosomes.{KnowsChromosomes, LacksChromosomes}
 use Rattle.bt_tool.specs.OwnReads.{IsOwnFailureIf, TellsOwnReads}
 use Rattle.bt_tool.proofs.ChromosomeLemmas.{knows_read, lacks_own, lacks_read}
+use Rattle.bt_tool.proofs.OwnFailureLemmas.{served_of}
 use Rattle.bt_tool.proofs.running.read_genome.Goals as goal
 
 pub returns-in-Ok-clause-read : goal.returns-in-Ok-clause-read
@@ -22,6 +23,15 @@ returns-in-Err-clause-read g c =
 pub returns-in-Err-clause-own_failure : goal.returns-in-Err-clause-own_failure
 returns-in-Err-clause-own_failure g c =
     let reader = c.new-lines.ensures in
-    subst (λ before. TellsOwnReads (IsOwnFailureIf g.G.Source.left g.G.Source.read_fails before (Some c.into_source.result)) ⊥ ⊥ (Some (told c.in-Err.fault))) (sym c.in-Some.is)
+    subst (λ before. TellsOwnReads (IsOwnFailureIf g.G.Source.is_read before (Some c.into_source.result)) ⊥ ⊥ (Some (told c.in-Err.fault))) (sym c.in-Some.is)
     (lacks_own g.G.Source.left g.G.Source.has_failed g.G.Source.end_told c.in-Some.genome c.into_source.result c.new-lines.result c.read-read.new.reader reader.source (sym c.into_source.ensures) reader.input
-    reader.none_taken.0 reader.none_fed reader.none_given reader.going.0 reader.lines reader.sound g.G.Source.read_fails (told c.in-Err.fault) c.in-Err.ensures.answers (c.in-Err.ensures.own_failure reader.going.0))
+    reader.none_taken.0 reader.none_fed reader.none_given reader.going.0 reader.lines reader.sound g.G.Source.is_read (told c.in-Err.fault) c.in-Err.ensures.answers (λ input line e. (c.in-Err.ensures.own_failure reader.going.0).unread input line (ap Some e)))
+
+pub returns-in-Ok-clause-reads : goal.returns-in-Ok-clause-reads
+returns-in-Ok-clause-reads g c = λ never.
+    rw c.in-Some.is (served_of g.G.Source.is_read c.in-Some.genome c.into_source.result c.new-lines.result c.read-read.new.reader c.new-lines.ensures.source (sym c.into_source.ensures) c.in-Ok.ensures.own_failure)
+
+pub returns-in-Err-clause-reads : goal.returns-in-Err-clause-reads
+returns-in-Err-clause-reads g c = λ never.
+    rw c.in-Some.is
+    (served_of g.G.Source.is_read c.in-Some.genome c.into_source.result c.new-lines.result c.read-read.new.reader c.new-lines.ensures.source (sym c.into_source.ensures) ((c.in-Err.ensures.own_failure c.new-lines.ensures.going.0).read never))

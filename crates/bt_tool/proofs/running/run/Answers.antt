@@ -3,7 +3,7 @@ use Rattle.std.specs.Prelude.{option_map}
 use Rattle.bt_lines.specs.Names.{told}
 use Rattle.bt_lines.specs.Output.{Output}
 use Rattle.bt_tool.proofs.RunningLemmas.{runs_by}
-use Rattle.bt_tool.proofs.OwnFailureLemmas.{all_own, flushed_own}
+use Rattle.bt_tool.proofs.OwnFailureLemmas.{all_own, flushed_no_read, flushed_own, genome_no_read}
 use Rattle.bt_tool.proofs.running.run.Goals as goal
 
 pub returns-clause-report : goal.returns-clause-report
@@ -20,3 +20,15 @@ returns-clause-own_failure g c =
     flushed_own _ _ _ c.write_output-fault.new.out c.flushed-fault.new.out (option_map told c.write_output-fault.result.0) (option_map told c.flushed-fault.result) c.flushed-fault.ensures.ends
     (all_own g.A.Source.left g.A.Source.has_failed g.A.Source.end_told g.B.Source.left g.B.Source.has_failed c.args.plan.now.command c.args.first c.args.second c.new-out.result (option_map told c.write_output-fault.result.0) c.write_output-fault.result.1
     c.write_output-fault.result.2 c.write_output-fault.new.out _ _ _ c.read_genome-chromosomes.result.0 c.read_genome-chromosomes.ensures.own_failure c.write_output-fault.ensures.written c.write_output-fault.ensures.own_failure)
+
+pub returns-clause-reads : goal.returns-clause-reads
+returns-clause-reads g c = λ no_write never.
+    let fault = option_map told c.write_output-fault.result.0 in
+    let none = flushed_no_read c.write_output-fault.new.out c.flushed-fault.new.out fault (option_map told c.flushed-fault.result) c.flushed-fault.ensures.ends no_write never in
+    let others = c.write_output-fault.ensures.reads none in (
+      c.read_genome-chromosomes.ensures.reads
+          (genome_no_read g.A.Source.left g.A.Source.has_failed g.A.Source.end_told g.B.Source.left g.B.Source.has_failed c.args.plan.now.command c.args.first c.args.second c.new-out.result fault c.write_output-fault.result.1
+          c.write_output-fault.result.2 c.write_output-fault.new.out c.read_genome-chromosomes.result.0 c.write_output-fault.ensures.written none),
+      others.0,
+      others.1,
+    )

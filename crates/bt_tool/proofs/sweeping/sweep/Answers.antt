@@ -4,14 +4,13 @@ use Rattle.bt_lines.specs.Reader.{source_of}
 use Rattle.bt_lines.specs.declared.fault.Input.TheVariants.{First, Second}
 use Rattle.bt_bed.specs.GoodBed.{bed_format}
 use Rattle.bt_bed.specs.Order.{Order}
-use Rattle.bt_bed.specs.Records.{order_in, view_of}
+use Rattle.bt_bed.specs.Records.{below, view_of}
 use Rattle.bt_bed.specs.Sorting.{sorting_of}
 use Rattle.bt_bed.proofs.GoodBedLemmas.{placed_good}
-use Rattle.bt_sweep.specs.Standing.{StandsAt, first_stage}
 use Rattle.bt_sweep.specs.SweepView.{state_of}
 use Rattle.bt_sweep.specs.declared.hit_rule.HitRule.{HitRule}
 use Rattle.bt_sweep.specs.declared.shape.Shape.{Shape}
-use Rattle.bt_tool.specs.Both.{intersect_reaches, intersect_settles}
+use Rattle.bt_tool.specs.SweepReport.{intersect_reaches, intersect_settles}
 use Rattle.bt_tool.specs.SweepLoop.{SweepEnds, records_pair, sweep_making}
 use Rattle.bt_tool.proofs.PairMet.{writes_both}
 use Rattle.bt_tool.proofs.PairNear.{near_both}
@@ -19,7 +18,7 @@ use Rattle.bt_tool.proofs.StartLemmas.{begins_by, sweeps_start}
 use Rattle.bt_tool.proofs.SweepFacts.{sweep_needs}
 use Rattle.bt_tool.proofs.SweepLimits.{sweep_limits}
 use Rattle.bt_tool.proofs.DrivingLemmas.{fresh_start, sorted_start}
-use Rattle.bt_tool.proofs.OwnFailureLemmas.{bed_no_read, both_own, swept_no_read, tells_nothing}
+use Rattle.bt_tool.proofs.OwnFailureLemmas.{bed_no_read, both_own, served_of, swept_no_read, tells_nothing}
 use Rattle.bt_tool.proofs.sweeping.sweep.Goals as goal
 
 pub read_both-swept-requires-clause-sorted : goal.read_both-swept-requires-clause-sorted
@@ -39,10 +38,7 @@ read_both-swept-requires-clause-starts g c =
     (fresh_start _ _ c.new.result c.new-firsts.result records.below reader.none_given reader.none_taken.0 reader.none_fed (records.fault ∙ reader.going.0) records.none_ahead reader.sound) records.none_last
     (fresh_start _ _ c.new-2.result c.new-seconds.result records_2.below reader_2.none_given reader_2.none_taken.0 reader_2.none_fed (records_2.fault ∙ reader_2.going.0) records_2.none_ahead reader_2.sound) records_2.none_last
     c.requires.block (state_of c.new-sweep.result)
-    (subst (λ (l : Option ℕ). StandsAt (order_in c.new-firsts.result) (state_of c.new-sweep.result).shape (state_of c.new-sweep.result).rule l first_stage (state_of c.new-sweep.result)) (sym stands.limit_is)
-    (subst (λ (r : HitRule). StandsAt (order_in c.new-firsts.result) (state_of c.new-sweep.result).shape r c.args.limit first_stage (state_of c.new-sweep.result)) (sym stands.rule_is)
-    (subst (λ (s : Shape). StandsAt (order_in c.new-firsts.result) s c.args.rule c.args.limit first_stage (state_of c.new-sweep.result)) (sym stands.shape_is)
-    (subst (λ (o : Order). StandsAt o c.args.shape c.args.rule c.args.limit first_stage (state_of c.new-sweep.result)) (sym records.order) stands))))
+    (rw (← records.order, ← stands.shape_is, ← stands.rule_is, ← stands.limit_is) at stands)
 
 pub returns-in-Ok-clause-written : goal.returns-in-Ok-clause-written
 returns-in-Ok-clause-written g c =
@@ -51,10 +47,8 @@ returns-in-Ok-clause-written g c =
     let reader_2 = c.new-2.ensures in
     let records_2 = c.new-seconds.ensures in
     let order = g.O.ChromOrder.order c.args.order.now in
-    let ends = subst (λ (l : Option ℕ). SweepEnds g.A.Source.left g.A.Source.has_failed g.A.Source.end_told g.B.Source.left g.B.Source.has_failed g.B.Source.end_told order c.args.shape c.args.rule l c.new-firsts.result c.new-seconds.result c.args.out.now None c.read_both-swept.new.first c.read_both-swept.new.second c.read_both-swept.new.out) c.new-sweep.ensures.stands.limit_is
-    (subst (λ (r : HitRule). SweepEnds g.A.Source.left g.A.Source.has_failed g.A.Source.end_told g.B.Source.left g.B.Source.has_failed g.B.Source.end_told order c.args.shape r (state_of c.new-sweep.result).limit c.new-firsts.result c.new-seconds.result c.args.out.now None c.read_both-swept.new.first c.read_both-swept.new.second c.read_both-swept.new.out) c.new-sweep.ensures.stands.rule_is
-    (subst (λ (s : Shape). SweepEnds g.A.Source.left g.A.Source.has_failed g.A.Source.end_told g.B.Source.left g.B.Source.has_failed g.B.Source.end_told order s (state_of c.new-sweep.result).rule (state_of c.new-sweep.result).limit c.new-firsts.result c.new-seconds.result c.args.out.now None c.read_both-swept.new.first c.read_both-swept.new.second c.read_both-swept.new.out) c.new-sweep.ensures.stands.shape_is
-    (subst (λ (o : Order). SweepEnds g.A.Source.left g.A.Source.has_failed g.A.Source.end_told g.B.Source.left g.B.Source.has_failed g.B.Source.end_told o (state_of c.new-sweep.result).shape (state_of c.new-sweep.result).rule (state_of c.new-sweep.result).limit c.new-firsts.result c.new-seconds.result c.args.out.now None c.read_both-swept.new.first c.read_both-swept.new.second c.read_both-swept.new.out) records.order c.in-Ok.ensures.finishes))) in
+    let stands = c.new-sweep.ensures.stands in
+    let ends = rw (records.order, stands.shape_is, stands.rule_is, stands.limit_is) at c.in-Ok.ensures.finishes in
     let making = sweep_making order c.args.shape c.args.rule c.args.limit in
     let pair = records_pair g.A.Source.left g.A.Source.has_failed g.A.Source.end_told g.B.Source.left g.B.Source.has_failed g.B.Source.end_told c.new-firsts.result c.new-seconds.result in
     let format = bed_format (sorting_of order) in
@@ -76,10 +70,8 @@ returns-clause-written g c =
     let records_2 = c.new-seconds.ensures in
     let order = g.O.ChromOrder.order c.args.order.now in
     let fault = Some (told c.in-Err.fault) in
-    let ends = subst (λ (l : Option ℕ). SweepEnds g.A.Source.left g.A.Source.has_failed g.A.Source.end_told g.B.Source.left g.B.Source.has_failed g.B.Source.end_told order c.args.shape c.args.rule l c.new-firsts.result c.new-seconds.result c.args.out.now fault c.read_both-swept.new.first c.read_both-swept.new.second c.read_both-swept.new.out) c.new-sweep.ensures.stands.limit_is
-    (subst (λ (r : HitRule). SweepEnds g.A.Source.left g.A.Source.has_failed g.A.Source.end_told g.B.Source.left g.B.Source.has_failed g.B.Source.end_told order c.args.shape r (state_of c.new-sweep.result).limit c.new-firsts.result c.new-seconds.result c.args.out.now fault c.read_both-swept.new.first c.read_both-swept.new.second c.read_both-swept.new.out) c.new-sweep.ensures.stands.rule_is
-    (subst (λ (s : Shape). SweepEnds g.A.Source.left g.A.Source.has_failed g.A.Source.end_told g.B.Source.left g.B.Source.has_failed g.B.Source.end_told order s (state_of c.new-sweep.result).rule (state_of c.new-sweep.result).limit c.new-firsts.result c.new-seconds.result c.args.out.now fault c.read_both-swept.new.first c.read_both-swept.new.second c.read_both-swept.new.out) c.new-sweep.ensures.stands.shape_is
-    (subst (λ (o : Order). SweepEnds g.A.Source.left g.A.Source.has_failed g.A.Source.end_told g.B.Source.left g.B.Source.has_failed g.B.Source.end_told o (state_of c.new-sweep.result).shape (state_of c.new-sweep.result).rule (state_of c.new-sweep.result).limit c.new-firsts.result c.new-seconds.result c.args.out.now fault c.read_both-swept.new.first c.read_both-swept.new.second c.read_both-swept.new.out) records.order c.in-Err.ensures.finishes))) in
+    let stands = c.new-sweep.ensures.stands in
+    let ends = rw (records.order, stands.shape_is, stands.rule_is, stands.limit_is) at c.in-Err.ensures.finishes in
     let making = sweep_making order c.args.shape c.args.rule c.args.limit in
     let pair = records_pair g.A.Source.left g.A.Source.has_failed g.A.Source.end_told g.B.Source.left g.B.Source.has_failed g.B.Source.end_told c.new-firsts.result c.new-seconds.result in
     let format = bed_format (sorting_of order) in
@@ -115,6 +107,22 @@ returns-clause-own_failure g c =
     let begins_second = begins_by g.B.Source.left order Second c.args.second c.new-2.result c.new-seconds.result records_2.below reader_2.source reader_2.input reader_2.none_taken.0 reader_2.none_fed reader_2.going.0 reader_2.lines records_2.good in
     let ended = sym (c.into_source-first.ensures ∙ ap source_of c.into_reader.ensures) in
     let ended_second = sym (c.into_source-second.ensures ∙ ap source_of c.into_reader-2.ensures) in
-    both_own making pair c.args.out.now g.A.Source.read_fails g.B.Source.read_fails format format c.args.first c.args.second begins begins_second
+    both_own making pair c.args.out.now g.A.Source.is_read g.B.Source.is_read format format c.args.first c.args.second begins begins_second
     (view_of c.read_both-swept.new.first) (view_of c.read_both-swept.new.second) c.into_source-first.result c.into_source-second.result ended ended_second fault c.read_both-swept.new.out ends
     (bed_no_read order) (swept_no_read order c.args.limit) c.read_both-swept.ensures.own_failure c.read_both-swept.ensures.own_failure_second
+
+pub returns-in-Ok-clause-reads : goal.returns-in-Ok-clause-reads
+returns-in-Ok-clause-reads g c = λ never. (
+  served_of g.A.Source.is_read c.args.first c.into_source-first.result (below c.new-firsts.result) (below c.read_both-swept.new.first) (ap source_of c.new-firsts.ensures.below ∙ c.new.ensures.source)
+      (sym (c.into_source-first.ensures ∙ ap source_of c.into_reader.ensures)) (c.in-Ok.ensures.reads_first tt),
+  served_of g.B.Source.is_read c.args.second c.into_source-second.result (below c.new-seconds.result) (below c.read_both-swept.new.second) (ap source_of c.new-seconds.ensures.below ∙ c.new-2.ensures.source)
+      (sym (c.into_source-second.ensures ∙ ap source_of c.into_reader-2.ensures)) (c.in-Ok.ensures.reads_second tt),
+)
+
+pub returns-clause-reads : goal.returns-clause-reads
+returns-clause-reads g c = λ never. (
+  served_of g.A.Source.is_read c.args.first c.into_source-first.result (below c.new-firsts.result) (below c.read_both-swept.new.first) (ap source_of c.new-firsts.ensures.below ∙ c.new.ensures.source)
+      (sym (c.into_source-first.ensures ∙ ap source_of c.into_reader.ensures)) (c.in-Err.ensures.reads_first never),
+  served_of g.B.Source.is_read c.args.second c.into_source-second.result (below c.new-seconds.result) (below c.read_both-swept.new.second) (ap source_of c.new-seconds.ensures.below ∙ c.new-2.ensures.source)
+      (sym (c.into_source-second.ensures ∙ ap source_of c.into_reader-2.ensures)) (c.in-Err.ensures.reads_second never),
+)

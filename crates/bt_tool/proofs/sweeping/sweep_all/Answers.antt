@@ -1,10 +1,13 @@
-use Rattle.std.proofs.Common.{sym, ◌∙◌}
-use Rattle.bt_bed.specs.Records.{order_in}
+use Rattle.std.proofs.Common.{refl, sym, ◌∙◌}
+use Rattle.bt_lines.proofs.ReadsLemmas.{has_read_then, reads_same}
+use Rattle.bt_lines.specs.Reader.{HasRead}
+use Rattle.bt_bed.specs.Records.{below, order_in}
 use Rattle.bt_bed.proofs.ResultLemmas.{passed_on}
 use Rattle.bt_sweep.specs.SweepView.{order_of, state_of}
 use Rattle.bt_tool.specs.SweepLoop.{SweepsOrStops}
+use Rattle.bt_tool.specs.OwnReads.{AnswersNoRead}
 use Rattle.bt_tool.proofs.SweepTurns.{first_stops, second_stops, turns_first, turns_second}
-use Rattle.bt_tool.proofs.OwnFailureLemmas.{none_kept}
+use Rattle.bt_tool.proofs.OwnFailureLemmas.{none_kept, own_then}
 use Rattle.bt_tool.proofs.sweeping.sweep_all.Goals as goal
 
 pub loop-first-smaller-in-Continue-1 : goal.loop-first-smaller-in-Continue-1
@@ -21,6 +24,8 @@ loop-first-preserved-in-Continue-1 g c =
           c.requires.total c.requires.second c.requires.sorted c.requires.sorted_second c.loop-first.first c.loop-first.second (state_of c.loop-first.sweep) c.loop-first.out (order_of c.loop-first.sweep) now.1 now.0
           (sym c.want.ensures.is ∙ c.in-A.is) c.turn_first.new.first (state_of c.turn_first.new.sweep) c.turn_first.new.out c.in_ok-turn_first-in-A.ensures.turns).0,
       c.turn_first.ensures.order ∙ now.1,
+      has_read_then g.A.Source.is_read (below c.args.first.now) (below c.loop-first.first) (below c.turn_first.new.first) now.2 (c.in_ok-turn_first-in-A.ensures.reads now.0.comes.first_passes.going tt),
+      now.3,
     )
 
 pub returns-in_err-turn_first-in-A-clause-sweeps : goal.returns-in_err-turn_first-in-A-clause-sweeps
@@ -46,6 +51,8 @@ loop-first-preserved g c =
           c.requires.total c.requires.second c.requires.sorted c.requires.sorted_second c.loop-first.first c.loop-first.second (state_of c.loop-first.sweep) c.loop-first.out (order_of c.loop-first.sweep) now.1 now.0
           (sym c.want.ensures.is ∙ c.in-B.is) c.turn_second.new.second (state_of c.turn_second.new.sweep) c.turn_second.new.out c.in_ok-turn_second-in-B.ensures.turns).0,
       c.turn_second.ensures.order ∙ now.1,
+      now.2,
+      has_read_then g.B.Source.is_read (below c.args.second.now) (below c.loop-first.second) (below c.turn_second.new.second) now.3 (c.in_ok-turn_second-in-B.ensures.reads now.0.comes.second_passes.going tt),
     )
 
 pub returns-in_err-turn_second-in-B-clause-sweeps : goal.returns-in_err-turn_second-in-B-clause-sweeps
@@ -58,19 +65,55 @@ returns-in_err-turn_second-in-B-clause-sweeps g c =
     (sym c.want.ensures.is ∙ c.in-B.is) c.in_err-turn_second-in-B.field-0.0 c.turn_second.new.second (state_of c.turn_second.new.sweep) c.turn_second.new.out c.in_err-turn_second-in-B.ensures.turns)
 
 pub returns-in_err-turn_first-in-A-clause-own_failure : goal.returns-in_err-turn_first-in-A-clause-own_failure
-returns-in_err-turn_first-in-A-clause-own_failure g c = c.turn_first.ensures.own_failure c.loop-first.invariant.0.comes.first_passes.going
+returns-in_err-turn_first-in-A-clause-own_failure g c =
+    let now = c.loop-first.invariant in
+    own_then g.A.Source.is_read (below c.args.first.now) (below c.loop-first.first) _ _ now.2 (c.turn_first.ensures.own_failure now.0.comes.first_passes.going)
 
 pub returns-in_err-turn_first-in-A-clause-own_failure_second : goal.returns-in_err-turn_first-in-A-clause-own_failure_second
-returns-in_err-turn_first-in-A-clause-own_failure_second g c = none_kept g.B.Source.read_fails _ _ c.loop-first.invariant.0.comes.second_passes.going
+returns-in_err-turn_first-in-A-clause-own_failure_second g c = none_kept g.B.Source.is_read _ _ _ c.loop-first.invariant.0.comes.second_passes.going
 
 pub returns-in_err-turn_second-in-B-clause-own_failure : goal.returns-in_err-turn_second-in-B-clause-own_failure
-returns-in_err-turn_second-in-B-clause-own_failure g c = none_kept g.A.Source.read_fails _ _ c.loop-first.invariant.0.comes.first_passes.going
+returns-in_err-turn_second-in-B-clause-own_failure g c = none_kept g.A.Source.is_read _ _ _ c.loop-first.invariant.0.comes.first_passes.going
 
 pub returns-in_err-turn_second-in-B-clause-own_failure_second : goal.returns-in_err-turn_second-in-B-clause-own_failure_second
-returns-in_err-turn_second-in-B-clause-own_failure_second g c = c.turn_second.ensures.own_failure c.loop-first.invariant.0.comes.second_passes.going
+returns-in_err-turn_second-in-B-clause-own_failure_second g c =
+    let now = c.loop-first.invariant in
+    own_then g.B.Source.is_read (below c.args.second.now) (below c.loop-first.second) _ _ now.3 (c.turn_second.ensures.own_failure now.0.comes.second_passes.going)
 
 pub returns-in-Nothing-clause-own_failure : goal.returns-in-Nothing-clause-own_failure
-returns-in-Nothing-clause-own_failure g c = none_kept g.A.Source.read_fails _ _ c.loop-first.invariant.0.comes.first_passes.going
+returns-in-Nothing-clause-own_failure g c = none_kept g.A.Source.is_read _ _ _ c.loop-first.invariant.0.comes.first_passes.going
 
 pub returns-in-Nothing-clause-own_failure_second : goal.returns-in-Nothing-clause-own_failure_second
-returns-in-Nothing-clause-own_failure_second g c = none_kept g.B.Source.read_fails _ _ c.loop-first.invariant.0.comes.second_passes.going
+returns-in-Nothing-clause-own_failure_second g c = none_kept g.B.Source.is_read _ _ _ c.loop-first.invariant.0.comes.second_passes.going
+
+pub loop-first-init : goal.loop-first-init
+loop-first-init g c = (
+  c.requires.starts,
+  c.requires.sweep,
+  reads_same g.A.Source.is_read (below c.args.first.now) (below c.args.first.now) refl,
+  reads_same g.B.Source.is_read (below c.args.second.now) (below c.args.second.now) refl,
+)
+
+pub returns-in_err-turn_first-in-A-clause-reads_first : goal.returns-in_err-turn_first-in-A-clause-reads_first
+returns-in_err-turn_first-in-A-clause-reads_first g c =
+    let now = c.loop-first.invariant in
+    passed_on (λ r. AnswersNoRead r → HasRead g.A.Source.is_read (below c.args.first.now) (below c.turn_first.new.first)) c.from_residual.result c.in_err-turn_first-in-A.field-0.0 c.from_residual.ensures.1
+    (λ never. has_read_then g.A.Source.is_read (below c.args.first.now) (below c.loop-first.first) (below c.turn_first.new.first) now.2 (c.in_err-turn_first-in-A.ensures.reads now.0.comes.first_passes.going never))
+
+pub returns-in_err-turn_first-in-A-clause-reads_second : goal.returns-in_err-turn_first-in-A-clause-reads_second
+returns-in_err-turn_first-in-A-clause-reads_second g c = λ never. c.loop-first.invariant.3
+
+pub returns-in_err-turn_second-in-B-clause-reads_first : goal.returns-in_err-turn_second-in-B-clause-reads_first
+returns-in_err-turn_second-in-B-clause-reads_first g c = λ never. c.loop-first.invariant.2
+
+pub returns-in_err-turn_second-in-B-clause-reads_second : goal.returns-in_err-turn_second-in-B-clause-reads_second
+returns-in_err-turn_second-in-B-clause-reads_second g c =
+    let now = c.loop-first.invariant in
+    passed_on (λ r. AnswersNoRead r → HasRead g.B.Source.is_read (below c.args.second.now) (below c.turn_second.new.second)) c.from_residual-in_err-turn_second-in-B.result c.in_err-turn_second-in-B.field-0.0 c.from_residual-in_err-turn_second-in-B.ensures.1
+    (λ never. has_read_then g.B.Source.is_read (below c.args.second.now) (below c.loop-first.second) (below c.turn_second.new.second) now.3 (c.in_err-turn_second-in-B.ensures.reads now.0.comes.second_passes.going never))
+
+pub returns-in-Nothing-clause-reads_first : goal.returns-in-Nothing-clause-reads_first
+returns-in-Nothing-clause-reads_first g c = λ never. c.loop-first.invariant.2
+
+pub returns-in-Nothing-clause-reads_second : goal.returns-in-Nothing-clause-reads_second
+returns-in-Nothing-clause-reads_second g c = λ never. c.loop-first.invariant.3

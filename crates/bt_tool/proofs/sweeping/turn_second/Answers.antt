@@ -1,11 +1,14 @@
 use Rattle.std.proofs.Common.{ℕ, inl, inr, ap, refl, sym, subst, ◌∙◌}
 use Rattle.std.specs.Prelude.{◌⊎◌, option_map}
+use Rattle.bt_lines.specs.Reader.{HasRead}
+use Rattle.bt_bed.specs.Records.{below}
 use Rattle.bt_lines.specs.Names.{told}
 use Rattle.bt_bed.specs.Bed.{feature_lent}
 use Rattle.bt_bed.proofs.ResultLemmas.{passed_on}
 use Rattle.bt_sweep.specs.Steps.{FailsToHold, FailsToWriteA, PassesLimit, TakesB, WritesA}
 use Rattle.bt_sweep.specs.SweepView.{order_of, state_of}
 use Rattle.bt_tool.specs.Turns.{TurnsSecond}
+use Rattle.bt_tool.specs.OwnReads.{AnswersNoRead}
 use Rattle.bt_tool.proofs.PassedLemmas.{has_run_out, has_stepped, its_line}
 use Rattle.bt_tool.proofs.OwnFailureLemmas.{none_kept, told_kept}
 use Rattle.bt_tool.proofs.sweeping.turn_second.Goals as goal
@@ -80,29 +83,48 @@ returns-in_ok-end_b-in-None-clause-turns g c =
 
 pub returns-in_err-step-clause-own_failure : goal.returns-in_err-step-clause-own_failure
 returns-in_err-step-clause-own_failure g c = λ none.
-    told_kept g.B.Source.read_fails _ _ _ c.in_err-step.field-0.0 c.in_err-step.ensures.answers.kept none c.in_err-step.ensures.own_failure
+    told_kept g.B.Source.is_read _ _ _ _ c.in_err-step.field-0.0 c.in_err-step.ensures.answers.kept none c.in_err-step.ensures.own_failure
 
 pub returns-in_err-give_b-in-Some-clause-own_failure : goal.returns-in_err-give_b-in-Some-clause-own_failure
 returns-in_err-give_b-in-Some-clause-own_failure g c = λ none.
     let gives = has_stepped g.B.Source.left g.B.Source.has_failed c.args.second.now c.step.new.self (feature_lent c.in-Some.record) (sym (ap (option_map feature_lent) c.in-Some.is) ∙ c.record.ensures) c.in_ok-step.ensures.answers in
-    none_kept g.B.Source.read_fails _ _ (gives.read.goes ∙ none)
+    none_kept g.B.Source.is_read _ _ _ (gives.read.goes ∙ none)
 
 pub returns-in_err-end_b-in-None-clause-own_failure : goal.returns-in_err-end_b-in-None-clause-own_failure
 returns-in_err-end_b-in-None-clause-own_failure g c = λ none.
     let ends = has_run_out g.B.Source.left g.B.Source.has_failed c.args.second.now c.step.new.self (sym (ap (option_map feature_lent) c.in-None.is) ∙ c.record.ensures) c.in_ok-step.ensures.answers in
-    none_kept g.B.Source.read_fails _ _ ends.goes
+    none_kept g.B.Source.is_read _ _ _ ends.goes
 
 pub returns-in-Yes-clause-own_failure : goal.returns-in-Yes-clause-own_failure
 returns-in-Yes-clause-own_failure g c = λ none.
     let gives = has_stepped g.B.Source.left g.B.Source.has_failed c.args.second.now c.step.new.self (feature_lent c.in-Some.record) (sym (ap (option_map feature_lent) c.in-Some.is) ∙ c.record.ensures) c.in_ok-step.ensures.answers in
-    none_kept g.B.Source.read_fails _ _ (c.advance.ensures.passes.goes ∙ gives.read.goes ∙ none)
+    none_kept g.B.Source.is_read _ _ _ (c.advance.ensures.passes.goes ∙ gives.read.goes ∙ none)
 
 pub returns-in-No-clause-own_failure : goal.returns-in-No-clause-own_failure
 returns-in-No-clause-own_failure g c = λ none.
     let gives = has_stepped g.B.Source.left g.B.Source.has_failed c.args.second.now c.step.new.self (feature_lent c.in-Some.record) (sym (ap (option_map feature_lent) c.in-Some.is) ∙ c.record.ensures) c.in_ok-step.ensures.answers in
-    none_kept g.B.Source.read_fails _ _ (gives.read.goes ∙ none)
+    none_kept g.B.Source.is_read _ _ _ (gives.read.goes ∙ none)
 
 pub returns-in_ok-end_b-in-None-clause-own_failure : goal.returns-in_ok-end_b-in-None-clause-own_failure
 returns-in_ok-end_b-in-None-clause-own_failure g c = λ none.
     let ends = has_run_out g.B.Source.left g.B.Source.has_failed c.args.second.now c.step.new.self (sym (ap (option_map feature_lent) c.in-None.is) ∙ c.record.ensures) c.in_ok-step.ensures.answers in
-    none_kept g.B.Source.read_fails _ _ ends.goes
+    none_kept g.B.Source.is_read _ _ _ ends.goes
+
+pub returns-in_err-step-clause-reads : goal.returns-in_err-step-clause-reads
+returns-in_err-step-clause-reads g c = λ none.
+    passed_on (λ r. AnswersNoRead r → HasRead g.B.Source.is_read (below c.args.second.now) (below c.step.new.self)) c.from_residual.result c.in_err-step.field-0.0 c.from_residual.ensures.1 (c.in_err-step.ensures.own_failure none).read
+
+pub returns-in_err-give_b-in-Some-clause-reads : goal.returns-in_err-give_b-in-Some-clause-reads
+returns-in_err-give_b-in-Some-clause-reads g c = λ none never. c.in_ok-step.ensures.own_failure
+
+pub returns-in_err-end_b-in-None-clause-reads : goal.returns-in_err-end_b-in-None-clause-reads
+returns-in_err-end_b-in-None-clause-reads g c = λ none never. c.in_ok-step.ensures.own_failure
+
+pub returns-in-Yes-clause-reads : goal.returns-in-Yes-clause-reads
+returns-in-Yes-clause-reads g c = λ none never. subst (HasRead g.B.Source.is_read (below c.args.second.now)) (sym c.advance.ensures.passes.reads_nothing) c.in_ok-step.ensures.own_failure
+
+pub returns-in-No-clause-reads : goal.returns-in-No-clause-reads
+returns-in-No-clause-reads g c = λ none never. c.in_ok-step.ensures.own_failure
+
+pub returns-in_ok-end_b-in-None-clause-reads : goal.returns-in_ok-end_b-in-None-clause-reads
+returns-in_ok-end_b-in-None-clause-reads g c = λ none never. c.in_ok-step.ensures.own_failure

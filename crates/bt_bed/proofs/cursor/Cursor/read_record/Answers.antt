@@ -1,4 +1,5 @@
 use Rattle.std.proofs.Common.{◌≡◌, ◌∙◌, ap, refl, sym, subst, true, false, None}
+use Rattle.bt_lines.proofs.ReadsLemmas.{has_read_then, reads_same}
 use Rattle.bt_lines.specs.LentLine.{line_seen}
 use Rattle.bt_lines.specs.Names.{told}
 use Rattle.bt_lines.specs.Reader.{fault_kept as line_fault, input_of}
@@ -21,6 +22,7 @@ loop-line-init g c = record {
   last = refl;
   fault = refl;
   input = c.input-input.ensures;
+  read = reads_same g.S.Source.is_read c.args.self.now.reader c.args.self.now.reader refl;
 }
 
 pub invariant_of-self-in_err-line : goal.invariant_of-self-in_err-line
@@ -76,6 +78,7 @@ loop-line-preserved g c =
       last = taken.keeps.last ∙ c.loop-line.invariant.last;
       fault = c.loop-line.invariant.fault;
       input = c.loop-line.invariant.input;
+      read = has_read_then g.S.Source.is_read c.args.self.now.reader c.loop-line.self.reader c.next.follows.lender-at-none c.loop-line.invariant.read gives.own_failure;
     }
 
 pub invariant_of-self-in_default : goal.invariant_of-self-in_default
@@ -125,13 +128,25 @@ returns-clause-placed g c =
 pub returns-in_err-line-clause-own_failure : goal.returns-in_err-line-clause-own_failure
 returns-in_err-line-clause-own_failure g c =
     let gives = rw c.in_err-line.was at c.next.follows.holds-at-none in
-    passed_on (λ r. TellsOwnFailure g.S.Source.read_fails (line_fault c.args.self.now.reader) r c.next.follows.lender-at-none) c.from_residual.result c.in_err-line.field-0.0
+    passed_on (λ r. TellsOwnFailure g.S.Source.is_read (line_fault c.args.self.now.reader) c.args.self.now.reader r c.next.follows.lender-at-none) c.from_residual.result c.in_err-line.field-0.0
     c.from_residual.ensures.1
-    (read_is_own (Unit {0}) g.S.Source.read_fails (line_fault c.args.self.now.reader) c.next.follows.lender-at-none c.in_err-line.field-0.0 c.loop-line.self.reader
+    (read_is_own (Unit {0}) g.S.Source.is_read (line_fault c.args.self.now.reader) c.args.self.now.reader c.next.follows.lender-at-none c.in_err-line.field-0.0 c.loop-line.self.reader c.loop-line.invariant.read
     (still_going g.S.Source.left g.S.Source.has_failed g.S.Source.end_told _ c.args.self.now.reader c.loop-line.self.reader c.args.self.now.neighbours c.loop-line.self.neighbours c.loop-line.invariant.going) gives.own_failure)
 
 pub returns-in_err-take_line-clause-own_failure : goal.returns-in_err-take_line-clause-own_failure
 returns-in_err-take_line-clause-own_failure g c =
-    passed_on (λ r. TellsOwnFailure g.S.Source.read_fails (line_fault c.args.self.now.reader) r c.next.follows.lender-at-none) c.from_residual-in_err-take_line.result c.in_err-take_line.field-0.0
+    let gives = rw (c.in_ok-line.was, c.in-Some.is) at c.next.follows.holds-at-none in
+    passed_on (λ r. TellsOwnFailure g.S.Source.is_read (line_fault c.args.self.now.reader) c.args.self.now.reader r c.next.follows.lender-at-none) c.from_residual-in_err-take_line.result c.in_err-take_line.field-0.0
     c.from_residual-in_err-take_line.ensures.1
-    (lost_is_own (Unit {0}) g.S.Source.read_fails (line_fault c.args.self.now.reader) c.next.follows.lender-at-none c.in_err-take_line.field-0.0 _ _ _ c.loop-line.self.neighbours c.in_err-take_line.ensures.cause)
+    (lost_is_own (Unit {0}) g.S.Source.is_read (line_fault c.args.self.now.reader) c.args.self.now.reader c.next.follows.lender-at-none c.in_err-take_line.field-0.0
+    (has_read_then g.S.Source.is_read c.args.self.now.reader c.loop-line.self.reader c.next.follows.lender-at-none c.loop-line.invariant.read gives.own_failure) _ _ _ c.loop-line.self.neighbours c.in_err-take_line.ensures.cause)
+
+pub returns-then-branch-clause-own_failure : goal.returns-then-branch-clause-own_failure
+returns-then-branch-clause-own_failure g c =
+    let gives = rw (c.in_ok-line.was, c.in-Some.is) at c.next.follows.holds-at-none in
+    has_read_then g.S.Source.is_read c.args.self.now.reader c.loop-line.self.reader c.next.follows.lender-at-none c.loop-line.invariant.read gives.own_failure
+
+pub returns-clause-own_failure : goal.returns-clause-own_failure
+returns-clause-own_failure g c =
+    let gives = rw (c.in_ok-line.was, c.in_default.is) at c.next.follows.holds-at-none in
+    has_read_then g.S.Source.is_read c.args.self.now.reader c.loop-line.self.reader c.next.follows.lender-at-none c.loop-line.invariant.read gives.own_failure

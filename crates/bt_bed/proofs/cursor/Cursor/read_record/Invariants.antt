@@ -1,5 +1,5 @@
 use Rattle.std.proofs.Common.{◌≡◌, None, false}
-use Rattle.bt_lines.specs.Reader.{input_of, room}
+use Rattle.bt_lines.specs.Reader.{HasRead, input_of, room}
 use Rattle.bt_bed.proofs.ReadingLemmas.{Going}
 use Rattle.bt_bed.specs.Cursor.{view_with}
 use Rattle.bt_bed.specs.Neighbours.{has_ahead, last_in}
@@ -15,6 +15,7 @@ invariant-loop-line g l = record {
   last : last_in l.self.neighbours ≡ last_in l.fn.self.neighbours;
   fault : l.self.fault ≡ l.fn.self.fault;
   input : l.input ≡ input_of l.fn.self.reader;
+  read : HasRead g.S.Source.is_read l.fn.self.reader l.self.reader;
 }
 
 abbrev pub decreases-loop-line : goal.decreases-loop-line

@@ -1,4 +1,4 @@
-use Rattle.std.proofs.Common.{◌≡◌, IsTrue, List, ℕ, Bool, true, subst, sym, ◌∙◌, ap}
+use Rattle.std.proofs.Common.{sym, ◌∙◌, ap}
 use Rattle.std.specs.Cmp.Lexicographic.{bytes_decides}
 use Rattle.bt_bed.specs.OrderInUse.{order_by, orders_total}
 use Rattle.bt_bed.proofs.order_in_use.OptionGenomeChromOrder.compare.Goals as goal

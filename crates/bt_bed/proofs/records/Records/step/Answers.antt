@@ -7,4 +7,4 @@ invariant_of-self g c = record { placed = placed_by g.O.ChromOrder c.args.self.n
 
 pub returns : goal.returns
 unfolding order_in
-returns g c = steps_record g.S.Source.left g.S.Source.has_failed g.S.Source.end_told c.args.self.now _ c.step.ensures.rule g.S.Source.read_fails _ (g.met.O.ChromOrder.total c.args.self.now.cursor.neighbours.rule.order.now) c.step.ensures.step c.step.ensures.own_failure
+returns g c = steps_record g.S.Source.left g.S.Source.has_failed g.S.Source.end_told c.args.self.now _ c.step.ensures.rule g.S.Source.is_read _ (g.met.O.ChromOrder.total c.args.self.now.cursor.neighbours.rule.order.now) c.step.ensures.step c.step.ensures.own_failure

@@ -1,5 +1,6 @@
 use Rattle.std.proofs.Common.{refl}
-use Rattle.bt_lines.proofs.StepLemmas.{stepped_from_last, stepped_again}
+use Rattle.bt_lines.proofs.ReadsLemmas.{reads_none, reads_same}
+use Rattle.bt_lines.proofs.StepLemmas.{stepped_from_last, stepped_again, told_ended, told_last}
 use Rattle.bt_lines.proofs.line_reader.LineReader.step.Goals as goal
 
 pub returns-in-LastLine-clause-steps : goal.returns-in-LastLine-clause-steps
@@ -7,3 +8,10 @@ returns-in-LastLine-clause-steps g c = stepped_from_last _ _ _ c.args.self.now _
 
 pub returns-in-Ended-clause-steps : goal.returns-in-Ended-clause-steps
 returns-in-Ended-clause-steps g c = stepped_again _ _ _ c.args.self.now c.args.self.now c.in-Ended.is
+
+pub returns-in-LastLine-clause-own_failure : goal.returns-in-LastLine-clause-own_failure
+returns-in-LastLine-clause-own_failure g c =
+    reads_none g.S.Source.is_read c.args.self.now _ (told_last c.args.self.now c.in-LastLine.is).taken (told_ended _ refl).taken refl refl
+
+pub returns-in-Ended-clause-own_failure : goal.returns-in-Ended-clause-own_failure
+returns-in-Ended-clause-own_failure g c = reads_same g.S.Source.is_read c.args.self.now c.args.self.now refl

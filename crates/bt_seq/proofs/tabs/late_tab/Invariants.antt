@@ -1,6 +1,6 @@
 use Rattle.std.proofs.Common.{length, take, ◌-◌, ◌≤◌}
 use Rattle.bt_lines.proofs.ColumnLemmas.{IsColumn}
-use Rattle.bt_seq.proofs.tabs.first_tab_by_lanes.Given as goal
+use Rattle.bt_seq.proofs.tabs.late_tab.Given as goal
 
 -- no tab has come yet
 abbrev pub invariant-loop-at : goal.invariant-loop-at

@@ -1,0 +1,13 @@
+use Rattle.std.proofs.Common.{◌%◌, ◌^◌, ap, ◌∙◌, arith, eqb, replicate, w8}
+use Rattle.std.proofs.lemmas.List.{length-map}
+use Rattle.std.proofs.lemmas.Simd.{mask_l-mod, tops_compared, zip2_splat}
+use Rattle.std.specs.Simd.Lanes.{mask_l}
+use Rattle.memchr.specs.Find.{is_byte}
+use Rattle.bt_lines.proofs.early.wide_bits.Goals as goal
+
+pub returns : goal.returns
+returns c =
+    let bytes = c.args.bytes in
+    let byte = c.args.byte in
+    ap (λ ms. mask_l ms % 2 ^ 64) (tops_compared w8 eqb bytes (replicate 64 byte) ∙ zip2_splat eqb bytes 64 byte c.fits-bytes.0)
+    ∙ mask_l-mod _ 64 (omega (arith, length-map bytes (is_byte byte), c.fits-bytes.0))

@@ -1,0 +1,5 @@
+use Rattle.bt_tool.proofs.OwnFailureLemmas.{serve_same, serve_same_if}
+use Rattle.bt_tool.proofs.running.write_output.Goals as goal
+
+pub returns-in-Err-clause-reads : goal.returns-in-Err-clause-reads
+returns-in-Err-clause-reads g c = λ never. (serve_same g.A.Source.is_read c.args.first, serve_same_if g.B.Source.is_read c.args.second)
