@@ -5,9 +5,9 @@
 
 Each command line below is run again and again: first its first growth is refused, then its second, until a run meets
 no refusal; and so once more, where all growths behind the refused one are refused too. Each refused run has to end
-with `bedtools COMMAND: no memory` or `bedtools: no memory` and status 1, and to write a prefix of the whole output, in
-which nothing is missing that was settled: what the same command line writes where reading fails at the line that was
-read last, and behind what was read of the other input. refuse.c refuses the growths, preloaded into the program; it
+with `bedtools COMMAND: no memory` or `bedtools: no memory` and status 1, and to write a prefix of the whole output: just
+what was settled, which is what the same command line writes where reading fails at the line that was read last, or
+behind it, and behind what was read of the other input. refuse.c refuses the growths, preloaded into the program; it
 hands over a line at most at each read, so that it knows how far the inputs were read; without it the whole output has
 to be the same.
 
@@ -129,10 +129,10 @@ class Refuser:
         notes = dict(line.split() for line in Path("notes").read_text().splitlines()) if Path("notes").exists() else None
         return Answer(ran.returncode, output, ran.stderr, notes)
 
-    def settled_by(self, lines):
-        """What is written where reading fails at the line that was read last, and behind what was read of the other input.
-        The genome file is read whole before."""
-        last = list(lines)[-1] if lines else None
+    def settled_by(self, lines, is_last_taken):
+        """What is written where reading fails at the line that was read last, or where that is taken behind it, and behind
+        what was read of the other input. The genome file is read whole before."""
+        last = list(lines)[-1] if lines and not is_last_taken else None
         reads = "".join(f"{name} {int(lines.get(name, 0)) - (name == last)} " for name in self.inputs if name != "g.txt")
         if reads not in self.settled:
             self.settled[reads] = self.run({"REFUSE_READS": reads}).output
@@ -147,8 +147,9 @@ class Refuser:
             return "standard error"
         if not self.whole.output.startswith(answer.output):
             return "no front of the output"
-        if not answer.output.startswith(self.settled_by(answer.lines)):
-            return f"settled lines are missing: {self.settled_by(answer.lines)!r}"
+        settled = [self.settled_by(answer.lines, is_last_taken) for is_last_taken in (False, True)]
+        if answer.output not in settled:
+            return f"neither of what was settled: {settled!r}"
         return None
 
     def refuse_each(self, further):

@@ -64,13 +64,6 @@ module _ (before after : List ℕ) (old new : Output) where
     pub goes_on : after ≡ before ++ bytes
     pub appends : Appends old.put new.put bytes
 
-  -- the first of them were put
-  pub record PutsPart : Type 0 where
-    pub bytes : List ℕ
-    pub unput : List ℕ
-    pub goes_on : after ≡ before ++ (bytes ++ unput)
-    pub appends : Appends old.put new.put bytes
-
   -- they weren't all put: what the sink took is a front of them
   pub record CutsRest : Type 0 where
     pub bytes : List ℕ

@@ -1,5 +1,5 @@
 -- From the lines that a step of an engine puts, exactly, to what its calls do.
-use Rattle.std.proofs.Common.{◌≡◌, ℕ, List, [], ◌∷◌, ◌++◌, Option, None, Some, Result, Ok, Err, refl, sym, ap, ◌∙◌, append-nil, inl, inr}
+use Rattle.std.proofs.Common.{◌≡◌, ℕ, List, [], ◌∷◌, ◌++◌, Option, None, Some, Result, Ok, Err, refl, sym, ◌∙◌, append-nil, inl, inr}
 use Rattle.std.proofs.lemmas.List.{append_cancel_left}
 use Rattle.bt_lines.specs.Fault.{Told, no_memory, write_failed}
 use Rattle.bt_lines.specs.Names.{told}
@@ -70,8 +70,7 @@ module _ {E : Type 0} (MayTake : E → List Feature → Type 0) (Stands : E → 
         kept = kept;
         puts = λ first past s taken. record {
           bytes = lines;
-          unput = [];
-          goes_on = next first past s taken ∙ ap (λ more. settled first past ++ more) (sym (append-nil lines));
+          goes_on = next first past s taken;
           appends = p.appends;
         };
         works = grown_works out grown lines p;

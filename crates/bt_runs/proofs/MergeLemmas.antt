@@ -4,7 +4,7 @@ use Rattle.std.specs.Prelude.{IsOk}
 use Rattle.bt_lines.specs.Fault.{Told}
 use Rattle.bt_lines.specs.Names.{told}
 use Rattle.bt_lines.specs.Output.{Output}
-use Rattle.bt_lines.specs.Putting.{CutsRest, PutsPart, PutsRest}
+use Rattle.bt_lines.specs.Putting.{CutsRest, PutsRest}
 use Rattle.bt_lines.specs.declared.fault.Fault.{Fault}
 use Rattle.bt_bed.specs.Feature.{Feature}
 use Rattle.bt_runs.specs.Engine.{AfterEach, AtEnd, FeedAnswers, Feeds, FinishAnswers, Finishes, NotTaken}
@@ -59,7 +59,7 @@ module _ {E : Type 0} (merge : E → Merging) (only : (first : Merging) (past : 
       is = p.is;
       was_going = p.was_going;
       kept = p.kept;
-      puts = after_each r (λ first past. PutsPart (settled_lines first past) (settled_lines first (past ++ r ∷ [])) out grown) p.puts;
+      puts = after_each r (λ first past. PutsRest (settled_lines first past) (settled_lines first (past ++ r ∷ [])) out grown) p.puts;
       works = p.works;
     }))
 

@@ -5,7 +5,7 @@ use Rattle.std.specs.Prelude.{Option, Some, None, Result, Ok, Err, IsOk}
 use Rattle.bt_lines.specs.Fault.{Told, no_memory, write_failed}
 use Rattle.bt_lines.specs.Names.{told}
 use Rattle.bt_lines.specs.Output.{Output, Grows}
-use Rattle.bt_lines.specs.Putting.{WorksAsBefore, PutsRest, PutsPart, CutsRest}
+use Rattle.bt_lines.specs.Putting.{WorksAsBefore, PutsRest, CutsRest}
 use Rattle.bt_lines.specs.declared.fault.Fault.{Fault}
 use Rattle.bt_bed.specs.Feature.{Feature}
 
@@ -65,9 +65,9 @@ module _ {E : Type 0} (MayTake : E → List Feature → Type 0)
       -- it is the first fault, and is kept
       pub was_going : fault old ≡ None
       pub kept : fault new ≡ Some no_memory
-      -- of the lines that the record settles the first were put
+      -- all lines that the record settles were put
       pub puts : AfterEach MayTake Stands old r (λ first past.
-          PutsPart (settled first past) (settled first (past ++ r ∷ [])) out grown)
+          PutsRest (settled first past) (settled first (past ++ r ∷ [])) out grown)
       pub works : WorksAsBefore out grown
 
     -- the first fault is answered again, and nothing happens

@@ -34,12 +34,12 @@ use Rattle.bt_bed.specs.Sorting.{sorting_of}
 use Rattle.bt_bed.specs.declared.order.ChromOrder.{Ghosts}
 use Rattle.bt_bed.specs.declared.records.Records.{Records}
 use Rattle.bt_bed.proofs.GoodBedLemmas.{placed_good, non_empty_good}
-use Rattle.bt_tool.specs.Telling.{IsReported, ReadsNoFurther, TellsDevice, TellsInput}
+use Rattle.bt_tool.specs.Telling.{IsFaultButWrite, IsReported, ReadsNoFurther, TellsDevice, TellsInput}
 use Rattle.bt_tool.specs.Behaviour.{of_members}
 use Rattle.bt_tool.specs.Inputs.{Holds, HoldsIf}
 use Rattle.bt_tool.specs.Writing.{WritesAlone}
 use Rattle.bt_tool.specs.Coming.{Came}
-use Rattle.bt_tool.specs.Feeding.{StopCause, CutsLines, IsFresh, PutsFront, FeedsAll, FeedsUpTo, GoesOn, TookButBlock}
+use Rattle.bt_tool.specs.Feeding.{StopCause, CutsLines, IsFresh, PutsFront, PutsLines, FeedsAll, FeedsUpTo, GoesOn, TookButBlock}
 use Rattle.bt_tool.specs.Passed.{IsReadFor, member_items}
 use Rattle.bt_tool.specs.RecordReport.{Report, members_report, members_settle, report_by}
 use Rattle.bt_tool.specs.Written.{Written}
@@ -143,8 +143,9 @@ module _ {S A State : Type 0} (written : Written A) (kinds : Kind → Type 0) (S
   -- how far the input was read
   near_by : (one : Handed) (before took : List ℕ) → Holds left first one → out.put ≡ Some before → out.took ≡ Some took → (bytes : List ℕ) × Hands left old.below bytes new.below
       → (past : List (Member A)) → IsReadFor left failed end old past past new → (grown : Output) → TookButBlock out (written.settled (member_items past)) grown
-      → ReadsNoFurther (λ lines. true ≡ false → ⊤) (members_settle written format) one.text (left last) before grown.took (grown.has_failed ≡ true) grown.put
-  near_by one before took holds put known hands past read grown kept =
+      → (Stopped : Type 0) → (Stopped → PutsLines out (written.settled (member_items past)) grown)
+      → ReadsNoFurther (λ lines. true ≡ false → ⊤) (members_settle written format) one.text (left last) before grown.took (grown.has_failed ≡ true) Stopped grown.put
+  near_by one before took holds put known hands past read grown kept Stopped exact =
       let text = holds.text in
       let e = holds.known in
       let count = read.to.count in
@@ -157,7 +158,7 @@ module _ {S A State : Type 0} (written : Written A) (kinds : Kind → Type 0) (S
       (first_from format First count count 1 format.begin (text_lines text) past b.0 all.fault (omega arith) (lines_are_numbered 1 text) b.1 refl read.low b.2)) in
       let settled = subst (λ l. TookButBlock out l grown) on_lines kept in
       let less : suc count - 1 ≡ count = omega arith in
-      subst (λ (h : Handed). ReadsNoFurther (λ lines. true ≡ false → ⊤) (members_settle written format) h.text (left last) before grown.took (grown.has_failed ≡ true) grown.put) (sym holds.is) (record {
+      subst (λ (h : Handed). ReadsNoFurther (λ lines. true ≡ false → ⊤) (members_settle written format) h.text (left last) before grown.took (grown.has_failed ≡ true) Stopped grown.put) (sym holds.is) (record {
         n = suc count;
         some = omega arith;
         handed = handed.0;
@@ -165,6 +166,7 @@ module _ {S A State : Type 0} (written : Written A) (kinds : Kind → Type 0) (S
         read = handed.2;
         settled = rw less (settled.took before took put known);
         kept = rw less (elim settled.put [ inl failed ↦ inl failed | inr kept ↦ inr (kept before put) ]);
+        exact = rw less (λ stops. exact stops before put ∙ ap (λ l. Some (before ++ l)) on_lines);
         beside = λ e. tt;
       })
 
@@ -183,7 +185,7 @@ module _ {S A State : Type 0} (written : Written A) (kinds : Kind → Type 0) (S
 
     puts_by : (past : List (Member A)) → Cause past → fault ≢ write_failed → PutsFront out (written.settled (member_items past)) grown
     puts_by past (inl reading) other = puts_front out (written.settled (member_items past)) grown reading.puts
-    puts_by past (inr (inl growing)) other = growing.puts
+    puts_by past (inr (inl growing)) other = puts_front out (written.settled (member_items past)) grown growing.puts
     puts_by past (inr (inr writing)) other = absurd (other writing.is)
 
     cut_by : (past : List (Member A)) → Cause past → fault ≡ write_failed → CutsLines out (written.settled (member_items past)) grown
@@ -214,7 +216,8 @@ module _ {S A State : Type 0} (written : Written A) (kinds : Kind → Type 0) (S
           (part.front, part.rest ++ more.0, more.1 ∙ ap (λ l. l ++ more.0) part.parts ∙ append_assoc part.front part.rest more.0, part.puts before put);
       grows = fed.took.grows;
       served = λ e. cc;
-      near = λ one two before taken holds others put known. near_by one before taken holds put known fed.took.bytes fed.took.before fed.took.read grown fed.took.kept;
+      near = λ one two before taken holds others put known. near_by one before taken holds put known fed.took.bytes fed.took.before fed.took.read grown fed.took.kept
+          (IsFaultButWrite (Some fault)) (λ stops. fed.exact (λ is. stops.1 (ap Some is)));
       named = λ told e. named_alone (subst (λ t. TellsInput left failed kinds First first last t ⊎ TellsDevice grown.sink_has_failed t) (some_is fault told e) (named_by fed.past fed.took.bytes fed.cause));
     }
 
@@ -231,11 +234,11 @@ module _ {S A State : Type 0} (written : Written A) (kinds : Kind → Type 0) (S
     report_whole : (one : Handed) → Holds left first one → report one ≡ report_by written (member_items fed.past) None
     report_whole one holds = rw holds.is (report_of (whole_text holds.text) fed.past None (of_text holds.text holds.known (λ good. (good.members ≡ fed.past) × (good.fault ≡ None)) fed.whole))
 
-    near_end : (one : Handed) (two : Option Handed) (before taken : List ℕ) → Holds left first one → HoldsIf left None two → out.put ≡ Some before → out.took ≡ Some taken
-        → ReadsNoFurther (λ lines. true ≡ false → ⊤) (members_settle written format) one.text (left last) before finished.took (finished.has_failed ≡ true) finished.put
-    near_end one two before taken holds others put known =
+    near_end : (fault : Option Told) → (IsFaultButWrite fault → ⊥) → (one : Handed) (two : Option Handed) (before taken : List ℕ) → Holds left first one → HoldsIf left None two → out.put ≡ Some before → out.took ≡ Some taken
+        → ReadsNoFurther (λ lines. true ≡ false → ⊤) (members_settle written format) one.text (left last) before finished.took (finished.has_failed ≡ true) (IsFaultButWrite fault) finished.put
+    near_end fault never one two before taken holds others put known =
         near_by one before taken holds put known fed.took.bytes fed.took.before fed.took.read finished
-        (took_later out grown finished (written.settled (member_items fed.took.before)) fed.took.grows goes fed.took.kept)
+        (took_later out grown finished (written.settled (member_items fed.took.before)) fed.took.grows goes fed.took.kept) (IsFaultButWrite fault) (λ stops. absurd (never stops))
 
     pub drives_all : (rest : List ℕ) → written.whole (member_items fed.past) ≡ written.settled (member_items fed.past) ++ rest → Appends grown.put finished.put rest → finished.sink_has_failed ≡ grown.sink_has_failed → Ends None
     drives_all rest is appends works =
@@ -253,7 +256,7 @@ module _ {S A State : Type 0} (written : Written A) (kinds : Kind → Type 0) (S
               (written.whole (member_items fed.past), [], ap (λ r. r.output) (report_whole one holds) ∙ sym (append-nil (written.whole (member_items fed.past))), put_all before put);
           grows = grows_both out.took grown.took finished.took fed.took.grows goes.took;
           served = λ e. ((ap failed (sym ended) ∙ fed.served ∙ ap failed starts.source, tt), works ∙ fed.works.sink_served);
-          near = near_end;
+          near = near_end None (λ stops. stops.0 refl);
           named = λ told e. cc;
         }
 
@@ -271,6 +274,6 @@ module _ {S A State : Type 0} (written : Written A) (kinds : Kind → Type 0) (S
       kept = λ other. absurd (other (ap Some is));
       grows = grows_both out.took grown.took finished.took fed.took.grows goes.took;
       served = λ e. cc;
-      near = near_end;
+      near = near_end (Some fault) (λ stops. stops.1 (ap Some is));
       named = λ told e. inr (inl (sym (some_is fault told e) ∙ is, sink));
     }

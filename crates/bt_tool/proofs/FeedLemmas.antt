@@ -9,7 +9,7 @@ use Rattle.bt_lines.proofs.OutputLemmas.{grows_both}
 use Rattle.bt_lines.specs.Fault.{Told, write_failed, no_memory}
 use Rattle.bt_lines.specs.Lines.{TextLine}
 use Rattle.bt_lines.specs.Output.{Output, HoldsBlock, IsFrontOf, Grows, block_size}
-use Rattle.bt_lines.specs.Putting.{WorksAsBefore, PutsRest, PutsPart, CutsRest}
+use Rattle.bt_lines.specs.Putting.{WorksAsBefore, PutsRest, CutsRest}
 use Rattle.bt_lines.specs.Reader.{Hands, fault_kept as line_fault}
 use Rattle.bt_lines.specs.declared.fault.Kind.{Kind}
 use Rattle.bt_bed.specs.Feature.{Feature, interval_of, intervals_of}
@@ -35,7 +35,7 @@ use Rattle.bt_tool.specs.Passed.{IsAhead, IsOver, IsStopped, Passes, member_item
 use Rattle.bt_tool.specs.SweepLoop.{IsPlaced}
 use Rattle.bt_tool.specs.Turns.{HasAhead, HasEnded, HasStopped}
 use Rattle.bt_tool.proofs.ComeLemmas.{begins_more, begins_with}
-use Rattle.bt_tool.proofs.MemberLemmas.{ahead_at, bytes_more, ended_at, passes_all, passes_more, passes_start, passes_stop, read_for, stopped_at}
+use Rattle.bt_tool.proofs.MemberLemmas.{ahead_at, bytes_more, ended_at, passes_all, passes_more, passes_start, passes_stop, read_after, read_for, stopped_at}
 use Rattle.bt_tool.proofs.PassedLemmas.{is_ahead, is_over, is_stopped, line_going, member_ahead, placed_more, placed_next, placed_start}
 use Rattle.bt_tool.proofs.StopLemmas.{StopsBehind}
 
@@ -181,6 +181,7 @@ module _ {S A State : Type 0} (settled : List A → List ℕ) (Kinds : Kind → 
   -- or at a fault
   pub fed_up_to : ((state : State) (line : TextLine) (kind : Kind) → old.format.says state line ≡ Err kind → Kinds kind)
       → (new : MemberReader S A State) (fault : Told) → IsStopped left failed end now fault new → Sorted (member_items past) → UpTo fault new grown
+  unfolding taken
   fed_up_to of_format new fault stopped sorted =
       let stops = passes_stop left failed end old past now g.passes Kinds of_format new fault stopped in
       record {
@@ -193,11 +194,12 @@ module _ {S A State : Type 0} (settled : List A → List ℕ) (Kinds : Kind → 
             | inl unread ↦ inl (record { behind = inr unread; puts = g.puts; works = g.works })
             | inr lacks ↦ inr (inl (record {
               lacks = lacks;
-              puts = record { front = settled (member_items past); rest = []; parts = sym (append-nil (settled (member_items past))); puts = g.puts };
+              puts = g.puts;
               works = g.works;
             }))
           ]
         ];
+        exact = λ other. g.puts;
       }
 
   -- the output went on, with no more lines
@@ -235,26 +237,37 @@ module _ {S A State : Type 0} (settled : List A → List ℕ) (Kinds : Kind → 
         };
         served = ahead.read.served ∙ g.passes.served;
       }));
+      exact = λ other. absurd (other is);
     }
 
-    -- memory ran out with it
-    pub fails_growing : (fault : Told) (later : Output) (lines unput : List ℕ) → settled (member_items (past ++ m ∷ [])) ≡ settled (member_items past) ++ (lines ++ unput) → fault ≡ no_memory
+    -- what is settled with it was put
+    puts_next : (later : Output) (lines : List ℕ) → settled (member_items (past ++ m ∷ [])) ≡ settled (member_items past) ++ lines → Appends grown.put later.put lines
+        → PutsLines out (settled (member_items (past ++ m ∷ []))) later
+    puts_next later lines more appends = λ before e. text_grows grown.put later.put before (settled (member_items past)) lines (settled (member_items (past ++ m ∷ []))) more appends (g.puts before e)
+
+    -- but memory ran out with it
+    pub fails_growing : (fault : Told) (later : Output) (lines : List ℕ) → settled (member_items (past ++ m ∷ [])) ≡ settled (member_items past) ++ lines → fault ≡ no_memory
         → Appends grown.put later.put lines → WorksAsBefore grown later → Grows grown.took later.took → UpTo fault peeked later
-    fails_growing fault later lines unput more is appends works grows = record {
-      past = past ++ m ∷ [];
-      took = took_next later (goes_works grown later grows works);
-      begins = begins_next;
-      cause = inr (inl (record {
-        lacks = record { is = is; served = ahead.read.served ∙ g.passes.served };
-        puts = record {
-          front = settled (member_items past) ++ lines;
-          rest = unput;
-          parts = more ∙ sym (append_assoc (settled (member_items past)) lines unput);
-          puts = λ before e. text_grows grown.put later.put before (settled (member_items past)) lines (settled (member_items past) ++ lines) refl appends (g.puts before e);
-        };
-        works = works_both out grown later g.works works;
-      }));
-    }
+    fails_growing fault later lines more is appends works grows =
+        let puts = puts_next later lines more appends in
+        record {
+          past = past ++ m ∷ [];
+          took = record {
+            bytes = bytes_more left failed end old past now g.passes peeked ahead.read.stays.bytes;
+            sorted = sorted;
+            grows = grows_both out.took grown.took later.took g.grows grows;
+            before = past ++ m ∷ [];
+            read = read_after left failed end old past now g.passes g.none_ahead m peeked ahead;
+            kept = took_lines out later (settled (member_items (past ++ m ∷ []))) puts (works.block g.block);
+          };
+          begins = begins_next;
+          cause = inr (inl (record {
+            lacks = record { is = is; served = ahead.read.served ∙ g.passes.served };
+            puts = puts;
+            works = works_both out grown later g.works works;
+          }));
+          exact = λ other. puts;
+        }
 
     -- it was taken and passed, and what is settled with it was written
     pub fed_more : (next : MemberReader S A State) (later : Output) (lines : List ℕ) → Advances left peeked next → settled (member_items (past ++ m ∷ [])) ≡ settled (member_items past) ++ lines
@@ -263,7 +276,7 @@ module _ {S A State : Type 0} (settled : List A → List ℕ) (Kinds : Kind → 
       passes = passes_more left failed end old past now g.passes m peeked ahead next advances;
       none_ahead = advances.none_ahead;
       grows = grows_both out.took grown.took later.took g.grows grows;
-      puts = λ before e. text_grows grown.put later.put before (settled (member_items past)) lines (settled (member_items (past ++ m ∷ []))) more appends (g.puts before e);
+      puts = puts_next later lines more appends;
       works = works_both out grown later g.works works;
       block = works.block g.block;
     }
@@ -335,11 +348,11 @@ module _ {S O : Type 0} {ghosts : Ghosts O} (settled : List Feature → List ℕ
 
     -- the engine found no memory
     pub stops_growing : (fault : Told) (later : Output) → fault ≡ no_memory
-        → PutsPart (settled (member_items g.past)) (settled (member_items g.past ++ r ∷ [])) grown later
+        → PutsRest (settled (member_items g.past)) (settled (member_items g.past ++ r ∷ [])) grown later
         → WorksAsBefore grown later → Grows grown.took later.took → UpToIt fault later
-    stops_growing fault later is part works grows =
+    stops_growing fault later is puts works grows =
         fails_growing settled (IsBedKind order) (AreInOrder order) left failed end (view_of old) out g.past (view_of now) grown g.fed next_member (view_of peeked) (is_ahead left failed end now peeked r ahead) sorted_more
-        fault later part.bytes part.unput (goes_on (part.bytes ++ part.unput) part.goes_on) is part.appends works grows
+        fault later puts.bytes (goes_on puts.bytes puts.goes_on) is puts.appends works grows
 
     -- the record was taken and passed
     pub going_more : (Next : List Feature → Type 0) (next : Records S O ghosts) (later : Output) → PassesRecord left peeked next

@@ -1,7 +1,7 @@
 -- Lemmas on what a reader of members has passed.
 use Rattle.std.proofs.Common.{◌≡◌, ℕ, suc, ◌+◌, ◌-◌, ◌≤◌, ◌<◌, Bool, true, false, List, [], ◌∷◌, ◌++◌, length, take, drop, Option, None, Some, Err, refl, sym, ap, ◌∙◌, subst, append_assoc, arith, inl, inr}
 use Rattle.std.specs.Prelude.{◌⊎◌, All, IfSome, IsSome, option_map}
-use Rattle.std.proofs.lemmas.List.{map-append, take-append-drop}
+use Rattle.std.proofs.lemmas.List.{drop-drop, map-append, take-append-drop}
 use Rattle.std.proofs.lemmas.List.Elements.{All-head, All-push, All-tail}
 use Rattle.bt_lines.proofs.ReadsLemmas.{memory_no_read}
 use Rattle.bt_lines.specs.Fault.{Told, read_failed}
@@ -24,7 +24,7 @@ use Rattle.bt_tool.specs.Feeding.{IsFresh}
 use Rattle.bt_tool.specs.Passed.{ComeFirst, member_items, AreAll, AreSaid, IsAhead, IsOver, IsReadFor, IsReadTo, IsStopped, IsUnreadBehind, IsWrongBehind, LacksMemory, Passes, StopsAfter, state_behind}
 use Rattle.bt_tool.proofs.FaultLemmas.{line_no_read}
 use Rattle.bt_tool.proofs.ComeLemmas.{begins_beyond, begins_more, begins_with, come_more, come_none, cuts_both, lines_on, near_from_start, none_passed, numbered_lines, up_to, whole_with}
-use Rattle.bt_tool.proofs.StopLemmas.{StopsBehind, coming_is, given_next, stops_ended, stops_faulty, stops_given}
+use Rattle.bt_tool.proofs.StopLemmas.{ComesFirst, StopsBehind, coming_is, comes_first, given_next, stops_ended, stops_faulty, stops_given}
 
 -- what is known behind one more item
 state_push : {A State : Type 0} (format : Format A State) (state : State) (items : List A) (item : A)
@@ -201,6 +201,29 @@ near_start (Some lines) (Some rest) h =
 cancel_front : {A : Type 0} (front a b : List A) → front ++ a ≡ front ++ b → a ≡ b
 cancel_front [] a b e = e
 cancel_front (x ∷ front) a b e = cancel_front front a b (let rest : front ++ a ≡ front ++ b = cc in rest)
+
+-- one line more leaves no more
+near_more : (lines : Option (List TextLine)) (rest : Option (List ℕ)) (count : ℕ) → IfSome lines (λ lines. IfSome rest (λ rest. bytes_in (drop count lines) ≤ length rest + block_size))
+    → IfSome lines (λ lines. IfSome rest (λ rest. bytes_in (drop (suc count) lines) ≤ length rest + block_size))
+near_more None rest count h = tt
+near_more (Some lines) None count h = tt
+near_more (Some lines) (Some rest) count h =
+    let both = bytes_in-append (take 1 (drop count lines)) (drop 1 (drop count lines)) in
+    let whole = ap bytes_in (take-append-drop 1 (drop count lines)) in
+    let more : count + 1 ≡ suc count = omega arith in
+    let is = ap bytes_in (drop-drop 1 count lines ∙ ap (λ n. drop n lines) more) in
+    omega arith
+
+-- what comes behind these members and the one after them
+behind_first : {A : Type 0} (old now : Option (Good A)) (past : List (Member A)) (m : Member A) → ComeFirst old past now → IfSome now (ComesFirst m)
+    → IfSome old (λ good. (rest : List (Member A)) × (good.members ≡ (past ++ m ∷ []) ++ rest) × IsBeyond m.line (record { members = rest; fault = good.fault }))
+behind_first None now past m c f = tt
+behind_first (Some o) None past m c f = absurd c
+behind_first {A} (Some o) (Some n) past m c f = (
+  f.0,
+  c.0 ∙ ap (λ (l : List (Member A)). past ++ l) f.1 ∙ sym (append_assoc past (m ∷ []) f.0),
+  subst (λ fault. IsBeyond m.line (record { members = f.0; fault = fault })) (sym c.1) f.2,
+)
 
 -- what stands behind one member more
 behind_more : {A : Type 0} (count : ℕ) (good : Option (Good A)) (past : List (Member A)) (m : Member A)
@@ -443,6 +466,26 @@ module _ {S A State : Type 0} (left : S → Option (List ℕ)) (failed end : S �
           };
           low = up_to (lines_given now.below) stops.0 past stops.1.from g.behind;
           high = All-push (λ (m : Member A). m.line ≤ suc stops.0) past m (up_to (lines_given now.below) (suc stops.0) past (let from = stops.1.from in omega arith) g.behind) (omega (arith, at));
+          begins = begins_more (good_coming left old) (good_coming left now) past m g.come ahead.read.first;
+        }
+
+    -- the record ahead is the last of those on the lines read
+    pub read_after : now.ahead ≡ None → (m : Member A) (peeked : MemberReader S A State) → IsAhead left failed end now m peeked
+        → IsReadFor left failed end old (past ++ m ∷ []) (past ++ m ∷ []) peeked
+    unfolding read_at ahead_at
+    read_after none m peeked ahead =
+        let stops = ahead_at none m peeked ahead in
+        let at : m.line ≡ suc stops.0 = given_next left failed end now none g.going g.sound m peeked ahead.read (ahead.sound g.sound) (ahead.clear (ahead.read.goes ∙ g.going)) in
+        let from = stops.1.from in
+        record {
+          to = record {
+            count = suc stops.0;
+            near = near_more (lines_left left old.below) (left (source_of peeked.below)) (suc stops.0) (read_at peeked stops).near;
+            behind = subst (λ (count : ℕ). IfSome (good_coming left old) (λ good. (rest : List (Member A)) × (good.members ≡ (past ++ m ∷ []) ++ rest) × IsBeyond count (record { members = rest; fault = good.fault }))) at
+                (behind_first (good_coming left old) (good_coming left now) past m g.come (comes_first left failed end now none g.going g.sound m ahead.read.first));
+          };
+          low = All-push (λ (m : Member A). m.line ≤ suc stops.0) past m (up_to (lines_given now.below) (suc stops.0) past (omega arith) g.behind) (omega (arith, at));
+          high = All-push (λ (m : Member A). m.line ≤ suc (suc stops.0)) past m (up_to (lines_given now.below) (suc (suc stops.0)) past (omega arith) g.behind) (omega (arith, at));
           begins = begins_more (good_coming left old) (good_coming left now) past m g.come ahead.read.first;
         }
 

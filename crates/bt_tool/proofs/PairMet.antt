@@ -22,7 +22,7 @@ use Rattle.bt_tool.specs.Behaviour.{Behaviour}
 use Rattle.bt_tool.specs.SweepReport.{met_report}
 use Rattle.bt_tool.specs.Writing.{WritesBy}
 use Rattle.bt_tool.specs.Coming.{Came}
-use Rattle.bt_tool.specs.Telling.{IsReported, ReadsNoFurther, TellsDevice, TellsInput}
+use Rattle.bt_tool.specs.Telling.{IsFaultButWrite, IsReported, ReadsNoFurther, TellsDevice, TellsInput}
 use Rattle.bt_tool.specs.Feeding.{PutsFront, PutsLines, member_items}
 use Rattle.bt_tool.specs.Inputs.{HandsUpTo, Holds, HoldsIf, Reads, ReadsIf, or_empty}
 use Rattle.bt_tool.specs.Pair.{Making, MayCome, Pair, Serves, met_by, met_whole, rule_of}
@@ -460,14 +460,14 @@ module _ {A B X Y U V : Type 0} (making : Making X Y) (pair : Pair A B X Y U V) 
 
   kept_by : fault ≢ Some write_failed → Because → PutsFront out w.bytes grown
   kept_by other (inl (end, puts, works)) = puts_front out w.bytes grown puts
-  kept_by other (inr (inl ran)) = ran.1
+  kept_by other (inr (inl ran)) = puts_front out w.bytes grown ran.1
   kept_by other (inr (inr cut)) = absurd (other cut.0)
 
   module _ (settles : Handed → List TextLine → List ℕ) (reaches : Handed → List TextLine → ℕ) where
     abbrev pub NearBoth : Type 0
     NearBoth = (one two before taken : List ℕ) → pair.a_left one_before ≡ Some one → pair.b_left two_before ≡ Some two → out.put ≡ Some before → out.took ≡ Some taken
         → ReadsNoFurther (λ lines. pair.a_end one_after ≡ false → HandsUpTo pair.b_left (reaches (whole_text two) lines + block_size) two_before two_after)
-        (settles (whole_text two)) one (pair.a_left one_after) before grown.took (grown.has_failed ≡ true) grown.put
+        (settles (whole_text two)) one (pair.a_left one_after) before grown.took (grown.has_failed ≡ true) (IsFaultButWrite fault) grown.put
 
     abbrev behaviour : Behaviour
     behaviour = record {

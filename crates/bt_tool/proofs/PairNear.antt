@@ -7,6 +7,7 @@ use Rattle.std.proofs.lemmas.Bool.{false≢true}
 use Rattle.std.proofs.lemmas.List.{map-append, take-append-drop}
 use Rattle.std.proofs.lemmas.List.Elements.{All-head, All-tail}
 use Rattle.bt_lines.specs.Handed.{Handed, whole_text}
+use Rattle.bt_lines.specs.Fault.{Told}
 use Rattle.bt_lines.specs.Lines.{AreNumbered, TextLine, bytes_in, text_lines}
 use Rattle.bt_lines.specs.Output.{Output, block_size}
 use Rattle.bt_lines.specs.Reader.{source_of}
@@ -20,11 +21,11 @@ use Rattle.bt_bed.specs.GoodLines.{AreAscending, IsBeyond}
 use Rattle.bt_bed.specs.Reading.{MemberReader, good_coming}
 use Rattle.bt_bed.proofs.GoodLemmas.{ascend_from, first_from}
 use Rattle.bt_tool.specs.SweepReport.{bytes_up_to}
-use Rattle.bt_tool.specs.Telling.{ReadsNoFurther}
+use Rattle.bt_tool.specs.Telling.{IsFaultButWrite, ReadsNoFurther}
 use Rattle.bt_tool.specs.Feeding.{TookButBlock, member_items}
 use Rattle.bt_tool.specs.Inputs.{HandsUpTo}
 use Rattle.bt_tool.specs.Pair.{Making, MayCome, Pair}
-use Rattle.bt_tool.specs.PairEnds.{AsksFor, StaysNear}
+use Rattle.bt_tool.specs.PairEnds.{AsksFor, Finishes, StaysNear}
 use Rattle.bt_tool.proofs.CameMembers.{BeginsAt, at_whole, good_whole, handed_to, is_known}
 use Rattle.bt_tool.proofs.PairMet.{may_come}
 
@@ -98,7 +99,10 @@ module _ {A B X Y U V : Type 0} (making : Making X Y) (pair : Pair A B X Y U V) 
     (first_format : Format X U) (second_format : Format Y V) (in_order : (two : Handed) → making.InOrder (items_in (good_handed second_format Second two))) (needed : AreNeeded making)
     (one_before : A) (two_before : B) (begins : BeginsAt pair.a_left first_format First one_before pair.first) (begins_second : BeginsAt pair.b_left second_format Second two_before pair.second)
     (first : MemberReader A X U) (second : MemberReader B Y V) (one_after : A) (two_after : B) (ended : source_of first.below ≡ one_after) (ended_second : source_of second.below ≡ two_after)
-    (grown : Output) (near : StaysNear making pair out first second grown) where
+    (fault : Option Told) (grown : Output) (w : Finishes making pair out fault first second grown) where
+  abbrev near : StaysNear making pair out first second grown
+  near = w.near
+
   abbrev count : ℕ
   count = near.first_near.to.count
 
@@ -169,11 +173,12 @@ module _ {A B X Y U V : Type 0} (making : Making X Y) (pair : Pair A B X Y U V) 
   -- how far both inputs were read
   pub near_both : (one two before taken : List ℕ) → pair.a_left one_before ≡ Some one → pair.b_left two_before ≡ Some two → out.put ≡ Some before → out.took ≡ Some taken
       → ReadsNoFurther (λ lines. pair.a_end one_after ≡ false → HandsUpTo pair.b_left (reaches (whole_text two) lines + block_size) two_before two_after)
-      (settles (whole_text two)) one (pair.a_left one_after) before grown.took (grown.has_failed ≡ true) grown.put
+      (settles (whole_text two)) one (pair.a_left one_after) before grown.took (grown.has_failed ≡ true) (IsFaultButWrite fault) grown.put
   near_both one two before taken e f put took =
       let handed = handed_to pair.a_left pair.a_failed pair.a_end first_format First one_before pair.first begins first one_after ended count one e near.first_near.to.near near.wrote.first_bytes in
       let less : suc count - 1 ≡ count = omega arith in
-      let lines : TookButBlock out (settles (whole_text two) (take count (text_lines one))) grown = subst (λ l. TookButBlock out l grown) (sym (settled one two e f)) near.took in
+      let same : near.bytes ≡ settles (whole_text two) (take count (text_lines one)) = sym (settled one two e f) in
+      let lines : TookButBlock out (settles (whole_text two) (take count (text_lines one))) grown = subst (λ l. TookButBlock out l grown) same near.took in
       record {
         n = suc count;
         some = omega arith;
@@ -182,5 +187,6 @@ module _ {A B X Y U V : Type 0} (making : Making X Y) (pair : Pair A B X Y U V) 
         read = handed.2;
         settled = rw less (lines.took before taken put took);
         kept = rw less (elim lines.put [ inl failed ↦ inl failed | inr kept ↦ inr (kept before put) ]);
+        exact = rw less (λ stops. w.exact stops before put ∙ ap (λ l. Some (before ++ l)) same);
         beside = λ open_end. beside one two e f open_end near.beside;
       }

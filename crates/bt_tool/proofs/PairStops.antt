@@ -25,7 +25,7 @@ use Rattle.bt_tool.proofs.FeedLemmas.{goes_failed, goes_same, took_later, took_l
 use Rattle.bt_tool.proofs.MemberLemmas.{ahead_at, ahead_first, bytes_more, ended_at, no_ahead_at_end, no_ahead_at_stop, passes_all, passes_end, passes_peek, passes_stop, read_ahead, read_at, read_for, rises_now, stopped_at}
 use Rattle.bt_tool.proofs.PairSettles.{settles_end}
 use Rattle.bt_tool.proofs.PairTurns.{all_with, seen_peeked, settles_ended, with_waiting}
-use Rattle.bt_tool.proofs.SeenLemmas.{cuts_more, if_known, items_begin, items_first, puts_front, seen_items, seen_low}
+use Rattle.bt_tool.proofs.SeenLemmas.{cuts_more, if_known, items_begin, items_first, seen_items, seen_low}
 use Rattle.bt_tool.proofs.StopLemmas.{StopsBehind}
 
 seen_begins : {S A State : Type 0} (left : S → Option (List ℕ)) (old : Option (Good A)) (now : MemberReader S A State) (past : List (Member A)) (o : Option (Member A)) → now.ahead ≡ o
@@ -173,13 +173,13 @@ module _ {A B X Y U V : Type 0} (making : Making X Y) (pair : Pair A B X Y U V) 
             | inl wrong ↦ inl (inl (fault, refl, record { past = past_first; all = all_done none; all_given = s.all_given; cause = inl wrong; serves = second_serves }), s.puts, s.works)
             | inr other ↦ elim other [
               | inl unread ↦ inl (inl (fault, refl, record { past = past_first; all = all_done none; all_given = s.all_given; cause = inr unread; serves = second_serves }), s.puts, s.works)
-              | inr ran ↦ inr (inl (ap Some ran.is, puts_front out s.bytes grown s.puts))
+              | inr ran ↦ inr (inl (ap Some ran.is, s.puts))
             ]
           ]
 
       -- the first input couldn't give a member
       pub stops_first : (fault : Told) (first_now : MemberReader A X U) → IsStopped pair.a_left pair.a_failed pair.a_end first fault first_now → Ends (Some fault) first_now second grown
-      unfolding wrote_first wrote_by
+      unfolding wrote_first wrote_by near_first_by near_by
       stops_first fault first_now stopped =
           let stops = passes_stop pair.a_left pair.a_failed pair.a_end pair.first past_first first s.first_passes making.first_kinds wrong_first first_now fault stopped in
           record {
@@ -188,6 +188,7 @@ module _ {A B X Y U V : Type 0} (making : Making X Y) (pair : Pair A B X Y U V) 
             wrote = wrote_first first_now stops.bytes;
             why = stops_first_by fault first_now stops;
             near = near_first_by first_now grown stops.bytes no_more (stopped_at pair.a_left pair.a_failed pair.a_end pair.first past_first first s.first_passes s.none_ahead first_now fault stopped);
+            exact = λ stops. s.puts;
           }
 
       module _ (m : Member X) (first_now : MemberReader A X U) (ahead : IsAhead pair.a_left pair.a_failed pair.a_end first m first_now) where
@@ -196,12 +197,14 @@ module _ {A B X Y U V : Type 0} (making : Making X Y) (pair : Pair A B X Y U V) 
 
         -- there was no memory for its member
         pub lacks_first : (fault : Told) → fault ≡ no_memory → Ends (Some fault) first_now second grown
+        unfolding near_first_by near_by
         lacks_first fault is = record {
           written = stage.written;
           bytes = s.bytes;
           wrote = wrote_first first_now handed_now;
-          why = inr (inl (ap Some is, puts_front out s.bytes grown s.puts));
+          why = inr (inl (ap Some is, s.puts));
           near = near_first_by first_now grown handed_now no_more (ahead_at pair.a_left pair.a_failed pair.a_end pair.first past_first first s.first_passes s.none_ahead m first_now ahead);
+          exact = λ stops. s.puts;
         }
 
         -- its bytes weren't written
@@ -221,6 +224,7 @@ module _ {A B X Y U V : Type 0} (making : Making X Y) (pair : Pair A B X Y U V) 
                   ended_now (grows_both out.took grown.took now.took s.grows adds.puts.grows) (given stage) given_now fits;
               why = inr (inr (ap Some adds.puts.is, cuts_more out grown now s.bytes more fault s.puts adds));
               near = near_first_by first_now now handed_now (goes_failed grown now adds.puts.grows adds.puts.failed) (ahead_at pair.a_left pair.a_failed pair.a_end pair.first past_first first s.first_passes s.none_ahead m first_now ahead);
+              exact = λ stops. absurd (stops.1 (ap Some adds.puts.is));
             }
 
     -- where all of the first input is written, and the second was read on
@@ -230,7 +234,7 @@ module _ {A B X Y U V : Type 0} (making : Making X Y) (pair : Pair A B X Y U V) 
         ⊎ (((other : Told) × (fault ≡ Some other) × SecondFails making pair out stage.second_ended past second_now other × (making.last stage.written past ≡ None))
         ⊎ ((other : Told) × (fault ≡ Some other) × LastTold making pair out stage.written second_now other))
         → Ends fault first second_now grown
-    unfolding wrote_second wrote_by
+    unfolding wrote_second wrote_by near_by
     ends_rest done second_now rises handed past fault rest =
         let whole = s.first_all done in
         let read = s.near_first (inr done) in
@@ -244,6 +248,7 @@ module _ {A B X Y U V : Type 0} (making : Making X Y) (pair : Pair A B X Y U V) 
             s.works,
           );
           near = near_by first second_now grown (wrote_second second_now rises handed) no_more read.0 read.1 read.2 (inl (s.first_passes.sound.end whole.2).0);
+          exact = λ stops. s.puts;
         }
 
     -- both inputs have ended
@@ -253,14 +258,16 @@ module _ {A B X Y U V : Type 0} (making : Making X Y) (pair : Pair A B X Y U V) 
     -- memory ran out while the second input was read
     runs_out : (is_some stage.waiting ≡ true) ⊎ (stage.first_ended ≡ true) → (fault : Told) → fault ≡ no_memory → (second_now : MemberReader B Y V) → lines_given second.below ≤ lines_given second_now.below → HandsSecond second_now
         → (pair.a_end (source_of first.below) ≡ true) ⊎ AsksFor making pair out past_first second_now → Ends (Some fault) first second_now grown
+    unfolding near_by
     runs_out asked fault is second_now rises handed beside =
         let read = s.near_first asked in
         record {
           written = stage.written;
           bytes = s.bytes;
           wrote = wrote_second second_now rises handed;
-          why = inr (inl (ap Some is, puts_front out s.bytes grown s.puts));
+          why = inr (inl (ap Some is, s.puts));
           near = near_by first second_now grown (wrote_second second_now rises handed) no_more read.0 read.1 read.2 beside;
+          exact = λ stops. s.puts;
         }
 
     -- the rest of the second input stopped
@@ -349,12 +356,12 @@ module _ {A B X Y U V : Type 0} (making : Making X Y) (pair : Pair A B X Y U V) 
                 | inl wrong ↦ stops_why (record { cause = inl wrong; before_end = λ e. absurd (false≢true (sym goes ∙ e)) })
                 | inr other ↦ elim other [
                   | inl unread ↦ stops_why (record { cause = inr unread; before_end = λ e. absurd (false≢true (sym goes ∙ e)) })
-                  | inr ran ↦ inr (inl (ap Some ran.is, puts_front out s.bytes grown s.puts))
+                  | inr ran ↦ inr (inl (ap Some ran.is, s.puts))
                 ]
               ]
 
           pub stops_second : Ends (Some fault) first second_now grown
-          unfolding wrote_second wrote_by
+          unfolding wrote_second wrote_by near_stopped near_second_by near_by
           stops_second =
               let stops = passes_stop pair.b_left pair.b_failed pair.b_end pair.second past_second second s.second_passes making.second_kinds wrong_second second_now fault stopped in
               record {
@@ -363,6 +370,7 @@ module _ {A B X Y U V : Type 0} (making : Making X Y) (pair : Pair A B X Y U V) 
                 wrote = wrote_second second_now stopped.answers.rises stops.bytes;
                 why = stops_by stops;
                 near = near_stopped stops.bytes;
+                exact = λ stops. s.puts;
               }
 
         module _ (m : Member Y) (second_now : MemberReader B Y V) (ahead : IsAhead pair.b_left pair.b_failed pair.b_end second m second_now) where
@@ -387,6 +395,7 @@ module _ {A B X Y U V : Type 0} (making : Making X Y) (pair : Pair A B X Y U V) 
                 begins_here (λ e. absurd (false≢true e)) (grows_both out.took grown.took now.took s.grows fails.puts.grows) (given stage) given_now fits;
             why = inr (inr (ap Some fails.puts.is, cuts_more out grown now s.bytes more fault s.puts fails));
             near = near_second_by second_now now rises p.bytes (goes_failed grown now fails.puts.grows fails.puts.failed) read;
+            exact = λ stops. absurd (stops.1 (ap Some fails.puts.is));
           }
 
           -- with it too many would be held
@@ -394,7 +403,7 @@ module _ {A B X Y U V : Type 0} (making : Making X Y) (pair : Pair A B X Y U V) 
               → (IsKnown pair → (later : List X) (more : List (Member Y)) (other : Option Told)
               → making.limited (stage.written ++ a ∷ later) (record { members = (past_second ++ m ∷ []) ++ more; fault = other }) ≡ record { members = past_second ++ m ∷ []; fault = Some fault })
               → Ends (Some fault) first second_now grown
-          unfolding wrote_second wrote_by
+          unfolding wrote_second wrote_by near_second_by near_by
           passes_limit kind of_kind fault is undecided cuts = record {
             written = stage.written;
             bytes = s.bytes;
@@ -422,6 +431,7 @@ module _ {A B X Y U V : Type 0} (making : Making X Y) (pair : Pair A B X Y U V) 
               s.works,
             );
             near = near_second_by second_now grown rises p.bytes no_more read;
+            exact = λ stops. s.puts;
           }
 
           -- it wasn't held
@@ -448,6 +458,7 @@ module _ {A B X Y U V : Type 0} (making : Making X Y) (pair : Pair A B X Y U V) 
                   (λ known. read_at pair.b_left pair.b_failed pair.b_end pair.second past_second second s.second_passes second_now
                   (ended_at pair.b_left pair.b_failed pair.b_end pair.second past_second second s.second_passes
                   (no_ahead_at_end pair.b_left pair.b_failed pair.b_end pair.second past_second second s.second_passes second_now over known) second_now over));
+              exact = λ stops. absurd (stops.1 (ap Some fails.puts.is));
             }
 
       -- behind the last member of the first

@@ -26,7 +26,7 @@ use Rattle.bt_runs.specs.Depth.{settled_depths}
 use Rattle.bt_runs.specs.Gaps.{settled_gaps}
 use Rattle.bt_tool.specs.Kinds.{IsOneOf}
 use Rattle.bt_tool.specs.Chromosomes.{KnowsChromosomes, LacksChromosomes, ReadsChromosomes, StopsAtGenome, WritesOutput}
-use Rattle.bt_tool.specs.Telling.{IsOfInput, IsPutTo, ReadsNoFurther, TellsDevice, TellsInput, TellsInputIf, TellsLine, TellsRead}
+use Rattle.bt_tool.specs.Telling.{IsFaultButWrite, IsOfInput, IsPutTo, ReadsNoFurther, TellsDevice, TellsInput, TellsInputIf, TellsLine, TellsRead}
 use Rattle.bt_tool.specs.Writing.{WritesBy}
 use Rattle.bt_tool.specs.Flushing.{Flushes, FlushesAll, FlushFails, StaysFailed}
 use Rattle.bt_tool.specs.Gives.{Runs, TellsOther, is_of_genome, lies_in_genome}
@@ -104,6 +104,13 @@ module _ (out mid new : Output) (fault answer : Option Told) where
       ]
   kept_by size kept (inl (inr fails)) = inl fails.is
   kept_by size kept (inr stays) = inl stays.is
+
+  -- and at a fault nothing else
+  pub exact_by : (bytes : List ℕ) → (IsFaultButWrite fault → mid.put ≡ Some bytes) → IsFaultButWrite answer → (FlushesAll mid fault answer new ⊎ FlushFails mid fault answer new) ⊎ StaysFailed mid fault answer new
+      → new.took ≡ Some bytes
+  exact_by bytes is stops (inl (inl all)) = kept_known mid.put new.took bytes (is (subst IsFaultButWrite all.same_fault stops)) all.taken
+  exact_by bytes is stops (inl (inr fails)) = absurd (stops.1 fails.is)
+  exact_by bytes is stops (inr stays) = absurd (stops.1 stays.is)
 
   -- without a fault the sink has served in the flush too
   pub served_by : (FlushesAll mid fault answer new ⊎ FlushFails mid fault answer new) ⊎ StaysFailed mid fault answer new → answer ≡ None → (fault ≡ None) × (new.sink_has_failed ≡ mid.sink_has_failed)
@@ -192,9 +199,9 @@ write_of_if left failed kinds input (Some before) (Some after) tells = tells_no_
 
 -- an input that wasn't touched was read no further than its first line
 near_untouched : (Beside : List TextLine → Type 0) → ((lines : List TextLine) → Beside lines) → (command : Command) (chromosomes : Result (Option (List Entry)) Told) (second : Option Handed) (text before : List ℕ) (left took more : Option (List ℕ)) → left ≡ Some text → took ≡ Some before → Grows took more
-    → (Failed : Type 0) (later : Option (List ℕ)) → Failed ⊎ IsPutTo (length (before ++ [])) later
-    → ReadsNoFurther Beside (settles_on command chromosomes second) text left before more Failed later
-near_untouched Beside has command chromosomes second text before left took more e t g Failed later kept = record {
+    → (Failed Stops : Type 0) (later : Option (List ℕ)) → Failed ⊎ IsPutTo (length (before ++ [])) later → (Stops → later ≡ Some (before ++ []))
+    → ReadsNoFurther Beside (settles_on command chromosomes second) text left before more Failed Stops later
+near_untouched Beside has command chromosomes second text before left took more e t g Failed Stops later kept exact = record {
   n = 1;
   some = omega arith;
   handed = [];
@@ -203,6 +210,7 @@ near_untouched Beside has command chromosomes second text before left took more 
   beside = has (take 1 (text_lines text));
   settled = rw (none_settle_on command chromosomes second) (took_more_than took took more before (length (before ++ [])) t ([], Appends-nil took) g (taken_all took before t));
   kept = rw (none_settle_on command chromosomes second) kept;
+  exact = rw (none_settle_on command chromosomes second) exact;
 }
 
 module _ {G A B K : Type 0} (g_left : G → Option (List ℕ)) (g_failed : G → Bool) (a_left : A → Option (List ℕ)) (a_failed a_end : A → Bool) (b_left : B → Option (List ℕ)) (b_failed : B → Bool) (k_took : K → Option (List ℕ)) (k_failed : K → Bool)
@@ -275,7 +283,8 @@ module _ {G A B K : Type 0} (g_left : G → Option (List ℕ)) (g_failed : G →
           let near = writes.near inputs.first inputs.second before before holds.first_input holds.second_input (put ∙ known) (took ∙ known) in
           rw (knows.told inputs.genome holds.genome_file, took_after)
           (near_as _ _ (λ lines beside. beside) ((behaviour_of command chromosomes).settles inputs.second) ((behaviour_of command chromosomes).settles inputs.second) (λ lines. refl) inputs.first.text (a_left first_after) before mid.took new.took (mid.has_failed ≡ true)
-          (answer ≡ Some write_failed) mid.put new.took (λ size. took_more_than begun.took mid.took new.took before size (took ∙ known) writes.grows flushes.grows) (λ size kept. kept_by begun mid new fault answer size kept flushes.ends) near);
+          (answer ≡ Some write_failed) (IsFaultButWrite fault) (IsFaultButWrite answer) mid.put new.took (λ size. took_more_than begun.took mid.took new.took before size (took ∙ known) writes.grows flushes.grows) (λ size kept. kept_by begun mid new fault answer size kept flushes.ends)
+          (λ bytes is stops. exact_by begun mid new fault answer bytes is stops flushes.ends) near);
       served = λ none.
           let was = served_by begun mid new fault answer flushes.ends none in
           let devices = writes.served was.0 in
@@ -326,7 +335,8 @@ module _ {G A B K : Type 0} (g_left : G → Option (List ℕ)) (g_failed : G →
           rw (text.is, stops.untouched, stops.other_untouched, took_after)
           (near_untouched _ (λ lines end. hands_none b_left second inputs.second (reaches_on command (chromosomes_of inputs.genome) inputs.second lines + block_size) holds.second_input)
           command (chromosomes_of inputs.genome) inputs.second text.text before (a_left first) begun.took new.took text.known (took ∙ known) (grows_both begun.took mid.took new.took mid_grows flushes.grows)
-          (answer ≡ Some write_failed) new.took (kept_by begun mid new fault answer (length (before ++ [])) (inr (before ++ [], begun_put before known, omega arith)) flushes.ends));
+          (answer ≡ Some write_failed) (IsFaultButWrite answer) new.took (kept_by begun mid new fault answer (length (before ++ [])) (inr (before ++ [], begun_put before known, omega arith)) flushes.ends)
+          (λ other. exact_by begun mid new fault answer (before ++ []) (λ was. begun_put before known) other flushes.ends));
       served = λ none.
           let was = served_by begun mid new fault answer flushes.ends none in
           absurd (let apart : None ≡ Some wrong = sym was.0 ∙ stops.is in cc);

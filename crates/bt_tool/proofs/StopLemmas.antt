@@ -97,6 +97,18 @@ module _ {A State : Type 0} (format : Format A State) (input : Input) where
         fault = fault_less count m.line good.fault (omega arith) (All-head (λ (m : Member A). FaultBeyond m.line good.fault) m rest last);
       }
 
+  -- and what comes after it behind its own line
+  after_first : (state : State) (number : ℕ) (lines : List TextLine) (rest : List (Member A)) (m : Member A) → AreNumbered number lines
+      → (good_from format input state lines).members ≡ m ∷ rest → IsBeyond m.line (record { members = rest; fault = (good_from format input state lines).fault })
+  after_first state number lines rest m n e =
+      let good = good_from format input state lines in
+      let ascend : AreAscending number (m ∷ rest) = subst (AreAscending number) e (ascend_from format input number state lines n) in
+      let last : All (λ m. FaultBeyond m.line good.fault) (m ∷ rest) = subst (All (λ m. FaultBeyond m.line good.fault)) e (fault_comes_last number state lines n) in
+      record {
+        members = ascending_beyond m.line (suc m.line) rest (omega arith) ascend.1;
+        fault = All-head (λ (m : Member A). FaultBeyond m.line good.fault) m rest last;
+      }
+
 -- what is good of the lines that are left, for a reader with nothing ahead
 pub coming_is : {S A State : Type 0} (left : S → Option (List ℕ)) (reader : MemberReader S A State) → reader.ahead ≡ None → reader.fault ≡ None
     → good_coming left reader ≡ option_map (good_from reader.format (input_of reader.below) reader.state) (lines_left left reader.below)
@@ -129,6 +141,21 @@ beyond_known format input state number (Some bytes) (Some good) count line e f a
     let is : good ≡ good_from format input state (lines_from number bytes) = cc in
     subst (IsBeyond count) (sym is)
     (beyond_first format input state number (lines_from number bytes) f.1 f.0 count (lines_are_numbered number bytes) (sym (ap (λ g. g.members) is) ∙ f.2) (at ∙ sym f.3))
+
+-- this member comes first, and the others behind its line
+abbrev pub ComesFirst : {A : Type 0} → Member A → Good A → Type 0
+ComesFirst {A} m good = (rest : List (Member A)) × (good.members ≡ m ∷ rest) × IsBeyond m.line (record { members = rest; fault = good.fault })
+
+after_known : {A State : Type 0} (format : Format A State) (input : Input) (state : State) (number : ℕ) (bytes : Option (List ℕ)) (good : Option (Good A)) (m : Member A)
+    → good ≡ option_map (good_from format input state) (option_map (lines_from number) bytes)
+    → IfSome good (λ good. (rest : List (Member A)) × (good.members ≡ m ∷ rest)) → IfSome good (ComesFirst m)
+after_known format input state number None None m e f = tt
+after_known format input state number None (Some good) m e f = cc
+after_known format input state number (Some bytes) None m e f = tt
+after_known format input state number (Some bytes) (Some good) m e f =
+    let is : good ≡ good_from format input state (lines_from number bytes) = cc in
+    subst (ComesFirst m) (sym is)
+    (f.0, sym (ap (λ g. g.members) is) ∙ f.1, after_first format input state number (lines_from number bytes) f.0 m (lines_are_numbered number bytes) (sym (ap (λ g. g.members) is) ∙ f.1))
 
 -- of the lines behind those given, where the last call gave one, at most a block was taken
 near_passed : (start now : Option (List TextLine)) (rest : Option (List ℕ)) (passed more : ℕ) → more ≡ passed
@@ -187,6 +214,10 @@ module _ {S A State : Type 0} (left : S → Option (List ℕ)) (failed end : S �
       → m.line ≡ suc (stops_given m new gives next clear).0
   unfolding stops_given stops_at
   given_next m new gives next clear = let up = gives.rises none in omega (arith, gives.at none, up.0)
+
+  -- what comes behind a member that was given
+  pub comes_first : (m : Member A) → IfSome (good_coming left old) (λ good. (rest : List (Member A)) × (good.members ≡ m ∷ rest)) → IfSome (good_coming left old) (ComesFirst m)
+  comes_first m first = after_known old.format (input_of old.below) old.state (suc (lines_given old.below)) _ (good_coming left old) m (coming_is left old none going) first
 
   pub stops_ended : (new : MemberReader S A State) → EndsMembers left failed old new → lines_given old.below ≤ lines_given new.below
       → (count : ℕ) × StopsBehind left old count new.below

@@ -14,6 +14,7 @@ use Rattle.bt_sweep.proofs.SweepsLemmas.{faultless_all, subtract_met}
 use Rattle.bt_tool.specs.Behaviour.{of_intersect, of_subtract}
 use Rattle.bt_tool.specs.Inputs.{or_empty}
 use Rattle.bt_tool.specs.SweepReport.{intersect_settles, records_on, subtract_settles}
+use Rattle.bt_tool.specs.Telling.{IsFaultButWrite}
 use Rattle.bt_tool.specs.Writing.{WritesBy}
 use Rattle.bt_tool.proofs.WritingLemmas.{near_as}
 
@@ -37,7 +38,7 @@ module _ {A B : Type 0} (a_left : A → Option (List ℕ)) (a_failed a_end : A �
     grows = w.grows;
     served = w.served;
     near = λ one two before taken holds holds_second put took.
-        near_as _ _ (λ lines beside. beside) _ _ (settles_left order whole rule (or_empty two)) one.text (a_left first_after) before grown.took grown.took (grown.has_failed ≡ true) (grown.has_failed ≡ true) grown.put grown.put
-        (λ size took. took) (λ size kept. kept) (w.near one two before taken holds holds_second put took);
+        near_as _ _ (λ lines beside. beside) _ _ (settles_left order whole rule (or_empty two)) one.text (a_left first_after) before grown.took grown.took (grown.has_failed ≡ true) (grown.has_failed ≡ true) (IsFaultButWrite fault) (IsFaultButWrite fault) grown.put grown.put
+        (λ size took. took) (λ size kept. kept) (λ bytes is stops. is stops) (w.near one two before taken holds holds_second put took);
     named = w.named;
   }

@@ -12,7 +12,7 @@ use Rattle.bt_tool.specs.Behaviour.{Behaviour, behaviour_of}
 use Rattle.bt_tool.specs.Coming.{IsWhole}
 use Rattle.bt_tool.specs.Inputs.{HandsUpToIf, Holds, HoldsIf, ServesIf}
 use Rattle.bt_tool.specs.RecordReport.{Report}
-use Rattle.bt_tool.specs.Telling.{IsOfInput, IsPutTo, IsReported, ReadsNoFurther, TellsInput}
+use Rattle.bt_tool.specs.Telling.{IsFaultButWrite, IsOfInput, IsPutTo, IsReported, ReadsNoFurther, TellsInput}
 use Rattle.bt_tool.specs.Writing.{WritesAlone, WritesBy}
 use Rattle.bt_tool.specs.declared.plan_type.Command.{Command}
 
@@ -27,13 +27,15 @@ serves_none failed (Some source) = refl
 
 -- how far an input was read, by lines that settle the same, more that is said beside it, and what was taken and put later
 pub near_as : (Beside More : List TextLine → Type 0) → ((lines : List TextLine) → Beside lines → More lines) → (mine yours : List TextLine → List ℕ) → ((lines : List TextLine) → mine lines ≡ yours lines)
-    → (text : List ℕ) (left : Option (List ℕ)) (before : List ℕ) (took more : Option (List ℕ)) (Cut Failed : Type 0) (put later : Option (List ℕ))
+    → (text : List ℕ) (left : Option (List ℕ)) (before : List ℕ) (took more : Option (List ℕ)) (Cut Failed Stopped Stops : Type 0) (put later : Option (List ℕ))
     → ((size : ℕ) → IfSome took (λ taken. size ≤ length taken + block_size) → IfSome more (λ taken. size ≤ length taken + block_size))
-    → ((size : ℕ) → Cut ⊎ IsPutTo size put → Failed ⊎ IsPutTo size later)
-    → ReadsNoFurther Beside mine text left before took Cut put → ReadsNoFurther More yours text left before more Failed later
-near_as Beside More adds mine yours same text left before took more Cut Failed put later takes keeps near =
-    let size : ℕ = length (before ++ yours (take (near.n - 1) (text_lines text))) in
-    let is : length (before ++ mine (take (near.n - 1) (text_lines text))) ≡ size = ap (λ l. length (before ++ l)) (same (take (near.n - 1) (text_lines text))) in
+    → ((size : ℕ) → Cut ⊎ IsPutTo size put → Failed ⊎ IsPutTo size later) → ((bytes : List ℕ) → (Stopped → put ≡ Some bytes) → Stops → later ≡ Some bytes)
+    → ReadsNoFurther Beside mine text left before took Cut Stopped put → ReadsNoFurther More yours text left before more Failed Stops later
+near_as Beside More adds mine yours same text left before took more Cut Failed Stopped Stops put later takes keeps stays near =
+    let bytes : List ℕ = before ++ yours (take (near.n - 1) (text_lines text)) in
+    let size : ℕ = length bytes in
+    let equal : before ++ mine (take (near.n - 1) (text_lines text)) ≡ bytes = ap (λ l. before ++ l) (same (take (near.n - 1) (text_lines text))) in
+    let is : length (before ++ mine (take (near.n - 1) (text_lines text))) ≡ size = ap length equal in
     record {
       n = near.n;
       some = near.some;
@@ -42,6 +44,7 @@ near_as Beside More adds mine yours same text left before took more Cut Failed p
       read = near.read;
       settled = takes size (subst (λ n. IfSome took (λ taken. n ≤ length taken + block_size)) is near.settled);
       kept = keeps size (subst (λ n. Cut ⊎ IsPutTo n put) is near.kept);
+      exact = stays bytes (λ stops. near.exact stops ∙ ap Some equal);
       beside = adds (take near.n (text_lines text)) near.beside;
     }
 
@@ -75,8 +78,8 @@ module _ {A B : Type 0} (a_left : A → Option (List ℕ)) (a_failed a_end : A �
           ((s.0.0, serves_none b_failed second), s.1);
       near = λ one two before taken holds others put known.
           near_as _ (λ lines. a_end first_after ≡ false → HandsUpToIf b_left (yours.reaches two lines + block_size) second second) (λ lines beside end. hands_none b_left second two (yours.reaches two lines + block_size) others)
-          (mine.settles None) (yours.settles two) (same_settle two) one.text (a_left first_after) before grown.took grown.took (grown.has_failed ≡ true) (grown.has_failed ≡ true) grown.put grown.put
-          (λ size took. took) (λ size kept. kept) (w.near one None before taken holds tt put known);
+          (mine.settles None) (yours.settles two) (same_settle two) one.text (a_left first_after) before grown.took grown.took (grown.has_failed ≡ true) (grown.has_failed ≡ true) (IsFaultButWrite fault) (IsFaultButWrite fault) grown.put grown.put
+          (λ size took. took) (λ size kept. kept) (λ bytes is stops. is stops) (w.near one None before taken holds tt put known);
       named = λ t e. elim (w.named t e) [
         | inl tells ↦ elim tells [ inl tells ↦ inl (inl (same_kinds t tells)) | inr none ↦ absurd none ]
         | inr tells ↦ inr tells

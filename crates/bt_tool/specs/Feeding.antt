@@ -1,5 +1,5 @@
 -- What feeding an engine with the members of a reader does to the devices.
-use Rattle.std.specs.Prelude.{◌≡◌, ℕ, ◌+◌, ◌^◌, ◌<◌, ◌≤◌, ◌⊎◌, Bool, true, List, [], ◌++◌}
+use Rattle.std.specs.Prelude.{◌≡◌, ◌≢◌, ℕ, ◌+◌, ◌^◌, ◌<◌, ◌≤◌, ◌⊎◌, Bool, true, List, [], ◌++◌}
 use Rattle.std.specs.Prelude.{length, Option, Some, None, Result, Ok, Err, IfSome}
 use Rattle.bt_lines.specs.Fault.{Told, write_failed}
 use Rattle.bt_lines.specs.Names.{told}
@@ -103,7 +103,7 @@ module _ {S A State : Type 0} (settled : List A → List ℕ) (Kinds : Kind → 
   pub record StopsGrowing (old : MemberReader S A State) (out : Output) (past : List (Member A))
       (fault : Told) (new : MemberReader S A State) (grown : Output) : Type 0 where
     pub lacks : LacksMemory left failed end old fault new
-    pub puts : PutsFront out (settled (member_items past)) grown
+    pub puts : PutsLines out (settled (member_items past)) grown
     pub works : WorksAsBefore out grown
 
   -- the sink failed
@@ -128,6 +128,8 @@ module _ {S A State : Type 0} (settled : List A → List ℕ) (Kinds : Kind → 
     pub begins : IfSome (good_coming left old)
         (λ good. (rest : List (Member A)) × (good.members ≡ past ++ rest))
     pub cause : StopCause old out past fault new grown
+    -- unless a write failed, what was put is what the members of the lines before settle
+    pub exact : fault ≢ write_failed → PutsLines out (settled (member_items took.before)) grown
 
   -- what feeding an engine with all members does
   abbrev pub FeedsMembers : {T : Type 0} → (List A → Type 0) → MemberReader S A State → Output

@@ -11,7 +11,8 @@ use Rattle.bt_bed.specs.Genome.{Entry}
 use Rattle.bt_bed.specs.LineKind.{is_genome_kind}
 use Rattle.bt_tool.specs.Behaviour.{behaviour_of}
 use Rattle.bt_tool.specs.Kinds.{IsOneOf}
-use Rattle.bt_tool.specs.Telling.{IsOfInput, ReadsNoFurther, TellsDevice, TellsInput, TellsInputIf}
+use Rattle.bt_tool.specs.Telling.{IsFaultButWrite, IsOfInput, ReadsNoFurther, TellsDevice}
+use Rattle.bt_tool.specs.Telling.{TellsInput, TellsInputIf}
 use Rattle.bt_tool.specs.Inputs.{HandsUpToIf, HoldsIf, Holds, Inputs, Reads, ReadsIf, ServesIf}
 use Rattle.bt_tool.specs.Report.{chromosomes_of, reaches_on, report_of, settles_on}
 use Rattle.bt_tool.specs.declared.plan_type.Command.{Command}
@@ -83,16 +84,17 @@ module _ {G A B K : Type 0} (g_left : G → Option (List ℕ)) (g_failed : G →
         × ((report_of command inputs).output ≡ front ++ rest)
     -- However the run ends, where the devices tell their bytes: for some n, the first input handed
     -- over its first n lines and a block at most, and what its first n - 1 lines settle was written,
-    -- but for a block where a write failed: any other fault, want of memory among them, loses none
-    -- of it. Where the first input's end wasn't told, the second handed over what those n
-    -- lines ask for and a block at most.
+    -- but for a block where a write failed. At any other fault, want of memory among them, what was
+    -- written is just that, no less and no more. Where the first input's end wasn't told, the second
+    -- handed over what those n lines ask for and a block at most.
     pub near : (inputs : Inputs) (before : List ℕ) → HoldInputs genome first second inputs
         → k_took out ≡ Some before
         → ReadsNoFurther (λ lines. a_end first_after ≡ false
         → HandsUpToIf b_left (reaches_on command (chromosomes_of inputs.genome) inputs.second lines
         + block_size) second second_after)
         (settles_on command (chromosomes_of inputs.genome) inputs.second) inputs.first.text
-        (a_left first_after) before (k_took out_after) (fault ≡ Some write_failed) (k_took out_after)
+        (a_left first_after) before (k_took out_after) (fault ≡ Some write_failed)
+        (IsFaultButWrite fault) (k_took out_after)
     -- Whatever the devices do, known or not: a run that ends without a fault has met no failure of
     -- a device that it used. So a failed read or write never ends with status 0.
     pub served : fault ≡ None

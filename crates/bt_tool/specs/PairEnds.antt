@@ -11,9 +11,10 @@ use Rattle.bt_lines.specs.declared.fault.Kind.{Kind}
 use Rattle.bt_bed.specs.Good.{Member, items_in}
 use Rattle.bt_bed.specs.LineKind.{fault_at_line}
 use Rattle.bt_bed.specs.Reading.{MemberReader, good_coming}
-use Rattle.bt_tool.specs.Feeding.{CutsLines, PutsFront, PutsLines, TookButBlock, member_items}
+use Rattle.bt_tool.specs.Feeding.{CutsLines, PutsLines, TookButBlock, member_items}
 use Rattle.bt_tool.specs.Pair.{Making, Pair, Serves, Settles}
 use Rattle.bt_tool.specs.Passed.{AreAll, HasFaultBehind, IsReadFor, IsReadTo}
+use Rattle.bt_tool.specs.Telling.{IsFaultButWrite}
 
 -- the members of the second input are known
 abbrev pub IsKnown : {A B X Y U V : Type 0} → Pair A B X Y U V → Type 0
@@ -144,7 +145,7 @@ module _ {A B X Y U V : Type 0} (making : Making X Y) (pair : Pair A B X Y U V)
   Why written bytes given ended first second fault grown =
       (InputsEnd written given ended first second fault × PutsLines out bytes grown
       × WorksAsBefore out grown)
-      ⊎ (((fault ≡ Some no_memory) × PutsFront out bytes grown)
+      ⊎ (((fault ≡ Some no_memory) × PutsLines out bytes grown)
       ⊎ ((fault ≡ Some write_failed) × CutsLines out bytes grown))
 
   -- of the second input nothing was read but what these members of the first ask for
@@ -175,3 +176,5 @@ module _ {A B X Y U V : Type 0} (making : Making X Y) (pair : Pair A B X Y U V)
     pub wrote : Wrote written bytes first second grown
     pub why : Why written bytes wrote.given wrote.ended first second fault grown
     pub near : StaysNear first second grown
+    -- at a fault, unless a write failed, those bytes were put
+    pub exact : IsFaultButWrite fault → PutsLines out near.bytes grown

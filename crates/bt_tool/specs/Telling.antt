@@ -1,6 +1,6 @@
 -- What a run tells: the fault, and how far it read and wrote.
 use Rattle.std.specs.Prelude.{◌≡◌, ◌≢◌, ℕ, ◌+◌, ◌-◌, ◌^◌, ◌≤◌, ◌⊎◌, Bool, true, List, ◌++◌, length}
-use Rattle.std.specs.Prelude.{take, Option, Some, IfSome}
+use Rattle.std.specs.Prelude.{take, Option, Some, None, IfSome}
 use Rattle.std.specs.Io.KnownBytes.{Consumes}
 use Rattle.bt_lines.specs.Fault.{Told, read_failed, no_memory, write_failed}
 use Rattle.bt_lines.specs.Lines.{TextLine, bytes_in, text_lines}
@@ -57,13 +57,17 @@ TellsDevice sink_failed fault =
 abbrev pub IsPutTo : ℕ → Option (List ℕ) → Type 0
 IsPutTo size put = (bytes : List ℕ) × (put ≡ Some bytes) × (size ≤ length bytes)
 
+-- a fault is told, and it isn't a failed write
+abbrev pub IsFaultButWrite : Option Told → Type 0
+IsFaultButWrite fault = (fault ≢ None) × (fault ≢ Some write_failed)
+
 -- How far an input was read beside what was written: for some n, at least 1, it handed over at most
 -- its first n lines and a block, and what its first n - 1 lines settle was taken but for a block.
--- Unless a write failed, all of it was put. What is said beside it of those n lines is how far
--- another input was read.
+-- Unless a write failed, all of it was put; and nothing more, where a fault stopped the run. What is
+-- said beside it of those n lines is how far another input was read.
 pub record ReadsNoFurther (Beside : List TextLine → Type 0) (settles : List TextLine → List ℕ)
     (text : List ℕ) (left : Option (List ℕ)) (before : List ℕ)
-    (took : Option (List ℕ)) (WriteFailed : Type 0) (put : Option (List ℕ)) : Type 0 where
+    (took : Option (List ℕ)) (WriteFailed Stopped : Type 0) (put : Option (List ℕ)) : Type 0 where
   pub n : ℕ
   pub some : 1 ≤ n
   pub handed : List ℕ
@@ -73,6 +77,7 @@ pub record ReadsNoFurther (Beside : List TextLine → Type 0) (settles : List Te
       length (before ++ settles (take (n - 1) (text_lines text))) ≤ length taken + block_size)
   pub kept : WriteFailed
       ⊎ IsPutTo (length (before ++ settles (take (n - 1) (text_lines text)))) put
+  pub exact : Stopped → put ≡ Some (before ++ settles (take (n - 1) (text_lines text)))
   pub beside : Beside (take n (text_lines text))
 
 -- the report is what came: its fault, and its output after what was put before

@@ -9,8 +9,8 @@ use Rattle.bt_bed.specs.Feature.{Feature}
 use Rattle.bt_bed.specs.Order.{Order}
 use Rattle.bt_tool.specs.Behaviour.{Behaviour, of_records}
 use Rattle.bt_tool.specs.Inputs.{HandsUpToIf, Holds, HoldsIf, Reads, ReadsIf, ServesIf}
-use Rattle.bt_tool.specs.Telling.{IsOfInput, IsReported, ReadsNoFurther, TellsDevice, TellsInput}
-use Rattle.bt_tool.specs.Telling.{TellsInputIf}
+use Rattle.bt_tool.specs.Telling.{IsFaultButWrite, IsOfInput, IsReported, ReadsNoFurther}
+use Rattle.bt_tool.specs.Telling.{TellsDevice, TellsInput, TellsInputIf}
 use Rattle.bt_tool.specs.Written.{Written}
 
 module _ {A B : Type 0} (a_left : A → Option (List ℕ)) (a_failed a_end : A → Bool)
@@ -52,7 +52,7 @@ module _ {A B : Type 0} (a_left : A → Option (List ℕ)) (a_failed a_end : A �
         → ReadsNoFurther (λ lines. a_end first_after ≡ false
         → HandsUpToIf b_left (behaviour.reaches two lines + block_size) second second_after)
         (behaviour.settles two) one.text (a_left first_after) before grown.took
-        (grown.has_failed ≡ true) grown.put
+        (grown.has_failed ≡ true) (IsFaultButWrite fault) grown.put
     -- what the fault may be, whatever the devices do
     pub named : (told : Told) → fault ≡ Some told
         → (TellsInput a_left a_failed behaviour.FirstKinds First first first_after told

@@ -48,7 +48,7 @@ returns-in-Ok-clause-written g c =
     ends.0 (view_of c.mask_all-masked.new.records) c.into_source-first.result c.into_source-second.result ended ended_second fault c.mask_all-masked.new.out ends.2
     (mask_settles c.args.how c.args.full) (mask_reaches c.args.full)
     (near_both making pair c.args.out.now (sequence_format c.args.full) block_format (λ two. good_in_blocks Second two) (mask_needs c.args.how) c.args.first c.args.second begins begins_second
-    ends.0 (view_of c.mask_all-masked.new.records) c.into_source-first.result c.into_source-second.result ended ended_second c.mask_all-masked.new.out ends.2.near)
+    ends.0 (view_of c.mask_all-masked.new.records) c.into_source-first.result c.into_source-second.result ended ended_second fault c.mask_all-masked.new.out ends.2)
 
 pub returns-clause-written : goal.returns-clause-written
 returns-clause-written g c =
@@ -69,7 +69,7 @@ returns-clause-written g c =
     ends.0 (view_of c.mask_all-masked.new.records) c.into_source-first.result c.into_source-second.result ended ended_second fault c.mask_all-masked.new.out ends.2
     (mask_settles c.args.how c.args.full) (mask_reaches c.args.full)
     (near_both making pair c.args.out.now (sequence_format c.args.full) block_format (λ two. good_in_blocks Second two) (mask_needs c.args.how) c.args.first c.args.second begins begins_second
-    ends.0 (view_of c.mask_all-masked.new.records) c.into_source-first.result c.into_source-second.result ended ended_second c.mask_all-masked.new.out ends.2.near)
+    ends.0 (view_of c.mask_all-masked.new.records) c.into_source-first.result c.into_source-second.result ended ended_second fault c.mask_all-masked.new.out ends.2)
 
 pub returns-in-Ok-clause-own_failure : goal.returns-in-Ok-clause-own_failure
 returns-in-Ok-clause-own_failure g c = tells_nothing ⊥ _ _ None refl

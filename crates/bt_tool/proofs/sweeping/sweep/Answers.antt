@@ -60,7 +60,7 @@ returns-in-Ok-clause-written g c =
     (view_of c.read_both-swept.new.first) (view_of c.read_both-swept.new.second) c.into_source-first.result c.into_source-second.result ended ended_second None c.read_both-swept.new.out ends
     (intersect_settles order c.args.shape c.args.rule) (intersect_reaches order)
     (near_both making pair c.args.out.now format format (λ two. placed_good Second order two c.requires.total) (sweep_needs order c.args.shape c.args.rule c.args.limit) c.args.first c.args.second begins begins_second
-    (view_of c.read_both-swept.new.first) (view_of c.read_both-swept.new.second) c.into_source-first.result c.into_source-second.result ended ended_second c.read_both-swept.new.out ends.near)
+    (view_of c.read_both-swept.new.first) (view_of c.read_both-swept.new.second) c.into_source-first.result c.into_source-second.result ended ended_second None c.read_both-swept.new.out ends)
 
 pub returns-clause-written : goal.returns-clause-written
 returns-clause-written g c =
@@ -83,7 +83,7 @@ returns-clause-written g c =
     (view_of c.read_both-swept.new.first) (view_of c.read_both-swept.new.second) c.into_source-first.result c.into_source-second.result ended ended_second fault c.read_both-swept.new.out ends
     (intersect_settles order c.args.shape c.args.rule) (intersect_reaches order)
     (near_both making pair c.args.out.now format format (λ two. placed_good Second order two c.requires.total) (sweep_needs order c.args.shape c.args.rule c.args.limit) c.args.first c.args.second begins begins_second
-    (view_of c.read_both-swept.new.first) (view_of c.read_both-swept.new.second) c.into_source-first.result c.into_source-second.result ended ended_second c.read_both-swept.new.out ends.near)
+    (view_of c.read_both-swept.new.first) (view_of c.read_both-swept.new.second) c.into_source-first.result c.into_source-second.result ended ended_second fault c.read_both-swept.new.out ends)
 
 pub returns-in-Ok-clause-own_failure : goal.returns-in-Ok-clause-own_failure
 returns-in-Ok-clause-own_failure g c = tells_nothing ⊥ _ _ None refl
