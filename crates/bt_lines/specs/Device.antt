@@ -1,5 +1,6 @@
 -- What calls of a device do.
-use Rattle.std.specs.Prelude.{◌≡◌, ℕ, ◌+◌, ⊤, Bool, true, ◌||◌, ◌&&◌, List, length, ◌==◌, nat_lt}
+use Rattle.std.specs.Prelude.{◌≡◌, ℕ, ◌+◌, Bool, true, false, ◌||◌, ◌&&◌, List, length, ◌==◌}
+use Rattle.std.specs.Prelude.{nat_lt}
 use Rattle.std.specs.Prelude.{Option, Some, None, Result, MatchResult}
 
 -- a read tells the end by an answer of 0 to a block with room; once told, it stays told
@@ -7,10 +8,11 @@ abbrev pub TellsEnd : {E : Type 0} → Bool → Bool → Result ℕ E → List �
 TellsEnd old new result block =
     MatchResult result (λ n. new ≡ (old || ((n == 0) && nat_lt 0 (length block)))) (λ _. new ≡ old)
 
--- what a read says that tells nothing but whether it failed
-abbrev pub TellsFailure : Option ℕ → Bool → Type 0
-TellsFailure None has_failed = has_failed ≡ true
-TellsFailure (Some count) has_failed = ⊤
+-- what a read tells of whether its source has failed, by whether it had before: one that serves
+-- comes before the first that fails
+abbrev pub TellsFailure : Option ℕ → Bool → Bool → Type 0
+TellsFailure None had_failed has_failed = has_failed ≡ true
+TellsFailure (Some count) had_failed has_failed = (had_failed ≡ false) × (has_failed ≡ false)
 
 -- Reads that served made the one source the other, and gave so many bytes in all.
 pub data ReadsOn {S : Type 0} (IsRead : S → Option ℕ → S → Type 0) (first : S)

@@ -217,8 +217,8 @@ module _ {S : Type 0} where
     -- once it is reached, nothing more is read
     pub again : has_ended old ≡ true → new ≡ old
 
-  -- why the first fault came: the source failed in this call, the text is too long,
-  -- or memory ran out
+  -- a failed read: the source has failed, or the text is too long (that a read of this call
+  -- failed `TellsReads` says)
   pub record FailsToRead (left : S → Option (List ℕ)) (failed : S → Bool) (old : LineReader S)
       (fault : Told) (new : LineReader S) : Type 0 where
     pub is : fault ≡ read_failed (input_of old) (suc (lines_given old))

@@ -12,10 +12,11 @@ pub record Reading : Type 0 where
   pub has_failed : Bool
   pub end_told : Bool
 
--- a read of a script gave so many bytes, or failed
+-- a read of a script gave so many bytes, or failed and gave none
 abbrev pub IsScriptRead : Reading → Option ℕ → Reading → Type 0
-IsScriptRead before None after = after.has_failed ≡ true
-IsScriptRead before (Some count) after = after.given ≡ before.given + count
+IsScriptRead before None after = (after.given ≡ before.given) × (after.has_failed ≡ true)
+IsScriptRead before (Some count) after =
+    (after.given ≡ before.given + count) × (after.has_failed ≡ before.has_failed)
 
 -- a sink that takes at most step bytes a call, and fails once good bytes were taken
 pub record Writing : Type 0 where

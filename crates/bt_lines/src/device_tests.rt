@@ -68,6 +68,17 @@ fn a_writer_that_failed_is_asked_no_more(rt: HostRuntime) {
     assert_eq!(rt; sink.into_inner().calls, 1);
 }
 
+#[test]
+fn a_flush_that_failed_is_asked_for_no_more(rt: HostRuntime) {
+    let mut sink = ToWrite::new(FailsFirst { calls: 0 });
+    for _ in 0..3 {
+        assert_eq!(rt; sink.flush(), Err(DeviceFailed));
+    }
+    assert_eq!(rt; sink.write(b"chr1"), Err(DeviceFailed));
+    assert!(rt; sink.failed());
+    assert_eq!(rt; sink.into_inner().calls, 1);
+}
+
 // A source that failed before, and serves now.
 #[derive(Drop)]
 struct ServesAgain {

@@ -54,7 +54,7 @@ impl<R: Read> Source for FromRead<R> {
 
     ghost end_told = { read_end_told };
 
-    ghost is_read = { λ _ count after. TellsFailure count (read_has_failed after) };
+    ghost is_read = { λ before count after. TellsFailure count (read_has_failed before) (read_has_failed after) };
 
     fn read(&mut self, block: &mut [u8]) -> Result<usize, DeviceFailed>
         ensures within { IfOk result (λ n. n ≤ length block.new) }
@@ -62,6 +62,8 @@ impl<R: Read> Source for FromRead<R> {
             (R.remaining (reader_of self.new)) result block.new }
         ensures served { OnOk result (read_has_failed self.new ≡ read_has_failed self.old) }
         ensures failed { OnErr result (read_has_failed self.new ≡ true) }
+        ensures counted { OnOk result
+            ((read_has_failed self.old ≡ false) × (read_has_failed self.new ≡ false)) }
         ensures refused { OnErr result (read_has_failed self.new ≡ true) }
         ensures end { TellsEnd (read_end_told self.old) (read_end_told self.new) result block.new }
         ensures for_good { IsTrue (read_has_failed self.old) → IsErr result × (self.new ≡ self.old) }

@@ -125,7 +125,10 @@ impl Source for ScriptSource<'_> {
             (Some (drop self.new.given self.new.bytes)) result block.new }
         ensures served { OnOk result (self.new.has_failed ≡ self.old.has_failed) }
         ensures failed { OnErr result (self.new.has_failed ≡ true) }
-        ensures refused { OnErr result (self.new.has_failed ≡ true) }
+        ensures counted { IfOk result (λ n. (self.new.given ≡ self.old.given + n)
+            × (self.new.has_failed ≡ self.old.has_failed)) }
+        ensures refused { OnErr result
+            ((self.new.given ≡ self.old.given) × (self.new.has_failed ≡ true)) }
         ensures end { TellsEnd self.old.end_told self.new.end_told result block.new }
 
         ensures spent { IsErr result ↔ IsTrue (is_spent self.old.good self.old.given) }

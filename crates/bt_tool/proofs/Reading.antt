@@ -141,7 +141,7 @@ module _ (table : Table) (words : List (String Global)) (at : ℕ) (word : Strin
         has not_alone bad)
 
 -- the words from an index on are still to come: all words give what these give
-pub record ReadsOn (table : Table) (words : List Word) (at : ℕ) : Type 0 where
+pub record HasReadWords (table : Table) (words : List Word) (at : ℕ) : Type 0 where
   pub fault : word_fault table 1 (drop 1 words) ≡ word_fault table at (drop at words)
 
 -- and where these do not name an option, what is kept of it
@@ -173,7 +173,7 @@ fault-moves table words at item h here = rw here (word_fault-item table at item 
 
 pub reads-on-item : (table : Table) (words : List Word) (at : ℕ) (item : Item)
     → IsItem table item → drop at words ≡ words_of item ++ drop (at + length (words_of item)) words
-    → ReadsOn table words at → ReadsOn table words (at + length (words_of item))
+    → HasReadWords table words at → HasReadWords table words (at + length (words_of item))
 reads-on-item table words at item h here reads = record { fault = reads.fault ∙ fault-moves table words at item h here }
 
 pub reads-item : (table : Table) (words : List Word) (option : Word) (at : ℕ) (kept next : Option Item) (item : Item)
@@ -198,5 +198,5 @@ pub reads-end : (table : Table) (words : List Word) (option : Word) (at : ℕ) (
     → drop at words ≡ [] → Reads table words option at kept → kept ≡ last_item option (items_of table (drop 1 words))
 reads-end table words option at kept over reads = sym (reads.last ∙ rw (over, items_of-end table) refl)
 
-pub reads-on-end : (table : Table) (words : List Word) (at : ℕ) → drop at words ≡ [] → ReadsOn table words at → word_fault table 1 (drop 1 words) ≡ None
+pub reads-on-end : (table : Table) (words : List Word) (at : ℕ) → drop at words ≡ [] → HasReadWords table words at → word_fault table 1 (drop 1 words) ≡ None
 reads-on-end table words at over reads = reads.fault ∙ rw over (word_fault-end table at)

@@ -42,7 +42,7 @@ use Rattle.bt_tool.specs.Feeding.{member_items}
 use Rattle.bt_tool.specs.Pair.{Making, Pair, Settles, item_ahead}
 use Rattle.bt_tool.specs.PairComes.{IsOpenAt}
 use Rattle.bt_tool.specs.PairEnds.{IsKnown}
-use Rattle.bt_tool.specs.SweepLoop.{AreWithin, FinishesBoth, ReadsOn, SweepEnds, Sweeps, records_pair, stage_of, sweep_making}
+use Rattle.bt_tool.specs.SweepLoop.{AreWithin, FinishesBoth, ReadsRest, SweepEnds, Sweeps, records_pair, stage_of, sweep_making}
 use Rattle.bt_bed.specs.Reading.{MemberReader}
 use Rattle.bt_tool.specs.Passed.{StopsAfter}
 use Rattle.bt_tool.specs.Turns.{EndsFirst, EndsSecond, FailsAtEnd, FailsFirst, FailsSecond, GivesFirst, HasAhead, LeavesSecond, StopsTurn, TakesSecond}
@@ -391,14 +391,14 @@ module _ {A B O : Type 0} {g : Ghosts O} (a_left : A → Option (List ℕ)) (a_f
       done : stage.a_ended ≡ true
       done = sym s.stands.done ∙ done_by sweep.waits sweep.done wants
 
-      pub finishes_both : {T : Type 0} (result : Result T Fault) (second_now : Records B O g) → ReadsOn b_left b_failed b_end (IsBedKind (order_in second)) (view_of second) result (view_of second_now)
+      pub finishes_both : {T : Type 0} (result : Result T Fault) (second_now : Records B O g) → ReadsRest b_left b_failed b_end (IsBedKind (order_in second)) (view_of second) result (view_of second_now)
           → FinishesBoth a_left a_failed a_end b_left b_failed b_end order shape rule limit old_first old_second out result first second_now grown
       finishes_both {T} (Ok unit) second_now reads =
-          let checks = subst (λ (o : Order). ReadsOn {T = T} b_left b_failed b_end (IsBedKind o) (view_of second) (Ok unit) (view_of second_now)) (s.second_placed.order ∙ same_order) reads (view_of old_second) s.past_second s.comes.second_passes wrong_bed in
+          let checks = subst (λ (o : Order). ReadsRest {T = T} b_left b_failed b_end (IsBedKind o) (view_of second) (Ok unit) (view_of second_now)) (s.second_placed.order ∙ same_order) reads (view_of old_second) s.past_second s.comes.second_passes wrong_bed in
           stop.ends_rest making pair out wrong wrong_second (stage_of stage) s.past_first s.past_second (view_of first) (view_of second) grown s.comes asked s.fits done (view_of second_now) checks.rises checks.passes.bytes (s.past_second ++ checks.more) None
           (inl (refl, checks.all, record { served = checks.passes.served; within = checks.passes.sound.within checks.passes.clear }, refl))
       finishes_both {T} (Err fault) second_now reads =
-          let checks = subst (λ (o : Order). ReadsOn {T = T} b_left b_failed b_end (IsBedKind o) (view_of second) (Err fault) (view_of second_now)) (s.second_placed.order ∙ same_order) reads (view_of old_second) s.past_second s.comes.second_passes wrong_bed in
+          let checks = subst (λ (o : Order). ReadsRest {T = T} b_left b_failed b_end (IsBedKind o) (view_of second) (Err fault) (view_of second_now)) (s.second_placed.order ∙ same_order) reads (view_of old_second) s.past_second s.comes.second_passes wrong_bed in
           stop.stops_rest making pair out wrong wrong_second (stage_of stage) s.past_first s.past_second (view_of first) (view_of second) grown s.comes asked s.fits done (view_of second_now) checks.rises (s.past_second ++ checks.more) (told fault)
           (stops_wider b_left b_failed b_end (view_of old_second) (IsBedKind order) making.second_kinds (λ kind of_bed. inl of_bed) (s.past_second ++ checks.more) (told fault) (view_of second_now) checks.stops)
           (λ e. checks.before_end (s.comes.second_all e).3) refl

@@ -162,9 +162,9 @@ module _ {S A State : Type 0} (left : S → Option (List ℕ)) (failed end : S �
       → ChecksRest Kinds result new
 
 -- reading on to the end, from wherever the reader stands
-abbrev pub ReadsOn : {S A State T : Type 0} → (S → Option (List ℕ)) → (S → Bool) → (S → Bool)
+abbrev pub ReadsRest : {S A State T : Type 0} → (S → Option (List ℕ)) → (S → Bool) → (S → Bool)
     → (Kind → Type 0) → MemberReader S A State → Result T Fault → MemberReader S A State → Type 0
-ReadsOn {S} {A} {State} {T} left failed end Kinds before result new =
+ReadsRest {S} {A} {State} {T} left failed end Kinds before result new =
     (old : MemberReader S A State) (past : List (Member A))
     → Checks left failed end old past before Kinds result new
 

@@ -13,7 +13,7 @@ ghost use Rattle.bt_sweep.specs.SweepView.{order_of, state_of};
 ghost use Rattle.bt_sweep.specs.SweepState.{want_in};
 ghost use Rattle.bt_tool.specs.Behaviour.{of_intersect};
 ghost use Rattle.bt_tool.specs.Passed.{KeepsOwnFault};
-ghost use Rattle.bt_tool.specs.SweepLoop.{FinishesBoth, ReadsOn, Sweeps, SweepsOrStops};
+ghost use Rattle.bt_tool.specs.SweepLoop.{FinishesBoth, ReadsRest, Sweeps, SweepsOrStops};
 ghost use Rattle.bt_tool.specs.OwnReads.{AnswersNoRead, IsOwnFailure, ReadsServe, TellsNoRead, TellsOwnReads};
 ghost use Rattle.bt_tool.specs.Turns.{TurnsFirst, TurnsSecond};
 ghost use Rattle.bt_tool.specs.Writing.{WritesBy};
@@ -104,7 +104,7 @@ fn sweep_all<A: Source, B: Source, O: ChromOrder, H: Held, K: Sink>(
 
 // Reads an input to its end, so that a fault after the last record that was asked for is reported.
 fn check_rest<B: Source, O: ChromOrder>(second: &mut Records<'_, B, O>) -> Result<(), Fault>
-    ensures reads { ReadsOn B.left B.has_failed B.end_told (IsBedKind (order_in second.old)) (view_of second.old) result (view_of second.new) }
+    ensures reads { ReadsRest B.left B.has_failed B.end_told (IsBedKind (order_in second.old)) (view_of second.old) result (view_of second.new) }
     ensures rest { fault_kept second.old ≡ None → AnswersNoRead result → HasRead B.is_read (below second.old) (below second.new) }
     ensures own_failure { fault_kept second.old ≡ None → KeepsOwnFault B.is_read (below second.old) (view_of second.new) }
 {

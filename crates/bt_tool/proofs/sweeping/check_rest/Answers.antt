@@ -6,7 +6,7 @@ use Rattle.bt_bed.specs.Bed.{feature_lent}
 use Rattle.bt_bed.specs.LineKind.{IsBedKind}
 use Rattle.bt_bed.specs.Records.{below, order_in, view_of}
 use Rattle.bt_bed.proofs.ResultLemmas.{passed_on}
-use Rattle.bt_tool.specs.SweepLoop.{ReadsOn}
+use Rattle.bt_tool.specs.SweepLoop.{ReadsRest}
 use Rattle.bt_tool.specs.Turns.{HasAhead}
 use Rattle.bt_tool.specs.OwnReads.{AnswersNoRead}
 use Rattle.bt_tool.proofs.PassedLemmas.{is_ahead, is_over, is_stopped, member_ahead}
@@ -20,7 +20,7 @@ loop-record-init g c = (reads_start g.B.Source.left g.B.Source.has_failed g.B.So
 pub returns-in_err-_record-clause-reads : goal.returns-in_err-_record-clause-reads
 returns-in_err-_record-clause-reads g c =
     let peek = rw c.in_err-_record.was at c.peek.follows.holds-at-none in
-    passed_on (λ r. ReadsOn g.B.Source.left g.B.Source.has_failed g.B.Source.end_told (IsBedKind (order_in c.args.second.now)) (view_of c.args.second.now) r (view_of c.peek.follows.lender-at-none)) c.from_residual.result c.in_err-_record.field-0.0
+    passed_on (λ r. ReadsRest g.B.Source.left g.B.Source.has_failed g.B.Source.end_told (IsBedKind (order_in c.args.second.now)) (view_of c.args.second.now) r (view_of c.peek.follows.lender-at-none)) c.from_residual.result c.in_err-_record.field-0.0
     c.from_residual.ensures.1
     (reads_stop g.B.Source.left g.B.Source.has_failed g.B.Source.end_told (view_of c.args.second.now) (view_of c.loop-record.second) c.loop-record.invariant.0 (IsBedKind (order_in c.args.second.now)) (view_of c.peek.follows.lender-at-none) (told c.in_err-_record.field-0.0)
     (is_stopped g.B.Source.left g.B.Source.has_failed g.B.Source.end_told c.loop-record.second c.peek.follows.lender-at-none (told c.in_err-_record.field-0.0) (record { answers = peek.answers; sound = peek.sound; order = peek.order })))

@@ -2,7 +2,7 @@ use Rattle.bt_tool.specs.ItemLent.{item_lent}
 use Rattle.bt_tool.specs.Plan.{words_seen}
 use Rattle.bt_tool.specs.TableLent.{table_lent}
 use Rattle.std.proofs.Common.{◌+◌, subst, sym}
-use Rattle.bt_tool.proofs.Reading.{ReadsOn, reads-on-item, reads-on-end, words-end}
+use Rattle.bt_tool.proofs.Reading.{HasReadWords, reads-on-item, reads-on-end, words-end}
 use Rattle.bt_tool.proofs.given.Given.read.Goals as goal
 
 pub loop-at-preserved : goal.loop-at-preserved
@@ -11,7 +11,7 @@ loop-at-preserved c =
     let words = words_seen c.args.words.now in
     let item = item_lent c.in_ok-item_at.field-0 in
     let next = reads-on-item table words c.loop-at.at item c.in_ok-item_at.ensures.item c.in_ok-item_at.ensures.here c.loop-at.invariant in
-    subst (λ n. ReadsOn table words (c.loop-at.at + n)) (sym c.len.ensures) next
+    subst (λ n. HasReadWords table words (c.loop-at.at + n)) (sym c.len.ensures) next
 
 pub invariant_of-result : goal.invariant_of-result
 invariant_of-result c =

@@ -1,11 +1,11 @@
 use Rattle.std.proofs.Common.{length, ◌-◌}
-use Rattle.bt_tool.proofs.Reading.{ReadsOn}
+use Rattle.bt_tool.proofs.Reading.{HasReadWords}
 use Rattle.bt_tool.specs.Plan.{words_seen}
 use Rattle.bt_tool.specs.TableLent.{table_lent}
 use Rattle.bt_tool.proofs.given.Given.read.Given as goal
 
 abbrev pub invariant-loop-at : goal.invariant-loop-at
-invariant-loop-at l = ReadsOn (table_lent l.table) (words_seen l.words) l.at
+invariant-loop-at l = HasReadWords (table_lent l.table) (words_seen l.words) l.at
 
 abbrev pub decreases-loop-at : goal.decreases-loop-at
 decreases-loop-at l = length l.words - l.at
