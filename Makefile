@@ -14,6 +14,9 @@ DATE := $(shell git log -1 --format=%ct 2> /dev/null || stat -c %Y CHANGELOG.md)
 DIST := dunekettle-$(VERSION)-$(shell uname -m)
 DEB = dunekettle-bedtools_$(VERSION)_$(shell dpkg --print-architecture).deb
 
+# The processor to build for, where it isn't the default of the kit, x86-64-v2: make -B CPU=x86-64-v3 needs one with AVX2.
+CPU ?=
+
 PROGRAM := bin/bedtools
 # What the prover and the compiler say.
 LOG := bin/build.log
@@ -31,7 +34,7 @@ all: $(PROGRAM)
 $(PROGRAM): $(SOURCES)
 	@mkdir -p bin
 	@echo "Proving what changed and building $@; the prover's output goes to $(LOG)."
-	@cd crates/bedtools && rt run -- merge -i /dev/null -g /dev/null > ../../$(LOG) 2>&1 || \
+	@cd crates/bedtools && rt run $(if $(CPU),--cpu $(CPU)) -- merge -i /dev/null -g /dev/null > ../../$(LOG) 2>&1 || \
 	{ tail -n 20 ../../$(LOG); echo "Not built: see $(LOG)."; exit 1; }
 	@cp crates/bedtools/out/bedtools $@
 	@printf 'Dunekettle %s\n' '$(VERSION)' > bin/version.txt

@@ -1,11 +1,10 @@
 -- Lemmas on a byte that is looked for in thirty-two bytes at once.
-use Rattle.std.proofs.Common.{Option, Some, None, ◌-◌, inl, inr, ◌≡◌, ℕ, ◌+◌, ◌*◌, ◌<◌, ◌≤◌, Bool, true, false, not, cond, List, [], length, take, drop, map, get_or, ◌∷◌, refl, sym, ap, ◌∙◌, arith, length-take}
+use Rattle.std.proofs.Common.{Option, Some, None, ◌-◌, inl, inr, ◌≡◌, ℕ, ◌+◌, ◌*◌, ◌<◌, ◌≤◌, Bool, true, false, not, cond, List, [], length, drop, map, get_or, ◌∷◌, refl, sym, ap, ◌∙◌, arith}
 use Rattle.std.proofs.lemmas.Bool.{cases_lt, eqb-true}
-use Rattle.std.proofs.lemmas.List.{get_or-drop, get_or-take, get_or_default, length-drop}
+use Rattle.std.proofs.lemmas.List.{get_or-drop, get_or_default, length-drop}
 use Rattle.std.proofs.lemmas.Simd.{length-chunk, leading_from_mask_l, run_in_chunk_fails, run_in_chunk_le, run_in_chunk_stops, trailing_mask_l}
 use Rattle.std.proofs.lemmas.List.Sums.{prefix_len-le-length}
-use Rattle.std.specs.List.{All, prefix_len}
-use Rattle.std.specs.Prelude.{◌==◌}
+use Rattle.std.specs.List.{prefix_len}
 use Rattle.std.specs.Simd.Lanes.{chunk, mask_l}
 use Rattle.memchr.specs.Find.{IsFirstByte, is_byte}
 use Rattle.bt_lines.specs.Early.{IsEarly, NoneFrom, StandsEarly}
@@ -46,19 +45,6 @@ stands_early width byte text from mask most room is some =
       is = eqb-true _ byte (run_in_chunk_stops (is_byte byte) text from width at 0 room counted inside);
       none = λ k d. run_in_chunk_fails (is_byte byte) text from width at d room counted k;
     }
-
--- none in the first bytes, nor in some behind them
-pub none_in_both : (byte : ℕ) (text : List ℕ) (from to : ℕ) → NoneFrom byte text 0 from → NoneFrom byte text from to → NoneFrom byte text 0 to
-none_in_both byte text from to front further = λ k d low high. elim (cases_lt k from) [
-  | inl before ↦ front k d low before
-  | inr behind ↦ further k d (omega (arith, behind)) high
-]
-
--- none of the first bytes
-pub clear_front : (byte : ℕ) (text : List ℕ) (n : ℕ) → n ≤ length text → NoneFrom byte text 0 n → All (λ b. (b == byte) ≡ false) (take n text)
-clear_front byte text n within none = λ k d h.
-    let small : k < n = omega (arith, length-take n text) in
-    ap (is_byte byte) (get_or-take n text k d small) ∙ none k d (omega arith) small
 
 not_true : (b : Bool) → (b ≡ true → ⊥) → b ≡ false
 not_true true h = absurd (h refl)

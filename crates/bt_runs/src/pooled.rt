@@ -218,5 +218,5 @@ fn has_passed(bed: &BedRef<'_>, chrom: &[u8], run: Run, gap: u64) -> bool
     requires gap_in_range { gap ≤ max_number }
     ensures { result ≡ is_passed gap (interval_of (feature_lent bed.now)) (run_at chrom.now run) }
 {
-    !is_same_name(chrom, bed.chrom) || run.stop + gap < bed.start
+    run.stop + gap < bed.start || !is_same_name(chrom, bed.chrom)
 }

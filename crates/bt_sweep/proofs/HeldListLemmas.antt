@@ -1,19 +1,23 @@
 -- Lemmas on a queue of held records.
-use Rattle.std.proofs.Common.{◌≡◌, cond, subst, nat_lt, ℕ, ◌+◌, ◌-◌, ◌<◌, ◌≤◌, Bool, true, false, List, [], ◌∷◌, ◌++◌, zero, suc, refl, sym, ap, ◌∙◌, add-one, append_assoc, arith, drop, filter, length, length-append, nat_le, option_to_list, slice_index_or, take}
+use Rattle.std.proofs.Common.{◌≡◌, cond, subst, nat_lt, ℕ, ◌+◌, ◌-◌, ◌<◌, ◌≤◌, Bool, true, false, List, [], ◌∷◌, ◌++◌, zero, suc, Some, refl, sym, ap, ◌∙◌, add-one, append_assoc, arith, drop, filter, length, length-append, nat_le, option_to_list, slice_index_or, take}
 use Rattle.std.proofs.Math.Bool.{or-false}
 use Rattle.std.proofs.lemmas.Bool.{le-ltb, leb-false, lt-ltb, ltb-false, ltb-true, or_parts}
 use Rattle.std.specs.Prelude.{All}
-use Rattle.std.specs.List.{AllByRecursion, list_any, slice_get}
+use Rattle.std.specs.List.{AllByRecursion, HoldsAt, list_any, slice_get}
 use Rattle.std.specs.List.Sorted.{IsNonDecreasingBy, IsPartitionPoint}
 use Rattle.std.proofs.lemmas.List.{get_or-drop, get_or_default, length-drop, take-append-drop}
 use Rattle.std.proofs.lemmas.List.Elements.{All-filter, filter-append, recursion_from_All}
+use Rattle.std.proofs.lemmas.Option.{get_or_from_slice_get, slice_get_within}
 use Rattle.std.proofs.lemmas.List.Kept.{IsNonDecreasingBy-filter}
 use Rattle.std.proofs.lemmas.List.Sorted.{IsNonDecreasingBy-push}
 use Rattle.bt_bed.specs.Feature.{Feature}
-use Rattle.bt_sweep.specs.Held.{HaveBases}
+use Rattle.bt_sweep.specs.Held.{EndAfter, EndFrom, HaveBases}
 
-abbrev start_of : Feature → ℕ
+abbrev pub start_of : Feature → ℕ
 start_of r = r.start
+
+abbrev pub stop_of : Feature → ℕ
+stop_of r = r.stop
 
 -- with one more that starts where the last does or behind it
 pub rises_push : (xs : List Feature) (last y : Feature) (n : ℕ) → n ≡ length xs → last ≡ slice_index_or xs (n - 1) last → last.start ≤ y.start
@@ -128,6 +132,26 @@ module _ (place : ℕ) where
     pub none_dropped : list_any (λ r. nat_le r.stop place) (take n xs) ≡ false → xs ≡ filter stays xs
     none_dropped none =
         sym (take-append-drop n xs) ∙ ap (λ l. l ++ drop n xs) (sym (pass_rec stays (take n xs) (none_rec (take n xs) none))) ∙ dropped
+
+module _ (xs : List Feature) (i : ℕ) (r : Feature) (found : slice_get xs i ≡ Some r) where
+  -- the record that is found at an index stands there
+  pub ends_there : (i < length xs) × HoldsAt (λ (b : Feature). b.stop ≡ r.stop) xs i
+  ends_there = (slice_get_within xs i r found, λ d. ap stop_of (get_or_from_slice_get xs i r d found))
+
+  -- where it starts at the place or behind it, it and those behind it end behind the place
+  pub end_after : (place : ℕ) → IsNonDecreasingBy (λ r. r.start) xs → HaveBases xs → place ≤ r.start → EndAfter place xs i
+  end_after place rises bases h k d low high =
+      let here = ap start_of (get_or_from_slice_get xs i r d found) in
+      omega (arith, h, here, rises i k d low high, bases k d high)
+
+module _ (place least : ℕ) (xs : List Feature) (n : ℕ) (first : EndFrom least xs n) (rest : EndAfter place xs n) (h : place < least) where
+  stay_by : (k : ℕ) (d : Feature) → k < length xs → (c : Bool) → nat_lt k n ≡ c → nat_lt place (slice_index_or xs k d).stop ≡ true
+  stay_by k d within true e = lt-ltb place _ (omega (arith, h, first k d (omega arith) (ltb-true k n e)))
+  stay_by k d within false e = lt-ltb place _ (rest k d (ltb-false k n e) within)
+
+  -- where the first ones end behind the place, and the rest do, none has ended
+  pub none_ended : xs ≡ filter (λ r. nat_lt place r.stop) xs
+  none_ended = sym (all_pass (λ r. nat_lt place r.stop) xs (λ k d within. stay_by k d within (nat_lt k n) refl))
 
 -- they rise and have bases where others did of which they are some
 pub rises_on : (p : Feature → Bool) (xs items : List Feature) → items ≡ filter p xs → IsNonDecreasingBy (λ r. r.start) xs → IsNonDecreasingBy (λ r. r.start) items

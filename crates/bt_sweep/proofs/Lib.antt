@@ -19,6 +19,5 @@ pub mod WalkLemmas
 pub mod PlainPieceLemmas
 pub mod StartedLemmas
 pub mod HeldListLemmas
-pub mod EndLemmas
 pub mod OpenLemmas
 pub mod LimitLemmas

@@ -14,6 +14,5 @@ pub mod StateSteps
 pub mod PlainPieces
 pub mod Held
 pub mod HeldList
-pub mod Ends
 pub mod HeldIndex
 pub mod SweepView

@@ -1,6 +1,6 @@
 -- What the calls of a sweep do.
-use Rattle.std.specs.Prelude.{◌≡◌, ◌⊎◌, ℕ, ◌<◌, Bool, true, false, cond, List, [], Option}
-use Rattle.std.specs.Prelude.{Some, None, Result, Ok, Err, filter, length, nat_lt}
+use Rattle.std.specs.Prelude.{◌≡◌, ◌⊎◌, ℕ, Bool, true, false, cond, List, [], Option}
+use Rattle.std.specs.Prelude.{Some, None, Result, Ok, Err, length, nat_lt}
 use Rattle.bt_lines.specs.Fault.{Told, no_memory}
 use Rattle.bt_lines.specs.Names.{told}
 use Rattle.bt_lines.specs.Output.{Output}

@@ -1,29 +1,31 @@
-//! Held records with their ends indexed.
+//! Held records with their least end.
 
-ghost use Rattle.std.specs.Prelude.{◌≡◌, ℕ, ◌+◌, ◌^◌, ◌<◌, ◌≤◌, IfSome, IsNone, IsSome, IsTrue, None, Some, cond, false, nat_lt, unwrap_or};
-ghost use Rattle.std.specs.BTreeMap.{IsUnchanged, get, is_at};
-ghost use Rattle.std.specs.Ordering.{nat_cmp};
-ghost use Rattle.bt_sweep.specs.Ends.{CountsEnds};
+ghost use Rattle.std.specs.Prelude.{◌≤◌, length};
+ghost use Rattle.bt_sweep.specs.Held.{EndFrom};
 ghost use Rattle.bt_sweep.specs.HeldList.{records_in};
 
 use crate::held::Held;
 use crate::held_list::HeldList;
 use bt_bed::Rec;
 use std::alloc::Global;
-use std::collections::BTreeMap;
 
-/// Held records with an ordered map of their ends. Where none has ended at a place, none is looked at.
+/// Held records with the least of their ends. Where none has ended at a place, those that were looked at
+/// before aren't looked at again.
 #[derive(Drop)]
 pub struct HeldIndex {
     // In file order.
     list: HeldList,
-    // How many of them end there, for each end.
-    ends: BTreeMap<u64, usize>,
-    ghost counts: { CountsEnds ends (records_in list) },
+    // How many of them, from the first on, were looked at.
+    seen: usize,
+    // The least of their ends, or a greater number where none was looked at.
+    least: u64,
+    ghost within: { seen ≤ length (records_in list) },
+    ghost ends: { EndFrom least (records_in list) seen },
 }
 
 impl HeldIndex {
     ghost use Rattle.std.specs.Prelude.{◌≡◌, []};
+    ghost use Rattle.bt_sweep.specs.Held.{EndAfter};
     ghost use Rattle.bt_sweep.specs.HeldIndex.{indexed_records};
 
     /// No record. It takes no memory.
@@ -32,8 +34,33 @@ impl HeldIndex {
     {
         HeldIndex {
             list: HeldList::new(alloc),
-            ends: BTreeMap::new(alloc),
+            seen: 0,
+            least: u64::MAX,
         }
+    }
+
+    // Looks at those that may have ended at the place and weren't looked at before.
+    fn look_on(&mut self, place: u64)
+        ensures same { indexed_records self.new ≡ indexed_records self.old }
+        ensures rest { EndAfter place (indexed_records self.new) self.new.seen }
+    {
+        let mut seen = self.seen;
+        let mut least = self.least;
+        while let Some(stop) = self.list.end_of(seen, place) {
+            least = least.min(stop);
+            seen += 1;
+        }
+        self.seen = seen;
+        self.least = least;
+    }
+
+    // Forgets which were looked at.
+    fn look_anew(&mut self)
+        ensures same { indexed_records self.new ≡ indexed_records self.old }
+        ensures none { self.new.seen ≡ 0 }
+    {
+        self.seen = 0;
+        self.least = u64::MAX;
     }
 }
 
@@ -43,23 +70,20 @@ impl Held for HeldIndex {
     ghost records = { indexed_records };
 
     fn push(&mut self, rec: Rec) -> Result<(), Rec> {
-        if !self.list.make_room() || !count_end(&mut self.ends, rec.as_bed().stop) {
-            return Err(rec);
-        }
-        self.list.add(rec);
-        Ok(())
+        self.list.push(rec)
     }
 
     fn drop_ended(&mut self, place: u64) {
-        if least_ended(&self.ends, place).is_none() {
+        self.look_on(place);
+        if place < self.least {
             return;
         }
-        drop_ends(&mut self.ends, place);
+        self.look_anew();
         self.list.drop_ended(place);
     }
 
     fn clear(&mut self) {
-        self.ends.clear();
+        self.look_anew();
         self.list.clear();
     }
 
@@ -69,39 +93,5 @@ impl Held for HeldIndex {
 
     fn len(&self) -> usize {
         self.list.len()
-    }
-}
-
-// Counts one more end there. Answers whether there was memory for it.
-fn count_end(ends: &mut BTreeMap<u64, usize>, stop: u64) -> bool
-    requires { unwrap_or (get nat_cmp ends.old stop) 0 < 2 ^ 63 }
-    ensures counted { IsTrue result → (end : ℕ) → get nat_cmp ends.new end
-        ≡ cond (is_at (nat_cmp stop) end) (Some (unwrap_or (get nat_cmp ends.old stop) 0 + 1)) (get nat_cmp ends.old end) }
-    ensures refused { result ≡ false → IsUnchanged ends.old ends.new }
-{
-    match ends.insert(stop, 1) {
-        Ok(None) => true,
-        Ok(Some(count)) => ends.insert(stop, count + 1).is_ok(),
-        Err(_) => false,
-    }
-}
-
-// The least end, where it lies at the place or before it.
-fn least_ended(ends: &BTreeMap<u64, usize>, place: u64) -> Option<u64>
-    ensures found { IfSome result (λ stop. IsSome (get nat_cmp ends.now stop) × (stop ≤ place)) }
-    ensures none { IsNone result → (end : ℕ) → IsSome (get nat_cmp ends.now end) → place < end }
-{
-    match ends.first_key_value() {
-        Some((stop, _)) if *stop <= place => Some(*stop),
-        _ => None,
-    }
-}
-
-// Drops the ends that lie at the place or before it.
-fn drop_ends(ends: &mut BTreeMap<u64, usize>, place: u64)
-    ensures { (end : ℕ) → get nat_cmp ends.new end ≡ cond (nat_lt place end) (get nat_cmp ends.old end) None }
-{
-    while least_ended(ends, place).is_some() {
-        ends.pop_first();
     }
 }

@@ -24,8 +24,10 @@ pub struct HeldList {
 }
 
 impl HeldList {
-    ghost use Rattle.std.specs.Prelude.{◌≡◌, [], IsTrue};
-    ghost use Rattle.bt_sweep.specs.HeldList.{HasRoom, records_in};
+    ghost use Rattle.std.specs.Prelude.{◌≡◌, [], ◌<◌, IfSome, IsNone, length};
+    ghost use Rattle.std.specs.List.{HoldsAt};
+    ghost use Rattle.bt_sweep.specs.Held.{EndAfter};
+    ghost use Rattle.bt_sweep.specs.HeldList.{records_in};
 
     /// No record. It takes no memory.
     pub fn new(alloc: Global) -> HeldList
@@ -47,21 +49,17 @@ impl HeldList {
         }
     }
 
-    // Makes room for one more. Answers whether there was memory for it.
-    pub(crate) fn make_room(&mut self) -> bool
-        ensures same { records_in self.new ≡ records_in self.old }
-        ensures room { IsTrue result → HasRoom self.new }
+    // The end of the record with so many before it, where there is one and it may have ended at the place:
+    // where they come by their starts, none that starts there or after it has.
+    pub(crate) fn end_of(&self, index: usize, place: u64) -> Option<u64>
+        ensures end { IfSome result (λ stop. (index < length (records_in self.now)) × HoldsAt (λ r. r.stop ≡ stop) (records_in self.now) index) }
+        ensures none { IsNone result → EndAfter place (records_in self.now) index }
     {
-        self.records.try_reserve(1).is_ok()
-    }
-
-    // Adds a record after the others, for which there is room.
-    pub(crate) fn add(&mut self, rec: Rec)
-        requires { HasRoom self.old }
-        ensures { records_in self.new ≡ records_in self.old ++ rec ∷ [] }
-    {
-        self.rising = self.rises_to(&rec);
-        self.records.push_back_reserved(rec);
+        let bed = record_at(&self.records, index)?.as_bed();
+        if self.rising && place <= bed.start {
+            return None;
+        }
+        Some(bed.stop)
     }
 }
 
@@ -71,11 +69,14 @@ impl Held for HeldList {
     ghost records = { records_in };
 
     fn push(&mut self, rec: Rec) -> Result<(), Rec> {
-        if !self.make_room() {
-            return Err(rec);
+        let rising = self.rises_to(&rec);
+        match self.records.push_back(rec) {
+            Ok(()) => {
+                self.rising = rising;
+                Ok(())
+            }
+            Err(failed) => Err(failed.value),
         }
-        self.add(rec);
-        Ok(())
     }
 
     fn drop_ended(&mut self, place: u64) {
