@@ -1,5 +1,5 @@
 -- Lemmas on driving an engine, from the records that it takes to the report on what its input hands over.
-use Rattle.std.proofs.Common.{◌≡◌, ℕ, suc, ◌-◌, Bool, true, false, List, [], ◌++◌, take, Option, None, Some, Ok, Err, refl, sym, ap, ◌∙◌, subst, append-nil, append_assoc, arith, inl, inr}
+use Rattle.std.proofs.Common.{◌≡◌, ℕ, suc, ◌-◌, Bool, true, List, [], ◌++◌, take, Option, None, Some, Ok, Err, refl, sym, ap, ◌∙◌, subst, append-nil, append_assoc, arith, inl, inr}
 use Rattle.std.specs.Prelude.{◌⊎◌, ◌≢◌, ⊤, IfSome, option_map}
 use Rattle.std.proofs.lemmas.List.{map-append}
 use Rattle.std.specs.Io.KnownBytes.{Appends, Consumes}
@@ -34,7 +34,7 @@ use Rattle.bt_bed.specs.Sorting.{sorting_of}
 use Rattle.bt_bed.specs.declared.order.ChromOrder.{Ghosts}
 use Rattle.bt_bed.specs.declared.records.Records.{Records}
 use Rattle.bt_bed.proofs.GoodBedLemmas.{placed_good, non_empty_good}
-use Rattle.bt_tool.specs.Telling.{IsFaultButWrite, IsReported, ReadsNoFurther, TellsDevice, TellsInput}
+use Rattle.bt_tool.specs.Telling.{IsFaultButWrite, IsReported, IsWithin, ReadsNoFurther, TellsDevice, TellsInput}
 use Rattle.bt_tool.specs.Behaviour.{of_members}
 use Rattle.bt_tool.specs.Inputs.{Holds, HoldsIf}
 use Rattle.bt_tool.specs.Writing.{WritesAlone}
@@ -144,7 +144,7 @@ module _ {S A State : Type 0} (written : Written A) (kinds : Kind → Type 0) (S
   near_by : (one : Handed) (before took : List ℕ) → Holds left first one → out.put ≡ Some before → out.took ≡ Some took → (bytes : List ℕ) × Hands left old.below bytes new.below
       → (past : List (Member A)) → IsReadFor left failed end old past past new → (grown : Output) → TookButBlock out (written.settled (member_items past)) grown
       → (Stopped : Type 0) → (Stopped → PutsLines out (written.settled (member_items past)) grown)
-      → ReadsNoFurther (λ lines. true ≡ false → ⊤) (members_settle written format) one.text (left last) before grown.took (grown.has_failed ≡ true) Stopped grown.put
+      → ReadsNoFurther (λ n. IsWithin true one.text n → ⊤) (members_settle written format) one.text (left last) before grown.took (grown.has_failed ≡ true) Stopped grown.put
   near_by one before took holds put known hands past read grown kept Stopped exact =
       let text = holds.text in
       let e = holds.known in
@@ -158,7 +158,7 @@ module _ {S A State : Type 0} (written : Written A) (kinds : Kind → Type 0) (S
       (first_from format First count count 1 format.begin (text_lines text) past b.0 all.fault (omega arith) (lines_are_numbered 1 text) b.1 refl read.low b.2)) in
       let settled = subst (λ l. TookButBlock out l grown) on_lines kept in
       let less : suc count - 1 ≡ count = omega arith in
-      subst (λ (h : Handed). ReadsNoFurther (λ lines. true ≡ false → ⊤) (members_settle written format) h.text (left last) before grown.took (grown.has_failed ≡ true) Stopped grown.put) (sym holds.is) (record {
+      subst (λ (h : Handed). ReadsNoFurther (λ n. IsWithin true h.text n → ⊤) (members_settle written format) h.text (left last) before grown.took (grown.has_failed ≡ true) Stopped grown.put) (sym holds.is) (record {
         n = suc count;
         some = omega arith;
         handed = handed.0;
@@ -167,7 +167,7 @@ module _ {S A State : Type 0} (written : Written A) (kinds : Kind → Type 0) (S
         settled = rw less (settled.took before took put known);
         kept = rw less (elim settled.put [ inl failed ↦ inl failed | inr kept ↦ inr (kept before put) ]);
         exact = rw less (λ stops. exact stops before put ∙ ap (λ l. Some (before ++ l)) on_lines);
-        beside = λ e. tt;
+        beside = λ within. tt;
       })
 
   module _ (fault : Told) (grown : Output) where
@@ -235,7 +235,7 @@ module _ {S A State : Type 0} (written : Written A) (kinds : Kind → Type 0) (S
     report_whole one holds = rw holds.is (report_of (whole_text holds.text) fed.past None (of_text holds.text holds.known (λ good. (good.members ≡ fed.past) × (good.fault ≡ None)) fed.whole))
 
     near_end : (fault : Option Told) → (IsFaultButWrite fault → ⊥) → (one : Handed) (two : Option Handed) (before taken : List ℕ) → Holds left first one → HoldsIf left None two → out.put ≡ Some before → out.took ≡ Some taken
-        → ReadsNoFurther (λ lines. true ≡ false → ⊤) (members_settle written format) one.text (left last) before finished.took (finished.has_failed ≡ true) (IsFaultButWrite fault) finished.put
+        → ReadsNoFurther (λ n. IsWithin true one.text n → ⊤) (members_settle written format) one.text (left last) before finished.took (finished.has_failed ≡ true) (IsFaultButWrite fault) finished.put
     near_end fault never one two before taken holds others put known =
         near_by one before taken holds put known fed.took.bytes fed.took.before fed.took.read finished
         (took_later out grown finished (written.settled (member_items fed.took.before)) fed.took.grows goes fed.took.kept) (IsFaultButWrite fault) (λ stops. absurd (never stops))

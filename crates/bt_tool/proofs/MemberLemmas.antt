@@ -1,7 +1,7 @@
 -- Lemmas on what a reader of members has passed.
 use Rattle.std.proofs.Common.{◌≡◌, ℕ, suc, ◌+◌, ◌-◌, ◌≤◌, ◌<◌, Bool, true, false, List, [], ◌∷◌, ◌++◌, length, take, drop, Option, None, Some, Err, refl, sym, ap, ◌∙◌, subst, append_assoc, arith, inl, inr}
 use Rattle.std.specs.Prelude.{◌⊎◌, All, IfSome, IsSome, option_map}
-use Rattle.std.proofs.lemmas.List.{drop-drop, map-append, take-append-drop}
+use Rattle.std.proofs.lemmas.List.{drop-drop, length-drop, map-append, take-append-drop}
 use Rattle.std.proofs.lemmas.List.Elements.{All-head, All-push, All-tail}
 use Rattle.bt_lines.proofs.ReadsLemmas.{memory_no_read}
 use Rattle.bt_lines.specs.Fault.{Told, read_failed}
@@ -24,7 +24,7 @@ use Rattle.bt_tool.specs.Feeding.{IsFresh}
 use Rattle.bt_tool.specs.Passed.{ComeFirst, member_items, AreAll, AreSaid, IsAhead, IsOver, IsReadFor, IsReadTo, IsStopped, IsUnreadBehind, IsWrongBehind, LacksMemory, Passes, StopsAfter, state_behind}
 use Rattle.bt_tool.proofs.FaultLemmas.{line_no_read}
 use Rattle.bt_tool.proofs.ComeLemmas.{begins_beyond, begins_more, begins_with, come_more, come_none, cuts_both, lines_on, near_from_start, none_passed, numbered_lines, up_to, whole_with}
-use Rattle.bt_tool.proofs.StopLemmas.{ComesFirst, StopsBehind, coming_is, comes_first, given_next, stops_ended, stops_faulty, stops_given}
+use Rattle.bt_tool.proofs.StopLemmas.{ComesFirst, StopsBehind, coming_is, comes_first, given_next, stops_at_end, stops_ended, stops_faulty, stops_given}
 
 -- what is known behind one more item
 state_push : {A State : Type 0} (format : Format A State) (state : State) (items : List A) (item : A)
@@ -224,6 +224,17 @@ behind_first {A} (Some o) (Some n) past m c f = (
   c.0 ∙ ap (λ (l : List (Member A)). past ++ l) f.1 ∙ sym (append_assoc past (m ∷ []) f.0),
   subst (λ fault. IsBeyond m.line (record { members = f.0; fault = fault })) (sym c.1) f.2,
 )
+
+-- where no line is left after those given later, there are no more than these
+no_more : (start now : Option (List TextLine)) (given later : ℕ) → given ≤ later
+    → IfSome start (λ lines. now ≡ Some (drop given lines))
+    → IfSome now (λ lines. drop (later - given) lines ≡ [])
+    → IfSome start (λ lines. length lines ≤ later)
+no_more None now given later h p e = tt
+no_more (Some start) None given later h p e = cc
+no_more (Some start) (Some now) given later h p e =
+    let is : now ≡ drop given start = cc in
+    omega (arith, h, length-drop given start, ap length is, length-drop (later - given) now, ap length e)
 
 -- what stands behind one member more
 behind_more : {A : Type 0} (count : ℕ) (good : Option (Good A)) (past : List (Member A)) (m : Member A)
@@ -439,6 +450,15 @@ module _ {S A State : Type 0} (left : S → Option (List ℕ)) (failed end : S �
     -- at its end
     pub ended_at : now.ahead ≡ None → (new : MemberReader S A State) → IsOver left failed end now new → (count : ℕ) × StopsBehind left now count new.below
     ended_at none new ended = stops_ended left failed end now none g.going g.sound new ended.ends ended.ends.rises
+
+    -- so many lines were passed there
+    pub ended_count : (none : now.ahead ≡ None) (new : MemberReader S A State) (over : IsOver left failed end now new) → (read_for new (ended_at none new over)).to.count ≡ lines_given new.below
+    unfolding read_for read_at ended_at
+    ended_count none new over = stops_at_end left failed end now none g.going g.sound new over.ends over.ends.rises
+
+    -- and there are no more
+    pub ended_after_all : (new : MemberReader S A State) → IsOver left failed end now new → IfSome (lines_left left old.below) (λ lines. length lines ≤ lines_given new.below)
+    ended_after_all new over = no_more (lines_left left old.below) (lines_left left now.below) (lines_given now.below) (lines_given new.below) over.ends.rises g.lines over.ends.lines
 
     -- at a fault
     pub stopped_at : now.ahead ≡ None → (new : MemberReader S A State) (fault : Told) → IsStopped left failed end now fault new → (count : ℕ) × StopsBehind left now count new.below

@@ -1,6 +1,6 @@
 -- Lemmas on how far two inputs were read beside what was written.
 use Rattle.std.proofs.Common.{◌≡◌, ℕ, zero, suc, ◌+◌, ◌-◌, ◌<◌, ◌≤◌, Bool, true, false, not, List, [], ◌∷◌, ◌++◌, take, drop, Option, None, Some, Result, Ok, Err, refl, sym, ap, ◌∙◌, subst, arith, flat_map, inl, inr}
-use Rattle.std.specs.Prelude.{◌⊎◌, ◌&&◌, ◌||◌, All, IfSome, IsSome, if◌then◌else◌}
+use Rattle.std.specs.Prelude.{◌⊎◌, ◌&&◌, ◌||◌, All, IfSome, IsSome, if◌then◌else◌, length, option_map}
 use Rattle.std.specs.Io.KnownBytes.{Consumes}
 use Rattle.std.specs.List.{list_all, list_any}
 use Rattle.std.proofs.lemmas.Bool.{false≢true}
@@ -10,7 +10,7 @@ use Rattle.bt_lines.specs.Handed.{Handed, whole_text}
 use Rattle.bt_lines.specs.Fault.{Told}
 use Rattle.bt_lines.specs.Lines.{AreNumbered, TextLine, bytes_in, text_lines}
 use Rattle.bt_lines.specs.Output.{Output, block_size}
-use Rattle.bt_lines.specs.Reader.{source_of}
+use Rattle.bt_lines.specs.Reader.{lines_left, source_of}
 use Rattle.bt_lines.specs.declared.fault.Input.{Input}
 use Rattle.bt_lines.specs.declared.fault.Input.TheVariants.{First, Second}
 use Rattle.bt_lines.specs.declared.fault.Kind.{Kind}
@@ -21,12 +21,12 @@ use Rattle.bt_bed.specs.GoodLines.{AreAscending, IsBeyond}
 use Rattle.bt_bed.specs.Reading.{MemberReader, good_coming}
 use Rattle.bt_bed.proofs.GoodLemmas.{ascend_from, first_from}
 use Rattle.bt_tool.specs.SweepReport.{bytes_up_to}
-use Rattle.bt_tool.specs.Telling.{IsFaultButWrite, ReadsNoFurther}
+use Rattle.bt_tool.specs.Telling.{IsFaultButWrite, IsWithin, ReadsNoFurther}
 use Rattle.bt_tool.specs.Feeding.{TookButBlock, member_items}
 use Rattle.bt_tool.specs.Inputs.{HandsUpTo}
 use Rattle.bt_tool.specs.Pair.{Making, MayCome, Pair}
-use Rattle.bt_tool.specs.PairEnds.{AsksFor, Finishes, StaysNear}
-use Rattle.bt_tool.proofs.CameMembers.{BeginsAt, at_whole, good_whole, handed_to, is_known}
+use Rattle.bt_tool.specs.PairEnds.{AsksFor, Finishes, HasNoMore, StaysNear}
+use Rattle.bt_tool.proofs.CameMembers.{BeginsAt, at_whole, good_whole, handed_to, is_known, some_of}
 use Rattle.bt_tool.proofs.PairMet.{may_come}
 
 module _ {A State : Type 0} (format : Format A State) (input : Input) where
@@ -165,14 +165,22 @@ module _ {A B X Y U V : Type 0} (making : Making X Y) (pair : Pair A B X Y U V) 
         rw (← is) (needed (member_items near.given_first) (member_items given_on.0) asks.past b.0 (text_lines two) read.count asks.reached b.2.members) in
         record { handed = handed.0; consumed = handed.1; read = omega (arith, handed.2, least) }
 
-    beside : pair.a_end one_after ≡ false → (pair.a_end (source_of first.below) ≡ true) ⊎ AsksFor making pair out near.given_first second
+    -- the end of the first input wasn't told, or not all of its lines were passed
+    no_end : HasNoMore pair first count → IsWithin (pair.a_end one_after) one (suc count) → ⊥
+    no_end all (inl open_end) = absurd (false≢true (sym open_end ∙ ap pair.a_end (sym ended) ∙ all.0))
+    no_end all (inr within) =
+        let lines : lines_left pair.a_left pair.first.below ≡ Some (text_lines one) = begins.lines ∙ ap (option_map text_lines) e in
+        let few = some_of (lines_left pair.a_left pair.first.below) (text_lines one) (λ lines. length lines ≤ count) lines all.1 in
+        absurd (omega (arith, within, few))
+
+    beside : HasNoMore pair first count ⊎ AsksFor making pair out near.given_first second → IsWithin (pair.a_end one_after) one (suc count)
         → HandsUpTo pair.b_left (reaches (whole_text two) (take (suc count) (text_lines one)) + block_size) two_before two_after
-    beside open_end (inl told) = absurd (false≢true (sym open_end ∙ ap pair.a_end (sym ended) ∙ told))
-    beside open_end (inr asks) = beside_by asks
+    beside (inl all) within = absurd (no_end all within)
+    beside (inr asks) within = beside_by asks
 
   -- how far both inputs were read
   pub near_both : (one two before taken : List ℕ) → pair.a_left one_before ≡ Some one → pair.b_left two_before ≡ Some two → out.put ≡ Some before → out.took ≡ Some taken
-      → ReadsNoFurther (λ lines. pair.a_end one_after ≡ false → HandsUpTo pair.b_left (reaches (whole_text two) lines + block_size) two_before two_after)
+      → ReadsNoFurther (λ n. IsWithin (pair.a_end one_after) one n → HandsUpTo pair.b_left (reaches (whole_text two) (take n (text_lines one)) + block_size) two_before two_after)
       (settles (whole_text two)) one (pair.a_left one_after) before grown.took (grown.has_failed ≡ true) (IsFaultButWrite fault) grown.put
   near_both one two before taken e f put took =
       let handed = handed_to pair.a_left pair.a_failed pair.a_end first_format First one_before pair.first begins first one_after ended count one e near.first_near.to.near near.wrote.first_bytes in
@@ -188,5 +196,5 @@ module _ {A B X Y U V : Type 0} (making : Making X Y) (pair : Pair A B X Y U V) 
         settled = rw less (lines.took before taken put took);
         kept = rw less (elim lines.put [ inl failed ↦ inl failed | inr kept ↦ inr (kept before put) ]);
         exact = rw less (λ stops. w.exact stops before put ∙ ap (λ l. Some (before ++ l)) same);
-        beside = λ open_end. beside one two e f open_end near.beside;
+        beside = beside one two e f near.beside;
       }

@@ -8,7 +8,7 @@ use Rattle.bt_lines.specs.Fault.{Told, no_memory, read_failed}
 use Rattle.bt_lines.specs.Lines.{TextLine}
 use Rattle.bt_lines.specs.Output.{Output, Grows}
 use Rattle.bt_lines.specs.Putting.{FailsToAdd}
-use Rattle.bt_lines.specs.Reader.{Hands, lines_given, source_of}
+use Rattle.bt_lines.specs.Reader.{Hands, lines_given}
 use Rattle.bt_lines.specs.declared.fault.Input.{Input}
 use Rattle.bt_lines.specs.declared.fault.Input.TheVariants.{Second}
 use Rattle.bt_lines.specs.declared.fault.Kind.{Kind}
@@ -18,7 +18,7 @@ use Rattle.bt_bed.specs.Reading.{MemberReader, good_coming}
 use Rattle.bt_tool.specs.Feeding.{ComeFirst, GoesOn, member_items}
 use Rattle.bt_tool.specs.Pair.{Making, Pair, Serves, Settles, item_ahead}
 use Rattle.bt_tool.specs.PairComes.{Comes, IsOpenAt, Stage, given}
-use Rattle.bt_tool.specs.PairEnds.{AsksFor, Finishes, IsKnown, LastTold, SecondFails, StaysNear, Why, Wrote}
+use Rattle.bt_tool.specs.PairEnds.{AsksFor, Finishes, HasNoMore, IsKnown, LastTold, SecondFails, StaysNear, Why, Wrote}
 use Rattle.bt_tool.specs.Passed.{AreAll, IsAhead, IsOver, IsReadFor, IsReadTo, IsStopped, Passes, StopsAfter}
 use Rattle.bt_tool.proofs.ComeLemmas.{begins_more, begins_with, up_to}
 use Rattle.bt_tool.proofs.FeedLemmas.{goes_failed, goes_same, took_later, took_lines}
@@ -121,8 +121,8 @@ module _ {A B X Y U V : Type 0} (making : Making X Y) (pair : Pair A B X Y U V) 
 
     -- of the second input was taken what the first asks for, or the first has told its end
     beside_by : (b : Bool) → stage.first_ended ≡ b → (second_now : MemberReader B Y V) → (IsKnown pair → IsReadTo pair.b_left pair.b_failed pair.b_end pair.second past_second second_now)
-        → (pair.a_end (source_of first.below) ≡ true) ⊎ AsksFor making pair out past_first second_now
-    beside_by true e second_now near = inl (s.first_passes.sound.end (s.first_all e).2).0
+        → (stage.first_ended ≡ true) ⊎ AsksFor making pair out past_first second_now
+    beside_by true e second_now near = inl e
     beside_by false e second_now near = inr (record {
       past = past_second;
       reached = subst (λ (l : List X). making.Asks l (member_items past_second)) s.all_given (subst (λ (l : List Y). making.Asks (given stage) l) s.all_taken (asks e));
@@ -131,9 +131,9 @@ module _ {A B X Y U V : Type 0} (making : Making X Y) (pair : Pair A B X Y U V) 
 
     -- the sink took all but a block of the bytes so far
     near_by : (first_now : MemberReader A X U) (second_now : MemberReader B Y V) (now : Output) → Wrote making pair out stage.written s.bytes first_now second_now grown → GoesOn grown now
-        → (past : List (Member X)) → member_items past ≡ stage.written → IsReadFor pair.a_left pair.a_failed pair.a_end pair.first past past_first first_now
-        → (pair.a_end (source_of first_now.below) ≡ true) ⊎ AsksFor making pair out past_first second_now → Near first_now second_now now
-    near_by first_now second_now now wrote more past items first_near beside = record {
+        → (past : List (Member X)) → member_items past ≡ stage.written → (first_near : IsReadFor pair.a_left pair.a_failed pair.a_end pair.first past past_first first_now)
+        → (stage.first_ended ≡ true → HasNoMore pair first_now first_near.to.count) → (stage.first_ended ≡ true) ⊎ AsksFor making pair out past_first second_now → Near first_now second_now now
+    near_by first_now second_now now wrote more past items first_near ends beside = record {
       at = grown;
       written = stage.written;
       bytes = s.bytes;
@@ -143,7 +143,7 @@ module _ {A B X Y U V : Type 0} (making : Making X Y) (pair : Pair A B X Y U V) 
       given_first = past_first;
       items = items;
       first_near = first_near;
-      beside = beside;
+      beside = elim beside [ inl ended ↦ inl (ends ended) | inr asks ↦ inr asks ];
     }
 
     no_more : GoesOn grown grown
@@ -160,6 +160,7 @@ module _ {A B X Y U V : Type 0} (making : Making X Y) (pair : Pair A B X Y U V) 
       near_first_by first_now now handed more stops =
           near_by first_now second now (wrote_first first_now handed) more past_first (sym (all_done none))
           (read_for pair.a_left pair.a_failed pair.a_end pair.first past_first first s.first_passes first_now stops)
+          (λ ended. absurd (false≢true (sym going ∙ ended)))
           (inr (record {
             past = past_second;
             reached = subst (λ (l : List X). making.Asks l (member_items past_second)) s.all_given (subst (λ (l : List Y). making.Asks (given stage) l) s.all_taken (asks going));
@@ -247,7 +248,7 @@ module _ {A B X Y U V : Type 0} (making : Making X Y) (pair : Pair A B X Y U V) 
             s.puts,
             s.works,
           );
-          near = near_by first second_now grown (wrote_second second_now rises handed) no_more read.0 read.1 read.2 (inl (s.first_passes.sound.end whole.2).0);
+          near = near_by first second_now grown (wrote_second second_now rises handed) no_more read.0 read.1 read.2 read.3 (inl done);
           exact = λ stops. s.puts;
         }
 
@@ -257,7 +258,7 @@ module _ {A B X Y U V : Type 0} (making : Making X Y) (pair : Pair A B X Y U V) 
 
     -- memory ran out while the second input was read
     runs_out : (is_some stage.waiting ≡ true) ⊎ (stage.first_ended ≡ true) → (fault : Told) → fault ≡ no_memory → (second_now : MemberReader B Y V) → lines_given second.below ≤ lines_given second_now.below → HandsSecond second_now
-        → (pair.a_end (source_of first.below) ≡ true) ⊎ AsksFor making pair out past_first second_now → Ends (Some fault) first second_now grown
+        → (stage.first_ended ≡ true) ⊎ AsksFor making pair out past_first second_now → Ends (Some fault) first second_now grown
     unfolding near_by
     runs_out asked fault is second_now rises handed beside =
         let read = s.near_first asked in
@@ -266,7 +267,7 @@ module _ {A B X Y U V : Type 0} (making : Making X Y) (pair : Pair A B X Y U V) 
           bytes = s.bytes;
           wrote = wrote_second second_now rises handed;
           why = inr (inl (ap Some is, s.puts));
-          near = near_by first second_now grown (wrote_second second_now rises handed) no_more read.0 read.1 read.2 beside;
+          near = near_by first second_now grown (wrote_second second_now rises handed) no_more read.0 read.1 read.2 read.3 beside;
           exact = λ stops. s.puts;
         }
 
@@ -279,7 +280,7 @@ module _ {A B X Y U V : Type 0} (making : Making X Y) (pair : Pair A B X Y U V) 
           | inl wrong ↦ ends_rest done second_now rises stops.bytes past (Some fault) (inr (inl (fault, refl, record { cause = inl wrong; before_end = before_end }, none)))
           | inr other ↦ elim other [
             | inl unread ↦ ends_rest done second_now rises stops.bytes past (Some fault) (inr (inl (fault, refl, record { cause = inr unread; before_end = before_end }, none)))
-            | inr ran ↦ runs_out (inr done) fault ran.is second_now rises stops.bytes (inl (s.first_passes.sound.end (s.first_all done).2).0)
+            | inr ran ↦ runs_out (inr done) fault ran.is second_now rises stops.bytes (inl done)
           ]
         ]
 
@@ -291,7 +292,7 @@ module _ {A B X Y U V : Type 0} (making : Making X Y) (pair : Pair A B X Y U V) 
             → GoesOn grown now → (IsKnown pair → IsReadTo pair.b_left pair.b_failed pair.b_end pair.second past_second second_now) → Near first second_now now
         near_second_by second_now now rises handed more near =
             let read = s.near_first (inl (ap is_some waits)) in
-            near_by first second_now now (wrote_second second_now rises handed) more read.0 read.1 read.2 (beside_by stage.first_ended refl second_now near)
+            near_by first second_now now (wrote_second second_now rises handed) more read.0 read.1 read.2 read.3 (beside_by stage.first_ended refl second_now near)
 
         all_here : member_items past_first ≡ stage.written ++ a ∷ []
         all_here = sym (all_with making pair out stage past_first past_second first second grown s a waits)

@@ -1,10 +1,11 @@
 -- Lemmas on the turns of a run over two readers of members: what giving a member, or an end, comes to.
-use Rattle.std.proofs.Common.{◌≡◌, ℕ, Bool, true, false, List, [], ◌∷◌, ◌++◌, Option, None, Some, refl, sym, ap, ◌∙◌, subst, append-nil, option_to_list, inl, inr}
-use Rattle.std.specs.Prelude.{is_some, option_map}
+use Rattle.std.proofs.Common.{◌≡◌, ℕ, Bool, true, false, List, [], ◌∷◌, ◌++◌, ◌≤◌, length, Option, None, Some, refl, sym, ap, ◌∙◌, subst, append-nil, option_to_list, inl, inr}
+use Rattle.std.specs.Prelude.{IfSome, is_some, option_map}
 use Rattle.std.proofs.KnownBytes.{Appends-nil}
 use Rattle.std.proofs.lemmas.Bool.{false≢true}
 use Rattle.bt_lines.proofs.PuttingLemmas.{grown_works}
 use Rattle.bt_lines.proofs.OutputLemmas.{grows_both}
+use Rattle.bt_lines.specs.Reader.{lines_left}
 use Rattle.bt_lines.specs.Output.{Output, Grows, HoldsBlock}
 use Rattle.bt_lines.specs.Putting.{Grown, WorksAsBefore}
 use Rattle.bt_bed.specs.Good.{Member}
@@ -12,10 +13,10 @@ use Rattle.bt_bed.specs.Reading.{Advances, MemberReader}
 use Rattle.bt_tool.specs.Feeding.{PutsLines, member_items}
 use Rattle.bt_tool.specs.Pair.{Making, Pair, Settles, item_ahead}
 use Rattle.bt_tool.specs.PairComes.{Comes, IsOpenAt, Stage, given}
-use Rattle.bt_tool.specs.PairEnds.{IsKnown}
+use Rattle.bt_tool.specs.PairEnds.{HasNoMore, IsKnown}
 use Rattle.bt_tool.specs.Passed.{IsAhead, IsOver, IsReadTo, Passes}
 use Rattle.bt_tool.proofs.FeedLemmas.{text_grows, works_both}
-use Rattle.bt_tool.proofs.MemberLemmas.{ended_at, items_next, no_ahead_at_end, passes_all, passes_end, passes_more, passes_peek, read_ahead, read_at, read_for, read_given, read_passed}
+use Rattle.bt_tool.proofs.MemberLemmas.{ended_after_all, ended_at, ended_count, items_next, no_ahead_at_end, passes_all, passes_end, passes_more, passes_peek, read_ahead, read_at, read_for, read_given, read_passed}
 use Rattle.bt_tool.proofs.PairSettles.{seen_by, settles_close, settles_end, settles_nothing}
 
 -- the output grew by bytes
@@ -118,9 +119,21 @@ module _ {A B X Y U V : Type 0} (making : Making X Y) (pair : Pair A B X Y U V) 
             past_first,
             sym all_written,
             read_given pair.a_left pair.a_failed pair.a_end pair.first past_first first s.first_passes s.none_ahead m peeked first_now ahead passes,
+            λ e. never_ended e,
           );
           near_second = s.near_second;
         }
+
+      -- it told its end after all its lines
+      no_more_first : (first_now : MemberReader A X U) (over : IsOver pair.a_left pair.a_failed pair.a_end first first_now) → HasNoMore pair first_now
+          (read_for pair.a_left pair.a_failed pair.a_end pair.first past_first first s.first_passes first_now
+          (ended_at pair.a_left pair.a_failed pair.a_end pair.first past_first first s.first_passes s.none_ahead first_now over)).to.count
+      no_more_first first_now over =
+          let all = ended_after_all pair.a_left pair.a_failed pair.a_end pair.first past_first first s.first_passes first_now over in (
+            ((over.sound s.first_passes.sound).end over.ends.told).0,
+            subst (λ (n : ℕ). IfSome (lines_left pair.a_left pair.first.below) (λ lines. length lines ≤ n))
+                (sym (ended_count pair.a_left pair.a_failed pair.a_end pair.first past_first first s.first_passes s.none_ahead first_now over)) all,
+          )
 
       -- the first input has ended
       pub ends_first : (first_now : MemberReader A X U) → IsOver pair.a_left pair.a_failed pair.a_end first first_now → Comes making pair out (record stage { first_ended = true }) past_first past_second first_now second grown
@@ -144,6 +157,7 @@ module _ {A B X Y U V : Type 0} (making : Making X Y) (pair : Pair A B X Y U V) 
           sym all_written,
           read_for pair.a_left pair.a_failed pair.a_end pair.first past_first first s.first_passes first_now
               (ended_at pair.a_left pair.a_failed pair.a_end pair.first past_first first s.first_passes s.none_ahead first_now over),
+          λ e. no_more_first first_now over,
         );
         near_second = s.near_second;
       }
@@ -284,7 +298,7 @@ module _ {A B X Y U V : Type 0} (making : Making X Y) (pair : Pair A B X Y U V) 
             | inl some ↦ absurd (false≢true some)
             | inr ended ↦
                 let was = s.near_first (inr ended) in
-                (was.0, was.1 ∙ sym (append-nil stage.written) ∙ ap (λ (o : Option X). stage.written ++ option_to_list o) (sym (alone ended)), was.2)
+                (was.0, was.1 ∙ sym (append-nil stage.written) ∙ ap (λ (o : Option X). stage.written ++ option_to_list o) (sym (alone ended)), was.2, was.3)
           ];
           near_second = λ known. read_at pair.b_left pair.b_failed pair.b_end pair.second past_second second s.second_passes second_now
               (ended_at pair.b_left pair.b_failed pair.b_end pair.second past_second second s.second_passes

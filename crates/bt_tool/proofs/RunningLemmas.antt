@@ -10,7 +10,7 @@ use Rattle.bt_tool.proofs.FeedLemmas.{took_more_than}
 use Rattle.bt_lines.proofs.OutputLemmas.{grows_both}
 use Rattle.bt_lines.specs.Fault.{Told, write_failed, no_memory}
 use Rattle.bt_lines.specs.Handed.{Handed}
-use Rattle.bt_lines.specs.Lines.{TextLine, text_lines}
+use Rattle.bt_lines.specs.Lines.{text_lines}
 use Rattle.bt_lines.specs.Names.{told}
 use Rattle.bt_lines.specs.Output.{Output, IsFrontOf, Grows, block_size}
 use Rattle.bt_lines.specs.declared.fault.Fault.{Fault}
@@ -26,7 +26,7 @@ use Rattle.bt_runs.specs.Depth.{settled_depths}
 use Rattle.bt_runs.specs.Gaps.{settled_gaps}
 use Rattle.bt_tool.specs.Kinds.{IsOneOf}
 use Rattle.bt_tool.specs.Chromosomes.{KnowsChromosomes, LacksChromosomes, ReadsChromosomes, StopsAtGenome, WritesOutput}
-use Rattle.bt_tool.specs.Telling.{IsFaultButWrite, IsOfInput, IsPutTo, ReadsNoFurther, TellsDevice, TellsInput, TellsInputIf, TellsLine, TellsRead}
+use Rattle.bt_tool.specs.Telling.{IsFaultButWrite, IsOfInput, IsPutTo, IsWithin, ReadsNoFurther, TellsDevice, TellsInput, TellsInputIf, TellsLine, TellsRead}
 use Rattle.bt_tool.specs.Writing.{WritesBy}
 use Rattle.bt_tool.specs.Flushing.{Flushes, FlushesAll, FlushFails, StaysFailed}
 use Rattle.bt_tool.specs.Gives.{Runs, TellsOther, is_of_genome, lies_in_genome}
@@ -198,7 +198,7 @@ write_of_if left failed kinds input (Some before) None tells = absurd tells
 write_of_if left failed kinds input (Some before) (Some after) tells = tells_no_write left failed kinds input before after tells
 
 -- an input that wasn't touched was read no further than its first line
-near_untouched : (Beside : List TextLine → Type 0) → ((lines : List TextLine) → Beside lines) → (command : Command) (chromosomes : Result (Option (List Entry)) Told) (second : Option Handed) (text before : List ℕ) (left took more : Option (List ℕ)) → left ≡ Some text → took ≡ Some before → Grows took more
+near_untouched : (Beside : ℕ → Type 0) → ((n : ℕ) → Beside n) → (command : Command) (chromosomes : Result (Option (List Entry)) Told) (second : Option Handed) (text before : List ℕ) (left took more : Option (List ℕ)) → left ≡ Some text → took ≡ Some before → Grows took more
     → (Failed Stops : Type 0) (later : Option (List ℕ)) → Failed ⊎ IsPutTo (length (before ++ [])) later → (Stops → later ≡ Some (before ++ []))
     → ReadsNoFurther Beside (settles_on command chromosomes second) text left before more Failed Stops later
 near_untouched Beside has command chromosomes second text before left took more e t g Failed Stops later kept exact = record {
@@ -207,7 +207,7 @@ near_untouched Beside has command chromosomes second text before left took more 
   handed = [];
   consumed = subst (λ o. Consumes o left []) e (Consumes-nil left);
   read = omega arith;
-  beside = has (take 1 (text_lines text));
+  beside = has 1;
   settled = rw (none_settle_on command chromosomes second) (took_more_than took took more before (length (before ++ [])) t ([], Appends-nil took) g (taken_all took before t));
   kept = rw (none_settle_on command chromosomes second) kept;
   exact = rw (none_settle_on command chromosomes second) exact;
@@ -225,10 +225,10 @@ module _ {G A B K : Type 0} (g_left : G → Option (List ℕ)) (g_failed : G →
   abbrev OthersTell : Told → Type 0
   OthersTell t = TellsOther g_left g_failed a_left a_failed a_end b_left b_failed k_took k_failed command genome first first_after second second_after t
 
-  -- how far the second input was read beside lines of the first
-  abbrev Beside : Inputs → List TextLine → Type 0
-  Beside inputs lines = a_end first_after ≡ false
-      → HandsUpToIf b_left (reaches_on command (chromosomes_of inputs.genome) inputs.second lines + block_size) second second_after
+  -- how far the second input was read beside so many lines of the first
+  abbrev Beside : Inputs → ℕ → Type 0
+  Beside inputs n = IsWithin (a_end first_after) inputs.first.text n
+      → HandsUpToIf b_left (reaches_on command (chromosomes_of inputs.genome) inputs.second (take n (text_lines inputs.first.text)) + block_size) second second_after
 
   -- the chromosomes were read, and the output written by them
   module _ (table : Option Genome) (knows : KnowsChromosomes g_left g_failed genome genome_after table) (writes : WritesBy a_left a_failed a_end b_left b_failed (behaviour_of command (option_map entries table)) first second begun fault first_after second_after mid) where
@@ -282,7 +282,7 @@ module _ {G A B K : Type 0} (g_left : G → Option (List ℕ)) (g_failed : G →
       near = λ inputs before holds known.
           let near = writes.near inputs.first inputs.second before before holds.first_input holds.second_input (put ∙ known) (took ∙ known) in
           rw (knows.told inputs.genome holds.genome_file, took_after)
-          (near_as _ _ (λ lines beside. beside) ((behaviour_of command chromosomes).settles inputs.second) ((behaviour_of command chromosomes).settles inputs.second) (λ lines. refl) inputs.first.text (a_left first_after) before mid.took new.took (mid.has_failed ≡ true)
+          (near_as _ _ (λ n beside. beside) ((behaviour_of command chromosomes).settles inputs.second) ((behaviour_of command chromosomes).settles inputs.second) (λ lines. refl) inputs.first.text (a_left first_after) before mid.took new.took (mid.has_failed ≡ true)
           (answer ≡ Some write_failed) (IsFaultButWrite fault) (IsFaultButWrite answer) mid.put new.took (λ size. took_more_than begun.took mid.took new.took before size (took ∙ known) writes.grows flushes.grows) (λ size kept. kept_by begun mid new fault answer size kept flushes.ends)
           (λ bytes is stops. exact_by begun mid new fault answer bytes is stops flushes.ends) near);
       served = λ none.
@@ -333,7 +333,7 @@ module _ {G A B K : Type 0} (g_left : G → Option (List ℕ)) (g_failed : G →
       near = λ inputs before holds known.
           let text = holds.first_input in
           rw (text.is, stops.untouched, stops.other_untouched, took_after)
-          (near_untouched _ (λ lines end. hands_none b_left second inputs.second (reaches_on command (chromosomes_of inputs.genome) inputs.second lines + block_size) holds.second_input)
+          (near_untouched _ (λ n within. hands_none b_left second inputs.second _ holds.second_input)
           command (chromosomes_of inputs.genome) inputs.second text.text before (a_left first) begun.took new.took text.known (took ∙ known) (grows_both begun.took mid.took new.took mid_grows flushes.grows)
           (answer ≡ Some write_failed) (IsFaultButWrite answer) new.took (kept_by begun mid new fault answer (length (before ++ [])) (inr (before ++ [], begun_put before known, omega arith)) flushes.ends)
           (λ other. exact_by begun mid new fault answer (before ++ []) (λ was. begun_put before known) other flushes.ends));

@@ -230,6 +230,11 @@ module _ {S A State : Type 0} (left : S → Option (List ℕ)) (failed end : S �
     },
   )
 
+  -- at the end all lines were passed
+  pub stops_at_end : (new : MemberReader S A State) (ends : EndsMembers left failed old new) (rises : lines_given old.below ≤ lines_given new.below) → (stops_ended new ends rises).0 ≡ lines_given new.below
+  unfolding stops_ended
+  stops_at_end new ends rises = refl
+
   -- at a line that wasn't given
   stops_unread : (new : MemberReader S A State) (fault : Told) → AnswersFault left failed end old fault new → IfSome (good_coming left old) (IsBeyond (lines_given new.below))
       → (count : ℕ) × StopsBehind left old count new.below

@@ -38,7 +38,7 @@ module _ {A B : Type 0} (a_left : A → Option (List ℕ)) (a_failed a_end : A �
     grows = w.grows;
     served = w.served;
     near = λ one two before taken holds holds_second put took.
-        near_as _ _ (λ lines beside. beside) _ _ (settles_left order whole rule (or_empty two)) one.text (a_left first_after) before grown.took grown.took (grown.has_failed ≡ true) (grown.has_failed ≡ true) (IsFaultButWrite fault) (IsFaultButWrite fault) grown.put grown.put
+        near_as _ _ (λ n beside. beside) _ _ (settles_left order whole rule (or_empty two)) one.text (a_left first_after) before grown.took grown.took (grown.has_failed ≡ true) (grown.has_failed ≡ true) (IsFaultButWrite fault) (IsFaultButWrite fault) grown.put grown.put
         (λ size took. took) (λ size kept. kept) (λ bytes is stops. is stops) (w.near one two before taken holds holds_second put took);
     named = w.named;
   }

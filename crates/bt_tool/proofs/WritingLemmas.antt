@@ -1,5 +1,5 @@
 -- What a command of one input writes, as what any command writes of its inputs.
-use Rattle.std.proofs.Common.{◌≡◌, ℕ, ◌+◌, ◌-◌, ◌≤◌, Bool, true, false, List, [], ◌++◌, length, Option, None, Some, take, refl, sym, ap, ◌∙◌, subst, arith, inl, inr}
+use Rattle.std.proofs.Common.{◌≡◌, ℕ, ◌+◌, ◌-◌, ◌≤◌, Bool, true, List, [], ◌++◌, length, Option, None, Some, take, refl, sym, ap, ◌∙◌, subst, arith, inl, inr}
 use Rattle.std.specs.Prelude.{◌⊎◌, IfSome}
 use Rattle.std.proofs.KnownBytes.{Consumes-nil}
 use Rattle.bt_lines.specs.Fault.{Told}
@@ -12,7 +12,7 @@ use Rattle.bt_tool.specs.Behaviour.{Behaviour, behaviour_of}
 use Rattle.bt_tool.specs.Coming.{IsWhole}
 use Rattle.bt_tool.specs.Inputs.{HandsUpToIf, Holds, HoldsIf, ServesIf}
 use Rattle.bt_tool.specs.RecordReport.{Report}
-use Rattle.bt_tool.specs.Telling.{IsFaultButWrite, IsOfInput, IsPutTo, IsReported, ReadsNoFurther, TellsInput}
+use Rattle.bt_tool.specs.Telling.{IsFaultButWrite, IsOfInput, IsPutTo, IsReported, IsWithin, ReadsNoFurther, TellsInput}
 use Rattle.bt_tool.specs.Writing.{WritesAlone, WritesBy}
 use Rattle.bt_tool.specs.declared.plan_type.Command.{Command}
 
@@ -26,7 +26,7 @@ serves_none failed None = tt
 serves_none failed (Some source) = refl
 
 -- how far an input was read, by lines that settle the same, more that is said beside it, and what was taken and put later
-pub near_as : (Beside More : List TextLine → Type 0) → ((lines : List TextLine) → Beside lines → More lines) → (mine yours : List TextLine → List ℕ) → ((lines : List TextLine) → mine lines ≡ yours lines)
+pub near_as : (Beside More : ℕ → Type 0) → ((n : ℕ) → Beside n → More n) → (mine yours : List TextLine → List ℕ) → ((lines : List TextLine) → mine lines ≡ yours lines)
     → (text : List ℕ) (left : Option (List ℕ)) (before : List ℕ) (took more : Option (List ℕ)) (Cut Failed Stopped Stops : Type 0) (put later : Option (List ℕ))
     → ((size : ℕ) → IfSome took (λ taken. size ≤ length taken + block_size) → IfSome more (λ taken. size ≤ length taken + block_size))
     → ((size : ℕ) → Cut ⊎ IsPutTo size put → Failed ⊎ IsPutTo size later) → ((bytes : List ℕ) → (Stopped → put ≡ Some bytes) → Stops → later ≡ Some bytes)
@@ -45,7 +45,7 @@ near_as Beside More adds mine yours same text left before took more Cut Failed S
       settled = takes size (subst (λ n. IfSome took (λ taken. n ≤ length taken + block_size)) is near.settled);
       kept = keeps size (subst (λ n. Cut ⊎ IsPutTo n put) is near.kept);
       exact = stays bytes (λ stops. near.exact stops ∙ ap Some equal);
-      beside = adds (take near.n (text_lines text)) near.beside;
+      beside = adds near.n near.beside;
     }
 
 -- a fault of one input or of a device, beside an input that isn't there
@@ -77,7 +77,8 @@ module _ {A B : Type 0} (a_left : A → Option (List ℕ)) (a_failed a_end : A �
           let s = w.served none in
           ((s.0.0, serves_none b_failed second), s.1);
       near = λ one two before taken holds others put known.
-          near_as _ (λ lines. a_end first_after ≡ false → HandsUpToIf b_left (yours.reaches two lines + block_size) second second) (λ lines beside end. hands_none b_left second two (yours.reaches two lines + block_size) others)
+          near_as _ (λ n. IsWithin (a_end first_after) one.text n → HandsUpToIf b_left (yours.reaches two (take n (text_lines one.text)) + block_size) second second)
+          (λ n beside end. hands_none b_left second two (yours.reaches two (take n (text_lines one.text)) + block_size) others)
           (mine.settles None) (yours.settles two) (same_settle two) one.text (a_left first_after) before grown.took grown.took (grown.has_failed ≡ true) (grown.has_failed ≡ true) (IsFaultButWrite fault) (IsFaultButWrite fault) grown.put grown.put
           (λ size took. took) (λ size kept. kept) (λ bytes is stops. is stops) (w.near one None before taken holds tt put known);
       named = λ t e. elim (w.named t e) [

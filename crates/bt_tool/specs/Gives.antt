@@ -1,9 +1,10 @@
 -- What a run gives, by what its inputs hand over.
 use Rattle.std.specs.Prelude.{◌≡◌, ◌≢◌, ℕ, ◌+◌, ◌⊎◌, Bool, true, false, List, ◌++◌, Option, Some}
-use Rattle.std.specs.Prelude.{None, Err, is_some}
+use Rattle.std.specs.Prelude.{None, Err, is_some, take}
 use Rattle.bt_lines.specs.Fault.{Told, no_memory, write_failed}
 use Rattle.bt_lines.specs.Output.{block_size}
 use Rattle.bt_lines.specs.Handed.{Handed}
+use Rattle.bt_lines.specs.Lines.{text_lines}
 use Rattle.bt_lines.specs.declared.fault.Input.{Input}
 use Rattle.bt_lines.specs.declared.fault.Input.TheVariants.{Genome, First, Second}
 use Rattle.bt_lines.specs.declared.fault.Place.{Place}
@@ -11,7 +12,7 @@ use Rattle.bt_bed.specs.Genome.{Entry}
 use Rattle.bt_bed.specs.LineKind.{is_genome_kind}
 use Rattle.bt_tool.specs.Behaviour.{behaviour_of}
 use Rattle.bt_tool.specs.Kinds.{IsOneOf}
-use Rattle.bt_tool.specs.Telling.{IsFaultButWrite, IsOfInput, ReadsNoFurther, TellsDevice}
+use Rattle.bt_tool.specs.Telling.{IsFaultButWrite, IsOfInput, IsWithin, ReadsNoFurther, TellsDevice}
 use Rattle.bt_tool.specs.Telling.{TellsInput, TellsInputIf}
 use Rattle.bt_tool.specs.Inputs.{HandsUpToIf, HoldsIf, Holds, Inputs, Reads, ReadsIf, ServesIf}
 use Rattle.bt_tool.specs.Report.{chromosomes_of, reaches_on, report_of, settles_on}
@@ -85,13 +86,14 @@ module _ {G A B K : Type 0} (g_left : G → Option (List ℕ)) (g_failed : G →
     -- However the run ends, where the devices tell their bytes: for some n, the first input handed
     -- over its first n lines and a block at most, and what its first n - 1 lines settle was written,
     -- but for a block where a write failed. At any other fault, want of memory among them, what was
-    -- written is just that, no less and no more. Where the first input's end wasn't told, the second
-    -- handed over what those n lines ask for and a block at most.
+    -- written is just that, no less and no more. Where the first input's end wasn't told, or it has an
+    -- n-th line, the second handed over what those n lines ask for and a block at most: so where it
+    -- handed over more, n is past the last line, and all lines of the first input were settled.
     pub near : (inputs : Inputs) (before : List ℕ) → HoldInputs genome first second inputs
         → k_took out ≡ Some before
-        → ReadsNoFurther (λ lines. a_end first_after ≡ false
-        → HandsUpToIf b_left (reaches_on command (chromosomes_of inputs.genome) inputs.second lines
-        + block_size) second second_after)
+        → ReadsNoFurther (λ n. IsWithin (a_end first_after) inputs.first.text n
+        → HandsUpToIf b_left (reaches_on command (chromosomes_of inputs.genome) inputs.second
+        (take n (text_lines inputs.first.text)) + block_size) second second_after)
         (settles_on command (chromosomes_of inputs.genome) inputs.second) inputs.first.text
         (a_left first_after) before (k_took out_after) (fault ≡ Some write_failed)
         (IsFaultButWrite fault) (k_took out_after)

@@ -9,7 +9,7 @@ use Rattle.bt_bed.specs.Good.{Member}
 use Rattle.bt_bed.specs.Reading.{MemberReader}
 use Rattle.bt_tool.specs.Feeding.{PutsLines, member_items}
 use Rattle.bt_tool.specs.Pair.{Making, Pair, Settles, item_ahead}
-use Rattle.bt_tool.specs.PairEnds.{IsKnown}
+use Rattle.bt_tool.specs.PairEnds.{HasNoMore, IsKnown}
 use Rattle.bt_tool.specs.Passed.{AreAll, IsReadFor, IsReadTo, Passes}
 
 -- how far a run has come: the members of the first input that are written, the one that isn't,
@@ -64,6 +64,7 @@ module _ {A B X Y U V : Type 0} (making : Making X Y) (pair : Pair A B X Y U V) 
     -- as far as the members written ask for
     pub near_first : (is_some stage.waiting ≡ true) ⊎ (stage.first_ended ≡ true)
         → (past : List (Member X)) × (member_items past ≡ stage.written)
-        × IsReadFor pair.a_left pair.a_failed pair.a_end pair.first past past_first first
+        × (read : IsReadFor pair.a_left pair.a_failed pair.a_end pair.first past past_first first)
+        × (stage.first_ended ≡ true → HasNoMore pair first read.to.count)
     pub near_second : IsKnown pair
         → IsReadTo pair.b_left pair.b_failed pair.b_end pair.second past_second second

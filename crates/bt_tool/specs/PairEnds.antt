@@ -1,10 +1,10 @@
 -- How a run over two readers of members ends.
 use Rattle.std.specs.Prelude.{◌≡◌, ℕ, ◌≤◌, ◌⊎◌, All, Bool, true, false, List, [], ◌∷◌, ◌++◌, Option}
-use Rattle.std.specs.Prelude.{Some, None, IfSome, IsSome, option_to_list}
+use Rattle.std.specs.Prelude.{Some, None, IfSome, IsSome, length, option_to_list}
 use Rattle.bt_lines.specs.Fault.{Told, no_memory, read_failed, write_failed}
 use Rattle.bt_lines.specs.Output.{Output, Grows}
 use Rattle.bt_lines.specs.Putting.{WorksAsBefore}
-use Rattle.bt_lines.specs.Reader.{Hands, lines_given, source_of}
+use Rattle.bt_lines.specs.Reader.{Hands, lines_given, lines_left, source_of}
 use Rattle.bt_lines.specs.declared.fault.Input.{Input}
 use Rattle.bt_lines.specs.declared.fault.Input.TheVariants.{Second}
 use Rattle.bt_lines.specs.declared.fault.Kind.{Kind}
@@ -19,6 +19,11 @@ use Rattle.bt_tool.specs.Telling.{IsFaultButWrite}
 -- the members of the second input are known
 abbrev pub IsKnown : {A B X Y U V : Type 0} → Pair A B X Y U V → Type 0
 IsKnown pair = IsSome (good_coming pair.b_left pair.second)
+
+-- the first input told its end, and it has no more than so many lines
+abbrev pub HasNoMore : {A B X Y U V : Type 0} → Pair A B X Y U V → MemberReader A X U → ℕ → Type 0
+HasNoMore pair first count = (pair.a_end (source_of first.below) ≡ true)
+    × IfSome (lines_left pair.a_left pair.first.below) (λ lines. length lines ≤ count)
 
 module _ {A B X Y U V : Type 0} (making : Making X Y) (pair : Pair A B X Y U V)
     (out : Output) where
@@ -166,7 +171,7 @@ module _ {A B X Y U V : Type 0} (making : Making X Y) (pair : Pair A B X Y U V)
     pub given_first : List (Member X)
     pub items : member_items past ≡ written
     pub first_near : IsReadFor pair.a_left pair.a_failed pair.a_end pair.first past given_first first
-    pub beside : (pair.a_end (source_of first.below) ≡ true) ⊎ AsksFor given_first second
+    pub beside : HasNoMore pair first first_near.to.count ⊎ AsksFor given_first second
 
   -- the run is over
   pub record Finishes (fault : Option Told) (first : MemberReader A X U)

@@ -1,6 +1,6 @@
 -- What a run tells: the fault, and how far it read and wrote.
 use Rattle.std.specs.Prelude.{◌≡◌, ◌≢◌, ℕ, ◌+◌, ◌-◌, ◌^◌, ◌≤◌, ◌⊎◌, Bool, true, List, ◌++◌, length}
-use Rattle.std.specs.Prelude.{take, Option, Some, None, IfSome}
+use Rattle.std.specs.Prelude.{false, take, Option, Some, None, IfSome}
 use Rattle.std.specs.Io.KnownBytes.{Consumes}
 use Rattle.bt_lines.specs.Fault.{Told, read_failed, no_memory, write_failed}
 use Rattle.bt_lines.specs.Lines.{TextLine, bytes_in, text_lines}
@@ -61,11 +61,15 @@ IsPutTo size put = (bytes : List ℕ) × (put ≡ Some bytes) × (size ≤ lengt
 abbrev pub IsFaultButWrite : Option Told → Type 0
 IsFaultButWrite fault = (fault ≢ None) × (fault ≢ Some write_failed)
 
+-- the end of an input wasn't told, or its text has an n-th line
+abbrev pub IsWithin : Bool → List ℕ → ℕ → Type 0
+IsWithin told text n = (told ≡ false) ⊎ (n ≤ length (text_lines text))
+
 -- How far an input was read beside what was written: for some n, at least 1, it handed over at most
 -- its first n lines and a block, and what its first n - 1 lines settle was taken but for a block.
 -- Unless a write failed, all of it was put; and nothing more, where a fault stopped the run. What is
--- said beside it of those n lines is how far another input was read.
-pub record ReadsNoFurther (Beside : List TextLine → Type 0) (settles : List TextLine → List ℕ)
+-- said beside it of that n is how far another input was read.
+pub record ReadsNoFurther (Beside : ℕ → Type 0) (settles : List TextLine → List ℕ)
     (text : List ℕ) (left : Option (List ℕ)) (before : List ℕ)
     (took : Option (List ℕ)) (WriteFailed Stopped : Type 0) (put : Option (List ℕ)) : Type 0 where
   pub n : ℕ
@@ -78,7 +82,7 @@ pub record ReadsNoFurther (Beside : List TextLine → Type 0) (settles : List Te
   pub kept : WriteFailed
       ⊎ IsPutTo (length (before ++ settles (take (n - 1) (text_lines text)))) put
   pub exact : Stopped → put ≡ Some (before ++ settles (take (n - 1) (text_lines text)))
-  pub beside : Beside (take n (text_lines text))
+  pub beside : Beside n
 
 -- the report is what came: its fault, and its output after what was put before
 abbrev pub IsReported : Report → List ℕ → Option Told → Output → Type 0

@@ -1,15 +1,16 @@
 -- What a command does with its inputs, by what they hand over; the second may not be there.
-use Rattle.std.specs.Prelude.{◌≡◌, ◌≢◌, ℕ, ◌+◌, ◌⊎◌, Bool, true, false, List, [], ◌++◌, Option, Some}
+use Rattle.std.specs.Prelude.{◌≡◌, ◌≢◌, ℕ, ◌+◌, ◌⊎◌, Bool, true, List, [], ◌++◌, take, Option, Some}
 use Rattle.std.specs.Prelude.{None}
 use Rattle.bt_lines.specs.Fault.{Told, no_memory, write_failed}
 use Rattle.bt_lines.specs.Handed.{Handed}
+use Rattle.bt_lines.specs.Lines.{text_lines}
 use Rattle.bt_lines.specs.Output.{Output, IsFrontOf, Grows, block_size}
 use Rattle.bt_lines.specs.declared.fault.Input.TheVariants.{First, Second}
 use Rattle.bt_bed.specs.Feature.{Feature}
 use Rattle.bt_bed.specs.Order.{Order}
 use Rattle.bt_tool.specs.Behaviour.{Behaviour, of_records}
 use Rattle.bt_tool.specs.Inputs.{HandsUpToIf, Holds, HoldsIf, Reads, ReadsIf, ServesIf}
-use Rattle.bt_tool.specs.Telling.{IsFaultButWrite, IsOfInput, IsReported, ReadsNoFurther}
+use Rattle.bt_tool.specs.Telling.{IsFaultButWrite, IsOfInput, IsReported, IsWithin, ReadsNoFurther}
 use Rattle.bt_tool.specs.Telling.{TellsDevice, TellsInput, TellsInputIf}
 use Rattle.bt_tool.specs.Written.{Written}
 
@@ -49,8 +50,9 @@ module _ {A B : Type 0} (a_left : A → Option (List ℕ)) (a_failed a_end : A �
     pub near : (one : Handed) (two : Option Handed) (before taken : List ℕ) → Holds a_left first one
         → HoldsIf b_left second two
         → out.put ≡ Some before → out.took ≡ Some taken
-        → ReadsNoFurther (λ lines. a_end first_after ≡ false
-        → HandsUpToIf b_left (behaviour.reaches two lines + block_size) second second_after)
+        → ReadsNoFurther (λ n. IsWithin (a_end first_after) one.text n
+        → HandsUpToIf b_left (behaviour.reaches two (take n (text_lines one.text)) + block_size)
+        second second_after)
         (behaviour.settles two) one.text (a_left first_after) before grown.took
         (grown.has_failed ≡ true) (IsFaultButWrite fault) grown.put
     -- what the fault may be, whatever the devices do
