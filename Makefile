@@ -7,17 +7,17 @@ PREFIX ?= /usr/local
 # The name of the installed program: not `bedtools`, which it would hide.
 NAME ?= dunekettle-bedtools
 
+# The processor to build for, where it isn't x86-64-v2: make CPU=x86-64-v3 builds bin/x86-64-v3/bedtools, which needs AVX2.
+CPU ?=
+
 # The version stands in CHANGELOG.md.
 VERSION := $(shell sed -n 's/^## //p' CHANGELOG.md | head -n 1)
 # A package of one commit is the same each time: its files have the date of the commit, or without git of CHANGELOG.md.
 DATE := $(shell git log -1 --format=%ct 2> /dev/null || stat -c %Y CHANGELOG.md)
-DIST := dunekettle-$(VERSION)-$(shell uname -m)
-DEB = dunekettle-bedtools_$(VERSION)_$(shell dpkg --print-architecture).deb
+DIST := dunekettle-$(VERSION)-$(or $(CPU),$(shell uname -m))
+DEB = dunekettle-bedtools_$(VERSION)_$(or $(CPU),$(shell dpkg --print-architecture)).deb
 
-# The processor to build for, where it isn't the default of the kit, x86-64-v2: make -B CPU=x86-64-v3 needs one with AVX2.
-CPU ?=
-
-PROGRAM := bin/bedtools
+PROGRAM := bin/$(if $(CPU),$(CPU)/)bedtools
 # What the prover and the compiler say.
 LOG := bin/build.log
 SOURCES := crates.txt $(shell find crates -name out -prune -o -type f \( -name '*.rt' -o -name '*.antt' \) -print)
@@ -32,7 +32,7 @@ all: $(PROGRAM)
 
 # The run builds what it runs, and merges nothing.
 $(PROGRAM): $(SOURCES)
-	@mkdir -p bin
+	@mkdir -p $(@D)
 	@echo "Proving what changed and building $@; the prover's output goes to $(LOG)."
 	@cd crates/bedtools && rt run $(if $(CPU),--cpu $(CPU)) -- merge -i /dev/null -g /dev/null > ../../$(LOG) 2>&1 || \
 	{ tail -n 20 ../../$(LOG); echo "Not built: see $(LOG)."; exit 1; }

@@ -112,21 +112,24 @@ module _ (place : ℕ) where
       let parts = or_parts (nat_le x.stop place) (list_any (λ r. nat_le r.stop place) xs) e in
       (lt-ltb place x.stop (leb-false x.stop place parts.0), none_rec xs parts.1)
 
-  module _ (xs : List Feature) (n : ℕ) (within : n ≤ length xs) (bases : HaveBases xs)
-      (at : IsPartitionPoint (λ (r : Feature). nat_lt r.start place ≡ true) (λ (r : Feature). nat_lt r.start place ≡ false) xs n) where
-    stays_at : (i : ℕ) (d : Feature) → n ≤ i → i < length xs → stays (slice_index_or xs i d) ≡ true
-    stays_at i d low high = lt-ltb place _ (omega (arith, ltb-false _ place (at.1 i d low high), bases i d high))
-
+  module _ (xs : List Feature) (n : ℕ) (within : n ≤ length xs) (after : EndAfter place xs n) where
     rest_stays : All (λ r. stays r ≡ true) (drop n xs)
     rest_stays k d h =
         let high : n + k < length xs = omega (arith, h, length-drop n xs, within) in
-        subst (λ (r : Feature). stays r ≡ true) (sym (get_or-drop n xs k d)) (stays_at (n + k) d (omega arith) high)
+        let here : stays (slice_index_or xs (n + k) d) ≡ true = lt-ltb place _ (after (n + k) d (omega arith) high) in
+        subst (λ (r : Feature). stays r ≡ true) (sym (get_or-drop n xs k d)) here
 
-    -- those that have ended are dropped: all of them stand before those that start there or behind it
-    pub dropped : filter stays (take n xs) ++ drop n xs ≡ filter stays xs
-    dropped =
+    -- those that have ended are dropped: all of them stand before those that end after the place
+    pub dropped_among : filter stays (take n xs) ++ drop n xs ≡ filter stays xs
+    dropped_among =
         ap (λ l. filter stays (take n xs) ++ l) (sym (all_pass stays (drop n xs) rest_stays))
         ∙ sym (filter-append stays (take n xs) (drop n xs)) ∙ ap (filter stays) (take-append-drop n xs)
+
+  module _ (xs : List Feature) (n : ℕ) (within : n ≤ length xs) (bases : HaveBases xs)
+      (at : IsPartitionPoint (λ (r : Feature). nat_lt r.start place ≡ true) (λ (r : Feature). nat_lt r.start place ≡ false) xs n) where
+    -- so it is where they start there or behind it
+    pub dropped : filter stays (take n xs) ++ drop n xs ≡ filter stays xs
+    dropped = dropped_among xs n within (λ k d low high. omega (arith, ltb-false _ place (at.1 k d low high), bases k d high))
 
     -- where none of those that start before has ended, there is none
     pub none_dropped : list_any (λ r. nat_le r.stop place) (take n xs) ≡ false → xs ≡ filter stays xs

@@ -44,7 +44,7 @@ fn push_or_check<H: Held>(
     Err(Fail::from(AllocError))
 }
 
-// Adds records of which no two end at one place, and drops some of them.
+// Adds records, and drops some of them.
 fn grow<H: Held>(rt: &impl Abort, alloc: Global, mut held: H) -> Result<(), Fail> {
     for stop in 100u32..120 {
         let line = format!(in alloc; "c\t5\t{stop}\tname")?;

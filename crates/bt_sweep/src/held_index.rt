@@ -1,4 +1,4 @@
-//! Held records with their least end.
+//! Held records, with the least end of those that were looked at.
 
 ghost use Rattle.std.specs.Prelude.{◌≤◌, length};
 ghost use Rattle.bt_sweep.specs.Held.{EndFrom};
@@ -9,15 +9,15 @@ use crate::held_list::HeldList;
 use bt_bed::Rec;
 use std::alloc::Global;
 
-/// Held records with the least of their ends. Where none has ended at a place, those that were looked at
-/// before aren't looked at again.
+/// Held records, with the least end of those that were looked at. Where none has ended at a place, those
+/// that were looked at before aren't looked at again.
 #[derive(Drop)]
 pub struct HeldIndex {
     // In file order.
     list: HeldList,
     // How many of them, from the first on, were looked at.
     seen: usize,
-    // The least of their ends, or a greater number where none was looked at.
+    // The least of their ends, or `u64::MAX` where none was looked at.
     least: u64,
     ghost within: { seen ≤ length (records_in list) },
     ghost ends: { EndFrom least (records_in list) seen },
@@ -55,7 +55,7 @@ impl HeldIndex {
     }
 
     // Forgets which were looked at.
-    fn look_anew(&mut self)
+    fn forget_looks(&mut self)
         ensures same { indexed_records self.new ≡ indexed_records self.old }
         ensures none { self.new.seen ≡ 0 }
     {
@@ -78,12 +78,13 @@ impl Held for HeldIndex {
         if place < self.least {
             return;
         }
-        self.look_anew();
-        self.list.drop_ended(place);
+        let seen = self.seen;
+        self.forget_looks();
+        self.list.drop_ended_among(seen, place);
     }
 
     fn clear(&mut self) {
-        self.look_anew();
+        self.forget_looks();
         self.list.clear();
     }
 

@@ -24,7 +24,7 @@ pub struct HeldList {
 }
 
 impl HeldList {
-    ghost use Rattle.std.specs.Prelude.{◌≡◌, [], ◌<◌, IfSome, IsNone, length};
+    ghost use Rattle.std.specs.Prelude.{◌≡◌, [], ◌<◌, ◌≤◌, IfSome, IsNone, filter, length, nat_lt};
     ghost use Rattle.std.specs.List.{HoldsAt};
     ghost use Rattle.bt_sweep.specs.Held.{EndAfter};
     ghost use Rattle.bt_sweep.specs.HeldList.{records_in};
@@ -49,8 +49,9 @@ impl HeldList {
         }
     }
 
-    // The end of the record with so many before it, where there is one and it may have ended at the place:
-    // where they come by their starts, none that starts there or after it has.
+    // The end of the record with so many before it, if there is one that may have ended at the place. Where
+    // records come by their starts, one that starts there or after it can't have ended, nor can those
+    // after it.
     pub(crate) fn end_of(&self, index: usize, place: u64) -> Option<u64>
         ensures end { IfSome result (λ stop. (index < length (records_in self.now)) × HoldsAt (λ r. r.stop ≡ stop) (records_in self.now) index) }
         ensures none { IsNone result → EndAfter place (records_in self.now) index }
@@ -60,6 +61,15 @@ impl HeldList {
             return None;
         }
         Some(bed.stop)
+    }
+
+    // Drops those that end at or before the place, which are all among so many from the first one on.
+    pub(crate) fn drop_ended_among(&mut self, count: usize, place: u64)
+        requires within { count ≤ length (records_in self.old) }
+        requires rest { EndAfter place (records_in self.old) count }
+        ensures { records_in self.new ≡ filter (λ r. nat_lt place r.stop) (records_in self.old) }
+    {
+        drop_ended_of(&mut self.records, count, place);
     }
 }
 
@@ -92,7 +102,6 @@ impl Held for HeldList {
 
     fn clear(&mut self) {
         self.records.clear();
-        self.rising = true;
     }
 
     fn nth(&self, index: usize) -> Option<&Rec> {
