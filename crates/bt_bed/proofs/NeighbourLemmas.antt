@@ -1,6 +1,6 @@
 -- Lemmas on what a line says behind the last place, and on the record ahead.
 use Rattle.std.proofs.Common.{◌≡◌, ℕ, ◌-◌, Bool, true, false, cond, List, length, Option, Some, None, Result, Ok, Err, refl, sym, ap, ◌∙◌, subst, arith}
-use Rattle.std.specs.Prelude.{IsTrue, is_some, option_map}
+use Rattle.std.specs.Prelude.{IsSome, IsTrue, is_some, option_map}
 use Rattle.bt_lines.specs.Lines.{TextLine}
 use Rattle.bt_lines.specs.declared.fault.Fault.{Fault}
 use Rattle.bt_lines.specs.declared.fault.Kind.{Kind}
@@ -123,6 +123,10 @@ module _ {Q : Type 0} where
   unfolding has_ahead
   said_by_none text neighbours e s is = absurd (let none : is_some neighbours.ahead ≡ true = ap is_some is in let apart : true ≡ false = sym none ∙ e in cc)
 
+  -- where no record is ahead, what holds of one that is has nothing to say
+  pub none_has : (neighbours : Neighbours Q) (holds : Type 0) → has_ahead neighbours ≡ false → has_ahead neighbours ≡ true → holds
+  none_has neighbours holds none some = absurd (false≢true (sym none ∙ some))
+
   pub has_spot : (neighbours : Neighbours Q) (spot : Spot) → neighbours.ahead ≡ Some spot → has_ahead neighbours ≡ true
   unfolding has_ahead
   has_spot neighbours spot e = ap is_some e
@@ -142,3 +146,7 @@ module _ {Q : Type 0} where
   pub said_after_line : (sorting : Sorting) (place : Place) (line : TextLine) (now : Option TextLine) (old new : Neighbours Q) (result : Result Bool Fault) → now ≡ Some line → TakesLine sorting place line.text old result new → IsSaidBy (text_at now) new
   said_after_line sorting place line now old new (Ok is_record) at taken = subst (λ (l : Option TextLine). IsSaidBy (text_at l) new) (sym at) taken.said_by
   said_after_line sorting place line now old new (Err fault) at lost = said_by_none (text_at now) new lost.none_ahead
+
+-- a reader that is at this line is at one
+pub is_at : (now : Option TextLine) (line : TextLine) → now ≡ Some line → IsSome now
+is_at now line at = subst IsSome (sym at) refl

@@ -1,8 +1,9 @@
 //! A reader of sorted records, whatever the rule by which they are sorted.
 
+ghost use Rattle.std.specs.Prelude.{◌≡◌, IsSome, true};
 ghost use Rattle.bt_lines.specs.Reader.{line_at};
 ghost use Rattle.bt_bed.specs.Ahead.{text_at};
-ghost use Rattle.bt_bed.specs.Neighbours.{IsSaidBy};
+ghost use Rattle.bt_bed.specs.Neighbours.{IsSaidBy, has_ahead};
 
 use crate::bed::BedRef;
 use crate::neighbours::Neighbours;
@@ -21,11 +22,12 @@ pub(crate) struct Cursor<S, Q> {
     // `None` until a line is at fault; then it stays.
     fault: Option<Fault>,
     ghost said: { IsSaidBy (text_at (line_at reader)) neighbours },
+    ghost at_line: { has_ahead neighbours ≡ true → IsSome (line_at reader) },
 }
 
 #[tactic(auto, unfolding(crate::specs::Cursor::view_with))]
 impl<S: Source, Q: Sorted + Drop> Cursor<S, Q> {
-    ghost use Rattle.std.specs.Prelude.{◌≡◌, ℕ, List, None, Some, false, IsSome, option_map};
+    ghost use Rattle.std.specs.Prelude.{◌≡◌, ℕ, List, None, Some, false, true, IsSome, option_map};
     ghost use Rattle.bt_lines.specs.Names.{told};
     ghost use Rattle.bt_lines.specs.Reader.{fault_kept as line_fault};
     ghost use Rattle.bt_bed.specs.Bed.{feature_lent};
@@ -97,6 +99,9 @@ impl<S: Source, Q: Sorted + Drop> Cursor<S, Q> {
         ensures { option_map feature_lent result
             ≡ option_map (λ m. m.item) (view_in (Q.sorting self.now.neighbours.rule) self.now).ahead }
     {
+        if !self.neighbours.has_record() {
+            return None;
+        }
         self.neighbours.record(self.text())
     }
 
@@ -163,13 +168,11 @@ impl<S: Source, Q: Sorted + Drop> Cursor<S, Q> {
         Ok(())
     }
 
-    // The text of the line that the reader is at.
+    // The text of the line that says the record ahead.
     fn text(&self) -> &[u8]
+        requires { has_ahead self.now.neighbours ≡ true }
         ensures { result.now ≡ text_at (line_at self.now.reader) }
     {
-        match self.reader.line() {
-            Some(line) => line.text,
-            None => &[],
-        }
+        self.reader.text()
     }
 }

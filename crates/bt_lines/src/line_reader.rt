@@ -128,6 +128,17 @@ impl<S: Source> LineReader<S> {
         })
     }
 
+    /// The text of the line that [`LineReader::line`] has. It reads nothing.
+    pub fn text(&self) -> &[u8]
+        requires { IsSome (line_at self.now) }
+        ensures { option_map (λ line. line.text) (line_at self.now) ≡ Some result.now }
+    {
+        match self.state {
+            State::Carried | State::LastLine => self.carried.as_slice(),
+            _ => self.block.text(),
+        }
+    }
+
     /// The input that the reader stands for.
     pub fn input(&self) -> Input
         ensures { result ≡ input_of self.now }

@@ -6,7 +6,7 @@ use Rattle.bt_lines.specs.Reader.{fault_kept as line_fault, input_of}
 use Rattle.bt_lines.specs.declared.fault.Input.{Input}
 use Rattle.bt_lines.specs.declared.fault.Place.{Place}
 use Rattle.bt_bed.proofs.CursorLemmas.{known_last, placed_none, placed_taken, below_is, cursor_start, cursor_more, cursor_record, cursor_lost, cursor_unread, cursor_end, still_going}
-use Rattle.bt_bed.proofs.NeighbourLemmas.{said_by_none, said_after_line}
+use Rattle.bt_bed.proofs.NeighbourLemmas.{is_at, none_has, said_by_none, said_after_line}
 use Rattle.bt_bed.proofs.OwnFailureLemmas.{lost_is_own, read_is_own}
 use Rattle.bt_bed.proofs.ResultLemmas.{passed_on}
 use Rattle.bt_bed.specs.Cursor.{fault_in, view_with}
@@ -26,7 +26,10 @@ loop-line-init g c = record {
 }
 
 pub invariant_of-self-in_err-line : goal.invariant_of-self-in_err-line
-invariant_of-self-in_err-line g c = record { said = said_by_none _ c.loop-line.self.neighbours c.loop-line.invariant.none }
+invariant_of-self-in_err-line g c = record {
+  said = said_by_none _ c.loop-line.self.neighbours c.loop-line.invariant.none;
+  at_line = none_has c.loop-line.self.neighbours _ c.loop-line.invariant.none;
+}
 
 pub returns-in_err-line-clause-step : goal.returns-in_err-line-clause-step
 returns-in_err-line-clause-step g c =
@@ -40,7 +43,10 @@ returns-in_err-line-clause-step g c =
 pub invariant_of-self-in-Some : goal.invariant_of-self-in-Some
 invariant_of-self-in-Some g c =
     let gives = rw (c.in_ok-line.was, c.in-Some.is) at c.next.follows.holds-at-none in
-    record { said = said_after_line _ _ (line_seen c.in-Some.line) _ c.loop-line.self.neighbours c.take_line.new.self c.take_line.result gives.answers.at c.take_line.ensures }
+    record {
+      said = said_after_line _ _ (line_seen c.in-Some.line) _ c.loop-line.self.neighbours c.take_line.new.self c.take_line.result gives.answers.at c.take_line.ensures;
+      at_line = λ some. is_at _ (line_seen c.in-Some.line) gives.answers.at;
+    }
 
 pub returns-in_err-take_line-clause-step : goal.returns-in_err-take_line-clause-step
 returns-in_err-take_line-clause-step g c =
@@ -82,7 +88,10 @@ loop-line-preserved g c =
     }
 
 pub invariant_of-self-in_default : goal.invariant_of-self-in_default
-invariant_of-self-in_default g c = record { said = said_by_none _ c.loop-line.self.neighbours c.loop-line.invariant.none }
+invariant_of-self-in_default g c = record {
+  said = said_by_none _ c.loop-line.self.neighbours c.loop-line.invariant.none;
+  at_line = none_has c.loop-line.self.neighbours _ c.loop-line.invariant.none;
+}
 
 pub returns-clause-step : goal.returns-clause-step
 returns-clause-step g c =
