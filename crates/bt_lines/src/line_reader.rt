@@ -134,7 +134,7 @@ impl<S: Source> LineReader<S> {
         ensures { option_map (λ line. line.text) (line_at self.now) ≡ Some result.now }
     {
         match self.state {
-            State::Carried | State::LastLine => self.carried.as_slice(),
+            State::LastLine | State::Carried => self.carried.as_slice(),
             _ => self.block.text(),
         }
     }
