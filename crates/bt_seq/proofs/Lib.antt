@@ -28,3 +28,4 @@ pub mod LineStepLemmas
 pub mod BedStepLemmas
 pub mod PlainMaskLemmas
 pub mod ColumnEndLemmas
+pub mod ShortNumbers

@@ -1,5 +1,5 @@
 -- Lemmas on lines that are put.
-use Rattle.std.proofs.Common.{◌≡◌, ℕ, ◌<◌, length, List, [], ◌++◌, ap, max, arith}
+use Rattle.std.proofs.Common.{◌≡◌, ℕ, ◌<◌, length, List, ◌++◌, ap, max, arith}
 use Rattle.std.proofs.lemmas.List.{length-append}
 use Rattle.bt_lines.proofs.PuttingLemmas.{adds_some}
 use Rattle.bt_lines.specs.Output.{Output}

@@ -1,6 +1,6 @@
 //! What a line of a SAM file says.
 
-ghost use Rattle.std.specs.Prelude.{◌≡◌, ◌≤◌, Some, length, take};
+ghost use Rattle.std.specs.Prelude.{◌≡◌, ◌≤◌, ◌∷◌, [], Some, length, take};
 ghost use Rattle.bt_lines.specs.Number.{value_of};
 ghost use Rattle.bt_seq.specs.Alignment.{alignment_of, fields_say, gives_nothing, is_skipped, value_up_to};
 ghost use Rattle.bt_seq.specs.Flag.{has_bit};
@@ -93,8 +93,49 @@ fn alignment(fields: Fields<'_>) -> Result<Option<SamRef<'_>>, Kind>
     }))
 }
 
-// The number that a text denotes. Of eight or nine digits, as most positions have, eight are read at once.
+// The number that a text denotes. Two and three digits, as most flags and qualities have, are read without a loop.
 fn number_in(text: &[u8]) -> Option<u64>
+    ensures { result ≡ value_of text.now }
+{
+    match text {
+        [tens, ones] => two_digits(*tens, *ones),
+        [hundreds, tens, ones] => three_digits(*hundreds, *tens, *ones),
+        _ => long_number(text),
+    }
+}
+
+// The number that two digits denote.
+fn two_digits(tens: u8, ones: u8) -> Option<u64>
+    ensures { result ≡ value_of (tens ∷ ones ∷ []) }
+{
+    if !tens.is_ascii_digit() {
+        return None;
+    }
+    if !ones.is_ascii_digit() {
+        return None;
+    }
+    Some(u64::from(tens - b'0') * 10 + u64::from(ones - b'0'))
+}
+
+// The number that three digits denote.
+fn three_digits(hundreds: u8, tens: u8, ones: u8) -> Option<u64>
+    ensures { result ≡ value_of (hundreds ∷ tens ∷ ones ∷ []) }
+{
+    if !hundreds.is_ascii_digit() {
+        return None;
+    }
+    if !tens.is_ascii_digit() {
+        return None;
+    }
+    if !ones.is_ascii_digit() {
+        return None;
+    }
+    let front = u64::from(hundreds - b'0') * 10 + u64::from(tens - b'0');
+    Some(front * 10 + u64::from(ones - b'0'))
+}
+
+// The number that a text denotes. Of eight or nine digits, as most positions have, eight are read at once.
+fn long_number(text: &[u8]) -> Option<u64>
     ensures { result ≡ value_of text.now }
 {
     match text.len() {

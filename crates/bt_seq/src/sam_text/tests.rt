@@ -144,7 +144,7 @@ fn nothing_is_said(rt: HostRuntime) {
 }
 
 // Lines, and what is wrong with each.
-const AT_FAULT: [(&[u8], Kind); 24] = [
+const AT_FAULT: [(&[u8], Kind); 29] = [
     (b"r", Kind::TooFewColumns),
     (b"r\t0\tref\t1\t30\t5M", Kind::TooFewColumns),
     (b"r\t0\tref\t1\t30\t5M\t*\t0\t0\t*", Kind::TooFewColumns),
@@ -153,6 +153,10 @@ const AT_FAULT: [(&[u8], Kind); 24] = [
     (b"r\tx\t\tx\tx\tx\t*\t0\t0\t*\t*", Kind::BadFlag),
     (b"r\t\tref\t1\t30\t5M\t*\t0\t0\t*\t*", Kind::BadFlag),
     (b"r\t-1\tref\t1\t30\t5M\t*\t0\t0\t*\t*", Kind::BadFlag),
+    (b"r\t1:\tref\t1\t30\t5M\t*\t0\t0\t*\t*", Kind::BadFlag),
+    (b"r\t:63\tref\t1\t30\t5M\t*\t0\t0\t*\t*", Kind::BadFlag),
+    (b"r\t1/3\tref\t1\t30\t5M\t*\t0\t0\t*\t*", Kind::BadFlag),
+    (b"r\t16x\tref\t1\t30\t5M\t*\t0\t0\t*\t*", Kind::BadFlag),
     (b"r\t4\t\tx\tx\tx\t*\t0\t0\t*\t*", Kind::EmptyName),
     (b"r\t4\tref\tx\tx\tx\t*\t0\t0\t*\t*", Kind::BadPosition),
     (
@@ -163,6 +167,7 @@ const AT_FAULT: [(&[u8], Kind); 24] = [
     (b"r\t4\tref\t1\tx\tx\t*\t0\t0\t*\t*", Kind::BadQuality),
     (b"r\t0\tref\t1\t256\t5M\t*\t0\t0\t*\t*", Kind::BadQuality),
     (b"r\t0\tref\t1\t\t5M\t*\t0\t0\t*\t*", Kind::BadQuality),
+    (b"r\t0\tref\t1\t/0\t5M\t*\t0\t0\t*\t*", Kind::BadQuality),
     (b"r\t4\tref\t1\t30\t5Q\t*\t0\t0\t*\t*", Kind::BadCigar),
     (b"r\t0\tref\t1\t30\t5Q\t*\t0\t0\t*\t*", Kind::BadCigar),
     (b"r\t0\tref\t1\t30\t5\t*\t0\t0\t*\t*", Kind::BadCigar),
