@@ -1,35 +1,46 @@
 //! Records that are kept.
 
-ghost use Rattle.std.specs.Prelude.{◌≡◌, ◌≤◌, ◌++◌, length, take, OnOk, OnErr, IfOk};
+ghost use Rattle.std.specs.Prelude.{◌≡◌, ◌+◌, ◌-◌, ◌≤◌, ◌++◌, length, take, OnOk, OnErr, IfOk, IfSome};
 ghost use Rattle.bt_bed.specs.Bed.{feature_lent};
 
 use crate::bed::BedRef;
 use crate::strand::Strand;
+use bt_lines::copy_piece;
 use std::alloc::{AllocError, Global};
 use std::marker::Model;
+
+// A record that follows a much longer one lets go of its bytes.
+const MOST_LEFT_OVER: usize = 4096;
 
 /// A feature that owns its bytes: what a [`BedRef`] borrows, in one buffer. Contracts see the feature
 /// itself, so a list of records is a list of features.
 #[derive(Debug, Drop)]
 pub struct Rec {
-    // The chromosome's name, and behind it the columns from the fourth on, each with the tab before it.
+    // The chromosome's name, and behind it the columns from the fourth on, each with the tab before it. Behind these
+    // may stand what is left of a longer record, which means nothing.
     text: Vec<u8>,
     // How much of the text is the name. The fields below are always those of one feature.
     name_len: usize,
     start: u64,
     stop: u64,
     strand: Strand,
+    // How many bytes at the end of the text mean nothing.
+    left_over: u32,
 }
 
 impl Model for Rec {
+    ghost use Rattle.std.specs.Prelude.{◌-◌, ◌≤◌, length, take};
     ghost use Rattle.bt_bed.specs.Feature.{Feature};
     ghost use Rattle.bt_bed.specs.Rec.{IsFeatureIn, feature_in};
 
     ghost Value = { Feature };
 
-    ghost view = { λ r. feature_in r.text.items r.name_len r.start r.stop r.strand };
+    ghost view = { λ r. feature_in (take (length r.text.items - r.left_over) r.text.items)
+        r.name_len r.start r.stop r.strand };
 
-    ghost invariant = { λ r. IsFeatureIn r.text.items r.name_len r.start r.stop r.strand };
+    ghost invariant = { λ r. (r.left_over ≤ length r.text.items)
+        × IsFeatureIn (take (length r.text.items - r.left_over) r.text.items)
+        r.name_len r.start r.stop r.strand };
 }
 
 impl Rec {
@@ -38,7 +49,8 @@ impl Rec {
     pub fn as_bed(&self) -> BedRef<'_>
         ensures { feature_lent result ≡ self.now }
     {
-        let (chrom, rest) = self.text.as_slice().split_at(self.name_len);
+        let len = self.text.len() - self.left_over as usize;
+        let (chrom, rest) = self.text[..len].split_at(self.name_len);
         BedRef {
             chrom,
             start: self.start,
@@ -55,6 +67,7 @@ impl Rec {
         ensures unchanged { OnErr result (self.new ≡ self.old) }
     {
         fill(&mut self.text, bed.chrom, bed.rest)?;
+        self.left_over = 0;
         self.name_len = bed.chrom.len();
         self.start = bed.start;
         self.stop = bed.stop;
@@ -76,7 +89,7 @@ impl Rec {
             rest,
             ..
         } = *bed;
-        refill(&mut self.text, self.name_len, rest)?;
+        self.left_over = refill(&mut self.text, self.name_len, rest)?;
         self.start = start;
         self.stop = stop;
         self.strand = strand;
@@ -97,6 +110,7 @@ impl BedRef<'_> {
             start: self.start,
             stop: self.stop,
             strand: self.strand,
+            left_over: 0,
         })
     }
 }
@@ -113,9 +127,37 @@ fn fill(text: &mut Vec<u8>, name: &[u8], rest: &[u8]) -> Result<(), AllocError>
     text.extend_from_slice(rest)
 }
 
-// Puts other bytes behind the first ones of a text, so many, or where memory runs out leaves it as it
-// was.
-fn refill(text: &mut Vec<u8>, kept: usize, rest: &[u8]) -> Result<(), AllocError>
+// Puts other bytes behind the first ones of a text, so many, or where memory runs out leaves it as it was. A longer
+// text mostly stays as long as it is: it answers how many bytes at its end mean nothing then.
+fn refill(text: &mut Vec<u8>, kept: usize, rest: &[u8]) -> Result<u32, AllocError>
+    requires { kept ≤ length text.old.items }
+    ensures within { IfOk result (λ left. left ≤ length text.new.items) }
+    ensures filled { IfOk result (λ left. take (length text.new.items - left) text.new.items
+        ≡ take kept text.old.items ++ rest.now) }
+    ensures unchanged { OnErr result (text.new.items ≡ text.old.items) }
+{
+    let whole = kept + rest.len();
+    if let Some(left) = left_over(text.len(), whole) {
+        copy_piece(&mut text[kept..whole], rest);
+        return Ok(left);
+    }
+    replace_behind(text, kept, rest)?;
+    Ok(0)
+}
+
+// How many bytes of a text are left over behind those that are used, if these fit in it and only a few are.
+fn left_over(len: usize, used: usize) -> Option<u32>
+    ensures { IfSome result (λ left. left + used ≡ len) }
+{
+    if used > len || len - used > MOST_LEFT_OVER {
+        return None;
+    }
+    Some((len - used) as u32)
+}
+
+// Puts other bytes behind the first ones of a text, so many, and nothing behind these.
+#[inline(never)]
+fn replace_behind(text: &mut Vec<u8>, kept: usize, rest: &[u8]) -> Result<(), AllocError>
     requires { kept ≤ length text.old.items }
     ensures filled { OnOk result (text.new.items ≡ take kept text.old.items ++ rest.now) }
     ensures unchanged { OnErr result (text.new.items ≡ text.old.items) }

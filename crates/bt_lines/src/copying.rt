@@ -42,6 +42,28 @@ pub(crate) fn copy_short(to: &mut [u8], piece: &[u8])
     }
 }
 
+/// Copies a piece to as many bytes, as `copy_from_slice` does: without a call where it has 4 to 64 bytes.
+#[inline(always)]
+pub fn copy_piece(to: &mut [u8], piece: &[u8])
+    requires { length to.old ≡ length piece.now }
+    ensures { to.new ≡ piece.now }
+{
+    if is_short(piece.len()) {
+        copy_short(to, piece);
+    } else {
+        copy_any(to, piece);
+    }
+}
+
+// Copies a piece of any length to as many bytes.
+#[inline(never)]
+fn copy_any(to: &mut [u8], piece: &[u8])
+    requires { length to.old ≡ length piece.now }
+    ensures { to.new ≡ piece.now }
+{
+    to.copy_from_slice(piece);
+}
+
 // Copies a short piece or a single byte to as many bytes.
 #[inline(always)]
 pub(crate) fn copy_end(to: &mut [u8], piece: &[u8])

@@ -46,6 +46,7 @@ mod to_write;
 
 pub use block::BLOCK;
 pub use column_iter::Columns;
+pub use copying::copy_piece;
 pub use device::{DeviceFailed, Sink, Source};
 pub use fault::{Fault, Input, Kind, Place};
 pub use faults::{no_memory, write_failed};
