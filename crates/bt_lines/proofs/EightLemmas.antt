@@ -1,8 +1,8 @@
 -- Lemmas on eight bytes that are read as one number, the first in its lowest byte.
-use Rattle.std.proofs.Common.{zero, suc, inl, inr, ◌≡◌, ℕ, ◌+◌, ◌-◌, ◌*◌, ◌/◌, ◌%◌, ◌^◌, ◌<◌, ◌≤◌, true, false, List, [], ◌∷◌, length, get_or, Some, None, refl, sym, ap, ◌∙◌, arith, bit_and, bit_xor, take, w64, ltb, leb}
+use Rattle.std.proofs.Common.{zero, suc, inl, inr, ◌≡◌, ℕ, ◌+◌, ◌-◌, ◌*◌, ◌/◌, ◌%◌, ◌^◌, ◌<◌, ◌≤◌, true, false, List, [], ◌∷◌, length, get_or, Some, None, refl, sym, ap, ◌∙◌, arith, bit_and, bit_or, bit_xor, take, w64, ltb, leb}
 use Rattle.std.proofs.lemmas.Bool.{cases_Bool, and_parts}
 use Rattle.std.proofs.lemmas.Bool.Decides.{nat_tests}
-use Rattle.std.proofs.lemmas.Nat.{and_block, and_le_l, and_le_r, and_mask, mod_below, shr_split, xor_block, xor_of_8}
+use Rattle.std.proofs.lemmas.Nat.{and_assoc, and_block, and_comm, and_le_l, and_le_r, and_mask, and_or_apart, and_or_self, mod_below, or_comm, shr_split, xor_block, xor_of_8}
 use Rattle.std.proofs.lemmas.Nat.Bits.{and_high}
 use Rattle.std.specs.Char.{is_ascii_digit, digit_value}
 use Rattle.std.specs.Int.{from_le_bytes}
@@ -57,7 +57,7 @@ raised_within : (bytes : List ℕ) (low high more : ℕ) → AreWithin low high 
 raised_within [] low high more all = tt
 raised_within (byte ∷ bytes) low high more all = (omega arith, omega arith, raised_within bytes low high more all.2)
 
-looser : (bytes : List ℕ) (low high lower higher : ℕ) → lower ≤ low → high ≤ higher → AreWithin low high bytes → AreWithin lower higher bytes
+pub looser : (bytes : List ℕ) (low high lower higher : ℕ) → lower ≤ low → high ≤ higher → AreWithin low high bytes → AreWithin lower higher bytes
 looser [] low high lower higher l h all = tt
 looser (byte ∷ bytes) low high lower higher l h all = (omega arith, omega arith, looser bytes low high lower higher l h all.2)
 
@@ -146,19 +146,32 @@ digit_within byte digit = (grind (arith, nat_tests), grind (arith, nat_tests))
 within_digit : (byte : ℕ) → 48 ≤ byte → byte ≤ 57 → is_ascii_digit byte ≡ true
 within_digit byte low high = grind (arith, nat_tests)
 
-digits_within : (bytes : List ℕ) → list_all is_ascii_digit bytes ≡ true → AreWithin 48 57 bytes
+pub digits_within : (bytes : List ℕ) → list_all is_ascii_digit bytes ≡ true → AreWithin 48 57 bytes
 digits_within [] all = tt
 digits_within (byte ∷ bytes) all =
     let parts = and_parts (is_ascii_digit byte) (list_all is_ascii_digit bytes) all in
     let here = digit_within byte parts.0 in
     (here.0, here.1, digits_within bytes parts.1)
 
-within_digits : (bytes : List ℕ) → AreWithin 48 57 bytes → list_all is_ascii_digit bytes ≡ true
+pub within_digits : (bytes : List ℕ) → AreWithin 48 57 bytes → list_all is_ascii_digit bytes ≡ true
 within_digits [] all = refl
 within_digits (byte ∷ bytes) all = rw (within_digit byte all.0 all.1, within_digits bytes all.2) refl
 
+-- the bits of so many bytes
+abbrev pub bits_of : List ℕ → ℕ
+bits_of [] = 0
+bits_of (byte ∷ bytes) = suc (suc (suc (suc (suc (suc (suc (suc (bits_of bytes))))))))
+
+-- as many bytes, of which the last is a one and the others are zeros
+abbrev pub last_one : List ℕ → List ℕ
+last_one [] = []
+last_one (byte ∷ []) = 1 ∷ []
+last_one (byte ∷ next ∷ bytes) = 0 ∷ last_one (next ∷ bytes)
+
 -- what is read of eight bytes, and the masks of so many
-record Eight (bytes : List ℕ) : Type 0 where
+pub record Eight (bytes : List ℕ) : Type 0 where
+  pub bits : bits_of bytes ≡ 64
+  pub last : worth (last_one bytes) ≡ 72057594037927936
   word : from_le_bytes w64 bytes ≡ worth bytes
   uppers : worth (all_of 240 bytes) ≡ 17361641481138401520
   zeros : worth (all_of 48 bytes) ≡ 3472328296227680304
@@ -166,8 +179,8 @@ record Eight (bytes : List ℕ) : Type 0 where
   nines : worth (all_of 9 bytes) ≡ 651061555542690057
   fifteens : worth (all_of 15 bytes) ≡ 1085102592571150095
 
-eight : (bytes : List ℕ) → length bytes ≡ 8 → Eight bytes
-eight (a ∷ b ∷ c ∷ d ∷ e ∷ f ∷ g ∷ h ∷ []) n = record { word = (let sum : from_le_bytes w64 (a ∷ b ∷ c ∷ d ∷ e ∷ f ∷ g ∷ h ∷ []) ≡ a + b * 256 + c * 65536 + d * 16777216 + e * 4294967296 + f * 1099511627776 + g * 281474976710656 + h * 72057594037927936 = refl in omega arith); uppers = refl; zeros = refl; sixes = refl; nines = refl; fifteens = refl }
+pub eight : (bytes : List ℕ) → length bytes ≡ 8 → Eight bytes
+eight (a ∷ b ∷ c ∷ d ∷ e ∷ f ∷ g ∷ h ∷ []) n = record { bits = refl; last = refl; word = (let sum : from_le_bytes w64 (a ∷ b ∷ c ∷ d ∷ e ∷ f ∷ g ∷ h ∷ []) ≡ a + b * 256 + c * 65536 + d * 16777216 + e * 4294967296 + f * 1099511627776 + g * 281474976710656 + h * 72057594037927936 = refl in omega arith); uppers = refl; zeros = refl; sixes = refl; nines = refl; fifteens = refl }
 eight [] n = absurd (omega arith)
 eight (a ∷ []) n = absurd (omega arith)
 eight (a ∷ b ∷ []) n = absurd (omega arith)
@@ -205,17 +218,8 @@ upper_sums bytes n all small =
     rw (ones_are bytes n all, ← (masks bytes n).sixes, raised_worth fs 6, ← (masks bytes n).uppers, ← raised_masks fs 6 240)
     (and_worth (raised fs 6) 240 (omega arith) within)
 
--- some upper half isn't 0
-pub none_by_uppers : (bytes : List ℕ) → length bytes ≡ 8 → AreWithin 0 255 bytes → (bit_and (ones_in bytes) 17361641481138401520 ≡ 0 → ⊥) → None ≡ value_of bytes
-none_by_uppers bytes n all other = elim (cases_Bool (list_all is_ascii_digit bytes)) [
-  | inl digits ↦
-      let small = looser (flipped bytes) 0 9 0 15 (omega arith) (omega arith) (flipped_digits bytes (digits_within bytes digits)) in
-      absurd (other (upper_ones bytes n all ∙ no_uppers (flipped bytes) small))
-  | inr none ↦ no_digits bytes none
-]
-
 -- the upper halves are 0
-pub some_uppers : (bytes : List ℕ) → length bytes ≡ 8 → AreWithin 0 255 bytes → bit_and (ones_in bytes) 17361641481138401520 ≡ 0 → AreWithin 0 15 (flipped bytes)
+some_uppers : (bytes : List ℕ) → length bytes ≡ 8 → AreWithin 0 255 bytes → bit_and (ones_in bytes) 17361641481138401520 ≡ 0 → AreWithin 0 15 (flipped bytes)
 some_uppers bytes n all same = uppers (flipped bytes) (flipped_within bytes all) (sym (upper_ones bytes n all) ∙ same)
 
 worth_up_to : (bytes : List ℕ) (low high : ℕ) → AreWithin low high bytes → worth bytes ≤ worth (all_of high bytes)
@@ -223,26 +227,51 @@ worth_up_to [] low high all = omega arith
 worth_up_to (byte ∷ bytes) low high all = let rest = worth_up_to bytes low high all.2 in omega arith
 
 -- so large is what is read at most
-pub ones_up_to : (bytes : List ℕ) → length bytes ≡ 8 → AreWithin 0 255 bytes → AreWithin 0 15 (flipped bytes) → ones_in bytes ≤ 1085102592571150095
+ones_up_to : (bytes : List ℕ) → length bytes ≡ 8 → AreWithin 0 255 bytes → AreWithin 0 15 (flipped bytes) → ones_in bytes ≤ 1085102592571150095
 ones_up_to bytes n all small = rw (ones_are bytes n all, ← (masks bytes n).fifteens) (worth_up_to (flipped bytes) 0 15 small)
 
--- some upper half isn't 0 with six more
-pub none_by_sixes : (bytes : List ℕ) → length bytes ≡ 8 → AreWithin 0 255 bytes → AreWithin 0 15 (flipped bytes)
-    → (bit_and (ones_in bytes + 434041037028460038) 17361641481138401520 ≡ 0 → ⊥) → None ≡ value_of bytes
-none_by_sixes bytes n all small other = elim (cases_Bool (list_all is_ascii_digit bytes)) [
+-- what shares no bit with a mask beside another number shares none alone
+no_bit : (a b mask : ℕ) → bit_and (bit_or a b) mask ≡ 0 → bit_and b mask ≡ 0
+no_bit a b mask none =
+    ap (λ n. bit_and n mask) (sym (and_or_self b a) ∙ and_comm (bit_or a b) b)
+    ∙ and_assoc mask b (bit_or a b) ∙ ap (bit_and b) none ∙ and_zero_r b
+
+-- the upper halves of the bytes as they are, and with six more
+abbrev pub halves_in : ℕ → ℕ
+halves_in ones = bit_and (bit_or ones ((ones + 434041037028460038) % 18446744073709551616)) 17361641481138401520
+
+-- six more are no more than eight bytes hold, where the upper halves are 0
+sixes_fit : (bytes : List ℕ) → length bytes ≡ 8 → AreWithin 0 255 bytes → AreWithin 0 15 (flipped bytes)
+    → (ones_in bytes + 434041037028460038) % 18446744073709551616 ≡ ones_in bytes + 434041037028460038
+sixes_fit bytes n all small = let most = ones_up_to bytes n all small in omega arith
+
+-- some half isn't 0
+pub none_by_halves : (bytes : List ℕ) → length bytes ≡ 8 → AreWithin 0 255 bytes → (halves_in (ones_in bytes) ≡ 0 → ⊥) → None ≡ value_of bytes
+none_by_halves bytes n all other = elim (cases_Bool (list_all is_ascii_digit bytes)) [
   | inl digits ↦
-      let sums = raised_within (flipped bytes) 0 9 6 (flipped_digits bytes (digits_within bytes digits)) in
-      absurd (other (upper_sums bytes n all small ∙ no_uppers (raised (flipped bytes) 6) sums))
+      let nines = flipped_digits bytes (digits_within bytes digits) in
+      let small = looser (flipped bytes) 0 9 0 15 (omega arith) (omega arith) nines in
+      let lower = upper_ones bytes n all ∙ no_uppers (flipped bytes) small in
+      let sums = upper_sums bytes n all small ∙ no_uppers (raised (flipped bytes) 6) (raised_within (flipped bytes) 0 9 6 nines) in
+      absurd (other (rw (sixes_fit bytes n all small) (and_or_apart 17361641481138401520 (ones_in bytes) (ones_in bytes + 434041037028460038) sums ∙ lower)))
   | inr none ↦ no_digits bytes none
 ]
 
 -- all eight are digits
-pub all_digits : (bytes : List ℕ) → length bytes ≡ 8 → AreWithin 0 255 bytes → AreWithin 0 15 (flipped bytes)
+all_digits : (bytes : List ℕ) → length bytes ≡ 8 → AreWithin 0 255 bytes → AreWithin 0 15 (flipped bytes)
     → bit_and (ones_in bytes + 434041037028460038) 17361641481138401520 ≡ 0 → AreWithin 48 57 bytes
 all_digits bytes n all small same =
     let fs = flipped bytes in
     let within = looser (raised fs 6) 0 21 0 255 (omega arith) (omega arith) (raised_within fs 0 15 6 small) in
     digits_flipped bytes (lowered_within fs 9 6 (uppers (raised fs 6) within (sym (upper_sums bytes n all small) ∙ same)))
+
+-- all halves are 0
+pub digits_by_halves : (bytes : List ℕ) → length bytes ≡ 8 → AreWithin 0 255 bytes → halves_in (ones_in bytes) ≡ 0 → AreWithin 48 57 bytes
+digits_by_halves bytes n all none =
+    let ones = ones_in bytes in
+    let sixes = (ones + 434041037028460038) % 18446744073709551616 in
+    let small = some_uppers bytes n all (no_bit sixes ones 17361641481138401520 (ap (λ x. bit_and x 17361641481138401520) (or_comm sixes ones) ∙ none)) in
+    all_digits bytes n all small (ap (λ x. bit_and x 17361641481138401520) (sym (sixes_fit bytes n all small)) ∙ no_bit ones sixes 17361641481138401520 none)
 
 -- bytes by their index
 pub are_bytes : (bytes : List ℕ) → ((i : ℕ) → get_or bytes i 0 < 256) → AreWithin 0 255 bytes
@@ -298,7 +327,7 @@ value_eight a b c d e f g h ones i j k l m n o p is =
     )
     (value_fours (10 * a + b) (10 * c + d) (10 * e + f) (10 * g + h) (omega arith) (omega arith) (omega arith) (omega arith) ∙ omega arith)
 
-digit_at : (byte : ℕ) → 48 ≤ byte → byte ≤ 57 → digit_value byte ≡ byte - 48
+pub digit_at : (byte : ℕ) → 48 ≤ byte → byte ≤ 57 → digit_value byte ≡ byte - 48
 digit_at byte low high = digit_is byte (within_digit byte low high)
 
 -- each with 48 taken off
@@ -310,13 +339,13 @@ flipped_lowered : (bytes : List ℕ) → AreWithin 48 57 bytes → flipped bytes
 flipped_lowered [] all = refl
 flipped_lowered (byte ∷ bytes) all = rw (flipped_digit byte all.0 all.1, flipped_lowered bytes all.2) refl
 
-ones_lowered : (bytes : List ℕ) → length bytes ≡ 8 → AreWithin 48 57 bytes → ones_in bytes ≡ worth (lowered bytes)
+pub ones_lowered : (bytes : List ℕ) → length bytes ≡ 8 → AreWithin 48 57 bytes → ones_in bytes ≡ worth (lowered bytes)
 ones_lowered bytes n all = ones_are bytes n (looser bytes 48 57 0 255 (omega arith) (omega arith) all) ∙ ap worth (flipped_lowered bytes all)
 
 place_values : (a b c d e f g h : ℕ) → a * 10000000 + b * 1000000 + c * 100000 + d * 10000 + e * 1000 + f * 100 + g * 10 + h ≡ (((((((0 * 10 + a) * 10 + b) * 10 + c) * 10 + d) * 10 + e) * 10 + f) * 10 + g) * 10 + h
 place_values a b c d e f g h = omega arith
 
-digits_of : (a b c d e f g h : ℕ) → digits_value 10 (a ∷ b ∷ c ∷ d ∷ e ∷ f ∷ g ∷ h ∷ []) ≡ (((((((0 * 10 + digit_value a) * 10 + digit_value b) * 10 + digit_value c) * 10 + digit_value d) * 10 + digit_value e) * 10 + digit_value f) * 10 + digit_value g) * 10 + digit_value h
+pub digits_of : (a b c d e f g h : ℕ) → digits_value 10 (a ∷ b ∷ c ∷ d ∷ e ∷ f ∷ g ∷ h ∷ []) ≡ (((((((0 * 10 + digit_value a) * 10 + digit_value b) * 10 + digit_value c) * 10 + digit_value d) * 10 + digit_value e) * 10 + digit_value f) * 10 + digit_value g) * 10 + digit_value h
 digits_of a b c d e f g h = refl
 
 small_digit : (byte : ℕ) → 48 ≤ byte → byte ≤ 57 → byte - 48 ≤ 9
@@ -331,7 +360,7 @@ value_of_eight a b c d e f g h (a1, a2, (b1, b2, (c1, c2, (d1, d2, (e1, e2, (f1,
     ∙ rw (digits_of a b c d e f g h, digit_at a a1 a2, digit_at b b1 b2, digit_at c c1 c2, digit_at d d1 d2, digit_at e e1 e2, digit_at f f1 f2, digit_at g g1 g2, digit_at h h1 h2)
     (place_values (a - 48) (b - 48) (c - 48) (d - 48) (e - 48) (f - 48) (g - 48) (h - 48))
 
-eight_small : (bytes : List ℕ) → length bytes ≡ 8 → AreWithin 48 57 bytes → (value_in (pairs_in (ones_in bytes)) ≡ digits_value 10 bytes) × (digits_value 10 bytes ≤ 999999999999)
+pub eight_small : (bytes : List ℕ) → length bytes ≡ 8 → AreWithin 48 57 bytes → (value_in (pairs_in (ones_in bytes)) ≡ digits_value 10 bytes) × (digits_value 10 bytes ≤ 999999999999)
 eight_small (a ∷ b ∷ c ∷ d ∷ e ∷ f ∷ g ∷ h ∷ []) n all =
     let is = value_of_eight a b c d e f g h all in
     (is, rw (← is) (value_small (pairs_in (ones_in (a ∷ b ∷ c ∷ d ∷ e ∷ f ∷ g ∷ h ∷ [])))))

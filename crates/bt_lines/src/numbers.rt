@@ -41,7 +41,7 @@ pub fn number(text: &[u8]) -> Option<u64>
 // taken off by exclusive or they are at most 9, so that their upper halves are 0, and stay 0 when 6 is added.
 const UPPER_HALVES: u64 = 0xf0f0_f0f0_f0f0_f0f0;
 
-const ZEROS: u64 = 0x3030_3030_3030_3030;
+pub(crate) const ZEROS: u64 = 0x3030_3030_3030_3030;
 
 const SIXES: u64 = 0x0606_0606_0606_0606;
 
@@ -55,10 +55,8 @@ pub fn eight_digits(bytes: &[u8; 8]) -> Option<u64>
     ensures { result ≡ value_of bytes.now }
 {
     let ones = u64::from_le_bytes(*bytes) ^ ZEROS;
-    if ones & UPPER_HALVES != 0 {
-        return None;
-    }
-    if (ones + SIXES) & UPPER_HALVES != 0 {
+    // A sum goes over into the next byte only where the upper half of its own byte isn't 0 before.
+    if (ones | ones.wrapping_add(SIXES)) & UPPER_HALVES != 0 {
         return None;
     }
     Some(joined(ones))
