@@ -1,4 +1,5 @@
 pub mod PiecesLemmas
+pub mod PrintLemmas
 pub mod BlockLemmas
 pub mod ColumnLemmas
 pub mod CopyLemmas

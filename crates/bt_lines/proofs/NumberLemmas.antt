@@ -105,7 +105,7 @@ value_short i value below short =
     let most : 10 ^ i ≤ 1000000000000 = pow-le-pow_right {n = 10} (omega arith) {i = i} {j = 12} short in
     omega (arith, below, most)
 
-all_digits_in : (text : List ℕ) → list_all is_ascii_digit text ≡ true → AllDigits 10 text
+pub all_digits_in : (text : List ℕ) → list_all is_ascii_digit text ≡ true → AllDigits 10 text
 all_digits_in [] all = tt
 all_digits_in (byte ∷ bytes) all =
     let parts = and_parts (is_ascii_digit byte) (list_all is_ascii_digit bytes) all in

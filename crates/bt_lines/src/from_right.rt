@@ -1,11 +1,21 @@
 //! Columns of numbers, written from right to left.
 
-ghost use Rattle.std.specs.Prelude.{◌≡◌, ◌+◌, ◌≤◌, ◌++◌, codes, decimal, drop, length};
+ghost use Rattle.std.specs.Prelude.{◌≡◌, ◌+◌, ◌-◌, ◌<◌, ◌≤◌, ◌++◌, ℕ, List, codes, decimal, drop, length};
+ghost use Rattle.bt_lines.specs.Digits.{AreOnes, AreZeros, eight_digits_of};
 
+use crate::numbers::ZEROS;
 use itoa::write_digits;
 
 /// The room for a tab and a number of up to 20 digits.
 pub const COLUMN: usize = 21;
+
+// A one in the place of the last of eight digits.
+const LAST_ONE: u64 = 0x0100_0000_0000_0000;
+
+// Where the quotients by 100 of two parts of four digits each stand, and those by 10 of four parts of two digits each.
+const HUNDREDS: u64 = 0x0000_007f_0000_007f;
+
+const TENS: u64 = 0x000f_000f_000f_000f;
 
 /// Writes a tab and a number in decimal, without leading zeros, so that they end where they are told to,
 /// and gives where they begin. So a line is written from its last column to its first. It takes no memory.
@@ -22,6 +32,93 @@ pub fn write_column(number: u64, text: &mut [u8], end: usize) -> usize
     first
 }
 
+/// Writes what [`write_column`] writes, and takes fewer instructions for a number of five to nine digits, as most
+/// positions have: the last eight digits are found at once.
+#[inline]
+pub fn write_position(number: u64, text: &mut [u8], end: usize) -> usize
+    requires room { COLUMN ≤ end }
+    requires within { end ≤ length text.old }
+    ensures high { result ≤ end }
+    ensures low { end ≤ result + COLUMN }
+    ensures written { drop result text.new ≡ codes "\t" ++ (decimal number ++ drop end text.old) }
+{
+    let tab = write_number(number, text, end) - 1;
+    text[tab] = b'\t';
+    tab
+}
+
+// Writes a number in decimal so that it ends where it is told to, and gives where it begins. The digits before the
+// last eight are written one by one.
+#[inline]
+fn write_number(number: u64, text: &mut [u8], end: usize) -> usize
+    requires room { COLUMN ≤ end }
+    requires within { end ≤ length text.old }
+    ensures start { result + length (decimal number) ≡ end }
+    ensures written { drop result text.new ≡ decimal number ++ drop end text.old }
+{
+    if number < 100_000_000 {
+        return write_small(number, text, end);
+    }
+    let before = number / 100_000_000;
+    write_eight(eight_ones(number % 100_000_000), text, end);
+    if before < 10 {
+        text[end - 9] = b'0' + before as u8;
+        return end - 9;
+    }
+    write_digits(before, text, end - 8)
+}
+
+// Writes a number of at most eight digits, behind zeros that make it eight, and gives where it begins.
+#[inline]
+fn write_small(number: u64, text: &mut [u8], end: usize) -> usize
+    requires small { number < 100000000 }
+    requires room { 8 ≤ end }
+    requires within { end ≤ length text.old }
+    ensures start { result + length (decimal number) ≡ end }
+    ensures written { drop result text.new ≡ decimal number ++ drop end text.old }
+{
+    let ones = eight_ones(number);
+    write_eight(ones, text, end);
+    end - 8 + zeros_in_front(ones)
+}
+
+// Writes eight digits, of their values in the bytes of one number, the first in the lowest.
+#[inline]
+fn write_eight(ones: u64, text: &mut [u8], end: usize)
+    requires room { 8 ≤ end }
+    requires within { end ≤ length text.old }
+    ensures { (digits : List ℕ) → AreOnes digits ones → drop (end - 8) text.new ≡ digits ++ drop end text.old }
+{
+    let bytes = (ones ^ ZEROS).to_le_bytes();
+    text[end - 8..end].copy_from_slice(&bytes);
+}
+
+// How many zeros come before the first other digit of eight, or before the last digit where all are zeros.
+#[inline]
+fn zeros_in_front(ones: u64) -> usize
+    ensures { (digits : List ℕ) → AreOnes digits ones → AreZeros digits result }
+{
+    (ones | LAST_ONE).trailing_zeros() as usize / 8
+}
+
+// The values of the eight digits of a number, of which the first may be zeros, in the bytes of one number, the first
+// in the lowest. The number is split in two parts of four digits each, these in two of two digits each, and these in
+// their digits. One multiplication finds the quotients of all parts by 100, and one those by 10: for parts of four
+// digits 10,486 / 2^20 is near enough to 1 / 100, and for those of two digits 103 / 1024 to 1 / 10. What remains of a
+// part goes to the place above its quotient: hundreds + (fours - 100 * hundreds) * 2^16 is worked out with one
+// multiplication less.
+#[inline]
+fn eight_ones(number: u64) -> u64
+    requires { number < 100000000 }
+    ensures { AreOnes (eight_digits_of number) result }
+{
+    let fours = number / 10_000 + number % 10_000 * 0x1_0000_0000;
+    let hundreds = fours * 10_486 / 0x10_0000 & HUNDREDS;
+    let pairs = fours * 0x1_0000 - hundreds * (100 * 0x1_0000 - 1);
+    let tens = pairs * 103 / 1024 & TENS;
+    pairs * 0x100 - tens * (10 * 0x100 - 1)
+}
+
 #[cfg(test)]
 mod tests {
     use super::*;
@@ -35,5 +132,38 @@ mod tests {
         let want: &[u8] = b"\t0\t18446744073709551615\n";
         assert_eq!(rt; &text[first..], want);
         Ok(())
+    }
+
+    // Numbers, and their columns with what stands behind these.
+    const POSITIONS: [(u64, &[u8]); 12] = [
+        (0, b"\t0\n\n"),
+        (7, b"\t7\n\n"),
+        (10, b"\t10\n\n"),
+        (12345, b"\t12345\n\n"),
+        (10_203_040, b"\t10203040\n\n"),
+        (99_999_999, b"\t99999999\n\n"),
+        (100_000_000, b"\t100000000\n\n"),
+        (248_956_422, b"\t248956422\n\n"),
+        (999_999_999, b"\t999999999\n\n"),
+        (1_000_000_000, b"\t1000000000\n\n"),
+        (999_999_999_999, b"\t999999999999\n\n"),
+        (u64::MAX, b"\t18446744073709551615\n\n"),
+    ];
+
+    // The first number of a table that is written otherwise.
+    fn first_miswritten(rows: &[(u64, &[u8])]) -> Option<u64> {
+        for (number, want) in rows {
+            let mut text = [b'\n'; COLUMN + 2];
+            let first = write_position(*number, &mut text, COLUMN);
+            if &text[first..] != *want {
+                return Some(*number);
+            }
+        }
+        None
+    }
+
+    #[test]
+    fn positions_of_each_length(rt: HostRuntime) {
+        assert_eq!(rt; first_miswritten(&POSITIONS), None);
     }
 }

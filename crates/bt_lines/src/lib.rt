@@ -51,7 +51,7 @@ pub use device::{DeviceFailed, Sink, Source};
 pub use fault::{Fault, Input, Kind, Place};
 pub use faults::{no_memory, write_failed};
 pub use from_read::FromRead;
-pub use from_right::{COLUMN, write_column};
+pub use from_right::{COLUMN, write_column, write_position};
 pub use line::{Line, LineEnd};
 pub use line_reader::LineReader;
 pub use numbers::{MAX_DIGITS, MAX_NUMBER, eight_digits, few_digits, number};
