@@ -4,7 +4,7 @@ ghost use Rattle.std.specs.Prelude.{◌≡◌, ◌+◌, ◌≤◌, ◌++◌, cod
 ghost use Rattle.bt_lines.specs.Putting.{Puts};
 ghost use Rattle.bt_bed.specs.IntervalLine.{bounds_text, interval_line, span_text};
 
-use bt_lines::{COLUMN, Fault, Out, Sink, put_both, write_column};
+use bt_lines::{COLUMN, Fault, Out, Sink, put_both, write_position};
 
 // The room for what follows the name: two columns and a line feed.
 const ROOM: usize = 2 * COLUMN + 1;
@@ -48,8 +48,8 @@ fn write_span(start: u64, stop: u64, text: &mut [u8; ROOM]) -> usize
     ensures written { drop result text.new ≡ span_text start stop }
 {
     text[ROOM - 1] = b'\n';
-    let before_stop = write_column(stop, text, ROOM - 1);
-    write_column(start, text, before_stop)
+    let before_stop = write_position(stop, text, ROOM - 1);
+    write_position(start, text, before_stop)
 }
 
 #[cfg(test)]

@@ -4,7 +4,7 @@ ghost use Rattle.std.specs.Prelude.{◌≡◌, ◌+◌, ◌≤◌, ◌++◌, cod
 ghost use Rattle.bt_lines.specs.Putting.{Puts};
 ghost use Rattle.bt_runs.specs.Depth.{depth_line};
 
-use bt_lines::{COLUMN, Fault, Out, Sink, put_both, write_column};
+use bt_lines::{COLUMN, Fault, Out, Sink, put_both, write_column, write_position};
 
 // The room for what follows the name: three columns and a line feed.
 const ROOM: usize = 3 * COLUMN + 1;
@@ -23,7 +23,7 @@ pub(crate) fn put_depth<K: Sink>(
     let mut text = [0; ROOM];
     text[ROOM - 1] = b'\n';
     let before_depth = write_column(depth, &mut text, ROOM - 1);
-    let before_stop = write_column(stop, &mut text, before_depth);
-    let first = write_column(start, &mut text, before_stop);
+    let before_stop = write_position(stop, &mut text, before_depth);
+    let first = write_position(start, &mut text, before_stop);
     put_both(chrom, &text[first..], out)
 }

@@ -7,7 +7,7 @@ ghost use Rattle.bt_seq.specs.LineEnds.{bounds_text, end_sign, line_tail, marks,
 ghost use Rattle.bt_seq.specs.Sam.{alignment_lent};
 
 use crate::sam::SamRef;
-use bt_lines::{COLUMN, Fault, Out, Sink, put_both, put_column, write_column};
+use bt_lines::{COLUMN, Fault, Out, Sink, put_both, put_column, write_column, write_position};
 
 // The room for what stands between chromosome and name: two columns and a tab.
 const BOUNDS_ROOM: usize = 2 * COLUMN + 1;
@@ -61,8 +61,8 @@ fn write_bounds(start: u64, stop: u64, text: &mut [u8; BOUNDS_ROOM]) -> usize
     ensures written { drop result text.new ≡ bounds_text start stop }
 {
     text[BOUNDS_ROOM - 1] = b'\t';
-    let before_stop = write_column(stop, text, BOUNDS_ROOM - 1);
-    write_column(start, text, before_stop)
+    let before_stop = write_position(stop, text, BOUNDS_ROOM - 1);
+    write_position(start, text, before_stop)
 }
 
 // Writes what stands behind the marks so that it ends where the text does, and gives where it begins.
