@@ -1,24 +1,28 @@
 -- Lemmas on the first columns of a line that are in order.
-use Rattle.std.proofs.Common.{◌≡◌, ℕ, ◌+◌, ◌^◌, ◌<◌, ◌≤◌, Bool, true, false, List, [], ◌∷◌, length, take, drop, get_or, Option, Some, Ok, refl, sym, ap, ◌∙◌, subst, arith, eqb, ltb, length-take}
+use Rattle.std.proofs.Common.{◌≡◌, ℕ, ◌+◌, ◌^◌, ◌<◌, ◌≤◌, Bool, true, false, List, [], ◌∷◌, ◌++◌, length, take, drop, get_or, Option, Some, Ok, refl, sym, ap, ◌∙◌, subst, arith, append_assoc, bytes_eq, eqb, ltb, length-take}
 use Rattle.std.specs.Prelude.{nat_lt}
 use Rattle.std.specs.Char.{is_ascii_digit}
 use Rattle.std.specs.List.{list_all}
 use Rattle.std.specs.Str.Parse.{digits_value}
 use Rattle.std.proofs.lemmas.Bool.{eqb-true, and_parts}
 use Rattle.std.proofs.lemmas.Bool.Decides.{nat_tests}
-use Rattle.std.proofs.lemmas.List.{drop-drop, drop_more, drop_all, take_all}
+use Rattle.std.proofs.Math.Seq.{get_or-append_seam, take-append_seam}
+use Rattle.std.proofs.lemmas.List.{drop-drop, drop_more, drop_all, length-append, take_all, take-append-drop}
 use Rattle.std.proofs.lemmas.List.Elements.{All-nil, All-cons}
 use Rattle.std.proofs.lemmas.List.Splits.{slice_split_none, length-slice_split}
+use Rattle.std.proofs.lemmas.Slice.Eq.{bytes_eq-Decides}
 use Rattle.bt_lines.proofs.ColumnLemmas.{cut_at}
 use Rattle.bt_lines.proofs.NumberLemmas.{digits_below, value_of_digits}
 use Rattle.bt_lines.specs.Lines.{pieces}
 use Rattle.bt_lines.specs.Number.{value_of}
 use Rattle.bt_bed.proofs.Kept.{cut_and_kept}
 use Rattle.bt_lines.proofs.ColumnLemmas.{IsColumn, IsInside}
-use Rattle.bt_bed.proofs.FeatureLemmas.{said_is_feature}
+use Rattle.bt_bed.proofs.FeatureLemmas.{record_said, said_is_feature, said_stands}
+use Rattle.bt_bed.proofs.HeaderLemmas.{header_before_tab}
 use Rattle.bt_bed.specs.Feature.{Feature}
-use Rattle.bt_bed.specs.FirstColumns.{BeginsWith, EndsName, Leads}
-use Rattle.bt_bed.specs.Record.{IsFeature, columns_in, columns_say, feature_of, is_kept, kept_columns, strand_of}
+use Rattle.bt_bed.specs.FirstColumns.{BeginsWith, BeginsWithName, EndsName, IsRecordName, Leads}
+use Rattle.bt_bed.specs.Header.{is_header}
+use Rattle.bt_bed.specs.Record.{IsFeature, IsName, columns_in, columns_say, feature_of, is_kept, kept_columns, record_of, strand_of}
 use Rattle.bt_bed.specs.declared.leading.Leading.{Leading}
 use Rattle.bt_bed.specs.declared.strand.Strand.{Strand}
 
@@ -122,3 +126,44 @@ rest_stands text first second kept a b c f s k =
     sym (drop-drop (b + 1) (a + 1) text) ∙ ap (drop (b + 1)) (sym f) ∙ sym s in
     ap (λ (m : ℕ). drop m text) whole ∙ sym (drop-drop c (a + 1 + (b + 1)) text)
     ∙ ap (drop c) behind ∙ sym k
+
+-- a text that has a name and a tab at its front
+pub name_in_front : (text name : List ℕ) → length name < length text → get_or text (length name) 0 ≡ 9 → bytes_eq name (take (length name) text) ≡ true → BeginsWithName text name
+name_in_front text name within tab same =
+    let front : name ≡ take (length name) text = (bytes_eq-Decides name (take (length name) text)).0 same in
+    let there : drop (length name) text ≡ 9 ∷ drop (length name + 1) text =
+    drop_more text (length name) 0 within ∙ ap (λ b. b ∷ drop (length name + 1) text) tab in
+    sym (take-append-drop (length name) text) ∙ ap (λ l. l ++ drop (length name) text) (sym front)
+    ∙ ap (λ l. name ++ l) there
+
+-- it is the first column
+pub front_is_name : (text name : List ℕ) → BeginsWithName text name → take (length name) text ≡ name
+front_is_name text name e =
+    ap (take (length name)) e ∙ take-append_seam name (9 ∷ drop (length name + 1) text)
+
+pub name_ends : (text name : List ℕ) → IsName name → BeginsWithName text name → EndsName text (length name)
+name_ends text name named e =
+    let rest = drop (length name + 1) text in
+    let size : length text ≡ length name + length (9 ∷ rest) = ap length e ∙ length-append name (9 ∷ rest) in
+    record {
+      some = named.some;
+      within = omega arith;
+      tab = ap (λ (l : List ℕ). get_or l (length name) 0) e ∙ get_or-append_seam name 9 rest 0;
+      column = subst IsColumn (sym (front_is_name text name e)) named.one_column;
+    }
+
+-- the name of a record that a line said
+pub said_record_name : (text : List ℕ) (f : Feature) → Ok (Some f) ≡ record_of text → IsRecordName f.chrom
+said_record_name text f e =
+    let said = record_said text f (sym e) in
+    let stands = said_stands text f said.1 in
+    let rest = stands.0 ++ f.rest in
+    let whole : text ≡ f.chrom ++ 9 ∷ rest = stands.1 ∙ append_assoc f.chrom (9 ∷ stands.0) f.rest in
+    record {
+      named = (said_is_feature text f said.1).named;
+      no_header = λ other. header_before_tab f.chrom other rest ∙ ap is_header (sym whole) ∙ said.0;
+    }
+
+-- a line that begins with the name of a record and a tab is no header
+pub named_is_no_header : (text name : List ℕ) → IsRecordName name → BeginsWithName text name → is_header text ≡ false
+named_is_no_header text name named e = ap is_header e ∙ named.no_header (drop (length name + 1) text)

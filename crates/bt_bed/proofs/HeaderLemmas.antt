@@ -1,12 +1,12 @@
 -- Lemmas on the first word of a text.
-use Rattle.std.proofs.Common.{◌≡◌, ℕ, ◌<◌, ◌≤◌, Bool, true, false, cond, not, List, [], ◌∷◌, ◌++◌, length, refl, sym, ap, ◌∙◌, arith, bytes_eq, take, drop, get_or, append-nil}
+use Rattle.std.proofs.Common.{◌≡◌, ℕ, ◌<◌, ◌≤◌, Bool, true, false, cond, not, eqb, ◌||◌, List, [], ◌∷◌, ◌++◌, length, refl, sym, ap, ◌∙◌, arith, bytes_eq, take, drop, get_or, append-nil}
 use Rattle.std.proofs.lemmas.Bool.{false_from_ne_true}
 use Rattle.std.proofs.lemmas.List.{length-append, take-append-drop}
 use Rattle.std.proofs.lemmas.List.Elements.{All-head, All-tail}
 use Rattle.std.proofs.lemmas.List.Sums.{take_while-cons}
 use Rattle.std.proofs.lemmas.Slice.Eq.{bytes_eq-Decides}
 use Rattle.std.specs.List.{All}
-use Rattle.bt_bed.specs.Header.{ends_word, first_word}
+use Rattle.bt_bed.specs.Header.{ends_word, first_word, is_header, is_header_word}
 
 -- the byte doesn't end a word
 abbrev pub IsOfWord : ℕ → Type 0
@@ -57,3 +57,18 @@ word_alone text word rest h same e short = rw (stripped text word rest same e) (
 pub word_ended : (text word rest : List ℕ) → All IsOfWord word → bytes_eq (take (length word) text) word ≡ true → rest ≡ drop (length word) text → 1 ≤ length rest
     → ends_word (get_or rest 0 0) ≡ bytes_eq (first_word text) word
 word_ended text word rest h same e some = rw (stripped text word rest same e) (ended word rest h some)
+
+more_of_word : (byte : ℕ) (left right : List ℕ) (b : Bool) → ends_word byte ≡ b → first_word left ≡ first_word right → first_word (byte ∷ left) ≡ first_word (byte ∷ right)
+more_of_word byte left right true e same = of_word byte left true e ∙ sym (of_word byte right true e)
+more_of_word byte left right false e same = of_word byte left false e ∙ ap (λ l. byte ∷ l) same ∙ sym (of_word byte right false e)
+
+-- the first word ends before the first tab
+word_before_tab : (name left right : List ℕ) → first_word (name ++ 9 ∷ left) ≡ first_word (name ++ 9 ∷ right)
+word_before_tab [] left right = of_word 9 left true refl ∙ sym (of_word 9 right true refl)
+word_before_tab (byte ∷ name) left right =
+    more_of_word byte (name ++ 9 ∷ left) (name ++ 9 ∷ right) (ends_word byte) refl (word_before_tab name left right)
+
+-- whether a text is a header is told by what stands before its first tab
+pub header_before_tab : (name left right : List ℕ) → is_header (name ++ 9 ∷ left) ≡ is_header (name ++ 9 ∷ right)
+header_before_tab [] left right = ap (λ l. eqb 9 35 || is_header_word l) (word_before_tab [] left right)
+header_before_tab (byte ∷ name) left right = ap (λ l. eqb byte 35 || is_header_word l) (word_before_tab (byte ∷ name) left right)

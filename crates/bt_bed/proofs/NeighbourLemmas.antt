@@ -1,20 +1,25 @@
 -- Lemmas on what a line says behind the last place, and on the record ahead.
-use Rattle.std.proofs.Common.{◌≡◌, ℕ, ◌-◌, Bool, true, false, cond, List, length, Option, Some, None, Result, Ok, Err, refl, sym, ap, ◌∙◌, subst, arith}
-use Rattle.std.specs.Prelude.{IsSome, IsTrue, is_some, option_map}
+use Rattle.std.proofs.Common.{◌≡◌, ℕ, ◌≤◌, Bool, true, false, cond, List, Option, Some, None, Result, Ok, Err, refl, sym, ap, ◌∙◌, subst, arith, ltb, bytes_eq}
+use Rattle.std.specs.Option.{ForSome}
+use Rattle.std.specs.Prelude.{IfSome, IsSome, IsTrue, is_some, option_map}
 use Rattle.bt_lines.specs.Lines.{TextLine}
 use Rattle.bt_lines.specs.declared.fault.Fault.{Fault}
 use Rattle.bt_lines.specs.declared.fault.Kind.{Kind}
 use Rattle.bt_lines.specs.declared.fault.Kind.TheVariants.{UnknownChrom, OutOfOrder}
 use Rattle.bt_lines.specs.declared.fault.Place.{Place}
 use Rattle.std.proofs.lemmas.Bool.{false≢true}
+use Rattle.std.proofs.lemmas.Bool.Decides.{nat_tests}
+use Rattle.std.proofs.lemmas.Slice.Eq.{bytes_eq-Decides}
+use Rattle.bt_bed.proofs.FeatureLemmas.{record_said, said_ends}
 use Rattle.bt_bed.proofs.SaidLemmas.{said_features, wrong_is_of_line, wrong_is_of_record, same_kind}
-use Rattle.bt_bed.specs.Ahead.{StandsIn, feature_at, member_at, text_at}
+use Rattle.bt_bed.specs.Ahead.{StandsIn, feature_at, member_at, spot_of, start_at, text_at}
 use Rattle.bt_bed.specs.Bed.{EndsWith}
 use Rattle.bt_bed.specs.Feature.{Feature}
 use Rattle.bt_bed.specs.Good.{Member}
 use Rattle.bt_bed.specs.GoodBed.{line_says, said_after, in_order, locus_at, wrong_lines_are_of_bed}
 use Rattle.bt_bed.specs.LineKind.{is_bed_kind, is_record_kind}
-use Rattle.bt_bed.specs.Neighbours.{IsSaidBy, TakesLine, ahead_in, line_in, has_ahead, name_of}
+use Rattle.bt_bed.specs.FirstColumns.{IsRecordName}
+use Rattle.bt_bed.specs.Neighbours.{Continues, IsKnownLast, IsSaidBy, TakesLine, ahead_in, last_in, line_in, has_ahead, name_of}
 use Rattle.bt_bed.specs.Locus.{Locus}
 use Rattle.bt_bed.specs.Record.{record_of}
 use Rattle.bt_bed.specs.Order.{Order}
@@ -131,10 +136,6 @@ module _ {Q : Type 0} where
   unfolding has_ahead
   has_spot neighbours spot e = ap is_some e
 
--- the spot of a feature that was found at the end of a text
-abbrev pub spot_of : ℕ → List ℕ → Feature → Spot
-spot_of line text f = record { line = line; start = f.start; stop = f.stop; strand = f.strand; rest_from = length text - length f.rest }
-
 pub found_is : (line : ℕ) (text : List ℕ) (f : Feature) → EndsWith text f.rest → member_at f.chrom text (spot_of line text f) ≡ record { line = line; item = f }
 found_is line text f ends = ap (λ (rest : List ℕ). record { line = line; item = record { chrom = f.chrom; start = f.start; stop = f.stop; strand = f.strand; rest = rest } }) ends.same
 
@@ -150,3 +151,37 @@ module _ {Q : Type 0} where
 -- a reader that is at this line is at one
 pub is_at : (now : Option TextLine) (line : TextLine) → now ≡ Some line → IsSome now
 is_at now line at = subst IsSome (sym at) refl
+
+-- what is said of each number that there may be, where there is one
+pub some_says : (o : Option ℕ) (P : Type 0) → ForSome o (λ _. P) → is_some o ≡ true → P
+some_says None P h e = absurd (false≢true e)
+some_says (Some n) P h e = h n refl
+
+-- a record on the last one's chromosome that doesn't start below it
+stays : (sorting : Sorting) (name : List ℕ) (last : ℕ) (f : Feature) → f.chrom ≡ name → last ≤ f.start → falls_in sorting (start_at name (Some last)) (locus_at f) ≡ false
+stays sorting name last f same above =
+    let one : bytes_eq name f.chrom ≡ true = (bytes_eq-Decides name f.chrom).1 (sym same) in
+    let test : ltb f.start last ≡ false = grind (arith, nat_tests) in
+    rw one test
+
+module _ {Q : Type 0} where
+  -- what is found in a line that begins with the last record's chromosome
+  pub continued : (sorting : Sorting) (line : ℕ) (text : List ℕ) (neighbours : Neighbours Q) (last : ℕ) (f : Feature) → neighbours.last ≡ Some last → IsKnownLast sorting (last_in neighbours)
+      → IsRecordName neighbours.last_name.items → Ok (Some f) ≡ record_of text → f.chrom ≡ neighbours.last_name.items → last ≤ f.start
+      → Continues sorting line text neighbours (spot_of line text f)
+  unfolding last_in
+  continued sorting line text neighbours last f is known named said same above =
+      let name = neighbours.last_name.items in
+      let there : start_at name neighbours.last ≡ start_at name (Some last) = ap (start_at name) is in
+      let knows : IsTrue (sorting.knows name) = subst (λ (l : Option ℕ). IfSome (start_at name l) (λ place. IsTrue (sorting.knows place.chrom))) is known in
+      let ends = said_ends text f (record_said text f (sym said)).1 in
+      let it : feature_at name text (spot_of line text f) ≡ f =
+      ap (λ (n : List ℕ). feature_at n text (spot_of line text f)) (sym same) ∙ ap (λ m. m.item) (found_is line text f ends) in
+      let says = says_record sorting (start_at name (Some last)) text f said
+      (subst (λ n. IsTrue (sorting.knows n)) (sym same) knows) (stays sorting name last f same above) in
+      record {
+        on_line = refl;
+        says = ap (λ l. line_says sorting l text) there ∙ says ∙ ap (λ r. Ok (Some r)) (sym it);
+        stands = subst (λ r. StandsIn text (spot_of line text f) r) (sym it) (found_stands line text f ends said);
+        named = named;
+      }

@@ -1,6 +1,6 @@
 -- Words on the record ahead, which is held apart from its chromosome's name and from the columns
 -- that are kept.
-use Rattle.std.specs.Prelude.{ℕ, ◌≤◌, Bool, List, [], drop, length, Option, Some, None, option_map}
+use Rattle.std.specs.Prelude.{ℕ, ◌-◌, ◌≤◌, Bool, List, [], drop, length, Option, Some, None, option_map}
 use Rattle.std.specs.Prelude.{if◌then◌else◌}
 use Rattle.std.specs.Option.{ForSome}
 use Rattle.bt_lines.specs.Lines.{TextLine}
@@ -23,6 +23,16 @@ feature_at name text spot = record {
 -- the same, with its line
 abbrev pub member_at : List ℕ → List ℕ → Spot → Member Feature
 member_at name text spot = record { line = spot.line; item = feature_at name text spot }
+
+-- where a record of this text lies, which ends with its kept columns
+abbrev pub spot_of : ℕ → List ℕ → Feature → Spot
+spot_of line text f = record {
+  line = line;
+  start = f.start;
+  stop = f.stop;
+  strand = f.strand;
+  rest_from = length text - length f.rest;
+}
 
 -- a start on the chromosome of this name
 abbrev pub start_at : List ℕ → Option ℕ → Option Locus

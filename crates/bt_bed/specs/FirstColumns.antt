@@ -1,11 +1,13 @@
 -- The first columns of a line that are in order.
-use Rattle.std.specs.Prelude.{◌≡◌, ℕ, ◌<◌, ◌≤◌, ◌+◌, ◌==◌, Bool, true, false, List, ◌∷◌, length}
-use Rattle.std.specs.Prelude.{take, drop, get_or, Some}
+use Rattle.std.specs.Prelude.{◌≡◌, ℕ, ◌<◌, ◌≤◌, ◌+◌, ◌==◌, Bool, true, false, List, ◌∷◌, ◌++◌}
+use Rattle.std.specs.Prelude.{length, take, drop, get_or, Some}
 use Rattle.std.specs.Char.{is_ascii_digit}
 use Rattle.std.specs.List.{All, list_all}
 use Rattle.std.specs.Str.Parse.{digits_value}
 use Rattle.bt_lines.specs.Lines.{pieces}
 use Rattle.bt_lines.specs.Number.{value_of}
+use Rattle.bt_bed.specs.Header.{is_header}
+use Rattle.bt_bed.specs.Record.{IsName}
 use Rattle.bt_bed.specs.declared.leading.Leading.{Leading}
 
 -- the first column ends here: it isn't empty, and a tab comes after it
@@ -14,6 +16,15 @@ pub record EndsName (text : List ℕ) (end : ℕ) : Type 0 where
   pub within : end < length text
   pub tab : get_or text end 0 ≡ 9
   pub column : All (λ byte. (byte == 9) ≡ false) (take end text)
+
+-- the text begins with this name and a tab
+abbrev pub BeginsWithName : List ℕ → List ℕ → Type 0
+BeginsWithName text name = text ≡ name ++ 9 ∷ drop (length name + 1) text
+
+-- a name with which a record's line can begin: no line that begins with it and a tab is a header
+pub record IsRecordName (name : List ℕ) : Type 0 where
+  pub named : IsName name
+  pub no_header : (rest : List ℕ) → is_header (name ++ 9 ∷ rest) ≡ false
 
 -- the first column denotes the number, and ends here
 pub record Leads (text : List ℕ) (lead : Leading) : Type 0 where

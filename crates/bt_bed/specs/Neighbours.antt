@@ -6,14 +6,16 @@ use Rattle.bt_lines.specs.Names.{told}
 use Rattle.bt_lines.specs.declared.fault.Fault.{Fault}
 use Rattle.bt_lines.specs.declared.fault.Kind.{Kind}
 use Rattle.bt_lines.specs.declared.fault.Place.{Place}
-use Rattle.bt_bed.specs.Ahead.{IsSaid, member_at, name_ahead, start_at}
+use Rattle.bt_bed.specs.Ahead.{IsSaid, StandsIn, feature_at, member_at, name_ahead, start_at}
 use Rattle.bt_bed.specs.Feature.{Feature}
+use Rattle.bt_bed.specs.FirstColumns.{IsRecordName}
 use Rattle.bt_bed.specs.Good.{Member}
 use Rattle.bt_bed.specs.GoodBed.{line_says, in_order, locus_at}
 use Rattle.bt_bed.specs.LineKind.{fault_at_line}
 use Rattle.bt_bed.specs.Locus.{Locus}
 use Rattle.bt_bed.specs.Sorting.{Sorting, falls_in}
 use Rattle.bt_bed.specs.declared.neighbours.Neighbours.{Neighbours}
+use Rattle.bt_bed.specs.declared.spot.Spot.{Spot}
 
 -- the chromosome of the last record is known
 abbrev pub IsKnownLast : Sorting → Option Locus → Type 0
@@ -58,6 +60,15 @@ module _ {Q : Type 0} where
   -- whether there was a last record, and its chromosome has this name
   abbrev pub goes_on : Neighbours Q → List ℕ → Bool
   goes_on neighbours name = is_some neighbours.last && bytes_eq neighbours.last_name.items name
+
+  -- the line of this text says a record here, on the chromosome of the last one
+  pub record Continues (sorting : Sorting) (line : ℕ) (text : List ℕ) (neighbours : Neighbours Q)
+      (spot : Spot) : Type 0 where
+    pub on_line : spot.line ≡ line
+    pub says : line_says sorting (last_in neighbours) text
+        ≡ Ok (Some (feature_at neighbours.last_name.items text spot))
+    pub stands : StandsIn text spot (feature_at neighbours.last_name.items text spot)
+    pub named : IsRecordName neighbours.last_name.items
 
   -- the rule and the last record stay
   pub record KeepsLast (old new : Neighbours Q) : Type 0 where

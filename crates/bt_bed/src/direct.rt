@@ -3,13 +3,14 @@
 ghost use Rattle.std.specs.Prelude.{◌≡◌, ◌<◌, ◌≤◌, ◌∷◌, [], List, ℕ, Ok, Some, IfSome, IsTrue, drop, get_or, length, take};
 ghost use Rattle.bt_bed.specs.Bed.{feature_lent};
 ghost use Rattle.bt_lines.specs.Columns.{IsFirstTab};
-ghost use Rattle.bt_bed.specs.FirstColumns.{BeginsWith, EndsName, Leads};
-ghost use Rattle.bt_bed.specs.Record.{columns_in, columns_say, strand_named, strand_of};
+ghost use Rattle.bt_bed.specs.FirstColumns.{BeginsWith, BeginsWithName, EndsName, IsRecordName, Leads};
+ghost use Rattle.bt_bed.specs.Record.{columns_in, columns_say, record_of, strand_named, strand_of};
 ghost use Rattle.bt_lines.specs.Lines.{pieces};
 ghost use Rattle.bt_lines.specs.Number.{value_of};
 
 use crate::bed::BedRef;
 use crate::leading::Leading;
+use crate::names::is_same_name;
 use crate::parsing::behind;
 use crate::strand::Strand;
 use crate::tabs::{early_tab, second_tab};
@@ -22,6 +23,47 @@ pub(crate) fn direct_feature(text: &[u8]) -> Option<BedRef<'_>>
     ensures { IfSome result (λ bed. Ok (feature_lent bed) ≡ columns_say (pieces 9 text.now)) }
 {
     let name = name_end(text)?;
+    feature_behind(text, name)
+}
+
+// The same for a line that begins with this name and a tab. The name is that of a record, so that the
+// line is no header, and its end isn't looked for. There is none for another line.
+#[inline(always)]
+pub(crate) fn direct_feature_on<'t>(text: &'t [u8], name: &[u8]) -> Option<BedRef<'t>>
+    requires { IsRecordName name.now }
+    ensures said { IfSome result (λ bed. Ok (Some (feature_lent bed)) ≡ record_of text.now) }
+    ensures name { IfSome result (λ bed. bed.chrom.now ≡ name.now) }
+{
+    if !begins_with_name(text, name) {
+        return None;
+    }
+    feature_behind(text, name.len())
+}
+
+// Whether a text begins with a name and a tab behind it.
+#[inline(always)]
+fn begins_with_name(text: &[u8], name: &[u8]) -> bool
+    ensures { IsTrue result → BeginsWithName text.now name.now }
+{
+    let end = name.len();
+    has_tab(text, end) && is_same_name(name, &text[..end])
+}
+
+// Whether a tab stands at an index.
+#[inline(always)]
+fn has_tab(text: &[u8], index: usize) -> bool
+    ensures { IsTrue result → (index < length text.now) × (get_or text.now index 0 ≡ 9) }
+{
+    index < text.len() && text[index] == b'\t'
+}
+
+// The feature of a text of which the first column ends here, if the next two are in order.
+#[inline(always)]
+fn feature_behind(text: &[u8], name: usize) -> Option<BedRef<'_>>
+    requires { EndsName text.now name }
+    ensures said { IfSome result (λ bed. Ok (feature_lent bed) ≡ columns_say (pieces 9 text.now)) }
+    ensures name { IfSome result (λ bed. bed.chrom.now ≡ take name text.now) }
+{
     let first = behind(text, name + 1);
     let start = leading_number(first)?;
     if start.end == first.len() {

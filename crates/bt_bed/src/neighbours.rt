@@ -1,6 +1,13 @@
 //! The last record and the one ahead, sorted by some rule.
 
+ghost use Rattle.std.specs.Option.{ForSome};
+ghost use Rattle.std.specs.Prelude.{◌≡◌, ◌≤◌, length};
+ghost use Rattle.bt_bed.specs.Ahead.{name_ahead, spot_of};
+ghost use Rattle.bt_bed.specs.Bed.{feature_lent};
+ghost use Rattle.bt_bed.specs.FirstColumns.{IsRecordName};
+
 use crate::bed::BedRef;
+use crate::direct::direct_feature_on;
 use crate::faults::at_line;
 use crate::names::is_same_name;
 use crate::parsing::parse_bed;
@@ -25,16 +32,20 @@ pub(crate) struct Neighbours<Q> {
     ahead: Option<Spot>,
     // Whether the record ahead lies on another chromosome than the last, while one is ahead.
     is_elsewhere: bool,
+    // A line that begins with the name of a record and a tab is no header.
+    ghost last_named: { ForSome last (λ _. IsRecordName last_name.items) },
+    ghost ahead_named: { ForSome ahead
+        (λ _. IsRecordName (name_ahead is_elsewhere ahead_name.items last_name.items)) },
 }
 
 #[tactic(auto, unfolding(crate::specs::Neighbours::last_in, crate::specs::Neighbours::ahead_in, crate::specs::Neighbours::line_in, crate::specs::Neighbours::has_ahead))]
 impl<Q: Sorted> Neighbours<Q> {
-    ghost use Rattle.std.specs.Prelude.{◌≡◌, ℕ, List, false, Some, None, IsTrue, OnOk, OnErr, IsSome, is_some, option_map};
+    ghost use Rattle.std.specs.Prelude.{ℕ, List, false, IfSome, Ok, Some, None, IsTrue, OnOk, OnErr, IsSome, is_some, option_map};
     ghost use Rattle.bt_bed.specs.Ahead.{feature_at, member_at};
-    ghost use Rattle.bt_bed.specs.Bed.{feature_lent};
     ghost use Rattle.bt_bed.specs.GoodBed.{locus_at};
+    ghost use Rattle.bt_bed.specs.Record.{record_of};
     ghost use Rattle.bt_bed.specs.Sorting.{falls_in};
-    ghost use Rattle.bt_bed.specs.Neighbours.{FitsOr, IsKnownLast, IsSaidBy, KeepsLast, TakesLine, ahead_in, goes_on, has_ahead, last_in, line_in, name_of};
+    ghost use Rattle.bt_bed.specs.Neighbours.{Continues, FitsOr, IsKnownLast, IsSaidBy, KeepsLast, TakesLine, ahead_in, goes_on, has_ahead, last_in, line_in, name_of};
 
     // No record yet.
     pub(crate) fn new(alloc: Global, rule: Q) -> Neighbours<Q>
@@ -108,6 +119,49 @@ impl<Q: Sorted> Neighbours<Q> {
         requires known { IsKnownLast (Q.sorting self.old.rule) (last_in self.old) }
         ensures { TakesLine (Q.sorting self.old.rule) place text.now self.old result self.new }
     {
+        if let Some(spot) = self.continued(place.line, text) {
+            self.is_elsewhere = false;
+            self.ahead = Some(spot);
+            return Ok(true);
+        }
+        self.take_other(place, text)
+    }
+
+    // Where the record of a line lies that begins with the chromosome of the last one, if it is in order.
+    // Most lines are read so: the chromosome needs no look-up and no copy.
+    #[inline(always)]
+    fn continued(&self, line: u64, text: &[u8]) -> Option<Spot>
+        requires { IsKnownLast (Q.sorting self.now.rule) (last_in self.now) }
+        ensures { IfSome result (Continues (Q.sorting self.now.rule) line text.now self.now) }
+    {
+        let bed = self.on_last_chrom(text)?;
+        let last = self.last?;
+        if bed.start < last {
+            return None;
+        }
+        Some(spot_of(line, text, bed))
+    }
+
+    // The feature of a line that begins with the chromosome of the last record, if its numbers are read
+    // directly.
+    #[inline(always)]
+    fn on_last_chrom<'t>(&self, text: &'t [u8]) -> Option<BedRef<'t>>
+        ensures said { IfSome result (λ bed. Ok (Some (feature_lent bed)) ≡ record_of text.now) }
+        ensures chrom { IfSome result (λ bed. bed.chrom.now ≡ self.now.last_name.items) }
+    {
+        if self.last.is_none() {
+            return None;
+        }
+        direct_feature_on(text, self.last_name.as_slice())
+    }
+
+    // Takes a line whatever it says. It stands apart, so that few lines take this way.
+    #[inline(never)]
+    fn take_other(&mut self, place: Place, text: &[u8]) -> Result<bool, Fault>
+        requires none_ahead { has_ahead self.old ≡ false }
+        requires known { IsKnownLast (Q.sorting self.old.rule) (last_in self.old) }
+        ensures { TakesLine (Q.sorting self.old.rule) place text.now self.old result self.new }
+    {
         let bed = match parse_bed(text) {
             Ok(Some(bed)) => bed,
             Ok(None) => return Ok(false),
@@ -117,13 +171,7 @@ impl<Q: Sorted> Neighbours<Q> {
         if let Err(kind) = self.check(is_same, bed) {
             return Err(at_line(kind, place));
         }
-        let spot = Spot {
-            line: place.line,
-            start: bed.start,
-            stop: bed.stop,
-            strand: bed.strand,
-            rest_from: text.len() - bed.rest.len(),
-        };
+        let spot = spot_of(place.line, text, bed);
         match self.hold(is_same, bed.chrom, spot) {
             Ok(()) => Ok(true),
             Err(_refused) => Err(no_memory()),
@@ -183,6 +231,7 @@ impl<Q: Sorted> Neighbours<Q> {
     fn hold(&mut self, is_same: bool, chrom: &[u8], spot: Spot) -> Result<(), AllocError>
         requires none_ahead { has_ahead self.old ≡ false }
         requires same { is_same ≡ goes_on self.old chrom.now }
+        requires name { IsRecordName chrom.now }
         ensures keeps { KeepsLast self.old self.new }
         ensures held { OnOk result ((text : List ℕ) → ahead_in text self.new
             ≡ Some (member_at chrom.now text spot)) }
@@ -199,5 +248,19 @@ impl<Q: Sorted> Neighbours<Q> {
         self.is_elsewhere = true;
         self.ahead = Some(spot);
         Ok(())
+    }
+}
+
+// Where a record of a line's text lies.
+fn spot_of(line: u64, text: &[u8], bed: BedRef<'_>) -> Spot
+    requires { length bed.rest.now ≤ length text.now }
+    ensures { result ≡ spot_of line text.now (feature_lent bed.entry) }
+{
+    Spot {
+        line,
+        start: bed.start,
+        stop: bed.stop,
+        strand: bed.strand,
+        rest_from: text.len() - bed.rest.len(),
     }
 }

@@ -118,7 +118,7 @@ mod tests {
     use std::alloc::AllocError;
     use std::test::Fail;
 
-    const GENOME: &[u8] = b"chr1\t100\nchr2\t100\n";
+    const GENOME: &[u8] = b"chr1\t100\nchr2\t100\ntracks\t100\nbrowsers\t100\nchr11\t100\n";
 
     // A record's line, the rank of its chromosome, its start and its stop.
     type Found = (u64, Option<usize>, u64, u64);
@@ -200,7 +200,7 @@ mod tests {
 
     const TWO_LINES: &[u8] = b"chr1\t0\t5\nchr2\t0\t5\n";
 
-    const IN_ORDER: [Row; 9] = [
+    const IN_ORDER: [Row; 16] = [
         (b"", &[], None),
         (b"\n\r\n", &[], None),
         (b"track name=x\n#chr1\t5\nbrowser\n", &[], None),
@@ -230,9 +230,44 @@ mod tests {
             &[(1, Some(1), 4, 5), (2, Some(1), 4, 9)],
             None,
         ),
+        (
+            b"chr1\t0\t5\nchr1\t0000000000001\t00000000000000000002\n",
+            &[ONE, (2, Some(0), 1, 2)],
+            None,
+        ),
+        (
+            b"chr1\t0\t5\nchr11\t0\t9\nchr11\t3\t4\n",
+            &[ONE, (2, Some(4), 0, 9), (3, Some(4), 3, 4)],
+            None,
+        ),
+        (
+            b"chr1\t0\t5\n#chr1\t6\t7\nchr1\t8\t9\n",
+            &[ONE, (3, Some(0), 8, 9)],
+            None,
+        ),
+        (
+            b"tracks\t0\t5\ntrack\t1\t2\ntracks\t1\t2\n",
+            &[(1, Some(2), 0, 5), (3, Some(2), 1, 2)],
+            None,
+        ),
+        (
+            b"tracks\t0\t5\ntrack s\t1\t2\ntracks\t0\t2\n",
+            &[(1, Some(2), 0, 5), (3, Some(2), 0, 2)],
+            None,
+        ),
+        (
+            b"browsers\t0\t5\nbrowser\t6\t7\nbrowser position\nbrowsers\t6\t7",
+            &[(1, Some(3), 0, 5), (4, Some(3), 6, 7)],
+            None,
+        ),
+        (
+            b"chr2\t4\t5\n\nchr2\t4\t9\r\n\r\nchr2\t5\t6\t",
+            &[(1, Some(1), 4, 5), (3, Some(1), 4, 9), (5, Some(1), 5, 6)],
+            None,
+        ),
     ];
 
-    const AT_FAULT: [Row; 11] = [
+    const AT_FAULT: [Row; 21] = [
         (
             b"chr1\t5\t9\nchr1\t4\t9\nchr1\t6\t9\n",
             &[(1, Some(0), 5, 9)],
@@ -272,6 +307,56 @@ mod tests {
         (b"chr1\t5\t5\n", &[], Some((Kind::EmptyFeature, 1))),
         (b"\t1\t2\n", &[], Some((Kind::EmptyName, 1))),
         (b"#chr1\t5\nchr1\t1\n", &[], Some((Kind::TooFewColumns, 2))),
+        (
+            b"chr1\t0\t5\nchr1\tx\t5\n",
+            &[ONE],
+            Some((Kind::BadStart, 2)),
+        ),
+        (
+            b"chr1\t0\t5\nchr1\t\t5\n",
+            &[ONE],
+            Some((Kind::BadStart, 2)),
+        ),
+        (
+            b"chr1\t0\t5\nchr1\t1000000000000\t5\n",
+            &[ONE],
+            Some((Kind::BadStart, 2)),
+        ),
+        (
+            b"chr1\t0\t5\nchr1\t1\t5x\n",
+            &[ONE],
+            Some((Kind::BadStop, 2)),
+        ),
+        (
+            b"chr1\t0\t5\nchr1\t7\t7\n",
+            &[ONE],
+            Some((Kind::EmptyFeature, 2)),
+        ),
+        (
+            b"chr1\t5\t9\nchr1\t4\t4\n",
+            &[(1, Some(0), 5, 9)],
+            Some((Kind::EmptyFeature, 2)),
+        ),
+        (
+            b"chr1\t0\t5\nchr1\t5\n",
+            &[ONE],
+            Some((Kind::TooFewColumns, 2)),
+        ),
+        (
+            b"chr1\t0\t5\nchr1\n",
+            &[ONE],
+            Some((Kind::TooFewColumns, 2)),
+        ),
+        (
+            b"chr1\t0\t5\nchr1 \t6\t7\n",
+            &[ONE],
+            Some((Kind::UnknownChrom, 2)),
+        ),
+        (
+            b"chr11\t0\t5\nchr1\t6\t7\n",
+            &[(1, Some(4), 0, 5)],
+            Some((Kind::OutOfOrder, 2)),
+        ),
     ];
 
     // How many bytes of two lines are good, and what is given then.
@@ -355,9 +440,10 @@ mod tests {
     // The strand and what is kept of a record on a chromosome.
     type Lent = (&'static [u8], Strand, &'static [u8]);
 
-    const LENT: [Lent; 3] = [
+    const LENT: [Lent; 4] = [
         (b"chr1", Strand::Plus, b"\tn\t0\t+"),
         (b"chr1", Strand::Dot, b""),
+        (b"chr1", Strand::Minus, b"\tm\t1\t-"),
         (b"chr2", Strand::Dot, b"\t"),
     ];
 
@@ -384,7 +470,7 @@ mod tests {
     #[test]
     fn lends_what_the_line_says(rt: HostRuntime) -> Result<(), Fail> {
         let genome = read_genome(rt.alloc())?;
-        let text = b"chr1\t007\t9\tn\t0\t+\nchr1\t8\t9\nchr2\t1\t2\t\n";
+        let text = b"chr1\t007\t9\tn\t0\t+\nchr1\t8\t9\nchr1\t8\t10\tm\t1\t-\nchr2\t1\t2\t\n";
         let lines = LineReader::new(rt.alloc(), ScriptSource::new(text, 1, None), Input::First);
         let mut records = Records::new(rt.alloc(), lines, &genome);
         let are_lent = lends_all(&mut records, &LENT);

@@ -65,7 +65,7 @@ fn agrees(alloc: Global, row: &Row, step: usize, good: Option<usize>) -> bool {
     is_given && is_stopped
 }
 
-const IN_BLOCKS: [Row; 6] = [
+const IN_BLOCKS: [Row; 9] = [
     (b"", &[], None),
     (b"track name=x\n#s\t5\n\r\n", &[], None),
     (
@@ -84,6 +84,25 @@ const IN_BLOCKS: [Row; 6] = [
         None,
     ),
     (b"s d\t0\t1\n", &[(1, b"s d", 0, 1)], None),
+    (
+        b"chr1\t3\t4\nchr10\t1\t2\nchr1\t0\t9\n",
+        &[(1, b"chr1", 3, 4), (2, b"chr10", 1, 2), (3, b"chr1", 0, 9)],
+        None,
+    ),
+    (
+        b"trackX\t1\t2\ntrack\t1\t2\ntrackX\t3\t4\n",
+        &[(1, b"trackX", 1, 2), (3, b"trackX", 3, 4)],
+        None,
+    ),
+    (
+        b"scaffold_11\t1\t2\nscaffold_11\t3\t4\nscaffold_12\t0\t4\n",
+        &[
+            (1, b"scaffold_11", 1, 2),
+            (2, b"scaffold_11", 3, 4),
+            (3, b"scaffold_12", 0, 4),
+        ],
+        None,
+    ),
 ];
 
 const AT_FAULT: [Row; 6] = [

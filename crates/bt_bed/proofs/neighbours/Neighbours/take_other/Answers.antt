@@ -1,10 +1,13 @@
 use Rattle.std.proofs.Common.{◌≡◌, ◌∙◌, ap, refl, inl, inr, Some, Ok, None}
 use Rattle.bt_bed.proofs.SaidLemmas.{bed_of_line, wrong_is_of_line}
 use Rattle.bt_bed.proofs.NeighbourLemmas.{says_nothing, says_wrong, says_misplaced, says_record, no_record, said_by_none, said_by_held, found_is, found_stands, has_spot}
+use Rattle.bt_bed.proofs.FirstColumnLemmas.{said_record_name}
+use Rattle.bt_bed.specs.Ahead.{member_at}
 use Rattle.bt_bed.specs.Bed.{EndsWith, feature_lent}
 use Rattle.bt_bed.specs.Record.{record_of}
 use Rattle.bt_bed.specs.Neighbours.{ahead_in}
-use Rattle.bt_bed.proofs.neighbours.Neighbours.take_line.Goals as goal
+use Rattle.bt_bed.specs.declared.spot.Spot.{Spot}
+use Rattle.bt_bed.proofs.neighbours.Neighbours.take_other.Goals as goal
 
 pub returns-in-Ok-None : goal.returns-in-Ok-None
 returns-in-Ok-None g c =
@@ -44,14 +47,16 @@ returns-in-Ok g c =
     let text = c.args.text.now in
     let said : Ok (Some bed) ≡ record_of text = rw c.in-Ok-Some.field-0-is at c.in-Ok-Some.ensures.said in
     let ends : EndsWith text bed.rest = rw c.in-Ok-Some.field-0-is at c.in-Ok-Some.ensures.suffix in
-    let ahead : ahead_in text c.hold.new.self ≡ Some (record { line = c.args.place.line; item = bed }) = c.in-Ok.ensures.held text ∙ ap Some (found_is c.args.place.line text bed ends) in
+    let ahead : ahead_in text c.hold.new.self ≡ Some (record { line = c.args.place.line; item = bed }) =
+    c.in-Ok.ensures.held text ∙ ap (λ (spot : Spot). Some (member_at bed.chrom text spot)) c.spot_of-spot.ensures
+    ∙ ap Some (found_is c.args.place.line text bed ends) in
     record {
       said = Some bed;
       says = says_record _ _ text bed said c.in_default.ensures.known c.in_default.ensures.in_order;
       ahead = ahead;
       is = refl;
       has = has_spot c.hold.new.self _ c.in-Ok.ensures.spot;
-      said_by = said_by_held text c.hold.new.self _ _ c.in-Ok.ensures.spot ahead (found_stands c.args.place.line text bed ends said);
+      said_by = said_by_held text c.hold.new.self _ _ (c.in-Ok.ensures.spot ∙ ap Some c.spot_of-spot.ensures) ahead (found_stands c.args.place.line text bed ends said);
       keeps = c.in-Ok.ensures.keeps;
     }
 
@@ -68,3 +73,6 @@ returns-in-Err-hold g c =
       none_ahead = c.in-Err-hold.ensures.lost;
       keeps = c.in-Err-hold.ensures.keeps;
     }
+
+pub hold-requires-clause-name : goal.hold-requires-clause-name
+hold-requires-clause-name g c = said_record_name c.args.text.now (feature_lent c.in-Ok-Some.bed) (rw c.in-Ok-Some.field-0-is at c.in-Ok-Some.ensures.said)
