@@ -41,8 +41,9 @@ pub(crate) fn put_columns<K: Sink>(
     put_both(chrom, &text[first..ROOM - 1], out)
 }
 
-// Writes what follows the name so that it ends where the text does, and gives where it begins.
-#[inline]
+// Writes what follows the name so that it ends where the text does, and gives where it begins. It stands apart, so
+// that the loops over records stay small.
+#[inline(never)]
 fn write_span(start: u64, stop: u64, text: &mut [u8; ROOM]) -> usize
     ensures within { result ≤ ROOM }
     ensures written { drop result text.new ≡ span_text start stop }

@@ -34,7 +34,7 @@ pub fn write_column(number: u64, text: &mut [u8], end: usize) -> usize
 
 /// Writes what [`write_column`] writes, and takes fewer instructions for a number of five to nine digits, as most
 /// positions have: the last eight digits are found at once.
-#[inline]
+#[inline(always)]
 pub fn write_position(number: u64, text: &mut [u8], end: usize) -> usize
     requires room { COLUMN ≤ end }
     requires within { end ≤ length text.old }
@@ -49,7 +49,7 @@ pub fn write_position(number: u64, text: &mut [u8], end: usize) -> usize
 
 // Writes a number in decimal so that it ends where it is told to, and gives where it begins. The digits before the
 // last eight are written one by one.
-#[inline]
+#[inline(always)]
 fn write_number(number: u64, text: &mut [u8], end: usize) -> usize
     requires room { COLUMN ≤ end }
     requires within { end ≤ length text.old }
@@ -69,7 +69,7 @@ fn write_number(number: u64, text: &mut [u8], end: usize) -> usize
 }
 
 // Writes a number of at most eight digits, behind zeros that make it eight, and gives where it begins.
-#[inline]
+#[inline(always)]
 fn write_small(number: u64, text: &mut [u8], end: usize) -> usize
     requires small { number < 100000000 }
     requires room { 8 ≤ end }
@@ -83,7 +83,7 @@ fn write_small(number: u64, text: &mut [u8], end: usize) -> usize
 }
 
 // Writes eight digits, of their values in the bytes of one number, the first in the lowest.
-#[inline]
+#[inline(always)]
 fn write_eight(ones: u64, text: &mut [u8], end: usize)
     requires room { 8 ≤ end }
     requires within { end ≤ length text.old }
@@ -94,7 +94,7 @@ fn write_eight(ones: u64, text: &mut [u8], end: usize)
 }
 
 // How many zeros come before the first other digit of eight, or before the last digit where all are zeros.
-#[inline]
+#[inline(always)]
 fn zeros_in_front(ones: u64) -> usize
     ensures { (digits : List ℕ) → AreOnes digits ones → AreZeros digits result }
 {
@@ -107,7 +107,7 @@ fn zeros_in_front(ones: u64) -> usize
 // digits 10,486 / 2^20 is near enough to 1 / 100, and for those of two digits 103 / 1024 to 1 / 10. What remains of a
 // part goes to the place above its quotient: hundreds + (fours - 100 * hundreds) * 2^16 is worked out with one
 // multiplication less.
-#[inline]
+#[inline(always)]
 fn eight_ones(number: u64) -> u64
     requires { number < 100000000 }
     ensures { AreOnes (eight_digits_of number) result }
