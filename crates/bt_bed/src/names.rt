@@ -24,12 +24,15 @@ pub fn is_same_name(left: &[u8], right: &[u8]) -> bool
     first == other_first && last == other_last
 }
 
-// The same for names of any length.
+// The same for names of any length. Those of an assembly's parts mostly differ in their last byte.
 #[cold]
 #[inline(never)]
 fn is_same_text(left: &[u8], right: &[u8]) -> bool
     ensures { result ≡ bytes_eq left.now right.now }
 {
+    if left.last() != right.last() {
+        return false;
+    }
     left == right
 }
 

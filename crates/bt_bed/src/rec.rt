@@ -9,7 +9,7 @@ use bt_lines::copy_piece;
 use std::alloc::{AllocError, Global};
 use std::marker::Model;
 
-// A record that follows a much longer one lets go of its bytes.
+// So many bytes may be left over: a text that has more of them is cut off.
 const MOST_LEFT_OVER: usize = 4096;
 
 /// A feature that owns its bytes: what a [`BedRef`] borrows, in one buffer. Contracts see the feature

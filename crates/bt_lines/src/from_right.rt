@@ -47,8 +47,8 @@ pub fn write_position(number: u64, text: &mut [u8], end: usize) -> usize
     tab
 }
 
-// Writes a number in decimal so that it ends where it is told to, and gives where it begins. The digits before the
-// last eight are written one by one.
+// Writes a number in decimal so that it ends where it is told to, and gives where it begins. A single digit before the
+// last eight is written by itself, and more of them by itoa.
 #[inline(always)]
 fn write_number(number: u64, text: &mut [u8], end: usize) -> usize
     requires room { COLUMN ≤ end }
