@@ -155,7 +155,7 @@ impl<Q: Sorted> Neighbours<Q> {
         direct_feature_on(text, self.last_name.as_slice())
     }
 
-    // Takes a line whatever it says. It stands apart, so that few lines take this way.
+    // Takes a line whatever it says. It stands apart, since few lines take this way.
     #[inline(never)]
     fn take_other(&mut self, place: Place, text: &[u8]) -> Result<bool, Fault>
         requires none_ahead { has_ahead self.old ≡ false }

@@ -130,3 +130,42 @@ fn copy_thirty_twos(to: &mut [u8], piece: &[u8])
     u8x32::from_slice(piece).copy_to_slice(to);
     u8x32::from_slice(&piece[last..]).copy_to_slice(&mut to[last..]);
 }
+
+#[cfg(test)]
+mod tests {
+    use super::*;
+
+    // No byte, too few for a vector, as many as each way copies, and more than all of them.
+    const PIECES: [&[u8]; 7] = [
+        b"",
+        b"abc",
+        b"abcd",
+        b"abcdefghi",
+        b"abcdefghijklmnopq",
+        b"abcdefghijklmnopqrstuvwxyz0123456789",
+        b"abcdefghijklmnopqrstuvwxyz0123456789abcdefghijklmnopqrstuvwxyz0123456789",
+    ];
+
+    // The first piece of a table that is copied otherwise, or with bytes beside it.
+    fn first_miscopied(pieces: &[&'static [u8]]) -> Option<&'static [u8]> {
+        for piece in pieces {
+            let mut text = [b'.'; 80];
+            if let Some(to) = text.get_mut(1..piece.len() + 1) {
+                copy_piece(to, piece);
+            }
+            let behind = &text[piece.len().min(72) + 1..];
+            if text[0] != b'.'
+                || text.get(1..piece.len() + 1) != Some(*piece)
+                || behind[0] != b'.'
+            {
+                return Some(*piece);
+            }
+        }
+        None
+    }
+
+    #[test]
+    fn pieces_of_each_way_are_copied(rt: HostRuntime) {
+        assert_eq!(rt; first_miscopied(&PIECES), None);
+    }
+}
