@@ -30,3 +30,4 @@ pub mod MeetingLemmas
 pub mod RecordLineLemmas
 pub mod KnownChromLemmas
 pub mod OwnFailureLemmas
+pub mod WholeRecordLemmas

@@ -33,6 +33,14 @@ pub record Leads (text : List ℕ) (lead : Leading) : Type 0 where
   pub column : All (λ byte. (byte == 9) ≡ false) (take lead.end text)
   pub value : value_of (take lead.end text) ≡ Some lead.value
 
+-- the second and the third column denote the start and the end of a feature, where the first column
+-- ends here
+pub record AreBounds (text : List ℕ) (name : ℕ) (start stop : Leading) : Type 0 where
+  pub first : Leads (drop (name + 1) text) start
+  pub inside : start.end < length (drop (name + 1) text)
+  pub second : Leads (drop (start.end + 1) (drop (name + 1) text)) stop
+  pub below : start.value < stop.value
+
 -- so many digits come first, at most twelve, and denote the number
 pub record BeginsWith (text : List ℕ) (lead : Leading) : Type 0 where
   pub within : lead.end ≤ length text

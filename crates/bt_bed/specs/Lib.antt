@@ -31,3 +31,5 @@ pub mod Blocks
 pub mod Meeting
 pub mod Rec
 pub mod OrderInUse
+pub mod WholeInside
+pub mod WholeRecords

@@ -8,6 +8,7 @@ ghost use Rattle.bt_bed.specs.Neighbours.{IsSaidBy, has_ahead};
 use crate::bed::BedRef;
 use crate::neighbours::Neighbours;
 use crate::sorted::Sorted;
+use crate::whole_records::{PassedRecords, WholeRecords};
 use bt_lines::{Fault, LineReader, Place, Source};
 use std::alloc::Global;
 
@@ -27,9 +28,11 @@ pub(crate) struct Cursor<S, Q> {
 
 #[tactic(auto, unfolding(crate::specs::Cursor::view_with))]
 impl<S: Source, Q: Sorted + Drop> Cursor<S, Q> {
-    ghost use Rattle.std.specs.Prelude.{◌≡◌, ℕ, List, None, Some, false, true, IsSome, option_map};
+    ghost use Rattle.std.specs.Prelude.{◌≡◌, ℕ, List, None, Some, false, true, IfSome, IsSome, option_map};
     ghost use Rattle.bt_lines.specs.Names.{told};
-    ghost use Rattle.bt_lines.specs.Reader.{fault_kept as line_fault};
+    ghost use Rattle.bt_lines.specs.Reader.{fault_kept as line_fault, held};
+    ghost use Rattle.bt_lines.specs.Whole.{ArePassed as AreLinesPassed, GivesPlains};
+    ghost use Rattle.bt_bed.specs.WholeInside.{LendsFrom, StartsAt};
     ghost use Rattle.bt_bed.specs.Bed.{feature_lent};
     ghost use Rattle.bt_bed.specs.Cursor.{IsPlaced, answer_of, fault_in, view_in, view_with};
     ghost use Rattle.bt_bed.specs.Neighbours.{has_ahead, last_in};
@@ -66,6 +69,32 @@ impl<S: Source, Q: Sorted + Drop> Cursor<S, Q> {
             (view_in (Q.sorting self.old.neighbours.rule) self.new) }
     {
         self.neighbours.advance();
+    }
+
+    // The records that stand whole in what was taken ahead, on the chromosome of the last one.
+    #[inline(always)]
+    pub(crate) fn whole(&self) -> Option<WholeRecords<'_>>
+        ensures { IfSome result (LendsFrom self.now.fault self.now.reader self.now.neighbours) }
+    {
+        if self.fault.is_some() || !self.reader.may_pass() {
+            return None;
+        }
+        self.neighbours.whole(self.reader.whole_lines())
+    }
+
+    // Passes the records that were passed there.
+    pub(crate) fn pass(&mut self, passed: PassedRecords)
+        requires going { line_fault self.old.reader ≡ None }
+        requires none_ahead { has_ahead self.old.neighbours ≡ false }
+        requires some { IsSome self.old.neighbours.last }
+        requires whole { (texts : List (List ℕ)) × AreLinesPassed (held self.old.reader) texts passed.lines }
+        ensures lines { (texts : List (List ℕ)) → AreLinesPassed (held self.old.reader) texts passed.lines
+            → GivesPlains S.left S.has_failed S.end_told S.is_read self.old.reader texts self.new.reader }
+        ensures start { StartsAt self.old.neighbours passed.start self.new.neighbours }
+        ensures fault { self.new.fault ≡ self.old.fault }
+    {
+        self.reader.pass(passed.lines);
+        self.neighbours.pass(passed.start);
     }
 
     // Reads on to the next record, if none is ahead and there is one.

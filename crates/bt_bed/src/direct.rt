@@ -3,18 +3,27 @@
 ghost use Rattle.std.specs.Prelude.{◌≡◌, ◌<◌, ◌≤◌, ◌∷◌, [], List, ℕ, Ok, Some, IfSome, IsTrue, drop, get_or, length, take};
 ghost use Rattle.bt_bed.specs.Bed.{feature_lent};
 ghost use Rattle.bt_lines.specs.Columns.{IsFirstTab};
-ghost use Rattle.bt_bed.specs.FirstColumns.{BeginsWith, BeginsWithName, EndsName, IsRecordName, Leads};
+ghost use Rattle.bt_bed.specs.Feature.{Feature};
+ghost use Rattle.bt_bed.specs.FirstColumns.{AreBounds, BeginsWith, BeginsWithName, EndsName, IsRecordName, Leads};
 ghost use Rattle.bt_bed.specs.Record.{columns_in, columns_say, record_of, strand_named, strand_of};
 ghost use Rattle.bt_lines.specs.Lines.{pieces};
 ghost use Rattle.bt_lines.specs.Number.{value_of};
 
 use crate::bed::BedRef;
+use crate::bounds::Bounds;
 use crate::leading::Leading;
 use crate::names::is_same_name;
 use crate::parsing::behind;
 use crate::strand::Strand;
 use crate::tabs::{early_tab, second_tab};
 use bt_lines::{MAX_DIGITS, eight_digits, few_digits, first_tab};
+
+// The numbers of the second and third columns, and where these end, each counted from where it begins.
+#[derive(Clone, Copy)]
+struct Numbers {
+    start: Leading,
+    stop: Leading,
+}
 
 // The feature of a text of which the first three columns are in order. There is none where something is
 // wrong with them, and for numbers with more than twelve digits.
@@ -40,9 +49,22 @@ pub(crate) fn direct_feature_on<'t>(text: &'t [u8], name: &[u8]) -> Option<BedRe
     feature_behind(text, name.len())
 }
 
+// The bounds of the feature of such a line. Its further columns aren't looked at.
+#[inline(always)]
+pub(crate) fn direct_bounds_on(text: &[u8], name: &[u8]) -> Option<Bounds>
+    requires { IsRecordName name.now }
+    ensures { IfSome result (λ bounds. (feature : Feature) × (Ok (Some feature) ≡ record_of text.now)
+        × (feature.chrom ≡ name.now) × (feature.start ≡ bounds.start) × (feature.stop ≡ bounds.stop)) }
+{
+    if !begins_with_name(text, name) {
+        return None;
+    }
+    bounds_behind(text, name.len())
+}
+
 // Whether a text begins with a name and a tab behind it.
 #[inline(always)]
-fn begins_with_name(text: &[u8], name: &[u8]) -> bool
+pub(crate) fn begins_with_name(text: &[u8], name: &[u8]) -> bool
     ensures { IsTrue result → BeginsWithName text.now name.now }
 {
     let end = name.len();
@@ -64,24 +86,47 @@ fn feature_behind(text: &[u8], name: usize) -> Option<BedRef<'_>>
     ensures said { IfSome result (λ bed. Ok (feature_lent bed) ≡ columns_say (pieces 9 text.now)) }
     ensures name { IfSome result (λ bed. bed.chrom.now ≡ take name text.now) }
 {
+    let numbers = numbers_behind(text, name)?;
+    let kept = name + numbers.start.end + numbers.stop.end + 2;
+    Some(BedRef {
+        chrom: &text[..name],
+        start: numbers.start.value,
+        stop: numbers.stop.value,
+        strand: kept_strand(text, kept),
+        rest: behind(text, kept),
+    })
+}
+
+// The bounds of the feature of a text of which the first column ends here, if the next two are in order.
+#[inline(always)]
+fn bounds_behind(text: &[u8], name: usize) -> Option<Bounds>
+    requires { EndsName text.now name }
+    ensures { IfSome result (λ bounds. (feature : Feature) × (Ok feature ≡ columns_say (pieces 9 text.now))
+        × (feature.chrom ≡ take name text.now) × (feature.start ≡ bounds.start) × (feature.stop ≡ bounds.stop)) }
+{
+    let numbers = numbers_behind(text, name)?;
+    Some(Bounds {
+        start: numbers.start.value,
+        stop: numbers.stop.value,
+    })
+}
+
+// The numbers of the two columns behind the first one, which ends here, if they are in order.
+#[inline(always)]
+fn numbers_behind(text: &[u8], name: usize) -> Option<Numbers>
+    requires { EndsName text.now name }
+    ensures { IfSome result (λ numbers. AreBounds text.now name numbers.start numbers.stop) }
+{
     let first = behind(text, name + 1);
     let start = leading_number(first)?;
     if start.end == first.len() {
         return None;
     }
-    let second = behind(first, start.end + 1);
-    let stop = leading_number(second)?;
+    let stop = leading_number(behind(first, start.end + 1))?;
     if start.value >= stop.value {
         return None;
     }
-    let rest = behind(second, stop.end);
-    Some(BedRef {
-        chrom: &text[..name],
-        start: start.value,
-        stop: stop.value,
-        strand: kept_strand(text, name + start.end + stop.end + 2),
-        rest,
-    })
+    Some(Numbers { start, stop })
 }
 
 // Where the first column ends, if it isn't empty and has a tab after it.

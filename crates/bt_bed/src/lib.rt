@@ -30,6 +30,7 @@
 
 mod bed;
 mod blocks;
+mod bounds;
 mod byte_order;
 mod cursor;
 mod direct;
@@ -59,10 +60,12 @@ mod spot;
 mod strand;
 mod tabs;
 mod taken;
+mod whole_records;
 mod writing;
 
 pub use bed::BedRef;
 pub use blocks::Blocks;
+pub use bounds::Bounds;
 pub use byte_order::ByteOrder;
 pub use faults::at_line;
 pub use genome::Genome;
@@ -75,4 +78,5 @@ pub use rec::Rec;
 pub use records::Records;
 pub use strand::Strand;
 pub use taken::Taken;
+pub use whole_records::{PassedRecords, WholeRecords};
 pub use writing::{write_bed, write_cut};

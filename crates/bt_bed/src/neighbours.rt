@@ -7,13 +7,14 @@ ghost use Rattle.bt_bed.specs.Bed.{feature_lent};
 ghost use Rattle.bt_bed.specs.FirstColumns.{IsRecordName};
 
 use crate::bed::BedRef;
-use crate::direct::direct_feature_on;
+use crate::direct::{begins_with_name, direct_feature_on};
 use crate::faults::at_line;
 use crate::names::is_same_name;
 use crate::parsing::parse_bed;
 use crate::sorted::Sorted;
 use crate::spot::Spot;
-use bt_lines::{Fault, Kind, Place, no_memory};
+use crate::whole_records::WholeRecords;
+use bt_lines::{Fault, Kind, Place, WholeLines, no_memory};
 use std::alloc::{AllocError, Global};
 
 // The names of chromosomes stand in buffers that are used again. A record on the chromosome of the last
@@ -42,6 +43,7 @@ pub(crate) struct Neighbours<Q> {
 impl<Q: Sorted> Neighbours<Q> {
     ghost use Rattle.std.specs.Prelude.{ℕ, List, false, IfSome, Ok, Some, None, IsTrue, OnOk, OnErr, IsSome, is_some, option_map};
     ghost use Rattle.bt_bed.specs.Ahead.{feature_at, member_at};
+    ghost use Rattle.bt_bed.specs.WholeInside.{LendsBehind, StartsAt};
     ghost use Rattle.bt_bed.specs.GoodBed.{locus_at};
     ghost use Rattle.bt_bed.specs.Record.{record_of};
     ghost use Rattle.bt_bed.specs.Sorting.{falls_in};
@@ -110,6 +112,31 @@ impl<Q: Sorted> Neighbours<Q> {
         }
         self.last = self.ahead.map(|spot| spot.start);
         self.ahead = None;
+    }
+
+    // The records on the chromosome of the last one, in these lines, if they begin with one.
+    #[inline(always)]
+    pub(crate) fn whole<'t>(&'t self, lines: WholeLines<'t>) -> Option<WholeRecords<'t>>
+        ensures { IfSome result (LendsBehind self.now lines.entry) }
+    {
+        if self.ahead.is_some() {
+            return None;
+        }
+        let start = self.last?;
+        let name = self.last_name.as_slice();
+        if !begins_with_name(lines.rest(), name) {
+            return None;
+        }
+        Some(WholeRecords { lines, name, start })
+    }
+
+    // Makes a record on the last one's chromosome, which starts here, the last one.
+    pub(crate) fn pass(&mut self, start: u64)
+        requires none_ahead { has_ahead self.old ≡ false }
+        requires some { IsSome self.old.last }
+        ensures { StartsAt self.old start self.new }
+    {
+        self.last = Some(start);
     }
 
     // Takes the line that follows the last record's, and answers whether it has a record. If it has, that

@@ -7,6 +7,7 @@ use crate::bed::BedRef;
 use crate::cursor::Cursor;
 use crate::order::ChromOrder;
 use crate::sorted::ByOrder;
+use crate::whole_records::{PassedRecords, WholeRecords};
 use bt_lines::{Fault, LineReader, Source};
 use std::alloc::Global;
 
@@ -24,14 +25,16 @@ pub struct Records<'o, S, O: ChromOrder> {
 
 #[tactic(auto, unfolding(crate::specs::Cursor::view_with, crate::specs::Records::view_of, crate::specs::Records::order_in))]
 impl<'o, S: Source, O: ChromOrder> Records<'o, S, O> {
-    ghost use Rattle.std.specs.Prelude.{◌≡◌, [], Some, None, IsSome, option_map};
+    ghost use Rattle.std.specs.Prelude.{◌≡◌, [], List, Some, None, IfSome, IsSome, option_map};
     ghost use Rattle.std.specs.Borrow.{sem};
     ghost use Rattle.std.specs.Io.BufRead.{Rests};
     ghost use mir.Syntax.{named};
     ghost use Rattle.bt_lines.specs.Reader.{fault_kept as line_fault, input_of, lines_left};
     ghost use Rattle.bt_bed.specs.contracts.records.Records.{the_row};
     ghost use Rattle.bt_bed.specs.Bed.{feature_lent};
+    ghost use Rattle.bt_bed.specs.Feature.{Feature};
     ghost use Rattle.bt_bed.specs.Good.{good};
+    ghost use Rattle.bt_bed.specs.WholeRecords.{ArePassed, LendsWhole, PassesEach};
     ghost use Rattle.bt_bed.specs.GoodBed.{bed_format};
     ghost use Rattle.bt_bed.specs.Order.{IsTotal};
     ghost use Rattle.bt_bed.specs.Records.{PassesRecord, PeeksRecord, StepsRecord, below, fault_kept, good_left, last_locus, line_ahead, order_in, record_ahead};
@@ -73,6 +76,29 @@ impl<'o, S: Source, O: ChromOrder> Records<'o, S, O> {
         ensures { PassesRecord S.left self.old self.new }
     {
         self.cursor.advance();
+    }
+
+    /// The records that stand whole in what was taken ahead, on the chromosome of the record that was passed
+    /// last. There are none before the first record, where one is ahead, and after a fault.
+    #[inline(always)]
+    pub fn whole(&self) -> Option<WholeRecords<'_>>
+        ensures { IfSome result (LendsWhole self.now) }
+    {
+        self.cursor.whole()
+    }
+
+    /// Gives the records that were passed in what [`Records::whole`] lent, as `peek` does one after another, and
+    /// passes them. It reads nothing and takes no memory.
+    #[inline(always)]
+    pub fn pass(&mut self, passed: PassedRecords)
+        requires { (records : List Feature) × ArePassed self.old records passed }
+        ensures { (records : List Feature) → ArePassed self.old records passed
+            → PassesEach S.left S.has_failed S.end_told S.is_read self.old records self.new }
+    {
+        if passed.lines.lines == 0 {
+            return;
+        }
+        self.cursor.pass(passed);
     }
 
     /// The line of the record ahead, which the last `peek` gave.
@@ -476,6 +502,98 @@ mod tests {
         let are_lent = lends_all(&mut records, &LENT);
         let _ = records.into_reader().into_source();
         assert!(rt; are_lent);
+        Ok(())
+    }
+
+    // The next record, if it stands whole, with the line 0. It is passed.
+    fn pass_next<S: Source>(
+        genome: &Genome,
+        records: &mut Records<'_, S, Genome>,
+    ) -> Option<Found> {
+        let mut whole = records.whole()?;
+        let bed = whole.next()?;
+        let found = seen(genome, 0, bed);
+        let passed = whole.passed();
+        records.pass(passed);
+        Some(found)
+    }
+
+    // The records that are left, those that stand whole passed as such, each with the line 0, and the fault.
+    fn collect_whole<S: Source>(
+        alloc: Global,
+        genome: &Genome,
+        records: &mut Records<'_, S, Genome>,
+    ) -> Result<(Vec<Found>, Option<Fault>), AllocError> {
+        let mut found = Vec::new(alloc);
+        for _ in 0..100 {
+            if let Some(one) = pass_next(genome, records) {
+                found.push(one)?;
+                continue;
+            }
+            match records.peek() {
+                Ok(Some(bed)) => found.push(seen(genome, 0, bed))?,
+                Ok(None) => return Ok((found, None)),
+                Err(fault) => return Ok((found, Some(fault))),
+            }
+            records.advance();
+        }
+        Ok((found, None))
+    }
+
+    // Whether both have the same records, whatever their lines.
+    fn are_alike(found: &[Found], want: &[Found]) -> bool {
+        if found.len() != want.len() {
+            return false;
+        }
+        for index in 0..found.len() {
+            let (_, rank, start, stop) = found[index];
+            let (_, want_rank, want_start, want_stop) = want[index];
+            if (rank, start, stop) != (want_rank, want_start, want_stop) {
+                return false;
+            }
+        }
+        true
+    }
+
+    // The first text of a table that gives other records or another fault where the records that stand whole
+    // are passed as such, in pieces of seven bytes or in one.
+    fn first_passed_otherwise(
+        alloc: Global,
+        rows: &[Row<'static>],
+    ) -> Result<Option<&'static [u8]>, Fail> {
+        let genome = read_genome(alloc)?;
+        for row in rows {
+            if !passes(alloc, &genome, *row, 7)? || !passes(alloc, &genome, *row, 8192)? {
+                return Ok(Some(row.0));
+            }
+        }
+        Ok(None)
+    }
+
+    // Whether a text that comes in pieces of this many bytes gives the records and the fault so.
+    fn passes(
+        alloc: Global,
+        genome: &Genome,
+        row: Row<'_>,
+        step: usize,
+    ) -> Result<bool, AllocError> {
+        let (text, want, want_fault) = row;
+        let lines = LineReader::new(
+            alloc,
+            ScriptSource::new(text, step.max(1), None),
+            Input::First,
+        );
+        let mut records = Records::new(alloc, lines, genome);
+        let collected = collect_whole(alloc, genome, &mut records);
+        let _ = records.into_reader().into_source();
+        let (found, fault) = collected?;
+        Ok(are_alike(found.as_slice(), want) && is_fault(fault, want_fault))
+    }
+
+    #[test]
+    fn passes_records_that_stand_whole(rt: HostRuntime) -> Result<(), Fail> {
+        assert_eq!(rt; first_passed_otherwise(rt.alloc(), &IN_ORDER)?, None);
+        assert_eq!(rt; first_passed_otherwise(rt.alloc(), &AT_FAULT)?, None);
         Ok(())
     }
 }

@@ -17,3 +17,4 @@ pub mod ScriptLemmas
 pub mod ReadsLemmas
 pub mod ReaderLemmas
 pub mod StepLemmas
+pub mod WholeLemmas

@@ -29,3 +29,11 @@ pub record CutsLine (old text : List ℕ) (ending : LineEnd) (new : List ℕ) : 
   pub cut : old ≡ piece ++ 10 ∷ new
   pub stripped : text ≡ strip_last 13 piece
   pub ended : ending ≡ (if ends_with_byte 13 piece then CrLf else Lf)
+
+-- whole lines were taken from the front
+pub record PassesWhole (old : Block) (last count : ℕ) (new : Block) : Type 0 where
+  pub bytes : new.bytes ≡ old.bytes
+  pub from : new.from ≡ old.start + last
+  pub stop : new.stop + 1 ≡ old.start + count
+  pub start : new.start ≡ old.start + count
+  pub end : new.end ≡ old.end

@@ -16,3 +16,4 @@ pub mod LentLine
 pub mod Block
 pub mod Reader
 pub mod Filling
+pub mod Whole

@@ -32,7 +32,7 @@ pub(crate) struct Block {
 
 #[tactic(auto, unfolding(crate::specs::Block::unread, crate::specs::Block::text_in))]
 impl Block {
-    ghost use Rattle.bt_lines.specs.Block.{CutsLine, IsFirstFeed, text_in, unread};
+    ghost use Rattle.bt_lines.specs.Block.{CutsLine, PassesWhole, IsFirstFeed, text_in, unread};
 
     // A block without a byte.
     pub(crate) fn new() -> Block
@@ -109,6 +109,18 @@ impl Block {
         self.start += line;
     }
 
+    // Takes whole lines from the front, of which the last begins after so many bytes and ends after so many, and
+    // keeps the place of its text, which has all of its bytes but the line feed.
+    pub(crate) fn pass(&mut self, last: usize, count: usize)
+        requires some { last < count }
+        requires within { count ≤ length (unread self.old) }
+        ensures { PassesWhole self.old last count self.new }
+    {
+        self.from = self.start + last;
+        self.stop = self.start + count - 1;
+        self.start += count;
+    }
+
     // Reads up to `most` bytes in the place of those that it held.
     pub(crate) fn refill<S: Source>(
         &mut self,
@@ -137,7 +149,7 @@ impl Block {
 }
 
 // Whether a carriage return ends a piece.
-fn ends_with_return(piece: &[u8]) -> bool
+pub(crate) fn ends_with_return(piece: &[u8]) -> bool
     ensures { result ≡ ends_with_byte 13 piece.now }
 {
     piece.last() == Some(&b'\r')

@@ -338,30 +338,35 @@ fn a_block_that_failed_is_not_sent_again(rt: HostRuntime) -> Result<(), Fail> {
     Ok(())
 }
 
-// Whether a line and its line feed are held back behind so many bytes, and how many the sink has then.
-fn held_behind(alloc: Global, before: usize) -> Result<(bool, usize), Fail> {
+// For how many bytes there is room behind so many, whether a line and its line feed are held back there, and how
+// many bytes the sink has then.
+fn held_behind(alloc: Global, before: usize) -> Result<(usize, bool, usize), Fail> {
     let mut output = Out::new(ScriptSink::new(alloc, BLOCK, None));
     output.put(long_line(alloc, before, b"")?.as_slice())?;
+    let room = output.room();
     let is_held = output.hold_both(b"line", b"\n");
     output.flush()?;
-    Ok((is_held, output.into_sink().taken().len()))
+    Ok((room, is_held, output.into_sink().taken().len()))
 }
 
 // The first number of bytes before it where it is held or not, and put, otherwise.
-fn first_misheld(alloc: Global, rows: &[(usize, bool, usize)]) -> Result<Option<usize>, Fail> {
-    for (before, is_held, whole) in rows {
-        if held_behind(alloc, *before)? != (*is_held, *whole) {
+fn first_misheld(
+    alloc: Global,
+    rows: &[(usize, usize, bool, usize)],
+) -> Result<Option<usize>, Fail> {
+    for (before, room, is_held, whole) in rows {
+        if held_behind(alloc, *before)? != (*room, *is_held, *whole) {
             return Ok(Some(*before));
         }
     }
     Ok(None)
 }
 
-const BOTH: [(usize, bool, usize); 4] = [
-    (0, true, 5),
-    (8187, true, 8192),
-    (8188, false, 8188),
-    (8192, false, 8192),
+const BOTH: [(usize, usize, bool, usize); 4] = [
+    (0, 8192, true, 5),
+    (8187, 5, true, 8192),
+    (8188, 4, false, 8188),
+    (8192, 0, false, 8192),
 ];
 
 // A piece and its line feed are held back where both fit into the block, also to its last byte.
@@ -378,5 +383,23 @@ fn nothing_is_held_behind_a_failure(rt: HostRuntime) -> Result<(), Fail> {
     let is_told = failed.flush().is_err();
     let is_held = failed.hold_both(b"line", b"\n");
     assert!(rt; is_told && !is_held);
+    Ok(())
+}
+
+// What a reader took ahead begins with a line only where that ends with a line feed alone.
+#[test]
+fn whole_lines_are_those_with_a_line_feed_alone(rt: HostRuntime) -> Result<(), Fail> {
+    let source = ScriptSource::new(b"a\nbc\nd\r\n", BLOCK, None);
+    let mut reader = LineReader::new(rt.alloc(), source, Input::First);
+    let is_first = matches!(reader.next()?, Some(line) if line.text == b"a".as_slice());
+    let ahead = reader.whole_lines();
+    let is_ahead = ahead.rest() == b"bc\nd\r\n".as_slice()
+        && ahead.text() == Some(b"bc".as_slice());
+    let none_passed = ahead.passed().bytes == 0;
+    let is_second = matches!(reader.next()?, Some(line) if line.text == b"bc".as_slice());
+    let ahead = reader.whole_lines();
+    let is_cut = ahead.rest() == b"d\r\n".as_slice() && ahead.text().is_none();
+    let _ = reader.into_source();
+    assert!(rt; is_first && is_ahead && none_passed && is_second && is_cut);
     Ok(())
 }

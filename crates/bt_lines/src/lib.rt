@@ -43,6 +43,7 @@ mod script_sink;
 mod script_source;
 mod split;
 mod to_write;
+mod whole;
 
 pub use block::BLOCK;
 pub use column_iter::Columns;
@@ -62,6 +63,7 @@ pub use script_sink::ScriptSink;
 pub use script_source::ScriptSource;
 pub use split::{columns, first_tab};
 pub use to_write::ToWrite;
+pub use whole::{PassedLines, WholeLines};
 
 #[cfg(test)]
 mod block_tests;

@@ -13,6 +13,7 @@ use crate::fault::{Fault, Input, Kind, Place};
 use crate::faults::no_memory;
 use crate::filling::{Stop, fill};
 use crate::line::{Line, LineEnd};
+use crate::whole::{PassedLines, WholeLines};
 use std::alloc::Global;
 
 // How far a reader is.
@@ -61,7 +62,8 @@ pub struct LineReader<S> {
 
 #[tactic(auto, unfolding(crate::specs::Reader::source_of, crate::specs::Reader::input_of, crate::specs::Reader::lines_given, crate::specs::Reader::bytes_taken, crate::specs::Reader::held, crate::specs::Reader::fault_kept, crate::specs::Reader::has_ended, crate::specs::Reader::line_at, crate::specs::Reader::end_told, crate::specs::Reader::bytes_left, crate::specs::Reader::feeds_taken))]
 impl<S: Source> LineReader<S> {
-    ghost use Rattle.std.specs.Prelude.{◌≡◌, ℕ, suc, ◌<◌, ◌-◌, ◌≤◌, ◌^◌, None, Some, IsSome, [], false, true, option_map};
+    ghost use Rattle.bt_lines.specs.Whole.{ArePassed, Begins, GivesPlains};
+    ghost use Rattle.std.specs.Prelude.{◌≡◌, ℕ, List, suc, ◌<◌, ◌-◌, ◌≤◌, ◌^◌, None, Some, IsSome, [], false, true, option_map};
     ghost use Rattle.std.specs.Borrow.{sem};
     ghost use Rattle.std.specs.Io.BufRead.{Rests};
     ghost use Rattle.bt_lines.specs.contracts.line_reader.LineReader.{the_row};
@@ -137,6 +139,43 @@ impl<S: Source> LineReader<S> {
             State::LastLine | State::Carried => self.carried.as_slice(),
             _ => self.block.text(),
         }
+    }
+
+    /// Whether it is worth asking for whole lines: neither the end nor a fault has come, and the last line ended
+    /// with a line feed alone, as the next ones mostly do then.
+    #[inline(always)]
+    pub fn may_pass(&self) -> bool
+        ensures { result ≡ true → fault_kept self.now ≡ None }
+    {
+        self.is_going() && matches!(self.ending, LineEnd::Lf)
+    }
+
+    /// The lines that stand whole in what was taken ahead. There are none after a fault and after the end.
+    #[inline(always)]
+    pub fn whole_lines(&self) -> WholeLines<'_>
+        ensures { fault_kept self.now ≡ None → Begins (held self.now) result }
+    {
+        if self.is_going() {
+            return WholeLines::new(self.block.unread());
+        }
+        WholeLines::new(&[])
+    }
+
+    /// Gives the lines that were passed in what [`LineReader::whole_lines`] lent, as [`LineReader::next`] does one
+    /// after another: the reader is at the last of them. It reads nothing.
+    pub fn pass(&mut self, passed: PassedLines)
+        requires going { fault_kept self.old ≡ None }
+        requires whole { (texts : List (List ℕ)) × ArePassed (held self.old) texts passed }
+        ensures { (texts : List (List ℕ)) → ArePassed (held self.old) texts passed
+            → GivesPlains S.left S.has_failed S.end_told S.is_read self.old texts self.new }
+    {
+        if passed.lines == 0 {
+            return;
+        }
+        self.block.pass(passed.last, passed.bytes);
+        self.lines += passed.lines;
+        self.ending = LineEnd::Lf;
+        self.state = State::Reading;
     }
 
     /// The input that the reader stands for.

@@ -93,6 +93,13 @@ impl<K: Sink> Out<K> {
         Ok(())
     }
 
+    /// For how many bytes [`Out::hold_both`] has room, if no write has failed.
+    pub fn room(&self) -> usize
+        ensures { result ≤ block_size }
+    {
+        self.held.room()
+    }
+
     /// Puts a piece and a short one behind it, if no write has failed and there is room for both, and
     /// answers whether it did; else nothing changes. It writes nothing to the sink.
     #[inline(always)]

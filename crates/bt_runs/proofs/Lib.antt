@@ -19,12 +19,15 @@ pub mod NameOrder
 pub mod OwnOrder
 pub mod MergeForm
 pub mod EngineLemmas
+pub mod EachTaken
 pub mod PooledLemmas
+pub mod WholeLemmas
 pub mod OneGap
 pub mod Walks
 pub mod GenomeRanks
 pub mod ComplementForm
 pub mod GapSteps
+pub mod WholeGapLemmas
 pub mod PlainSpans
 pub mod LevelLemmas
 pub mod DepthLemmas

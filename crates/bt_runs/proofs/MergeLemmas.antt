@@ -7,7 +7,8 @@ use Rattle.bt_lines.specs.Output.{Output}
 use Rattle.bt_lines.specs.Putting.{CutsRest, PutsRest}
 use Rattle.bt_lines.specs.declared.fault.Fault.{Fault}
 use Rattle.bt_bed.specs.Feature.{Feature}
-use Rattle.bt_runs.specs.Engine.{AfterEach, AtEnd, FeedAnswers, Feeds, FinishAnswers, Finishes, NotTaken}
+use Rattle.bt_bed.specs.declared.whole_records.WholeRecords.{WholeRecords}
+use Rattle.bt_runs.specs.Engine.{AfterEach, AtEnd, FeedAnswers, Feeds, FeedsWhole, FinishAnswers, Finishes, NotTaken, TakesEach, TakesGiven}
 use Rattle.bt_runs.specs.Merging.{Merging, Together, Apart, is_quiet, kept_fault, may_take, settled_lines, stands_after, whole_output}
 use Rattle.bt_runs.specs.Pooling as pool
 use Rattle.bt_runs.specs.Stranding as strands
@@ -105,6 +106,46 @@ module _ {E : Type 0} (merge : E → Merging) (only : (first : Merging) (past : 
       grows = p.grows;
       after_failure = p.after_failure;
     }
+
+-- what several records do
+module _ {E : Type 0} (merge : E → Merging) (only : (first : Merging) (past : List Feature) (old : E) → stands_after first past (merge old) → (inner : E) × (merge inner ≡ first)) where
+  abbrev MayTakeIn : E → List Feature → Type 0
+  MayTakeIn first past = may_take (merge first) past
+
+  abbrev StandsIn : E → List Feature → E → Type 0
+  StandsIn first past now = stands_after (merge first) past (merge now)
+
+  abbrev fault_in : E → Option Told
+  fault_in inner = kept_fault (merge inner)
+
+  abbrev settled_in : E → List Feature → List ℕ
+  settled_in first past = settled_lines (merge first) past
+
+  abbrev QuietIn : E → List Feature → Feature → Type 0
+  QuietIn first past r = is_quiet (merge first) past r
+
+  each_inside : (records : List Feature) (old : E) (out : Output) (new : E) (grown : Output) → TakesEach MayTakeIn StandsIn fault_in settled_in QuietIn old out records new grown
+      → TakesEach may_take stands_after kept_fault settled_lines is_quiet (merge old) out records (merge new) grown
+  each_inside [] old out new grown is = (ap merge is.0, is.1)
+  each_inside (r ∷ records) old out new grown more =
+      (merge more.0, more.1, feeds_inside merge only old r out more.0 more.1 (Ok tt) more.2, each_inside records more.0 more.1 new grown more.3)
+
+  given_inside : (old : E) (lines : WholeRecords) (out : Output) (new : E) (passed : WholeRecords) (grown : Output) → TakesGiven MayTakeIn StandsIn fault_in settled_in QuietIn old lines out new passed grown
+      → TakesGiven may_take stands_after kept_fault settled_lines is_quiet (merge old) lines out (merge new) passed grown
+  given_inside old lines out new passed grown p = record { records = p.records; given = p.given; taken = each_inside p.records old out new grown p.taken }
+
+  pub whole_inside : {A : Type 0} (old : E) (lines : WholeRecords) (out : Output) (new : E) (passed : WholeRecords) (grown : Output) (result : Result A Fault) → FeedsWhole MayTakeIn StandsIn fault_in settled_in QuietIn old lines out result new passed grown
+      → FeedsWhole may_take stands_after kept_fault settled_lines is_quiet (merge old) lines out result (merge new) passed grown
+  whole_inside old lines out new passed grown (Ok done) p = given_inside old lines out new passed grown p
+  whole_inside old lines out new passed grown (Err answer) p = record {
+    mid = merge p.mid;
+    before = p.before;
+    through = p.through;
+    takes = given_inside old lines out p.mid p.before p.through p.takes;
+    r = p.r;
+    given = p.given;
+    fails = feeds_inside merge only p.mid p.r p.through new grown (Err answer) p.fails;
+  }
 
 -- one that merges all records together, and one that keeps the strands apart
 pub only_together : (first : Merging) (past : List Feature) (old : pool.Pooling) → stands_after first past (Together old) → (inner : pool.Pooling) × (Together inner ≡ first)

@@ -8,6 +8,8 @@ use Rattle.bt_lines.specs.Output.{Output, Grows}
 use Rattle.bt_lines.specs.Putting.{WorksAsBefore, PutsRest, CutsRest}
 use Rattle.bt_lines.specs.declared.fault.Fault.{Fault}
 use Rattle.bt_bed.specs.Feature.{Feature}
+use Rattle.bt_bed.specs.WholeRecords.{GivesWhole, GivesWholes}
+use Rattle.bt_bed.specs.declared.whole_records.WholeRecords.{WholeRecords}
 
 -- a record that settles nothing more, with which no more is kept
 pub record IsQuiet (settled : List Feature → List ℕ) (held : List Feature → ℕ)
@@ -99,6 +101,38 @@ module _ {E : Type 0} (MayTake : E → List Feature → Type 0)
       -- what the sink took stays, and nothing happens to an output that has failed
       pub grows : Grows out.took grown.took
       pub after_failure : out.has_failed ≡ true → grown ≡ out
+
+  -- several records
+  module _ (Quiet : E → List Feature → Feature → Type 0) where
+    -- they were taken, each as `feed` takes it, one after another
+    abbrev pub TakesEach : E → Output → List Feature → E → Output → Type 0
+    TakesEach old out [] new grown = (new ≡ old) × (grown ≡ out)
+    TakesEach old out (r ∷ records) new grown =
+        (mid : E) × (through : Output) × Feeds old r out {A = Unit {0}} Quiet (Ok tt) mid through
+        × TakesEach mid through records new grown
+
+    module _ (old : E) (lines : WholeRecords) (out : Output) where
+      -- records that stood whole were given and passed, and the engine took each of them
+      pub record TakesGiven (new : E) (passed : WholeRecords) (grown : Output) : Type 0 where
+        pub records : List Feature
+        pub given : GivesWholes lines records passed
+        pub taken : TakesEach old out records new grown
+
+      -- it took those before the last one that was given and passed, and that one it didn't take
+      pub record FailsAtGiven (answer : Fault) (new : E) (passed : WholeRecords) (grown : Output)
+          : Type 0 where
+        pub mid : E
+        pub before : WholeRecords
+        pub through : Output
+        pub takes : TakesGiven mid before through
+        pub r : Feature
+        pub given : GivesWhole before r passed
+        pub fails : Feeds mid r through {A = Unit {0}} Quiet (Err answer) new grown
+
+      -- what `feed_whole` does
+      abbrev pub FeedsWhole : {A : Type 0} → Result A Fault → E → WholeRecords → Output → Type 0
+      FeedsWhole (Ok done) new passed grown = TakesGiven new passed grown
+      FeedsWhole (Err answer) new passed grown = FailsAtGiven answer new passed grown
 
   -- the end of the input
   module _ (whole : E → List Feature → List ℕ) (last : E) (out : Output) where

@@ -17,10 +17,12 @@ pub mod PlainRuns
 pub mod Pooling
 pub mod MergeStep
 pub mod Taking
+pub mod WholeRuns
 pub mod Gaps
 pub mod Walk
 pub mod GapStep
 pub mod Complementing
+pub mod WholeGaps
 pub mod Levels
 pub mod Depth
 pub mod DepthStep

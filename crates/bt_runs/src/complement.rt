@@ -1,12 +1,14 @@
 //! The engine of `bedtools complement`: the place up to which gaps are settled.
 
-ghost use Rattle.std.specs.Prelude.{◌≡◌, ◌⊎◌, ◌<◌, ◌≤◌, ℕ, List, [], length, flat_map, min, slice_range, Option, Some, Ok, Err, None, IfOk, IfErr};
+ghost use Rattle.std.specs.Prelude.{◌≡◌, ◌⊎◌, ◌<◌, ◌≤◌, ℕ, List, [], length, flat_map, min, slice_range, Bool, true, Option, Some, Ok, Err, None, IfOk, IfErr};
 ghost use Rattle.bt_bed.specs.Feature.{Feature};
 ghost use Rattle.bt_bed.specs.Bed.{feature_lent};
 ghost use Rattle.bt_bed.specs.GenomeTable.{entries};
 ghost use Rattle.bt_runs.specs.Complementing.{StandsAfter, kept_fault, held_count, is_quiet, may_take, settled_lines, stands_after, whole_output};
 ghost use Rattle.bt_runs.specs.Gaps.{AreTaken, complement, kept_place, settled_gaps};
 ghost use Rattle.bt_runs.specs.GapStep.{bare_gap, covering, gap_to, gap_walk, last_gap, seen, whole_of};
+ghost use Rattle.bt_bed.specs.WholeRecords.{chrom_in};
+ghost use Rattle.bt_runs.specs.WholeGaps.{CoversWhole};
 ghost use Rattle.bt_runs.specs.Walk.{AreReached, begun, going, is_on, left_before, left_of, walk_step};
 ghost use Rattle.bt_lines.specs.Fault.{write_failed};
 ghost use Rattle.bt_lines.specs.Names.{told};
@@ -16,7 +18,7 @@ ghost use Rattle.bt_lines.specs.Putting.{Adds};
 
 use crate::engine::Engine;
 use crate::failure::Failure;
-use bt_bed::{BedRef, Genome, is_same_name, put_interval};
+use bt_bed::{BedRef, Genome, WholeRecords, is_same_name, put_interval};
 use bt_lines::{Fault, Out, Sink};
 use std::marker::Model;
 
@@ -118,6 +120,31 @@ impl Engine for Complement<'_> {
         }
     }
 
+    /// It takes records on the chromosome that it has reached alone.
+    fn feed_whole<K: Sink>(
+        &mut self,
+        records: &mut WholeRecords<'_>,
+        out: &mut Out<K>,
+    ) -> Result<(), Fault> {
+        let Some(first) = self.current else {
+            return Ok(());
+        };
+        if self.failure.is_some() || !is_on(self.genome, self.current, records.chrom()) {
+            return Ok(());
+        }
+        match cover_whole(self.genome, first, records, out) {
+            Ok(reached) => {
+                self.current = Some(reached);
+                Ok(())
+            }
+            Err(fault) => {
+                let failure = Failure::Write;
+                self.failure = Some(failure);
+                Err(fault)
+            }
+        }
+    }
+
     fn finish<K: Sink>(self, out: &mut Out<K>) -> Result<(), Fault> {
         let count = self.genome.count();
         match self.failure {
@@ -193,7 +220,37 @@ fn is_on(genome: &Genome, current: Option<GapPlace>, chrom: &[u8]) -> bool
     }
 }
 
+// Takes records on the chromosome that was reached, with the place in the input at hand, and gives how far that
+// chromosome is settled with them. It stands apart, so that the loop has the registers to itself.
+#[inline(never)]
+fn cover_whole<K: Sink>(
+    genome: &Genome,
+    first: GapPlace,
+    records: &mut WholeRecords<'_>,
+    out: &mut Out<K>,
+) -> Result<GapPlace, Fault>
+    requires at { AreReached (entries genome.now) (seen (Some first)) }
+    requires on { is_on (entries genome.now) (seen (Some first)) (chrom_in records.old) ≡ true }
+    ensures { (limit : Bool) → CoversWhole (entries genome.now) limit first records.old out.old
+        result records.new out.new }
+{
+    let mut reached = first;
+    let mut whole = *records;
+    while let Some(bounds) = whole.next_bounds() {
+        match cover(genome, reached, bounds.start, bounds.stop, out) {
+            Ok(next) => reached = next,
+            Err(fault) => {
+                *records = whole;
+                return Err(fault);
+            }
+        }
+    }
+    *records = whole;
+    Ok(reached)
+}
+
 // Writes the gap that a record settles, and gives how far the chromosome is settled with it.
+#[inline(always)]
 fn cover<K: Sink>(
     genome: &Genome,
     reached: GapPlace,

@@ -4,9 +4,9 @@ ghost use Rattle.std.specs.Prelude.{ℕ, List, Option};
 ghost use Rattle.bt_lines.specs.Fault.{Told};
 ghost use Rattle.bt_bed.specs.Bed.{feature_lent};
 ghost use Rattle.bt_bed.specs.Feature.{Feature};
-ghost use Rattle.bt_runs.specs.Engine.{Feeds, Finishes, KeepsHeld};
+ghost use Rattle.bt_runs.specs.Engine.{Feeds, FeedsWhole, Finishes, KeepsHeld};
 
-use bt_bed::BedRef;
+use bt_bed::{BedRef, WholeRecords};
 use bt_lines::{Fault, Out, Sink};
 
 /// An engine takes the records of sorted input one after another, and writes each line of its output
@@ -41,6 +41,22 @@ pub trait Engine {
     fn feed<K: Sink>(&mut self, bed: &BedRef<'_>, out: &mut Out<K>) -> Result<(), Fault>
         ensures { Feeds takes stands fault settled self.old (feature_lent bed.now) out.old quiet
             result self.new out.new };
+
+    /// Takes records that stand whole, as [`Engine::feed`] does one after another: as many of them as it can,
+    /// which may be none. What it took was passed. Where it fails, the record that it failed at was passed too.
+    fn feed_whole<K: Sink>(
+        &mut self,
+        records: &mut WholeRecords<'_>,
+        out: &mut Out<K>,
+    ) -> Result<(), Fault>
+        ensures { FeedsWhole takes stands fault settled quiet self.old records.old out.old
+            result self.new records.new out.new }
+    {
+        while let Some(bed) = records.next() {
+            self.feed(&bed, out)?;
+        }
+        Ok(())
+    }
 
     /// Writes the lines that are still unsettled, after the last record. It fails with `WriteFailed`
     /// where they can't be written, and with the fault that was answered before, if one was.

@@ -49,6 +49,9 @@ mod stranded;
 #[cfg(test)]
 mod testing;
 mod waiting;
+mod whole_runs;
+#[cfg(test)]
+mod whole_tests;
 
 pub use complement::Complement;
 pub use coverage::Coverage;

@@ -11,7 +11,7 @@ use crate::engine::Engine;
 use crate::merge_strand::MergeStrand;
 use crate::pooled::Pooled;
 use crate::stranded::Stranded;
-use bt_bed::BedRef;
+use bt_bed::{BedRef, WholeRecords};
 use bt_lines::{Fault, Out, Sink};
 use std::alloc::Global;
 use std::marker::Model;
@@ -87,6 +87,17 @@ impl Engine for Merge {
         match &mut self.kept {
             Kept::Pooled(merge) => merge.feed(bed, out),
             Kept::Stranded(merge) => merge.feed(bed, out),
+        }
+    }
+
+    fn feed_whole<K: Sink>(
+        &mut self,
+        records: &mut WholeRecords<'_>,
+        out: &mut Out<K>,
+    ) -> Result<(), Fault> {
+        match &mut self.kept {
+            Kept::Pooled(merge) => merge.feed_whole(records, out),
+            Kept::Stranded(merge) => merge.feed_whole(records, out),
         }
     }
 

@@ -5,7 +5,7 @@ ghost use Rattle.bt_bed.specs.Bed.{feature_lent};
 ghost use Rattle.bt_bed.specs.Feature.{Feature, interval_of};
 ghost use Rattle.bt_runs.specs.Counted.{is_counted};
 ghost use Rattle.bt_lines.specs.Number.{max_number};
-ghost use Rattle.bt_runs.specs.Engine.{Feeds, KeepsHeld};
+ghost use Rattle.bt_runs.specs.Engine.{Feeds, FeedsWhole, KeepsHeld};
 ghost use Rattle.bt_bed.specs.IntervalLine.{interval_lines};
 ghost use Rattle.bt_runs.specs.MergedRuns.{AreTaken, is_passed, kept_runs, merged_runs, settled_runs};
 ghost use Rattle.bt_runs.specs.MergeStep.{with_record};
@@ -15,17 +15,18 @@ ghost use Rattle.bt_runs.specs.Taking.{IsForRun, SettlesRuns, TakesNext, run_at}
 use crate::engine::Engine;
 use crate::failure::Failure;
 use crate::merge_strand::MergeStrand;
-use bt_bed::{BedRef, Strand, is_same_name, put_interval};
+use crate::whole_runs::merge_whole;
+use bt_bed::{BedRef, Strand, WholeRecords, is_same_name, put_interval};
 use bt_lines::{Fault, Out, Sink};
 use std::alloc::{AllocError, Global};
 use std::marker::Model;
 
 // A run without its chromosome.
 #[derive(Clone, Copy, Debug)]
-struct Run {
+pub(crate) struct Run {
     // Below `stop`, always.
-    start: u64,
-    stop: u64,
+    pub(crate) start: u64,
+    pub(crate) stop: u64,
 }
 
 /// Merges records that come in order. It keeps the open run alone, and writes each run once a record
@@ -182,6 +183,27 @@ impl Engine for Pooled {
         }
     }
 
+    /// It takes records on the chromosome of the open run alone, and none that is the first.
+    fn feed_whole<K: Sink>(
+        &mut self,
+        records: &mut WholeRecords<'_>,
+        out: &mut Out<K>,
+    ) -> Result<(), Fault> {
+        if self.failure.is_some() || !is_same_name(self.chrom.as_slice(), records.chrom()) {
+            return Ok(());
+        }
+        match merge_whole(self.gap, self.strand, self.run, records, out) {
+            Ok(run) => {
+                self.run = run;
+                Ok(())
+            }
+            Err(fault) => {
+                self.failure = Some(Failure::Write);
+                Err(fault)
+            }
+        }
+    }
+
     fn finish<K: Sink>(self, out: &mut Out<K>) -> Result<(), Fault> {
         if let Some(before) = self.failure {
             return Err(before.fault());
@@ -202,7 +224,7 @@ impl Engine for Pooled {
 }
 
 // Whether a record of this strand is merged.
-fn counts(wanted: MergeStrand, strand: Strand) -> bool
+pub(crate) fn counts(wanted: MergeStrand, strand: Strand) -> bool
     ensures { result ≡ is_counted wanted strand }
 {
     match wanted {

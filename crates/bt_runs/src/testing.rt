@@ -103,6 +103,22 @@ pub(crate) fn expect_end<E: Engine>(
     expect_put(rt, out, wanted, name);
 }
 
+// Lets two engines finish, which have to have written the same.
+pub(crate) fn expect_same<E: Engine>(
+    rt: &impl Abort,
+    one: E,
+    out: Out<ScriptSink>,
+    other: E,
+    mut wanted: Out<ScriptSink>,
+    name: &str,
+) {
+    same_answer(rt, other.finish(&mut wanted), Ok(()), name);
+    same_answer(rt, wanted.flush(), Ok(()), name);
+    let sink = wanted.into_sink();
+    holds(rt, !sink.taken().is_empty(), name);
+    expect_end(rt, one, out, sink.taken(), name);
+}
+
 // An engine that has taken no record has to keep and to write what the row says.
 pub(crate) fn check_row<E: Engine>(rt: &impl Abort, alloc: Global, mut engine: E, row: &Row<'_>) {
     same_count(rt, engine.kept_len(), 0, row.name);

@@ -10,6 +10,7 @@ pub mod OwnerLemmas
 pub mod ExtentLemmas
 pub mod TextLemmas
 pub mod MaskingLemmas
+pub mod PassingLemmas
 pub mod LeftLemmas
 pub mod QuietLemmas
 pub mod KnowsLemmas

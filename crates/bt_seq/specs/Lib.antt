@@ -28,3 +28,4 @@ pub mod MaskInside
 pub mod MaskStanding
 pub mod MaskFronts
 pub mod MaskSteps
+pub mod Passing

@@ -40,6 +40,7 @@ mod mask_state;
 mod mask_want;
 mod matching;
 mod operation;
+mod passing;
 mod plain;
 mod put_text;
 mod sam;

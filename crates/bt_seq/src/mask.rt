@@ -1,19 +1,20 @@
 //! The engine of `bedtools maskfasta`.
 
-ghost use Rattle.std.specs.Prelude.{◌≡◌, ◌⊎◌, Bool, None, OnErr, Some, false, length};
+ghost use Rattle.std.specs.Prelude.{◌≡◌, ◌⊎◌, ℕ, List, Bool, None, OnErr, Some, false, length};
 ghost use Rattle.bt_bed.specs.Bed.{feature_lent};
 ghost use Rattle.bt_bed.specs.GoodBlocks.{AreInBlocks};
 ghost use Rattle.bt_lines.specs.LentLine.{line_seen};
+ghost use Rattle.bt_lines.specs.Whole.{PassesLines};
 ghost use Rattle.bt_seq.specs.MaskStage.{IsNext, MaskStage, first_stage, given, held_by, line_given_last, want_at, with_lines_ended};
 ghost use Rattle.bt_seq.specs.MaskStanding.{MaskStandsAt};
-ghost use Rattle.bt_seq.specs.MaskSteps.{ChecksRecord, EndsCheck, EndsRecords, GivesNextLine, GivesBed};
+ghost use Rattle.bt_seq.specs.MaskSteps.{ChecksRecord, EndsCheck, EndsRecords, GivesNextLine, GivesBed, TakesTexts};
 ghost use Rattle.bt_seq.specs.Sequences.{SequenceLine};
 
 use crate::mask_how::MaskHow;
 use crate::mask_state::MaskState;
 use crate::mask_want::MaskWant;
 use bt_bed::{BedRef, Taken};
-use bt_lines::{Fault, Line, Out, Sink};
+use bt_lines::{Fault, Line, Out, Sink, WholeLines};
 use std::alloc::Global;
 use std::marker::Model;
 
@@ -81,6 +82,29 @@ impl Mask {
         ensures stops { OnErr result (self.new.want ≡ MaskWant.Nothing) }
     {
         self.state.take_line(line, out)
+    }
+
+    /// Whether it is worth asking [`Mask::pass_lines`]: a sequence has begun, no record is held, and the record ahead
+    /// starts some lines further on. So nothing is tried where records reach into most lines.
+    #[inline(always)]
+    pub fn may_pass(&self) -> bool {
+        self.state.may_pass()
+    }
+
+    /// Takes those of the next lines that are known beforehand to be written as they stand, and answers where it
+    /// has come. It stops before a header, before a line that may wait, and where the output has no room; before
+    /// the first header and while a record is held it takes none. It can't fail.
+    pub fn pass_lines<'a, K: Sink>(
+        &mut self,
+        lines: WholeLines<'a>,
+        out: &mut Out<K>,
+    ) -> WholeLines<'a>
+        requires { self.old.want ≡ MaskWant.Line }
+        ensures passes { (texts : List (List ℕ)) × PassesLines lines.entry texts result
+            × TakesTexts self.old texts out.old self.new out.new }
+        ensures asks { self.new.want ≡ MaskWant.Line }
+    {
+        self.state.pass_lines(lines, out)
     }
 
     /// Takes the end of the lines. Nothing is written. Records are asked for until they end: each has

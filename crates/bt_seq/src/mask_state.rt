@@ -1,24 +1,30 @@
 //! What a masking engine keeps, and its steps.
 
-ghost use Rattle.std.specs.Prelude.{◌≡◌, ◌&&◌, None, Some, [], OnOk, IfErr, IsErr, IsOk, cond, false, not, true, is_some, length, nat_le, nat_lt};
+ghost use Rattle.std.specs.Prelude.{◌≡◌, ◌&&◌, ℕ, List, None, Some, [], OnOk, IfErr, IsErr, IsOk, cond, false, not, true, is_some, length, nat_le, nat_lt, if◌then◌else◌};
 ghost use Rattle.bt_lines.specs.Fault.{no_memory};
 ghost use Rattle.bt_lines.specs.Names.{told};
 ghost use Rattle.bt_bed.specs.Bed.{feature_lent};
 ghost use Rattle.bt_bed.specs.LineKind.{fault_at_line};
 ghost use Rattle.bt_seq.specs.MaskState.{ChecksBed, Keeps, Moves, PassesLine, TakesBed, TakesLine, Waiting, Writes, WritesGiven, decides_by, decides_up_to, stays_as_given, with_extent, writes_at_once};
+ghost use Rattle.bt_lines.specs.Whole.{PassesLines};
+ghost use Rattle.bt_seq.specs.Passing.{MaskPasses};
 ghost use Rattle.bt_seq.specs.Sequences.{is_header};
-ghost use Rattle.bt_seq.specs.Window.{gone_on, no_bases};
+ghost use Rattle.bt_seq.specs.Window.{gone_on, limit, no_bases};
 
 use crate::header_name::{is_header, name_in};
 use crate::mask_how::MaskHow;
 use crate::mask_want::MaskWant;
 use crate::matching::{Matching, Owner};
-use crate::put_text::{hold_text, put_text};
-use crate::window::{LIMIT, Window};
+use crate::passing::Passing;
+use crate::put_text::{hold_passed, hold_text, put_text};
+use crate::window::{LIMIT, Window, up_to_limit};
 use bt_bed::{BedRef, Taken, at_line};
-use bt_lines::{Fault, Input, Kind, Line, LineEnd, Out, Place, Sink, no_memory};
+use bt_lines::{Fault, Input, Kind, Line, LineEnd, Out, Place, Sink, WholeLines, no_memory};
 use std::alloc::Global;
 use std::marker::Model;
+
+// Of how many bases the lines are at least that are tried to be passed: of about three lines.
+const FEWEST: usize = 200;
 
 // The line that waits stands in a buffer, which is used again.
 #[derive(Drop)]
@@ -223,6 +229,49 @@ impl MaskState {
         self.waits = false;
         self.want = MaskWant::Line;
         true
+    }
+
+    // Whether a sequence has begun, nothing is held, and a few lines more are known to be decided.
+    #[inline(always)]
+    pub(crate) fn may_pass(&self) -> bool {
+        self.matching.is_named()
+            && self.window.is_empty()
+            && up_to_limit(self.window.bases(), FEWEST) <= self.known_to()
+    }
+
+    // Passes those of the next lines that are known beforehand to be written as they stand, for which the
+    // output has room.
+    pub(crate) fn pass_lines<'a, K: Sink>(
+        &mut self,
+        lines: WholeLines<'a>,
+        out: &mut Out<K>,
+    ) -> WholeLines<'a>
+        ensures { (texts : List (List ℕ)) × PassesLines lines.entry texts result
+            × MaskPasses self.old texts out.old self.new out.new }
+    {
+        if !self.matching.is_named() || !self.window.is_empty() {
+            return lines;
+        }
+        let passing = Passing::new(lines, self.window.before(), self.window.bases(), out.room());
+        let passed = passing.pass_all(self.known_to());
+        if !hold_passed(lines, passed.lines, out) {
+            return lines;
+        }
+        self.window.stand_at(passed.before, passed.bases);
+        self.waits = false;
+        self.want = MaskWant::Line;
+        passed.lines
+    }
+
+    // Up to which base of the sequence lines are known to be decided, where they stand behind a header.
+    fn known_to(&self) -> u64
+        ensures { result ≡ (if self.now.bed_ended then limit else self.now.decided_to) }
+    {
+        if self.bed_ended {
+            LIMIT
+        } else {
+            self.decided_to
+        }
     }
 
     // Whether the next line, of this text and up to so many bases of its sequence, is known to be written as

@@ -76,6 +76,31 @@ impl Window {
         self.before = std::mem::replace(&mut self.bases, bases);
     }
 
+    // How many bases stand before the line.
+    pub(crate) fn before(&self) -> u64
+        ensures { result ≡ self.now.before }
+    {
+        self.before
+    }
+
+    // How many stand up to its end.
+    pub(crate) fn bases(&self) -> u64
+        ensures bases { result ≡ self.now.bases }
+        ensures counted { result ≤ limit }
+    {
+        self.bases
+    }
+
+    // Stands at a line before which so many bases stand, and up to whose end so many, where nothing is held.
+    pub(crate) fn stand_at(&mut self, before: u64, bases: u64)
+        requires held { self.old.held ≡ [] }
+        requires within { bases ≤ limit }
+        ensures { self.new ≡ record { before = before; bases = bases; held = [] } }
+    {
+        self.before = before;
+        self.bases = bases;
+    }
+
     // Whether a place lies before the end of the line.
     pub(crate) fn reaches(&self, place: u64) -> bool
         ensures { result ≡ nat_lt place self.now.bases }
@@ -127,7 +152,7 @@ impl Window {
 }
 
 // The sum, or the limit where it lies above.
-fn up_to_limit(bases: u64, count: usize) -> u64
+pub(crate) fn up_to_limit(bases: u64, count: usize) -> u64
     requires { bases ≤ limit }
     ensures { result ≡ min (bases + count) limit }
 {

@@ -68,3 +68,4 @@ pub mod PartMaskLaws
 pub mod PartOwnGenomes
 pub mod PartSuffice
 pub mod OwnFailureLemmas
+pub mod AheadLemmas

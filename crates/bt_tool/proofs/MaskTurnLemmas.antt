@@ -1,12 +1,13 @@
 -- What a turn of a masking engine over two readers comes to, and how much is still asked for: each turn makes it less.
-use Rattle.std.proofs.Common.{◌≡◌, ℕ, ◌+◌, ◌*◌, ◌≤◌, ◌<◌, Bool, true, false, List, [], ◌∷◌, ◌++◌, Option, None, Some, refl, sym, ap, ◌∙◌, subst, arith, inl, inr}
+use Rattle.std.proofs.Common.{◌≡◌, ℕ, suc, ◌+◌, ◌*◌, ◌≤◌, ◌<◌, Bool, true, false, List, [], ◌∷◌, ◌++◌, Option, None, Some, refl, sym, ap, ◌∙◌, subst, arith, inl, inr}
 use Rattle.std.specs.Prelude.{◌⊎◌, Err, is_some, option_map}
 use Rattle.std.proofs.lemmas.Bool.{false≢true}
-use Rattle.bt_lines.proofs.ReadsLemmas.{some_is}
+use Rattle.bt_lines.proofs.ReadsLemmas.{has_read_then, reads_same, some_is}
 use Rattle.bt_lines.specs.Fault.{Told, read_failed}
 use Rattle.bt_lines.specs.Output.{Output}
 use Rattle.bt_lines.specs.Putting.{FailsToAdd, Grown}
-use Rattle.bt_lines.specs.Reader.{input_of, room as line_room}
+use Rattle.bt_lines.specs.Reader.{HasRead, input_of, lines_given, room as line_room}
+use Rattle.bt_lines.specs.Whole.{GivesPlains, plain_line}
 use Rattle.bt_lines.specs.declared.fault.Kind.{Kind}
 use Rattle.bt_seq.specs.Masked.{masked_line}
 use Rattle.bt_lines.specs.declared.fault.Input.{Input}
@@ -19,13 +20,14 @@ use Rattle.bt_bed.specs.LineKind.{fault_at_line, is_of_line}
 use Rattle.bt_bed.specs.Locus.{Locus}
 use Rattle.bt_bed.specs.Reading.{MemberReader, room}
 use Rattle.bt_seq.specs.MaskStage.{MaskStage, is_written_at_once, reached, want_of, with_bed_ended, with_decided, with_lines_ended, with_record}
+use Rattle.bt_seq.specs.MaskSteps.{TakesTexts}
 use Rattle.bt_seq.specs.MaskStanding.{MaskStandsAt, kept_line}
 use Rattle.bt_seq.specs.MaskState.{Masking}
 use Rattle.bt_seq.specs.Sequences.{Reached, SequenceLine, line_says, sequence_format}
 use Rattle.bt_seq.specs.declared.mask_how.MaskHow.{MaskHow}
 use Rattle.bt_seq.specs.declared.mask_want.MaskWant.{MaskWant}
 use Rattle.bt_seq.specs.declared.mask_want.MaskWant.TheVariants.{Line as WantLine, Bed as WantBed, Nothing}
-use Rattle.bt_tool.specs.MaskTurns.{EndsBed, EndsLines, FailsAtEnd, FailsBed, FailsLine, GivesLines, HasAsked, LacksBed, LacksLine, LeavesBed, TakesBed}
+use Rattle.bt_tool.specs.MaskTurns.{EndsBed, EndsLines, FailsAtEnd, FailsBed, FailsLine, GivesLines, GivesTexts, HasAsked, LacksBed, LacksLine, LeavesBed, TakesBed}
 use Rattle.bt_tool.specs.MaskLoop.{MaskEnds, Masks, line_members, mask_making}
 use Rattle.bt_tool.specs.PairComes.{IsOpenAt}
 use Rattle.bt_tool.specs.Passed.{IsKeptBelow, IsOver}
@@ -80,6 +82,24 @@ waits_is how full stage mask stands = ap is_some stands.waiting_is ∙ some_kept
 
 abbrev pub left_to_ask : {A B : Type 0} → LineReader A → MemberReader B Feature (Option Locus) → Masking → ℕ
 left_to_ask lines second mask = 2 * (line_room lines + room second) + asks (is_some mask.waiting) mask.want
+
+-- lines that a reader gave, and an engine took, one after another
+pub gives_texts : {S : Type 0} (left : S → Option (List ℕ)) (failed end : S → Bool) (IsRead : S → Option ℕ → S → Type 0) (texts : List (List ℕ)) (old new : LineReader S) (mask masked : Masking) (out grown : Output)
+    → GivesPlains left failed end IsRead old texts new → TakesTexts mask texts out masked grown → GivesTexts left failed end IsRead texts old mask out new masked grown
+gives_texts left failed end IsRead [] old new mask masked out grown gives takes = (gives, takes.0, takes.1)
+gives_texts left failed end IsRead (text ∷ texts) old new mask masked out grown gives takes = (
+  gives.0,
+  takes.0,
+  takes.1,
+  record {
+    line = plain_line (suc (lines_given old)) text;
+    has = record { gives = gives.1.gives; sound = gives.1.sound };
+    given = λ how full stage stands. takes.2.1 how full stage stands (suc (lines_given old));
+  },
+  takes.2.0,
+  gives.1.read,
+  gives_texts left failed end IsRead texts gives.0 new takes.0 masked takes.1 grown gives.2 takes.3,
+)
 
 module _ {A B : Type 0} (a_left : A → Option (List ℕ)) (a_failed a_end : A → Bool) (b_left : B → Option (List ℕ)) (b_failed b_end : B → Bool)
     (how : MaskHow) (full : Bool) (old_lines : LineReader A) (old_second : MemberReader B Feature (Option Locus)) (out : Output) (is_blocks : old_second.format ≡ block_format) (is_first : input_of old_lines ≡ First) where
@@ -330,3 +350,17 @@ module _ {A B : Type 0} (a_left : A → Option (List ℕ)) (a_failed a_end : A �
     -- nothing more is asked for
     pub ends_all : mask.want ≡ Nothing → EndsAt None lines second grown
     ends_all wants = (first, refl, finishes a_left a_failed a_end b_left b_failed b_end how full old_lines old_second out is_blocks first second mask grown s wants, λ input line e. e)
+
+  -- lines that were given one after another
+  pub passes_texts : (IsRead : A → Option ℕ → A → Type 0) (texts : List (List ℕ)) (lines new : LineReader A) (r : Reached) (second : MemberReader B Feature (Option Locus)) (mask masked : Masking) (grown later : Output)
+      → mask.want ≡ WantLine → Going (line_members full r lines) second mask grown → GivesTexts a_left a_failed a_end IsRead texts lines mask grown new masked later
+      → ((at : Reached) × Going (line_members full at new) second masked later) × HasRead IsRead lines new × (left_to_ask new second masked ≤ left_to_ask lines second mask)
+  passes_texts IsRead [] lines new r second mask masked grown later wants s gives =
+      rw (gives.0, gives.1, gives.2) ((r, s), reads_same IsRead lines lines refl, omega arith)
+  passes_texts IsRead (text ∷ texts) lines new r second mask masked grown later wants s gives =
+      let step = gives_line lines r second mask grown s wants gives.0 gives.1 gives.2 gives.3 in
+      let further = passes_texts IsRead texts gives.0 new step.0.0 second gives.1 masked gives.2 later gives.4 step.0.1 gives.6 in (
+        further.0,
+        has_read_then IsRead lines gives.0 new gives.5 further.1,
+        omega (arith, step.1, further.2),
+      )

@@ -44,3 +44,4 @@ pub mod SplitLaws
 pub mod GenomeSplitLaws
 pub mod MaskSplitLaws
 pub mod OwnGenomeLaws
+pub mod Ahead

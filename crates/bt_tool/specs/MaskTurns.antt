@@ -1,12 +1,12 @@
 -- What one turn of a masking engine over two readers does: a line,
 -- a record or the end of an input is given to it.
-use Rattle.std.specs.Prelude.{◌≡◌, ◌⊎◌, ℕ, Bool, List, Option, Some, None, Result, Ok, Err}
+use Rattle.std.specs.Prelude.{◌≡◌, ◌⊎◌, ℕ, Bool, List, [], ◌∷◌, Option, Some, None, Result, Ok, Err}
 use Rattle.bt_lines.specs.Fault.{Told}
 use Rattle.bt_lines.specs.Lines.{TextLine}
 use Rattle.bt_lines.specs.Names.{told}
 use Rattle.bt_lines.specs.Output.{Output}
 use Rattle.bt_lines.specs.Putting.{FailsToAdd, Grown}
-use Rattle.bt_lines.specs.Reader.{GivesEnd, GivesFault, GivesLine, IsSound}
+use Rattle.bt_lines.specs.Reader.{GivesEnd, GivesFault, GivesLine, HasRead, IsSound}
 use Rattle.bt_lines.specs.declared.fault.Fault.{Fault}
 use Rattle.bt_lines.specs.declared.line_reader.LineReader.{LineReader}
 use Rattle.bt_bed.specs.Feature.{Feature}
@@ -23,6 +23,7 @@ use Rattle.bt_seq.specs.Masked.{masked_line}
 use Rattle.bt_seq.specs.MaskState.{Masking}
 use Rattle.bt_seq.specs.Sequences.{SequenceLine}
 use Rattle.bt_seq.specs.declared.mask_how.MaskHow.{MaskHow}
+use Rattle.bt_seq.specs.declared.mask_want.MaskWant.TheVariants.{Line as WantLine}
 use Rattle.bt_tool.specs.Passed.{IsAhead, IsOver, IsStopped}
 
 module _ {S : Type 0} (left : S → Option (List ℕ)) (failed end : S → Bool) (old : LineReader S)
@@ -66,6 +67,19 @@ module _ {S : Type 0} (left : S → Option (List ℕ)) (failed end : S → Bool)
   TurnsLine (Ok done) new masked grown = GivesLines new masked grown ⊎ EndsLines new masked grown
   TurnsLine (Err fault) new masked grown =
       LacksLine (told fault) new grown ⊎ FailsLine (told fault) new grown
+
+-- Lines of these texts were read and given, one after another. Each was taken at once, one more was
+-- asked for, and all reads served.
+abbrev pub GivesTexts : {S : Type 0} → (S → Option (List ℕ)) → (S → Bool) → (S → Bool)
+    → (S → Option ℕ → S → Type 0) → List (List ℕ) → LineReader S → Masking → Output
+    → LineReader S → Masking → Output → Type 0
+GivesTexts left failed end IsRead [] old mask out new masked grown =
+    (new ≡ old) × (masked ≡ mask) × (grown ≡ out)
+GivesTexts {S} left failed end IsRead (text ∷ texts) old mask out new masked grown =
+    (lines : LineReader S) × (taken : Masking) × (between : Output)
+    × GivesLines left failed end old mask out lines taken between
+    × (taken.want ≡ WantLine) × HasRead IsRead old lines
+    × GivesTexts left failed end IsRead texts lines taken between new masked grown
 
 module _ {S : Type 0} (left : S → Option (List ℕ)) (failed end : S → Bool)
     (old : MemberReader S Feature (Option Locus)) where

@@ -14,6 +14,7 @@ ghost use Rattle.bt_bed.specs.Sorting.{sorting_of};
 ghost use Rattle.bt_runs.specs.Settling.{SettledBegins, SettledStays};
 ghost use Rattle.bt_tool.specs.Writing.{WritesRecords};
 ghost use Rattle.bt_tool.specs.Feeding.{FeedsRecords, IsFresh};
+ghost use Rattle.bt_tool.specs.Ahead.{FeedsAhead};
 ghost use Rattle.bt_tool.specs.Passed.{KeepsOwnFault};
 ghost use Rattle.bt_tool.specs.OwnReads.{AnswersNoRead, IsOwnFailure, ReadsServe, TellsNoRead, TellsOwnReads};
 
@@ -42,11 +43,33 @@ fn feed_all<S: Source, O: ChromOrder, E: Engine, K: Sink>(
     ensures reads { AnswersNoRead result → HasRead S.is_read (below records.old) (below records.new) }
     ensures own_failure { KeepsOwnFault S.is_read (below records.old) (view_of records.new) }
 {
-    while let Some(record) = records.peek()? {
-        engine.feed(&record, out)?;
+    loop {
+        feed_whole(records, engine, out)?;
+        match records.peek()? {
+            Some(record) => engine.feed(&record, out)?,
+            None => return Ok(()),
+        }
         records.advance();
     }
-    Ok(())
+}
+
+// Feeds an engine with records that stand whole in what was read ahead, if it takes them so. The one that it fails at
+// was passed too.
+fn feed_whole<S: Source, O: ChromOrder, E: Engine, K: Sink>(
+    records: &mut Records<'_, S, O>,
+    engine: &mut E,
+    out: &mut Out<K>,
+) -> Result<(), Fault>
+    ensures { FeedsAhead S.left S.has_failed S.end_told S.is_read E.takes E.stands E.fault E.settled E.quiet
+        records.old engine.old out.old result records.new engine.new out.new }
+{
+    let Some(mut whole) = records.whole() else {
+        return Ok(());
+    };
+    let fed = engine.feed_whole(&mut whole, out);
+    let passed = whole.passed();
+    records.pass(passed);
+    fed
 }
 
 /// Feeds an engine with all records of an input, in an order of their chromosomes, and lets it finish.

@@ -1,4 +1,5 @@
-use crate::tests::{Pair, check_pairs};
+use crate::tests::{Pair, check_pairs, expect, run_both, whole};
+use std::alloc::{AllocError, Global};
 use std::test::Fail;
 
 const MASKFASTA: &[&str] = &["maskfasta", "-fi", "a.fa", "-bed", "b.bed"];
@@ -416,7 +417,7 @@ const LINES: [Pair; 14] = [
 ];
 
 // Lines that a record further ahead decides.
-const AHEAD: [Pair; 10] = [
+const AHEAD: [Pair; 12] = [
     Pair {
         name: "a record several lines ahead",
         options: &[],
@@ -497,7 +498,70 @@ const AHEAD: [Pair; 10] = [
         output: b">s\r\nAC\r\n\r\nGT\nAA\r",
         line: b"",
     },
+    Pair {
+        name: "one line end of CR LF among others, and a record in the sequence behind",
+        options: &[],
+        first: b">s\nAC\n\nGT\r\nAA\nCC\n>t\nGG\nTT\nAC",
+        second: b"t\t5\t6\n",
+        output: b">s\nAC\n\nGT\r\nAA\nCC\n>t\nGG\nTT\nAN",
+        line: b"",
+    },
+    Pair {
+        name: "lines behind the last record, and one without a line feed",
+        options: &[],
+        first: b">s\nAC\nGT\nAA\n>t\nCC\n\nGG",
+        second: b"s\t0\t1\n",
+        output: b">s\nNC\nGT\nAA\n>t\nCC\n\nGG",
+        line: b"",
+    },
 ];
+
+// Sixty bases behind the first one of a line.
+const BASES_BEHIND: &[u8] = b"CGTACGTACGTACGTACGTACGTACGTACGTACGTACGTACGTACGTACGTACGTACGTA";
+
+// Several blocks of lines, each of which begins with this base or, for the one of this index, with another. One
+// of them is longer than a block, and some end in CR LF.
+fn long_sequence(alloc: Global, index: u64) -> Result<Vec<u8>, AllocError> {
+    let mut text = Vec::from_slice(alloc, b">s\n")?;
+    for line in 0..600_u64 {
+        text.push(if line == index { b'N' } else { b'A' })?;
+        let times = if line == 300 { 200 } else { 1 };
+        for _ in 0..times {
+            text.extend_from_slice(BASES_BEHIND)?;
+        }
+        let end: &[u8] = if line % 100 == 50 { b"\r\n" } else { b"\n" };
+        text.extend_from_slice(end)?;
+    }
+    Ok(text)
+}
+
+// A record on the first base of the line of this index, at most the last one or one behind it.
+fn on_first_base(alloc: Global, index: u64) -> Result<String, AllocError> {
+    let line = index.min(600);
+    let longer = if line > 300 { 199 * 60 } else { 0 };
+    let start = 61 * line + longer;
+    format!(in alloc; "s\t{}\t{}\n", start, start + 1)
+}
+
+// Lines that stay are passed several at once, up to the end of a block, a line that ends otherwise, or the
+// record.
+#[test]
+fn a_record_behind_several_blocks(rt: HostRuntime) -> Result<(), Fail> {
+    let text = long_sequence(rt.alloc(), 600)?;
+    for index in [0, 1, 49, 50, 51, 134, 135, 299, 300, 301, 599, 600] {
+        let record = on_first_base(rt.alloc(), index)?;
+        let masked = long_sequence(rt.alloc(), index)?;
+        let script = whole(8192);
+        let inputs = (
+            (text.as_slice(), script),
+            (record.as_str().as_bytes(), script),
+        );
+        let genome = (b"".as_slice(), whole(1));
+        let answer = run_both(rt.alloc(), MASKFASTA, genome, inputs.0, inputs.1, script)?;
+        expect(&rt, &answer, masked.as_slice(), b"", "a long sequence");
+    }
+    Ok(())
+}
 
 #[test]
 fn masked_bases(rt: HostRuntime) -> Result<(), Fail> {

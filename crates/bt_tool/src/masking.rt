@@ -1,6 +1,6 @@
 //! The loop over a FASTA input and a BED input: a masking engine is given the lines and the records.
 
-ghost use Rattle.std.specs.Prelude.{◌≡◌, [], None, Some, option_map};
+ghost use Rattle.std.specs.Prelude.{◌≡◌, ℕ, List, [], None, Some, option_map};
 ghost use Rattle.bt_lines.specs.Names.{told};
 ghost use Rattle.bt_lines.specs.Output.{HoldsBlock};
 ghost use Rattle.bt_lines.specs.Reader.{HasRead, fault_kept as line_fault, input_of};
@@ -8,13 +8,13 @@ ghost use Rattle.bt_bed.specs.Blocks.{below, fault_kept, view_of};
 ghost use Rattle.bt_bed.specs.GoodBlocks.{block_format};
 ghost use Rattle.bt_tool.specs.Behaviour.{of_maskfasta};
 ghost use Rattle.bt_tool.specs.MaskLoop.{FinishesMask, Masks, line_members};
-ghost use Rattle.bt_tool.specs.MaskTurns.{AsksLine, TurnsBed, TurnsLine};
+ghost use Rattle.bt_tool.specs.MaskTurns.{AsksLine, GivesTexts, TurnsBed, TurnsLine};
 ghost use Rattle.bt_tool.specs.Passed.{IsOwnFault, KeepsOwnFault};
 ghost use Rattle.bt_tool.specs.OwnReads.{AnswersNoRead, IsOwnFailure, ReadsServe, TellsNoRead, TellsOwnReads};
 ghost use Rattle.bt_tool.specs.Writing.{WritesBy};
 
 use bt_bed::Blocks;
-use bt_lines::{Fault, Input, LineReader, Out, Sink, Source};
+use bt_lines::{Fault, Input, LineEnd, LineReader, Out, Sink, Source};
 use bt_seq::{Mask, MaskHow, MaskWant, Taken};
 use std::alloc::Global;
 
@@ -36,6 +36,33 @@ fn turn_line<A: Source, K: Sink>(
             Ok(())
         }
     }
+}
+
+// Whether the last line was one of bases that ended with a line feed alone, and no header follows. The next ones
+// mostly end as that one does.
+fn stands_among_bases<A: Source>(lines: &LineReader<A>) -> bool {
+    let Some(line) = lines.line() else {
+        return false;
+    };
+    matches!(line.ending, LineEnd::Lf)
+        && !line.text.starts_with(b">")
+        && !lines.whole_lines().rest().starts_with(b">")
+}
+
+// Gives an engine those of the next lines that it knows beforehand to be written as they stand. It is tried where
+// some are likely to be.
+fn pass_lines<A: Source, K: Sink>(lines: &mut LineReader<A>, mask: &mut Mask, out: &mut Out<K>)
+    requires asked { mask.old.want ≡ MaskWant.Line }
+    requires going { line_fault lines.old ≡ None }
+    ensures passes { (texts : List (List ℕ)) × GivesTexts A.left A.has_failed A.end_told A.is_read texts
+        lines.old mask.old out.old lines.new mask.new out.new }
+    ensures asks { mask.new.want ≡ MaskWant.Line }
+{
+    if !mask.may_pass() || !stands_among_bases(lines) {
+        return;
+    }
+    let passed = mask.pass_lines(lines.whole_lines(), out).passed();
+    lines.pass(passed);
 }
 
 // The line of the next record, if there is one.
@@ -97,7 +124,10 @@ fn mask_all<A: Source, B: Source, K: Sink>(
 {
     loop {
         match mask.want() {
-            MaskWant::Line => turn_line(lines, mask, out)?,
+            MaskWant::Line => {
+                pass_lines(lines, mask, out);
+                turn_line(lines, mask, out)?;
+            }
             MaskWant::Bed => turn_bed(records, mask, out)?,
             MaskWant::Nothing => return Ok(()),
         }

@@ -418,6 +418,55 @@ fn lines_before_the_record_ahead_dont_wait(rt: HostRuntime) {
     assert!(rt; is_flushed && is_written);
 }
 
+// Lines, a record ahead, how many of the lines are passed at once behind the first, and what is written then.
+type Passed = (&'static [u8], &'static [u8], u64, &'static [u8]);
+
+const PASSED: [Passed; 6] = [
+    (b">s\nACGT\n\nAC\nGA\n", b"s\t7\t9", 3, b">s\nACGT\n\nAC\n"),
+    (b">s\nACGT\nACG\nA\n", b"s\t7\t9", 2, b">s\nACGT\nACG\n"),
+    (b">s\nAC\n>t\nGT\n", b"s\t9\t10", 1, b">s\nAC\n"),
+    (b">s\nAC\nGT\r\nAA\n", b"s\t9\t10", 1, b">s\nAC\n"),
+    (b">s\nAC\nGT", b"s\t9\t10", 1, b">s\nAC\n"),
+    (b">s\nAC\nGT\n", b"s\t1\t3", 0, b">s\n"),
+];
+
+// How many lines a mask passes at once, where it asks for one.
+fn passes(
+    mask: &mut Mask,
+    lines: &LineReader<ScriptSource<'_>>,
+    out: &mut Out<ScriptSink>,
+) -> Option<u64> {
+    match mask.want() {
+        MaskWant::Line => Some(mask.pass_lines(lines.whole_lines(), out).passed().lines),
+        _ => None,
+    }
+}
+
+// Whether the lines that the row says are passed, and written as they stand.
+fn passes_as(alloc: Global, row: &Passed) -> bool {
+    let mut lines = LineReader::new(alloc, ScriptSource::new(row.0, 64, None), Input::First);
+    let mut out = Out::new(ScriptSink::new(alloc, 64, None));
+    let mut mask = Mask::new(alloc, MaskHow::Soft, false);
+    let has_header = match lines.next() {
+        Ok(Some(line)) => line.text == b">s".as_slice(),
+        _ => false,
+    };
+    let begun = [Step::Line(b">s"), Step::Leaves(row.1)];
+    let has_begun = first_that_goes_otherwise(&mut mask, &begun, &mut out).is_none();
+    let count = passes(&mut mask, &lines, &mut out);
+    let is_flushed = out.flush().is_ok();
+    let is_written = out.into_sink().taken() == row.3;
+    let _ = lines.into_source();
+    has_header && has_begun && count == Some(row.2) && is_flushed && is_written
+}
+
+#[test]
+fn lines_that_stay_are_passed_at_once(rt: HostRuntime) {
+    for row in &PASSED {
+        assert!(rt; passes_as(rt.alloc(), row));
+    }
+}
+
 // The records of these lines.
 fn records_of(alloc: Global, lines: &[&[u8]]) -> Result<Vec<Rec>, AllocError> {
     let mut records = Vec::new(alloc);

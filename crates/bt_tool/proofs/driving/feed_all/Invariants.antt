@@ -4,11 +4,11 @@ use Rattle.bt_tool.proofs.FeedLemmas.{Going}
 use Rattle.bt_tool.proofs.driving.feed_all.Given as goal
 
 -- the records so far were taken
-abbrev pub invariant-loop-record : goal.invariant-loop-record
-invariant-loop-record g l =
+abbrev pub invariant-loop-records : goal.invariant-loop-records
+invariant-loop-records g l =
     Going (g.E.Engine.settled l.initial.engine) (λ past. g.E.Engine.stands l.initial.engine past l.engine)
     g.S.Source.left g.S.Source.has_failed g.S.Source.end_told l.initial.records l.initial.out l.records l.out
     × HasRead g.S.Source.is_read (below l.initial.records) (below l.records)
 
-abbrev pub decreases-loop-record : goal.decreases-loop-record
-decreases-loop-record g l = room l.records
+abbrev pub decreases-loop-records : goal.decreases-loop-records
+decreases-loop-records g l = room l.records

@@ -1,4 +1,4 @@
-use Rattle.std.proofs.Common.{refl, sym, ◌∙◌, []}
+use Rattle.std.proofs.Common.{arith, refl, sym, ◌∙◌, []}
 use Rattle.bt_lines.proofs.ReadsLemmas.{has_read_then, reads_same}
 use Rattle.bt_lines.specs.Names.{told}
 use Rattle.bt_lines.specs.Reader.{HasRead}
@@ -6,7 +6,7 @@ use Rattle.bt_bed.specs.Blocks.{below, view_of}
 use Rattle.bt_bed.proofs.ResultLemmas.{passed_on}
 use Rattle.bt_tool.specs.MaskLoop.{FinishesMask}
 use Rattle.bt_tool.specs.OwnReads.{AnswersNoRead}
-use Rattle.bt_tool.proofs.MaskTurnLemmas.{bed_stops, ends_all, line_stops, turns_bed, turns_line}
+use Rattle.bt_tool.proofs.MaskTurnLemmas.{bed_stops, ends_all, line_stops, passes_texts, turns_bed, turns_line}
 use Rattle.bt_tool.proofs.OwnFailureLemmas.{none_kept, own_then}
 use Rattle.bt_tool.proofs.masking.mask_all.Goals as goal
 
@@ -18,34 +18,51 @@ loop-lines-init g c = (
   reads_same g.B.Source.is_read (below c.args.records.now) (below c.args.records.now) refl,
 )
 
+pub pass_lines-requires-clause-going : goal.pass_lines-requires-clause-going
+pass_lines-requires-clause-going g c = c.loop-lines.invariant.1.comes.first_passes.going
+
 pub loop-lines-smaller-in-Continue-1 : goal.loop-lines-smaller-in-Continue-1
 loop-lines-smaller-in-Continue-1 g c =
     let now = c.loop-lines.invariant in
-    (turns_line g.A.Source.left g.A.Source.has_failed g.A.Source.end_told g.B.Source.left g.B.Source.has_failed g.B.Source.end_told c.args.mask.now.how c.args.mask.now.full c.args.lines.now (view_of c.args.records.now) c.args.out.now
-    c.requires.blocks c.requires.first c.loop-lines.lines now.0 (view_of c.loop-lines.records) c.loop-lines.mask c.loop-lines.out now.1
-    (sym c.want.ensures.is ∙ c.in-Line.is) c.turn_line.new.lines c.turn_line.new.mask c.turn_line.new.out c.in_ok-turn_line-in-Line.ensures.turns).1
+    let passed =
+    passes_texts g.A.Source.left g.A.Source.has_failed g.A.Source.end_told g.B.Source.left g.B.Source.has_failed g.B.Source.end_told c.args.mask.now.how c.args.mask.now.full c.args.lines.now (view_of c.args.records.now) c.args.out.now
+    c.requires.blocks c.requires.first g.A.Source.is_read c.pass_lines.ensures.passes.0 c.loop-lines.lines c.pass_lines.new.lines now.0 (view_of c.loop-lines.records) c.loop-lines.mask c.pass_lines.new.mask c.loop-lines.out c.pass_lines.new.out
+    (sym c.want.ensures.is ∙ c.in-Line.is) now.1 c.pass_lines.ensures.passes.1 in
+    let turned =
+    turns_line g.A.Source.left g.A.Source.has_failed g.A.Source.end_told g.B.Source.left g.B.Source.has_failed g.B.Source.end_told c.args.mask.now.how c.args.mask.now.full c.args.lines.now (view_of c.args.records.now) c.args.out.now
+    c.requires.blocks c.requires.first c.pass_lines.new.lines passed.0.0 (view_of c.loop-lines.records) c.pass_lines.new.mask c.pass_lines.new.out passed.0.1
+    c.pass_lines.ensures.asks c.turn_line.new.lines c.turn_line.new.mask c.turn_line.new.out c.in_ok-turn_line-in-Line.ensures.turns in
+    omega (arith, turned.1, passed.2)
 
 pub loop-lines-preserved-in-Continue-1 : goal.loop-lines-preserved-in-Continue-1
 loop-lines-preserved-in-Continue-1 g c =
     let now = c.loop-lines.invariant in
+    let passed =
+    passes_texts g.A.Source.left g.A.Source.has_failed g.A.Source.end_told g.B.Source.left g.B.Source.has_failed g.B.Source.end_told c.args.mask.now.how c.args.mask.now.full c.args.lines.now (view_of c.args.records.now) c.args.out.now
+    c.requires.blocks c.requires.first g.A.Source.is_read c.pass_lines.ensures.passes.0 c.loop-lines.lines c.pass_lines.new.lines now.0 (view_of c.loop-lines.records) c.loop-lines.mask c.pass_lines.new.mask c.loop-lines.out c.pass_lines.new.out
+    (sym c.want.ensures.is ∙ c.in-Line.is) now.1 c.pass_lines.ensures.passes.1 in
     let turned =
     (turns_line g.A.Source.left g.A.Source.has_failed g.A.Source.end_told g.B.Source.left g.B.Source.has_failed g.B.Source.end_told c.args.mask.now.how c.args.mask.now.full c.args.lines.now (view_of c.args.records.now) c.args.out.now
-    c.requires.blocks c.requires.first c.loop-lines.lines now.0 (view_of c.loop-lines.records) c.loop-lines.mask c.loop-lines.out now.1
-    (sym c.want.ensures.is ∙ c.in-Line.is) c.turn_line.new.lines c.turn_line.new.mask c.turn_line.new.out c.in_ok-turn_line-in-Line.ensures.turns).0 in (
+    c.requires.blocks c.requires.first c.pass_lines.new.lines passed.0.0 (view_of c.loop-lines.records) c.pass_lines.new.mask c.pass_lines.new.out passed.0.1
+    c.pass_lines.ensures.asks c.turn_line.new.lines c.turn_line.new.mask c.turn_line.new.out c.in_ok-turn_line-in-Line.ensures.turns).0 in (
       turned.0,
       turned.1,
-      has_read_then g.A.Source.is_read c.args.lines.now c.loop-lines.lines c.turn_line.new.lines now.2 (c.in_ok-turn_line-in-Line.ensures.reads now.1.comes.first_passes.going tt),
+      has_read_then g.A.Source.is_read c.args.lines.now c.pass_lines.new.lines c.turn_line.new.lines (has_read_then g.A.Source.is_read c.args.lines.now c.loop-lines.lines c.pass_lines.new.lines now.2 passed.1) (c.in_ok-turn_line-in-Line.ensures.reads passed.0.1.comes.first_passes.going tt),
       now.3,
     )
 
 pub returns-in_err-turn_line-in-Line-clause-finishes : goal.returns-in_err-turn_line-in-Line-clause-finishes
 returns-in_err-turn_line-in-Line-clause-finishes g c =
     let now = c.loop-lines.invariant in
+    let passed =
+    passes_texts g.A.Source.left g.A.Source.has_failed g.A.Source.end_told g.B.Source.left g.B.Source.has_failed g.B.Source.end_told c.args.mask.now.how c.args.mask.now.full c.args.lines.now (view_of c.args.records.now) c.args.out.now
+    c.requires.blocks c.requires.first g.A.Source.is_read c.pass_lines.ensures.passes.0 c.loop-lines.lines c.pass_lines.new.lines now.0 (view_of c.loop-lines.records) c.loop-lines.mask c.pass_lines.new.mask c.loop-lines.out c.pass_lines.new.out
+    (sym c.want.ensures.is ∙ c.in-Line.is) now.1 c.pass_lines.ensures.passes.1 in
     passed_on (λ r. FinishesMask g.A.Source.left g.A.Source.has_failed g.A.Source.end_told g.B.Source.left g.B.Source.has_failed g.B.Source.end_told c.args.mask.now.how c.args.mask.now.full c.args.lines.now (view_of c.args.records.now) c.args.out.now r c.turn_line.new.lines (view_of c.loop-lines.records) c.turn_line.new.out)
     c.from_residual.result c.in_err-turn_line-in-Line.field-0.0 c.from_residual.ensures.1
     (line_stops g.A.Source.left g.A.Source.has_failed g.A.Source.end_told g.B.Source.left g.B.Source.has_failed g.B.Source.end_told c.args.mask.now.how c.args.mask.now.full c.args.lines.now (view_of c.args.records.now) c.args.out.now
-    c.requires.blocks c.requires.first c.loop-lines.lines now.0 (view_of c.loop-lines.records) c.loop-lines.mask c.loop-lines.out now.1
-    (sym c.want.ensures.is ∙ c.in-Line.is) (told c.in_err-turn_line-in-Line.field-0.0) c.turn_line.new.lines c.turn_line.new.out c.in_err-turn_line-in-Line.ensures.turns)
+    c.requires.blocks c.requires.first c.pass_lines.new.lines passed.0.0 (view_of c.loop-lines.records) c.pass_lines.new.mask c.pass_lines.new.out passed.0.1
+    c.pass_lines.ensures.asks (told c.in_err-turn_line-in-Line.field-0.0) c.turn_line.new.lines c.turn_line.new.out c.in_err-turn_line-in-Line.ensures.turns)
 
 pub loop-lines-smaller : goal.loop-lines-smaller
 loop-lines-smaller g c =
@@ -84,7 +101,11 @@ returns-in-Nothing-clause-finishes g c =
 pub returns-in_err-turn_line-in-Line-clause-own_failure : goal.returns-in_err-turn_line-in-Line-clause-own_failure
 returns-in_err-turn_line-in-Line-clause-own_failure g c =
     let now = c.loop-lines.invariant in
-    own_then g.A.Source.is_read c.args.lines.now c.loop-lines.lines _ _ now.2 (c.turn_line.ensures.own_failure now.1.comes.first_passes.going)
+    let passed =
+    passes_texts g.A.Source.left g.A.Source.has_failed g.A.Source.end_told g.B.Source.left g.B.Source.has_failed g.B.Source.end_told c.args.mask.now.how c.args.mask.now.full c.args.lines.now (view_of c.args.records.now) c.args.out.now
+    c.requires.blocks c.requires.first g.A.Source.is_read c.pass_lines.ensures.passes.0 c.loop-lines.lines c.pass_lines.new.lines now.0 (view_of c.loop-lines.records) c.loop-lines.mask c.pass_lines.new.mask c.loop-lines.out c.pass_lines.new.out
+    (sym c.want.ensures.is ∙ c.in-Line.is) now.1 c.pass_lines.ensures.passes.1 in
+    own_then g.A.Source.is_read c.args.lines.now c.pass_lines.new.lines _ _ (has_read_then g.A.Source.is_read c.args.lines.now c.loop-lines.lines c.pass_lines.new.lines now.2 passed.1) (c.turn_line.ensures.own_failure passed.0.1.comes.first_passes.going)
 
 pub returns-in_err-turn_line-in-Line-clause-own_failure_second : goal.returns-in_err-turn_line-in-Line-clause-own_failure_second
 returns-in_err-turn_line-in-Line-clause-own_failure_second g c = none_kept g.B.Source.is_read _ _ _ c.loop-lines.invariant.1.comes.second_passes.going
@@ -106,8 +127,12 @@ returns-in-Nothing-clause-own_failure_second g c = none_kept g.B.Source.is_read 
 pub returns-in_err-turn_line-in-Line-clause-reads_first : goal.returns-in_err-turn_line-in-Line-clause-reads_first
 returns-in_err-turn_line-in-Line-clause-reads_first g c =
     let now = c.loop-lines.invariant in
+    let passed =
+    passes_texts g.A.Source.left g.A.Source.has_failed g.A.Source.end_told g.B.Source.left g.B.Source.has_failed g.B.Source.end_told c.args.mask.now.how c.args.mask.now.full c.args.lines.now (view_of c.args.records.now) c.args.out.now
+    c.requires.blocks c.requires.first g.A.Source.is_read c.pass_lines.ensures.passes.0 c.loop-lines.lines c.pass_lines.new.lines now.0 (view_of c.loop-lines.records) c.loop-lines.mask c.pass_lines.new.mask c.loop-lines.out c.pass_lines.new.out
+    (sym c.want.ensures.is ∙ c.in-Line.is) now.1 c.pass_lines.ensures.passes.1 in
     passed_on (λ r. AnswersNoRead r → HasRead g.A.Source.is_read c.args.lines.now c.turn_line.new.lines) c.from_residual.result c.in_err-turn_line-in-Line.field-0.0 c.from_residual.ensures.1
-    (λ never. has_read_then g.A.Source.is_read c.args.lines.now c.loop-lines.lines c.turn_line.new.lines now.2 (c.in_err-turn_line-in-Line.ensures.reads now.1.comes.first_passes.going never))
+    (λ never. has_read_then g.A.Source.is_read c.args.lines.now c.pass_lines.new.lines c.turn_line.new.lines (has_read_then g.A.Source.is_read c.args.lines.now c.loop-lines.lines c.pass_lines.new.lines now.2 passed.1) (c.in_err-turn_line-in-Line.ensures.reads passed.0.1.comes.first_passes.going never))
 
 pub returns-in_err-turn_line-in-Line-clause-reads_second : goal.returns-in_err-turn_line-in-Line-clause-reads_second
 returns-in_err-turn_line-in-Line-clause-reads_second g c = λ never. c.loop-lines.invariant.3

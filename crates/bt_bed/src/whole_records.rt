@@ -1,0 +1,92 @@
+//! Records that stand whole in what a reader took ahead.
+
+ghost use Rattle.bt_bed.specs.FirstColumns.{IsRecordName};
+
+use crate::bed::BedRef;
+use crate::bounds::Bounds;
+use crate::direct::{direct_bounds_on, direct_feature_on};
+use bt_lines::{PassedLines, WholeLines};
+
+/// Goes over the records that stand whole in what a reader took ahead, on the chromosome of the record that it
+/// passed last, in order, on lines that end with a line feed alone. It ends before the first line that isn't such
+/// a record's. What was passed is given back to the reader ([`Records::pass`](crate::Records::pass)), so that
+/// nothing is written to the reader for each record.
+#[derive(Clone, Copy, Debug)]
+pub struct WholeRecords<'a> {
+    pub(crate) lines: WholeLines<'a>,
+    // The chromosome.
+    pub(crate) name: &'a [u8],
+    // The start of the record before.
+    pub(crate) start: u64,
+    ghost named: { IsRecordName name.now },
+}
+
+/// What was passed of the records that stood whole in what a reader took ahead.
+#[derive(Clone, Copy, Debug)]
+pub struct PassedRecords {
+    pub(crate) lines: PassedLines,
+    // The start of the last one.
+    pub(crate) start: u64,
+}
+
+#[tactic(auto, unfolding(crate::specs::WholeRecords::lines_in, crate::specs::WholeRecords::chrom_in, crate::specs::WholeRecords::start_in, crate::specs::WholeRecords::records_passed))]
+impl<'a> WholeRecords<'a> {
+    ghost use Rattle.std.specs.Prelude.{◌≡◌, None, IfSome};
+    ghost use Rattle.bt_bed.specs.Bed.{feature_lent};
+    ghost use Rattle.bt_bed.specs.Feature.{Feature};
+    ghost use Rattle.bt_bed.specs.WholeRecords.{GivesWhole, chrom_in, records_passed};
+
+    /// The next record, which is passed.
+    #[inline(always)]
+    pub fn next(&mut self) -> Option<BedRef<'a>>
+        ensures given { IfSome result (λ bed. GivesWhole self.old (feature_lent bed) self.new) }
+        ensures none { result ≡ None → self.new ≡ self.old }
+    {
+        let text = self.lines.text()?;
+        let bed = direct_feature_on(text, self.name)?;
+        if bed.start < self.start {
+            return None;
+        }
+        self.lines.pass(text.len());
+        self.start = bed.start;
+        Some(bed)
+    }
+
+    /// The bounds of the next record, which is passed. Its further columns aren't looked at.
+    #[inline(always)]
+    pub fn next_bounds(&mut self) -> Option<Bounds>
+        ensures given { IfSome result (λ bounds. (r : Feature) × GivesWhole self.old r self.new
+            × (r.start ≡ bounds.start) × (r.stop ≡ bounds.stop)) }
+        ensures none { result ≡ None → self.new ≡ self.old }
+    {
+        let text = self.lines.text()?;
+        let bounds = direct_bounds_on(text, self.name)?;
+        if bounds.start < self.start {
+            return None;
+        }
+        self.lines.pass(text.len());
+        self.start = bounds.start;
+        Some(bounds)
+    }
+
+    /// The chromosome of the records.
+    pub fn chrom(&self) -> &'a [u8]
+        ensures { result.now ≡ chrom_in self.now }
+    {
+        self.name
+    }
+
+    /// What was passed.
+    #[inline(always)]
+    pub fn passed(&self) -> PassedRecords
+        ensures { result ≡ records_passed self.now }
+    {
+        PassedRecords {
+            lines: self.lines.passed(),
+            start: self.start,
+        }
+    }
+}
+
+#[cfg(test)]
+mod tests;

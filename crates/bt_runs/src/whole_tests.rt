@@ -1,0 +1,159 @@
+//! Records that stand whole in what a reader took ahead: an engine that takes them in one call has to write what it
+//! writes where it takes them one after another.
+
+ghost use Rattle.std.specs.Prelude.{◌<◌};
+
+use crate::engine::Engine;
+use crate::testing::{expect_same, feed_line, genome, holds};
+use crate::{Complement, Coverage, Merge, MergeStrand};
+use bt_bed::{ByteOrder, Records, Strand};
+use bt_lines::{Fault, Input, LineReader, Out, ScriptSink, ScriptSource, Sink};
+use std::alloc::{AllocError, Global};
+use std::process::Abort;
+use std::test::Fail;
+
+// How many records there are. Their lines are read in one block.
+const RECORDS: u64 = 200;
+
+const STRANDS: [&str; 3] = ["+", "-", "."];
+
+// Some overlap, some touch, and some lie apart; some end before an earlier one does, and some begin where it does.
+const BOUNDS: [(u64, u64); 7] = [
+    (0, 5),
+    (3, 20),
+    (20, 21),
+    (20, 70),
+    (31, 33),
+    (72, 80),
+    (98, 99),
+];
+
+// The line of a record: each seven lie up to 100 further on.
+fn line_of(alloc: Global, number: u64) -> Result<String, AllocError>
+    requires { number < RECORDS }
+{
+    let (start, stop) = BOUNDS[(number % 7) as usize];
+    let strand = STRANDS[(number % 3) as usize];
+    let first = number / 7 * 100;
+    format!(in alloc;
+        "chr1\t{}\t{}\tname\t0\t{strand}",
+        first + start,
+        first + stop
+    )
+}
+
+fn text(alloc: Global) -> Result<Vec<u8>, AllocError> {
+    let mut text = Vec::new(alloc);
+    for number in 0..RECORDS {
+        text.extend_from_slice(line_of(alloc, number)?.as_bytes())?;
+        text.push(b'\n')?;
+    }
+    Ok(text)
+}
+
+// Feeds an engine with all records, one after another.
+fn feed_each<E: Engine, K: Sink>(
+    rt: &impl Abort,
+    alloc: Global,
+    engine: &mut E,
+    out: &mut Out<K>,
+) -> Result<(), AllocError> {
+    for number in 0..RECORDS {
+        let line = line_of(alloc, number)?;
+        holds(
+            rt,
+            feed_line(engine, line.as_bytes(), out).is_ok(),
+            "a record",
+        );
+    }
+    Ok(())
+}
+
+// Feeds an engine with the first record by itself and then with those that stand whole, and gives how many those are
+// not.
+fn feed_whole<E: Engine, K: Sink>(
+    records: &mut Records<'_, ScriptSource<'_>, ByteOrder>,
+    engine: &mut E,
+    out: &mut Out<K>,
+) -> Result<bool, Fault> {
+    match records.peek()? {
+        None => return Ok(false),
+        Some(first) => engine.feed(&first, out)?,
+    }
+    records.advance();
+    let Some(mut whole) = records.whole() else {
+        return Ok(false);
+    };
+    engine.feed_whole(&mut whole, out)?;
+    Ok(whole.next().is_none())
+}
+
+// Two engines that have taken no record: one is fed with several records a call, the other with one.
+fn check_whole<E: Engine + Drop>(
+    rt: &impl Abort,
+    alloc: Global,
+    mut several: E,
+    mut single: E,
+    name: &str,
+) -> Result<(), Fail> {
+    let text = text(alloc)?;
+    let source = ScriptSource::new(text.as_slice(), 8192, None);
+    let reader = LineReader::new(alloc, source, Input::First);
+    let mut records = Records::new(alloc, reader, &ByteOrder);
+    let mut out = Out::new(ScriptSink::new(alloc, 512, None));
+    let all = feed_whole(&mut records, &mut several, &mut out);
+    let _ = records.into_reader().into_source();
+    holds(rt, all == Ok(true), name);
+    let mut wanted = Out::new(ScriptSink::new(alloc, 512, None));
+    feed_each(rt, alloc, &mut single, &mut wanted)?;
+    expect_same(rt, several, out, single, wanted, name);
+    Ok(())
+}
+
+fn check_merge(
+    rt: &impl Abort,
+    alloc: Global,
+    d: u64,
+    strand: MergeStrand,
+    name: &str,
+) -> Result<(), Fail>
+    requires { d < 1000 }
+{
+    let several = Merge::new(alloc, d, strand);
+    let single = Merge::new(alloc, d, strand);
+    check_whole(rt, alloc, several, single, name)
+}
+
+#[test]
+fn merge_of_all(rt: HostRuntime) -> Result<(), Fail> {
+    check_merge(&rt, rt.alloc(), 0, MergeStrand::All, "merge")?;
+    check_merge(&rt, rt.alloc(), 2, MergeStrand::All, "merge -d 2")
+}
+
+#[test]
+fn merge_of_a_strand(rt: HostRuntime) -> Result<(), Fail> {
+    let plus = MergeStrand::One(Strand::Plus);
+    check_merge(&rt, rt.alloc(), 0, plus, "merge -S +")?;
+    check_merge(&rt, rt.alloc(), 100, plus, "merge -S + -d 100")
+}
+
+#[test]
+fn merge_of_each_strand(rt: HostRuntime) -> Result<(), Fail> {
+    check_merge(&rt, rt.alloc(), 2, MergeStrand::Each, "merge -s -d 2")
+}
+
+#[test]
+fn complement_of_all(rt: HostRuntime) -> Result<(), Fail> {
+    let genome = genome(rt.alloc(), b"chr1\t2500\nchr2\t40\n")?;
+    let several = Complement::new(&genome, false);
+    let single = Complement::new(&genome, false);
+    check_whole(&rt, rt.alloc(), several, single, "complement")
+}
+
+#[test]
+fn coverage_of_all(rt: HostRuntime) -> Result<(), Fail> {
+    let genome = genome(rt.alloc(), b"chr1\t2500\nchr2\t40\n")?;
+    let several = Coverage::new(rt.alloc(), &genome, true, None);
+    let single = Coverage::new(rt.alloc(), &genome, true, None);
+    check_whole(&rt, rt.alloc(), several, single, "genomecov -bga")
+}
