@@ -150,7 +150,7 @@ if_for : {A : Type 0} (o : Option A) (P : A → Type 0) → IfSome o P → ForSo
 if_for None P h x e = cc
 if_for (Some y) P h x e = let same : y ≡ x = cc in subst P same h
 
-of_some : {A : Type 0} (o : Option A) (P : Type 0) → IsSome o → ForSome o (λ x. P) → P
+pub of_some : {A : Type 0} (o : Option A) (P : Type 0) → IsSome o → ForSome o (λ x. P) → P
 of_some None P some h = absurd (false≢true some)
 of_some (Some x) P some h = h x refl
 
@@ -158,7 +158,7 @@ said_item : {A : Type 0} (line : ℕ) (said : Option A) (m : Member A) → on_li
 said_item line None m e = cc
 said_item line (Some item) m e = let same : record { line = line; item = item } ≡ m = cc in ap (λ (m : Member _). Some m.item) same
 
-said_ahead : {S : Type 0} (sorting : Sorting) (reader : MemberReader S Feature (Option Locus)) (ahead : Option (Member Feature)) → ForSome ahead (λ m. line_says sorting reader.state (text_at (line_at reader.below)) ≡ Ok (Some m.item))
+pub said_ahead : {S : Type 0} (sorting : Sorting) (reader : MemberReader S Feature (Option Locus)) (ahead : Option (Member Feature)) → ForSome ahead (λ m. line_says sorting reader.state (text_at (line_at reader.below)) ≡ Ok (Some m.item))
     → IfSome ahead (λ m. IsSaidBehind (bed_format sorting) reader.state m.item)
 said_ahead sorting reader None h = tt
 said_ahead sorting reader (Some m) h = (record { number = 0; text = text_at (line_at reader.below); ending = Lf }, h m refl)

@@ -31,3 +31,4 @@ pub mod RecordLineLemmas
 pub mod KnownChromLemmas
 pub mod OwnFailureLemmas
 pub mod WholeRecordLemmas
+pub mod WholesGiven

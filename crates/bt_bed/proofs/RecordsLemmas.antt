@@ -7,9 +7,9 @@ use Rattle.bt_lines.specs.Names.{told}
 use Rattle.bt_lines.specs.Reader.{line_at, input_of, lines_left, fault_kept as line_fault}
 use Rattle.bt_lines.specs.declared.fault.Fault.{Fault}
 use Rattle.bt_lines.specs.declared.line_reader.LineReader.{LineReader}
-use Rattle.bt_bed.proofs.CursorLemmas.{for_if, none_in, placed_none}
+use Rattle.bt_bed.proofs.CursorLemmas.{for_if, none_in, of_some, placed_none, said_ahead}
 use Rattle.bt_bed.proofs.GoodBedLemmas.{line_said}
-use Rattle.bt_bed.proofs.ReadingLemmas.{good_at_first, is_some_line}
+use Rattle.bt_bed.proofs.ReadingLemmas.{good_at_first, is_some_line, steps_again}
 use Rattle.bt_bed.proofs.SaidLemmas.{said_features}
 use Rattle.bt_bed.proofs.SortingLemmas.{sorted_up_to}
 use Rattle.bt_bed.specs.Ahead.{text_at}
@@ -47,6 +47,10 @@ said_behind order last text r total known says =
       in_order = sorted_up_to order last (locus_at r) total (for_if last (λ place. IsTrue (order.knows place.chrom)) known) said.known said.stays;
     }
 
+some_ahead : (bed : BedRef) (ahead : Option (Member Feature)) → option_map feature_lent (Some bed) ≡ option_map (λ m. m.item) ahead → IsSome ahead
+some_ahead bed None e = cc
+some_ahead bed (Some m) e = refl
+
 module _ {S O : Type 0} {g : Ghosts O} (left : S → Option (List ℕ)) (failed end : S → Bool) where
   given : (old new : Records S O g) (m : Member Feature) → IsTotal (order_in old) → GivesMember left failed (view_of old) m (view_of new) → GivesRecord left failed old m.item new
   unfolding view_of view_with order_in
@@ -72,6 +76,17 @@ module _ {S O : Type 0} {g : Ghosts O} (left : S → Option (List ℕ)) (failed 
   -- the record that a step held is lent
   pub answered : (old new : Records S O g) (lent : Option BedRef) → option_map feature_lent lent ≡ option_map (λ m. m.item) (view_of new).ahead → RecordStepsTo left failed old (view_of new).ahead new → Answers left failed end old (Ok lent) new
   answered old new lent e steps = answers_with old new (view_of new).ahead lent e steps
+
+  -- the record ahead is given again
+  pub given_again : (records : Records S O g) (lent : Option BedRef) → IsTotal (order_in records) → option_map feature_lent lent ≡ option_map (λ m. m.item) (view_of records).ahead
+      → IfSome lent (λ bed. GivesRecord left failed records (feature_lent bed) records)
+  unfolding view_of view_with order_in
+  given_again records None total e = tt
+  given_again records (Some bed) total e =
+      let view = view_of records in
+      let there = some_ahead bed view.ahead e in
+      let steps = steps_again left failed end view (of_some view.ahead (view.fault ≡ None) there records.placed.going) there (said_ahead _ view view.ahead records.placed.ahead) in
+      answered records records (Some bed) e (steps_to records records view.ahead total steps)
 
 module _ {S Q : Type 0} (left : S → Option (List ℕ)) (failed end : S → Bool) (sorting : Sorting) (cursor : Cursor S Q) where
   -- a reader that has given no record has all of the good ones left

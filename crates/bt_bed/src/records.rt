@@ -25,7 +25,7 @@ pub struct Records<'o, S, O: ChromOrder> {
 
 #[tactic(auto, unfolding(crate::specs::Cursor::view_with, crate::specs::Records::view_of, crate::specs::Records::order_in))]
 impl<'o, S: Source, O: ChromOrder> Records<'o, S, O> {
-    ghost use Rattle.std.specs.Prelude.{◌≡◌, [], List, Some, None, IfSome, IsSome, option_map};
+    ghost use Rattle.std.specs.Prelude.{◌≡◌, ℕ, Bool, [], List, Option, Some, None, IfSome, IsSome, option_map};
     ghost use Rattle.std.specs.Borrow.{sem};
     ghost use Rattle.std.specs.Io.BufRead.{Rests};
     ghost use mir.Syntax.{named};
@@ -37,7 +37,7 @@ impl<'o, S: Source, O: ChromOrder> Records<'o, S, O> {
     ghost use Rattle.bt_bed.specs.WholeRecords.{ArePassed, LendsWhole, PassesEach};
     ghost use Rattle.bt_bed.specs.GoodBed.{bed_format};
     ghost use Rattle.bt_bed.specs.Order.{IsTotal};
-    ghost use Rattle.bt_bed.specs.Records.{PassesRecord, PeeksRecord, StepsRecord, below, fault_kept, good_left, last_locus, line_ahead, order_in, record_ahead};
+    ghost use Rattle.bt_bed.specs.Records.{GivesRecord, PassesRecord, PeeksRecord, StepsRecord, below, fault_kept, good_left, last_locus, line_ahead, order_in, record_ahead};
 
     /// A reader of the records that the reader of lines has left.
     pub fn new(alloc: Global, reader: LineReader<S>, order: &'o O) -> Records<'o, S, O>
@@ -126,10 +126,12 @@ impl<'o, S: Source, O: ChromOrder> Records<'o, S, O> {
         self.cursor.step()
     }
 
-    /// The record ahead, if `step` or `peek` found one.
+    /// The record ahead, if `step` or `peek` found one, which those give again as it is.
     #[inline]
     pub fn record(&self) -> Option<BedRef<'_>>
-        ensures { option_map feature_lent result ≡ record_ahead self.now }
+        ensures is { option_map feature_lent result ≡ record_ahead self.now }
+        ensures again { (left : S → Option (List ℕ)) (failed : S → Bool)
+            → IfSome result (λ bed. GivesRecord left failed self.now (feature_lent bed) self.now) }
     {
         self.cursor.record()
     }

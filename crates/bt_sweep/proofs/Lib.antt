@@ -11,6 +11,7 @@ pub mod StateLemmas
 pub mod HeldLines
 pub mod HoldLemmas
 pub mod StepLemmas
+pub mod PassingLemmas
 pub mod PlainLemmas
 pub mod QuietLemmas
 pub mod RisingLemmas

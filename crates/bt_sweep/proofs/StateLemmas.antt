@@ -86,7 +86,7 @@ takes_now r now mid new a out grown e ended rises writes =
     takes_by r now new a out grown (ap (λ (s : Sweeping). s.b_ended) (sym e) ∙ ended)
     (subst (λ (s : Sweeping). WritesLast s a out r new grown) e (writes a (ap (λ (s : Sweeping). s.last) e) (subst (λ (s : Sweeping). AreRising s.held) (sym e) rises)))
 
-none_of : (shape : Shape) (rule : HitRule) (a : Feature) (held : List Feature) → NeedsHit shape → length held ≡ 0 → lines_for shape rule a held ≡ []
+pub none_of : (shape : Shape) (rule : HitRule) (a : Feature) (held : List Feature) → NeedsHit shape → length held ≡ 0 → lines_for shape rule a held ≡ []
 unfolding lines_for
 none_of shape rule a [] needs none = needs a
 none_of shape rule a (b ∷ held) needs none = absurd (omega arith)

@@ -42,7 +42,7 @@ going true done wants = absurd (let apart : B ≡ A = wants in cc)
 going false true wants = absurd (let apart : Nothing ≡ A = wants in cc)
 going false false wants = refl
 
-no_wait : (waits done : Bool) → want_of waits done ≡ A → waits ≡ false
+pub no_wait : (waits done : Bool) → want_of waits done ≡ A → waits ≡ false
 no_wait true done wants = absurd (let apart : B ≡ A = wants in cc)
 no_wait false done wants = refl
 

@@ -11,6 +11,8 @@ pub mod Standing
 pub mod Walking
 pub mod Steps
 pub mod StateSteps
+pub mod Passing
+pub mod StatePassing
 pub mod PlainPieces
 pub mod Held
 pub mod HeldList

@@ -43,6 +43,7 @@ mod started;
 mod state;
 mod sweep;
 mod want;
+mod whole_front;
 #[cfg(test)]
 mod worked;
 mod writing;

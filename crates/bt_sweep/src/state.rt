@@ -1,6 +1,6 @@
 //! What a sweep keeps, and its steps.
 
-ghost use Rattle.std.specs.Prelude.{◌≡◌, ◌∷◌, ◌++◌, [], IsTrue, None, Some, OnOk, OnErr, false, true};
+ghost use Rattle.std.specs.Prelude.{◌≡◌, ◌∷◌, ◌++◌, [], IfSome, IsTrue, None, Some, OnOk, OnErr, false, true};
 ghost use Rattle.bt_lines.specs.Putting.{Adds};
 ghost use Rattle.bt_bed.specs.Bed.{feature_lent};
 ghost use Rattle.bt_bed.specs.Feature.{Feature};
@@ -9,16 +9,18 @@ ghost use Rattle.bt_lines.specs.Names.{told};
 ghost use Rattle.bt_sweep.specs.Deciding.{decides};
 ghost use Rattle.bt_sweep.specs.Held.{AreRising, AreWith};
 ghost use Rattle.bt_sweep.specs.IntersectLines.{lines_for};
-ghost use Rattle.bt_sweep.specs.StateSteps.{Holds, KeepsLast, TakesA, WritesLast, has_room_in, held_with, is_held_by, moved_to};
+ghost use Rattle.bt_sweep.specs.StatePassing.{DecidesUpTo, PassesOver, PassesWhole};
+ghost use Rattle.bt_sweep.specs.StateSteps.{Holds, KeepsLast, NeedsHit, TakesA, WritesLast, has_room_in, held_with, is_held_by, moved_to};
 ghost use Rattle.bt_sweep.specs.SweepState.{want_in};
 
 use crate::held::Held;
 use crate::hit_rule::HitRule;
 use crate::shape::Shape;
 use crate::want::Want;
+use crate::whole_front::front_up_to;
 use crate::writing::{needs_hit, put_lines};
-use bt_bed::{BedRef, ChromOrder, Rec, at_line, is_same_name};
-use bt_lines::{Fault, Input, Kind, Out, Place, Sink, no_memory};
+use bt_bed::{BedRef, ChromOrder, Rec, WholeRecords, at_line, is_same_name};
+use bt_lines::{Fault, Input, Kind, MAX_NUMBER, Out, Place, Sink, no_memory};
 use std::alloc::{AllocError, Global};
 use std::cmp::Ordering;
 use std::marker::Model;
@@ -143,6 +145,31 @@ impl<H: Held> State<H> {
         }
         self.waits = true;
         Ok(())
+    }
+
+    // Whether a record that nothing hits has no line.
+    pub(crate) fn needs_hit(&self) -> bool
+        ensures { IsTrue result → NeedsHit self.now.shape }
+    {
+        needs_hit(self.shape)
+    }
+
+    // Makes records that stand whole the last one, one after another, where nothing is held and those that nothing
+    // hits have no line: those on the last one's chromosome that b decides. Where memory runs out it takes none.
+    pub(crate) fn pass_decided<O: ChromOrder>(
+        &mut self,
+        order: &O,
+        records: &mut WholeRecords<'_>,
+        b: &BedRef<'_>,
+    )
+        requires known_a { (a : Feature) → self.old.last ≡ Some a → IsTrue ((O.order order.now).knows a.chrom) }
+        requires known_b { IsTrue ((O.order order.now).knows b.now.chrom.now) }
+        ensures { PassesWhole (O.order order.now) (feature_lent b.now) self.old records.old self.new records.new }
+    {
+        if self.b_ended || !needs_hit(self.shape) || self.held.len() != 0 {
+            return;
+        }
+        pass_over(order, &mut self.last, records, b);
     }
 
     // Whether the record decides the last one of the first input.
@@ -317,6 +344,50 @@ fn is_past<O: ChromOrder>(order: &O, a: &BedRef<'_>, b: &BedRef<'_>) -> bool
         Ordering::Less => false,
         Ordering::Equal => a.stop <= b.start,
         Ordering::Greater => true,
+    }
+}
+
+// Makes records that stand whole the last one, one after another: those on its chromosome that b decides. Where memory
+// runs out it takes none. It stands apart, so that the loop has the registers to itself.
+#[inline(never)]
+fn pass_over<O: ChromOrder>(
+    order: &O,
+    last: &mut Option<Rec>,
+    records: &mut WholeRecords<'_>,
+    b: &BedRef<'_>,
+)
+    requires known_a { (a : Feature) → last.old ≡ Some a → IsTrue ((O.order order.now).knows a.chrom) }
+    requires known_b { IsTrue ((O.order order.now).knows b.now.chrom.now) }
+    ensures { PassesOver (O.order order.now) (feature_lent b.now) last.old records.old last.new records.new }
+{
+    let Some(last) = last else {
+        return;
+    };
+    let chrom = last.as_bed().chrom;
+    if !is_same_name(chrom, records.chrom()) {
+        return;
+    }
+    let Some(stop) = decided_up_to(order, chrom, b) else {
+        return;
+    };
+    let Some(front) = front_up_to(*records, stop) else {
+        return;
+    };
+    if last.copy_from(&front.last).is_ok() {
+        *records = front.behind;
+    }
+}
+
+// The end up to which b decides each record on a chromosome; `None` where it decides none.
+fn decided_up_to<O: ChromOrder>(order: &O, chrom: &[u8], b: &BedRef<'_>) -> Option<u64>
+    requires known { IsTrue ((O.order order.now).knows chrom.now) }
+    requires known_b { IsTrue ((O.order order.now).knows b.now.chrom.now) }
+    ensures { IfSome result (DecidesUpTo (O.order order.now) (feature_lent b.now) chrom.now) }
+{
+    match order.compare(b.chrom, chrom) {
+        Ordering::Less => None,
+        Ordering::Equal => Some(b.start),
+        Ordering::Greater => Some(MAX_NUMBER),
     }
 }
 

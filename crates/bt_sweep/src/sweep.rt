@@ -8,7 +8,7 @@ use crate::hit_rule::HitRule;
 use crate::shape::Shape;
 use crate::state::State;
 use crate::want::Want;
-use bt_bed::{BedRef, ChromOrder, Taken};
+use bt_bed::{BedRef, ChromOrder, Taken, WholeRecords};
 use bt_lines::{Fault, Out, Sink};
 use std::alloc::Global;
 
@@ -29,13 +29,17 @@ pub struct Sweep<'o, H: Held, O: ChromOrder> {
 }
 
 impl<'o, H: Held, O: ChromOrder> Sweep<'o, H, O> {
-    ghost use Rattle.std.specs.Prelude.{◌≡◌, ℕ, [], IsTrue, OnErr, Option, Some};
+    ghost use Rattle.std.specs.Prelude.{◌≡◌, ℕ, List, [], IsTrue, OnErr, Option, Some};
     ghost use Rattle.bt_bed.specs.Bed.{feature_lent};
     ghost use Rattle.bt_bed.specs.Feature.{intervals_of};
     ghost use Rattle.bt_bed.specs.Locus.{ArePlaced};
     ghost use Rattle.bt_bed.specs.Order.{Order};
     ghost use Rattle.bt_sweep.specs.Standing.{IsInOrder, Stage, StandsAt, first_stage, given, held_for, last_given, want_at, with_a, with_a_ended};
     ghost use Rattle.bt_sweep.specs.Steps.{EndsB, GivesA, GivesB};
+    ghost use Rattle.bt_lines.specs.Output.{Output};
+    ghost use Rattle.bt_bed.specs.WholeRecords.{GivesWholes};
+    ghost use Rattle.bt_sweep.specs.Passing.{PassesFirsts};
+    ghost use Rattle.bt_sweep.specs.StateSteps.{NeedsHit};
     ghost use Rattle.bt_sweep.specs.SweepView.{order_of, state_of};
     ghost use Rattle.bt_sweep.specs.SweepState.{want_in};
 
@@ -93,6 +97,29 @@ impl<'o, H: Held, O: ChromOrder> Sweep<'o, H, O> {
         ensures order { order_of self.new ≡ order_of self.old }
     {
         self.state.take_a(a, out)
+    }
+
+    /// Whether a record of the first input that nothing hits has no line.
+    pub fn needs_hit(&self) -> bool
+        ensures { IsTrue result → NeedsHit (state_of self.now).shape }
+    {
+        self.state.needs_hit()
+    }
+
+    /// Takes records of the first input that stand whole, one after another, where `b`, which is the next of the
+    /// second, decides each and none of them has a line: as [`Sweep::give_a`] and then [`Sweep::give_b`] do with each,
+    /// and as many of them as it can, which may be none. What it took was passed. It copies the last one alone, and
+    /// where there is no memory for that it takes none.
+    pub fn pass_decided(&mut self, records: &mut WholeRecords<'_>, b: &BedRef<'_>)
+        requires want { want_in (state_of self.old) ≡ Want.A }
+        requires known { IsTrue ((order_of self.old).knows b.now.chrom.now) }
+        ensures passes { (firsts : List Feature) × GivesWholes records.old firsts records.new
+            × ((out : Output) → PassesFirsts (order_of self.old) (feature_lent b.now) (state_of self.old) out firsts
+            (state_of self.new) out) }
+        ensures want { want_in (state_of self.new) ≡ Want.A }
+        ensures order { order_of self.new ≡ order_of self.old }
+    {
+        self.state.pass_decided(self.order, records, b);
     }
 
     /// Takes the end of the first input. Nothing is written, and nothing more is asked for.

@@ -15,6 +15,7 @@ pub mod SweptLemmas
 pub mod RestLemmas
 pub mod SeenLemmas
 pub mod SweepTurns
+pub mod SweepPassing
 pub mod SweepFacts
 pub mod SweepLimits
 pub mod MaskStart

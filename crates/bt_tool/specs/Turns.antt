@@ -13,7 +13,9 @@ use Rattle.bt_bed.specs.Reading.{AnswersFault, EndsMembers}
 use Rattle.bt_bed.specs.Records.{GivesRecord, PassesRecord, below, order_in, view_of}
 use Rattle.bt_bed.specs.declared.order.ChromOrder.{Ghosts}
 use Rattle.bt_bed.specs.declared.records.Records.{Records}
+use Rattle.bt_bed.specs.WholeRecords.{PassesEach}
 use Rattle.bt_sweep.specs.IntersectLines.{lines_for}
+use Rattle.bt_sweep.specs.Passing.{PassesFirsts}
 use Rattle.bt_sweep.specs.Standing.{IsInOrder, Stage, StandsAt, with_a, with_a_ended, with_b_ended}
 use Rattle.bt_sweep.specs.Steps.{Fails, FailsToHold, FailsToWriteA, PassesLimit, TakesB, WritesA}
 use Rattle.bt_sweep.specs.Steps.{lines_with}
@@ -142,3 +144,20 @@ module _ {S O : Type 0} {g : Ghosts O} (left : S → Option (List ℕ)) (failed 
     TurnsSecond (Err fault) new swept grown =
         StopsTurn (told fault) new swept grown
         ⊎ (FailsSecond (told fault) new swept grown ⊎ FailsAtEnd (told fault) new swept grown)
+
+-- several turns of both inputs
+module _ {A B O : Type 0} {g : Ghosts O} (a_left : A → Option (List ℕ)) (a_failed a_end : A → Bool)
+    (IsRead : A → Option ℕ → A → Type 0) (b_left : B → Option (List ℕ)) (b_failed b_end : B → Bool)
+    (order : Order) (first : Records A O g) (second : Records B O g) (sweep : Sweeping) where
+  -- records of the first input were given and passed, and after each the record ahead of the second,
+  -- which stays ahead; nothing was written
+  pub record GivesSeveral (new : Records A O g) (swept : Sweeping) : Type 0 where
+    pub firsts : List Feature
+    pub passes : PassesEach a_left a_failed a_end IsRead first firsts new
+    pub item : Feature
+    pub ahead : HasAhead b_left b_failed b_end second item second
+    pub given : (out : Output) → PassesFirsts order item sweep out firsts swept out
+
+  -- so were some, or none
+  abbrev pub GivesFirsts : Records A O g → Sweeping → Type 0
+  GivesFirsts new swept = ((new ≡ first) × (swept ≡ sweep)) ⊎ GivesSeveral new swept

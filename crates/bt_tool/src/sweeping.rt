@@ -15,7 +15,7 @@ ghost use Rattle.bt_tool.specs.Behaviour.{of_intersect};
 ghost use Rattle.bt_tool.specs.Passed.{KeepsOwnFault};
 ghost use Rattle.bt_tool.specs.SweepLoop.{FinishesBoth, ReadsRest, Sweeps, SweepsOrStops};
 ghost use Rattle.bt_tool.specs.OwnReads.{AnswersNoRead, IsOwnFailure, ReadsServe, TellsNoRead, TellsOwnReads};
-ghost use Rattle.bt_tool.specs.Turns.{TurnsFirst, TurnsSecond};
+ghost use Rattle.bt_tool.specs.Turns.{GivesFirsts, TurnsFirst, TurnsSecond};
 ghost use Rattle.bt_tool.specs.Writing.{WritesBy};
 
 use bt_bed::{ChromOrder, Records};
@@ -45,6 +45,35 @@ fn turn_first<A: Source, O: ChromOrder, H: Held, K: Sink>(
         None => sweep.end_a(),
     }
     Ok(())
+}
+
+// Gives a sweep records of the first input that stand whole and have no line, since nothing is held and the record ahead
+// of the second decides them: as many as it takes so, which may be none. It is asked for where shapes need a hit.
+fn pass_firsts<A: Source, B: Source, O: ChromOrder, H: Held>(
+    needs_hit: bool,
+    first: &mut Records<'_, A, O>,
+    second: &Records<'_, B, O>,
+    sweep: &mut Sweep<'_, H, O>,
+)
+    requires want { want_in (state_of sweep.old) ≡ Want.A }
+    requires second { order_of sweep.old ≡ order_in second.now }
+    ensures gives { GivesFirsts A.left A.has_failed A.end_told A.is_read B.left B.has_failed B.end_told
+        (order_of sweep.old) first.old second.now (state_of sweep.old) first.new (state_of sweep.new) }
+    ensures want { want_in (state_of sweep.new) ≡ Want.A }
+    ensures order { order_of sweep.new ≡ order_of sweep.old }
+{
+    if !needs_hit || sweep.held().len() != 0 {
+        return;
+    }
+    let Some(next) = second.record() else {
+        return;
+    };
+    let Some(mut whole) = first.whole() else {
+        return;
+    };
+    sweep.pass_decided(&mut whole, &next);
+    let passed = whole.passed();
+    first.pass(passed);
 }
 
 // Gives a sweep the next record of the second input, or its end. A record that isn't taken stays ahead.
@@ -93,9 +122,13 @@ fn sweep_all<A: Source, B: Source, O: ChromOrder, H: Held, K: Sink>(
     ensures own_failure { KeepsOwnFault A.is_read (below first.old) (view_of first.new) }
     ensures own_failure_second { KeepsOwnFault B.is_read (below second.old) (view_of second.new) }
 {
+    let needs_hit = sweep.needs_hit();
     loop {
         match sweep.want() {
-            Want::A => turn_first(first, sweep, out)?,
+            Want::A => {
+                pass_firsts(needs_hit, first, second, sweep);
+                turn_first(first, sweep, out)?;
+            }
             Want::B => turn_second(second, sweep, out)?,
             Want::Nothing => return Ok(()),
         }

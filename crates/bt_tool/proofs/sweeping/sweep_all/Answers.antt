@@ -1,4 +1,4 @@
-use Rattle.std.proofs.Common.{refl, sym, ◌∙◌}
+use Rattle.std.proofs.Common.{arith, refl, sym, ◌∙◌}
 use Rattle.bt_lines.proofs.ReadsLemmas.{has_read_then, reads_same}
 use Rattle.bt_lines.specs.Reader.{HasRead}
 use Rattle.bt_bed.specs.Records.{below, order_in}
@@ -6,36 +6,45 @@ use Rattle.bt_bed.proofs.ResultLemmas.{passed_on}
 use Rattle.bt_sweep.specs.SweepView.{order_of, state_of}
 use Rattle.bt_tool.specs.SweepLoop.{SweepsOrStops}
 use Rattle.bt_tool.specs.OwnReads.{AnswersNoRead}
+use Rattle.bt_tool.proofs.SweepPassing.{goes_over}
 use Rattle.bt_tool.proofs.SweepTurns.{first_stops, second_stops, turns_first, turns_second}
 use Rattle.bt_tool.proofs.OwnFailureLemmas.{none_kept, own_then}
 use Rattle.bt_tool.proofs.sweeping.sweep_all.Goals as goal
 
 pub loop-first-smaller-in-Continue-1 : goal.loop-first-smaller-in-Continue-1
 loop-first-smaller-in-Continue-1 g c =
-    let now = c.loop-first.invariant in
-    (turns_first g.A.Source.left g.A.Source.has_failed g.A.Source.end_told g.B.Source.left g.B.Source.has_failed g.B.Source.end_told (state_of c.args.sweep.now).shape (state_of c.args.sweep.now).rule (state_of c.args.sweep.now).limit c.args.first.now c.args.second.now c.args.out.now
-    c.requires.total c.requires.second c.requires.sorted c.requires.sorted_second c.loop-first.first c.loop-first.second (state_of c.loop-first.sweep) c.loop-first.out (order_of c.loop-first.sweep) now.1 now.0
-    (sym c.want.ensures.is ∙ c.in-A.is) c.turn_first.new.first (state_of c.turn_first.new.sweep) c.turn_first.new.out c.in_ok-turn_first-in-A.ensures.turns).1
+    let was = c.loop-first.invariant in
+    let over = goes_over g.A.Source.left g.A.Source.has_failed g.A.Source.end_told g.A.Source.is_read g.B.Source.left g.B.Source.has_failed g.B.Source.end_told (state_of c.args.sweep.now).shape (state_of c.args.sweep.now).rule (state_of c.args.sweep.now).limit c.args.first.now c.args.second.now c.args.out.now
+    c.requires.total c.requires.second c.requires.sorted c.requires.sorted_second c.loop-first.second (order_of c.loop-first.sweep) was.1 c.loop-first.first c.pass_firsts.new.first (state_of c.loop-first.sweep) (state_of c.pass_firsts.new.sweep) c.loop-first.out was.0 c.pass_firsts.ensures.gives in
+    omega (arith, over.1, (turns_first g.A.Source.left g.A.Source.has_failed g.A.Source.end_told g.B.Source.left g.B.Source.has_failed g.B.Source.end_told (state_of c.args.sweep.now).shape (state_of c.args.sweep.now).rule (state_of c.args.sweep.now).limit c.args.first.now c.args.second.now c.args.out.now
+    c.requires.total c.requires.second c.requires.sorted c.requires.sorted_second c.pass_firsts.new.first c.loop-first.second (state_of c.pass_firsts.new.sweep) c.loop-first.out (order_of c.pass_firsts.new.sweep) (c.pass_firsts.ensures.order ∙ was.1) over.0
+    c.pass_firsts.ensures.want c.turn_first.new.first (state_of c.turn_first.new.sweep) c.turn_first.new.out c.in_ok-turn_first-in-A.ensures.turns).1)
 
 pub loop-first-preserved-in-Continue-1 : goal.loop-first-preserved-in-Continue-1
 loop-first-preserved-in-Continue-1 g c =
-    let now = c.loop-first.invariant in (
+    let was = c.loop-first.invariant in
+    let over = goes_over g.A.Source.left g.A.Source.has_failed g.A.Source.end_told g.A.Source.is_read g.B.Source.left g.B.Source.has_failed g.B.Source.end_told (state_of c.args.sweep.now).shape (state_of c.args.sweep.now).rule (state_of c.args.sweep.now).limit c.args.first.now c.args.second.now c.args.out.now
+    c.requires.total c.requires.second c.requires.sorted c.requires.sorted_second c.loop-first.second (order_of c.loop-first.sweep) was.1 c.loop-first.first c.pass_firsts.new.first (state_of c.loop-first.sweep) (state_of c.pass_firsts.new.sweep) c.loop-first.out was.0 c.pass_firsts.ensures.gives in
+    let read = has_read_then g.A.Source.is_read (below c.args.first.now) (below c.loop-first.first) (below c.pass_firsts.new.first) was.2 over.2 in
+     (
       (turns_first g.A.Source.left g.A.Source.has_failed g.A.Source.end_told g.B.Source.left g.B.Source.has_failed g.B.Source.end_told (state_of c.args.sweep.now).shape (state_of c.args.sweep.now).rule (state_of c.args.sweep.now).limit c.args.first.now c.args.second.now c.args.out.now
-          c.requires.total c.requires.second c.requires.sorted c.requires.sorted_second c.loop-first.first c.loop-first.second (state_of c.loop-first.sweep) c.loop-first.out (order_of c.loop-first.sweep) now.1 now.0
-          (sym c.want.ensures.is ∙ c.in-A.is) c.turn_first.new.first (state_of c.turn_first.new.sweep) c.turn_first.new.out c.in_ok-turn_first-in-A.ensures.turns).0,
-      c.turn_first.ensures.order ∙ now.1,
-      has_read_then g.A.Source.is_read (below c.args.first.now) (below c.loop-first.first) (below c.turn_first.new.first) now.2 (c.in_ok-turn_first-in-A.ensures.reads now.0.comes.first_passes.going tt),
-      now.3,
+          c.requires.total c.requires.second c.requires.sorted c.requires.sorted_second c.pass_firsts.new.first c.loop-first.second (state_of c.pass_firsts.new.sweep) c.loop-first.out (order_of c.pass_firsts.new.sweep) (c.pass_firsts.ensures.order ∙ was.1) over.0
+          c.pass_firsts.ensures.want c.turn_first.new.first (state_of c.turn_first.new.sweep) c.turn_first.new.out c.in_ok-turn_first-in-A.ensures.turns).0,
+      c.turn_first.ensures.order ∙ c.pass_firsts.ensures.order ∙ was.1,
+      has_read_then g.A.Source.is_read (below c.args.first.now) (below c.pass_firsts.new.first) (below c.turn_first.new.first) read (c.in_ok-turn_first-in-A.ensures.reads over.0.comes.first_passes.going tt),
+      was.3,
     )
 
 pub returns-in_err-turn_first-in-A-clause-sweeps : goal.returns-in_err-turn_first-in-A-clause-sweeps
 returns-in_err-turn_first-in-A-clause-sweeps g c =
-    let now = c.loop-first.invariant in
+    let was = c.loop-first.invariant in
+    let over = goes_over g.A.Source.left g.A.Source.has_failed g.A.Source.end_told g.A.Source.is_read g.B.Source.left g.B.Source.has_failed g.B.Source.end_told (state_of c.args.sweep.now).shape (state_of c.args.sweep.now).rule (state_of c.args.sweep.now).limit c.args.first.now c.args.second.now c.args.out.now
+    c.requires.total c.requires.second c.requires.sorted c.requires.sorted_second c.loop-first.second (order_of c.loop-first.sweep) was.1 c.loop-first.first c.pass_firsts.new.first (state_of c.loop-first.sweep) (state_of c.pass_firsts.new.sweep) c.loop-first.out was.0 c.pass_firsts.ensures.gives in
     passed_on (λ r. SweepsOrStops g.A.Source.left g.A.Source.has_failed g.A.Source.end_told g.B.Source.left g.B.Source.has_failed g.B.Source.end_told (order_in c.args.first.now) (state_of c.args.sweep.now).shape (state_of c.args.sweep.now).rule (state_of c.args.sweep.now).limit c.args.first.now c.args.second.now c.args.out.now r c.turn_first.new.first c.loop-first.second (state_of c.turn_first.new.sweep) c.turn_first.new.out)
     c.from_residual.result c.in_err-turn_first-in-A.field-0.0 c.from_residual.ensures.1
     (first_stops g.A.Source.left g.A.Source.has_failed g.A.Source.end_told g.B.Source.left g.B.Source.has_failed g.B.Source.end_told (state_of c.args.sweep.now).shape (state_of c.args.sweep.now).rule (state_of c.args.sweep.now).limit c.args.first.now c.args.second.now c.args.out.now
-    c.requires.total c.requires.second c.requires.sorted c.requires.sorted_second c.loop-first.first c.loop-first.second (state_of c.loop-first.sweep) c.loop-first.out (order_of c.loop-first.sweep) now.1 now.0
-    (sym c.want.ensures.is ∙ c.in-A.is) c.in_err-turn_first-in-A.field-0.0 c.turn_first.new.first (state_of c.turn_first.new.sweep) c.turn_first.new.out c.in_err-turn_first-in-A.ensures.turns)
+    c.requires.total c.requires.second c.requires.sorted c.requires.sorted_second c.pass_firsts.new.first c.loop-first.second (state_of c.pass_firsts.new.sweep) c.loop-first.out (order_of c.pass_firsts.new.sweep) (c.pass_firsts.ensures.order ∙ was.1) over.0
+    c.pass_firsts.ensures.want c.in_err-turn_first-in-A.field-0.0 c.turn_first.new.first (state_of c.turn_first.new.sweep) c.turn_first.new.out c.in_err-turn_first-in-A.ensures.turns)
 
 pub loop-first-smaller : goal.loop-first-smaller
 loop-first-smaller g c =
@@ -66,11 +75,18 @@ returns-in_err-turn_second-in-B-clause-sweeps g c =
 
 pub returns-in_err-turn_first-in-A-clause-own_failure : goal.returns-in_err-turn_first-in-A-clause-own_failure
 returns-in_err-turn_first-in-A-clause-own_failure g c =
-    let now = c.loop-first.invariant in
-    own_then g.A.Source.is_read (below c.args.first.now) (below c.loop-first.first) _ _ now.2 (c.turn_first.ensures.own_failure now.0.comes.first_passes.going)
+    let was = c.loop-first.invariant in
+    let over = goes_over g.A.Source.left g.A.Source.has_failed g.A.Source.end_told g.A.Source.is_read g.B.Source.left g.B.Source.has_failed g.B.Source.end_told (state_of c.args.sweep.now).shape (state_of c.args.sweep.now).rule (state_of c.args.sweep.now).limit c.args.first.now c.args.second.now c.args.out.now
+    c.requires.total c.requires.second c.requires.sorted c.requires.sorted_second c.loop-first.second (order_of c.loop-first.sweep) was.1 c.loop-first.first c.pass_firsts.new.first (state_of c.loop-first.sweep) (state_of c.pass_firsts.new.sweep) c.loop-first.out was.0 c.pass_firsts.ensures.gives in
+    let read = has_read_then g.A.Source.is_read (below c.args.first.now) (below c.loop-first.first) (below c.pass_firsts.new.first) was.2 over.2 in
+    own_then g.A.Source.is_read (below c.args.first.now) (below c.pass_firsts.new.first) _ _ read (c.turn_first.ensures.own_failure over.0.comes.first_passes.going)
 
 pub returns-in_err-turn_first-in-A-clause-own_failure_second : goal.returns-in_err-turn_first-in-A-clause-own_failure_second
-returns-in_err-turn_first-in-A-clause-own_failure_second g c = none_kept g.B.Source.is_read _ _ _ c.loop-first.invariant.0.comes.second_passes.going
+returns-in_err-turn_first-in-A-clause-own_failure_second g c =
+    let was = c.loop-first.invariant in
+    let over = goes_over g.A.Source.left g.A.Source.has_failed g.A.Source.end_told g.A.Source.is_read g.B.Source.left g.B.Source.has_failed g.B.Source.end_told (state_of c.args.sweep.now).shape (state_of c.args.sweep.now).rule (state_of c.args.sweep.now).limit c.args.first.now c.args.second.now c.args.out.now
+    c.requires.total c.requires.second c.requires.sorted c.requires.sorted_second c.loop-first.second (order_of c.loop-first.sweep) was.1 c.loop-first.first c.pass_firsts.new.first (state_of c.loop-first.sweep) (state_of c.pass_firsts.new.sweep) c.loop-first.out was.0 c.pass_firsts.ensures.gives in
+    none_kept g.B.Source.is_read _ _ _ over.0.comes.second_passes.going
 
 pub returns-in_err-turn_second-in-B-clause-own_failure : goal.returns-in_err-turn_second-in-B-clause-own_failure
 returns-in_err-turn_second-in-B-clause-own_failure g c = none_kept g.A.Source.is_read _ _ _ c.loop-first.invariant.0.comes.first_passes.going
@@ -96,12 +112,17 @@ loop-first-init g c = (
 
 pub returns-in_err-turn_first-in-A-clause-reads_first : goal.returns-in_err-turn_first-in-A-clause-reads_first
 returns-in_err-turn_first-in-A-clause-reads_first g c =
-    let now = c.loop-first.invariant in
+    let was = c.loop-first.invariant in
+    let over = goes_over g.A.Source.left g.A.Source.has_failed g.A.Source.end_told g.A.Source.is_read g.B.Source.left g.B.Source.has_failed g.B.Source.end_told (state_of c.args.sweep.now).shape (state_of c.args.sweep.now).rule (state_of c.args.sweep.now).limit c.args.first.now c.args.second.now c.args.out.now
+    c.requires.total c.requires.second c.requires.sorted c.requires.sorted_second c.loop-first.second (order_of c.loop-first.sweep) was.1 c.loop-first.first c.pass_firsts.new.first (state_of c.loop-first.sweep) (state_of c.pass_firsts.new.sweep) c.loop-first.out was.0 c.pass_firsts.ensures.gives in
+    let read = has_read_then g.A.Source.is_read (below c.args.first.now) (below c.loop-first.first) (below c.pass_firsts.new.first) was.2 over.2 in
     passed_on (λ r. AnswersNoRead r → HasRead g.A.Source.is_read (below c.args.first.now) (below c.turn_first.new.first)) c.from_residual.result c.in_err-turn_first-in-A.field-0.0 c.from_residual.ensures.1
-    (λ never. has_read_then g.A.Source.is_read (below c.args.first.now) (below c.loop-first.first) (below c.turn_first.new.first) now.2 (c.in_err-turn_first-in-A.ensures.reads now.0.comes.first_passes.going never))
+    (λ never. has_read_then g.A.Source.is_read (below c.args.first.now) (below c.pass_firsts.new.first) (below c.turn_first.new.first) read (c.in_err-turn_first-in-A.ensures.reads over.0.comes.first_passes.going never))
 
 pub returns-in_err-turn_first-in-A-clause-reads_second : goal.returns-in_err-turn_first-in-A-clause-reads_second
-returns-in_err-turn_first-in-A-clause-reads_second g c = λ never. c.loop-first.invariant.3
+returns-in_err-turn_first-in-A-clause-reads_second g c =
+    let was = c.loop-first.invariant in
+    λ never. was.3
 
 pub returns-in_err-turn_second-in-B-clause-reads_first : goal.returns-in_err-turn_second-in-B-clause-reads_first
 returns-in_err-turn_second-in-B-clause-reads_first g c = λ never. c.loop-first.invariant.2
@@ -117,3 +138,15 @@ returns-in-Nothing-clause-reads_first g c = λ never. c.loop-first.invariant.2
 
 pub returns-in-Nothing-clause-reads_second : goal.returns-in-Nothing-clause-reads_second
 returns-in-Nothing-clause-reads_second g c = λ never. c.loop-first.invariant.3
+
+pub pass_firsts-requires-clause-second : goal.pass_firsts-requires-clause-second
+pass_firsts-requires-clause-second g c =
+    let was = c.loop-first.invariant in
+    was.1 ∙ sym c.requires.second ∙ sym was.0.second_placed.order
+
+pub turn_first-requires-clause-order : goal.turn_first-requires-clause-order
+turn_first-requires-clause-order g c =
+    let was = c.loop-first.invariant in
+    let over = goes_over g.A.Source.left g.A.Source.has_failed g.A.Source.end_told g.A.Source.is_read g.B.Source.left g.B.Source.has_failed g.B.Source.end_told (state_of c.args.sweep.now).shape (state_of c.args.sweep.now).rule (state_of c.args.sweep.now).limit c.args.first.now c.args.second.now c.args.out.now
+    c.requires.total c.requires.second c.requires.sorted c.requires.sorted_second c.loop-first.second (order_of c.loop-first.sweep) was.1 c.loop-first.first c.pass_firsts.new.first (state_of c.loop-first.sweep) (state_of c.pass_firsts.new.sweep) c.loop-first.out was.0 c.pass_firsts.ensures.gives in
+    c.pass_firsts.ensures.order ∙ was.1 ∙ sym over.0.first_placed.order

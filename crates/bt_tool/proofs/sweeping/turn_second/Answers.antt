@@ -21,7 +21,7 @@ returns-in_err-step-clause-turns g c =
 pub returns-in_err-give_b-in-Some-clause-turns : goal.returns-in_err-give_b-in-Some-clause-turns
 returns-in_err-give_b-in-Some-clause-turns g c =
     let r = feature_lent c.in-Some.record in
-    let gives = has_stepped g.B.Source.left g.B.Source.has_failed c.args.second.now c.step.new.self r (sym (ap (option_map feature_lent) c.in-Some.is) ∙ c.record.ensures) c.in_ok-step.ensures.answers in
+    let gives = has_stepped g.B.Source.left g.B.Source.has_failed c.args.second.now c.step.new.self r (sym (ap (option_map feature_lent) c.in-Some.is) ∙ c.record.ensures.is) c.in_ok-step.ensures.answers in
     let line = its_line g.B.Source.left g.B.Source.has_failed c.args.second.now c.step.new.self r gives c.line.result c.line.ensures in
     let order = order_of c.args.sweep.now in
     let fault = told c.in_err-give_b-in-Some.field-0.0 in
@@ -40,14 +40,14 @@ returns-in_err-end_b-in-None-clause-turns g c =
     passed_on (λ r. TurnsSecond g.B.Source.left g.B.Source.has_failed g.B.Source.end_told (order_of c.args.sweep.now) c.args.second.now (state_of c.args.sweep.now) c.args.out.now r c.step.new.self (state_of c.end_b.new.self) c.end_b.new.out)
     c.from_residual-in_err-end_b-in-None.result c.in_err-end_b-in-None.field-0.0 c.from_residual-in_err-end_b-in-None.ensures.1
     (inr (inr (record {
-      ended = record { ends = has_run_out g.B.Source.left g.B.Source.has_failed c.args.second.now c.step.new.self (sym (ap (option_map feature_lent) c.in-None.is) ∙ c.record.ensures) c.in_ok-step.ensures.answers; sound = c.step.ensures.sound; order = c.step.ensures.order };
+      ended = record { ends = has_run_out g.B.Source.left g.B.Source.has_failed c.args.second.now c.step.new.self (sym (ap (option_map feature_lent) c.in-None.is) ∙ c.record.ensures.is) c.in_ok-step.ensures.answers; sound = c.step.ensures.sound; order = c.step.ensures.order };
       fails = λ shape rule limit stage a stands waits placed. (c.in_err-end_b-in-None.ensures.gives shape rule limit stage a stands waits placed).1;
     })))
 
 pub returns-in-Yes-clause-turns : goal.returns-in-Yes-clause-turns
 returns-in-Yes-clause-turns g c =
     let r = feature_lent c.in-Some.record in
-    let gives = has_stepped g.B.Source.left g.B.Source.has_failed c.args.second.now c.step.new.self r (sym (ap (option_map feature_lent) c.in-Some.is) ∙ c.record.ensures) c.in_ok-step.ensures.answers in
+    let gives = has_stepped g.B.Source.left g.B.Source.has_failed c.args.second.now c.step.new.self r (sym (ap (option_map feature_lent) c.in-Some.is) ∙ c.record.ensures.is) c.in_ok-step.ensures.answers in
     let line = its_line g.B.Source.left g.B.Source.has_failed c.args.second.now c.step.new.self r gives c.line.result c.line.ensures in
     let order = order_of c.args.sweep.now in
     inl (record {
@@ -63,7 +63,7 @@ returns-in-Yes-clause-turns g c =
 pub returns-in-No-clause-turns : goal.returns-in-No-clause-turns
 returns-in-No-clause-turns g c =
     let r = feature_lent c.in-Some.record in
-    let gives = has_stepped g.B.Source.left g.B.Source.has_failed c.args.second.now c.step.new.self r (sym (ap (option_map feature_lent) c.in-Some.is) ∙ c.record.ensures) c.in_ok-step.ensures.answers in
+    let gives = has_stepped g.B.Source.left g.B.Source.has_failed c.args.second.now c.step.new.self r (sym (ap (option_map feature_lent) c.in-Some.is) ∙ c.record.ensures.is) c.in_ok-step.ensures.answers in
     let line = its_line g.B.Source.left g.B.Source.has_failed c.args.second.now c.step.new.self r gives c.line.result c.line.ensures in
     let order = order_of c.args.sweep.now in
     inr (inl (record {
@@ -77,7 +77,7 @@ returns-in-No-clause-turns g c =
 pub returns-in_ok-end_b-in-None-clause-turns : goal.returns-in_ok-end_b-in-None-clause-turns
 returns-in_ok-end_b-in-None-clause-turns g c =
     inr (inr (record {
-      ended = record { ends = has_run_out g.B.Source.left g.B.Source.has_failed c.args.second.now c.step.new.self (sym (ap (option_map feature_lent) c.in-None.is) ∙ c.record.ensures) c.in_ok-step.ensures.answers; sound = c.step.ensures.sound; order = c.step.ensures.order };
+      ended = record { ends = has_run_out g.B.Source.left g.B.Source.has_failed c.args.second.now c.step.new.self (sym (ap (option_map feature_lent) c.in-None.is) ∙ c.record.ensures.is) c.in_ok-step.ensures.answers; sound = c.step.ensures.sound; order = c.step.ensures.order };
       given = λ shape rule limit stage a stands waits placed. c.in_ok-end_b-in-None.ensures.gives shape rule limit stage a stands waits placed;
     }))
 
@@ -87,27 +87,27 @@ returns-in_err-step-clause-own_failure g c = λ none.
 
 pub returns-in_err-give_b-in-Some-clause-own_failure : goal.returns-in_err-give_b-in-Some-clause-own_failure
 returns-in_err-give_b-in-Some-clause-own_failure g c = λ none.
-    let gives = has_stepped g.B.Source.left g.B.Source.has_failed c.args.second.now c.step.new.self (feature_lent c.in-Some.record) (sym (ap (option_map feature_lent) c.in-Some.is) ∙ c.record.ensures) c.in_ok-step.ensures.answers in
+    let gives = has_stepped g.B.Source.left g.B.Source.has_failed c.args.second.now c.step.new.self (feature_lent c.in-Some.record) (sym (ap (option_map feature_lent) c.in-Some.is) ∙ c.record.ensures.is) c.in_ok-step.ensures.answers in
     none_kept g.B.Source.is_read _ _ _ (gives.read.goes ∙ none)
 
 pub returns-in_err-end_b-in-None-clause-own_failure : goal.returns-in_err-end_b-in-None-clause-own_failure
 returns-in_err-end_b-in-None-clause-own_failure g c = λ none.
-    let ends = has_run_out g.B.Source.left g.B.Source.has_failed c.args.second.now c.step.new.self (sym (ap (option_map feature_lent) c.in-None.is) ∙ c.record.ensures) c.in_ok-step.ensures.answers in
+    let ends = has_run_out g.B.Source.left g.B.Source.has_failed c.args.second.now c.step.new.self (sym (ap (option_map feature_lent) c.in-None.is) ∙ c.record.ensures.is) c.in_ok-step.ensures.answers in
     none_kept g.B.Source.is_read _ _ _ ends.goes
 
 pub returns-in-Yes-clause-own_failure : goal.returns-in-Yes-clause-own_failure
 returns-in-Yes-clause-own_failure g c = λ none.
-    let gives = has_stepped g.B.Source.left g.B.Source.has_failed c.args.second.now c.step.new.self (feature_lent c.in-Some.record) (sym (ap (option_map feature_lent) c.in-Some.is) ∙ c.record.ensures) c.in_ok-step.ensures.answers in
+    let gives = has_stepped g.B.Source.left g.B.Source.has_failed c.args.second.now c.step.new.self (feature_lent c.in-Some.record) (sym (ap (option_map feature_lent) c.in-Some.is) ∙ c.record.ensures.is) c.in_ok-step.ensures.answers in
     none_kept g.B.Source.is_read _ _ _ (c.advance.ensures.passes.goes ∙ gives.read.goes ∙ none)
 
 pub returns-in-No-clause-own_failure : goal.returns-in-No-clause-own_failure
 returns-in-No-clause-own_failure g c = λ none.
-    let gives = has_stepped g.B.Source.left g.B.Source.has_failed c.args.second.now c.step.new.self (feature_lent c.in-Some.record) (sym (ap (option_map feature_lent) c.in-Some.is) ∙ c.record.ensures) c.in_ok-step.ensures.answers in
+    let gives = has_stepped g.B.Source.left g.B.Source.has_failed c.args.second.now c.step.new.self (feature_lent c.in-Some.record) (sym (ap (option_map feature_lent) c.in-Some.is) ∙ c.record.ensures.is) c.in_ok-step.ensures.answers in
     none_kept g.B.Source.is_read _ _ _ (gives.read.goes ∙ none)
 
 pub returns-in_ok-end_b-in-None-clause-own_failure : goal.returns-in_ok-end_b-in-None-clause-own_failure
 returns-in_ok-end_b-in-None-clause-own_failure g c = λ none.
-    let ends = has_run_out g.B.Source.left g.B.Source.has_failed c.args.second.now c.step.new.self (sym (ap (option_map feature_lent) c.in-None.is) ∙ c.record.ensures) c.in_ok-step.ensures.answers in
+    let ends = has_run_out g.B.Source.left g.B.Source.has_failed c.args.second.now c.step.new.self (sym (ap (option_map feature_lent) c.in-None.is) ∙ c.record.ensures.is) c.in_ok-step.ensures.answers in
     none_kept g.B.Source.is_read _ _ _ ends.goes
 
 pub returns-in_err-step-clause-reads : goal.returns-in_err-step-clause-reads
