@@ -1,23 +1,26 @@
 -- Lemmas on records of the first input that are passed one after another while nothing is held.
-use Rattle.std.proofs.Common.{◌≡◌, ℕ, ◌≤◌, Bool, true, false, cond, List, [], ◌∷◌, ◌++◌, length, Option, Some, None, Result, Ok, Err, inl, inr, refl, sym, ap, ◌∙◌, subst, bytes_eq}
+use Rattle.std.proofs.Common.{◌≡◌, ℕ, ◌<◌, ◌≤◌, ◌&&◌, Bool, true, false, cond, List, [], ◌∷◌, ◌++◌, length, Option, Some, None, Result, Ok, Err, inl, inr, refl, sym, ap, ◌∙◌, subst, arith, append-nil, bytes_eq, filter, ltb, not}
 use Rattle.std.specs.Prelude.{IsTrue, OnOk}
 use Rattle.std.specs.Result.{is_ok}
-use Rattle.std.proofs.lemmas.Bool.{false≢true}
+use Rattle.std.proofs.Math.Bool.{and-false}
+use Rattle.std.proofs.lemmas.Bool.{false≢true, le-ltb, lt-ltb}
 use Rattle.bt_lines.specs.Output.{Output}
 use Rattle.bt_lines.specs.Putting.{Grown}
 use Rattle.bt_lines.proofs.PuttingLemmas.{grown_none}
 use Rattle.bt_bed.specs.Feature.{Feature, intervals_of}
-use Rattle.bt_bed.specs.Locus.{ArePlaced}
+use Rattle.std.specs.declared.cmp.Ordering.{Ordering}
+use Rattle.std.specs.declared.cmp.Ordering.TheVariants.{Equal}
+use Rattle.bt_bed.specs.Locus.{ArePlaced, is_below_at}
 use Rattle.bt_bed.specs.Order.{Order, IsTotal}
 use Rattle.bt_bed.specs.WholeRecords.{GivesWhole, GivesWholes, chrom_in}
 use Rattle.bt_bed.specs.declared.whole_records.WholeRecords.{WholeRecords}
 use Rattle.bt_bed.proofs.WholesGiven.{gives_more}
 use Rattle.bt_sweep.specs.Deciding.{decides}
 use Rattle.bt_sweep.specs.IntersectLines.{lines_for}
-use Rattle.bt_sweep.specs.Passing.{PassesFirst, PassesFirsts}
+use Rattle.bt_sweep.specs.Passing.{PassesFirst, PassesFirsts, PassesSecond, PassesSeconds}
 use Rattle.bt_sweep.specs.Standing.{IsInOrder, Stage, StandsAt, last_after, with_a}
-use Rattle.bt_sweep.specs.StatePassing.{AreDecided, BecomeLast, DecidesUpTo, EndUpTo, IsBare, IsFront, PassesBare, PassesWhole}
-use Rattle.bt_sweep.specs.StateSteps.{NeedsHit, TakesA, WritesLast, held_with, moved_to}
+use Rattle.bt_sweep.specs.StatePassing.{AreDecided, AreUpTo, BecomeLast, DecidesUpTo, EndUpTo, IsBare, IsFront, PassesBare, PassesBefore, PassesWhole}
+use Rattle.bt_sweep.specs.StateSteps.{NeedsHit, TakesA, WritesLast, held_with, holding, is_held_by, moved_to}
 use Rattle.bt_sweep.specs.Steps.{GivesA, GivesB, WritesA}
 use Rattle.bt_sweep.specs.SweepState.{Sweeping, want_in, want_of}
 use Rattle.bt_sweep.specs.declared.hit_rule.HitRule.{HitRule}
@@ -25,7 +28,7 @@ use Rattle.bt_sweep.specs.declared.shape.Shape.{Shape}
 use Rattle.bt_sweep.specs.declared.want.Want.TheVariants.{A}
 use Rattle.bt_bed.specs.declared.taken.Taken.TheVariants.{No}
 use Rattle.bt_sweep.proofs.StateLemmas.{none_of}
-use Rattle.bt_sweep.proofs.StepLemmas.{gives_a, last_waits, no_wait, writes_a}
+use Rattle.bt_sweep.proofs.StepLemmas.{gives_a, last_waits, no_wait, takes_b, writes_a}
 
 -- ---- the front of what stands whole
 
@@ -80,6 +83,9 @@ pub front_copied : {T E : Type 0} (r : Result T E) (order : Order) (b last copy 
     → IsFront stop from a to → last.chrom ≡ chrom_in from → DecidesUpTo order b last.chrom stop → BecomeLast order b old from (Some copy) to
 front_copied r order b last copy old stop from a to e copied was front on decides =
     rw (was, ok_of r e copied) (front_passed order b last stop from a to front on decides)
+
+filter_one : (test : Feature → Bool) (b : Feature) → test b ≡ false → filter test (b ∷ []) ≡ []
+filter_one test b e = ap (λ (c : Bool). cond c (b ∷ []) []) e
 
 -- ---- the sweep
 
@@ -158,3 +164,54 @@ still_known order b old from new to known (inr passes) a e =
 pub still_asks : (order : Order) (b : Feature) (old : Sweeping) (from : WholeRecords) (new : Sweeping) (to : WholeRecords) → want_in old ≡ A → PassesWhole order b old from new to → want_in new ≡ A
 still_asks order b old from new to wants (inl same) = ap want_in same.0 ∙ wants
 still_asks order b old from new to wants (inr passes) = ap want_in passes.others ∙ wants
+
+-- ---- the second input
+
+pub none_up_to : (stop : ℕ) (records : WholeRecords) → AreUpTo stop records records
+none_up_to stop records = record { records = []; given = refl; end = tt }
+
+pub up_to_more : (stop : ℕ) (old mid new : WholeRecords) (b : Feature) → AreUpTo stop old mid → GivesWhole mid b new → b.stop ≤ stop → AreUpTo stop old new
+up_to_more stop old mid new b are gives within = record {
+  records = are.records ++ b ∷ [];
+  given = gives_more old are.records b mid new are.given gives;
+  end = end_more stop are.records b are.end within;
+}
+
+pub come_before : (old : Option Feature) (last : Feature) (from to : WholeRecords) → old ≡ Some last → last.start < last.stop → last.chrom ≡ chrom_in from → AreUpTo last.start from to → PassesBefore old from to
+come_before old last from to was some on before = inr (record { last = last; was = was; non_empty = some; on = on; before = before })
+
+module _ (order : Order) (total : IsTotal order) (sweep : Sweeping) (last : Feature) (was : sweep.last ≡ Some last) (some : last.start < last.stop) (known : IsTrue (order.knows last.chrom)) where
+  -- a record before the last one needn't be held
+  not_held : (b : Feature) → b.stop ≤ last.start → is_held_by sweep.last b ≡ false
+  not_held b within = ap (λ (l : Option Feature). is_held_by l b) was ∙ ap (λ (y : Bool). bytes_eq last.chrom b.chrom && y) (le-ltb last.start b.stop within) ∙ and-false (bytes_eq last.chrom b.chrom)
+
+  -- and doesn't decide it
+  not_decided : (b : Feature) → b.chrom ≡ last.chrom → b.start < b.stop → b.stop ≤ last.start → decides order last b ≡ false
+  not_decided b same filled within =
+      let compared : order.compare b.chrom last.chrom ≡ Equal = ap (λ (c : List ℕ). order.compare c last.chrom) same ∙ total.same last.chrom known in
+      ap (λ (o : Ordering). not (is_below_at o b.start last.stop)) compared ∙ ap not (lt-ltb b.start last.stop (omega (arith, filled, within, some)))
+
+  passes_second : (b : Feature) → b.chrom ≡ last.chrom → b.start < b.stop → b.stop ≤ last.start → PassesSecond order sweep b
+  passes_second b same filled within = λ shape rule limit stage a line out stands waits.
+      let is : last ≡ a = let e : Some last ≡ Some a = sym was ∙ last_waits order shape rule limit stage a waits sweep stands in cc in
+      let none = not_held b within in
+      let unheld : sweep ≡ holding sweep b = ap (λ (l : List Feature). record sweep { held = l }) (sym (append-nil sweep.held) ∙ ap (λ (l : List Feature). sweep.held ++ l) (sym (filter_one (is_held_by sweep.last) b none))) in
+      takes_b order shape rule limit stage a waits sweep stands (tt {0}) b line sweep out (subst (λ (f : Feature). decides order f b ≡ false) is (not_decided b same filled within))
+      (unheld, λ h. absurd (false≢true (sym none ∙ h)))
+
+  passes_seconds : (from : WholeRecords) (records : List Feature) (to : WholeRecords) → GivesWholes from records to → EndUpTo last.start records → last.chrom ≡ chrom_in from → PassesSeconds order sweep records
+  passes_seconds from [] to given end on = tt
+  passes_seconds from (b ∷ more) to given end on = (
+    passes_second b (given.1.chrom ∙ sym on) given.1.feature.non_empty end.0,
+    passes_seconds given.0 more to given.2 end.1 (on ∙ sym given.1.same_chrom),
+  )
+
+-- the sweep takes them
+pub passes_all_before : (order : Order) → IsTotal order → (sweep : Sweeping) (from to : WholeRecords) → ((a : Feature) → sweep.last ≡ Some a → IsTrue (order.knows a.chrom)) → PassesBefore sweep.last from to
+    → (seconds : List Feature) × GivesWholes from seconds to × PassesSeconds order sweep seconds
+passes_all_before order total sweep from to known (inl same) = ([], same, tt)
+passes_all_before order total sweep from to known (inr come) = (
+  come.before.records,
+  come.before.given,
+  passes_seconds order total sweep come.last come.was come.non_empty (known come.last come.was) from come.before.records to come.before.given come.before.end come.on,
+)

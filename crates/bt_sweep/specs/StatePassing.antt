@@ -1,8 +1,8 @@
 -- What passing records that stand whole does to what a sweep keeps. Callers know it by `Passing`.
-use Rattle.std.specs.Prelude.{◌≡◌, ◌⊎◌, ℕ, ◌≤◌, ⊤, true, false, List, [], ◌∷◌, ◌++◌, Option, Some}
+use Rattle.std.specs.Prelude.{◌≡◌, ◌⊎◌, ℕ, ◌<◌, ◌≤◌, ⊤, true, false, List, [], ◌∷◌, ◌++◌, Option, Some}
 use Rattle.bt_bed.specs.Feature.{Feature}
 use Rattle.bt_bed.specs.Order.{Order}
-use Rattle.bt_bed.specs.WholeRecords.{GivesWholes}
+use Rattle.bt_bed.specs.WholeRecords.{GivesWholes, chrom_in}
 use Rattle.bt_bed.specs.declared.whole_records.WholeRecords.{WholeRecords}
 use Rattle.bt_sweep.specs.Deciding.{decides}
 use Rattle.bt_sweep.specs.Standing.{last_after}
@@ -66,3 +66,21 @@ abbrev pub PassesWhole : Order → Feature → Sweeping → WholeRecords → Swe
     → Type 0
 PassesWhole order b old from new to =
     ((new ≡ old) × (to ≡ from)) ⊎ PassesBare order b old from new to
+
+-- records stood whole there and end at the position or before it
+pub record AreUpTo (stop : ℕ) (old new : WholeRecords) : Type 0 where
+  pub records : List Feature
+  pub given : GivesWholes old records new
+  pub end : EndUpTo stop records
+
+-- records stood whole there, on the chromosome of the last one, before it
+pub record ComeBefore (old : Option Feature) (from to : WholeRecords) : Type 0 where
+  pub last : Feature
+  pub was : old ≡ Some last
+  pub non_empty : last.start < last.stop
+  pub on : last.chrom ≡ chrom_in from
+  pub before : AreUpTo last.start from to
+
+-- so did some, or none
+abbrev pub PassesBefore : Option Feature → WholeRecords → WholeRecords → Type 0
+PassesBefore old from to = (to ≡ from) ⊎ ComeBefore old from to

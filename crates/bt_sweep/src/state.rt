@@ -9,7 +9,7 @@ ghost use Rattle.bt_lines.specs.Names.{told};
 ghost use Rattle.bt_sweep.specs.Deciding.{decides};
 ghost use Rattle.bt_sweep.specs.Held.{AreRising, AreWith};
 ghost use Rattle.bt_sweep.specs.IntersectLines.{lines_for};
-ghost use Rattle.bt_sweep.specs.StatePassing.{DecidesUpTo, PassesOver, PassesWhole};
+ghost use Rattle.bt_sweep.specs.StatePassing.{DecidesUpTo, PassesBefore, PassesOver, PassesWhole};
 ghost use Rattle.bt_sweep.specs.StateSteps.{Holds, KeepsLast, NeedsHit, TakesA, WritesLast, has_room_in, held_with, is_held_by, moved_to};
 ghost use Rattle.bt_sweep.specs.SweepState.{want_in};
 
@@ -17,7 +17,7 @@ use crate::held::Held;
 use crate::hit_rule::HitRule;
 use crate::shape::Shape;
 use crate::want::Want;
-use crate::whole_front::front_up_to;
+use crate::whole_front::{behind_up_to, front_up_to};
 use crate::writing::{needs_hit, put_lines};
 use bt_bed::{BedRef, ChromOrder, Rec, WholeRecords, at_line, is_same_name};
 use bt_lines::{Fault, Input, Kind, MAX_NUMBER, Out, Place, Sink, no_memory};
@@ -170,6 +170,20 @@ impl<H: Held> State<H> {
             return;
         }
         pass_over(order, &mut self.last, records, b);
+    }
+
+    // Passes records of the second input that stand whole, on the chromosome of the last record of the first, and that
+    // end at its start or before it.
+    pub(crate) fn pass_before(&self, records: &mut WholeRecords<'_>)
+        ensures { PassesBefore self.now.last records.old records.new }
+    {
+        let Some(last) = &self.last else {
+            return;
+        };
+        let a = last.as_bed();
+        if is_same_name(a.chrom, records.chrom()) {
+            *records = behind_up_to(*records, a.start);
+        }
     }
 
     // Whether the record decides the last one of the first input.

@@ -38,7 +38,7 @@ impl<'o, H: Held, O: ChromOrder> Sweep<'o, H, O> {
     ghost use Rattle.bt_sweep.specs.Steps.{EndsB, GivesA, GivesB};
     ghost use Rattle.bt_lines.specs.Output.{Output};
     ghost use Rattle.bt_bed.specs.WholeRecords.{GivesWholes};
-    ghost use Rattle.bt_sweep.specs.Passing.{PassesFirsts};
+    ghost use Rattle.bt_sweep.specs.Passing.{PassesFirsts, PassesSeconds};
     ghost use Rattle.bt_sweep.specs.StateSteps.{NeedsHit};
     ghost use Rattle.bt_sweep.specs.SweepView.{order_of, state_of};
     ghost use Rattle.bt_sweep.specs.SweepState.{want_in};
@@ -120,6 +120,17 @@ impl<'o, H: Held, O: ChromOrder> Sweep<'o, H, O> {
         ensures order { order_of self.new ≡ order_of self.old }
     {
         self.state.pass_decided(self.order, records, b);
+    }
+
+    /// Takes records of the second input that stand whole, one after another, as [`Sweep::give_b`] does with each: those
+    /// on the chromosome of the current record of the first that end at its start or before it, which hit neither that
+    /// nor a later one. Nothing is held or written. What it took was passed, which may be none.
+    pub fn pass_before(&self, records: &mut WholeRecords<'_>)
+        requires { want_in (state_of self.now) ≡ Want.B }
+        ensures { (seconds : List Feature) × GivesWholes records.old seconds records.new
+            × PassesSeconds (order_of self.now) (state_of self.now) seconds }
+    {
+        self.state.pass_before(records);
     }
 
     /// Takes the end of the first input. Nothing is written, and nothing more is asked for.

@@ -1,9 +1,10 @@
-//! Records of the first input that stand whole and end at a position or before it.
+//! Records that stand whole and end at a position or before it.
 
 ghost use Rattle.std.specs.Prelude.{◌≤◌, IfSome};
 ghost use Rattle.bt_bed.specs.Bed.{feature_lent};
+ghost use Rattle.bt_bed.specs.Feature.{Feature};
 ghost use Rattle.bt_bed.specs.WholeRecords.{GivesWhole};
-ghost use Rattle.bt_sweep.specs.StatePassing.{IsFront};
+ghost use Rattle.bt_sweep.specs.StatePassing.{AreUpTo, IsFront};
 
 use bt_bed::{BedRef, WholeRecords};
 
@@ -40,4 +41,30 @@ fn next_up_to(records: WholeRecords<'_>, stop: u64) -> Option<WholeFront<'_>>
         return None;
     }
     Some(WholeFront { last, behind })
+}
+
+// What is left of records that stand whole behind those up to the first that ends behind this position. It stands
+// apart, so that the loop has the registers to itself.
+#[inline(never)]
+pub(crate) fn behind_up_to(records: WholeRecords<'_>, stop: u64) -> WholeRecords<'_>
+    ensures { AreUpTo stop records.entry result }
+{
+    let mut behind = records;
+    while let Some(next) = behind_next(behind, stop) {
+        behind = next;
+    }
+    behind
+}
+
+// What is left behind the next record, if that ends at this position or before it.
+#[inline(always)]
+fn behind_next(records: WholeRecords<'_>, stop: u64) -> Option<WholeRecords<'_>>
+    ensures { IfSome result (λ behind. (b : Feature) × GivesWhole records.entry b behind × (b.stop ≤ stop)) }
+{
+    let mut behind = records;
+    let bounds = behind.next_bounds()?;
+    if stop < bounds.stop {
+        return None;
+    }
+    Some(behind)
 }

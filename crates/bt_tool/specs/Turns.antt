@@ -15,7 +15,7 @@ use Rattle.bt_bed.specs.declared.order.ChromOrder.{Ghosts}
 use Rattle.bt_bed.specs.declared.records.Records.{Records}
 use Rattle.bt_bed.specs.WholeRecords.{PassesEach}
 use Rattle.bt_sweep.specs.IntersectLines.{lines_for}
-use Rattle.bt_sweep.specs.Passing.{PassesFirsts}
+use Rattle.bt_sweep.specs.Passing.{PassesFirsts, PassesSeconds}
 use Rattle.bt_sweep.specs.Standing.{IsInOrder, Stage, StandsAt, with_a, with_a_ended, with_b_ended}
 use Rattle.bt_sweep.specs.Steps.{Fails, FailsToHold, FailsToWriteA, PassesLimit, TakesB, WritesA}
 use Rattle.bt_sweep.specs.Steps.{lines_with}
@@ -161,3 +161,17 @@ module _ {A B O : Type 0} {g : Ghosts O} (a_left : A → Option (List ℕ)) (a_f
   -- so were some, or none
   abbrev pub GivesFirsts : Records A O g → Sweeping → Type 0
   GivesFirsts new swept = ((new ≡ first) × (swept ≡ sweep)) ⊎ GivesSeveral new swept
+
+-- several turns of the second input
+module _ {B O : Type 0} {g : Ghosts O} (left : B → Option (List ℕ)) (failed end : B → Bool)
+    (IsRead : B → Option ℕ → B → Type 0) (order : Order) (second : Records B O g)
+    (sweep : Sweeping) where
+  -- records of the second input were taken and passed; nothing is held of them
+  pub record TakesSeveral (new : Records B O g) : Type 0 where
+    pub seconds : List Feature
+    pub passes : PassesEach left failed end IsRead second seconds new
+    pub given : PassesSeconds order sweep seconds
+
+  -- so were some, or none
+  abbrev pub TakesSeconds : Records B O g → Type 0
+  TakesSeconds new = (new ≡ second) ⊎ TakesSeveral new

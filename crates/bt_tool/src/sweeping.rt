@@ -15,13 +15,17 @@ ghost use Rattle.bt_tool.specs.Behaviour.{of_intersect};
 ghost use Rattle.bt_tool.specs.Passed.{KeepsOwnFault};
 ghost use Rattle.bt_tool.specs.SweepLoop.{FinishesBoth, ReadsRest, Sweeps, SweepsOrStops};
 ghost use Rattle.bt_tool.specs.OwnReads.{AnswersNoRead, IsOwnFailure, ReadsServe, TellsNoRead, TellsOwnReads};
-ghost use Rattle.bt_tool.specs.Turns.{GivesFirsts, TurnsFirst, TurnsSecond};
+ghost use Rattle.bt_tool.specs.Turns.{GivesFirsts, TakesSeconds, TurnsFirst, TurnsSecond};
 ghost use Rattle.bt_tool.specs.Writing.{WritesBy};
 
 use bt_bed::{ChromOrder, Records};
 use bt_lines::{Fault, Input, LineReader, Out, Sink, Source};
 use bt_sweep::{Held, HeldIndex, HitRule, Shape, Sweep, Taken, Want};
 use std::alloc::Global;
+
+// Where the second input was asked for so often for one record of the first, further records of it are likely to lie
+// before that.
+const MANY: u64 = 3;
 
 // Gives a sweep the next record of the first input, or its end.
 fn turn_first<A: Source, O: ChromOrder, H: Held, K: Sink>(
@@ -48,7 +52,7 @@ fn turn_first<A: Source, O: ChromOrder, H: Held, K: Sink>(
 }
 
 // Gives a sweep records of the first input that stand whole and have no line, since nothing is held and the record ahead
-// of the second decides them: as many as it takes so, which may be none. It is asked for where shapes need a hit.
+// of the second decides them: as many as it takes so, which may be none. It is tried where the shape needs a hit.
 fn pass_firsts<A: Source, B: Source, O: ChromOrder, H: Held>(
     needs_hit: bool,
     first: &mut Records<'_, A, O>,
@@ -101,6 +105,28 @@ fn turn_second<B: Source, O: ChromOrder, H: Held, K: Sink>(
     Ok(())
 }
 
+// Gives a sweep records of the second input that stand whole before the current record of the first: as many as it takes
+// so, which may be none. It is tried where the second input was asked for often, and nothing is held.
+fn pass_seconds<B: Source, O: ChromOrder, H: Held>(
+    asked: u64,
+    second: &mut Records<'_, B, O>,
+    sweep: &Sweep<'_, H, O>,
+)
+    requires want { want_in (state_of sweep.now) ≡ Want.B }
+    ensures { TakesSeconds B.left B.has_failed B.end_told B.is_read (order_of sweep.now) second.old
+        (state_of sweep.now) second.new }
+{
+    if asked < MANY || sweep.held().len() != 0 {
+        return;
+    }
+    let Some(mut whole) = second.whole() else {
+        return;
+    };
+    sweep.pass_before(&mut whole);
+    let passed = whole.passed();
+    second.pass(passed);
+}
+
 // Gives a sweep what it asks for, until it asks for nothing more.
 fn sweep_all<A: Source, B: Source, O: ChromOrder, H: Held, K: Sink>(
     first: &mut Records<'_, A, O>,
@@ -123,13 +149,20 @@ fn sweep_all<A: Source, B: Source, O: ChromOrder, H: Held, K: Sink>(
     ensures own_failure_second { KeepsOwnFault B.is_read (below second.old) (view_of second.new) }
 {
     let needs_hit = sweep.needs_hit();
+    // How often the second input was asked for since the first was.
+    let mut asked = 0u64;
     loop {
         match sweep.want() {
             Want::A => {
+                asked = 0;
                 pass_firsts(needs_hit, first, second, sweep);
                 turn_first(first, sweep, out)?;
             }
-            Want::B => turn_second(second, sweep, out)?,
+            Want::B => {
+                pass_seconds(asked, second, sweep);
+                asked = asked.saturating_add(1);
+                turn_second(second, sweep, out)?;
+            }
             Want::Nothing => return Ok(()),
         }
     }
