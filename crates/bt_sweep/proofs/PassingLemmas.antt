@@ -108,8 +108,8 @@ module _ (order : Order) (b : Feature) (total : IsTotal order) where
         subst (λ (e : Bool). Grown out (cond e (lines_for old.shape old.rule a (held_with old.last old.held a)) []) out) (sym bare.going) (grown_none out),
       ) in
       let same : record old { last = Some a } ≡ record mid { waits = false } =
-          ap (λ (w : Bool). record old { last = Some a; waits = w }) (no_wait old.waits old.done wants)
-          ∙ ap (λ (l : List Feature). record old { last = Some a; waits = false; held = l }) (bare.none_held ∙ sym none) in
+      ap (λ (w : Bool). record old { last = Some a; waits = w }) (no_wait old.waits old.done wants)
+      ∙ ap (λ (l : List Feature). record old { last = Some a; waits = false; held = l }) (bare.none_held ∙ sym none) in
       record {
         mid = mid;
         asks_first = wants;

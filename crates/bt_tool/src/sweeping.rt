@@ -160,7 +160,7 @@ fn sweep_all<A: Source, B: Source, O: ChromOrder, H: Held, K: Sink>(
             }
             Want::B => {
                 pass_seconds(asked, second, sweep);
-                asked = asked.saturating_add(1);
+                asked = asked.wrapping_add(1);
                 turn_second(second, sweep, out)?;
             }
             Want::Nothing => return Ok(()),
