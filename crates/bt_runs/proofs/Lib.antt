@@ -37,6 +37,7 @@ pub mod OpenLemmas
 pub mod DepthWalk
 pub mod DepthLines
 pub mod DepthSteps
+pub mod WholeDepthLemmas
 pub mod PlainDepths
 pub mod CoveredLevels
 pub mod PlainStrands

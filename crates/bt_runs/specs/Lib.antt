@@ -29,6 +29,7 @@ pub mod DepthStep
 pub mod OpenRecords
 pub mod CountSeen
 pub mod Covering
+pub mod WholeDepths
 pub mod CoveredLevels
 pub mod PlainLevels
 pub mod PlainStrands

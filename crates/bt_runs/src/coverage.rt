@@ -11,13 +11,15 @@ ghost use Rattle.bt_runs.specs.DepthStep.{bare_of, depth_walk, depths_left, leve
 ghost use Rattle.bt_runs.specs.Engine.{Feeds, KeepsHeld};
 ghost use Rattle.bt_runs.specs.OpenRecords.{none_open_at, open_with};
 ghost use Rattle.bt_runs.specs.Walk.{AreReached, IsPlaced, begun, entry_at, is_on, left_before, left_of, taking, walk_step};
+ghost use Rattle.bt_runs.specs.WholeDepths.{CountAnswers, known_past, levels_past};
 
 use crate::depth_line::put_depth;
 use crate::depths::{BegunDepth, DepthPlace, go_on, put_ended};
 use crate::engine::Engine;
 use crate::failure::Failure;
 use crate::open_records::OpenRecords;
-use bt_bed::{BedRef, Genome, Strand, is_same_name};
+use crate::whole_depths::count_whole;
+use bt_bed::{BedRef, Bounds, Genome, Strand, WholeRecords, is_same_name};
 use bt_lines::{Fault, Out, Sink};
 use std::alloc::{AllocError, Global};
 use std::marker::Model;
@@ -142,6 +144,39 @@ impl Engine for Coverage<'_> {
         }
     }
 
+    /// It takes records on the chromosome that it has reached alone.
+    fn feed_whole<K: Sink>(
+        &mut self,
+        records: &mut WholeRecords<'_>,
+        out: &mut Out<K>,
+    ) -> Result<(), Fault> {
+        let Some(first) = self.current else {
+            return Ok(());
+        };
+        let chrom = self.genome.name(first.rank);
+        if self.failure.is_some() || !is_same_name(chrom, records.chrom()) {
+            return Ok(());
+        }
+        match count_whole(
+            self.genome,
+            self.zeros,
+            self.strand,
+            first,
+            &mut self.held,
+            records,
+            out,
+        ) {
+            Ok(reached) => {
+                self.current = Some(reached);
+                Ok(())
+            }
+            Err(failure) => {
+                self.failure = Some(failure);
+                Err(failure.fault())
+            }
+        }
+    }
+
     fn finish<K: Sink>(mut self, out: &mut Out<K>) -> Result<(), Fault> {
         let count = self.genome.count();
         match self.failure {
@@ -236,24 +271,56 @@ fn count<K: Sink>(
     ensures memory { OnWant (IsToKeep (entry_at (entries genome.now) reached.rank).length strand
         (feature_lent bed.now)) result }
 {
-    let length = genome.length(reached.rank);
-    let chrom = genome.name(reached.rank);
-    let start = bed.start.max(held.at());
-    let Ok(begun) = settle(chrom, zeros, held, reached.begun, length, start, out) else {
+    let bounds = Bounds {
+        start: bed.start,
+        stop: bed.stop,
+    };
+    let begun = count_bounds(
+        genome.name(reached.rank),
+        genome.length(reached.rank),
+        zeros,
+        counts(strand, bed.strand),
+        reached.begun,
+        held,
+        bounds,
+        out,
+    )?;
+    Ok(Some(DepthPlace {
+        rank: reached.rank,
+        begun,
+    }))
+}
+
+// Takes a record of these bounds on a chromosome of this name and length. It writes the intervals that the record
+// settles there, and gives the one that isn't ended with it.
+#[inline(always)]
+pub(crate) fn count_bounds<K: Sink>(
+    chrom: &[u8],
+    length: u64,
+    zeros: bool,
+    counted: bool,
+    begun: Option<BegunDepth>,
+    held: &mut OpenRecords,
+    bounds: Bounds,
+    out: &mut Out<K>,
+) -> Result<Option<BegunDepth>, Failure>
+    ensures counts { CountAnswers chrom.now (levels_past zeros length (known_seen begun held.old) bounds)
+        (known_past zeros counted length (known_seen begun held.old) bounds)
+        result held.new out.old out.new }
+    ensures memory { OnWant ((counted ≡ true) × (bounds.start < length)) result }
+{
+    let start = bounds.start.max(held.at());
+    let Ok(begun) = settle(chrom, zeros, held, begun, length, start, out) else {
         return Err(Failure::Write);
     };
-    let counted = counts(strand, bed.strand);
-    match hold(held, counted, length, bed.stop) {
-        Ok(()) => Ok(Some(DepthPlace {
-            rank: reached.rank,
-            begun,
-        })),
+    match hold(held, counted, length, bounds.stop) {
+        Ok(()) => Ok(begun),
         Err(AllocError) => Err(Failure::Memory),
     }
 }
 
 // Whether a record of this strand is counted.
-fn counts(wanted: Option<Strand>, strand: Strand) -> bool
+pub(crate) fn counts(wanted: Option<Strand>, strand: Strand) -> bool
     ensures { result ≡ is_counted_by wanted strand }
 {
     match wanted {

@@ -49,6 +49,7 @@ mod stranded;
 #[cfg(test)]
 mod testing;
 mod waiting;
+mod whole_depths;
 mod whole_runs;
 #[cfg(test)]
 mod whole_tests;

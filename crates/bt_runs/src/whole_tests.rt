@@ -157,3 +157,12 @@ fn coverage_of_all(rt: HostRuntime) -> Result<(), Fail> {
     let single = Coverage::new(rt.alloc(), &genome, true, None);
     check_whole(&rt, rt.alloc(), several, single, "genomecov -bga")
 }
+
+#[test]
+fn coverage_of_a_strand(rt: HostRuntime) -> Result<(), Fail> {
+    let genome = genome(rt.alloc(), b"chr1\t2500\nchr2\t40\n")?;
+    let minus = Some(Strand::Minus);
+    let several = Coverage::new(rt.alloc(), &genome, false, minus);
+    let single = Coverage::new(rt.alloc(), &genome, false, minus);
+    check_whole(&rt, rt.alloc(), several, single, "genomecov -bg -strand -")
+}
