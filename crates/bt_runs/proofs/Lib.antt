@@ -33,6 +33,7 @@ pub mod LevelLemmas
 pub mod DepthLemmas
 pub mod OneDepth
 pub mod CoverageForm
+pub mod EndLemmas
 pub mod OpenLemmas
 pub mod DepthWalk
 pub mod DepthLines

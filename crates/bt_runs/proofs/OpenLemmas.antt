@@ -7,7 +7,8 @@ use Rattle.std.proofs.lemmas.List.Elements.{All-cons, All-head, All-nil, All-tai
 use Rattle.bt_bed.specs.Interval.{Span}
 use Rattle.bt_runs.specs.Depth.{covers, depth_at}
 use Rattle.bt_runs.specs.DepthStep.{still_open}
-use Rattle.bt_runs.specs.OpenRecords.{span_open, spans_open, CountsEnds, CountsFrom, IsLeastFirst, StartsBelow, ends_of}
+use Rattle.bt_runs.specs.OpenEnds.{CountsFrom, CountsSame, IsLeastFirst, StartsBelow, ends_of}
+use Rattle.bt_runs.specs.OpenRecords.{span_open, spans_open, CountsEnds}
 use Rattle.bt_runs.specs.declared.open_records.OpenSpan.{OpenSpan}
 use Rattle.std.specs.BinaryHeap.{IsUpperBound, PopsGreatest}
 use Rattle.std.specs.List.Sorted.{IsPermutation}
@@ -168,13 +169,13 @@ pub ends_permuted : (xs ys : List (Reverse ℕ)) → IsPermutation xs ys → IsP
 ends_permuted xs ys moved = IsPermutation-map (λ (e : Reverse ℕ). e.0) xs ys moved
 
 -- one more record
-pub ends_more : (ends : List ℕ) (spans : List Span) (s : Span) (new : List ℕ) → CountsEnds ends spans → IsPermutation (s.stop ∷ ends) new → CountsEnds new (spans ++ s ∷ [])
-ends_more ends spans s new counts moved test =
+pub ends_more : (ends : List ℕ) (spans : List Span) (s : Span) (new : List ℕ) → CountsEnds ends spans → CountsSame (s.stop ∷ ends) new → CountsEnds new (spans ++ s ∷ [])
+ends_more ends spans s new counts more test =
     let count : length (filter test (s.stop ∷ ends)) ≡ length (filter (λ s. test s.stop) spans) + length (filter (λ s. test s.stop) (s ∷ [])) = elim (cases_Bool (test s.stop)) [
       | inl t ↦ rw t (let rest = counts test in omega arith)
       | inr f ↦ rw f (let rest = counts test in omega arith)
     ] in
-    same_count test (s.stop ∷ ends) new moved ∙ count
+    more test ∙ count
     ∙ sym (ap length (filter-append (λ s. test s.stop) spans (s ∷ [])) ∙ length-append (filter (λ s. test s.stop) spans) (filter (λ s. test s.stop) (s ∷ [])))
 
 -- an end before the position is taken out

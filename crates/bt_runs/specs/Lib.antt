@@ -26,6 +26,7 @@ pub mod WholeGaps
 pub mod Levels
 pub mod Depth
 pub mod DepthStep
+pub mod OpenEnds
 pub mod OpenRecords
 pub mod CountSeen
 pub mod Covering

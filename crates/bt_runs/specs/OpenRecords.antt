@@ -1,11 +1,8 @@
 -- The records that are open at a position of a chromosome, and how the code keeps them.
-use Rattle.std.specs.Prelude.{◌≡◌, ℕ, ◌*◌, ◌<◌, ◌≤◌, ◌&&◌, Bool, nat_le}
-use Rattle.std.specs.Prelude.{List, [], ◌∷◌, ◌++◌, All, filter, length, map}
+use Rattle.std.specs.Prelude.{◌≡◌, ℕ, ◌*◌, ◌≤◌, Bool}
+use Rattle.std.specs.Prelude.{List, [], ◌++◌, All, filter, length, map}
 use Rattle.bt_bed.specs.Interval.{Span}
 use Rattle.bt_runs.specs.DepthStep.{opened, still_open}
-use Rattle.std.specs.BinaryHeap.{IsHeap}
-use Rattle.std.specs.Ordering.{nat_cmp}
-use Rattle.std.specs.declared.cmp.Reverse.{Reverse}
 use Rattle.bt_runs.specs.declared.open_records.OpenSpan.{OpenSpan}
 
 -- the records, in file order, of which none ends before the position
@@ -34,28 +31,10 @@ span_open s = record { start = s.start; stop = s.stop }
 abbrev pub spans_open : List OpenSpan → List Span
 spans_open spans = map span_open spans
 
--- the ends that a heap has, and that the least of them is the first
-abbrev pub ends_of : List (Reverse ℕ) → List ℕ
-ends_of ends = map (λ end. end.0) ends
-
-abbrev pub IsLeastFirst : List (Reverse ℕ) → Type 0
-IsLeastFirst ends = IsHeap (λ x y. nat_cmp y.0 x.0) ends
-
 -- of the ends as many pass a test as there are spans whose end does
 abbrev pub CountsEnds : List ℕ → List Span → Type 0
 CountsEnds ends spans =
     (test : ℕ → Bool) → length (filter test ends) ≡ length (filter (λ s. test s.stop) spans)
-
--- of the ends from a position on as many are left as there were
-abbrev pub CountsFrom : ℕ → List ℕ → List ℕ → Type 0
-CountsFrom position old left =
-    (test : ℕ → Bool) → length (filter (λ e. nat_le position e && test e) left)
-    ≡ length (filter (λ e. nat_le position e && test e) old)
-
--- the first lies below a position
-abbrev pub StartsBelow : ℕ → List ℕ → Type 0
-StartsBelow position [] = ⊥
-StartsBelow position (e ∷ es) = e < position
 
 -- what is kept at a position: spans that start there or before, of which at most half have ended,
 -- and the ends of the others

@@ -331,6 +331,7 @@ pub(crate) fn counts(wanted: Option<Strand>, strand: Strand) -> bool
 
 // Goes on to a record's start. It writes the intervals that the start settles, and gives the one that
 // isn't ended there. Past the chromosome's length nothing is open.
+#[inline(always)]
 fn settle<K: Sink>(
     chrom: &[u8],
     zeros: bool,
@@ -345,14 +346,14 @@ fn settle<K: Sink>(
     ensures known { IfOk result (λ next. known_seen next held.new ≡ settled_known zeros length (known_seen begun held.old) start) }
 {
     if length < start {
-        put_left(chrom, zeros, held, begun, length, out)?;
-        held.clear(length);
+        put_rest(chrom, zeros, held, begun, length, out)?;
         return Ok(None);
     }
     go_on(chrom, zeros, held, begun, start, out)
 }
 
 // Adds a counted record that starts below the chromosome's length, cut there.
+#[inline(always)]
 fn hold(held: &mut OpenRecords, counted: bool, length: u64, stop: u64) -> Result<(), AllocError>
     ensures held { OnOk result (held.new ≡ open_with counted length stop held.old) }
     ensures memory { OnErr result ((counted ≡ true) × (held.old.at < length)) }
@@ -360,6 +361,25 @@ fn hold(held: &mut OpenRecords, counted: bool, length: u64, stop: u64) -> Result
     if counted && held.at() < length {
         return held.push(stop.min(length));
     }
+    Ok(())
+}
+
+// Writes what is left of a chromosome, and lets go of its records.
+#[cold]
+#[inline(never)]
+fn put_rest<K: Sink>(
+    chrom: &[u8],
+    zeros: bool,
+    held: &mut OpenRecords,
+    begun: Option<BegunDepth>,
+    length: u64,
+    out: &mut Out<K>,
+) -> Result<(), Fault>
+    ensures adds { Adds out.old (depth_lines (levels_on chrom.now (levels_left zeros length (known_seen begun held.old)))) result out.new }
+    ensures none { OnOk result (held.new ≡ none_open_at length) }
+{
+    put_left(chrom, zeros, held, begun, length, out)?;
+    held.clear(length);
     Ok(())
 }
 

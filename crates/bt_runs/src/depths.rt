@@ -33,6 +33,7 @@ pub(crate) struct DepthPlace {
 
 // Goes on to a position on a chromosome, with the open records. It writes the intervals that end before
 // it, and gives the one that isn't ended there.
+#[inline(always)]
 pub(crate) fn go_on<K: Sink>(
     chrom: &[u8],
     zeros: bool,

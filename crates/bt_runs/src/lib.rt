@@ -28,6 +28,7 @@ mod coverage;
 pub mod depth_laws;
 mod depth_line;
 mod depths;
+mod end_queue;
 mod engine;
 #[cfg(test)]
 mod example;
@@ -38,6 +39,7 @@ pub mod laws;
 pub mod level_laws;
 mod merge;
 mod merge_strand;
+mod open_ends;
 mod open_records;
 pub mod plain;
 pub mod plain_depths;

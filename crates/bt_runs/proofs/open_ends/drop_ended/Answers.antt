@@ -1,8 +1,8 @@
 use Rattle.std.proofs.Common.{arith}
 use Rattle.std.specs.BinaryHeap.{heap_items}
-use Rattle.bt_runs.specs.OpenRecords.{ends_of}
+use Rattle.bt_runs.specs.OpenEnds.{ends_of}
 use Rattle.bt_runs.proofs.OpenLemmas.{popped_counts, popped_order, some_before}
-use Rattle.bt_runs.proofs.open_records.drop_ended.Goals as goal
+use Rattle.bt_runs.proofs.open_ends.drop_ended.Goals as goal
 
 pub loop-ends-preserved : goal.loop-ends-preserved
 loop-ends-preserved c =

@@ -1,6 +1,6 @@
 use Rattle.std.specs.BinaryHeap.{heap_items, heap_len}
-use Rattle.bt_runs.specs.OpenRecords.{CountsFrom, IsLeastFirst, ends_of}
-use Rattle.bt_runs.proofs.open_records.drop_ended.Given as goal
+use Rattle.bt_runs.specs.OpenEnds.{CountsFrom, IsLeastFirst, ends_of}
+use Rattle.bt_runs.proofs.open_ends.drop_ended.Given as goal
 
 -- only ends before the position were taken out so far
 abbrev pub invariant-loop-ends : goal.invariant-loop-ends

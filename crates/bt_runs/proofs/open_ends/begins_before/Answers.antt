@@ -1,7 +1,7 @@
 use Rattle.std.proofs.Common.{◌<◌, arith, refl}
 use Rattle.std.specs.BinaryHeap.{heap_items, heap_len}
 use Rattle.bt_runs.proofs.OpenLemmas.{top_before}
-use Rattle.bt_runs.proofs.open_records.begins_before.Goals as goal
+use Rattle.bt_runs.proofs.open_ends.begins_before.Goals as goal
 
 pub returns-in-Some : goal.returns-in-Some
 returns-in-Some c =
