@@ -8,6 +8,7 @@ use Rattle.bt_lines.specs.declared.fault.Kind.TheVariants.{TooFewColumns, EmptyN
 use Rattle.bt_seq.specs.Alignment.{Alignment, Fields, alignment_at, alignment_of, columns_say, fields_of, fields_say, gives_nothing, is_skipped, value_up_to, values_say}
 use Rattle.bt_seq.specs.Cigar.{length_of, operations_of, reference_length}
 use Rattle.bt_seq.specs.CigarSteps.{span_with}
+use Rattle.bt_seq.specs.ColumnNumbers.{AreValues}
 use Rattle.bt_seq.specs.Flag.{is_unmapped}
 use Rattle.bt_seq.specs.declared.operation.Operation.{Operation}
 
@@ -101,14 +102,6 @@ within_same p span length e h = grind (arith, nat_tests)
 
 within_test : (p span : ℕ) → p - 1 + span ≤ 999999999999 → nat_lt 999999999999 (p - 1 + span) ≡ false
 within_test p span h = grind (arith, nat_tests)
-
--- the values of all columns
-pub record AreValues (f : Fields) (flag p q span : ℕ) : Type 0 where
-  pub is_flag : value_up_to 65535 f.flag ≡ Some flag
-  pub named : 0 < length f.chrom
-  pub is_position : value_up_to 2147483647 f.position ≡ Some p
-  pub is_quality : value_up_to 255 f.quality ≡ Some q
-  pub is_span : Some span ≡ span_with 0 (operations_of f.cigar)
 
 module _ (f : Fields) (flag p q span : ℕ) (v : AreValues f flag p q span) where
   say_values : (s : IsSpan (operations_of f.cigar) span) → fields_say (Some f) ≡ values_say f flag p q s.length

@@ -1,4 +1,4 @@
--- Lemmas on numbers of two and of three digits.
+-- Lemmas on numbers of up to three digits.
 use Rattle.std.proofs.Common.{[], ◌∙◌, ◌∷◌, ◌≡◌, ℕ, ◌+◌, ◌-◌, ◌*◌, true, List, take, Some, refl, arith}
 use Rattle.std.specs.Char.{is_ascii_digit}
 use Rattle.std.specs.List.{list_all}
@@ -31,3 +31,10 @@ module _ (a b : ℕ) (p : is_ascii_digit a ≡ true) (q : is_ascii_digit b ≡ t
       let front : ℕ = (a - 48) * 10 + (b - 48) in
       value_of_whole text 3 (front * 10 + (c - 48)) (omega arith) (omega arith) (value_more text 2 front (omega arith) (front_value (c ∷ [])) r) (digits_more text 2 (omega arith) (front_digits (c ∷ [])) r)
       (omega (arith, digit_small a p, digit_small b q, digit_small c r))
+
+-- what a digit denotes
+pub one_denotes : (a : ℕ) → is_ascii_digit a ≡ true → Some (a - 48) ≡ value_of (a ∷ [])
+one_denotes a p =
+    let text : List ℕ = a ∷ [] in
+    let lead : a - 48 ≡ 0 * 10 + (a - 48) = omega arith in
+    value_of_whole text 1 (a - 48) (omega arith) (omega arith) (lead ∙ value_more text 0 0 (omega arith) refl p) (digits_more text 0 (omega arith) refl p) (omega (arith, digit_small a p))

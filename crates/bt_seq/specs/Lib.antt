@@ -5,6 +5,8 @@ pub mod Alignment
 pub mod AlignmentEnd
 pub mod Sam
 pub mod GoodSam
+pub mod FrontTabs
+pub mod ColumnNumbers
 pub mod AlignmentBlocks
 pub mod Between
 pub mod Room
@@ -12,6 +14,7 @@ pub mod SamBlocks
 pub mod BedLines
 pub mod LineEnds
 pub mod BamToBedState
+pub mod FedTexts
 pub mod SamKind
 pub mod MaskHow
 pub mod Sequences

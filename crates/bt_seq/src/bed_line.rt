@@ -1,13 +1,15 @@
 //! The BED line of a block of an alignment.
 
-ghost use Rattle.std.specs.Prelude.{◌≡◌, ◌+◌, ◌≤◌, ◌++◌, ◌∷◌, [], drop, length};
-ghost use Rattle.bt_lines.specs.Putting.{Puts};
+ghost use Rattle.std.specs.Prelude.{◌≡◌, ◌+◌, ◌≤◌, ◌++◌, ◌∷◌, [], drop, false, length, true};
+ghost use Rattle.bt_lines.specs.Putting.{Puts, PutsAll};
 ghost use Rattle.bt_seq.specs.BedLines.{bed_line, strand_sign, text_if};
 ghost use Rattle.bt_seq.specs.LineEnds.{bounds_text, end_sign, line_tail, marks, quality_text};
 ghost use Rattle.bt_seq.specs.Sam.{alignment_lent};
 
 use crate::sam::SamRef;
-use bt_lines::{COLUMN, Fault, Out, Sink, put_both, put_column, write_column, write_position};
+use bt_lines::{
+    COLUMN, Fault, Out, Sink, copy_piece, put_both, put_column, write_column, write_position,
+};
 
 // The room for what stands between chromosome and name: two columns and a tab.
 const BOUNDS_ROOM: usize = 2 * COLUMN + 1;
@@ -15,6 +17,12 @@ const BOUNDS_ROOM: usize = 2 * COLUMN + 1;
 // The room for what stands behind the name, but for the CIGAR: two marks of two bytes, a number of up to
 // 20 digits, the strand, two tabs, and what ends it.
 const TAIL_ROOM: usize = 28;
+
+// How long the name may be for a line that is written whole before it is put.
+const NAME_ROOM: usize = 64;
+
+// The room for what stands behind the chromosome of such a line.
+pub(crate) const LINE_ROOM: usize = NAME_ROOM + BOUNDS_ROOM + TAIL_ROOM;
 
 // Puts the line of the block from `start` up to `stop`: the chromosome, the bounds, the name, and what
 // stands after it.
@@ -32,12 +40,61 @@ pub(crate) fn put_line<K: Sink>(
     put_read(sam, with_cigar, out)
 }
 
+// Puts the line of a block, without a CIGAR, by one test of the room, if the name isn't long and there is room
+// for the line, and answers whether it did; else nothing is put. What the text holds means nothing before and after.
+#[inline(always)]
+pub(crate) fn hold_line<K: Sink>(
+    sam: &SamRef<'_>,
+    start: u64,
+    stop: u64,
+    text: &mut [u8; LINE_ROOM],
+    out: &mut Out<K>,
+) -> bool
+    ensures held { result ≡ true → PutsAll out.old (bed_line false (alignment_lent sam.now)
+        (record { start = start; stop = stop })) out.new }
+    ensures unchanged { result ≡ false → out.new ≡ out.old }
+{
+    if sam.name.len() > NAME_ROOM {
+        return false;
+    }
+    let first = write_behind(sam, start, stop, text);
+    out.hold_both(sam.chrom, &text[first..])
+}
+
+// Writes what stands behind the chromosome of a line without a CIGAR so that it ends where the text does, and
+// gives where it begins.
+#[inline(always)]
+fn write_behind(sam: &SamRef<'_>, start: u64, stop: u64, text: &mut [u8; LINE_ROOM]) -> usize
+    requires { length sam.now.name.now ≤ NAME_ROOM }
+    ensures within { result ≤ LINE_ROOM }
+    ensures written { drop result text.new ≡ bounds_text start stop
+        ++ (sam.now.name.now ++ line_tail false (alignment_lent sam.now)) }
+{
+    let quality = write_quality(sam, false, text, LINE_ROOM);
+    let marks = write_marks(sam.first, sam.last, text, quality);
+    let name = write_piece(sam.name, text, marks);
+    write_bounds(start, stop, text, name)
+}
+
+// Writes a piece up to an index, and gives where it begins.
+#[inline(always)]
+fn write_piece(piece: &[u8], text: &mut [u8], end: usize) -> usize
+    requires room { length piece.now ≤ end }
+    requires within { end ≤ length text.old }
+    ensures size { result + length piece.now ≡ end }
+    ensures written { drop result text.new ≡ piece.now ++ drop end text.old }
+{
+    let first = end - piece.len();
+    copy_piece(&mut text[first..end], piece);
+    first
+}
+
 // Puts the chromosome and the bounds of a block, with a tab between and after them.
 fn put_place<K: Sink>(chrom: &[u8], start: u64, stop: u64, out: &mut Out<K>) -> Result<(), Fault>
     ensures { Puts out.old (chrom.now ++ bounds_text start stop) result out.new }
 {
     let mut text = [0; BOUNDS_ROOM];
-    let first = write_bounds(start, stop, &mut text);
+    let first = write_bounds(start, stop, &mut text, BOUNDS_ROOM);
     put_both(chrom, &text[first..], out)
 }
 
@@ -46,7 +103,7 @@ fn put_read<K: Sink>(sam: &SamRef<'_>, with_cigar: bool, out: &mut Out<K>) -> Re
     ensures { Puts out.old (sam.now.name.now ++ line_tail with_cigar (alignment_lent sam.now)) result out.new }
 {
     let mut text = [0; TAIL_ROOM];
-    let quality = write_quality(sam, with_cigar, &mut text);
+    let quality = write_quality(sam, with_cigar, &mut text, TAIL_ROOM);
     let first = write_marks(sam.first, sam.last, &mut text, quality);
     if !with_cigar {
         return put_both(sam.name, &text[first..], out);
@@ -55,32 +112,40 @@ fn put_read<K: Sink>(sam: &SamRef<'_>, with_cigar: bool, out: &mut Out<K>) -> Re
     put_column(sam.cigar, b"\n", out)
 }
 
-// Writes the bounds so that they end where the text does, and gives where they begin.
-fn write_bounds(start: u64, stop: u64, text: &mut [u8; BOUNDS_ROOM]) -> usize
-    ensures within { result ≤ BOUNDS_ROOM }
-    ensures written { drop result text.new ≡ bounds_text start stop }
+// Writes the bounds up to an index, and gives where they begin.
+#[inline(always)]
+fn write_bounds(start: u64, stop: u64, text: &mut [u8], end: usize) -> usize
+    requires room { BOUNDS_ROOM ≤ end }
+    requires within { end ≤ length text.old }
+    ensures within { result ≤ end }
+    ensures written { drop result text.new ≡ bounds_text start stop ++ drop end text.old }
 {
-    text[BOUNDS_ROOM - 1] = b'\t';
-    let before_stop = write_position(stop, text, BOUNDS_ROOM - 1);
+    text[end - 1] = b'\t';
+    let before_stop = write_position(stop, text, end - 1);
     write_position(start, text, before_stop)
 }
 
-// Writes what stands behind the marks so that it ends where the text does, and gives where it begins.
-fn write_quality(sam: &SamRef<'_>, with_cigar: bool, text: &mut [u8; TAIL_ROOM]) -> usize
-    ensures room { 4 ≤ result }
-    ensures within { result ≤ TAIL_ROOM }
-    ensures written { drop result text.new ≡ quality_text with_cigar (alignment_lent sam.now) }
+// Writes what stands behind the marks up to an index, but for the CIGAR, and gives where it begins.
+#[inline(always)]
+fn write_quality(sam: &SamRef<'_>, with_cigar: bool, text: &mut [u8], end: usize) -> usize
+    requires room { TAIL_ROOM ≤ end }
+    requires within { end ≤ length text.old }
+    ensures low { end ≤ result + 24 }
+    ensures within { result ≤ end }
+    ensures written { drop result text.new ≡ quality_text with_cigar (alignment_lent sam.now)
+        ++ drop end text.old }
 {
-    text[TAIL_ROOM - 1] = end_sign(with_cigar);
-    text[TAIL_ROOM - 2] = strand_sign(sam.reverse);
-    text[TAIL_ROOM - 3] = b'\t';
-    write_column(sam.quality, text, TAIL_ROOM - 3)
+    text[end - 1] = end_sign(with_cigar);
+    text[end - 2] = strand_sign(sam.reverse);
+    text[end - 3] = b'\t';
+    write_column(sam.quality, text, end - 3)
 }
 
 // Writes the marks of the first and of the last segment up to an index, and gives where they begin.
-fn write_marks(first: bool, last: bool, text: &mut [u8; TAIL_ROOM], end: usize) -> usize
+fn write_marks(first: bool, last: bool, text: &mut [u8], end: usize) -> usize
     requires room { 4 ≤ end }
-    requires within { end ≤ TAIL_ROOM }
+    requires within { end ≤ length text.old }
+    ensures low { end ≤ result + 4 }
     ensures within { result ≤ end }
     ensures written { drop result text.new ≡ marks first last ++ drop end text.old }
 {
@@ -89,9 +154,9 @@ fn write_marks(first: bool, last: bool, text: &mut [u8; TAIL_ROOM], end: usize) 
 }
 
 // Writes a slash and a digit up to an index, where they are asked for.
-fn write_mark(asked: bool, digit: u8, text: &mut [u8; TAIL_ROOM], end: usize) -> usize
+fn write_mark(asked: bool, digit: u8, text: &mut [u8], end: usize) -> usize
     requires room { 2 ≤ end }
-    requires within { end ≤ TAIL_ROOM }
+    requires within { end ≤ length text.old }
     ensures low { end ≤ result + 2 }
     ensures high { result ≤ end }
     ensures written { drop result text.new ≡ text_if asked (47 ∷ digit ∷ []) ++ drop end text.old }

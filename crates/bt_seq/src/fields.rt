@@ -82,14 +82,15 @@ fn has_late(text: &[u8]) -> bool
 
 // Whether a text has two columns at least. The last tab is looked for: it is mostly nearer to its end
 // than the first is to the start.
-fn has_tab(text: &[u8]) -> bool
+pub(crate) fn has_tab(text: &[u8]) -> bool
     ensures { result ≡ nat_le 2 (length (pieces 9 text.now)) }
 {
     text.rfind_byte(b'\t').is_some()
 }
 
 // The first column of a text, and what stands after its tab, if it has one.
-fn cut_short(text: &[u8]) -> Option<(&[u8], &[u8])>
+#[inline(always)]
+pub(crate) fn cut_short(text: &[u8]) -> Option<(&[u8], &[u8])>
     ensures { IsCut text.now result }
 {
     let end = first_tab_by_lanes(text)?;

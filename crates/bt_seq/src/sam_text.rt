@@ -2,7 +2,7 @@
 
 ghost use Rattle.std.specs.Prelude.{◌≡◌, ◌≤◌, ◌∷◌, [], Some, length, take};
 ghost use Rattle.bt_lines.specs.Number.{value_of};
-ghost use Rattle.bt_seq.specs.Alignment.{alignment_of, fields_say, gives_nothing, is_skipped, value_up_to};
+ghost use Rattle.bt_seq.specs.Alignment.{alignment_of, fields_say, gives_nothing, is_skipped, up_to, value_up_to};
 ghost use Rattle.bt_seq.specs.Flag.{has_bit};
 ghost use Rattle.bt_seq.specs.Sam.{alignment_seen, fields_lent};
 
@@ -12,20 +12,20 @@ use crate::sam::SamRef;
 use bt_lines::{Kind, MAX_NUMBER, eight_digits, number};
 
 // The greatest FLAG, POS and MAPQ.
-const MAX_FLAG: u64 = 65_535;
+pub(crate) const MAX_FLAG: u64 = 65_535;
 
-const MAX_POSITION: u64 = 2_147_483_647;
+pub(crate) const MAX_POSITION: u64 = 2_147_483_647;
 
-const MAX_QUALITY: u64 = 255;
+pub(crate) const MAX_QUALITY: u64 = 255;
 
 // The bits of FLAG that are looked at.
 const UNMAPPED: u64 = 4;
 
-const REVERSE: u64 = 16;
+pub(crate) const REVERSE: u64 = 16;
 
-const FIRST: u64 = 64;
+pub(crate) const FIRST: u64 = 64;
 
-const LAST: u64 = 128;
+pub(crate) const LAST: u64 = 128;
 
 /// The alignment of a line's text (SAM specification, sections 1.3 and 1.4). There is none where the
 /// line is blank or a header line, which begins with `@`, and where the read is unmapped, has the
@@ -47,7 +47,7 @@ pub fn sam_line(text: &[u8]) -> Result<Option<SamRef<'_>>, Kind>
 }
 
 // Whether a line is blank or a header line.
-fn is_skipped(text: &[u8]) -> bool
+pub(crate) fn is_skipped(text: &[u8]) -> bool
     ensures { result ≡ is_skipped text.now }
 {
     matches!(text, [] | [b'@', ..])
@@ -63,7 +63,7 @@ fn alignment(fields: Fields<'_>) -> Result<Option<SamRef<'_>>, Kind>
     if fields.chrom.is_empty() {
         return Err(Kind::EmptyName);
     }
-    let Some(position) = number_up_to(fields.position, MAX_POSITION) else {
+    let Some(position) = position_in(fields.position) else {
         return Err(Kind::BadPosition);
     };
     let Some(quality) = number_up_to(fields.quality, MAX_QUALITY) else {
@@ -93,15 +93,27 @@ fn alignment(fields: Fields<'_>) -> Result<Option<SamRef<'_>>, Kind>
     }))
 }
 
-// The number that a text denotes. Two and three digits, as most flags and qualities have, are read without a loop.
+// The number that a text denotes. Up to three digits, as most flags and qualities have, are read without a loop.
+#[inline(always)]
 fn number_in(text: &[u8]) -> Option<u64>
     ensures { result ≡ value_of text.now }
 {
     match text {
+        [ones] => one_digit(*ones),
         [tens, ones] => two_digits(*tens, *ones),
         [hundreds, tens, ones] => three_digits(*hundreds, *tens, *ones),
         _ => long_number(text),
     }
+}
+
+// The number that a digit denotes.
+fn one_digit(ones: u8) -> Option<u64>
+    ensures { result ≡ value_of (ones ∷ []) }
+{
+    if !ones.is_ascii_digit() {
+        return None;
+    }
+    Some(u64::from(ones - b'0'))
 }
 
 // The number that two digits denote.
@@ -135,6 +147,7 @@ fn three_digits(hundreds: u8, tens: u8, ones: u8) -> Option<u64>
 }
 
 // The number that a text denotes. Of eight or nine digits, as most positions have, eight are read at once.
+#[inline(always)]
 fn long_number(text: &[u8]) -> Option<u64>
     ensures { result ≡ value_of text.now }
 {
@@ -166,23 +179,40 @@ fn first_eight(text: &[u8]) -> Option<u64>
     eight_digits(text.first_chunk::<8>()?)
 }
 
-// The number that a text denotes, where it is at most the limit.
-fn number_up_to(text: &[u8], limit: u64) -> Option<u64>
+// The number that a text denotes, where it is at most the limit. Most have up to three digits.
+#[inline(always)]
+pub(crate) fn number_up_to(text: &[u8], limit: u64) -> Option<u64>
     ensures { result ≡ value_up_to limit text.now }
 {
-    let value = number_in(text)?;
+    up_to(number_in(text), limit)
+}
+
+// The number that a text denotes, where it is a position. Most have eight or nine digits.
+#[inline(always)]
+pub(crate) fn position_in(text: &[u8]) -> Option<u64>
+    ensures { result ≡ value_up_to 2147483647 text.now }
+{
+    up_to(long_number(text), MAX_POSITION)
+}
+
+// A number, where it is at most the limit.
+#[inline(always)]
+fn up_to(number: Option<u64>, limit: u64) -> Option<u64>
+    ensures { result ≡ up_to limit number }
+{
+    let value = number?;
     if value <= limit { Some(value) } else { None }
 }
 
 // Whether the read is unmapped, has no reference name or no position, or covers no reference base.
-fn gives_nothing(flag: u64, chrom: &[u8], position: u64, span: u64) -> bool
+pub(crate) fn gives_nothing(flag: u64, chrom: &[u8], position: u64, span: u64) -> bool
     ensures { result ≡ gives_nothing flag chrom.now position span }
 {
     has_bit(flag, UNMAPPED) || matches!(chrom, b"*") || position == 0 || span == 0
 }
 
 // Whether a bit of the flag is set.
-fn has_bit(flag: u64, bit: u64) -> bool
+pub(crate) fn has_bit(flag: u64, bit: u64) -> bool
     ensures { result ≡ has_bit flag bit }
 {
     flag & bit != 0

@@ -1,8 +1,12 @@
-use Rattle.std.proofs.Common.{arith}
-use Rattle.std.proofs.lemmas.List.{drop-set, drop_all, length-set}
+use Rattle.std.proofs.Common.{◌≡◌, ◌-◌, ◌∙◌, ◌∷◌, ap, append_assoc, arith, drop}
+use Rattle.std.proofs.lemmas.List.{drop-set, length-set}
+use Rattle.std.proofs.Math.ListN.{set}
 use Rattle.bt_seq.proofs.bed_line.write_bounds.Goals as goal
 
 pub returns-clause-written : goal.returns-clause-written
 returns-clause-written c =
-    let size = length-set c.args.text.now 42 9 in
-    rw (c.write_position.ensures.written, c.write_position-before_stop.ensures.written, drop-set c.args.text.now 42 9 (omega arith), drop_all 43 c.args.text.now (omega arith))
+    let text = c.args.text.now in
+    let end = c.args.end in
+    let size = length-set text (end - 1) 9 in
+    let last : drop (end - 1) (set text (end - 1) 9) ≡ 9 ∷ drop end text = drop-set text (end - 1) 9 (omega arith) ∙ ap (λ n. 9 ∷ drop n text) (omega arith) in
+    rw (c.write_position.ensures.written, c.write_position-before_stop.ensures.written, last) (simp append_assoc)
