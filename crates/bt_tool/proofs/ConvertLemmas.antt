@@ -18,14 +18,14 @@ use Rattle.bt_bed.specs.Good.{Member, good}
 use Rattle.bt_bed.specs.LineKind.{fault_at_line}
 use Rattle.bt_bed.specs.Reading.{MemberReader}
 use Rattle.bt_seq.specs.Alignment.{Alignment, alignment_of}
-use Rattle.bt_seq.specs.BedLines.{bed_lines}
+use Rattle.bt_seq.specs.BedLines.{bed_lines, lines_if}
 use Rattle.bt_seq.specs.BamToBedState.{Converting}
 use Rattle.bt_seq.specs.GoodSam.{sam_format}
 use Rattle.bt_seq.specs.SamKind.{is_sam_kind}
 use Rattle.bt_seq.proofs.SamKindLemmas.{kinds_of_lines, wrong_kinds}
 use Rattle.bt_tool.specs.Kinds.{IsOneOf}
 use Rattle.bt_tool.specs.ConvertReport.{alignment_lines}
-use Rattle.bt_tool.specs.ConvertSteps.{LineRefused, LineUnwritten, LineWritten, lines_if, sam_reader}
+use Rattle.bt_tool.specs.ConvertSteps.{LineRefused, LineUnwritten, LineWritten, sam_reader}
 use Rattle.bt_tool.specs.Behaviour.{of_bamtobed, of_members}
 use Rattle.bt_tool.specs.Writing.{WritesAlone}
 use Rattle.bt_tool.specs.Feeding.{FeedsAll, FeedsUpTo, IsFresh}

@@ -70,3 +70,4 @@ pub mod PartOwnGenomes
 pub mod PartSuffice
 pub mod OwnFailureLemmas
 pub mod AheadLemmas
+pub mod ConvertedTexts

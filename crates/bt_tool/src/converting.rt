@@ -1,12 +1,12 @@
 //! The loop over the alignments of a SAM input: each is written as soon as its line was read.
 
-ghost use Rattle.std.specs.Prelude.{◌≡◌, None, option_map};
+ghost use Rattle.std.specs.Prelude.{◌≡◌, None, OnOk, option_map};
 ghost use Rattle.bt_lines.specs.LentLine.{line_seen};
 ghost use Rattle.bt_lines.specs.Names.{told};
 ghost use Rattle.bt_lines.specs.Output.{HoldsBlock};
 ghost use Rattle.bt_lines.specs.Reader.{HasRead, fault_kept};
 ghost use Rattle.bt_tool.specs.Behaviour.{of_bamtobed};
-ghost use Rattle.bt_tool.specs.ConvertSteps.{ConvertsAll, ConvertsLine, sam_reader};
+ghost use Rattle.bt_tool.specs.ConvertSteps.{ConvertsAll, ConvertsLine, ConvertsTexts, sam_reader};
 ghost use Rattle.bt_tool.specs.Writing.{WritesAlone};
 ghost use Rattle.bt_tool.specs.Feeding.{IsFresh};
 ghost use Rattle.bt_tool.specs.Passed.{IsOwnFault};
@@ -37,6 +37,29 @@ fn convert_line<K: Sink>(
     }
 }
 
+// Writes the alignments of those of the next lines that stand whole in what was read ahead, up to a line at fault.
+// The line that it fails at was given too.
+#[inline(always)]
+fn convert_whole<S: Source, K: Sink>(
+    lines: &mut LineReader<S>,
+    converter: &mut BamToBed,
+    out: &mut Out<K>,
+) -> Result<(), Fault>
+    requires { converter.old.fault ≡ None }
+    ensures converts { ConvertsTexts S.left S.has_failed S.end_told S.is_read converter.old lines.old out.old result
+        lines.new out.new }
+    ensures unchanged { OnOk result (converter.new ≡ converter.old) }
+{
+    if !lines.may_pass() {
+        return Ok(());
+    }
+    let mut whole = lines.whole_lines();
+    let fed = converter.feed_lines(&mut whole, out);
+    let passed = whole.passed();
+    lines.pass(passed);
+    fed
+}
+
 // Writes the alignments of all lines of a reader that has given none.
 fn convert_all<S: Source, K: Sink>(
     lines: &mut LineReader<S>,
@@ -52,10 +75,13 @@ fn convert_all<S: Source, K: Sink>(
     ensures own_failure { IsOwnFault S.is_read lines.old (fault_kept lines.new) lines.new }
 {
     let input = lines.input();
-    while let Some(line) = lines.next()? {
-        convert_line(line, input, converter, out)?;
+    loop {
+        convert_whole(lines, converter, out)?;
+        match lines.next()? {
+            Some(line) => convert_line(line, input, converter, out)?,
+            None => return Ok(()),
+        }
     }
-    Ok(())
 }
 
 /// Writes the alignments of an input as BED lines, with `split` one for each block, and with `cigar` each

@@ -1,124 +1,196 @@
-use Rattle.std.proofs.Common.{◌∙◌, ap, refl, subst, ⊎_elim}
+use Rattle.std.proofs.Common.{◌∙◌, ap, arith, refl, subst, suc, ⊎_elim}
 use Rattle.bt_lines.proofs.ReadsLemmas.{has_read_then, reads_same}
 use Rattle.bt_lines.specs.LentLine.{line_seen}
 use Rattle.bt_lines.specs.Names.{told}
 use Rattle.bt_lines.specs.declared.fault.Input.{Input}
-use Rattle.bt_lines.specs.Reader.{HasRead}
+use Rattle.bt_lines.specs.Reader.{HasRead, lines_given}
+use Rattle.bt_lines.specs.Whole.{plain_line}
 use Rattle.bt_bed.proofs.ResultLemmas.{passed_on}
 use Rattle.bt_seq.specs.BamToBedState.{Converting}
 use Rattle.bt_tool.specs.ConvertSteps.{ConvertsAll, LineRefused, sam_reader}
 use Rattle.bt_tool.specs.OwnReads.{AnswersNoRead}
+use Rattle.bt_tool.proofs.ConvertedTexts.{goes_texts}
 use Rattle.bt_tool.proofs.ConvertLemmas.{converts_all, going_line, going_start, refused_no_read, stops_at_line, stops_reading, stops_writing}
-use Rattle.bt_tool.proofs.OwnFailureLemmas.{line_told_kept, none_kept, own_then}
+use Rattle.bt_tool.proofs.OwnFailureLemmas.{line_told_kept, own_then}
 use Rattle.bt_tool.proofs.converting.convert_all.Goals as goal
 
-pub loop-line-init : goal.loop-line-init
-loop-line-init g c = record {
+pub loop-lines-init : goal.loop-lines-init
+loop-lines-init g c = record {
   going = going_start _ _ _ _ _ c.args.lines.now c.args.out.now c.requires.fresh c.requires.block;
   same = refl;
   input = c.input-input.ensures;
   read = reads_same g.S.Source.is_read c.args.lines.now c.args.lines.now refl;
 }
 
-pub convert_line-requires : goal.convert_line-requires
-convert_line-requires g c = ap (λ (m : Converting). m.fault) c.loop-line.invariant.same ∙ c.requires.going
-
-pub loop-line-smaller : goal.loop-line-smaller
-loop-line-smaller g c =
-    let gives = rw (c.in_ok-line.was, c.in-Some.is) at c.next.follows.holds-at-none in
-    gives.answers.shrinks
-
-pub loop-line-preserved : goal.loop-line-preserved
-loop-line-preserved g c =
-    let gives = rw (c.in_ok-line.was, c.in-Some.is) at c.next.follows.holds-at-none in
-    let now = c.loop-line.invariant in
+pub returns-in_err-convert_whole-clause-converts : goal.returns-in_err-convert_whole-clause-converts
+returns-in_err-convert_whole-clause-converts g c =
+    let now = c.loop-lines.invariant in
     let first = c.args.converter.now in
-    let written = c.in_ok-convert_line.ensures in
-    record {
-      going = going_line first.split first.with_cigar _ _ _ c.args.lines.now c.args.out.now c.loop-line.lines c.loop-line.out now.going c.next.follows.lender-at-none (line_seen c.in-Some.line) gives.answers
-          gives.sound c.loop-line.converter c.convert_line.new.converter (ap (λ (m : Converting). m.split) now.same) (ap (λ (m : Converting). m.with_cigar) now.same) c.convert_line.new.out written;
-      same = written.unchanged ∙ now.same;
-      input = now.input;
-      read = has_read_then g.S.Source.is_read c.args.lines.now c.loop-line.lines c.next.follows.lender-at-none now.read gives.own_failure;
-    }
+    let went = c.in_err-convert_whole.ensures.converts in
+    let ahead =
+    goes_texts g.S.Source.left g.S.Source.has_failed g.S.Source.end_told g.S.Source.is_read first.split first.with_cigar c.args.lines.now c.args.out.now c.loop-lines.converter (ap (λ (m : Converting). m.split) now.same) (ap (λ (m : Converting). m.with_cigar) now.same)
+    went.written.texts c.loop-lines.lines went.now c.loop-lines.out went.between now.going went.written.gives went.written.writes in
+    let fault = told c.in_err-convert_whole.field-0.0 in
+    passed_on (λ r. ConvertsAll g.S.Source.left g.S.Source.has_failed g.S.Source.end_told c.args.converter.now c.args.lines.now c.args.out.now r c.convert_whole.new.lines c.convert_whole.new.out) c.from_residual.result c.in_err-convert_whole.field-0.0
+    c.from_residual.ensures.1 (
+      _,
+      refl,
+      stops_writing first.split first.with_cigar _ _ _ c.args.lines.now c.args.out.now went.now went.between ahead.0 c.convert_whole.new.lines (plain_line (suc (lines_given went.now)) went.text) went.next.gives
+          went.next.sound c.loop-lines.converter (ap (λ (m : Converting). m.split) now.same) (ap (λ (m : Converting). m.with_cigar) now.same) fault c.convert_whole.new.out
+          (record { said = went.fails.said; says = went.fails.is; fails = went.fails.fails }),
+      λ input at e. e,
+    )
+
+pub returns-in_err-convert_whole-clause-reads : goal.returns-in_err-convert_whole-clause-reads
+returns-in_err-convert_whole-clause-reads g c = λ never.
+    let now = c.loop-lines.invariant in
+    let first = c.args.converter.now in
+    let went = c.in_err-convert_whole.ensures.converts in
+    let ahead =
+    goes_texts g.S.Source.left g.S.Source.has_failed g.S.Source.end_told g.S.Source.is_read first.split first.with_cigar c.args.lines.now c.args.out.now c.loop-lines.converter (ap (λ (m : Converting). m.split) now.same) (ap (λ (m : Converting). m.with_cigar) now.same)
+    went.written.texts c.loop-lines.lines went.now c.loop-lines.out went.between now.going went.written.gives went.written.writes in
+    has_read_then g.S.Source.is_read c.args.lines.now went.now c.convert_whole.new.lines (has_read_then g.S.Source.is_read c.args.lines.now c.loop-lines.lines went.now now.read ahead.1) went.next.read
 
 pub returns-in_err-line-clause-converts : goal.returns-in_err-line-clause-converts
 returns-in_err-line-clause-converts g c =
     let gives = rw c.in_err-line.was at c.next.follows.holds-at-none in
-    passed_on (λ r. ConvertsAll g.S.Source.left g.S.Source.has_failed g.S.Source.end_told c.args.converter.now c.args.lines.now c.args.out.now r c.next.follows.lender-at-none c.loop-line.out) c.from_residual.result c.in_err-line.field-0.0
-    c.from_residual.ensures.1 (
+    let now = c.loop-lines.invariant in
+    let first = c.args.converter.now in
+    let went = c.in_ok-convert_whole.ensures.converts in
+    let ahead =
+    goes_texts g.S.Source.left g.S.Source.has_failed g.S.Source.end_told g.S.Source.is_read first.split first.with_cigar c.args.lines.now c.args.out.now c.loop-lines.converter (ap (λ (m : Converting). m.split) now.same) (ap (λ (m : Converting). m.with_cigar) now.same)
+    went.texts c.loop-lines.lines c.convert_whole.new.lines c.loop-lines.out c.convert_whole.new.out now.going went.gives went.writes in
+    passed_on (λ r. ConvertsAll g.S.Source.left g.S.Source.has_failed g.S.Source.end_told c.args.converter.now c.args.lines.now c.args.out.now r c.next.follows.lender-at-none c.convert_whole.new.out) c.from_residual-in_err-line.result c.in_err-line.field-0.0
+    c.from_residual-in_err-line.ensures.1 (
       sam_reader c.next.follows.lender-at-none,
       refl,
-      stops_reading _ _ _ _ _ c.args.lines.now c.args.out.now c.loop-line.lines c.loop-line.out c.loop-line.invariant.going c.next.follows.lender-at-none (told c.in_err-line.field-0.0) gives.answers gives.sound,
+      stops_reading _ _ _ _ _ c.args.lines.now c.args.out.now c.convert_whole.new.lines c.convert_whole.new.out ahead.0 c.next.follows.lender-at-none (told c.in_err-line.field-0.0) gives.answers gives.sound,
       λ input line e. e,
     )
 
-pub returns-in_err-convert_line-clause-converts : goal.returns-in_err-convert_line-clause-converts
-returns-in_err-convert_line-clause-converts g c =
-    let gives = rw (c.in_ok-line.was, c.in-Some.is) at c.next.follows.holds-at-none in
-    let now = c.loop-line.invariant in
+pub returns-in_err-line-clause-reads : goal.returns-in_err-line-clause-reads
+returns-in_err-line-clause-reads g c =
+    let gives = rw c.in_err-line.was at c.next.follows.holds-at-none in
+    let now = c.loop-lines.invariant in
     let first = c.args.converter.now in
-    let fault = told c.in_err-convert_line.field-0.0 in
+    let went = c.in_ok-convert_whole.ensures.converts in
+    let ahead =
+    goes_texts g.S.Source.left g.S.Source.has_failed g.S.Source.end_told g.S.Source.is_read first.split first.with_cigar c.args.lines.now c.args.out.now c.loop-lines.converter (ap (λ (m : Converting). m.split) now.same) (ap (λ (m : Converting). m.with_cigar) now.same)
+    went.texts c.loop-lines.lines c.convert_whole.new.lines c.loop-lines.out c.convert_whole.new.out now.going went.gives went.writes in
+    let read = has_read_then g.S.Source.is_read c.args.lines.now c.loop-lines.lines c.convert_whole.new.lines now.read ahead.1 in
+    passed_on (λ r. AnswersNoRead r → HasRead g.S.Source.is_read c.args.lines.now c.next.follows.lender-at-none) c.from_residual-in_err-line.result c.in_err-line.field-0.0 c.from_residual-in_err-line.ensures.1
+    (λ never. has_read_then g.S.Source.is_read c.args.lines.now c.convert_whole.new.lines c.next.follows.lender-at-none read ((gives.own_failure (ahead.0.steps.going ahead.0.fed.passes.going)).read never))
+
+pub returns-in_err-line-clause-own_failure : goal.returns-in_err-line-clause-own_failure
+returns-in_err-line-clause-own_failure g c =
+    let gives = rw c.in_err-line.was at c.next.follows.holds-at-none in
+    let now = c.loop-lines.invariant in
+    let first = c.args.converter.now in
+    let went = c.in_ok-convert_whole.ensures.converts in
+    let ahead =
+    goes_texts g.S.Source.left g.S.Source.has_failed g.S.Source.end_told g.S.Source.is_read first.split first.with_cigar c.args.lines.now c.args.out.now c.loop-lines.converter (ap (λ (m : Converting). m.split) now.same) (ap (λ (m : Converting). m.with_cigar) now.same)
+    went.texts c.loop-lines.lines c.convert_whole.new.lines c.loop-lines.out c.convert_whole.new.out now.going went.gives went.writes in
+    let read = has_read_then g.S.Source.is_read c.args.lines.now c.loop-lines.lines c.convert_whole.new.lines now.read ahead.1 in
+    own_then g.S.Source.is_read c.args.lines.now c.convert_whole.new.lines _ _ read
+    (line_told_kept g.S.Source.is_read c.convert_whole.new.lines c.next.follows.lender-at-none c.in_err-line.field-0.0 gives.answers.kept (ahead.0.steps.going ahead.0.fed.passes.going) gives.own_failure)
+
+pub loop-lines-smaller : goal.loop-lines-smaller
+loop-lines-smaller g c =
+    let gives = rw (c.in_ok-line.was, c.in-Some.is) at c.next.follows.holds-at-none in
+    let now = c.loop-lines.invariant in
+    let first = c.args.converter.now in
+    let went = c.in_ok-convert_whole.ensures.converts in
+    let ahead =
+    goes_texts g.S.Source.left g.S.Source.has_failed g.S.Source.end_told g.S.Source.is_read first.split first.with_cigar c.args.lines.now c.args.out.now c.loop-lines.converter (ap (λ (m : Converting). m.split) now.same) (ap (λ (m : Converting). m.with_cigar) now.same)
+    went.texts c.loop-lines.lines c.convert_whole.new.lines c.loop-lines.out c.convert_whole.new.out now.going went.gives went.writes in
+    omega (arith, gives.answers.shrinks, ahead.2)
+
+pub loop-lines-preserved : goal.loop-lines-preserved
+loop-lines-preserved g c =
+    let gives = rw (c.in_ok-line.was, c.in-Some.is) at c.next.follows.holds-at-none in
+    let now = c.loop-lines.invariant in
+    let first = c.args.converter.now in
+    let went = c.in_ok-convert_whole.ensures.converts in
+    let ahead =
+    goes_texts g.S.Source.left g.S.Source.has_failed g.S.Source.end_told g.S.Source.is_read first.split first.with_cigar c.args.lines.now c.args.out.now c.loop-lines.converter (ap (λ (m : Converting). m.split) now.same) (ap (λ (m : Converting). m.with_cigar) now.same)
+    went.texts c.loop-lines.lines c.convert_whole.new.lines c.loop-lines.out c.convert_whole.new.out now.going went.gives went.writes in
+    let read = has_read_then g.S.Source.is_read c.args.lines.now c.loop-lines.lines c.convert_whole.new.lines now.read ahead.1 in
+    let same = c.in_ok-convert_whole.ensures.unchanged ∙ now.same in
+    let written = c.in_ok-convert_line-in-Some.ensures in
+    record {
+      going = going_line first.split first.with_cigar _ _ _ c.args.lines.now c.args.out.now c.convert_whole.new.lines c.convert_whole.new.out ahead.0 c.next.follows.lender-at-none (line_seen c.in-Some.line) gives.answers
+          gives.sound c.convert_whole.new.converter c.convert_line.new.converter (ap (λ (m : Converting). m.split) same) (ap (λ (m : Converting). m.with_cigar) same) c.convert_line.new.out written;
+      same = written.unchanged ∙ same;
+      input = now.input;
+      read = has_read_then g.S.Source.is_read c.args.lines.now c.convert_whole.new.lines c.next.follows.lender-at-none read gives.own_failure;
+    }
+
+pub returns-in_err-convert_line-in-Some-clause-converts : goal.returns-in_err-convert_line-in-Some-clause-converts
+returns-in_err-convert_line-in-Some-clause-converts g c =
+    let gives = rw (c.in_ok-line.was, c.in-Some.is) at c.next.follows.holds-at-none in
+    let now = c.loop-lines.invariant in
+    let first = c.args.converter.now in
+    let went = c.in_ok-convert_whole.ensures.converts in
+    let ahead =
+    goes_texts g.S.Source.left g.S.Source.has_failed g.S.Source.end_told g.S.Source.is_read first.split first.with_cigar c.args.lines.now c.args.out.now c.loop-lines.converter (ap (λ (m : Converting). m.split) now.same) (ap (λ (m : Converting). m.with_cigar) now.same)
+    went.texts c.loop-lines.lines c.convert_whole.new.lines c.loop-lines.out c.convert_whole.new.out now.going went.gives went.writes in
+    let same = c.in_ok-convert_whole.ensures.unchanged ∙ now.same in
+    let fault = told c.in_err-convert_line-in-Some.field-0.0 in
     let line = line_seen c.in-Some.line in
-    passed_on (λ r. ConvertsAll g.S.Source.left g.S.Source.has_failed g.S.Source.end_told c.args.converter.now c.args.lines.now c.args.out.now r c.next.follows.lender-at-none c.convert_line.new.out) c.from_residual-in_err-convert_line.result c.in_err-convert_line.field-0.0
-    c.from_residual-in_err-convert_line.ensures.1
+    passed_on (λ r. ConvertsAll g.S.Source.left g.S.Source.has_failed g.S.Source.end_told c.args.converter.now c.args.lines.now c.args.out.now r c.next.follows.lender-at-none c.convert_line.new.out) c.from_residual-in_err-convert_line-in-Some.result c.in_err-convert_line-in-Some.field-0.0
+    c.from_residual-in_err-convert_line-in-Some.ensures.1
     (⊎_elim
     (λ refused. (
       _,
       refl,
-      stops_at_line first.split first.with_cigar _ _ _ c.args.lines.now c.args.out.now c.loop-line.lines c.loop-line.out now.going c.next.follows.lender-at-none line gives.answers
-          gives.sound fault c.convert_line.new.out (subst (λ (i : Input). LineRefused i line c.loop-line.out fault c.convert_line.new.out) now.input refused),
+      stops_at_line first.split first.with_cigar _ _ _ c.args.lines.now c.args.out.now c.convert_whole.new.lines c.convert_whole.new.out ahead.0 c.next.follows.lender-at-none line gives.answers
+          gives.sound fault c.convert_line.new.out (subst (λ (i : Input). LineRefused i line c.convert_whole.new.out fault c.convert_line.new.out) now.input refused),
       λ input at e. absurd (refused_no_read _ line _ fault _ refused input at e),
     ))
     (λ unwritten. (
       _,
       refl,
-      stops_writing first.split first.with_cigar _ _ _ c.args.lines.now c.args.out.now c.loop-line.lines c.loop-line.out now.going c.next.follows.lender-at-none line gives.answers
-          gives.sound c.loop-line.converter (ap (λ (m : Converting). m.split) now.same) (ap (λ (m : Converting). m.with_cigar) now.same) fault c.convert_line.new.out unwritten,
+      stops_writing first.split first.with_cigar _ _ _ c.args.lines.now c.args.out.now c.convert_whole.new.lines c.convert_whole.new.out ahead.0 c.next.follows.lender-at-none line gives.answers
+          gives.sound c.convert_whole.new.converter (ap (λ (m : Converting). m.split) same) (ap (λ (m : Converting). m.with_cigar) same) fault c.convert_line.new.out unwritten,
       λ input at e. e,
     ))
-    c.in_err-convert_line.ensures)
+    c.in_err-convert_line-in-Some.ensures)
 
-pub returns-clause-converts : goal.returns-clause-converts
-returns-clause-converts g c =
-    let gives = rw (c.in_ok-line.was, c.in_default.is) at c.next.follows.holds-at-none in
-    let now = c.loop-line.invariant in (
+pub returns-in_err-convert_line-in-Some-clause-reads : goal.returns-in_err-convert_line-in-Some-clause-reads
+returns-in_err-convert_line-in-Some-clause-reads g c = λ never.
+    let gives = rw (c.in_ok-line.was, c.in-Some.is) at c.next.follows.holds-at-none in
+    let now = c.loop-lines.invariant in
+    let first = c.args.converter.now in
+    let went = c.in_ok-convert_whole.ensures.converts in
+    let ahead =
+    goes_texts g.S.Source.left g.S.Source.has_failed g.S.Source.end_told g.S.Source.is_read first.split first.with_cigar c.args.lines.now c.args.out.now c.loop-lines.converter (ap (λ (m : Converting). m.split) now.same) (ap (λ (m : Converting). m.with_cigar) now.same)
+    went.texts c.loop-lines.lines c.convert_whole.new.lines c.loop-lines.out c.convert_whole.new.out now.going went.gives went.writes in
+    let read = has_read_then g.S.Source.is_read c.args.lines.now c.loop-lines.lines c.convert_whole.new.lines now.read ahead.1 in
+    has_read_then g.S.Source.is_read c.args.lines.now c.convert_whole.new.lines c.next.follows.lender-at-none read gives.own_failure
+
+pub returns-in-None-clause-converts : goal.returns-in-None-clause-converts
+returns-in-None-clause-converts g c =
+    let gives = rw (c.in_ok-line.was, c.in-None.is) at c.next.follows.holds-at-none in
+    let now = c.loop-lines.invariant in
+    let first = c.args.converter.now in
+    let went = c.in_ok-convert_whole.ensures.converts in
+    let ahead =
+    goes_texts g.S.Source.left g.S.Source.has_failed g.S.Source.end_told g.S.Source.is_read first.split first.with_cigar c.args.lines.now c.args.out.now c.loop-lines.converter (ap (λ (m : Converting). m.split) now.same) (ap (λ (m : Converting). m.with_cigar) now.same)
+    went.texts c.loop-lines.lines c.convert_whole.new.lines c.loop-lines.out c.convert_whole.new.out now.going went.gives went.writes in (
       sam_reader c.next.follows.lender-at-none,
       refl,
-      converts_all _ _ _ _ _ c.args.lines.now c.args.out.now c.loop-line.lines c.loop-line.out now.going c.next.follows.lender-at-none gives.answers gives.sound,
+      converts_all _ _ _ _ _ c.args.lines.now c.args.out.now c.convert_whole.new.lines c.convert_whole.new.out ahead.0 c.next.follows.lender-at-none gives.answers gives.sound,
       λ input line e. e,
     )
 
-pub returns-in_err-line-clause-own_failure : goal.returns-in_err-line-clause-own_failure
-returns-in_err-line-clause-own_failure g c =
-    let gives = rw c.in_err-line.was at c.next.follows.holds-at-none in
-    let now = c.loop-line.invariant.going in
-    own_then g.S.Source.is_read c.args.lines.now c.loop-line.lines _ _ c.loop-line.invariant.read
-    (line_told_kept g.S.Source.is_read c.loop-line.lines c.next.follows.lender-at-none c.in_err-line.field-0.0 gives.answers.kept (now.steps.going now.fed.passes.going) gives.own_failure)
-
-pub returns-in_err-convert_line-clause-own_failure : goal.returns-in_err-convert_line-clause-own_failure
-returns-in_err-convert_line-clause-own_failure g c =
-    let gives = rw (c.in_ok-line.was, c.in-Some.is) at c.next.follows.holds-at-none in
-    none_kept g.S.Source.is_read _ _ _ gives.answers.goes
-
-pub returns-clause-own_failure : goal.returns-clause-own_failure
-returns-clause-own_failure g c =
-    let gives = rw (c.in_ok-line.was, c.in_default.is) at c.next.follows.holds-at-none in
-    none_kept g.S.Source.is_read _ _ _ gives.answers.goes
-
-pub returns-in_err-line-clause-reads : goal.returns-in_err-line-clause-reads
-returns-in_err-line-clause-reads g c =
-    let gives = rw c.in_err-line.was at c.next.follows.holds-at-none in
-    let now = c.loop-line.invariant.going in
-    passed_on (λ r. AnswersNoRead r → HasRead g.S.Source.is_read c.args.lines.now c.next.follows.lender-at-none) c.from_residual.result c.in_err-line.field-0.0 c.from_residual.ensures.1
-    (λ never. has_read_then g.S.Source.is_read c.args.lines.now c.loop-line.lines c.next.follows.lender-at-none c.loop-line.invariant.read ((gives.own_failure (now.steps.going now.fed.passes.going)).read never))
-
-pub returns-in_err-convert_line-clause-reads : goal.returns-in_err-convert_line-clause-reads
-returns-in_err-convert_line-clause-reads g c = λ never.
-    let gives = rw (c.in_ok-line.was, c.in-Some.is) at c.next.follows.holds-at-none in
-    has_read_then g.S.Source.is_read c.args.lines.now c.loop-line.lines c.next.follows.lender-at-none c.loop-line.invariant.read gives.own_failure
-
-pub returns-clause-reads : goal.returns-clause-reads
-returns-clause-reads g c = λ never.
-    let gives = rw (c.in_ok-line.was, c.in_default.is) at c.next.follows.holds-at-none in
-    has_read_then g.S.Source.is_read c.args.lines.now c.loop-line.lines c.next.follows.lender-at-none c.loop-line.invariant.read gives.own_failure
+pub returns-in-None-clause-reads : goal.returns-in-None-clause-reads
+returns-in-None-clause-reads g c = λ never.
+    let gives = rw (c.in_ok-line.was, c.in-None.is) at c.next.follows.holds-at-none in
+    let now = c.loop-lines.invariant in
+    let first = c.args.converter.now in
+    let went = c.in_ok-convert_whole.ensures.converts in
+    let ahead =
+    goes_texts g.S.Source.left g.S.Source.has_failed g.S.Source.end_told g.S.Source.is_read first.split first.with_cigar c.args.lines.now c.args.out.now c.loop-lines.converter (ap (λ (m : Converting). m.split) now.same) (ap (λ (m : Converting). m.with_cigar) now.same)
+    went.texts c.loop-lines.lines c.convert_whole.new.lines c.loop-lines.out c.convert_whole.new.out now.going went.gives went.writes in
+    let read = has_read_then g.S.Source.is_read c.args.lines.now c.loop-lines.lines c.convert_whole.new.lines now.read ahead.1 in
+    has_read_then g.S.Source.is_read c.args.lines.now c.convert_whole.new.lines c.next.follows.lender-at-none read gives.own_failure
