@@ -30,7 +30,7 @@ pub(crate) struct Cursor<S, Q> {
 impl<S: Source, Q: Sorted + Drop> Cursor<S, Q> {
     ghost use Rattle.std.specs.Prelude.{◌≡◌, ℕ, List, None, Some, false, true, IfSome, IsSome, option_map};
     ghost use Rattle.bt_lines.specs.Names.{told};
-    ghost use Rattle.bt_lines.specs.Reader.{fault_kept as line_fault, held};
+    ghost use Rattle.bt_lines.specs.Reader.{fault_kept as line_fault, held, lines_given};
     ghost use Rattle.bt_lines.specs.Whole.{ArePassed as AreLinesPassed, GivesPlains};
     ghost use Rattle.bt_bed.specs.WholeInside.{LendsFrom, StartsAt};
     ghost use Rattle.bt_bed.specs.Bed.{feature_lent};
@@ -95,6 +95,14 @@ impl<S: Source, Q: Sorted + Drop> Cursor<S, Q> {
     {
         self.reader.pass(passed.lines);
         self.neighbours.pass(passed.start);
+    }
+
+    // How many lines were read.
+    #[inline(always)]
+    pub(crate) fn lines(&self) -> u64
+        ensures { result ≡ lines_given self.now.reader }
+    {
+        self.reader.lines()
     }
 
     // Reads on to the next record, if none is ahead and there is one.

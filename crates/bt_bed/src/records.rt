@@ -29,7 +29,7 @@ impl<'o, S: Source, O: ChromOrder> Records<'o, S, O> {
     ghost use Rattle.std.specs.Borrow.{sem};
     ghost use Rattle.std.specs.Io.BufRead.{Rests};
     ghost use mir.Syntax.{named};
-    ghost use Rattle.bt_lines.specs.Reader.{fault_kept as line_fault, input_of, lines_left};
+    ghost use Rattle.bt_lines.specs.Reader.{fault_kept as line_fault, input_of, lines_given, lines_left};
     ghost use Rattle.bt_bed.specs.contracts.records.Records.{the_row};
     ghost use Rattle.bt_bed.specs.Bed.{feature_lent};
     ghost use Rattle.bt_bed.specs.Feature.{Feature};
@@ -107,6 +107,14 @@ impl<'o, S: Source, O: ChromOrder> Records<'o, S, O> {
         ensures { line_ahead self.now ≡ Some result }
     {
         self.cursor.line()
+    }
+
+    /// How many lines were read, that of a record ahead too.
+    #[inline(always)]
+    pub fn lines(&self) -> u64
+        ensures { result ≡ lines_given (below self.now) }
+    {
+        self.cursor.lines()
     }
 
     /// Gives back the reader of lines.

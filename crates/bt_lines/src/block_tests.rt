@@ -399,7 +399,9 @@ fn whole_lines_are_those_with_a_line_feed_alone(rt: HostRuntime) -> Result<(), F
     let is_second = matches!(reader.next()?, Some(line) if line.text == b"bc".as_slice());
     let ahead = reader.whole_lines();
     let is_cut = ahead.rest() == b"d\r\n".as_slice() && ahead.text().is_none();
+    let given = reader.lines();
     let _ = reader.into_source();
     assert!(rt; is_first && is_ahead && none_passed && is_second && is_cut);
+    assert_eq!(rt; given, 2);
     Ok(())
 }

@@ -178,6 +178,14 @@ impl<S: Source> LineReader<S> {
         self.state = State::Reading;
     }
 
+    /// How many lines were given.
+    #[inline(always)]
+    pub fn lines(&self) -> u64
+        ensures { result ≡ lines_given self.now }
+    {
+        self.lines
+    }
+
     /// The input that the reader stands for.
     pub fn input(&self) -> Input
         ensures { result ≡ input_of self.now }

@@ -53,12 +53,14 @@ fn records_are_passed_up_to_a_line_with_a_carriage_return(rt: HostRuntime) -> Re
     let genome = Genome::read(alloc, &mut lengths)?;
     let mut records = behind_first(alloc, LINES, &genome)?;
     let are_passed = passes_two(&mut records);
+    let lines = records.lines();
     let next = match records.peek()? {
         Some(bed) => (bed.start, bed.stop),
         None => (0, 0),
     };
+    let lines_ahead = records.lines();
     let _ = records.into_reader().into_source();
     assert!(rt; are_passed);
-    assert_eq!(rt; next, (2, 9));
+    assert_eq!(rt; (lines, next, lines_ahead), (3, (2, 9), 4));
     Ok(())
 }
