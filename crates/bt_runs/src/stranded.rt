@@ -11,7 +11,7 @@ ghost use Rattle.bt_runs.specs.Waiting.{left_runs, passed_runs, placed_runs, wai
 
 use crate::engine::Engine;
 use crate::failure::Failure;
-use crate::waiting::{Waiting, WaitingRuns};
+use crate::waiting::WaitingRuns;
 use bt_bed::{BedRef, is_same_name, put_interval};
 use bt_lines::{Fault, Out, Sink};
 use std::alloc::{AllocError, Global};
@@ -61,6 +61,7 @@ impl Stranded {
     }
 
     // Takes one more record.
+    #[inline(always)]
     fn take<K: Sink>(&mut self, bed: &BedRef<'_>, out: &mut Out<K>) -> Result<(), Failure>
         ensures { TakesNext self.old (feature_lent bed.now) out.old result self.new out.new }
     {
@@ -95,6 +96,7 @@ impl Engine for Stranded {
 
     ghost quiet = { is_quiet };
 
+    #[inline(always)]
     fn feed<K: Sink>(&mut self, bed: &BedRef<'_>, out: &mut Out<K>) -> Result<(), Fault>
         ensures feeds { Feeds may_take stands_after kept_fault settled_lines self.old
             (feature_lent bed.now) out.old is_quiet result self.new out.new }
@@ -152,6 +154,7 @@ fn put_passed<K: Sink>(
 }
 
 // Adds a run with the record, where none is kept of another chromosome.
+#[inline(always)]
 fn open(bed: &BedRef<'_>, chrom: &mut Vec<u8>, runs: &mut WaitingRuns) -> Result<(), AllocError>
     ensures { OnOk result ((chrom.new.items ≡ bed.now.chrom.now)
         × (runs.new ≡ runs.old ++ waiting_from (feature_lent bed.now) ∷ [])) }
@@ -160,9 +163,5 @@ fn open(bed: &BedRef<'_>, chrom: &mut Vec<u8>, runs: &mut WaitingRuns) -> Result
         chrom.clear();
         chrom.extend_from_slice(bed.chrom)?;
     }
-    runs.push(Waiting {
-        strand: bed.strand,
-        start: bed.start,
-        stop: bed.stop,
-    })
+    runs.push(bed.strand, bed.start, bed.stop)
 }

@@ -109,9 +109,15 @@ impl WaitingRuns {
     }
 
     // Adds a run after the others.
-    pub(crate) fn push(&mut self, run: Waiting) -> Result<(), AllocError>
-        ensures { OnOk result (self.new ≡ self.old ++ run ∷ []) }
+    pub(crate) fn push(&mut self, strand: Strand, start: u64, stop: u64) -> Result<(), AllocError>
+        ensures { OnOk result (self.new ≡ self.old
+            ++ record { strand = strand; start = start; stop = stop } ∷ []) }
     {
+        let run = Waiting {
+            strand,
+            start,
+            stop,
+        };
         let place = self.runs.len();
         self.runs.push_back(run)?;
         match run.strand {
