@@ -84,8 +84,8 @@ impl Mask {
         self.state.take_line(line, out)
     }
 
-    /// Whether it is worth asking [`Mask::pass_lines`]: a sequence has begun, no record is held, and the record ahead
-    /// starts some lines further on. So nothing is tried where records reach into most lines.
+    /// Whether it is worth asking [`Mask::pass_lines`], where no record is held: a sequence has begun, and the record
+    /// ahead starts some lines further on. So nothing is tried where records reach into most lines.
     #[inline(always)]
     pub fn may_pass(&self) -> bool {
         self.state.may_pass()

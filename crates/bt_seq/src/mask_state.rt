@@ -17,14 +17,14 @@ use crate::mask_want::MaskWant;
 use crate::matching::{Matching, Owner};
 use crate::passing::Passing;
 use crate::put_text::{hold_passed, hold_text, put_text};
-use crate::window::{LIMIT, Window, up_to_limit};
+use crate::window::{LIMIT, Window};
 use bt_bed::{BedRef, Taken, at_line};
 use bt_lines::{Fault, Input, Kind, Line, LineEnd, Out, Place, Sink, WholeLines, no_memory};
 use std::alloc::Global;
 use std::marker::Model;
 
 // Of how many bases the lines are at least that are tried to be passed: of about three lines.
-const FEWEST: usize = 200;
+const FEWEST: u64 = 200;
 
 // The line that waits stands in a buffer, which is used again.
 #[derive(Drop)]
@@ -231,12 +231,11 @@ impl MaskState {
         true
     }
 
-    // Whether a sequence has begun, nothing is held, and a few lines more are known to be decided.
+    // Whether a sequence has begun, and a few lines more are known to be decided.
     #[inline(always)]
     pub(crate) fn may_pass(&self) -> bool {
-        self.matching.is_named()
-            && self.window.is_empty()
-            && up_to_limit(self.window.bases(), FEWEST) <= self.known_to()
+        (self.bed_ended || FEWEST <= self.decided_to.saturating_sub(self.window.bases()))
+            && self.matching.is_named()
     }
 
     // Passes those of the next lines that are known beforehand to be written as they stand, for which the

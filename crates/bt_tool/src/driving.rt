@@ -18,10 +18,14 @@ ghost use Rattle.bt_tool.specs.Ahead.{FeedsAhead};
 ghost use Rattle.bt_tool.specs.Passed.{KeepsOwnFault};
 ghost use Rattle.bt_tool.specs.OwnReads.{AnswersNoRead, IsOwnFailure, ReadsServe, TellsNoRead, TellsOwnReads};
 
+use crate::pace::Pace;
 use bt_bed::{ChromOrder, Records};
 use bt_lines::{Fault, Input, LineReader, Out, Sink, Source};
 use bt_runs::Engine;
 use std::alloc::Global;
+
+// How many records that stand whole are worth the question.
+const ENOUGH: u64 = 2;
 
 // Feeds an engine that has taken no record with all records of a reader.
 fn feed_all<S: Source, O: ChromOrder, E: Engine, K: Sink>(
@@ -43,8 +47,9 @@ fn feed_all<S: Source, O: ChromOrder, E: Engine, K: Sink>(
     ensures reads { AnswersNoRead result → HasRead S.is_read (below records.old) (below records.new) }
     ensures own_failure { KeepsOwnFault S.is_read (below records.old) (view_of records.new) }
 {
+    let mut pace = Pace::new(ENOUGH);
     loop {
-        feed_whole(records, engine, out)?;
+        feed_whole(&mut pace, records, engine, out)?;
         match records.peek()? {
             Some(record) => engine.feed(&record, out)?,
             None => return Ok(()),
@@ -53,9 +58,10 @@ fn feed_all<S: Source, O: ChromOrder, E: Engine, K: Sink>(
     }
 }
 
-// Feeds an engine with records that stand whole in what was read ahead, if it takes them so. The one that it fails at
-// was passed too.
+// Feeds an engine with records that stand whole in what was read ahead, if it takes them so, where it is time to ask
+// for them. The one that it fails at was passed too.
 fn feed_whole<S: Source, O: ChromOrder, E: Engine, K: Sink>(
+    pace: &mut Pace,
     records: &mut Records<'_, S, O>,
     engine: &mut E,
     out: &mut Out<K>,
@@ -63,12 +69,18 @@ fn feed_whole<S: Source, O: ChromOrder, E: Engine, K: Sink>(
     ensures { FeedsAhead S.left S.has_failed S.end_told S.is_read E.takes E.stands E.fault E.settled E.quiet
         records.old engine.old out.old result records.new engine.new out.new }
 {
+    let before = records.lines();
+    if !pace.is_due(before) {
+        return Ok(());
+    }
     let Some(mut whole) = records.whole() else {
+        pace.note(before, before);
         return Ok(());
     };
     let fed = engine.feed_whole(&mut whole, out);
     let passed = whole.passed();
     records.pass(passed);
+    pace.note(before, records.lines());
     fed
 }
 

@@ -13,10 +13,14 @@ ghost use Rattle.bt_tool.specs.Passed.{IsOwnFault, KeepsOwnFault};
 ghost use Rattle.bt_tool.specs.OwnReads.{AnswersNoRead, IsOwnFailure, ReadsServe, TellsNoRead, TellsOwnReads};
 ghost use Rattle.bt_tool.specs.Writing.{WritesBy};
 
+use crate::pace::Pace;
 use bt_bed::Blocks;
 use bt_lines::{Fault, Input, LineEnd, LineReader, Out, Sink, Source};
 use bt_seq::{Mask, MaskHow, MaskWant, Taken};
 use std::alloc::Global;
+
+// How many lines that are passed at once are worth the question.
+const ENOUGH: u64 = 5;
 
 // Gives an engine the next line, or their end.
 fn turn_line<A: Source, K: Sink>(
@@ -38,31 +42,48 @@ fn turn_line<A: Source, K: Sink>(
     }
 }
 
-// Whether the last line was one of bases that ended with a line feed alone, and no header follows. The next ones
-// mostly end as that one does.
-fn stands_among_bases<A: Source>(lines: &LineReader<A>) -> bool {
+// Whether the last line is a header.
+fn is_at_header<A: Source>(lines: &LineReader<A>) -> bool {
+    match lines.line() {
+        Some(line) => line.text.starts_with(b">"),
+        None => false,
+    }
+}
+
+// Whether the last line ended with a line feed alone, and no header follows. The next ones mostly end as that one
+// does.
+fn stands_before_bases<A: Source>(lines: &LineReader<A>) -> bool {
     let Some(line) = lines.line() else {
         return false;
     };
-    matches!(line.ending, LineEnd::Lf)
-        && !line.text.starts_with(b">")
-        && !lines.whole_lines().rest().starts_with(b">")
+    matches!(line.ending, LineEnd::Lf) && !lines.whole_lines().rest().starts_with(b">")
 }
 
 // Gives an engine those of the next lines that it knows beforehand to be written as they stand. It is tried where
-// some are likely to be.
-fn pass_lines<A: Source, K: Sink>(lines: &mut LineReader<A>, mask: &mut Mask, out: &mut Out<K>)
+// some are likely to be, so not right behind a header or a record, and where it is time to.
+fn pass_lines<A: Source, K: Sink>(
+    pace: &mut Pace,
+    lines: &mut LineReader<A>,
+    mask: &mut Mask,
+    out: &mut Out<K>,
+)
     requires asked { mask.old.want ≡ MaskWant.Line }
     requires going { line_fault lines.old ≡ None }
     ensures passes { (texts : List (List ℕ)) × GivesTexts A.left A.has_failed A.end_told A.is_read texts
         lines.old mask.old out.old lines.new mask.new out.new }
     ensures asks { mask.new.want ≡ MaskWant.Line }
 {
-    if !mask.may_pass() || !stands_among_bases(lines) {
+    let before = lines.lines();
+    if !pace.is_due(before) || mask.kept_len() > 0 || is_at_header(lines) {
+        return;
+    }
+    if !mask.may_pass() || !stands_before_bases(lines) {
+        pace.note(before, before);
         return;
     }
     let passed = mask.pass_lines(lines.whole_lines(), out).passed();
     lines.pass(passed);
+    pace.note(before, lines.lines());
 }
 
 // The line of the next record, if there is one.
@@ -122,10 +143,11 @@ fn mask_all<A: Source, B: Source, K: Sink>(
     ensures own_failure { IsOwnFault A.is_read lines.old (line_fault lines.new) lines.new }
     ensures own_failure_second { KeepsOwnFault B.is_read (below records.old) (view_of records.new) }
 {
+    let mut pace = Pace::new(ENOUGH);
     loop {
         match mask.want() {
             MaskWant::Line => {
-                pass_lines(lines, mask, out);
+                pass_lines(&mut pace, lines, mask, out);
                 turn_line(lines, mask, out)?;
             }
             MaskWant::Bed => turn_bed(records, mask, out)?,

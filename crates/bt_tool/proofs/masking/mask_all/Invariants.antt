@@ -7,12 +7,12 @@ use Rattle.bt_tool.proofs.MaskTurnLemmas.{left_to_ask}
 use Rattle.bt_tool.proofs.masking.mask_all.Given as goal
 
 -- the lines and the records so far were given
-abbrev pub invariant-loop-lines : goal.invariant-loop-lines
-invariant-loop-lines g l =
+abbrev pub invariant-loop-pace : goal.invariant-loop-pace
+invariant-loop-pace g l =
     (reached : Reached) × Masks g.A.Source.left g.A.Source.has_failed g.A.Source.end_told g.B.Source.left g.B.Source.has_failed g.B.Source.end_told l.initial.mask.how l.initial.mask.full
     (line_members l.initial.mask.full (record { names = []; bases = 0 }) l.initial.lines) (view_of l.initial.records) l.initial.out
     (line_members l.initial.mask.full reached l.lines) (view_of l.records) l.mask l.out
     × HasRead g.A.Source.is_read l.initial.lines l.lines × HasRead g.B.Source.is_read (below l.initial.records) (below l.records)
 
-abbrev pub decreases-loop-lines : goal.decreases-loop-lines
-decreases-loop-lines g l = left_to_ask l.lines (view_of l.records) l.mask
+abbrev pub decreases-loop-pace : goal.decreases-loop-pace
+decreases-loop-pace g l = left_to_ask l.lines (view_of l.records) l.mask

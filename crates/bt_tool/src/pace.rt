@@ -1,0 +1,53 @@
+//! How often a reader is asked for several records or lines at once.
+
+// Once so many lines are let pass between two questions, no more are.
+const MOST: u64 = 64;
+
+// Asking costs something where it gives few: at lines that end with a carriage return, between comments, where
+// chromosomes or sequences are short. So the more questions gave few, one after another, the more lines pass
+// before the next one, and one that gave enough is followed by another at once. Whether it is asked changes
+// nothing of what a run gives.
+#[derive(Clone, Copy, Debug)]
+pub(crate) struct Pace {
+    // How many lines are enough, to be worth a question.
+    enough: u64,
+    // Behind how many lines of the input it is asked again.
+    from: u64,
+    // How many lines passed, or are to pass, since the last question.
+    gap: u64,
+}
+
+impl Pace {
+    // Asks at the first line. A question is worth it that gives so many.
+    pub(crate) fn new(enough: u64) -> Pace {
+        Pace {
+            enough,
+            from: 0,
+            gap: 0,
+        }
+    }
+
+    // Whether to ask, behind so many lines.
+    #[inline(always)]
+    pub(crate) fn is_due(&self, lines: u64) -> bool {
+        self.from <= lines
+    }
+
+    // Keeps what a question gave: it was asked behind so many lines, and stands behind so many now. The gap grows by
+    // a quarter, and behind the most it shrinks again: doubled, it would meet what comes back every eighth line at
+    // the same place each time.
+    #[inline(always)]
+    pub(crate) fn note(&mut self, before: u64, lines: u64) {
+        if self.enough <= lines.saturating_sub(before) {
+            self.gap = 0;
+        } else if self.gap < MOST {
+            self.gap += self.gap / 4 + 1;
+        } else {
+            self.gap -= 1;
+        }
+        self.from = lines.saturating_add(self.gap);
+    }
+}
+
+#[cfg(test)]
+mod tests;
