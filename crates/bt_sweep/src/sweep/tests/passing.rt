@@ -2,6 +2,7 @@
 
 use super::*;
 use bt_bed::Records;
+use bt_lines::Source;
 
 // A reader that has passed the first two records of a text, which comes in one piece.
 fn behind_two<'o>(
@@ -20,15 +21,15 @@ fn behind_two<'o>(
 }
 
 // The bounds of the record that comes next, or none.
-fn next_bounds(
-    records: &mut Records<'_, ScriptSource<'_>, Genome>,
+fn next_bounds<S: Source>(
+    records: &mut Records<'_, S, Genome>,
 ) -> Result<Option<(u64, u64)>, Fault> {
     Ok(records.peek()?.map(|bed| (bed.start, bed.stop)))
 }
 
 // Passes the records of the first input that the line's record decides, if the first input is asked for.
-fn pass_decided(
-    records: &mut Records<'_, ScriptSource<'_>, Genome>,
+fn pass_decided<S: Source>(
+    records: &mut Records<'_, S, Genome>,
     sweep: &mut Sweep<'_, HeldList, Genome>,
     line: &[u8],
 ) {
@@ -52,8 +53,8 @@ fn pass_decided(
 }
 
 // Passes the records of the second input before the current one of the first, if the second input is asked for.
-fn pass_before(
-    records: &mut Records<'_, ScriptSource<'_>, Genome>,
+fn pass_before<S: Source>(
+    records: &mut Records<'_, S, Genome>,
     sweep: &Sweep<'_, HeldList, Genome>,
 ) {
     let Some(mut whole) = records.whole() else {
@@ -95,11 +96,10 @@ const DECIDED: [Decided; 7] = [
 ];
 
 // Whether these of the first input are passed, without a byte being written.
-fn is_decided(alloc: Global, case: &Decided) -> Result<bool, Fail> {
+fn is_decided(alloc: Global, genome: &Genome, case: &Decided) -> Result<bool, Fail> {
     let (shape, line, left) = *case;
-    let genome = read_genome(alloc)?;
-    let mut records = behind_two(alloc, RECORDS, &genome)?;
-    let mut sweep = any_overlap(alloc, shape, &genome);
+    let mut records = behind_two(alloc, RECORDS, genome)?;
+    let mut sweep = any_overlap(alloc, shape, genome);
     let mut out = Out::new(ScriptSink::new(alloc, 100, None));
     let _ = first_that_goes_otherwise(&mut sweep, &FIRST_TWO, &mut out);
     pass_decided(&mut records, &mut sweep, line);
@@ -110,8 +110,9 @@ fn is_decided(alloc: Global, case: &Decided) -> Result<bool, Fail> {
 
 #[test]
 fn decided_records_are_passed(rt: HostRuntime) -> Result<(), Fail> {
+    let genome = read_genome(rt.alloc())?;
     for case in &DECIDED {
-        assert!(rt; is_decided(rt.alloc(), case)?);
+        assert!(rt; is_decided(rt.alloc(), &genome, case)?);
     }
     Ok(())
 }
@@ -127,11 +128,10 @@ const BEFORE: [Before; 4] = [
 ];
 
 // Whether these of the second input are passed, and nothing is held.
-fn is_before(alloc: Global, case: &Before) -> Result<bool, Fail> {
+fn is_before(alloc: Global, genome: &Genome, case: &Before) -> Result<bool, Fail> {
     let (first, left) = *case;
-    let genome = read_genome(alloc)?;
-    let mut records = behind_two(alloc, RECORDS, &genome)?;
-    let mut sweep = any_overlap(alloc, Shape::Cut, &genome);
+    let mut records = behind_two(alloc, RECORDS, genome)?;
+    let mut sweep = any_overlap(alloc, Shape::Cut, genome);
     let mut out = Out::new(ScriptSink::new(alloc, 100, None));
     let _ = give_first(&mut sweep, first, &mut out);
     pass_before(&mut records, &sweep);
@@ -142,8 +142,9 @@ fn is_before(alloc: Global, case: &Before) -> Result<bool, Fail> {
 
 #[test]
 fn records_before_the_current_one_are_passed(rt: HostRuntime) -> Result<(), Fail> {
+    let genome = read_genome(rt.alloc())?;
     for case in &BEFORE {
-        assert!(rt; is_before(rt.alloc(), case)?);
+        assert!(rt; is_before(rt.alloc(), &genome, case)?);
     }
     Ok(())
 }
