@@ -10,6 +10,7 @@ use Rattle.bt_lines.specs.declared.fault.Fault.{Fault}
 use Rattle.bt_lines.proofs.PuttingLemmas.{fails_then, line_alone, adds_lines, cut_lines}
 use Rattle.bt_runs.specs.Depth.{DepthInterval, depth_line, depth_lines, depth_on}
 use Rattle.bt_runs.specs.DepthStep.{levels_on, Known, bare_of, depth_walk, depths_left, unknown}
+use Rattle.bt_runs.specs.DepthText.{depth_text}
 use Rattle.bt_runs.specs.Levels.{Level}
 use Rattle.std.proofs.lemmas.Bool.{lt-ltb}
 use Rattle.bt_bed.specs.Feature.{Feature}
@@ -25,10 +26,7 @@ use Rattle.bt_runs.specs.declared.failure.Failure.{Failure}
 use Rattle.bt_runs.specs.declared.failure.Failure.TheVariants.{Write, Memory}
 use Rattle.bt_runs.proofs.Walks.{going_to, step_goes}
 
--- what stands behind the name
-abbrev pub depth_text : ℕ → ℕ → ℕ → List ℕ
-depth_text start stop depth = codes "\t" ++ (decimal start ++ (codes "\t" ++ (decimal stop ++ (codes "\t" ++ (decimal depth ++ codes "\n")))))
-
+-- the name, and what stands behind it
 pub line_parts : (r : DepthInterval) → r.chrom ++ depth_text r.start r.stop r.depth ≡ depth_line r
 line_parts r =
     let tab = codes "\t" in

@@ -25,6 +25,7 @@ pub mod Complementing
 pub mod WholeGaps
 pub mod Levels
 pub mod Depth
+pub mod DepthText
 pub mod DepthStep
 pub mod OpenEnds
 pub mod OpenRecords

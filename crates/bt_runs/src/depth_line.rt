@@ -3,6 +3,7 @@
 ghost use Rattle.std.specs.Prelude.{◌≡◌, ◌+◌, ◌≤◌, ◌++◌, codes, decimal, drop};
 ghost use Rattle.bt_lines.specs.Putting.{Puts};
 ghost use Rattle.bt_runs.specs.Depth.{depth_line};
+ghost use Rattle.bt_runs.specs.DepthText.{depth_text};
 
 use bt_lines::{COLUMN, Fault, Out, Sink, put_both, write_column, write_position};
 
@@ -10,7 +11,7 @@ use bt_lines::{COLUMN, Fault, Out, Sink, put_both, write_column, write_position}
 const ROOM: usize = 3 * COLUMN + 1;
 
 // Puts the line of an interval: its name, and what follows it in one piece. It takes no memory.
-#[inline]
+#[inline(always)]
 pub(crate) fn put_depth<K: Sink>(
     chrom: &[u8],
     start: u64,
@@ -21,9 +22,19 @@ pub(crate) fn put_depth<K: Sink>(
     ensures { Puts out.old (depth_line (record { chrom = chrom.now; start = start; stop = stop; depth = depth })) result out.new }
 {
     let mut text = [0; ROOM];
-    text[ROOM - 1] = b'\n';
-    let before_depth = write_column(depth, &mut text, ROOM - 1);
-    let before_stop = write_position(stop, &mut text, before_depth);
-    let first = write_position(start, &mut text, before_stop);
+    let first = write_depth(start, stop, depth, &mut text);
     put_both(chrom, &text[first..], out)
+}
+
+// Writes what follows the name so that it ends where the text does, and gives where it begins. It stands apart, so
+// that the loops over records stay small.
+#[inline(never)]
+fn write_depth(start: u64, stop: u64, depth: u64, text: &mut [u8; ROOM]) -> usize
+    ensures within { result ≤ ROOM }
+    ensures written { drop result text.new ≡ depth_text start stop depth }
+{
+    text[ROOM - 1] = b'\n';
+    let before_depth = write_column(depth, text, ROOM - 1);
+    let before_stop = write_position(stop, text, before_depth);
+    write_position(start, text, before_stop)
 }

@@ -54,7 +54,7 @@ pub(crate) fn go_on<K: Sink>(
         begun = put_next(chrom, begun, position, depth, out)?;
         position = held.first_end(stop);
     }
-    held.go_on(stop);
+    held.move_to(stop);
     Ok(begun)
 }
 

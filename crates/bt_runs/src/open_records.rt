@@ -55,7 +55,8 @@ impl OpenRecords {
 
     // The position.
     pub(crate) fn at(&self) -> u64
-        ensures { result ≡ self.now.at }
+        ensures is { result ≡ self.now.at }
+        ensures left { All (λ s. result ≤ s.stop) self.now.spans }
     {
         self.at
     }
@@ -97,6 +98,15 @@ impl OpenRecords {
         if self.spans.len() - count > count {
             forget_ended(&mut self.spans, self.at);
         }
+    }
+
+    // Moves to a position before which none ends.
+    #[inline(always)]
+    pub(crate) fn move_to(&mut self, position: u64)
+        requires { All (λ s. position ≤ s.stop) self.old.spans }
+        ensures { self.new ≡ open_from (max self.old.at position) self.old }
+    {
+        self.at = self.at.max(position);
     }
 
     // The first position at which one ends, but no more than `stop`. What is written needs no more than

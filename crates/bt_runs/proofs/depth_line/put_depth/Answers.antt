@@ -1,22 +1,19 @@
-use Rattle.std.proofs.Common.{◌≡◌, ℕ, ◌-◌, ◌++◌, List, length, arith, subst, ap, ◌∙◌, codes, decimal, take, drop}
+use Rattle.std.proofs.Common.{◌≡◌, ℕ, ◌-◌, ◌++◌, List, arith, subst, ap, ◌∙◌, take, drop}
 use Rattle.std.proofs.lemmas.List.{length-drop, take_all}
 use Rattle.bt_lines.specs.Putting.{Puts}
 use Rattle.bt_runs.specs.Depth.{DepthInterval, depth_line}
-use Rattle.bt_runs.proofs.DepthLines.{depth_text, line_parts}
+use Rattle.bt_runs.specs.DepthText.{depth_text}
+use Rattle.bt_runs.proofs.DepthLines.{line_parts}
 use Rattle.bt_runs.proofs.depth_line.put_depth.Goals as goal
 
 pub returns : goal.returns
 returns g c =
-    let first = c.write_position-first.result in
-    let text = c.write_position-first.new.text in
+    let first = c.write_depth-first.result in
+    let text = c.write_depth-first.new.text in
     let size = length-drop first text in
-    let long : length text ≡ 64 = omega (arith, c.write_column-before_depth.auto.text, c.write_position-before_stop.auto.text, c.write_position-first.auto.text) in
+    let kept = c.write_depth-first.auto.text in
     let line : DepthInterval = record { chrom = c.args.chrom.now; start = c.args.start; stop = c.args.stop; depth = c.args.depth } in
     let bytes = take (64 - first) (drop first text) in
-    let behind : bytes ≡ depth_text c.args.start c.args.stop c.args.depth =
-    take_all (64 - first) (drop first text) (omega arith)
-    ∙ c.write_position-first.ensures.written
-    ∙ ap (λ l. codes "\t" ++ (decimal c.args.start ++ l)) (c.write_position-before_stop.ensures.written
-    ∙ ap (λ l. codes "\t" ++ (decimal c.args.stop ++ l)) c.write_column-before_depth.ensures.written) in
+    let behind : bytes ≡ depth_text c.args.start c.args.stop c.args.depth = take_all (64 - first) (drop first text) (omega arith) ∙ c.write_depth-first.ensures.written in
     let is : c.args.chrom.now ++ bytes ≡ depth_line line = ap (λ l. c.args.chrom.now ++ l) behind ∙ line_parts line in
     subst (λ (l : List ℕ). Puts c.args.out.now l c.put_both.result c.put_both.new.out) is c.put_both.ensures

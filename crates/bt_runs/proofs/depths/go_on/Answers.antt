@@ -1,4 +1,5 @@
 use Rattle.std.proofs.Common.{refl, ◌≡◌, ◌-◌, ◌+◌, ◌<◌, ◌≤◌, ◌++◌, List, Ok, All, arith, length, max, sym, subst, ap, ◌∙◌}
+use Rattle.std.proofs.lemmas.List.Elements.{All-weaker}
 use Rattle.std.proofs.lemmas.Result.{err_from_is_err_and}
 use Rattle.bt_lines.proofs.PuttingLemmas.{grown_none}
 use Rattle.bt_bed.specs.Interval.{Span}
@@ -17,11 +18,13 @@ loop-position-init g c =
     let u = depth_of c.args.zeros c.args.held.now.spans in
     let known = c.args.held.now.at in
     let begun = begun_seen c.args.begun in
-    let at : c.at-position.result ≡ known = c.at-position.ensures in
+    let at : c.at-position.result ≡ known = c.at-position.ensures.is in
+    let left = rw at at c.at-position.ensures.left in
     rw at (record {
       from = omega arith;
       to = omega arith;
       here = omega arith;
+      left = left;
       open_here = refl;
       puts = rw (no_ended u known (known - known) begun (omega arith)) (grown_none c.args.out.now);
       begun = sym (no_begun u known (known - known) begun (omega arith));
@@ -72,10 +75,14 @@ loop-position-preserved g c =
       from = omega arith;
       to = omega arith;
       here = omega arith;
+      left = c.first_end-position.ensures.ends;
       open_here = ap (still_open next) now ∙ walk_same c.loop-position.held.at at held.spans spans i.here i.open_here next behind;
       puts = adds_levels c.args.chrom.now c.args.out.now c.loop-position.out c.put_next.new.out (ended_after u held.at (at - held.at) first) (next_ended at value begun) (ended_after u held.at (next - held.at) first) {A = Unit {0}} (Ok tt) ended i.puts c.in_ok-begun.ensures.adds;
       begun = c.in_ok-begun.ensures.begun ∙ ap (next_begun at value) i.begun ∙ sym (turn_begun u held.at at next first value low behind run);
     }
+
+pub move_to-requires : goal.move_to-requires
+move_to-requires g c = All-weaker (λ s. c.loop-position.position ≤ s.stop) (λ s. c.args.stop ≤ s.stop) (λ s low. omega arith) c.loop-position.held.spans c.loop-position.invariant.left
 
 pub returns-clause-adds : goal.returns-clause-adds
 returns-clause-adds g c =
@@ -104,4 +111,4 @@ returns-clause-held g c = λ up.
     let all : max now.at c.args.stop ≡ c.args.stop = omega (arith, i.here) in
     let same : still_open c.args.stop now.spans ≡ still_open c.args.stop held.spans = rw (← there) i.open_here in
     let make : List Span → OpenAt = λ l. record { at = c.args.stop; spans = l } in
-    c.go_on-2.ensures.left ∙ ap (λ n. open_from n now) all ∙ ap make same
+    c.move_to.ensures ∙ ap (λ n. open_from n now) all ∙ ap make same

@@ -1,4 +1,4 @@
-use Rattle.std.proofs.Common.{◌≡◌, ◌-◌, ◌≤◌}
+use Rattle.std.proofs.Common.{◌≡◌, ◌-◌, ◌≤◌, All}
 use Rattle.bt_lines.specs.Putting.{Grown}
 use Rattle.bt_runs.specs.CountSeen.{begun_seen}
 use Rattle.bt_runs.specs.Depth.{depth_lines, depth_of}
@@ -12,6 +12,7 @@ invariant-loop-position g l = record {
   from : l.fn.held.at ≤ l.position;
   to : l.position - l.fn.held.at ≤ l.stop - l.fn.held.at;
   here : l.held.at ≤ l.position;
+  left : All (λ s. l.position ≤ s.stop) l.held.spans;
   open_here : still_open l.position l.held.spans ≡ still_open l.position l.fn.held.spans;
   puts : Grown l.fn.out (depth_lines (levels_on l.chrom (ended_after (depth_of l.zeros l.fn.held.spans) l.fn.held.at (l.position - l.fn.held.at) (begun_seen l.fn.begun)))) l.out;
   begun : begun_seen l.begun ≡ begun_after (depth_of l.zeros l.fn.held.spans) l.fn.held.at (l.position - l.fn.held.at) (begun_seen l.fn.begun);
