@@ -1,8 +1,8 @@
 -- Ends in ascending order, and how many of the ends pass a test.
-use Rattle.std.proofs.Common.{◌≡◌, ℕ, ◌+◌, ◌-◌, ◌<◌, ◌≤◌, zero, suc, List, [], ◌∷◌, ◌++◌, refl, sym, ap, ap₂, ◌∙◌, arith, All, Bool, filter, length, nat_le, ◌&&◌, length-append, drop, subst, inl, inr, Result, Ok, Err, OnOk}
+use Rattle.std.proofs.Common.{◌≡◌, ℕ, ◌+◌, ◌-◌, ◌<◌, ◌≤◌, zero, suc, List, [], ◌∷◌, ◌++◌, refl, sym, ap, ap₂, ◌∙◌, arith, All, Bool, append_assoc, filter, length, nat_le, ◌&&◌, length-append, drop, get_or, subst, inl, inr, Option, Some, None, option_to_list, append-nil}
 use Rattle.std.proofs.lemmas.Bool.{cases_Bool, lt-leb}
-use Rattle.std.proofs.lemmas.List.{drop-drop}
-use Rattle.std.proofs.lemmas.List.Elements.{All-cons, All-drop, All-head, All-nil, All-push, All-tail, All-weaker, filter-append}
+use Rattle.std.proofs.lemmas.List.{drop-append-le, drop-drop, get_or-drop, get_or_default, length-drop}
+use Rattle.std.proofs.lemmas.List.Elements.{All-cons, All-drop, All-get_or, All-head, All-nil, All-push, All-tail, All-weaker, filter-append}
 use Rattle.bt_runs.specs.OpenEnds.{CountsFrom, CountsSame, IsAscending}
 
 -- the first is the least
@@ -69,21 +69,53 @@ pub all_behind : (P : ℕ → Type 0) (xs ys : List ℕ) → All P (xs ++ ys) �
 all_behind P [] ys all = all
 all_behind P (x ∷ xs) ys all = all_behind P xs ys (All-tail P x (xs ++ ys) all)
 
--- one more among those of the second list
-counts_behind : (end : ℕ) (xs ys more : List ℕ) → CountsSame (end ∷ ys) more → CountsSame (end ∷ (xs ++ ys)) (xs ++ more)
-counts_behind end xs ys more counts test =
-    let new = ap length (filter-append test xs more) ∙ length-append (filter test xs) (filter test more) in
-    let old = ap length (filter-append test xs ys) ∙ length-append (filter test xs) (filter test ys) in
-    let one = counts test in
-    elim (cases_Bool (test end)) [
-      | inl t ↦
-          let same : length (filter test more) ≡ suc (length (filter test ys)) = one ∙ rw t refl in
-          rw t (omega arith)
-      | inr f ↦
-          let same : length (filter test more) ≡ length (filter test ys) = one ∙ rw f refl in
-          rw f (omega arith)
-    ]
+-- the last of the first list is moved to the second
+moved_last : (front : List ℕ) (last : ℕ) (ys more : List ℕ) → CountsSame (last ∷ ys) more → CountsSame ((front ++ last ∷ []) ++ ys) (front ++ more)
+moved_last front last ys more counts test =
+    ap length (filter-append test front more)
+    ∙ length-append (filter test front) (filter test more)
+    ∙ ap (λ n. length (filter test front) + n) (counts test)
+    ∙ sym (length-append (filter test front) (filter test (last ∷ ys)))
+    ∙ ap length (sym (filter-append test front (last ∷ ys)))
+    ∙ ap (λ l. length (filter test l)) (sym (append_assoc front (last ∷ []) ys))
 
-pub added_behind : {A E : Type 0} (end : ℕ) (xs ys more : List ℕ) (result : Result A E) → OnOk result (CountsSame (end ∷ ys) more) → OnOk result (CountsSame (end ∷ (xs ++ ys)) (xs ++ more))
-added_behind end xs ys more (Ok done) counts = counts_behind end xs ys more counts
-added_behind end xs ys more (Err why) counts = tt
+pub moved_on : (first old front : List ℕ) (last : ℕ) (ys more : List ℕ) → CountsSame first (old ++ ys) → old ≡ front ++ last ∷ [] → CountsSame (last ∷ ys) more → CountsSame first (front ++ more)
+moved_on first old front last ys more same is counts test = moved_last front last ys more counts test ∙ ap (λ l. length (filter test (l ++ ys))) (sym is) ∙ same test
+
+-- an earlier one is at most a later one
+pub ascending_pair : (ends : List ℕ) (i j d : ℕ) → i ≤ j → j < length ends → IsAscending ends → get_or ends i d ≤ get_or ends j d
+ascending_pair [] i j d up below order = absurd (omega arith)
+ascending_pair (e ∷ es) zero zero d up below order = omega arith
+ascending_pair (e ∷ es) zero (suc j) d up below order = All-get_or (λ later. e ≤ later) es j d (omega arith) order.0
+ascending_pair (e ∷ es) (suc i) zero d up below order = absurd (omega arith)
+ascending_pair (e ∷ es) (suc i) (suc j) d up below order = ascending_pair es i j d (omega arith) (omega arith) order.1
+
+-- so all are at most the last
+pub last_greatest : (passed count : ℕ) (ends : List ℕ) (last : ℕ) → passed < count → count ≡ length ends → last ≡ get_or ends (count - 1) last → IsAscending (drop passed ends) → All (λ e. e ≤ last) (drop passed ends)
+last_greatest passed count ends last some is at order k d below =
+    let long = length-drop passed ends in
+    let left = drop passed ends in
+    let j = count - 1 - passed in
+    let there : passed + j ≡ count - 1 = omega arith in
+    let same : get_or left j d ≡ last = get_or-drop passed ends j d ∙ ap (λ n. get_or ends n d) there ∙ get_or_default ends (count - 1) d last (omega arith) ∙ sym at in
+    let up = ascending_pair left k j d (omega arith) (omega arith) order in
+    omega arith
+
+-- without the last
+pub ascending_front : (front : List ℕ) (last : ℕ) → IsAscending (front ++ last ∷ []) → IsAscending front
+ascending_front [] last order = tt
+ascending_front (e ∷ es) last order = (all_front (λ later. e ≤ later) es (last ∷ []) order.0, ascending_front es last order.1)
+
+-- the last is taken out
+module _ (passed : ℕ) (old new : List ℕ) (below : passed < length old) where
+  pub popped : (greatest : ℕ) (last : Option ℕ) → old ≡ new ++ option_to_list last → IsAscending (drop passed old) → All (λ e. e ≤ greatest) (drop passed old)
+      → IsAscending (drop passed new) × All (λ e. e ≤ greatest) (drop passed new)
+  popped greatest None is order all =
+      let same : drop passed old ≡ drop passed new = ap (drop passed) (is ∙ append-nil new) in
+      (subst (λ (l : List ℕ). IsAscending l) same order, subst (λ (l : List ℕ). All (λ e. e ≤ greatest) l) same all)
+  popped greatest (Some last) is order all =
+      let long : length old ≡ length new + 1 = ap length is ∙ length-append new (last ∷ []) in
+      let cut : drop passed old ≡ drop passed new ++ last ∷ [] = ap (drop passed) is ∙ drop-append-le passed new (last ∷ []) (omega arith) in (
+        ascending_front (drop passed new) last (subst (λ (l : List ℕ). IsAscending l) cut order),
+        all_front (λ e. e ≤ greatest) (drop passed new) (last ∷ []) (subst (λ (l : List ℕ). All (λ e. e ≤ greatest) l) cut all),
+      )

@@ -95,6 +95,23 @@ impl EndQueue {
         Ok(())
     }
 
+    // Takes out the last, if it is greater than an end.
+    pub(crate) fn pop_behind(&mut self, end: u64) -> Option<u64>
+        ensures { MatchOption result (All (λ e. e ≤ end) self.old × (self.new ≡ self.old))
+            (λ last. self.old ≡ self.new ++ last ∷ []) }
+    {
+        let count = self.ends.len();
+        if self.passed == count {
+            return None;
+        }
+        if self.ends[count - 1] <= end {
+            return None;
+        }
+        let last = self.ends.pop();
+        self.passed = forget_passed(&mut self.ends, self.passed);
+        last
+    }
+
     // Takes out those before a position.
     #[inline(always)]
     pub(crate) fn pass(&mut self, position: u64)
@@ -102,12 +119,7 @@ impl EndQueue {
         ensures left { All (λ end. position ≤ end) self.new }
     {
         let passed = first_left(self.ends.as_slice(), self.passed, position);
-        if self.ends.len() - passed < passed {
-            forget(&mut self.ends, passed);
-            self.passed = 0;
-        } else {
-            self.passed = passed;
-        }
+        self.passed = forget_passed(&mut self.ends, passed);
     }
 }
 
@@ -125,6 +137,20 @@ fn first_left(ends: &[u64], from: usize, position: u64) -> usize
         at += 1;
     }
     at
+}
+
+// Drops the first ones, once they are more than the others, and gives how many of these are in front of the others.
+#[inline(always)]
+fn forget_passed(ends: &mut Vec<u64>, passed: usize) -> usize
+    requires { passed ≤ length ends.old.items }
+    ensures same { drop result ends.new.items ≡ drop passed ends.old.items }
+    ensures few { result ≤ length (drop result ends.new.items) }
+{
+    if ends.len() - passed < passed {
+        forget(ends, passed);
+        return 0;
+    }
+    passed
 }
 
 // Drops the first ones, and moves the others to the front.

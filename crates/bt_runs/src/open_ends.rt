@@ -1,6 +1,6 @@
 //! The ends of open records.
 
-ghost use Rattle.std.specs.Prelude.{◌≡◌, ◌≤◌, ◌∷◌, [], All, List, MatchBool, OnErr, OnOk, length, ℕ};
+ghost use Rattle.std.specs.Prelude.{◌≡◌, ◌≤◌, ◌∷◌, ◌++◌, [], All, List, MatchBool, OnErr, OnOk, length, ℕ};
 ghost use Rattle.std.specs.BinaryHeap.{heap_items};
 ghost use Rattle.bt_runs.specs.OpenEnds.{CountsFrom, CountsSame, IsLeastFirst, StartsBelow, ends_of};
 
@@ -10,8 +10,9 @@ use std::cmp::Reverse;
 use std::collections::BinaryHeap;
 use std::marker::Model;
 
-// The ends of open records, each once. Those that come in ascending order stand in a queue, and only the others, as
-// those of short records behind a long one, cost the log of how many there are.
+// The ends of open records, each once. The last one that came stands at the end of a queue, which ascends, behind those
+// that came before and aren't greater; the others cost the log of how many they are. So a long record costs that once,
+// and the short ones behind it don't.
 #[derive(Drop, Debug)]
 pub(crate) struct OpenEnds {
     queue: EndQueue,
@@ -76,13 +77,10 @@ impl OpenEnds {
     #[inline(always)]
     pub(crate) fn push(&mut self, end: u64) -> Result<(), AllocError>
         ensures added { OnOk result (CountsSame (end ∷ self.old) self.new) }
-        ensures unchanged { OnErr result (self.new ≡ self.old) }
+        ensures same { OnErr result (CountsSame self.old self.new) }
     {
-        if self.queue.takes(end) {
-            self.queue.push(end)
-        } else {
-            push_other(&mut self.others, end)
-        }
+        make_room(&mut self.queue, &mut self.others, end)?;
+        self.queue.push(end)
     }
 
     // Takes out those before a position.
@@ -98,15 +96,41 @@ impl OpenEnds {
     }
 }
 
-// Adds an end to the heap.
-#[inline(never)]
-fn push_other(ends: &mut BinaryHeap<Reverse<u64>>, end: u64) -> Result<(), AllocError>
-    requires { IsLeastFirst (heap_items ends.old) }
-    ensures order { IsLeastFirst (heap_items ends.new) }
-    ensures added { OnOk result (CountsSame (end ∷ ends_of (heap_items ends.old)) (ends_of (heap_items ends.new))) }
-    ensures unchanged { OnErr result (heap_items ends.new ≡ heap_items ends.old) }
+// Makes room for an end behind those in the queue.
+#[inline(always)]
+fn make_room(
+    queue: &mut EndQueue,
+    others: &mut BinaryHeap<Reverse<u64>>,
+    end: u64,
+) -> Result<(), AllocError>
+    requires { IsLeastFirst (heap_items others.old) }
+    ensures order { IsLeastFirst (heap_items others.new) }
+    ensures same { CountsSame (queue.old ++ ends_of (heap_items others.old)) (queue.new ++ ends_of (heap_items others.new)) }
+    ensures behind { OnOk result (All (λ e. e ≤ end) queue.new) }
 {
-    ends.push(Reverse(end))?;
+    if queue.takes(end) {
+        return Ok(());
+    }
+    move_greater(queue, others, end)
+}
+
+// Moves the ends that are greater than one from the queue to the others.
+#[inline(never)]
+fn move_greater(
+    queue: &mut EndQueue,
+    others: &mut BinaryHeap<Reverse<u64>>,
+    end: u64,
+) -> Result<(), AllocError>
+    requires { IsLeastFirst (heap_items others.old) }
+    ensures order { IsLeastFirst (heap_items others.new) }
+    ensures same { CountsSame (queue.old ++ ends_of (heap_items others.old)) (queue.new ++ ends_of (heap_items others.new)) }
+    ensures behind { OnOk result (All (λ e. e ≤ end) queue.new) }
+{
+    others.reserve(1)?;
+    while let Some(later) = queue.pop_behind(end) {
+        others.push(Reverse(later))?;
+        others.reserve(1)?;
+    }
     Ok(())
 }
 

@@ -14,10 +14,10 @@ invariant_of-self c =
     let spans = spans_open m.spans.items in
     let behind = rw (← c.self.view_is) at c.requires in
     let left : All (λ s. at ≤ s.stop) (still_open m.at spans) = λ k d below.
-        let here = all_open m.at spans k d below in
-        let there = behind k d below in
-        let is = c.max-self-inside.ensures in
-        omega arith in
+    let here = all_open m.at spans k d below in
+    let there = behind k d below in
+    let is = c.max-self-inside.ensures in
+    omega arith in
     record {
       started = All-weaker (λ s. s.start ≤ m.at) (λ s. s.start ≤ at) (λ s low. omega arith) spans c.self.invariant.started;
       counts = ends_later m.at at spans m.ends m.ends up c.self.invariant.counts (λ test. refl) (left_ends m.ends (still_open m.at spans) c.self.invariant.counts at left);

@@ -3,7 +3,7 @@ use Rattle.std.proofs.lemmas.List.{map-append}
 use Rattle.std.proofs.lemmas.List.Elements.{All-push}
 use Rattle.bt_bed.specs.Interval.{Span}
 use Rattle.bt_runs.specs.DepthStep.{still_open}
-use Rattle.bt_runs.specs.OpenRecords.{span_open, spans_open}
+use Rattle.bt_runs.specs.OpenRecords.{CountsEnds, span_open, spans_open}
 use Rattle.bt_runs.proofs.OpenLemmas.{as_many, ends_more, open_more}
 use Rattle.bt_runs.proofs.open_records.OpenRecords.push.Goals as goal
 
@@ -26,5 +26,21 @@ invariant_of-self-2 c =
           let was = as_many m.ends (still_open m.at spans) c.self.invariant.counts in
           let is = as_many ends (still_open m.at spans ++ s ∷ []) more in
           let long = length-append (still_open m.at spans) (s ∷ []) in
+          omega arith;
+    })
+
+pub invariant_of-self-in_err-push : goal.invariant_of-self-in_err-push
+invariant_of-self-in_err-push c =
+    let m = c.self.inside in
+    let spans = spans_open m.spans.items in
+    let ends = c.push.new.self in
+    let counts : CountsEnds ends (still_open m.at spans) = λ test. c.in_err-push.ensures.same test ∙ c.self.invariant.counts test in
+    rw c.in_ok-reserve.ensures.items (record {
+      started = c.self.invariant.started;
+      counts = counts;
+      few =
+          let few = c.self.invariant.few in
+          let was = as_many m.ends (still_open m.at spans) c.self.invariant.counts in
+          let is = as_many ends (still_open m.at spans) counts in
           omega arith;
     })
