@@ -1,4 +1,5 @@
--- Lemmas on records of the first input that are passed one after another while nothing is held.
+-- Lemmas on records that are passed one after another: of the first input while nothing is held, and of the second
+-- before the current one of the first.
 use Rattle.std.proofs.Common.{◌≡◌, ℕ, ◌<◌, ◌≤◌, ◌&&◌, Bool, true, false, cond, List, [], ◌∷◌, ◌++◌, length, Option, Some, None, Result, Ok, Err, inl, inr, refl, sym, ap, ◌∙◌, subst, arith, append-nil, bytes_eq, filter, ltb, not}
 use Rattle.std.specs.Prelude.{IsTrue, OnOk}
 use Rattle.std.specs.Result.{is_ok}

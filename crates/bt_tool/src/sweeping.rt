@@ -18,14 +18,14 @@ ghost use Rattle.bt_tool.specs.OwnReads.{AnswersNoRead, IsOwnFailure, ReadsServe
 ghost use Rattle.bt_tool.specs.Turns.{GivesFirsts, TakesSeconds, TurnsFirst, TurnsSecond};
 ghost use Rattle.bt_tool.specs.Writing.{WritesBy};
 
+use crate::pace::Pace;
 use bt_bed::{ChromOrder, Records};
 use bt_lines::{Fault, Input, LineReader, Out, Sink, Source};
 use bt_sweep::{Held, HeldIndex, HitRule, Shape, Sweep, Taken, Want};
 use std::alloc::Global;
 
-// Where the second input was asked for so often for one record of the first, further records of it are likely to lie
-// before that.
-const MANY: u64 = 3;
+// How many records that are passed at once are worth the question.
+const ENOUGH: u64 = 2;
 
 // Gives a sweep the next record of the first input, or its end.
 fn turn_first<A: Source, O: ChromOrder, H: Held, K: Sink>(
@@ -52,9 +52,9 @@ fn turn_first<A: Source, O: ChromOrder, H: Held, K: Sink>(
 }
 
 // Gives a sweep records of the first input that stand whole and have no line, since nothing is held and the record ahead
-// of the second decides them: as many as it takes so, which may be none. It is tried where the shape needs a hit.
+// of the second decides them: as many as it takes so, which may be none. It is tried where it is time to.
 fn pass_firsts<A: Source, B: Source, O: ChromOrder, H: Held>(
-    needs_hit: bool,
+    pace: &mut Pace,
     first: &mut Records<'_, A, O>,
     second: &Records<'_, B, O>,
     sweep: &mut Sweep<'_, H, O>,
@@ -66,18 +66,21 @@ fn pass_firsts<A: Source, B: Source, O: ChromOrder, H: Held>(
     ensures want { want_in (state_of sweep.new) ≡ Want.A }
     ensures order { order_of sweep.new ≡ order_of sweep.old }
 {
-    if !needs_hit || sweep.held().len() != 0 {
+    let before = first.lines();
+    if !pace.is_due(before) || sweep.held().len() != 0 {
         return;
     }
     let Some(next) = second.record() else {
         return;
     };
     let Some(mut whole) = first.whole() else {
+        pace.note(before, before);
         return;
     };
     sweep.pass_decided(&mut whole, &next);
     let passed = whole.passed();
     first.pass(passed);
+    pace.note(before, first.lines());
 }
 
 // Gives a sweep the next record of the second input, or its end. A record that isn't taken stays ahead.
@@ -106,9 +109,9 @@ fn turn_second<B: Source, O: ChromOrder, H: Held, K: Sink>(
 }
 
 // Gives a sweep records of the second input that stand whole before the current record of the first: as many as it takes
-// so, which may be none. It is tried where the second input was asked for often, and nothing is held.
+// so, which may be none. It is tried where nothing is held, and it is time to.
 fn pass_seconds<B: Source, O: ChromOrder, H: Held>(
-    asked: u64,
+    pace: &mut Pace,
     second: &mut Records<'_, B, O>,
     sweep: &Sweep<'_, H, O>,
 )
@@ -116,15 +119,27 @@ fn pass_seconds<B: Source, O: ChromOrder, H: Held>(
     ensures { TakesSeconds B.left B.has_failed B.end_told B.is_read (order_of sweep.now) second.old
         (state_of sweep.now) second.new }
 {
-    if asked < MANY || sweep.held().len() != 0 {
+    let before = second.lines();
+    if !pace.is_due(before) || sweep.held().len() != 0 {
         return;
     }
     let Some(mut whole) = second.whole() else {
+        pace.note(before, before);
         return;
     };
     sweep.pass_before(&mut whole);
     let passed = whole.passed();
     second.pass(passed);
+    pace.note(before, second.lines());
+}
+
+// How often it is asked for several records of the first input: never where each may have a line.
+fn pace_of_first(needs_hit: bool) -> Pace {
+    if needs_hit {
+        Pace::new(ENOUGH)
+    } else {
+        Pace::never()
+    }
 }
 
 // Gives a sweep what it asks for, until it asks for nothing more.
@@ -148,19 +163,16 @@ fn sweep_all<A: Source, B: Source, O: ChromOrder, H: Held, K: Sink>(
     ensures own_failure { KeepsOwnFault A.is_read (below first.old) (view_of first.new) }
     ensures own_failure_second { KeepsOwnFault B.is_read (below second.old) (view_of second.new) }
 {
-    let needs_hit = sweep.needs_hit();
-    // How often the second input was asked for since the first was.
-    let mut asked = 0u64;
+    let mut first_pace = pace_of_first(sweep.needs_hit());
+    let mut second_pace = Pace::new(ENOUGH);
     loop {
         match sweep.want() {
             Want::A => {
-                asked = 0;
-                pass_firsts(needs_hit, first, second, sweep);
+                pass_firsts(&mut first_pace, first, second, sweep);
                 turn_first(first, sweep, out)?;
             }
             Want::B => {
-                pass_seconds(asked, second, sweep);
-                asked = asked.wrapping_add(1);
+                pass_seconds(&mut second_pace, second, sweep);
                 turn_second(second, sweep, out)?;
             }
             Want::Nothing => return Ok(()),
