@@ -135,3 +135,8 @@ line_too_short text e few = rw (e, ← few) refl
 pub line_says : (text : List ℕ) (fields : Fields) (said : Result (Option Alignment) Kind) → is_skipped text ≡ false → Some fields ≡ fields_of (pieces 9 text) → said ≡ fields_say (Some fields) → said ≡ alignment_of text
 unfolding alignment_of
 line_says text fields said e found is = rw (e, ← found) is
+
+-- what its columns say, of which the first was cut off
+pub says_behind : (text name : List ℕ) (columns : List (List ℕ)) → is_skipped text ≡ false → pieces 9 text ≡ name ∷ columns → fields_say (fields_of (name ∷ columns)) ≡ alignment_of text
+unfolding alignment_of
+says_behind text name columns e cut = rw (e, cut) refl

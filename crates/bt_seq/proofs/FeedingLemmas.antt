@@ -1,13 +1,12 @@
 -- Lemmas on the alignments of whole lines, written one after another.
-use Rattle.std.proofs.Common.{◌≡◌, ℕ, ◌+◌, ◌-◌, ◌<◌, ◌≤◌, Bool, List, [], ◌∷◌, ◌++◌, length, Option, Some, None, Result, Ok, Err, refl, sym, ap, ◌∙◌, subst, arith}
+use Rattle.std.proofs.Common.{◌≡◌, ℕ, Bool, List, [], ◌∷◌, ◌++◌, Option, None, Result, Ok, refl, sym, subst}
 use Rattle.bt_lines.proofs.PuttingLemmas.{grown_none}
 use Rattle.bt_lines.specs.Output.{Output}
 use Rattle.bt_lines.specs.Whole.{PassesLine, PassesLines}
 use Rattle.bt_lines.specs.declared.fault.Kind.{Kind}
 use Rattle.bt_lines.specs.declared.whole.WholeLines.{WholeLines}
 use Rattle.bt_seq.specs.Alignment.{Alignment, alignment_of}
-use Rattle.bt_seq.specs.FedTexts.{FeedsSaid, SaidWritten, WritesTexts}
-use Rattle.bt_seq.specs.declared.feeding.Fed.{Fed}
+use Rattle.bt_seq.specs.FedTexts.{SaidWritten, WritesTexts}
 
 -- nothing is written of a line that says no alignment
 pub says_none : (split cigar : Bool) (says : Result (Option Alignment) Kind) (out : Output) → Ok None ≡ says → SaidWritten split cigar says out out

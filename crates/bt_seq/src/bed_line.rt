@@ -1,6 +1,6 @@
 //! The BED line of a block of an alignment.
 
-ghost use Rattle.std.specs.Prelude.{◌≡◌, ◌+◌, ◌≤◌, ◌++◌, ◌∷◌, [], drop, false, length, true};
+ghost use Rattle.std.specs.Prelude.{◌≡◌, ◌+◌, ◌≤◌, ◌++◌, ◌∷◌, [], codes, drop, false, length, true};
 ghost use Rattle.bt_lines.specs.Putting.{Puts, PutsAll};
 ghost use Rattle.bt_seq.specs.BedLines.{bed_line, strand_sign, text_if};
 ghost use Rattle.bt_seq.specs.LineEnds.{bounds_text, end_sign, line_tail, marks, quality_text};
@@ -18,11 +18,13 @@ const BOUNDS_ROOM: usize = 2 * COLUMN + 1;
 // 20 digits, the strand, two tabs, and what ends it.
 const TAIL_ROOM: usize = 28;
 
-// How long the name may be for a line that is written whole before it is put.
+// How long the name may be for a line that is written whole before it is put, and how long the CIGAR.
 const NAME_ROOM: usize = 64;
 
+const CIGAR_ROOM: usize = 64;
+
 // The room for what stands behind the chromosome of such a line.
-pub(crate) const LINE_ROOM: usize = NAME_ROOM + BOUNDS_ROOM + TAIL_ROOM;
+pub(crate) const LINE_ROOM: usize = BOUNDS_ROOM + NAME_ROOM + TAIL_ROOM + CIGAR_ROOM + 1;
 
 // Puts the line of the block from `start` up to `stop`: the chromosome, the bounds, the name, and what
 // stands after it.
@@ -36,44 +38,96 @@ pub(crate) fn put_line<K: Sink>(
     ensures { Puts out.old (bed_line with_cigar (alignment_lent sam.now)
         (record { start = start; stop = stop })) result out.new }
 {
+    if hold_line(sam, start, stop, with_cigar, &mut [0; LINE_ROOM], out) {
+        return Ok(());
+    }
+    put_pieces(sam, start, stop, with_cigar, out)
+}
+
+// The same for a line of any length, by two pieces.
+#[cold]
+#[inline(never)]
+fn put_pieces<K: Sink>(
+    sam: &SamRef<'_>,
+    start: u64,
+    stop: u64,
+    with_cigar: bool,
+    out: &mut Out<K>,
+) -> Result<(), Fault>
+    ensures { Puts out.old (bed_line with_cigar (alignment_lent sam.now)
+        (record { start = start; stop = stop })) result out.new }
+{
     put_place(sam.chrom, start, stop, out)?;
     put_read(sam, with_cigar, out)
 }
 
-// Puts the line of a block, without a CIGAR, by one test of the room, if the name isn't long and there is room
-// for the line, and answers whether it did; else nothing is put. What the text holds means nothing before and after.
+// Puts the line of a block by one test of the room, if name and CIGAR aren't long and there is room for the line,
+// and answers whether it did; else nothing is put. What the text holds means nothing before and after.
 #[inline(always)]
 pub(crate) fn hold_line<K: Sink>(
     sam: &SamRef<'_>,
     start: u64,
     stop: u64,
+    with_cigar: bool,
     text: &mut [u8; LINE_ROOM],
     out: &mut Out<K>,
 ) -> bool
-    ensures held { result ≡ true → PutsAll out.old (bed_line false (alignment_lent sam.now)
+    ensures held { result ≡ true → PutsAll out.old (bed_line with_cigar (alignment_lent sam.now)
         (record { start = start; stop = stop })) out.new }
     ensures unchanged { result ≡ false → out.new ≡ out.old }
 {
-    if sam.name.len() > NAME_ROOM {
+    if !is_short(sam, with_cigar) {
         return false;
     }
-    let first = write_behind(sam, start, stop, text);
+    let first = write_behind(sam, start, stop, with_cigar, text);
     out.hold_both(sam.chrom, &text[first..])
 }
 
-// Writes what stands behind the chromosome of a line without a CIGAR so that it ends where the text does, and
-// gives where it begins.
+// Whether there is room for name and CIGAR in a line that is written whole.
 #[inline(always)]
-fn write_behind(sam: &SamRef<'_>, start: u64, stop: u64, text: &mut [u8; LINE_ROOM]) -> usize
-    requires { length sam.now.name.now ≤ NAME_ROOM }
+fn is_short(sam: &SamRef<'_>, with_cigar: bool) -> bool
+    ensures name { result ≡ true → length sam.now.name.now ≤ NAME_ROOM }
+    ensures cigar { result ≡ true → with_cigar ≡ true → length sam.now.cigar.now ≤ CIGAR_ROOM }
+{
+    sam.name.len() <= NAME_ROOM && (!with_cigar || sam.cigar.len() <= CIGAR_ROOM)
+}
+
+// Writes what stands behind the chromosome of a line so that it ends where the text does, and gives where it begins.
+#[inline(always)]
+fn write_behind(
+    sam: &SamRef<'_>,
+    start: u64,
+    stop: u64,
+    with_cigar: bool,
+    text: &mut [u8; LINE_ROOM],
+) -> usize
+    requires name { length sam.now.name.now ≤ NAME_ROOM }
+    requires cigar { with_cigar ≡ true → length sam.now.cigar.now ≤ CIGAR_ROOM }
     ensures within { result ≤ LINE_ROOM }
     ensures written { drop result text.new ≡ bounds_text start stop
-        ++ (sam.now.name.now ++ line_tail false (alignment_lent sam.now)) }
+        ++ (sam.now.name.now ++ line_tail with_cigar (alignment_lent sam.now)) }
 {
-    let quality = write_quality(sam, false, text, LINE_ROOM);
+    let cigar = write_cigar(sam.cigar, with_cigar, text);
+    let quality = write_quality(sam, with_cigar, text, cigar);
     let marks = write_marks(sam.first, sam.last, text, quality);
     let name = write_piece(sam.name, text, marks);
     write_bounds(start, stop, text, name)
+}
+
+// Writes a CIGAR and a line feed so that they end where the text does, where they are asked for, and gives where
+// they begin.
+#[inline(always)]
+fn write_cigar(cigar: &[u8], with_cigar: bool, text: &mut [u8; LINE_ROOM]) -> usize
+    requires { with_cigar ≡ true → length cigar.now ≤ CIGAR_ROOM }
+    ensures low { LINE_ROOM ≤ result + (CIGAR_ROOM + 1) }
+    ensures within { result ≤ LINE_ROOM }
+    ensures written { drop result text.new ≡ text_if with_cigar (cigar.now ++ codes "\n") }
+{
+    if !with_cigar {
+        return LINE_ROOM;
+    }
+    text[LINE_ROOM - 1] = b'\n';
+    write_piece(cigar, text, LINE_ROOM - 1)
 }
 
 // Writes a piece up to an index, and gives where it begins.

@@ -1,17 +1,18 @@
 //! The alignments of lines that stand whole, written one after another.
 
-ghost use Rattle.std.specs.Prelude.{◌≡◌, Ok, Some};
-ghost use Rattle.bt_seq.specs.Alignment.{alignment_of, fields_say};
+ghost use Rattle.std.specs.Prelude.{◌∷◌, Ok, Some};
+ghost use Rattle.bt_lines.specs.Lines.{pieces};
+ghost use Rattle.bt_seq.specs.Alignment.{alignment_of, fields_of, fields_say};
 ghost use Rattle.bt_seq.specs.FedTexts.{FeedsNext, FeedsSaid, FeedsTexts};
 ghost use Rattle.bt_seq.specs.Sam.{alignment_lent, fields_lent};
 
 use crate::bam_to_bed::put_lines;
 use crate::bed_line::{LINE_ROOM, hold_line};
-use crate::fields::{Fields, cut_short};
+use crate::fields::{Fields, cut_short, fields_behind};
 use crate::numbers::{alignment_by, numbers_in};
 use crate::plain_fields::{plain_fields, plain_tabs};
 use crate::sam::SamRef;
-use crate::sam_text::{gives_nothing, is_skipped, sam_line};
+use crate::sam_text::{gives_nothing, is_skipped};
 use bt_lines::{Fault, MAX_NUMBER, Out, Sink, WholeLines, write_failed};
 
 // What became of a line.
@@ -92,21 +93,28 @@ fn feed_text<K: Sink>(
     };
     let tabs = plain_tabs(rest);
     if tabs == 0 {
-        return feed_any(text, split, with_cigar, out);
+        return feed_late(name, rest, split, with_cigar, room, out);
     }
     feed_fields(plain_fields(name, rest, tabs), split, with_cigar, room, out)
 }
 
-// The same for a text whose tabs aren't found all at once.
+// The same for a text whose tabs aren't found all at once, and of which the name was cut off.
 #[inline(never)]
-fn feed_any<K: Sink>(text: &[u8], split: bool, with_cigar: bool, out: &mut Out<K>) -> Fed
-    ensures { FeedsSaid split with_cigar (alignment_of text.now) out.old result out.new }
+fn feed_late<K: Sink>(
+    name: &[u8],
+    rest: &[u8],
+    split: bool,
+    with_cigar: bool,
+    room: &mut [u8; LINE_ROOM],
+    out: &mut Out<K>,
+) -> Fed
+    ensures { FeedsSaid split with_cigar (fields_say (fields_of (name.now ∷ pieces 9 rest.now))) out.old result
+        out.new }
 {
-    match sam_line(text) {
-        Ok(Some(sam)) => put_any(sam, split, with_cigar, out),
-        Ok(None) => Fed::Written,
-        Err(_kind) => Fed::Left,
-    }
+    let Some(fields) = fields_behind(name, rest) else {
+        return Fed::Left;
+    };
+    feed_fields(fields, split, with_cigar, room, out)
 }
 
 // Writes the alignment that columns say, if they say one.
@@ -132,7 +140,7 @@ fn feed_fields<K: Sink>(
     feed_alignment(alignment_by(&fields, numbers), split, with_cigar, room, out)
 }
 
-// Writes an alignment: at once where it is one line without its CIGAR, as most are.
+// Writes an alignment: at once where it is one line, as most are.
 #[inline(always)]
 fn feed_alignment<K: Sink>(
     sam: SamRef<'_>,
@@ -143,7 +151,7 @@ fn feed_alignment<K: Sink>(
 ) -> Fed
     ensures { FeedsSaid split with_cigar (Ok (Some (alignment_lent sam.entry))) out.old result out.new }
 {
-    if !split && !with_cigar && hold_line(&sam, sam.start, sam.stop, room, out) {
+    if !split && hold_line(&sam, sam.start, sam.stop, with_cigar, room, out) {
         return Fed::Written;
     }
     put_any(sam, split, with_cigar, out)

@@ -1,6 +1,6 @@
 //! The columns of an alignment's line that are looked at.
 
-ghost use Rattle.std.specs.Prelude.{◌≡◌, ◌≤◌, length, nat_le, option_map, true};
+ghost use Rattle.std.specs.Prelude.{◌≡◌, ◌∷◌, ◌≤◌, length, nat_le, option_map, true};
 ghost use Rattle.bt_lines.specs.Lines.{pieces};
 ghost use Rattle.bt_seq.specs.Alignment.{fields_of};
 ghost use Rattle.bt_seq.specs.Sam.{IsCut, fields_lent};
@@ -27,6 +27,13 @@ pub(crate) fn first_fields(text: &[u8]) -> Option<Fields<'_>>
     ensures { option_map fields_lent result ≡ fields_of (pieces 9 text.now) }
 {
     let (name, rest) = cut_short(text)?;
+    fields_behind(name, rest)
+}
+
+// The same for a text of which the name was cut off.
+pub(crate) fn fields_behind<'a>(name: &'a [u8], rest: &'a [u8]) -> Option<Fields<'a>>
+    ensures { option_map fields_lent result ≡ fields_of (name.now ∷ pieces 9 rest.now) }
+{
     let (flag, rest) = cut_short(rest)?;
     let (chrom, rest) = cut_short(rest)?;
     let (position, rest) = cut_short(rest)?;

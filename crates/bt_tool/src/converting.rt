@@ -1,6 +1,6 @@
 //! The loop over the alignments of a SAM input: each is written as soon as its line was read.
 
-ghost use Rattle.std.specs.Prelude.{◌≡◌, None, OnOk, option_map};
+ghost use Rattle.std.specs.Prelude.{◌≡◌, None, OnOk, option_map, true};
 ghost use Rattle.bt_lines.specs.LentLine.{line_seen};
 ghost use Rattle.bt_lines.specs.Names.{told};
 ghost use Rattle.bt_lines.specs.Output.{HoldsBlock};
@@ -37,6 +37,21 @@ fn convert_line<K: Sink>(
     }
 }
 
+// From this length on a line is read by itself.
+const LONG: usize = 2048;
+
+// Whether the next lines are likely to stand whole in what was read ahead, and to end with a line feed alone: the last
+// one did, and is no long one.
+#[inline(always)]
+fn may_convert_whole<S: Source>(lines: &LineReader<S>) -> bool
+    ensures { result ≡ true → fault_kept lines.now ≡ None }
+{
+    let Some(line) = lines.line() else {
+        return false;
+    };
+    line.text.len() < LONG && lines.may_pass()
+}
+
 // Writes the alignments of those of the next lines that stand whole in what was read ahead, up to a line at fault.
 // The line that it fails at was given too.
 #[inline(always)]
@@ -50,7 +65,7 @@ fn convert_whole<S: Source, K: Sink>(
         lines.new out.new }
     ensures unchanged { OnOk result (converter.new ≡ converter.old) }
 {
-    if !lines.may_pass() {
+    if !may_convert_whole(lines) {
         return Ok(());
     }
     let mut whole = lines.whole_lines();

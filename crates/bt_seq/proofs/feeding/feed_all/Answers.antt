@@ -1,4 +1,4 @@
-use Rattle.std.proofs.Common.{◌++◌, ◌∷◌, [], ap, subst, sym, ◌∙◌}
+use Rattle.std.proofs.Common.{◌++◌, ◌∷◌, [], subst, sym}
 use Rattle.bt_lines.specs.Fault.{Told}
 use Rattle.bt_seq.specs.Alignment.{alignment_of}
 use Rattle.bt_seq.specs.FedTexts.{SaidUnwritten}

@@ -6,7 +6,7 @@ use Rattle.bt_tool.proofs.converting.convert_whole.Goals as goal
 
 pub pass-requires-clause-whole : goal.pass-requires-clause-whole
 pass-requires-clause-whole g c =
-    let going = c.may_pass.ensures c.if-not-may_pass.false in
+    let going = c.may_convert_whole.ensures c.if-not-may_convert_whole.false in
     let passed =
     passed_of g.S.Source.left g.S.Source.has_failed g.S.Source.end_told g.S.Source.is_read c.args.converter.now.split c.args.converter.now.with_cigar c.args.lines.now c.args.out.now
     c.whole_lines-whole.result (c.whole_lines-whole.ensures going) c.feed_lines-fed.result c.feed_lines-fed.new.lines c.feed_lines-fed.new.out (c.feed_lines-fed.ensures.feeds c.requires) in
@@ -14,7 +14,7 @@ pass-requires-clause-whole g c =
 
 pub returns-clause-converts : goal.returns-clause-converts
 returns-clause-converts g c =
-    let going = c.may_pass.ensures c.if-not-may_pass.false in
+    let going = c.may_convert_whole.ensures c.if-not-may_convert_whole.false in
     texts_given g.S.Source.left g.S.Source.has_failed g.S.Source.end_told g.S.Source.is_read c.args.converter.now c.args.lines.now c.args.out.now
     c.whole_lines-whole.result (c.whole_lines-whole.ensures going) c.feed_lines-fed.result c.feed_lines-fed.new.lines c.feed_lines-fed.new.out c.pass.new.self (c.feed_lines-fed.ensures.feeds c.requires)
     (λ texts passed. c.pass.ensures texts (subst (ArePassed (held c.args.lines.now) texts) (sym c.passed-passed.ensures) passed))

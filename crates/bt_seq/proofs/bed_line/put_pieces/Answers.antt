@@ -1,7 +1,7 @@
 use Rattle.std.proofs.lemmas.Result.{err_from_is_err_and}
 use Rattle.bt_seq.specs.Sam.{alignment_lent}
 use Rattle.bt_seq.proofs.LineLemmas.{cut_place, puts_line}
-use Rattle.bt_seq.proofs.bed_line.put_line.Goals as goal
+use Rattle.bt_seq.proofs.bed_line.put_pieces.Goals as goal
 
 pub returns-in_err-put_place : goal.returns-in_err-put_place
 returns-in_err-put_place g c =
