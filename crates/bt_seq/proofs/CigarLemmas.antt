@@ -1,13 +1,14 @@
 -- Lemmas on the operations of a CIGAR.
 use Rattle.std.proofs.Common.{◌≡◌, ℕ, ◌+◌, ◌<◌, ◌≤◌, Bool, true, false, List, [], ◌∷◌, ◌++◌, length, take, drop, get_or, Option, Some, None, refl, sym, ap, ◌∙◌, arith, cond, option_map, append-nil, length-append, length-take}
+use Rattle.std.specs.Prelude.{IfSome}
 use Rattle.std.specs.Char.{is_ascii_digit}
 use Rattle.std.specs.List.{list_all}
 use Rattle.std.proofs.lemmas.List.Folds.{list_all_more}
 use Rattle.std.specs.Str.Parse.{digits_value}
 use Rattle.std.proofs.lemmas.Bool.Decides.{nat_tests}
 use Rattle.std.proofs.lemmas.Bool.{false≢true, and_parts}
-use Rattle.std.proofs.lemmas.List.{take-append-drop, drop_more, take-append-le, get_or_append_left, take_all}
-use Rattle.bt_lines.proofs.NumberLemmas.{value_of_digits, value_of_empty, value_of_large, value_of_other}
+use Rattle.std.proofs.lemmas.List.{take-append-drop, take_more, drop_more, take-append-le, get_or_append_left, take_all}
+use Rattle.bt_lines.proofs.NumberLemmas.{digits_below, digits_denoting, value_of_digits, value_of_empty, value_of_large, value_of_other, value_short}
 use Rattle.bt_lines.specs.Number.{value_of}
 use Rattle.bt_seq.specs.Cigar.{Part, is_letter, onto_part, operation_of, operations_in, operations_of_parts, parts_of, covered_by, with_operation, with_part}
 use Rattle.bt_seq.specs.CigarSteps.{none_left, span_with}
@@ -176,3 +177,20 @@ parts_cut digits letter rest parts e is found =
     let here : parts_of (letter ∷ rest) ≡ Some (record { digits = []; letter = letter } ∷ parts) = rw (is, found) refl in
     parts_behind digits (letter ∷ rest) e ∙ ap (onto_front digits) here ∙ onto_some digits (record { digits = []; letter = letter }) parts
     ∙ ap (λ (d : List ℕ). Some (record { digits = d; letter = letter } ∷ parts)) (append-nil digits)
+
+-- a single M covers as many bases as its number says
+single_match : (digits : List ℕ) (value : ℕ) → length digits ≤ 12 → Some value ≡ value_of digits → span_with 0 (operations_in (digits ++ 77 ∷ [])) ≡ Some value
+unfolding operations_in value_of
+single_match digits value few e =
+    let are = digits_denoting digits value e in
+    let small : value ≤ 999999999999 = value_short (length digits) value (omega (arith, are.1, digits_below digits are.0)) few in
+    let first = first_operation_is digits 77 [] (digits_no_letters digits are.0) refl in
+    ap (span_with 0) first
+    ∙ ap (λ v. span_with 0 (with_operation (option_map (λ l. record { length = l; letter = 77 }) v) (Some []))) (sym e)
+    ∙ ap Some (grind (arith, nat_tests))
+
+pub single_span_is : (text : List ℕ) (end : ℕ) (number : Option ℕ) → end ≤ 12 → length text ≡ end + 1 → get_or text end 0 ≡ 77 → number ≡ value_of (take end text) → IfSome number (λ span. span_with 0 (operations_in text) ≡ Some span)
+single_span_is text end None few size last e = tt
+single_span_is text end (Some value) few size last e =
+    let whole : text ≡ take end text ++ 77 ∷ [] = sym (take_all (end + 1) text (omega (arith, size))) ∙ take_more text end 0 (omega (arith, size)) ∙ ap (λ b. take end text ++ b ∷ []) last in
+    ap (λ l. span_with 0 (operations_in l)) whole ∙ single_match (take end text) value (omega (arith, few, length-take end text)) e

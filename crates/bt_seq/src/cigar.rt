@@ -1,30 +1,64 @@
 //! CIGAR strings: how an alignment goes along the reference.
 
-ghost use Rattle.std.specs.Prelude.{◌≡◌, min, option_map};
+ghost use Rattle.std.specs.Prelude.{◌≡◌, IfSome, Some, min, option_map};
 ghost use Rattle.bt_seq.specs.Cigar.{consumes_reference, covered_by, is_letter, operations_in, operations_of};
 ghost use Rattle.bt_seq.specs.CigarSteps.{IsFirst, IsWithin, span_with};
 
 use crate::operation::Operation;
+use crate::sam_text::number_in;
 use bt_lines::MAX_NUMBER;
 
 /// A reference length is exact up to here.
 const SPAN_LIMIT: u64 = 1_000_000_000_000;
 
+// A single operation of three digits has so many bytes.
+const SHORT: usize = 4;
+
 /// How many reference bases a CIGAR covers: the sum of the numbers of its M, D, N, `=` and X operations
 /// (SAM specification, section 1.4, field 6), but no more than 1,000,000,000,000. It is 0 for `*`, and
 /// none where the CIGAR is malformed: it is empty, ends in a number, has another letter, or has a letter
 /// without a number of at most 999,999,999,999.
+#[inline(always)]
 pub fn cigar_span(cigar: &[u8]) -> Option<u64>
     ensures { result ≡ span_with 0 (operations_of cigar.now) }
 {
     match cigar {
         [] => None,
         b"*" => Some(0),
-        _ => operations_span(cigar),
+        _ => span_in(cigar),
     }
 }
 
 // The same for a text of operations.
+#[inline(always)]
+fn span_in(text: &[u8]) -> Option<u64>
+    ensures { result ≡ span_with 0 (operations_in text.now) }
+{
+    let single = single_span(text);
+    if single.is_some() {
+        return single;
+    }
+    operations_span(text)
+}
+
+// The number of a single M operation, where it has at most three digits, as that of most reads without an insertion or
+// a deletion.
+#[inline(always)]
+fn single_span(text: &[u8]) -> Option<u64>
+    ensures { IfSome result (λ span. span_with 0 (operations_in text.now) ≡ Some span) }
+{
+    let size = text.len();
+    if size == 0 || size > SHORT {
+        return None;
+    }
+    if text[size - 1] != b'M' {
+        return None;
+    }
+    number_in(&text[..size - 1])
+}
+
+// The same, one operation after another.
+#[inline(always)]
 fn operations_span(text: &[u8]) -> Option<u64>
     ensures { result ≡ span_with 0 (operations_in text.now) }
 {
@@ -93,7 +127,7 @@ fn is_letter(byte: u8) -> bool
 mod tests {
     use super::*;
 
-    const SPANS: [(&[u8], Option<u64>); 14] = [
+    const SPANS: [(&[u8], Option<u64>); 18] = [
         (b"*", Some(0)),
         (b"", None),
         (b"M", None),
@@ -108,6 +142,10 @@ mod tests {
         (b"5Q", None),
         (b"5M3", None),
         (b"**", None),
+        (b"100M", Some(100)),
+        (b"75M", Some(75)),
+        (b"7SM", None),
+        (b"100S", Some(0)),
     ];
 
     // The first text of a table that has another reference length.

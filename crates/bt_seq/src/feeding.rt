@@ -20,7 +20,7 @@ use bt_lines::{Fault, MAX_NUMBER, Out, Sink, WholeLines, write_failed};
 pub(crate) enum Fed {
     // What it says was written, which may be nothing.
     Written,
-    // It was left as it is, and nothing was written: it is at fault.
+    // Nothing was written, and it is left: it is at fault, or none stands whole.
     Left,
     // What it says couldn't be written.
     Failed,

@@ -95,7 +95,7 @@ fn alignment(fields: Fields<'_>) -> Result<Option<SamRef<'_>>, Kind>
 
 // The number that a text denotes. Up to three digits, as most flags and qualities have, are read without a loop.
 #[inline(always)]
-fn number_in(text: &[u8]) -> Option<u64>
+pub(crate) fn number_in(text: &[u8]) -> Option<u64>
     ensures { result ≡ value_of text.now }
 {
     match text {

@@ -1,7 +1,8 @@
 use super::*;
 use crate::sam_text::sam_line;
-use bt_lines::{Kind, ScriptSink};
+use bt_lines::{Input, Kind, LineReader, ScriptSink, ScriptSource};
 use std::alloc::Global;
+use std::test::Fail;
 
 // A line, the options -split and -cigar, and what is written.
 type Case = (&'static [u8], bool, bool, &'static [u8]);
@@ -192,4 +193,55 @@ fn a_failed_write_is_told_from_then_on(rt: HostRuntime) {
     let want: &[u8] = b"ref\t0";
     let is_front = out.into_sink().taken() == want;
     assert!(rt; has_failed && is_front);
+}
+
+// A header, an alignment whose tabs stand among the first bytes, an unmapped read, an alignment of few bases, a line at
+// fault, and an alignment behind it.
+const LINES: &[u8] = b"@HD\tVN:1.6\n\
+read7\t163\tchr2\t12345679\t60\t20M100N12M\t=\t12345879\t332\tACGTACGTACGTACGTACGTACGTACGTACGT\tFFFFFFFFFFFFFFFFFFFFFFFFFFFFFFFF\tNM:i:2\n\
+read8\t4\t*\t0\t0\t*\t*\t0\t0\tACGT\t*\n\
+r003\t2064\tref\t29\t17\t6H5M\t*\t0\t0\tTAGGC\t*\n\
+r004\t0\tref\tx\t30\t5M\t*\t0\t0\tACGTA\t*\n\
+r005\t0\tref\t40\t30\t5M\t*\t0\t0\tACGTA\t*\n";
+
+// The options -split and -cigar, and what is written of these lines up to the one at fault.
+const WHOLE: [(bool, bool, &[u8]); 3] = [
+    (
+        false,
+        false,
+        b"chr2\t12345678\t12345810\tread7/2\t60\t+\nref\t28\t33\tr003\t17\t-\n",
+    ),
+    (
+        true,
+        false,
+        b"chr2\t12345678\t12345698\tread7/2\t60\t+\nchr2\t12345798\t12345810\tread7/2\t60\t+\n\
+ref\t28\t33\tr003\t17\t-\n",
+    ),
+    (
+        false,
+        true,
+        b"chr2\t12345678\t12345810\tread7/2\t60\t+\t20M100N12M\nref\t28\t33\tr003\t17\t-\t6H5M\n",
+    ),
+];
+
+// Whether the lines behind the header are written so, and as many are passed as stand before the one at fault.
+fn are_written_whole(alloc: Global, case: &(bool, bool, &'static [u8])) -> Result<bool, Fail> {
+    let source = ScriptSource::new(LINES, 1000, None);
+    let mut reader = LineReader::new(alloc, source, Input::First);
+    let has_header = reader.next()?.is_some();
+    let mut lines = reader.whole_lines();
+    let mut out = Out::new(ScriptSink::new(alloc, 1000, None));
+    let mut engine = BamToBed::new(case.0, case.1);
+    engine.feed_lines(&mut lines, &mut out)?;
+    out.flush()?;
+    Ok(has_header && lines.passed().lines == 3 && out.into_sink().taken() == case.2)
+}
+
+#[test]
+fn whole_lines_are_written_up_to_one_at_fault(rt: HostRuntime) -> Result<(), Fail> {
+    for case in &WHOLE {
+        let are_written = are_written_whole(rt.alloc(), case)?;
+        assert!(rt; are_written, "-split {}, -cigar {}", case.0, case.1);
+    }
+    Ok(())
 }
