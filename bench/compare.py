@@ -316,6 +316,8 @@ WORKLOADS = [
         for word, apart in (("few", 100_000), ("many", 400))
         for how in ([], ["-soft"])
     ),
+    # What a line costs that no record lies on or before.
+    Workload(["maskfasta"], Sequences("no", 1_000_000_000_000), (), None, None, 0.3, False, counted=OURS, output_option="-fo"),
 ]
 
 
