@@ -85,6 +85,9 @@ RUNS = [
     *((f"intersect {TWO} {further}", KEPT) for further in ("", "-c", "-wo")),
     *((f"subtract {TWO} {further}", KEPT) for further in ("", "-A")),
     ("genomecov -i a.bed -g g.txt -bg", {"a.bed": GAPS + spans(range(40), 90)}),
+    # Ends that descend, and short records beside long ones.
+    ("genomecov -i a.bed -g g.txt -bg", {"a.bed": "".join(f"chr2\t{at}\t{200 - 2 * at}\n" for at in range(60))}),
+    ("genomecov -i a.bed -g g.txt -bg", {"a.bed": "".join(f"chr2\t{at}\t{at + (90 if at % 3 else 9)}\n" for at in range(60))}),
     ("maskfasta -fi a.fa -bed b.bed", {"a.fa": f">chr2\nACGT\n{'A' * 90}\nAC\n", "b.bed": spans(range(50), 60)}),
     ("complement -i a.bed -g g.txt", {"a.bed": GAPS, "g.txt": GENOME + "".join(f"scaffold{at}\t50\n" for at in range(50))}),
 ]

@@ -1,4 +1,4 @@
--- The ends of the records that are open, as lists in which the order of equal ones doesn't matter.
+-- The ends of the records that are open: lists in ascending order, and what holds of lists in any order.
 use Rattle.std.specs.Prelude.{◌≡◌, ℕ, ◌<◌, ◌≤◌, ◌&&◌, ⊤, Bool, nat_le, List, [], ◌∷◌, All, filter, length, map}
 use Rattle.std.specs.BinaryHeap.{IsHeap}
 use Rattle.std.specs.Ordering.{nat_cmp}

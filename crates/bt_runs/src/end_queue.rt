@@ -139,7 +139,7 @@ fn first_left(ends: &[u64], from: usize, position: u64) -> usize
     at
 }
 
-// Drops the first ones, once they are more than the others, and gives how many of these are in front of the others.
+// Drops the first ones, once they are more than the others, and gives how many of the first ones are left.
 #[inline(always)]
 fn forget_passed(ends: &mut Vec<u64>, passed: usize) -> usize
     requires { passed ≤ length ends.old.items }

@@ -11,8 +11,8 @@ use std::collections::BinaryHeap;
 use std::marker::Model;
 
 // The ends of open records, each once. The last one that came stands at the end of a queue, which ascends, behind those
-// that came before and aren't greater; the others cost the log of how many they are. So a long record costs that once,
-// and the short ones behind it don't.
+// that came before and aren't greater. The greater ones move to the others, each once, where an end costs the log of how
+// many they are: so a long record costs the short ones behind it nothing.
 #[derive(Drop, Debug)]
 pub(crate) struct OpenEnds {
     queue: EndQueue,

@@ -99,7 +99,7 @@ impl<'o, H: Held, O: ChromOrder> Sweep<'o, H, O> {
         self.state.take_a(a, out)
     }
 
-    /// Whether a record of the first input that nothing hits has no line.
+    /// True only where a record of the first input that nothing hits has no line.
     pub fn needs_hit(&self) -> bool
         ensures { IsTrue result → NeedsHit (state_of self.now).shape }
     {

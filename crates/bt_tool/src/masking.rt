@@ -60,7 +60,7 @@ fn stands_before_bases<A: Source>(lines: &LineReader<A>) -> bool {
 }
 
 // Gives an engine those of the next lines that it knows beforehand to be written as they stand. It is tried where
-// some are likely to be, so not right behind a header or a record, and where it is time to.
+// some are likely to be, so not right behind a header or while a record is held, and where it is time to.
 fn pass_lines<A: Source, K: Sink>(
     pace: &mut Pace,
     lines: &mut LineReader<A>,

@@ -1,6 +1,6 @@
 //! How often a reader is asked for several records or lines at once.
 
-// Once so many lines are let pass between two questions, no more are.
+// From so many lines between two questions on their number grows no more, but falls by one.
 const MOST: u64 = 64;
 
 // Asking costs something where it gives few: at lines that end with a carriage return, between comments, where
@@ -42,9 +42,9 @@ impl Pace {
         self.from <= lines
     }
 
-    // Keeps what a question gave: it was asked behind so many lines, and stands behind so many now. The gap grows by
-    // a quarter, and behind the most it shrinks again: doubled, it would meet what comes back every eighth line at
-    // the same place each time.
+    // Keeps what a question gave: it was asked behind so many lines, and the input stands behind so many now. The gap
+    // grows by a quarter: one that doubles would always be a power of two, and in input that repeats every eight lines
+    // the questions would always meet the same one.
     #[inline(always)]
     pub(crate) fn note(&mut self, before: u64, lines: u64) {
         if self.enough <= lines.saturating_sub(before) {
