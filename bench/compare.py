@@ -254,6 +254,8 @@ class Workload:
 OURS = ("dunekettle",)
 BOTH = ("dunekettle", "bedtools")
 SHAPES = [[], ["-wa"], ["-wb"], ["-wa", "-wb"], ["-wo"], ["-u"], ["-v"], ["-c"]]
+# Those that write a line of a record that nothing hits.
+UNHIT_SHAPES = [["-v"], ["-c"]]
 # Of many held records: what is written of each hit, and what is asked of all of them at once.
 COUNTED_SHAPES = [[], ["-u"], ["-c"]]
 
@@ -266,9 +268,15 @@ WORKLOADS = [
     Workload(["complement"], Touching(3), BOTH, None, 450, 0.2),
     Workload(["complement"], Touching(6), BOTH, None, 600, 0.3),
     *(
-        Workload(["intersect", "-sorted", *shape], data, BOTH, None, None, 0.35, not shape)
+        Workload(["intersect", "-sorted", *shape], data, BOTH, None, None, 0.35, not shape,
+                 counted=OURS if shape in UNHIT_SHAPES else None)
         for data in (Pair(READS, EXONS), Pair(EXONS, PEAKS))
         for shape in SHAPES
+    ),
+    # Many records of the second input between those of the first.
+    *(
+        Workload(["intersect", "-sorted", *shape], Pair(PEAKS, REPEATS), BOTH, None, None, 0.35, False, counted=OURS)
+        for shape in COUNTED_SHAPES
     ),
     # What a sweep holds: many records that lie one in another, and many short ones under a long one.
     *(

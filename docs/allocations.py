@@ -78,6 +78,8 @@ def two_inputs(words, first, second):
     return words, lambda count: {"a": first(count), "b": second(count)}
 
 
+# Columns that are too long to stand inside a record that is kept: they are in a buffer.
+LONG = "\t" + "x" * 40
 FAR = f"chr1\t{8 * FROM}\t{8 * FROM + 5}\n"
 INTERSECT, SUBTRACT, MASK = "intersect -a a -b b", "subtract -a a -b b", "maskfasta -fi a -bed b"
 
@@ -99,6 +101,8 @@ STEADY = [
     *(two_inputs(words, lambda count: bed(count, 20, 10, "\tx"), lambda count: FAR)
       for words in (INTERSECT, f"{INTERSECT} -v", f"{INTERSECT} -g g", SUBTRACT, f"{SUBTRACT} -A")),
     *(two_inputs(words, lambda count: chromosomes(count, 10, "\tx"), lambda count: FAR) for words in (f"{INTERSECT} -v", SUBTRACT)),
+    *(two_inputs(words, lambda count: bed(count, 20, 10, LONG), lambda count: FAR) for words in (INTERSECT, SUBTRACT)),
+    *(two_inputs(words, lambda count: chromosomes(count, 10, LONG), lambda count: FAR) for words in (f"{INTERSECT} -v", SUBTRACT)),
     two_inputs(INTERSECT, lambda count: f"chr9\t{FROM}\t{FROM + 5}\n", lambda count: chromosomes(count, 10)),
     # Lines that no record reaches, and records that reach no line.
     two_inputs(MASK, lines, lambda count: f"chr1\t{FROM}\t{FROM + 5}\n"),
@@ -113,6 +117,7 @@ KEEPING = [
       for further in ("", " -wa", " -wb", " -wo", " -u", " -v", " -c", " -f 0.5 -r", " -held 100", " -g g")),
     *(two_inputs(f"{SUBTRACT}{further}", lambda count: bed(count, 20, 30, "\tx"), lambda count: bed(count, 5, 40, "\ty"))
       for further in ("", " -A", " -f 0.5", " -held 100")),
+    *(two_inputs(words, lambda count: bed(count, 20, 30, LONG), lambda count: bed(count, 5, 40, LONG)) for words in (INTERSECT, SUBTRACT)),
     *(two_inputs(words, lambda count: chromosomes(count, 10), lambda count: chromosomes(count, 20)) for words in (INTERSECT, SUBTRACT)),
     *(two_inputs(f"{MASK}{further}", lines, lambda count: within(count, 10, 5)) for further in ("", " -soft", " -fo o")),
     two_inputs(MASK, lines, lambda count: within(count, 10, 25)),

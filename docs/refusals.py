@@ -55,6 +55,10 @@ def spans(starts, length, further=""):
 
 KEPT = {"a.bed": GAPS + "chr2\t0\t90\n", "b.bed": "chr1\t5\t20\n" + spans(range(50), 9)}
 
+# Columns that are too long to stand inside a record that is kept: each takes a buffer.
+LONG = "\t" + "x" * 40
+KEPT_LONG = {"a.bed": f"{GAPS}chr2\t0\t90\nchr2\t1\t90{LONG}\n", "b.bed": "chr1\t5\t20\n" + spans(range(50), 9, LONG)}
+
 # (words, files): what each shows stands in its files.
 RUNS = [
     ("merge -i a.bed -g g.txt", {"a.bed": TOUCHING}),
@@ -82,8 +86,8 @@ RUNS = [
     (f"subtract {TWO}", {"a.bed": f"{GAPS}chr2\t5\t9\t{'x' * 40_000}\n", "b.bed": GAPS.replace("\t10\n", "\t5\n")}),
     # Many records that are kept behind some that aren't, and many chromosomes.
     ("merge -i a.bed -g g.txt -s", {"a.bed": GAPS + "chr2\t0\t99\tx\t0\t+\n" + spans(range(2, 99, 2), 1, "\tx\t0\t-")}),
-    *((f"intersect {TWO} {further}", KEPT) for further in ("", "-c", "-wo")),
-    *((f"subtract {TWO} {further}", KEPT) for further in ("", "-A")),
+    *((f"intersect {TWO} {further}", files) for files in (KEPT, KEPT_LONG) for further in ("", "-c", "-wo")),
+    *((f"subtract {TWO} {further}", files) for files in (KEPT, KEPT_LONG) for further in ("", "-A")),
     ("genomecov -i a.bed -g g.txt -bg", {"a.bed": GAPS + spans(range(40), 90)}),
     # Ends that descend, and short records beside long ones.
     ("genomecov -i a.bed -g g.txt -bg", {"a.bed": "".join(f"chr2\t{at}\t{200 - 2 * at}\n" for at in range(60))}),

@@ -32,3 +32,4 @@ pub mod KnownChromLemmas
 pub mod OwnFailureLemmas
 pub mod WholeRecordLemmas
 pub mod WholesGiven
+pub mod BoundLines

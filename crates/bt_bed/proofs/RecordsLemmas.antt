@@ -88,6 +88,15 @@ module _ {S O : Type 0} {g : Ghosts O} (left : S → Option (List ℕ)) (failed 
       let steps = steps_again left failed end view (of_some view.ahead (view.fault ≡ None) there records.placed.going) there (said_ahead _ view view.ahead records.placed.ahead) in
       answered records records (Some bed) e (steps_to records records view.ahead total steps)
 
+  -- whatever is lent of it
+  pub ahead_again : (records : Records S O g) (m : Member Feature) → IsTotal (order_in records) → (view_of records).ahead ≡ Some m → GivesRecord left failed records m.item records
+  unfolding view_of view_with order_in
+  ahead_again records m total e =
+      let view = view_of records in
+      let there : IsSome view.ahead = subst IsSome (sym e) refl in
+      let steps = steps_again left failed end view (of_some view.ahead (view.fault ≡ None) there records.placed.going) there (said_ahead _ view view.ahead records.placed.ahead) in
+      subst (λ (ahead : Option (Member Feature)). RecordStepsTo left failed records ahead records) e (steps_to records records view.ahead total steps)
+
 module _ {S Q : Type 0} (left : S → Option (List ℕ)) (failed end : S → Bool) (sorting : Sorting) (cursor : Cursor S Q) where
   -- a reader that has given no record has all of the good ones left
   pub good_at_start : (reader : LineReader S) → cursor.reader ≡ reader → cursor.fault ≡ None → has_ahead cursor.neighbours ≡ false → last_in cursor.neighbours ≡ None → line_fault reader ≡ None

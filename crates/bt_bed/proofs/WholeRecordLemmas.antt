@@ -12,7 +12,7 @@ use Rattle.bt_lines.specs.declared.line_reader.LineReader.{LineReader}
 use Rattle.bt_bed.proofs.CursorLemmas.{cursor_passed, cursor_record, cursor_start, known_last, placed_none, placed_taken}
 use Rattle.bt_bed.proofs.FeatureLemmas.{record_said, said_ends}
 use Rattle.bt_bed.proofs.NeighbourLemmas.{continued, found_is, none_has, said_by_none}
-use Rattle.bt_bed.proofs.RecordsLemmas.{passes_record, steps_record}
+use Rattle.bt_bed.proofs.RecordsLemmas.{passes_record, steps_record, ahead_again}
 use Rattle.bt_bed.specs.Ahead.{StandsIn, feature_at, member_at, spot_of, start_at, text_at}
 use Rattle.bt_bed.specs.Cursor.{IsPlaced, view_in, view_with}
 use Rattle.bt_bed.specs.Feature.{Feature}
@@ -167,6 +167,9 @@ module _ {S O : Type 0} {g : Ghosts O} (left : S → Option (List ℕ)) (failed 
     gives_record : GivesRecord left failed old r peeked
     gives_record = subst (λ o. StepsTo left failed old o peeked) member_is steps.answers
 
+    gives_again : GivesRecord left failed peeked r peeked
+    gives_again = ahead_again left failed end peeked (record { line = line.number; item = r }) (subst IsTotal (sym steps.order) total) member_is
+
     -- it was given, and another reader stands behind it
     next_passed : (new : Records S O g) → new.cursor.reader ≡ reader → new.cursor.fault ≡ None → StartsAt neighbours r.start new.cursor.neighbours → PassesNext left failed end IsRead old r new
     unfolding peeked cursor_ahead with_ahead view_of view_with
@@ -180,6 +183,7 @@ module _ {S O : Type 0} {g : Ghosts O} (left : S → Option (List ℕ)) (failed 
         record {
           peeked = peeked;
           gives = gives_record;
+          again = gives_again;
           sound = steps.sound;
           order = steps.order;
           read = plain.read;

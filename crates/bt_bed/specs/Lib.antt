@@ -29,7 +29,10 @@ pub mod Cursor
 pub mod Records
 pub mod Blocks
 pub mod Meeting
+pub mod KeptText
+pub mod KeptForm
 pub mod Rec
 pub mod OrderInUse
+pub mod RecordLine
 pub mod WholeInside
 pub mod WholeRecords

@@ -5,9 +5,11 @@ use Rattle.bt_lines.specs.Reader.{HasRead, IsSound, held}
 use Rattle.bt_lines.specs.Whole.{Begins, PassesLine, passed_by}
 use Rattle.bt_lines.specs.declared.whole.WholeLines.{WholeLines}
 use Rattle.bt_bed.specs.Feature.{Feature}
-use Rattle.bt_bed.specs.Record.{IsFeature, record_of}
+use Rattle.bt_bed.specs.Record.{IsFeature, bed_text, record_of}
+use Rattle.bt_bed.specs.RecordLine.{Says, text_in}
 use Rattle.bt_bed.specs.Records.{GivesRecord, PassesRecord, below, fault_kept, last_locus, order_in, record_ahead}
 use Rattle.bt_bed.specs.declared.order.ChromOrder.{Ghosts}
+use Rattle.bt_bed.specs.declared.record_line.RecordLine.{RecordLine}
 use Rattle.bt_bed.specs.declared.records.Records.{Records}
 use Rattle.bt_bed.specs.declared.whole_records.PassedRecords.{PassedRecords}
 use Rattle.bt_bed.specs.declared.whole_records.WholeRecords.{WholeRecords}
@@ -42,6 +44,20 @@ GivesWholes old [] new = new ≡ old
 GivesWholes old (r ∷ records) new =
     (mid : WholeRecords) × GivesWhole old r mid × GivesWholes mid records new
 
+-- the record of the next line was
+pub record GivesLine (old : WholeRecords) (line : RecordLine) (r : Feature) (new : WholeRecords)
+    : Type 0 where
+  pub gives : GivesWhole old r new
+  pub says : Says line r
+  pub text : gives.text ≡ text_in line
+
+-- records of lines as they are written were, one after another
+abbrev pub GivesWritten : WholeRecords → List Feature → WholeRecords → Type 0
+GivesWritten old [] new = new ≡ old
+GivesWritten old (r ∷ records) new =
+    (mid : WholeRecords) × (gives : GivesWhole old r mid) × (bed_text r ≡ gives.text)
+    × GivesWritten mid records new
+
 -- what was passed
 unfoldable pub records_passed : WholeRecords → PassedRecords
 records_passed whole = record { lines = passed_by whole.lines; start = whole.start }
@@ -68,6 +84,7 @@ module _ {S O : Type 0} {g : Ghosts O} where
     pub record PassesNext (old : Records S O g) (r : Feature) (new : Records S O g) : Type 0 where
       pub peeked : Records S O g
       pub gives : GivesRecord left failed old r peeked
+      pub again : GivesRecord left failed peeked r peeked
       pub sound : IsSound left end (below old) → IsSound left end (below peeked)
       pub order : order_in peeked ≡ order_in old
       pub read : HasRead IsRead (below old) (below peeked)

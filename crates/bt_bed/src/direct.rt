@@ -6,6 +6,7 @@ ghost use Rattle.bt_lines.specs.Columns.{IsFirstTab};
 ghost use Rattle.bt_bed.specs.Feature.{Feature};
 ghost use Rattle.bt_bed.specs.FirstColumns.{AreBounds, BeginsWith, BeginsWithName, EndsName, IsRecordName, Leads};
 ghost use Rattle.bt_bed.specs.Record.{columns_in, columns_say, record_of, strand_named, strand_of};
+ghost use Rattle.bt_bed.specs.RecordLine.{IsLineOf};
 ghost use Rattle.bt_lines.specs.Lines.{pieces};
 ghost use Rattle.bt_lines.specs.Number.{value_of};
 
@@ -14,6 +15,7 @@ use crate::bounds::Bounds;
 use crate::leading::Leading;
 use crate::names::is_same_name;
 use crate::parsing::behind;
+use crate::record_line::RecordLine;
 use crate::strand::Strand;
 use crate::tabs::{early_tab, second_tab};
 use bt_lines::{MAX_DIGITS, eight_digits, few_digits, first_tab};
@@ -60,6 +62,24 @@ pub(crate) fn direct_bounds_on(text: &[u8], name: &[u8]) -> Option<Bounds>
         return None;
     }
     bounds_behind(text, name.len())
+}
+
+// Such a line, with the bounds of its feature. Its further columns aren't looked at.
+#[inline(always)]
+pub(crate) fn direct_line_on<'t>(text: &'t [u8], name: &[u8]) -> Option<RecordLine<'t>>
+    requires { IsRecordName name.now }
+    ensures { IfSome result (IsLineOf text.now name.now) }
+{
+    if !begins_with_name(text, name) {
+        return None;
+    }
+    let numbers = numbers_behind(text, name.len())?;
+    Some(RecordLine {
+        text,
+        name: name.len(),
+        start: numbers.start,
+        stop: numbers.stop,
+    })
 }
 
 // Whether a text begins with a name and a tab behind it.

@@ -1,15 +1,22 @@
 //! Growths that are refused, by `rt try --test --fail-alloc N -- refused_growth` for each N from 1. Each
 //! test checks what is left where its call was refused, and then ends with want of memory.
 
-use crate::{BedRef, Genome, parse_bed, write_bed, write_cut};
+use crate::{BedRef, Genome, Rec, parse_bed, write_bed, write_cut};
 use bt_lines::{Input, LineReader, ScriptSource, no_memory};
 use std::alloc::{AllocError, Global};
 use std::process::Abort;
 use std::test::Fail;
 
-const LINE: &[u8] = b"chr1\t7\t100\tn\t5\t+\tand more columns";
+const LINE: &[u8] = b"chr1\t7\t100\tn\t5\t+\tand more columns than stand inside";
 
-const PART: &[u8] = b"chr1\t30\t90\tn\t5\t+\tand more columns";
+const PART: &[u8] = b"chr1\t30\t90\tn\t5\t+\tand more columns than stand inside";
+
+// A record whose text stands inside, one that is a byte too long for that, and a longer one.
+const GROWING: [&[u8]; 3] = [
+    b"chr1\t1\t2\tshort",
+    b"chr1\t3\t4\tn\t5\t+\twith one more byte in",
+    LINE,
+];
 
 // The record of the line.
 fn record() -> Option<BedRef<'static>> {
@@ -48,18 +55,56 @@ fn refused_growth_of_a_part(rt: HostRuntime) -> Result<(), Fail> {
     Ok(written?)
 }
 
+fn is_same(kept: BedRef<'_>, bed: &BedRef<'_>) -> bool {
+    kept.chrom == bed.chrom
+        && (kept.start, kept.stop) == (bed.start, bed.stop)
+        && kept.strand == bed.strand
+        && kept.rest == bed.rest
+}
+
 #[test]
 fn refused_growth_of_a_kept_record(rt: HostRuntime) -> Result<(), Fail> {
     let bed = record().ok_or("a record")?;
     let rec = bed.to_rec(rt.alloc())?;
-    let kept = rec.as_bed();
-    let is_same = kept.chrom == bed.chrom && (kept.start, kept.stop) == (bed.start, bed.stop);
-    holds(
-        &rt,
-        is_same && kept.rest == bed.rest,
-        "the record that is kept",
-    );
+    holds(&rt, is_same(rec.as_bed(), &bed), "the record that is kept");
     Ok(())
+}
+
+// Makes a record the next one, or that behind its name alone.
+fn become_next(rec: &mut Rec, next: &BedRef<'_>, has_name: bool) -> Result<(), AllocError> {
+    if has_name || rec.as_bed().chrom != next.chrom {
+        rec.copy_from(next)
+    } else {
+        rec.copy_rest_from(next)
+    }
+}
+
+// A record becomes longer ones, one after another. Where that is refused it has to be the one before.
+fn become_longer(rt: &impl Abort, alloc: Global, has_name: bool) -> Result<(), Fail> {
+    let mut before = parse_bed(GROWING[0])
+        .ok()
+        .flatten()
+        .ok_or("a short record")?;
+    let mut rec = before.to_rec(alloc)?;
+    for line in &GROWING[1..] {
+        let next = parse_bed(line).ok().flatten().ok_or("a longer record")?;
+        let became = become_next(&mut rec, &next, has_name);
+        let want = if became.is_ok() { next } else { before };
+        holds(rt, is_same(rec.as_bed(), &want), "a record that grows");
+        became?;
+        before = next;
+    }
+    Ok(())
+}
+
+#[test]
+fn refused_growth_of_a_copied_record(rt: HostRuntime) -> Result<(), Fail> {
+    become_longer(&rt, rt.alloc(), true)
+}
+
+#[test]
+fn refused_growth_of_a_copied_rest(rt: HostRuntime) -> Result<(), Fail> {
+    become_longer(&rt, rt.alloc(), false)
 }
 
 // A genome file with names that are kept, and lines that are skipped. Its bytes come seven at a time, so

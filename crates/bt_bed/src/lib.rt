@@ -4,7 +4,9 @@
 //! keeps it; both are written whole or in parts ([`write_bed`], [`write_cut`], [`put_bed`],
 //! [`put_cut`]). [`Records`] reads the features of sorted input in an order of the chromosomes
 //! ([`ChromOrder`]), that of a [`Genome`] or of the bytes of their names ([`ByteOrder`]), and [`Blocks`]
-//! those of input in which only the records of a chromosome that stand together are sorted.
+//! those of input in which only the records of a chromosome that stand together are sorted. Where several
+//! records stand whole in what was read, [`WholeRecords`] gives one after another, or the line of each
+//! ([`RecordLine`]), and the reader is told once what was passed.
 //!
 //! An example, which is the test in `example.rt`: the records of a source, in the order of a genome
 //! file that has `chr1` first.
@@ -45,6 +47,7 @@ mod genome_order;
 mod growth_tests;
 mod header;
 mod interval_line;
+mod kept_text;
 pub mod laws;
 mod leading;
 mod names;
@@ -54,6 +57,7 @@ mod order_in_use;
 mod parsing;
 mod putting;
 mod rec;
+mod record_line;
 mod records;
 mod sorted;
 mod spot;
@@ -75,6 +79,7 @@ pub use order::ChromOrder;
 pub use parsing::parse_bed;
 pub use putting::{put_bed, put_cut};
 pub use rec::Rec;
+pub use record_line::RecordLine;
 pub use records::Records;
 pub use strand::Strand;
 pub use taken::Taken;

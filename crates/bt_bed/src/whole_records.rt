@@ -4,7 +4,8 @@ ghost use Rattle.bt_bed.specs.FirstColumns.{IsRecordName};
 
 use crate::bed::BedRef;
 use crate::bounds::Bounds;
-use crate::direct::{direct_bounds_on, direct_feature_on};
+use crate::direct::{direct_bounds_on, direct_feature_on, direct_line_on};
+use crate::record_line::RecordLine;
 use bt_lines::{PassedLines, WholeLines};
 
 /// Goes over the records that stand whole in what a reader took ahead, on the chromosome of the record that it
@@ -31,10 +32,12 @@ pub struct PassedRecords {
 
 #[tactic(auto, unfolding(crate::specs::WholeRecords::lines_in, crate::specs::WholeRecords::chrom_in, crate::specs::WholeRecords::start_in, crate::specs::WholeRecords::records_passed))]
 impl<'a> WholeRecords<'a> {
-    ghost use Rattle.std.specs.Prelude.{◌≡◌, None, IfSome};
+    ghost use Rattle.std.specs.Prelude.{◌≡◌, List, None, IfSome, map};
+    ghost use Rattle.bt_lines.specs.Whole.{AreLines, passed_by};
     ghost use Rattle.bt_bed.specs.Bed.{feature_lent};
     ghost use Rattle.bt_bed.specs.Feature.{Feature};
-    ghost use Rattle.bt_bed.specs.WholeRecords.{GivesWhole, chrom_in, records_passed};
+    ghost use Rattle.bt_bed.specs.Record.{bed_text};
+    ghost use Rattle.bt_bed.specs.WholeRecords.{GivesLine, GivesWhole, GivesWritten, chrom_in, lines_in, records_passed};
 
     /// The next record, which is passed.
     #[inline(always)]
@@ -67,6 +70,39 @@ impl<'a> WholeRecords<'a> {
         self.lines.pass(text.len());
         self.start = bounds.start;
         Some(bounds)
+    }
+
+    /// The line of the next record, which is passed. Its further columns aren't looked at.
+    #[inline(always)]
+    pub fn next_line(&mut self) -> Option<RecordLine<'a>>
+        ensures given { IfSome result (λ line. (r : Feature) × GivesLine self.old line r self.new) }
+        ensures none { result ≡ None → self.new ≡ self.old }
+    {
+        let text = self.lines.text()?;
+        let line = direct_line_on(text, self.name)?;
+        if line.start() < self.start {
+            return None;
+        }
+        self.lines.pass(text.len());
+        self.start = line.start();
+        Some(line)
+    }
+
+    /// The lines that were passed since these, but for the last one of them, each with its line feed.
+    #[inline(always)]
+    pub fn before_last(&self, later: &WholeRecords<'a>) -> &'a [u8]
+        ensures { (records : List Feature) (mid : WholeRecords) (next : Feature) → GivesWritten self.now records mid
+            → GivesWhole mid next later.now → AreLines result.now (map bed_text records) }
+    {
+        self.lines.before_last(&later.lines)
+    }
+
+    /// How many bytes of lines were passed since the reader lent them.
+    #[inline(always)]
+    pub fn bytes_passed(&self) -> usize
+        ensures { result ≡ (passed_by (lines_in self.now)).bytes }
+    {
+        self.lines.passed().bytes
     }
 
     /// The chromosome of the records.

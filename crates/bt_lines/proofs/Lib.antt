@@ -18,3 +18,4 @@ pub mod ReadsLemmas
 pub mod ReaderLemmas
 pub mod StepLemmas
 pub mod WholeLemmas
+pub mod HeldLines

@@ -1,5 +1,5 @@
 -- Lines that stand whole in what a reader took ahead, and end with a line feed alone.
-use Rattle.std.specs.Prelude.{◌≡◌, ℕ, suc, ◌+◌, Bool, false, List, [], ◌∷◌, ◌++◌, drop, length, Option}
+use Rattle.std.specs.Prelude.{◌≡◌, ℕ, suc, ◌+◌, Bool, false, List, [], ◌∷◌, ◌++◌, drop, flat_map, length, Option, ⊤}
 use Rattle.std.specs.Io.BufRead.{ends_with_byte}
 use Rattle.bt_lines.specs.LentLine.{NoLineFeed}
 use Rattle.bt_lines.specs.Lines.{TextLine}
@@ -33,6 +33,20 @@ abbrev pub PassesLines : WholeLines → List (List ℕ) → WholeLines → Type 
 PassesLines old [] new = new ≡ old
 PassesLines old (text ∷ texts) new =
     (mid : WholeLines) × PassesLine old text mid × PassesLines mid texts new
+
+-- texts, each with this end
+abbrev pub ended_by : List ℕ → List (List ℕ) → List ℕ
+ended_by end texts = flat_map (λ text. text ++ end) texts
+
+-- no text has a line feed
+abbrev pub AreClear : List (List ℕ) → Type 0
+AreClear [] = ⊤
+AreClear (text ∷ texts) = NoLineFeed text × AreClear texts
+
+-- the bytes are lines of these texts, each with a line feed alone
+pub record AreLines (bytes : List ℕ) (texts : List (List ℕ)) : Type 0 where
+  pub is : bytes ≡ ended_by (10 ∷ []) texts
+  pub clear : AreClear texts
 
 -- nothing was passed yet of these bytes
 pub record Begins (bytes : List ℕ) (whole : WholeLines) : Type 0 where

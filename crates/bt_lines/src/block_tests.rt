@@ -376,12 +376,38 @@ fn both_are_held_where_both_fit(rt: HostRuntime) -> Result<(), Fail> {
     Ok(())
 }
 
+// What the sink has of so many bytes and of two lines, with another end each, and whether the lines were held.
+fn lines_behind(alloc: Global, before: usize) -> Result<(bool, Vec<u8>), Fail> {
+    let mut output = Out::new(ScriptSink::new(alloc, BLOCK, None));
+    output.put(long_line(alloc, before, b"")?.as_slice())?;
+    let is_held = output.hold_lines(b"ab\n\n", b"\t0\n");
+    output.flush()?;
+    let sink = output.into_sink();
+    let mut taken = Vec::new(alloc);
+    taken.extend_from_slice(sink.taken().get(before..).unwrap_or(b""))?;
+    Ok((is_held, taken))
+}
+
+// All lines are held back, also to the block's last byte, or none of them.
+#[test]
+fn lines_are_held_with_another_end(rt: HostRuntime) -> Result<(), Fail> {
+    let alloc = rt.alloc();
+    let all = b"ab\t0\n\t0\n".as_slice();
+    let (is_held, taken) = lines_behind(alloc, 0)?;
+    assert_eq!(rt; (is_held, taken.as_slice()), (true, all));
+    let (is_held, taken) = lines_behind(alloc, 8184)?;
+    assert_eq!(rt; (is_held, taken.as_slice()), (true, all));
+    let (is_held, taken) = lines_behind(alloc, 8185)?;
+    assert_eq!(rt; (is_held, taken.as_slice()), (false, b"".as_slice()));
+    Ok(())
+}
+
 #[test]
 fn nothing_is_held_behind_a_failure(rt: HostRuntime) -> Result<(), Fail> {
     let mut failed = Out::new(ScriptSink::new(rt.alloc(), BLOCK, Some(0)));
     failed.put(b"line")?;
     let is_told = failed.flush().is_err();
-    let is_held = failed.hold_both(b"line", b"\n");
+    let is_held = failed.hold_both(b"line", b"\n") || failed.hold_lines(b"line\n", b"\n");
     assert!(rt; is_told && !is_held);
     Ok(())
 }
@@ -403,5 +429,30 @@ fn whole_lines_are_those_with_a_line_feed_alone(rt: HostRuntime) -> Result<(), F
     let _ = reader.into_source();
     assert!(rt; is_first && is_ahead && none_passed && is_second && is_cut);
     assert_eq!(rt; given, 2);
+    Ok(())
+}
+
+// The lines between two places are given with their line feeds, but for the last one that was passed.
+#[test]
+fn lines_that_were_passed_are_given(rt: HostRuntime) -> Result<(), Fail> {
+    let mut reader = LineReader::new(
+        rt.alloc(),
+        ScriptSource::new(b"a\nbc\n\nd\n", BLOCK, None),
+        Input::First,
+    );
+    let is_first = matches!(reader.next()?, Some(line) if line.text == b"a".as_slice());
+    let from = reader.whole_lines();
+    let mut ahead = from;
+    let mut lengths = Vec::new(rt.alloc());
+    for _ in 0..3 {
+        if let Some(text) = ahead.text() {
+            ahead.pass(text.len());
+        }
+        lengths.push(from.before_last(&ahead).len())?;
+    }
+    let is_before = from.before_last(&ahead) == b"bc\n\n".as_slice();
+    let _ = reader.into_source();
+    assert!(rt; is_first && is_before);
+    assert_eq!(rt; lengths.as_slice(), [0, 3, 4].as_slice());
     Ok(())
 }

@@ -1,11 +1,12 @@
 //! Bytes out, in order, to a sink.
 
-ghost use Rattle.std.specs.Prelude.{◌≡◌, ◌++◌, ◌+◌, ◌%◌, ℕ, ◌≤◌, ◌<◌, false, true, [], length, OnOk, OnErr, IfErr, IsErr, Some, None};
+ghost use Rattle.std.specs.Prelude.{◌≡◌, ◌++◌, ◌+◌, ◌%◌, ℕ, ◌≤◌, ◌<◌, false, true, List, [], length, OnOk, OnErr, IfErr, IsErr, Some, None};
 ghost use Rattle.std.specs.Io.KnownBytes.{Appends, Keeps, append_known};
 ghost use Rattle.bt_lines.specs.Output.{HoldsBlock, IsFrontOf, Grows, block_size};
 ghost use Rattle.bt_lines.specs.Fault.{write_failed};
 ghost use Rattle.bt_lines.specs.Names.{told};
 ghost use Rattle.bt_lines.specs.Putting.{PutsAll};
+ghost use Rattle.bt_lines.specs.Whole.{AreLines, ended_by};
 
 use crate::block::BLOCK;
 use crate::copying::is_short;
@@ -113,6 +114,21 @@ impl<K: Sink> Out<K> {
         }
         self.held.append_both(piece, end);
         true
+    }
+
+    /// Puts lines, each with this end in the place of its line feed, if no write has failed and there is room for them,
+    /// and answers whether it did; else nothing changes. It writes nothing to the sink.
+    #[inline(always)]
+    pub fn hold_lines(&mut self, lines: &[u8], end: &[u8]) -> bool
+        ensures held { result ≡ true → (texts : List (List ℕ)) → AreLines lines.now texts
+            → PutsAll self.old (ended_by end.now texts) self.new }
+        ensures untaken { self.new.took ≡ self.old.took }
+        ensures unchanged { result ≡ false → self.new ≡ self.old }
+    {
+        if self.has_failed {
+            return false;
+        }
+        self.held.append_lines(lines, end)
     }
 
     // Puts two short pieces, as `hold_both` does, and no others: so nothing is called where they are put.

@@ -1,6 +1,6 @@
 //! Lines that stand whole in what a reader took ahead.
 
-ghost use Rattle.std.specs.Prelude.{◌≤◌, length};
+ghost use Rattle.std.specs.Prelude.{◌≡◌, ◌-◌, ◌≤◌, drop, length, take};
 
 use crate::block::ends_with_return;
 use crate::feeds::first_feed;
@@ -35,7 +35,7 @@ pub struct PassedLines {
 #[tactic(auto, unfolding(crate::specs::Whole::rest_of, crate::specs::Whole::passed_by))]
 impl<'a> WholeLines<'a> {
     ghost use Rattle.std.specs.Prelude.{◌≡◌, ◌<◌, List, ℕ, IfSome};
-    ghost use Rattle.bt_lines.specs.Whole.{Begins, BeginsWithLine, PassesLine, passed_by, rest_of};
+    ghost use Rattle.bt_lines.specs.Whole.{AreLines, Begins, BeginsWithLine, PassesLine, PassesLines, passed_by, rest_of};
 
     // Those of some bytes.
     #[inline(always)]
@@ -76,6 +76,15 @@ impl<'a> WholeLines<'a> {
         self.lines += 1;
     }
 
+    /// The lines that were passed since these, but for the last one of them, each with its line feed.
+    #[inline(always)]
+    pub fn before_last(&self, later: &WholeLines<'a>) -> &'a [u8]
+        ensures { (texts : List (List ℕ)) (mid : WholeLines) (text : List ℕ) → PassesLines self.now texts mid
+            → PassesLine mid text later.now → AreLines result.now texts }
+    {
+        between(self.bytes, self.at, later.last)
+    }
+
     /// The bytes that come, of which as many may begin with whole lines as were read ahead.
     #[inline(always)]
     pub fn rest(&self) -> &'a [u8]
@@ -95,4 +104,15 @@ impl<'a> WholeLines<'a> {
             lines: self.lines,
         }
     }
+}
+
+// The bytes from one place to another, if these stand so.
+#[inline(always)]
+fn between(bytes: &[u8], from: usize, to: usize) -> &[u8]
+    ensures { from ≤ to → to ≤ length bytes.now → result.now ≡ take (to - from) (drop from bytes.now) }
+{
+    if from <= to && to <= bytes.len() {
+        return &bytes[from..to];
+    }
+    &[]
 }

@@ -11,7 +11,9 @@ pub mod StateLemmas
 pub mod HeldLines
 pub mod HoldLemmas
 pub mod StepLemmas
+pub mod UnhitLemmas
 pub mod PassingLemmas
+pub mod LeapLemmas
 pub mod PlainLemmas
 pub mod QuietLemmas
 pub mod RisingLemmas

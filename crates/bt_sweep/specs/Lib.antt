@@ -12,7 +12,9 @@ pub mod Walking
 pub mod Steps
 pub mod StateSteps
 pub mod Passing
+pub mod Unhit
 pub mod StatePassing
+pub mod StateLeaping
 pub mod PlainPieces
 pub mod Held
 pub mod HeldList

@@ -44,10 +44,10 @@ fn push_or_check<H: Held>(
     Err(Fail::from(AllocError))
 }
 
-// Adds records, and drops some of them.
+// Adds records whose texts are too long to stand inside them, and drops some of them.
 fn grow<H: Held>(rt: &impl Abort, alloc: Global, mut held: H) -> Result<(), Fail> {
     for stop in 100u32..120 {
-        let line = format!(in alloc; "c\t5\t{stop}\tname")?;
+        let line = format!(in alloc; "c\t5\t{stop}\tname and more columns than stand inside")?;
         push_or_check(rt, alloc, &mut held, line.as_bytes())?;
     }
     held.drop_ended(109);
@@ -114,7 +114,8 @@ fn refused_growth_beside_records_that_are_not_held(rt: HostRuntime) -> Result<()
         &order,
     );
     let mut out = Out::new(ScriptSink::new(rt.alloc(), 512, None));
-    let Ok(Some(bed)) = parse_bed(b"chr1\t50000\t50001") else {
+    let Ok(Some(bed)) = parse_bed(b"chr1\t50000\t50001\tmore columns than stand inside a record")
+    else {
         return Err(Fail::new("a record"));
     };
     if sweep.want() == Want::A && sweep.give_a(&bed, &mut out).is_err() {

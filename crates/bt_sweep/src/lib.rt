@@ -35,6 +35,7 @@ mod held_tests;
 mod hit;
 mod hit_rule;
 pub mod laws;
+mod leap;
 mod pieces;
 pub mod plain;
 mod plain_pieces;
@@ -42,6 +43,7 @@ mod shape;
 mod started;
 mod state;
 mod sweep;
+mod unhit;
 mod want;
 mod whole_front;
 #[cfg(test)]

@@ -1,6 +1,6 @@
 //! What a sweep keeps, and its steps.
 
-ghost use Rattle.std.specs.Prelude.{◌≡◌, ◌∷◌, ◌++◌, [], IfSome, IsTrue, None, Some, OnOk, OnErr, false, true};
+ghost use Rattle.std.specs.Prelude.{◌≡◌, ◌∷◌, ◌++◌, [], IfSome, IsTrue, None, Some, false, true, OnOk, OnErr};
 ghost use Rattle.bt_lines.specs.Putting.{Adds};
 ghost use Rattle.bt_bed.specs.Bed.{feature_lent};
 ghost use Rattle.bt_bed.specs.Feature.{Feature};
@@ -9,13 +9,16 @@ ghost use Rattle.bt_lines.specs.Names.{told};
 ghost use Rattle.bt_sweep.specs.Deciding.{decides};
 ghost use Rattle.bt_sweep.specs.Held.{AreRising, AreWith};
 ghost use Rattle.bt_sweep.specs.IntersectLines.{lines_for};
-ghost use Rattle.bt_sweep.specs.StatePassing.{DecidesUpTo, PassesBefore, PassesOver, PassesWhole};
-ghost use Rattle.bt_sweep.specs.StateSteps.{Holds, KeepsLast, NeedsHit, TakesA, WritesLast, has_room_in, held_with, is_held_by, moved_to};
+ghost use Rattle.bt_sweep.specs.StateLeaping.{KeepsLeap, Leaps};
+ghost use Rattle.bt_sweep.specs.StatePassing.{DecidesUpTo, PassesBefore, PassesBy, TakesWhole};
+ghost use Rattle.bt_sweep.specs.StateSteps.{Holds, KeepsLast, TakesA, WritesLast, has_room_in, held_with, is_held_by, moved_to};
 ghost use Rattle.bt_sweep.specs.SweepState.{want_in};
 
 use crate::held::Held;
 use crate::hit_rule::HitRule;
+use crate::leap::leap_over;
 use crate::shape::Shape;
+use crate::unhit::{Unhit, has_line, most_bytes, put_unhit, unhit_of};
 use crate::want::Want;
 use crate::whole_front::{behind_up_to, front_up_to};
 use crate::writing::{needs_hit, put_lines};
@@ -29,7 +32,7 @@ use std::marker::Model;
 // the last record.
 #[derive(Drop)]
 pub(crate) struct State<H: Held> {
-    // For the copy of the first record.
+    // Allocates the copies of records and what is held.
     alloc: Global,
     // What is written of a record and its hits.
     shape: Shape,
@@ -39,6 +42,8 @@ pub(crate) struct State<H: Held> {
     limit: Option<u64>,
     // The record of the first input that was given last. Its buffer is used again.
     last: Option<Rec>,
+    // A buffer for the next one.
+    spare: Option<Rec>,
     // Whether that record isn't written yet.
     waits: bool,
     // What can still hit that record or a later one; nothing before the first.
@@ -95,6 +100,7 @@ impl<H: Held> State<H> {
             rule,
             limit,
             last: None,
+            spare: None,
             waits: false,
             held,
             done: false,
@@ -147,29 +153,41 @@ impl<H: Held> State<H> {
         Ok(())
     }
 
-    // Whether a record that nothing hits has no line.
-    pub(crate) fn needs_hit(&self) -> bool
-        ensures { IsTrue result → NeedsHit self.now.shape }
-    {
-        needs_hit(self.shape)
-    }
-
-    // Makes records that stand whole the last one, one after another, where nothing is held and those that nothing
-    // hits have no line: those on the last one's chromosome that b decides. Where memory runs out it takes none.
-    pub(crate) fn pass_decided<O: ChromOrder>(
+    // Takes records that stand whole, one after another, where nothing is held: those on the last one's chromosome that
+    // b decides, whose lines are put, no more than the output has room for, and the one behind them, which waits unless b
+    // decides it too and it has no line. Where memory runs out, or a write has failed, it takes none.
+    pub(crate) fn take_whole<O: ChromOrder, K: Sink>(
         &mut self,
         order: &O,
         records: &mut WholeRecords<'_>,
         b: &BedRef<'_>,
-    )
+        out: &mut Out<K>,
+    ) -> bool
         requires known_a { (a : Feature) → self.old.last ≡ Some a → IsTrue ((O.order order.now).knows a.chrom) }
         requires known_b { IsTrue ((O.order order.now).knows b.now.chrom.now) }
-        ensures { PassesWhole (O.order order.now) (feature_lent b.now) self.old records.old self.new records.new }
+        ensures taken { result ≡ true → TakesWhole (O.order order.now) (feature_lent b.now) self.old records.old out.old
+            self.new records.new out.new }
+        ensures none { result ≡ false → (self.new ≡ self.old) × (records.new ≡ records.old) × (out.new ≡ out.old) }
     {
-        if self.b_ended || !needs_hit(self.shape) || self.held.len() != 0 {
-            return;
+        if self.b_ended || self.held.len() != 0 {
+            return false;
         }
-        pass_over(order, &mut self.last, records, b);
+        let unhit = unhit_of(self.shape);
+        let Some(waits) = pass_over(
+            self.alloc,
+            order,
+            unhit,
+            &self.last,
+            &mut self.spare,
+            records,
+            b,
+            out,
+        ) else {
+            return false;
+        };
+        become_kept(&mut self.last, &mut self.spare);
+        self.waits = waits;
+        true
     }
 
     // Passes records of the second input that stand whole, on the chromosome of the last record of the first, and that
@@ -183,6 +201,22 @@ impl<H: Held> State<H> {
         let a = last.as_bed();
         if is_same_name(a.chrom, records.chrom()) {
             *records = behind_up_to(*records, a.start);
+        }
+    }
+
+    // Goes over both inputs as far as they stand whole and share no base, where nothing is held and a record that nothing
+    // hits has no line: the last record of the first input that was passed so waits. Else it passes records of the second
+    // alone, before the one that waits, and so it does where memory runs out.
+    pub(crate) fn leap(&mut self, firsts: &mut WholeRecords<'_>, seconds: &mut WholeRecords<'_>)
+        ensures { Leaps self.old firsts.old seconds.old self.new firsts.new seconds.new }
+    {
+        if self.b_ended || self.done || self.held.len() != 0 || !needs_hit(self.shape) {
+            return self.pass_before(seconds);
+        }
+        match leap_both(self.alloc, &self.last, &mut self.spare, firsts, seconds) {
+            None => self.pass_before(seconds),
+            Some(true) => become_kept(&mut self.last, &mut self.spare),
+            Some(false) => {}
         }
     }
 
@@ -321,7 +355,7 @@ fn move_last<H: Held>(
     }
 }
 
-// Makes the record the last one, in the buffer of the one before.
+// Makes the record the last one, in the memory of the one before.
 fn replace(alloc: Global, last: &mut Option<Rec>, a: &BedRef<'_>) -> Result<(), AllocError>
     ensures replaced { OnOk result (last.new ≡ Some (feature_lent a.now)) }
     ensures unchanged { OnErr result (last.new ≡ last.old) }
@@ -361,34 +395,68 @@ fn is_past<O: ChromOrder>(order: &O, a: &BedRef<'_>, b: &BedRef<'_>) -> bool
     }
 }
 
-// Makes records that stand whole the last one, one after another: those on its chromosome that b decides. Where memory
-// runs out it takes none. It stands apart, so that the loop has the registers to itself.
+// Passes records that stand whole: those on the chromosome of the last one that b decides, whose lines are put, and the
+// one behind them, which is kept. It answers whether that one is to wait: not where b decides it too and it has no line.
+// Where memory runs out, or a write has failed, it passes none. It stands apart, so that the loop has the registers to
+// itself.
 #[inline(never)]
-fn pass_over<O: ChromOrder>(
+fn pass_over<O: ChromOrder, K: Sink>(
+    alloc: Global,
     order: &O,
-    last: &mut Option<Rec>,
+    unhit: Unhit,
+    last: &Option<Rec>,
+    kept: &mut Option<Rec>,
     records: &mut WholeRecords<'_>,
     b: &BedRef<'_>,
-)
-    requires known_a { (a : Feature) → last.old ≡ Some a → IsTrue ((O.order order.now).knows a.chrom) }
+    out: &mut Out<K>,
+) -> Option<bool>
+    requires known_a { (a : Feature) → last.now ≡ Some a → IsTrue ((O.order order.now).knows a.chrom) }
     requires known_b { IsTrue ((O.order order.now).knows b.now.chrom.now) }
-    ensures { PassesOver (O.order order.now) (feature_lent b.now) last.old records.old last.new records.new }
+    ensures passed { IfSome result (λ waits. PassesBy (O.order order.now) (feature_lent b.now) unhit waits last.now records.old
+        out.old kept.new records.new out.new) }
+    ensures none { result ≡ None → (records.new ≡ records.old) × (out.new ≡ out.old) }
 {
     let Some(last) = last else {
-        return;
+        return None;
     };
     let chrom = last.as_bed().chrom;
     if !is_same_name(chrom, records.chrom()) {
-        return;
+        return None;
     }
     let Some(stop) = decided_up_to(order, chrom, b) else {
-        return;
+        return None;
     };
-    let Some(front) = front_up_to(*records, stop) else {
-        return;
+    let Some(front) = front_up_to(*records, stop, has_line(unhit), most_bytes(unhit, out)) else {
+        return None;
     };
-    if last.copy_from(&front.last).is_ok() {
-        *records = front.behind;
+    if replace(alloc, kept, &front.next.bed()).is_err() {
+        return None;
+    }
+    if !put_unhit(unhit, records.before_last(&front.behind), out) {
+        return None;
+    }
+    *records = front.behind;
+    Some(has_line(unhit) || stop < front.next.stop())
+}
+
+// Makes a record that was copied already the last one. Where the last one has a buffer of its own, the record is copied
+// into that, so that only one of the two comes to have a buffer longer than a block.
+fn become_kept(last: &mut Option<Rec>, kept: &mut Option<Rec>)
+    ensures { last.new ≡ kept.old }
+{
+    if !is_copied(last, kept) {
+        std::mem::swap(last, kept);
+    }
+}
+
+// Copies a record over the last one, if both are there, the last one has a buffer and there is memory for it, and answers
+// whether it did.
+fn is_copied(last: &mut Option<Rec>, kept: &Option<Rec>) -> bool
+    ensures { result ≡ true → last.new ≡ kept.now }
+{
+    match (last, kept) {
+        (Some(last), Some(kept)) => last.has_buffer() && last.copy_from(&kept.as_bed()).is_ok(),
+        _ => false,
     }
 }
 
@@ -422,4 +490,39 @@ fn put_last<H: Held, K: Sink>(
         None => Ok(()),
         Some(last) => put_lines(shape, rule, &last.as_bed(), held, out),
     }
+}
+
+// Goes over both inputs from the last record on, keeps the one of the first that waits then, and answers whether that is
+// another one. It passes none, and answers `None`, where memory runs out, or where there is no last record or the records
+// lie on another chromosome than it.
+fn leap_both(
+    alloc: Global,
+    last: &Option<Rec>,
+    kept: &mut Option<Rec>,
+    firsts: &mut WholeRecords<'_>,
+    seconds: &mut WholeRecords<'_>,
+) -> Option<bool>
+    ensures moves { result ≡ Some true → KeepsLeap last.now firsts.old seconds.old kept.new firsts.new seconds.new }
+    ensures stays { result ≡ Some false → KeepsLeap last.now firsts.old seconds.old last.now firsts.new seconds.new }
+    ensures none { result ≡ None → (firsts.new ≡ firsts.old) × (seconds.new ≡ seconds.old) }
+{
+    let Some(last) = last else {
+        return None;
+    };
+    let last = last.as_bed();
+    if !is_same_name(last.chrom, firsts.chrom()) || !is_same_name(last.chrom, seconds.chrom()) {
+        return None;
+    }
+    let leap = leap_over(&last, *firsts, *seconds);
+    let Some(line) = leap.line else {
+        *firsts = leap.firsts;
+        *seconds = leap.seconds;
+        return Some(false);
+    };
+    if replace(alloc, kept, &line.bed()).is_err() {
+        return None;
+    }
+    *firsts = leap.firsts;
+    *seconds = leap.seconds;
+    Some(true)
 }

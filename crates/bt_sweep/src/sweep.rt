@@ -29,17 +29,15 @@ pub struct Sweep<'o, H: Held, O: ChromOrder> {
 }
 
 impl<'o, H: Held, O: ChromOrder> Sweep<'o, H, O> {
-    ghost use Rattle.std.specs.Prelude.{◌≡◌, ℕ, List, [], IsTrue, OnErr, Option, Some};
+    ghost use Rattle.std.specs.Prelude.{◌≡◌, ℕ, List, [], IsTrue, OnErr, Option, Some, false, true};
     ghost use Rattle.bt_bed.specs.Bed.{feature_lent};
     ghost use Rattle.bt_bed.specs.Feature.{intervals_of};
     ghost use Rattle.bt_bed.specs.Locus.{ArePlaced};
     ghost use Rattle.bt_bed.specs.Order.{Order};
     ghost use Rattle.bt_sweep.specs.Standing.{IsInOrder, Stage, StandsAt, first_stage, given, held_for, last_given, want_at, with_a, with_a_ended};
     ghost use Rattle.bt_sweep.specs.Steps.{EndsB, GivesA, GivesB};
-    ghost use Rattle.bt_lines.specs.Output.{Output};
     ghost use Rattle.bt_bed.specs.WholeRecords.{GivesWholes};
-    ghost use Rattle.bt_sweep.specs.Passing.{PassesFirsts, PassesSeconds};
-    ghost use Rattle.bt_sweep.specs.StateSteps.{NeedsHit};
+    ghost use Rattle.bt_sweep.specs.Passing.{PassesSeconds, TakesBoth, TakesFirsts};
     ghost use Rattle.bt_sweep.specs.SweepView.{order_of, state_of};
     ghost use Rattle.bt_sweep.specs.SweepState.{want_in};
 
@@ -99,32 +97,45 @@ impl<'o, H: Held, O: ChromOrder> Sweep<'o, H, O> {
         self.state.take_a(a, out)
     }
 
-    /// True only where a record of the first input that nothing hits has no line.
-    pub fn needs_hit(&self) -> bool
-        ensures { IsTrue result → NeedsHit (state_of self.now).shape }
-    {
-        self.state.needs_hit()
-    }
-
-    /// Takes records of the first input that stand whole, one after another, where `b`, which is the next of the
-    /// second, decides each and none of them has a line: as [`Sweep::give_a`] and then [`Sweep::give_b`] do with each,
-    /// and as many of them as it can, which may be none. What it took was passed. It copies the last one alone, and
-    /// where there is no memory for that it takes none.
-    pub fn pass_decided(&mut self, records: &mut WholeRecords<'_>, b: &BedRef<'_>)
+    /// Takes records of the first input that stand whole, one after another: those that `b`, the next of the second,
+    /// decides, as [`Sweep::give_a`] and then [`Sweep::give_b`] do with each, and the one behind them, as
+    /// [`Sweep::give_a`] does, unless all that stand whole are decided and have no line. It takes no more than the output
+    /// has room for. It answers whether it took any: none where a record is held, where there is no memory for the one
+    /// that waits, or behind a failed write. What it took was passed.
+    pub fn take_whole<K: Sink>(
+        &mut self,
+        records: &mut WholeRecords<'_>,
+        b: &BedRef<'_>,
+        out: &mut Out<K>,
+    ) -> bool
         requires want { want_in (state_of self.old) ≡ Want.A }
         requires known { IsTrue ((order_of self.old).knows b.now.chrom.now) }
-        ensures passes { (firsts : List Feature) × GivesWholes records.old firsts records.new
-            × ((out : Output) → PassesFirsts (order_of self.old) (feature_lent b.now) (state_of self.old) out firsts
-            (state_of self.new) out) }
-        ensures want { want_in (state_of self.new) ≡ Want.A }
+        ensures takes { result ≡ true → TakesFirsts (order_of self.old) (feature_lent b.now) (state_of self.old) records.old
+            out.old (state_of self.new) records.new out.new }
+        ensures none { result ≡ false → (state_of self.new ≡ state_of self.old) × (records.new ≡ records.old)
+            × (out.new ≡ out.old) }
         ensures order { order_of self.new ≡ order_of self.old }
     {
-        self.state.pass_decided(self.order, records, b);
+        self.state.take_whole(self.order, records, b, out)
     }
 
-    /// Takes records of the second input that stand whole, one after another, as [`Sweep::give_b`] does with each: those
-    /// on the chromosome of the current record of the first that end at its start or before it, which hit neither that
-    /// nor a later one. Nothing is held or written. What it took was passed, which may be none.
+    /// Takes records of both inputs that stand whole, as [`Sweep::give_b`] and [`Sweep::give_a`] do with each, as long as
+    /// no record of one shares a base with one of the other: those of the second that end at the start of the current
+    /// record of the first or before it, and where nothing is held and a record that nothing hits has no line, those of
+    /// the first that end at the start of the next one of the second or before it. Nothing is held or written. What it
+    /// took was passed, which may be none. Of the first input's records only the last one is copied, and where there is no
+    /// memory for that it takes none of that input.
+    pub fn take_both(&mut self, firsts: &mut WholeRecords<'_>, seconds: &mut WholeRecords<'_>)
+        requires { want_in (state_of self.old) ≡ Want.B }
+        ensures takes { TakesBoth (order_of self.old) (state_of self.old) firsts.old seconds.old (state_of self.new)
+            firsts.new seconds.new }
+        ensures want { want_in (state_of self.new) ≡ Want.B }
+        ensures order { order_of self.new ≡ order_of self.old }
+    {
+        self.state.leap(firsts, seconds);
+    }
+
+    /// Takes records of the second input that stand whole alone, as [`Sweep::take_both`] does.
     pub fn pass_before(&self, records: &mut WholeRecords<'_>)
         requires { want_in (state_of self.now) ≡ Want.B }
         ensures { (seconds : List Feature) × GivesWholes records.old seconds records.new

@@ -34,11 +34,18 @@ use Rattle.bt_tool.proofs.FeedLemmas.{Going, goes_feeding, sorted_items, stops_f
 
 module _ {S O : Type 0} {g : Ghosts O} (left : S → Option (List ℕ)) (failed end : S → Bool) (IsRead : S → Option ℕ → S → Type 0) where
   -- the last of some records was given behind the others
-  passes_split : (old new : Records S O g) (records : List Feature) (r : Feature) → PassesEach left failed end IsRead old (records ++ r ∷ []) new
+  pub passes_split : (old new : Records S O g) (records : List Feature) (r : Feature) → PassesEach left failed end IsRead old (records ++ r ∷ []) new
       → (now : Records S O g) × PassesEach left failed end IsRead old records now × PassesNext left failed end IsRead now r new
   passes_split old new [] r p = (old, refl, subst (PassesNext left failed end IsRead old r) (sym p.2) p.1)
   passes_split old new (x ∷ records) r p =
       let rest = passes_split p.0 new records r p.2 in
+      (rest.0, (p.0, p.1, rest.1), rest.2)
+
+  -- some were given behind others
+  pub each_split : (old new : Records S O g) (xs ys : List Feature) → PassesEach left failed end IsRead old (xs ++ ys) new → (mid : Records S O g) × PassesEach left failed end IsRead old xs mid × PassesEach left failed end IsRead mid ys new
+  each_split old new [] ys p = (old, refl, p)
+  each_split old new (x ∷ xs) ys p =
+      let rest = each_split p.0 new xs ys p.2 in
       (rest.0, (p.0, p.1, rest.1), rest.2)
 
   pub next_reads : (old new : Records S O g) (r : Feature) → PassesNext left failed end IsRead old r new → HasRead IsRead (below old) (below new)
@@ -57,6 +64,10 @@ module _ {S O : Type 0} {g : Ghosts O} (left : S → Option (List ℕ)) (failed 
   -- no fault is kept
   pub next_faultless : (old new : Records S O g) (r : Feature) → PassesNext left failed end IsRead old r new → fault_kept old ≡ None → fault_kept new ≡ None
   next_faultless old new r p none = p.passes.passes.goes ∙ p.gives.read.goes ∙ none
+
+  pub each_faultless : (old new : Records S O g) (records : List Feature) → PassesEach left failed end IsRead old records new → fault_kept old ≡ None → fault_kept new ≡ None
+  each_faultless old new [] p none = ap fault_kept p ∙ none
+  each_faultless old new (r ∷ records) p none = each_faultless p.0 new records p.2 (next_faultless old p.0 r p.1 none)
 
   -- a record was ahead
   pub next_ahead : (old new : Records S O g) (r : Feature) (p : PassesNext left failed end IsRead old r new) → HasAhead left failed end old r p.peeked

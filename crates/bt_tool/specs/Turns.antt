@@ -1,5 +1,5 @@
 -- What one turn of a sweep over two readers does: a record or the end of an input is given to it.
-use Rattle.std.specs.Prelude.{◌≡◌, ◌⊎◌, ℕ, Bool, List, Option, Some, Result, Ok, Err}
+use Rattle.std.specs.Prelude.{◌≡◌, ◌⊎◌, ◌<◌, ℕ, Bool, length, List, Option, Some, Result, Ok, Err}
 use Rattle.bt_lines.specs.Fault.{Told}
 use Rattle.bt_lines.specs.Names.{told}
 use Rattle.bt_lines.specs.Output.{Output}
@@ -15,7 +15,7 @@ use Rattle.bt_bed.specs.declared.order.ChromOrder.{Ghosts}
 use Rattle.bt_bed.specs.declared.records.Records.{Records}
 use Rattle.bt_bed.specs.WholeRecords.{PassesEach}
 use Rattle.bt_sweep.specs.IntersectLines.{lines_for}
-use Rattle.bt_sweep.specs.Passing.{PassesFirsts, PassesSeconds}
+use Rattle.bt_sweep.specs.Passing.{PassesFirsts, PassesRounds, PassesSeconds, PassesUpTo, Round, firsts_of, seconds_of}
 use Rattle.bt_sweep.specs.Standing.{IsInOrder, Stage, StandsAt, with_a, with_a_ended, with_b_ended}
 use Rattle.bt_sweep.specs.Steps.{Fails, FailsToHold, FailsToWriteA, PassesLimit, TakesB, WritesA}
 use Rattle.bt_sweep.specs.Steps.{lines_with}
@@ -150,23 +150,33 @@ module _ {A B O : Type 0} {g : Ghosts O} (a_left : A → Option (List ℕ)) (a_f
     (IsRead : A → Option ℕ → A → Type 0) (b_left : B → Option (List ℕ)) (b_failed b_end : B → Bool)
     (order : Order) (first : Records A O g) (second : Records B O g) (sweep : Sweeping) where
   -- records of the first input were given and passed, and after each the record ahead of the second,
-  -- which stays ahead; nothing was written
-  pub record GivesSeveral (new : Records A O g) (swept : Sweeping) : Type 0 where
+  -- which stays ahead, but for the last one, if that waits
+  pub record GivesSeveral (out : Output) (new : Records A O g) (swept : Sweeping) (grown : Output)
+      : Type 0 where
     pub firsts : List Feature
+    pub some : 0 < length firsts
     pub passes : PassesEach a_left a_failed a_end IsRead first firsts new
     pub item : Feature
     pub ahead : HasAhead b_left b_failed b_end second item second
-    pub given : (out : Output) → PassesFirsts order item sweep out firsts swept out
+    pub given : PassesUpTo order item sweep out firsts swept grown
+        ⊎ PassesFirsts order item sweep out firsts swept grown
 
-  -- so were some, or none
-  abbrev pub GivesFirsts : Records A O g → Sweeping → Type 0
-  GivesFirsts new swept = ((new ≡ first) × (swept ≡ sweep)) ⊎ GivesSeveral new swept
+  -- so were several, or it was one turn
+  abbrev pub TurnsFirsts : {T : Type 0} → Output → Result T Fault → Records A O g → Sweeping → Output
+      → Type 0
+  TurnsFirsts out (Ok done) new swept grown =
+      GivesSeveral out new swept grown
+      ⊎ (GivesFirst a_left a_failed a_end order first sweep out new swept grown
+      ⊎ EndsFirst a_left a_failed a_end order first sweep out new swept grown)
+  TurnsFirsts out (Err fault) new swept grown =
+      StopsTurn a_left a_failed a_end order first sweep out (told fault) new swept grown
+      ⊎ FailsFirst a_left a_failed a_end order first sweep out (told fault) new swept grown
 
 -- several turns of the second input
 module _ {B O : Type 0} {g : Ghosts O} (left : B → Option (List ℕ)) (failed end : B → Bool)
     (IsRead : B → Option ℕ → B → Type 0) (order : Order) (second : Records B O g)
     (sweep : Sweeping) where
-  -- records of the second input were taken and passed; nothing is held of them
+  -- records of the second input were taken and passed, and none of them is held
   pub record TakesSeveral (new : Records B O g) : Type 0 where
     pub seconds : List Feature
     pub passes : PassesEach left failed end IsRead second seconds new
@@ -175,3 +185,26 @@ module _ {B O : Type 0} {g : Ghosts O} (left : B → Option (List ℕ)) (failed 
   -- so were some, or none
   abbrev pub TakesSeconds : Records B O g → Type 0
   TakesSeconds new = (new ≡ second) ⊎ TakesSeveral new
+
+-- several turns of both inputs, in rounds
+module _ {A B O : Type 0} {g : Ghosts O} (a_left : A → Option (List ℕ)) (a_failed a_end : A → Bool)
+    (IsRead : A → Option ℕ → A → Type 0) (b_left : B → Option (List ℕ)) (b_failed b_end : B → Bool)
+    (IsReadSecond : B → Option ℕ → B → Type 0)
+    (order : Order) (first : Records A O g) (second : Records B O g) (sweep : Sweeping) where
+  -- records of both inputs were given and passed; none of the second is held, and nothing was written
+  pub record GivesRounds (new : Records A O g) (new_second : Records B O g) (swept : Sweeping)
+      : Type 0 where
+    pub rounds : List Round
+    pub firsts : PassesEach a_left a_failed a_end IsRead first (firsts_of rounds) new
+    pub seconds : PassesEach b_left b_failed b_end IsReadSecond second (seconds_of rounds) new_second
+    pub passes : (out : Output) → PassesRounds order out sweep rounds swept
+
+  -- or records of the second alone
+  pub record GivesAlone (new : Records A O g) (new_second : Records B O g) (swept : Sweeping)
+      : Type 0 where
+    pub same_first : new ≡ first
+    pub same_sweep : swept ≡ sweep
+    pub takes : TakesSeconds b_left b_failed b_end IsReadSecond order second sweep new_second
+
+  abbrev pub GivesBoth : Records A O g → Records B O g → Sweeping → Type 0
+  GivesBoth new new_second swept = GivesRounds new new_second swept ⊎ GivesAlone new new_second swept

@@ -27,15 +27,6 @@ impl Pace {
         }
     }
 
-    // Never asks.
-    pub(crate) fn never() -> Pace {
-        Pace {
-            enough: 0,
-            from: u64::MAX,
-            gap: 0,
-        }
-    }
-
     // Whether to ask, behind so many lines.
     #[inline(always)]
     pub(crate) fn is_due(&self, lines: u64) -> bool {

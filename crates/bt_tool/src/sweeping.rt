@@ -1,6 +1,6 @@
 //! The loop over two sorted inputs: a sweep is given the records of both.
 
-ghost use Rattle.std.specs.Prelude.{◌≡◌, None, Some, option_map};
+ghost use Rattle.std.specs.Prelude.{◌≡◌, None, Some, false, option_map, true};
 ghost use Rattle.bt_lines.specs.Names.{told};
 ghost use Rattle.bt_lines.specs.Output.{HoldsBlock};
 ghost use Rattle.bt_lines.specs.Reader.{HasRead};
@@ -15,7 +15,7 @@ ghost use Rattle.bt_tool.specs.Behaviour.{of_intersect};
 ghost use Rattle.bt_tool.specs.Passed.{KeepsOwnFault};
 ghost use Rattle.bt_tool.specs.SweepLoop.{FinishesBoth, ReadsRest, Sweeps, SweepsOrStops};
 ghost use Rattle.bt_tool.specs.OwnReads.{AnswersNoRead, IsOwnFailure, ReadsServe, TellsNoRead, TellsOwnReads};
-ghost use Rattle.bt_tool.specs.Turns.{GivesFirsts, TakesSeconds, TurnsFirst, TurnsSecond};
+ghost use Rattle.bt_tool.specs.Turns.{GivesBoth, GivesSeveral, TurnsFirst, TurnsFirsts, TurnsSecond};
 ghost use Rattle.bt_tool.specs.Writing.{WritesBy};
 
 use crate::pace::Pace;
@@ -51,36 +51,66 @@ fn turn_first<A: Source, O: ChromOrder, H: Held, K: Sink>(
     Ok(())
 }
 
-// Gives a sweep records of the first input that stand whole and have no line, since nothing is held and the record ahead
-// of the second decides them: as many as it takes so, which may be none. It is tried where it is time to.
-fn pass_firsts<A: Source, B: Source, O: ChromOrder, H: Held>(
+// Gives a sweep records of the first input that stand whole: those that the record ahead of the second decides, and the
+// one behind them. It answers whether it gave any. It is tried where nothing is held, and it is time to.
+fn give_whole<A: Source, B: Source, O: ChromOrder, H: Held, K: Sink>(
     pace: &mut Pace,
     first: &mut Records<'_, A, O>,
     second: &Records<'_, B, O>,
     sweep: &mut Sweep<'_, H, O>,
-)
+    out: &mut Out<K>,
+) -> bool
     requires want { want_in (state_of sweep.old) ≡ Want.A }
     requires second { order_of sweep.old ≡ order_in second.now }
-    ensures gives { GivesFirsts A.left A.has_failed A.end_told A.is_read B.left B.has_failed B.end_told
-        (order_of sweep.old) first.old second.now (state_of sweep.old) first.new (state_of sweep.new) }
-    ensures want { want_in (state_of sweep.new) ≡ Want.A }
+    ensures gives { result ≡ true → GivesSeveral A.left A.has_failed A.end_told A.is_read B.left B.has_failed B.end_told
+        (order_of sweep.old) first.old second.now (state_of sweep.old) out.old first.new (state_of sweep.new) out.new }
+    ensures none { result ≡ false → (first.new ≡ first.old) × (state_of sweep.new ≡ state_of sweep.old)
+        × (out.new ≡ out.old) }
     ensures order { order_of sweep.new ≡ order_of sweep.old }
 {
     let before = first.lines();
     if !pace.is_due(before) || sweep.held().len() != 0 {
-        return;
+        return false;
     }
     let Some(next) = second.record() else {
-        return;
+        return false;
     };
     let Some(mut whole) = first.whole() else {
         pace.note(before, before);
-        return;
+        return false;
     };
-    sweep.pass_decided(&mut whole, &next);
+    if !sweep.take_whole(&mut whole, &next, out) {
+        pace.note(before, before);
+        return false;
+    }
     let passed = whole.passed();
     first.pass(passed);
     pace.note(before, first.lines());
+    true
+}
+
+// Gives a sweep records of the first input: several that stand whole, or the next one, or the input's end.
+fn turn_firsts<A: Source, B: Source, O: ChromOrder, H: Held, K: Sink>(
+    pace: &mut Pace,
+    first: &mut Records<'_, A, O>,
+    second: &Records<'_, B, O>,
+    sweep: &mut Sweep<'_, H, O>,
+    out: &mut Out<K>,
+) -> Result<(), Fault>
+    requires want { want_in (state_of sweep.old) ≡ Want.A }
+    requires order { order_of sweep.old ≡ order_in first.old }
+    requires second { order_of sweep.old ≡ order_in second.now }
+    ensures turns { TurnsFirsts A.left A.has_failed A.end_told A.is_read B.left B.has_failed B.end_told
+        (order_of sweep.old) first.old second.now (state_of sweep.old) out.old
+        result first.new (state_of sweep.new) out.new }
+    ensures order { order_of sweep.new ≡ order_of sweep.old }
+    ensures reads { fault_kept first.old ≡ None → AnswersNoRead result → HasRead A.is_read (below first.old) (below first.new) }
+    ensures own_failure { fault_kept first.old ≡ None → KeepsOwnFault A.is_read (below first.old) (view_of first.new) }
+{
+    if give_whole(pace, first, second, sweep, out) {
+        return Ok(());
+    }
+    turn_first(first, sweep, out)
 }
 
 // Gives a sweep the next record of the second input, or its end. A record that isn't taken stays ahead.
@@ -108,37 +138,56 @@ fn turn_second<B: Source, O: ChromOrder, H: Held, K: Sink>(
     Ok(())
 }
 
-// Gives a sweep records of the second input that stand whole before the current record of the first: as many as it takes
-// so, which may be none. It is tried where nothing is held, and it is time to.
-fn pass_seconds<B: Source, O: ChromOrder, H: Held>(
+// Gives a sweep records of both inputs that stand whole, as many as it takes so, which may be none. It is tried where
+// nothing is held, and it is time to.
+fn take_both<A: Source, B: Source, O: ChromOrder, H: Held>(
     pace: &mut Pace,
+    first: &mut Records<'_, A, O>,
     second: &mut Records<'_, B, O>,
-    sweep: &Sweep<'_, H, O>,
+    sweep: &mut Sweep<'_, H, O>,
 )
-    requires want { want_in (state_of sweep.now) ≡ Want.B }
-    ensures { TakesSeconds B.left B.has_failed B.end_told B.is_read (order_of sweep.now) second.old
-        (state_of sweep.now) second.new }
+    requires want { want_in (state_of sweep.old) ≡ Want.B }
+    ensures gives { GivesBoth A.left A.has_failed A.end_told A.is_read B.left B.has_failed B.end_told B.is_read
+        (order_of sweep.old) first.old second.old (state_of sweep.old) first.new second.new (state_of sweep.new) }
+    ensures want { want_in (state_of sweep.new) ≡ Want.B }
+    ensures order { order_of sweep.new ≡ order_of sweep.old }
 {
     let before = second.lines();
     if !pace.is_due(before) || sweep.held().len() != 0 {
         return;
     }
-    let Some(mut whole) = second.whole() else {
-        pace.note(before, before);
-        return;
-    };
-    sweep.pass_before(&mut whole);
-    let passed = whole.passed();
-    second.pass(passed);
+    pass_both(first, second, sweep);
     pace.note(before, second.lines());
 }
 
-// How often it is asked for several records of the first input: never where each may have a line.
-fn pace_of_first(needs_hit: bool) -> Pace {
-    if needs_hit {
-        Pace::new(ENOUGH)
-    } else {
-        Pace::never()
+// Passes records of both inputs that stand whole, or where those of the first don't, of the second alone.
+fn pass_both<A: Source, B: Source, O: ChromOrder, H: Held>(
+    first: &mut Records<'_, A, O>,
+    second: &mut Records<'_, B, O>,
+    sweep: &mut Sweep<'_, H, O>,
+)
+    requires want { want_in (state_of sweep.old) ≡ Want.B }
+    ensures gives { GivesBoth A.left A.has_failed A.end_told A.is_read B.left B.has_failed B.end_told B.is_read
+        (order_of sweep.old) first.old second.old (state_of sweep.old) first.new second.new (state_of sweep.new) }
+    ensures want { want_in (state_of sweep.new) ≡ Want.B }
+    ensures order { order_of sweep.new ≡ order_of sweep.old }
+{
+    let Some(mut seconds) = second.whole() else {
+        return;
+    };
+    match first.whole() {
+        Some(mut firsts) => {
+            sweep.take_both(&mut firsts, &mut seconds);
+            let passed_first = firsts.passed();
+            first.pass(passed_first);
+            let passed_second = seconds.passed();
+            second.pass(passed_second);
+        }
+        None => {
+            sweep.pass_before(&mut seconds);
+            let passed = seconds.passed();
+            second.pass(passed);
+        }
     }
 }
 
@@ -163,16 +212,13 @@ fn sweep_all<A: Source, B: Source, O: ChromOrder, H: Held, K: Sink>(
     ensures own_failure { KeepsOwnFault A.is_read (below first.old) (view_of first.new) }
     ensures own_failure_second { KeepsOwnFault B.is_read (below second.old) (view_of second.new) }
 {
-    let mut first_pace = pace_of_first(sweep.needs_hit());
+    let mut first_pace = Pace::new(ENOUGH);
     let mut second_pace = Pace::new(ENOUGH);
     loop {
         match sweep.want() {
-            Want::A => {
-                pass_firsts(&mut first_pace, first, second, sweep);
-                turn_first(first, sweep, out)?;
-            }
+            Want::A => turn_firsts(&mut first_pace, first, second, sweep, out)?,
             Want::B => {
-                pass_seconds(&mut second_pace, second, sweep);
+                take_both(&mut second_pace, first, second, sweep);
                 turn_second(second, sweep, out)?;
             }
             Want::Nothing => return Ok(()),

@@ -27,26 +27,56 @@ fn next_bounds<S: Source>(
     Ok(records.peek()?.map(|bed| (bed.start, bed.stop)))
 }
 
-// Passes the records of the first input that the line's record decides, if the first input is asked for.
-fn pass_decided<S: Source>(
+// Takes the records of the first input that stand whole, up to the first that the line's record doesn't decide, if the
+// first input is asked for. It answers whether it took any.
+fn take_whole<S: Source, K: Sink>(
     records: &mut Records<'_, S, Genome>,
     sweep: &mut Sweep<'_, HeldList, Genome>,
     line: &[u8],
-) {
+    out: &mut Out<K>,
+) -> bool {
     let Ok(Some(b)) = parse_bed(line) else {
-        return;
+        return false;
     };
     let Some(mut whole) = records.whole() else {
-        return;
+        return false;
     };
     if !sweep.order.knows(b.chrom) {
-        return;
+        return false;
     }
     match sweep.want() {
         Want::A => {
-            sweep.pass_decided(&mut whole, &b);
+            if !sweep.take_whole(&mut whole, &b, out) {
+                return false;
+            }
             let passed = whole.passed();
             records.pass(passed);
+            true
+        }
+        _ => false,
+    }
+}
+
+// Takes the records of both inputs that stand whole, as long as no record of one shares a base with
+// one of the other, if the second input is asked for.
+fn take_both<S: Source>(
+    records: &mut Records<'_, S, Genome>,
+    seconds: &mut Records<'_, S, Genome>,
+    sweep: &mut Sweep<'_, HeldList, Genome>,
+) {
+    let Some(mut whole) = records.whole() else {
+        return;
+    };
+    let Some(mut others) = seconds.whole() else {
+        return;
+    };
+    match sweep.want() {
+        Want::B => {
+            sweep.take_both(&mut whole, &mut others);
+            let passed = whole.passed();
+            records.pass(passed);
+            let passed_second = others.passed();
+            seconds.pass(passed_second);
         }
         _ => {}
     }
@@ -82,38 +112,122 @@ const FIRST_TWO: [Step; 4] = [
     Step::Second(b"chr1\t6\t30", Taken::No),
 ];
 
-// A shape, the record ahead of the second input, and the bounds of the record of the first that is left then.
-type Decided = (Shape, &'static [u8], (u64, u64));
+// A shape, the record ahead of the second input, the bounds of the record of the first that is left then, what is asked
+// for next, and what is written of those that are taken. The last one waits, unless all are decided and have no line.
+type Decided = (
+    Shape,
+    &'static [u8],
+    Option<(u64, u64)>,
+    Want,
+    &'static [u8],
+);
 
-const DECIDED: [Decided; 7] = [
-    (Shape::Cut, b"chr1\t9\t30", (5, 20)),
-    (Shape::Once, b"chr1\t8\t30", (4, 9)),
-    (Shape::OrigA, b"chr1\t6\t30", (3, 7)),
-    (Shape::CutAndB, b"chr1\t20\t30", (30, 40)),
-    (Shape::OrigBoth, b"chr1\t19\t30", (5, 20)),
-    (Shape::Missing, b"chr1\t20\t30", (3, 7)),
-    (Shape::Whole, b"chr1\t20\t30", (3, 7)),
+const DECIDED: [Decided; 13] = [
+    (Shape::Cut, b"chr1\t9\t30", Some((6, 8)), Want::B, b""),
+    (Shape::Once, b"chr1\t8\t30", Some((5, 20)), Want::B, b""),
+    (Shape::OrigA, b"chr1\t6\t30", Some((4, 9)), Want::B, b""),
+    (Shape::CutAndB, b"chr1\t20\t30", None, Want::B, b""),
+    (Shape::OrigBoth, b"chr1\t19\t30", Some((6, 8)), Want::B, b""),
+    (Shape::Overlap, b"chr2\t1\t3", None, Want::A, b""),
+    (Shape::Missing, b"chr1\t6\t30", Some((4, 9)), Want::B, b""),
+    (
+        Shape::Missing,
+        b"chr1\t9\t30",
+        Some((6, 8)),
+        Want::B,
+        b"chr1\t3\t7\tn\nchr1\t4\t9\n",
+    ),
+    (
+        Shape::Whole,
+        b"chr1\t7\t30",
+        Some((5, 20)),
+        Want::B,
+        b"chr1\t3\t7\tn\n",
+    ),
+    (
+        Shape::Pieces,
+        b"chr1\t20\t30",
+        None,
+        Want::B,
+        b"chr1\t3\t7\tn\nchr1\t4\t9\nchr1\t5\t20\nchr1\t6\t8\n",
+    ),
+    (
+        Shape::Count,
+        b"chr1\t9\t30",
+        Some((6, 8)),
+        Want::B,
+        b"chr1\t3\t7\tn\t0\nchr1\t4\t9\t0\n",
+    ),
+    (Shape::Count, b"chr1\t6\t30", Some((4, 9)), Want::B, b""),
+    (
+        Shape::Count,
+        b"chr2\t1\t3",
+        None,
+        Want::B,
+        b"chr1\t3\t7\tn\t0\nchr1\t4\t9\t0\nchr1\t5\t20\t0\nchr1\t6\t8\t0\n",
+    ),
 ];
 
-// Whether these of the first input are passed, without a byte being written.
-fn is_decided(alloc: Global, genome: &Genome, case: &Decided) -> Result<bool, Fail> {
-    let (shape, line, left) = *case;
-    let mut records = behind_two(alloc, RECORDS, genome)?;
+// What is done before records are taken, and what is written by it: nothing but what the two given ones have.
+fn written_before(shape: Shape) -> &'static [u8] {
+    match shape {
+        Shape::Missing | Shape::Pieces | Shape::Whole => b"chr1\t1\t5\nchr1\t2\t6\n",
+        Shape::Count => b"chr1\t1\t5\t0\nchr1\t2\t6\t0\n",
+        _ => b"",
+    }
+}
+
+// Whether these of the first input are taken, their lines are written, and this is asked for then.
+fn is_taken(
+    alloc: Global,
+    genome: &Genome,
+    text: &'static [u8],
+    case: &Decided,
+) -> Result<bool, Fail> {
+    let (shape, line, left, want, written) = *case;
+    let mut records = behind_two(alloc, text, genome)?;
     let mut sweep = any_overlap(alloc, shape, genome);
     let mut out = Out::new(ScriptSink::new(alloc, 100, None));
     let _ = first_that_goes_otherwise(&mut sweep, &FIRST_TWO, &mut out);
-    pass_decided(&mut records, &mut sweep, line);
+    let has_taken = take_whole(&mut records, &mut sweep, line, &mut out);
     let next = next_bounds(&mut records)?;
     let _ = records.into_reader().into_source();
-    Ok(next == Some(left) && sweep.want() == Want::A)
+    out.flush()?;
+    let sink = out.into_sink();
+    let before = written_before(shape);
+    Ok(
+        has_taken
+            && next == left
+            && sweep.want() == want
+            && sink.taken().get(..before.len()) == Some(before)
+            && sink.taken().get(before.len()..) == Some(written),
+    )
 }
 
 #[test]
-fn decided_records_are_passed(rt: HostRuntime) -> Result<(), Fail> {
+fn decided_records_are_written_and_the_next_one_waits(rt: HostRuntime) -> Result<(), Fail> {
     let genome = read_genome(rt.alloc())?;
     for case in &DECIDED {
-        assert!(rt; is_decided(rt.alloc(), &genome, case)?);
+        assert!(rt; is_taken(rt.alloc(), &genome, RECORDS, case)?);
     }
+    Ok(())
+}
+
+const ZEROS: &[u8] = b"chr1\t1\t5\nchr1\t2\t6\nchr1\t3\t7\nchr1\t04\t9\nchr1\t5\t9\n";
+
+const BEFORE_ZERO: Decided = (
+    Shape::Missing,
+    b"chr1\t20\t30",
+    Some((5, 9)),
+    Want::B,
+    b"chr1\t3\t7\n",
+);
+
+// A record whose number begins with a zero is written anew, so those before it alone are written at once, and it waits.
+#[test]
+fn records_that_are_written_otherwise_end_what_is_taken(rt: HostRuntime) -> Result<(), Fail> {
+    let genome = read_genome(rt.alloc())?;
+    assert!(rt; is_taken(rt.alloc(), &genome, ZEROS, &BEFORE_ZERO)?);
     Ok(())
 }
 
@@ -145,6 +259,83 @@ fn records_before_the_current_one_are_passed(rt: HostRuntime) -> Result<(), Fail
     let genome = read_genome(rt.alloc())?;
     for case in &BEFORE {
         assert!(rt; is_before(rt.alloc(), &genome, case)?);
+    }
+    Ok(())
+}
+
+// A shape, the records of both inputs behind the first two of each, and the bounds of those that are left of each then.
+type Both = (
+    Shape,
+    &'static [u8],
+    &'static [u8],
+    Option<(u64, u64)>,
+    Option<(u64, u64)>,
+);
+
+const BOTH: [Both; 5] = [
+    (
+        Shape::Cut,
+        b"chr1\t1\t5\nchr1\t2\t6\nchr1\t20\t25\nchr1\t40\t45\nchr1\t60\t70\n",
+        b"chr1\t1\t2\nchr1\t1\t2\nchr1\t6\t8\nchr1\t30\t35\nchr1\t44\t50\n",
+        Some((60, 70)),
+        Some((44, 50)),
+    ),
+    (
+        Shape::Once,
+        b"chr1\t1\t5\nchr1\t2\t6\nchr1\t20\t25\nchr1\t26\t29\nchr1\t30\t45\nchr1\t60\t70\n",
+        b"chr1\t1\t2\nchr1\t1\t2\nchr1\t6\t8\nchr1\t29\t30\nchr1\t46\t50\nchr1\t80\t90\n",
+        None,
+        Some((80, 90)),
+    ),
+    (
+        Shape::OrigA,
+        b"chr1\t1\t5\nchr1\t2\t6\nchr1\t20\t25\n",
+        b"chr1\t1\t2\nchr1\t1\t2\nchr1\t3\t8\nchr1\t30\t35\n",
+        Some((20, 25)),
+        Some((3, 8)),
+    ),
+    (
+        Shape::Overlap,
+        b"chr1\t1\t5\nchr1\t2\t6\nchr1\t20\t25\n",
+        b"chr2\t1\t2\nchr2\t1\t2\nchr2\t6\t8\n",
+        Some((20, 25)),
+        Some((6, 8)),
+    ),
+    (
+        Shape::Missing,
+        b"chr1\t1\t5\nchr1\t2\t6\nchr1\t20\t25\n",
+        b"chr1\t1\t2\nchr1\t1\t2\nchr1\t1\t2\nchr1\t6\t8\n",
+        Some((20, 25)),
+        Some((6, 8)),
+    ),
+];
+
+// Whether so many are taken of both, and a record of the first input waits.
+fn are_taken(alloc: Global, genome: &Genome, case: &Both) -> Result<bool, Fail> {
+    let (shape, first, second, left, left_second) = *case;
+    let mut records = behind_two(alloc, first, genome)?;
+    let mut seconds = behind_two(alloc, second, genome)?;
+    let mut sweep = any_overlap(alloc, shape, genome);
+    let mut out = Out::new(ScriptSink::new(alloc, 100, None));
+    let _ = give_first(&mut sweep, b"chr1\t2\t6", &mut out);
+    take_both(&mut records, &mut seconds, &mut sweep);
+    let next = next_bounds(&mut records)?;
+    let next_second = next_bounds(&mut seconds)?;
+    let _ = records.into_reader().into_source();
+    let _ = seconds.into_reader().into_source();
+    Ok(
+        next == left
+            && next_second == left_second
+            && sweep.held().len() == 0
+            && sweep.want() == Want::B,
+    )
+}
+
+#[test]
+fn records_of_both_are_taken_up_to_a_shared_base(rt: HostRuntime) -> Result<(), Fail> {
+    let genome = read_genome(rt.alloc())?;
+    for case in &BOTH {
+        assert!(rt; are_taken(rt.alloc(), &genome, case)?);
     }
     Ok(())
 }

@@ -1,0 +1,137 @@
+-- Lemmas on lines of which a record's bounds were read.
+use Rattle.std.proofs.Common.{◌≡◌, ℕ, zero, suc, ◌+◌, ◌<◌, ◌≤◌, ◌^◌, List, [], ◌∷◌, ◌++◌, length, take, drop, get_or, Option, None, Some, Ok, refl, sym, ap, ◌∙◌, subst, arith, append_assoc, decimal, eq-eqb, eqb, length-drop}
+use Rattle.std.specs.Prelude.{IsTrue, map, not}
+use Rattle.std.specs.Str.Parse.{AllDigits, digits_value}
+use Rattle.std.proofs.lemmas.Fmt.{decimal-digits_value}
+use Rattle.std.proofs.lemmas.Bool.{false≢true}
+use Rattle.std.proofs.lemmas.List.{drop_more, get_or-drop, get_or-take, take-append-drop}
+use Rattle.std.proofs.lemmas.Str.Parse.{numerals_by_value, tells_digits}
+use Rattle.bt_lines.specs.Number.{value_of}
+use Rattle.bt_lines.specs.Whole.{PassesLine, PassesLines}
+use Rattle.bt_lines.proofs.NumberLemmas.{all_digits_in, digits_denoting}
+use Rattle.bt_bed.specs.Feature.{Feature}
+use Rattle.bt_bed.specs.FirstColumns.{AreBounds, EndsName, Leads}
+use Rattle.bt_bed.specs.Record.{IsFeature, bed_text, columns_in, record_of, strand_of}
+use Rattle.bt_bed.specs.RecordLine.{IsLineOf, Says, text_in}
+use Rattle.bt_bed.specs.WholeRecords.{GivesWhole, GivesWholes, GivesWritten, lines_in}
+use Rattle.bt_bed.specs.declared.leading.Leading.{Leading}
+use Rattle.bt_bed.specs.declared.record_line.RecordLine.{RecordLine}
+use Rattle.bt_bed.specs.declared.whole_records.WholeRecords.{WholeRecords}
+use Rattle.bt_bed.proofs.FeatureLemmas.{columns_say_feature, record_said, said_is_feature}
+use Rattle.bt_bed.proofs.FirstColumnLemmas.{bounds_say, rest_stands}
+
+-- what stands behind the three columns
+abbrev pub kept_in : RecordLine → List ℕ
+kept_in line = drop (line.name + line.start.end + line.stop.end + 2) line.text.now
+
+-- the record that the line says
+abbrev pub record_in : RecordLine → Feature
+record_in line = record {
+  chrom = take line.name line.text.now;
+  start = line.start.value;
+  stop = line.stop.value;
+  strand = strand_of (columns_in (kept_in line));
+  rest = kept_in line;
+}
+
+pub says_its_record : (line : RecordLine) → Says line (record_in line)
+unfolding text_in
+says_its_record line = record {
+  is = sym (columns_say_feature line.text.now (record_in line) line.no_header (bounds_say line.text.now (kept_in line) line.name line.start line.stop (strand_of (columns_in (kept_in line))) line.named line.bounds refl refl));
+}
+
+-- it is the line of its text
+pub line_of : (line : RecordLine) (name : List ℕ) → take line.name line.text.now ≡ name → IsLineOf line.text.now name line
+unfolding text_in
+line_of line name is = record { same_text = refl; item = record_in line; says = says_its_record line; chrom = is }
+
+-- it says no other
+pub same_record : (line : RecordLine) (r : Feature) → Says line r → record_in line ≡ r
+same_record line r says = let e : Ok (Some (record_in line)) ≡ record_of (text_in line) = sym (says_its_record line).is in let f = says.is in cc
+
+-- a byte that isn't another
+pub other_byte : (a b : ℕ) → IsTrue (not (eqb a b)) → a ≡ b → ⊥
+other_byte a b other same = false≢true (sym (ap not (eq-eqb a b same)) ∙ other)
+
+-- digits of which the first is no zero are what is written of their number
+digits_written : (digits : List ℕ) (value : ℕ) → value_of digits ≡ Some value → value ≤ 999999999999 → (get_or digits 0 0 ≡ 48 → ⊥) → decimal value ≡ digits
+unfolding value_of
+digits_written [] value e small no_zero = cc
+digits_written (byte ∷ bytes) value e small no_zero =
+    let is = digits_denoting (byte ∷ bytes) value (sym e) in
+    ap decimal is.1
+    ∙ decimal-digits_value (numerals_by_value (AllDigits 10) tells_digits) (byte ∷ bytes) (all_digits_in (byte ∷ bytes) is.0) (omega arith) (λ zero. absurd (no_zero zero)) (omega (arith, is.1))
+
+-- a column that denotes a number has a byte
+some_digits : (end : ℕ) (text : List ℕ) (value : ℕ) → value_of (take end text) ≡ Some value → 0 < end
+unfolding value_of
+some_digits zero text value e = cc
+some_digits (suc end) text value e = omega arith
+
+-- so is a column
+column_written : (text : List ℕ) (lead : Leading) → Leads text lead → lead.value ≤ 999999999999 → (get_or text 0 0 ≡ 48 → ⊥) → decimal lead.value ≡ take lead.end text
+column_written text lead leads small no_zero =
+    digits_written (take lead.end text) lead.value leads.value small (λ zero. no_zero (sym (get_or-take lead.end text 0 0 (some_digits lead.end text lead.value leads.value)) ∙ zero))
+
+-- a text is its first column, the tab behind that and the rest
+cut_there : (text : List ℕ) (end : ℕ) → end < length text → get_or text end 0 ≡ 9 → text ≡ take end text ++ 9 ∷ drop (end + 1) text
+cut_there text end inside tab =
+    sym (take-append-drop end text) ∙ ap (λ (l : List ℕ). take end text ++ l) (drop_more text end 0 inside ∙ ap (λ (b : ℕ). b ∷ drop (end + 1) text) tab)
+
+-- a byte of the third column stands there
+pub column_begins : (line : RecordLine) → line.name + 1 + line.start.end + 1 < length line.text.now
+column_begins line =
+    let first = drop (line.name + 1) line.text.now in
+    let second = drop (line.start.end + 1) first in
+    let some = some_digits line.stop.end second line.stop.value line.bounds.second.value in
+    let within = line.bounds.second.within in
+    omega (arith, length-drop (line.name + 1) line.text.now, length-drop (line.start.end + 1) first)
+
+-- where no number begins with a zero, the record is written as the line stands
+pub written_so : (line : RecordLine) (r : Feature) → record_of line.text.now ≡ Ok (Some r) → (get_or line.text.now (line.name + 1) 0 ≡ 48 → ⊥) → (get_or line.text.now (line.name + 1 + line.start.end + 1) 0 ≡ 48 → ⊥) → bed_text r ≡ line.text.now
+unfolding text_in
+written_so line r said start stop =
+    let text = line.text.now in
+    let first = drop (line.name + 1) text in
+    let second = drop (line.start.end + 1) first in
+    let rest = drop line.stop.end second in
+    let bounds = line.bounds in
+    let is : record_in line ≡ r = same_record line r (record { is = said }) in
+    let feature = said_is_feature text r (record_said text r said).1 in
+    let most : line.stop.value ≤ 999999999999 = subst (λ (f : Feature). f.stop ≤ 999999999999) (sym is) feature.in_range in
+    let below = bounds.below in
+    let at_start : get_or first 0 0 ≡ get_or text (line.name + 1) 0 = get_or-drop (line.name + 1) text 0 0 ∙ ap (λ (n : ℕ). get_or text n 0) (let e : line.name + 1 + 0 ≡ line.name + 1 = omega arith in e) in
+    let at_stop : get_or second 0 0 ≡ get_or text (line.name + 1 + line.start.end + 1) 0 =
+    get_or-drop (line.start.end + 1) first 0 0 ∙ get_or-drop (line.name + 1) text (line.start.end + 1 + 0) 0
+    ∙ ap (λ (n : ℕ). get_or text n 0) (let e : line.name + 1 + (line.start.end + 1 + 0) ≡ line.name + 1 + line.start.end + 1 = omega arith in e) in
+    let one = column_written first line.start bounds.first (omega arith) (λ zero. start (sym at_start ∙ zero)) in
+    let two = column_written second line.stop bounds.second most (λ zero. stop (sym at_stop ∙ zero)) in
+    let kept : kept_in line ≡ rest = rest_stands text first second rest line.name line.start.end line.stop.end refl refl refl in
+    let chrom = take line.name text in
+    let written : bed_text (record_in line) ≡ chrom ++ 9 ∷ (decimal line.start.value ++ 9 ∷ (decimal line.stop.value ++ kept_in line)) = simp append_assoc in
+    let cut_first : first ≡ take line.start.end first ++ 9 ∷ second = cut_there first line.start.end bounds.inside (bounds.first.tab bounds.inside) in
+    ap bed_text (sym is) ∙ written
+    ∙ ap (λ (l : List ℕ). chrom ++ 9 ∷ (l ++ 9 ∷ (decimal line.stop.value ++ kept_in line))) one
+    ∙ ap (λ (l : List ℕ). chrom ++ 9 ∷ (take line.start.end first ++ 9 ∷ (l ++ kept_in line))) two
+    ∙ ap (λ (l : List ℕ). chrom ++ 9 ∷ (take line.start.end first ++ 9 ∷ (take line.stop.end second ++ l))) kept
+    ∙ ap (λ (l : List ℕ). chrom ++ 9 ∷ (take line.start.end first ++ 9 ∷ l)) (take-append-drop line.stop.end second)
+    ∙ ap (λ (l : List ℕ). chrom ++ 9 ∷ l) (sym cut_first)
+    ∙ sym (cut_there text line.name line.named.within line.named.tab)
+
+-- lines of records as they are written are lines of what is written
+pub passes_written : (old : WholeRecords) (records : List Feature) (new : WholeRecords) → GivesWritten old records new → PassesLines (lines_in old) (map bed_text records) (lines_in new)
+passes_written old [] new is = ap lines_in is
+passes_written old (r ∷ records) new (mid, gives, text, more) =
+    (lines_in mid, subst (λ (t : List ℕ). PassesLine (lines_in old) t (lines_in mid)) (sym text) gives.line, passes_written mid records new more)
+
+-- and these records were given
+pub written_given : (old : WholeRecords) (records : List Feature) (new : WholeRecords) → GivesWritten old records new → GivesWholes old records new
+written_given old [] new is = is
+written_given old (r ∷ records) new (mid, gives, text, more) = (mid, gives, written_given mid records new more)
+
+-- one more was given
+pub written_more : (old : WholeRecords) (records : List Feature) (r : Feature) (mid new : WholeRecords) → GivesWritten old records mid → (gives : GivesWhole mid r new) → bed_text r ≡ gives.text → GivesWritten old (records ++ r ∷ []) new
+written_more old [] r mid new is gives text =
+    let same = subst (λ (w : WholeRecords). (given : GivesWhole w r new) × (bed_text r ≡ given.text)) is (gives, text) in
+    (new, same.0, same.1, refl)
+written_more old (x ∷ records) r mid new more gives text = (more.0, more.1, more.2, written_more more.0 records r mid new more.3 gives text)

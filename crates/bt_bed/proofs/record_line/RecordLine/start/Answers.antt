@@ -1,0 +1,7 @@
+use Rattle.std.proofs.Common.{ap}
+use Rattle.bt_bed.specs.Feature.{Feature}
+use Rattle.bt_bed.proofs.BoundLines.{same_record}
+use Rattle.bt_bed.proofs.record_line.RecordLine.start.Goals as goal
+
+pub returns : goal.returns
+returns c = λ r says. ap (λ (f : Feature). f.start) (same_record c.args.self.now r says)

@@ -1,0 +1,113 @@
+-- Lemmas on bytes that are whole lines, one behind another.
+use Rattle.std.proofs.Common.{◌≡◌, ℕ, suc, ◌+◌, ◌-◌, ◌<◌, ◌≤◌, false, List, [], ◌∷◌, ◌++◌, length, take, drop, Option, None, Some, refl, sym, ap, ◌∙◌, subst, arith, append_assoc, append-nil, eqb, length-append}
+use Rattle.std.specs.Prelude.{flat_map}
+use Rattle.std.specs.List.{All}
+use Rattle.std.proofs.lemmas.List.{drop-drop, take_all}
+use Rattle.std.proofs.lemmas.List.Elements.{All-head, All-tail}
+use Rattle.std.proofs.lemmas.List.Splits.{slice_split_at}
+use Rattle.std.proofs.Math.Seq.{drop-append_seam, take-add, take-append_seam}
+use Rattle.bt_lines.specs.Block.{IsFirstFeed}
+use Rattle.bt_lines.specs.LentLine.{NoLineFeed}
+use Rattle.bt_lines.specs.Lines.{pieces}
+use Rattle.bt_lines.specs.Output.{block_size}
+use Rattle.bt_lines.specs.Whole.{AreClear, AreLines, PassesLine, PassesLines, ended_by, rest_of}
+use Rattle.bt_lines.specs.declared.whole.WholeLines.{WholeLines}
+
+-- two cuts at a first line feed are one
+first_feed_is_one : (a b x y : List ℕ) → NoLineFeed a → NoLineFeed b → a ++ 10 ∷ x ≡ b ++ 10 ∷ y → (a ≡ b) × (x ≡ y)
+first_feed_is_one a b x y p q e =
+    let cut : a ∷ pieces 10 x ≡ b ∷ pieces 10 y = sym (slice_split_at (λ c. eqb c 10) a 10 x p refl) ∙ ap (pieces 10) e ∙ slice_split_at (λ c. eqb c 10) b 10 y q refl in
+    let same : a ≡ b = cc in
+    let behind : drop (length a) (a ++ 10 ∷ x) ≡ drop (length b) (b ++ 10 ∷ y) = ap (λ (l : List ℕ). drop (length l) (a ++ 10 ∷ x)) same ∙ ap (drop (length b)) e in
+    let rest : 10 ∷ x ≡ 10 ∷ y = sym (drop-append_seam a (10 ∷ x)) ∙ behind ∙ drop-append_seam b (10 ∷ y) in
+    (same, cc)
+
+none_taken : (n : ℕ) (l : List ℕ) → take (n - n) l ≡ []
+none_taken n l = let e : n - n ≡ 0 = omega arith in ap (λ (k : ℕ). take k l) e
+
+-- the bytes between two places are the lines that were passed there
+pub lines_between : (old : WholeLines) (texts : List (List ℕ)) (mid : WholeLines) → PassesLines old texts mid → (old.at ≤ mid.at) × AreLines (take (mid.at - old.at) (drop old.at old.bytes.now)) texts
+unfolding rest_of
+lines_between old [] mid p =
+    let same : mid.at ≡ old.at = ap (λ (w : WholeLines). w.at) p in
+    (omega arith, record { is = ap (λ (k : ℕ). take (k - old.at) (drop old.at old.bytes.now)) same ∙ none_taken old.at (drop old.at old.bytes.now); clear = tt })
+lines_between old (text ∷ texts) mid p =
+    let line = p.1 in
+    let more = lines_between p.0 texts mid p.2 in
+    let rest = drop old.at old.bytes.now in
+    let at = line.at in
+    let size : mid.at - old.at ≡ (length text + 1) + (mid.at - p.0.at) = omega (arith, more.0) in
+    let behind : drop (length text + 1) rest ≡ drop p.0.at p.0.bytes.now =
+    drop-drop (length text + 1) old.at old.bytes.now ∙ ap (λ (k : ℕ). drop k old.bytes.now) (sym at) ∙ ap (λ b. drop p.0.at b.now) (sym line.bytes) in
+    let first : take (length text + 1) rest ≡ text ++ 10 ∷ [] =
+    ap (take (length text + 1)) line.begins.cut ∙ front_of text (drop (length text + 1) rest) in (
+      omega (arith, more.0),
+      record {
+        is = ap (λ (k : ℕ). take k rest) size ∙ take-add (length text + 1) (mid.at - p.0.at) rest
+            ∙ ap (λ (l : List ℕ). l ++ take (mid.at - p.0.at) (drop (length text + 1) rest)) first
+            ∙ ap (λ (l : List ℕ). (text ++ 10 ∷ []) ++ take (mid.at - p.0.at) l) behind
+            ∙ ap (λ (l : List ℕ). (text ++ 10 ∷ []) ++ l) more.1.is;
+        clear = (line.begins.clear, more.1.clear);
+      },
+    )
+  where
+    front_of : (text rest : List ℕ) → take (length text + 1) (text ++ 10 ∷ rest) ≡ text ++ 10 ∷ []
+    front_of text rest =
+        let size : length text + 1 ≡ length (text ++ 10 ∷ []) = sym (length-append text (10 ∷ [])) in
+        ap (λ (k : ℕ). take k (text ++ 10 ∷ rest)) size ∙ ap (take (length (text ++ 10 ∷ []))) (sym (append_assoc text (10 ∷ []) rest)) ∙ take-append_seam (text ++ 10 ∷ []) rest
+
+-- of some lines the first are held back, each with an end, and the others are left
+pub record HoldsSome (lines end old rest new : List ℕ) : Type 0 where
+  pub front : (more : List ℕ) × (new ≡ old ++ more)
+  pub block : length old ≤ block_size → length new ≤ block_size
+  pub held : (texts : List (List ℕ)) → AreLines lines texts
+      → (done : List (List ℕ)) × (left : List (List ℕ)) × (texts ≡ done ++ left) × (new ≡ old ++ ended_by end done) × AreLines rest left
+
+pub none_held : (lines end old : List ℕ) → HoldsSome lines end old lines old
+none_held lines end old = record {
+  front = ([], sym (append-nil old));
+  block = λ was. was;
+  held = λ texts are. ([], texts, refl, sym (append-nil old), are);
+}
+
+ended_more : (end text : List ℕ) (done : List (List ℕ)) → ended_by end (done ++ text ∷ []) ≡ ended_by end done ++ (text ++ end)
+ended_more end text [] = append-nil (text ++ end)
+ended_more end text (first ∷ done) = ap (λ (l : List ℕ). (first ++ end) ++ l) (ended_more end text done) ∙ sym (append_assoc (first ++ end) (ended_by end done) (text ++ end))
+
+-- the line up to the first line feed is the next one
+next_line : (rest text behind : List ℕ) (left : List (List ℕ)) → AreLines rest left → rest ≡ text ++ 10 ∷ behind → NoLineFeed text → (more : List (List ℕ)) × (left ≡ text ∷ more) × AreLines behind more
+next_line rest text behind [] are cut clear =
+    let none : length (text ++ 10 ∷ behind) ≡ 0 = ap length (sym cut ∙ are.is) in
+    absurd (omega (arith, none, length-append text (10 ∷ behind)))
+next_line rest text behind (first ∷ more) are cut clear =
+    let whole : text ++ 10 ∷ behind ≡ first ++ 10 ∷ ended_by (10 ∷ []) more = sym cut ∙ are.is ∙ append_assoc first (10 ∷ []) (ended_by (10 ∷ []) more) in
+    let same = first_feed_is_one text first behind (ended_by (10 ∷ []) more) clear are.clear.0 whole in
+    (more, ap (λ (t : List ℕ). t ∷ more) (sym same.0), record { is = same.1; clear = are.clear.1 })
+
+-- one more is held back
+pub more_held : (lines end old rest mid text behind new : List ℕ) → HoldsSome lines end old rest mid → rest ≡ text ++ 10 ∷ behind → NoLineFeed text → new ≡ mid ++ (text ++ end) → length new ≤ block_size → HoldsSome lines end old behind new
+more_held lines end old rest mid text behind new so cut clear is fits = record {
+  block = λ was. fits;
+  front = (so.front.0 ++ (text ++ end), is ∙ ap (λ (l : List ℕ). l ++ (text ++ end)) so.front.1 ∙ append_assoc old so.front.0 (text ++ end));
+  held = λ texts are.
+      let h = so.held texts are in
+      let next = next_line rest text behind h.1 h.4 cut clear in (
+        h.0 ++ text ∷ [],
+        next.0,
+        h.2 ∙ ap (λ (l : List (List ℕ)). h.0 ++ l) next.1 ∙ sym (append_assoc h.0 (text ∷ []) next.0),
+        is ∙ ap (λ (l : List ℕ). l ++ (text ++ end)) h.3 ∙ append_assoc old (ended_by end h.0) (text ++ end) ∙ ap (λ (l : List ℕ). old ++ l) (sym (ended_more end text h.0)),
+        next.2,
+      );
+}
+
+-- none is left
+pub all_held : (lines end old rest new : List ℕ) → HoldsSome lines end old rest new → rest ≡ [] → (texts : List (List ℕ)) → AreLines lines texts → new ≡ old ++ ended_by end texts
+all_held lines end old rest new so none texts are =
+    let h = so.held texts are in
+    h.3 ∙ ap (λ (l : List (List ℕ)). old ++ ended_by end l) (sym (append-nil h.0) ∙ ap (λ (l : List (List ℕ)). h.0 ++ l) (sym (no_text h.1 (sym none ∙ h.4.is))) ∙ sym h.2)
+  where
+    no_text : (left : List (List ℕ)) → [] ≡ ended_by (10 ∷ []) left → left ≡ []
+    no_text [] e = refl
+    no_text (first ∷ more) e =
+        let none : length ((first ++ 10 ∷ []) ++ ended_by (10 ∷ []) more) ≡ 0 = ap length (sym e) in
+        absurd (omega (arith, none, length-append (first ++ 10 ∷ []) (ended_by (10 ∷ []) more), length-append first (10 ∷ [])))

@@ -1,0 +1,300 @@
+-- Lemmas on going over both inputs at once.
+use Rattle.std.proofs.Common.{◌≡◌, ℕ, ◌<◌, ◌≤◌, Bool, true, false, List, [], ◌∷◌, ◌++◌, Option, Some, None, inl, inr, refl, sym, ap, ◌∙◌, subst, arith, append_assoc, append-nil, not}
+use Rattle.std.specs.Prelude.{IsTrue}
+use Rattle.std.proofs.lemmas.Bool.{le-ltb}
+use Rattle.std.specs.declared.cmp.Ordering.{Ordering}
+use Rattle.std.specs.declared.cmp.Ordering.TheVariants.{Equal}
+use Rattle.bt_lines.specs.Output.{Output}
+use Rattle.bt_lines.specs.Putting.{Grown}
+use Rattle.bt_lines.proofs.PuttingLemmas.{grown_none}
+use Rattle.bt_bed.specs.Feature.{Feature}
+use Rattle.bt_bed.specs.Locus.{is_below_at}
+use Rattle.bt_bed.specs.Order.{Order, IsTotal}
+use Rattle.bt_bed.specs.RecordLine.{Says}
+use Rattle.bt_bed.specs.WholeRecords.{GivesLine, GivesWhole, GivesWholes, chrom_in}
+use Rattle.bt_bed.specs.declared.record_line.RecordLine.{RecordLine}
+use Rattle.bt_bed.specs.declared.whole_records.WholeRecords.{WholeRecords}
+use Rattle.bt_bed.proofs.WholesGiven.{bytes_ahead, gives_more, record_shrinks}
+use Rattle.bt_sweep.specs.Deciding.{decides}
+use Rattle.bt_sweep.specs.IntersectLines.{lines_for}
+use Rattle.bt_sweep.specs.Passing.{PassesRound, PassesRounds, PassesSecond, PassesSeconds, PassesSkipped, Round, Skipped, TakesBoth, firsts_of, next_after, seconds_of, skipped_records}
+use Rattle.bt_sweep.specs.Standing.{last_after}
+use Rattle.bt_sweep.specs.StateLeaping.{AreLeapt, AreSkipped, IsLeap, Leaps, LeapsOn, SkipsTo, StandsOn, last_leapt}
+use Rattle.bt_sweep.specs.StatePassing.{AreUpTo, DecidesUpTo, EndUpTo, IsBare}
+use Rattle.bt_sweep.specs.SweepState.{Sweeping, want_in, want_of}
+use Rattle.bt_sweep.specs.declared.unhit.Unhit.TheVariants.{Nothing}
+use Rattle.bt_sweep.specs.declared.want.Want.TheVariants.{A, B}
+use Rattle.bt_sweep.proofs.PassingLemmas.{decided_front, gives_one, none_hits, on_chrom, passes_all_before, passes_second, passes_several}
+use Rattle.bt_sweep.proofs.StepLemmas.{last_waits, writes_a}
+use Rattle.bt_sweep.proofs.UnhitLemmas.{puts_none}
+
+-- ---- records that were given
+
+gives_append : (old : WholeRecords) (xs ys : List Feature) (mid new : WholeRecords) → GivesWholes old xs mid → GivesWholes mid ys new → GivesWholes old (xs ++ ys) new
+gives_append old [] ys mid new is more = subst (λ (w : WholeRecords). GivesWholes w ys new) is more
+gives_append old (x ∷ xs) ys mid new p more = (p.0, p.1, gives_append p.0 xs ys mid new p.2 more)
+
+pub gives_split : (old : WholeRecords) (xs ys : List Feature) (new : WholeRecords) → GivesWholes old (xs ++ ys) new → (mid : WholeRecords) × GivesWholes old xs mid × GivesWholes mid ys new
+gives_split old [] ys new p = (old, refl, p)
+gives_split old (x ∷ xs) ys new p =
+    let more = gives_split p.0 xs ys new p.2 in
+    (more.0, (p.0, p.1, more.1), more.2)
+
+-- ---- records that are skipped
+
+end_more : (stop : ℕ) (records : List Feature) (r : Feature) → EndUpTo stop records → r.stop ≤ stop → EndUpTo stop (records ++ r ∷ [])
+end_more stop [] r end within = (within, tt)
+end_more stop (a ∷ more) r end within = (end.0, end_more stop more r end.1 within)
+
+pub skips_none : (start : ℕ) (first a : Feature) (old : WholeRecords) (line : Option RecordLine) (from to : ℕ) → StandsOn first a line from to → SkipsTo start first a old line from to old
+skips_none start first a old line from to on = record { skipped = None; given = refl; are = tt; on = on }
+
+stands_line : (first r : Feature) (line : RecordLine) (from to : ℕ) → Says line r → from ≡ r.start → to ≡ r.stop → StandsOn first r (Some line) from to
+stands_line first r line from to says start stop = record { start_is = start; stop_is = stop; line_is = says }
+
+-- one more is skipped
+pub skips_more : (start : ℕ) (first a : Feature) (old mid : WholeRecords) (was : Option RecordLine) (from to : ℕ) (line : RecordLine) (r : Feature) (next_from next_to : ℕ) (new : WholeRecords) → SkipsTo start first a old was from to mid → to ≤ start → GivesLine mid line r new
+    → next_from ≡ r.start → next_to ≡ r.stop → SkipsTo start first a old (Some line) next_from next_to new
+skips_more start first a old mid was from to line r next_from next_to new skips within gives start_is stop_is = by skips.skipped skips.given skips.are skips.on
+  where
+    by : (s : Option Skipped) → GivesWholes old (skipped_records s) mid → AreSkipped start a s → StandsOn first (next_after a s) was from to → SkipsTo start first a old (Some line) next_from next_to new
+    by None given are on = let stop = on.stop_is in record {
+      skipped = Some (record { firsts = []; next = r });
+      given = gives_more old [] r mid new given gives.gives;
+      are = (omega arith, tt);
+      on = stands_line first r line next_from next_to gives.says start_is stop_is;
+    }
+    by (Some s) given are on = let stop = on.stop_is in record {
+      skipped = Some (record { firsts = s.firsts ++ s.next ∷ []; next = r });
+      given = gives_more old (s.firsts ++ s.next ∷ []) r mid new given gives.gives;
+      are = (are.0, end_more start s.firsts s.next are.1 (omega arith));
+      on = stands_line first r line next_from next_to gives.says start_is stop_is;
+    }
+
+-- and one of the second input is passed
+pub leaps_on : (first a : Feature) (firsts seconds : WholeRecords) (b : Feature) (mid new_seconds : WholeRecords) (line : Option RecordLine) (start stop : ℕ) (new_firsts : WholeRecords) (from to : ℕ) → GivesWhole seconds b mid → from ≡ b.start → to ≡ b.stop
+    → SkipsTo from first a firsts line start stop new_firsts → to ≤ start → AreUpTo start mid new_seconds → LeapsOn first a firsts seconds line start stop new_firsts new_seconds
+leaps_on first a firsts seconds b mid new_seconds line start stop new_firsts from to gives from_is to_is skips within more =
+    let skipped = subst (λ (n : ℕ). SkipsTo n first a firsts line start stop new_firsts) from_is skips in
+    let at = skipped.on.start_is in
+    record { b = b; mid = mid; gives = gives; skips = skipped; before = omega (arith, to_is, within, at); more = more }
+
+-- ---- rounds
+
+firsts_more : (rounds : List Round) (round : Round) → firsts_of (rounds ++ round ∷ []) ≡ firsts_of rounds ++ skipped_records round.skipped
+firsts_more [] round = append-nil (skipped_records round.skipped)
+firsts_more (x ∷ rounds) round = ap (λ (l : List Feature). skipped_records x.skipped ++ l) (firsts_more rounds round) ∙ sym (append_assoc (skipped_records x.skipped) (firsts_of rounds) (skipped_records round.skipped))
+
+seconds_more : (rounds : List Round) (round : Round) → seconds_of (rounds ++ round ∷ []) ≡ seconds_of rounds ++ round.b ∷ []
+seconds_more [] round = refl
+seconds_more (x ∷ rounds) round = ap (λ (l : List Feature). x.b ∷ l) (seconds_more rounds round)
+
+last_more : (a : Feature) (rounds : List Round) (round : Round) → last_leapt a (rounds ++ round ∷ []) ≡ next_after (last_leapt a rounds) round.skipped
+last_more a [] round = refl
+last_more a (x ∷ rounds) round = last_more (next_after a x.skipped) rounds round
+
+leapt_more : (a : Feature) (rounds : List Round) (round : Round) → AreLeapt a rounds → AreSkipped round.b.start (last_leapt a rounds) round.skipped → round.b.stop ≤ (next_after (last_leapt a rounds) round.skipped).start → AreLeapt a (rounds ++ round ∷ [])
+leapt_more a [] round are skipped before = (skipped, before, tt)
+leapt_more a (x ∷ rounds) round are skipped before = (are.0, are.1, leapt_more (next_after a x.skipped) rounds round are.2 skipped before)
+
+leap_none : (first : Feature) (firsts seconds : WholeRecords) → IsLeap first firsts seconds None first.start first.stop firsts seconds
+leap_none first firsts seconds = record { rounds = []; given_firsts = refl; given_seconds = refl; are = tt; on = record { start_is = refl; stop_is = refl; line_is = refl } }
+
+-- one more round
+leap_round : (first : Feature) (firsts seconds : WholeRecords) (was : Option RecordLine) (from to : ℕ) (mid_firsts mid_seconds : WholeRecords) (line : Option RecordLine) (start stop : ℕ) (new_firsts new_seconds : WholeRecords) (b : Feature)
+    → (leap : IsLeap first firsts seconds was from to mid_firsts mid_seconds) → GivesWhole mid_seconds b new_seconds → (skips : SkipsTo b.start first (last_leapt first leap.rounds) mid_firsts line start stop new_firsts)
+    → b.stop ≤ (next_after (last_leapt first leap.rounds) skips.skipped).start → IsLeap first firsts seconds line start stop new_firsts new_seconds
+leap_round first firsts seconds was from to mid_firsts mid_seconds line start stop new_firsts new_seconds b leap gives skips before =
+    let round : Round = record { b = b; skipped = skips.skipped } in
+    record {
+      rounds = leap.rounds ++ round ∷ [];
+      given_firsts = subst (λ (l : List Feature). GivesWholes firsts l new_firsts) (sym (firsts_more leap.rounds round)) (gives_append firsts (firsts_of leap.rounds) (skipped_records round.skipped) mid_firsts new_firsts leap.given_firsts skips.given);
+      given_seconds = subst (λ (l : List Feature). GivesWholes seconds l new_seconds) (sym (seconds_more leap.rounds round)) (gives_more seconds (seconds_of leap.rounds) b mid_seconds new_seconds leap.given_seconds gives);
+      are = leapt_more first leap.rounds round leap.are skips.are before;
+      on = subst (λ (a : Feature). StandsOn first a line start stop) (sym (last_more first leap.rounds round)) skips.on;
+    }
+
+-- records of the second input before the one of the first are passed
+leap_behind : (first : Feature) (firsts seconds : WholeRecords) (line : Option RecordLine) (start stop : ℕ) (new_firsts mid : WholeRecords) (records : List Feature) (new : WholeRecords)
+    → IsLeap first firsts seconds line start stop new_firsts mid → GivesWholes mid records new → EndUpTo start records → IsLeap first firsts seconds line start stop new_firsts new
+unfolding skips_none
+leap_behind first firsts seconds line start stop new_firsts mid [] new leap given end = subst (λ (w : WholeRecords). IsLeap first firsts seconds line start stop new_firsts w) (sym given) leap
+leap_behind first firsts seconds line start stop new_firsts mid (b ∷ more) new leap given end =
+    let at = leap.on.start_is in
+    let within = end.0 in
+    let before : b.stop ≤ (last_leapt first leap.rounds).start = omega (arith, at, within) in
+    let next = leap_round first firsts seconds line start stop new_firsts mid line start stop new_firsts given.0 b leap given.1
+    (skips_none b.start first (last_leapt first leap.rounds) new_firsts line start stop leap.on) before in
+    leap_behind first firsts seconds line start stop new_firsts given.0 more new next given.2 end.1
+
+pub leap_first : (first : Feature) (firsts seconds new_seconds : WholeRecords) → AreUpTo first.start seconds new_seconds → IsLeap first firsts seconds None first.start first.stop firsts new_seconds
+leap_first first firsts seconds new_seconds up =
+    leap_behind first firsts seconds None first.start first.stop firsts seconds up.records new_seconds (leap_none first firsts seconds) up.given up.end
+
+pub leap_more : (first : Feature) (firsts seconds : WholeRecords) (was : Option RecordLine) (from to : ℕ) (mid_firsts mid_seconds : WholeRecords) (line : Option RecordLine) (start stop : ℕ) (new_firsts new_seconds : WholeRecords)
+    → (leap : IsLeap first firsts seconds was from to mid_firsts mid_seconds) → LeapsOn first (last_leapt first leap.rounds) mid_firsts mid_seconds line start stop new_firsts new_seconds → IsLeap first firsts seconds line start stop new_firsts new_seconds
+leap_more first firsts seconds was from to mid_firsts mid_seconds line start stop new_firsts new_seconds leap on =
+    let round = leap_round first firsts seconds was from to mid_firsts mid_seconds line start stop new_firsts on.mid on.b leap on.gives on.skips on.before in
+    leap_behind first firsts seconds line start stop new_firsts on.mid on.more.records new_seconds round on.more.given on.more.end
+
+-- so many bytes are left at most
+wholes_shrink : (old : WholeRecords) (records : List Feature) (new : WholeRecords) → GivesWholes old records new → bytes_ahead new ≤ bytes_ahead old
+wholes_shrink old [] new is = subst (λ (w : WholeRecords). bytes_ahead w ≤ bytes_ahead old) (sym is) (omega arith)
+wholes_shrink old (r ∷ more) new given =
+    let one = record_shrinks old given.0 r given.1 in
+    let rest = wholes_shrink given.0 more new given.2 in
+    omega (arith, one, rest)
+
+pub leap_shrinks : (first a : Feature) (firsts seconds : WholeRecords) (line : Option RecordLine) (start stop : ℕ) (new_firsts new_seconds : WholeRecords) → LeapsOn first a firsts seconds line start stop new_firsts new_seconds → bytes_ahead new_seconds < bytes_ahead seconds
+leap_shrinks first a firsts seconds line start stop new_firsts new_seconds on =
+    let one = record_shrinks seconds on.mid on.b on.gives in
+    let rest = wholes_shrink on.mid on.more.records new_seconds on.more.given in
+    omega (arith, one, rest)
+
+-- ---- the sweep
+
+-- b decides a record on its chromosome that ends at its start or before it
+decides_up : (order : Order) (b : Feature) (chrom : List ℕ) → IsTotal order → IsTrue (order.knows chrom) → b.chrom ≡ chrom → DecidesUpTo order b chrom b.start
+decides_up order b chrom total known same = λ a on within.
+    let compared : order.compare b.chrom a.chrom ≡ Equal = ap (λ (c : List ℕ). order.compare c a.chrom) (same ∙ sym on) ∙ total.same a.chrom (subst (λ (c : List ℕ). IsTrue (order.knows c)) (sym on) known) in
+    ap (λ (o : Ordering). not (is_below_at o b.start a.stop)) compared ∙ ap not (le-ltb b.start a.stop within)
+
+module _ (order : Order) (total : IsTotal order) (out : Output) where
+  -- what one round does, in which records of the first input are skipped
+  skips_some : (old : Sweeping) (a : Feature) (b : Feature) (s : Skipped) (from to : WholeRecords) → IsBare old Nothing → old.done ≡ false → old.last ≡ Some a → IsTrue (order.knows a.chrom) → a.chrom ≡ chrom_in from → b.chrom ≡ a.chrom → a.start < a.stop
+      → GivesWholes from (s.firsts ++ s.next ∷ []) to → AreSkipped b.start a (Some s) → PassesSkipped order out old b s (record old { last = Some s.next; waits = true })
+  skips_some old a b s from to bare going was known on same filled given are =
+      let left : Sweeping = record old { waits = false } in
+      let bare_left : IsBare left Nothing = record { none_held = bare.none_held; is = bare.is; going = bare.going } in
+      let wants : want_in left ≡ A = ap (want_of false) going in
+      let split = gives_split from s.firsts (s.next ∷ []) to given in
+      let up = decides_up order b a.chrom total known same in
+      let told_so : decides order a b ≡ true = up a refl are.0 in
+      record {
+        left = left;
+        leaves = λ shape rule limit stage waiting line stands waits placed.
+            let is : a ≡ waiting = let e : Some a ≡ Some waiting = sym was ∙ last_waits order shape rule limit stage waiting waits old stands in cc in
+            writes_a order shape rule limit stage waiting waits old stands (tt {0}) b line left out out total
+            (subst (λ (f : Feature). IsTrue (order.knows f.chrom)) is known)
+            (subst (λ (f : Feature). decides order f b ≡ true) is told_so)
+            (refl, subst (λ (l : List ℕ). Grown out l out) (sym (ap (λ (f : Feature). lines_for old.shape old.rule f old.held) (sym is) ∙ none_hits old.shape old.rule a old.held bare.none_held ∙ bare.is a filled)) (grown_none out));
+        passes = record {
+          mid = record left { last = Some (last_after a s.firsts) };
+          passes = passes_several order b total Nothing left a s.firsts out out bare_left wants was known (decided_front order b a b.start from s.firsts split.0 split.1 are.1 on up) (puts_none out s.firsts);
+          asks_first = wants;
+          gives = gives_one order b total Nothing (record left { last = Some (last_after a s.firsts) }) s.next out (record { none_held = bare.none_held; is = bare.is; going = bare.going }) wants;
+          waits = refl;
+        };
+      }
+
+  -- what one round does
+  round_done : (old : Sweeping) (a b : Feature) (skipped : Option Skipped) (from to from_second to_second : WholeRecords) → IsBare old Nothing → old.done ≡ false → old.waits ≡ true → old.last ≡ Some a → IsTrue (order.knows a.chrom) → a.chrom ≡ chrom_in from
+      → a.chrom ≡ chrom_in from_second → a.start < a.stop → GivesWholes from (skipped_records skipped) to → GivesWhole from_second b to_second → AreSkipped b.start a skipped → b.stop ≤ (next_after a skipped).start
+      → PassesRound order out old b skipped (record old { last = Some (next_after a skipped) }) × PassesSecond order (record old { last = Some (next_after a skipped) }) b
+      × ((next_after a skipped).chrom ≡ a.chrom) × ((next_after a skipped).start < (next_after a skipped).stop)
+  round_done old a b None from to from_second to_second bare going waits was known on on_second filled given gives are before =
+      let same : record old { last = Some a } ≡ old = ap (λ (l : Option Feature). record old { last = l }) (sym was) in (
+        same,
+        passes_second order total (record old { last = Some a }) a refl filled known b (gives.chrom ∙ sym on_second) gives.feature.non_empty before,
+        refl,
+        filled,
+      )
+  round_done old a b (Some s) from to from_second to_second bare going waits was known on on_second filled given gives are before =
+      let split = gives_split from s.firsts (s.next ∷ []) to given in
+      let next = split.2.1 in
+      let chrom : s.next.chrom ≡ a.chrom = next.chrom ∙ on_chrom from s.firsts split.0 split.1 ∙ sym on in
+      let same = gives.chrom ∙ sym on_second in
+      let some = next.feature.non_empty in (
+        subst (λ (w : Bool). PassesSkipped order out old b s (record old { last = Some s.next; waits = w })) (sym waits) (skips_some old a b s from to bare going was known on same filled given are),
+        passes_second order total (record old { last = Some s.next }) s.next refl some (subst (λ (c : List ℕ). IsTrue (order.knows c)) (sym chrom) known) b (same ∙ sym chrom) gives.feature.non_empty before,
+        chrom,
+        some,
+      )
+
+  -- what rounds do
+  pub leaps_rounds : (old : Sweeping) (a : Feature) (rounds : List Round) (firsts seconds : WholeRecords) (new_firsts new_seconds : WholeRecords) → IsBare old Nothing → old.done ≡ false → old.waits ≡ true → old.last ≡ Some a → IsTrue (order.knows a.chrom)
+      → a.chrom ≡ chrom_in firsts → a.chrom ≡ chrom_in seconds → a.start < a.stop → GivesWholes firsts (firsts_of rounds) new_firsts → GivesWholes seconds (seconds_of rounds) new_seconds → AreLeapt a rounds
+      → PassesRounds order out old rounds (record old { last = Some (last_leapt a rounds) })
+  leaps_rounds old a [] firsts seconds new_firsts new_seconds bare going waits was known on on_seconds filled given given_seconds are = ap (λ (l : Option Feature). record old { last = l }) (sym was)
+  leaps_rounds old a (round ∷ more) firsts seconds new_firsts new_seconds bare going waits was known on on_seconds filled given given_seconds are =
+      let split = gives_split firsts (skipped_records round.skipped) (firsts_of more) new_firsts given in
+      let done = round_done old a round.b round.skipped firsts split.0 seconds given_seconds.0 bare going waits was known on on_seconds filled split.1 given_seconds.1 are.0 are.1 in
+      let next = next_after a round.skipped in
+      let mid : Sweeping = record old { last = Some next } in (
+        mid,
+        done.0,
+        ap (λ (w : Bool). want_of w old.done) waits,
+        done.1,
+        leaps_rounds mid next more split.0 given_seconds.0 new_firsts new_seconds (record { none_held = bare.none_held; is = bare.is; going = bare.going }) going waits refl (subst (λ (c : List ℕ). IsTrue (order.knows c)) (sym done.2) known)
+            (done.2 ∙ on ∙ sym (on_chrom firsts (skipped_records round.skipped) split.0 split.1)) (done.2 ∙ on_seconds ∙ sym given_seconds.1.same_chrom) done.3 split.2 given_seconds.2 are.2,
+      )
+
+-- ---- of the second input alone
+
+abbrev alone : List Feature → List Round
+alone [] = []
+alone (b ∷ more) = record { b = b; skipped = None } ∷ alone more
+
+firsts_alone : (seconds : List Feature) → firsts_of (alone seconds) ≡ []
+firsts_alone [] = refl
+firsts_alone (b ∷ more) = firsts_alone more
+
+seconds_alone : (seconds : List Feature) → seconds_of (alone seconds) ≡ seconds
+seconds_alone [] = refl
+seconds_alone (b ∷ more) = ap (λ (l : List Feature). b ∷ l) (seconds_alone more)
+
+rounds_alone : (order : Order) (out : Output) (sweep : Sweeping) (seconds : List Feature) → want_in sweep ≡ B → PassesSeconds order sweep seconds → PassesRounds order out sweep (alone seconds) sweep
+rounds_alone order out sweep [] wants passes = refl
+rounds_alone order out sweep (b ∷ more) wants passes = (sweep, refl, wants, passes.0, rounds_alone order out sweep more wants passes.1)
+
+-- ---- whatever the sweep does
+
+it_waits : (waits done : Bool) → want_of waits done ≡ B → waits ≡ true
+it_waits true done e = refl
+it_waits false true e = cc
+it_waits false false e = cc
+
+leapt_chrom : (a : Feature) (rounds : List Round) (firsts new : WholeRecords) → a.chrom ≡ chrom_in firsts → GivesWholes firsts (firsts_of rounds) new → (last_leapt a rounds).chrom ≡ a.chrom
+leapt_chrom a [] firsts new on given = refl
+leapt_chrom a (round ∷ more) firsts new on given =
+    let split = gives_split firsts (skipped_records round.skipped) (firsts_of more) new given in
+    let next = next_chrom a round.skipped firsts split.0 on split.1 in
+    leapt_chrom (next_after a round.skipped) more split.0 new (next ∙ on ∙ sym (on_chrom firsts (skipped_records round.skipped) split.0 split.1)) split.2 ∙ next
+  where
+    next_chrom : (a : Feature) (skipped : Option Skipped) (from to : WholeRecords) → a.chrom ≡ chrom_in from → GivesWholes from (skipped_records skipped) to → (next_after a skipped).chrom ≡ a.chrom
+    next_chrom a None from to on given = refl
+    next_chrom a (Some s) from to on given =
+        let split = gives_split from s.firsts (s.next ∷ []) to given in
+        split.2.1.chrom ∙ on_chrom from s.firsts split.0 split.1 ∙ sym on
+
+module _ (order : Order) (total : IsTotal order) (old : Sweeping) (firsts seconds : WholeRecords) (new : Sweeping) (new_firsts new_seconds : WholeRecords) (known : (a : Feature) → old.last ≡ Some a → IsTrue (order.knows a.chrom)) where
+  pub takes_both : want_in old ≡ B → Leaps old firsts seconds new new_firsts new_seconds → TakesBoth order old firsts seconds new new_firsts new_seconds
+  takes_both wants (inl leaps) =
+      let keeps = leaps.keeps in
+      let same : new ≡ record old { last = Some (last_leapt keeps.first keeps.rounds) } = leaps.others ∙ ap (λ (l : Option Feature). record old { last = l }) keeps.is in
+      record {
+        rounds = keeps.rounds;
+        firsts = keeps.given_firsts;
+        seconds = keeps.given_seconds;
+        passes = λ out. subst (λ (s : Sweeping). PassesRounds order out old keeps.rounds s) (sym same)
+            (leaps_rounds order total out old keeps.first keeps.rounds firsts seconds new_firsts new_seconds leaps.bare leaps.going (it_waits old.waits old.done wants) keeps.was (known keeps.first keeps.was) keeps.on_firsts keeps.on_seconds keeps.filled keeps.given_firsts keeps.given_seconds keeps.are);
+      }
+  takes_both wants (inr behind) =
+      let all = passes_all_before order total old seconds new_seconds known behind.before in
+      record {
+        rounds = alone all.0;
+        firsts = subst (λ (l : List Feature). GivesWholes firsts l new_firsts) (sym (firsts_alone all.0)) behind.same_firsts;
+        seconds = subst (λ (l : List Feature). GivesWholes seconds l new_seconds) (sym (seconds_alone all.0)) all.1;
+        passes = λ out. subst (λ (s : Sweeping). PassesRounds order out old (alone all.0) s) (sym behind.same) (rounds_alone order out old all.0 wants all.2);
+      }
+
+  pub wants_still : want_in old ≡ B → Leaps old firsts seconds new new_firsts new_seconds → want_in new ≡ B
+  wants_still wants (inl leaps) = ap want_in leaps.others ∙ wants
+  wants_still wants (inr behind) = ap want_in behind.same ∙ wants
+
+  pub knows_still : Leaps old firsts seconds new new_firsts new_seconds → (a : Feature) → new.last ≡ Some a → IsTrue (order.knows a.chrom)
+  knows_still (inl leaps) a e =
+      let keeps = leaps.keeps in
+      let is : last_leapt keeps.first keeps.rounds ≡ a = let both : Some (last_leapt keeps.first keeps.rounds) ≡ Some a = sym keeps.is ∙ e in cc in
+      subst (λ (c : List ℕ). IsTrue (order.knows c)) (sym (leapt_chrom keeps.first keeps.rounds firsts new_firsts keeps.on_firsts keeps.given_firsts) ∙ ap (λ (f : Feature). f.chrom) is) (known keeps.first keeps.was)
+  knows_still (inr behind) a e = known a (ap (λ (s : Sweeping). s.last) (sym behind.same) ∙ e)
