@@ -8,7 +8,7 @@ use Rattle.bt_bed.specs.Interval.{Interval}
 use Rattle.bt_bed.specs.IntervalLine.{interval_line, interval_lines, span_text}
 
 -- the name, and what stands behind it
-pub line_parts : (r : Interval) → r.chrom ++ span_text r.start r.stop ≡ interval_line r
+pub line_parts : (r : Interval) → r.chrom ++ span_text r.start r.stop 10 ≡ interval_line r
 line_parts r =
     let tab = codes "\t" in
     let end = decimal r.stop ++ codes "\n" in

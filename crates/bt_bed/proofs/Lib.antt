@@ -21,6 +21,8 @@ pub mod GoodLemmas
 pub mod GoodBedLemmas
 pub mod ReadingLemmas
 pub mod NeighbourLemmas
+pub mod ColumnsLemmas
+pub mod ShownLines
 pub mod CursorLemmas
 pub mod RecordsLemmas
 pub mod GoodBlocksLemmas

@@ -1,5 +1,5 @@
 -- A record, put column by column, and what ends it.
-use Rattle.std.proofs.Common.{◌≡◌, ℕ, ◌-◌, List, ◌++◌, Result, ap, subst, ◌∙◌, append_assoc, arith, length, length-append, codes, drop, take}
+use Rattle.std.proofs.Common.{◌≡◌, ℕ, ◌-◌, List, [], ◌∷◌, ◌++◌, Result, ap, subst, sym, ◌∙◌, append_assoc, arith, length, length-append, codes, drop, take}
 use Rattle.std.proofs.lemmas.List.{length-drop, take_at}
 use Rattle.bt_lines.specs.Fault.{Told}
 use Rattle.bt_lines.specs.Output.{Output}
@@ -11,14 +11,14 @@ use Rattle.bt_bed.specs.IntervalLine.{bounds_text, span_text}
 use Rattle.bt_bed.specs.Record.{bed_text}
 
 -- what stands behind a name, without its line feed
-pub span_is_bounds : (start stop : ℕ) → span_text start stop ≡ bounds_text start stop ++ codes "\n"
-span_is_bounds start stop = simp append_assoc
+pub span_is_bounds : (start stop end : ℕ) → span_text start stop end ≡ bounds_text start stop ++ end ∷ []
+span_is_bounds start stop end = simp append_assoc
 
 -- the line feed is the last byte of what stands behind a name
-pub bounds_before_feed : (text : List ℕ) (first start stop : ℕ) → length text ≡ 43 → drop first text ≡ span_text start stop → take (42 - first) (drop first text) ≡ bounds_text start stop
+pub bounds_before_feed : (text : List ℕ) (first start stop : ℕ) → length text ≡ 43 → drop first text ≡ span_text start stop 10 → take (42 - first) (drop first text) ≡ bounds_text start stop
 bounds_before_feed text first start stop l e =
     let bounds = bounds_text start stop in
-    let whole : drop first text ≡ bounds ++ codes "\n" = e ∙ span_is_bounds start stop in
+    let whole : drop first text ≡ bounds ++ codes "\n" = e ∙ span_is_bounds start stop 10 in
     let n = length-drop first text in
     let m = length-append bounds (codes "\n") in
     let same : length (drop first text) ≡ length (bounds ++ codes "\n") = ap length whole in
@@ -32,6 +32,12 @@ record_parts r end = simp append_assoc
 module _ (r : Feature) (end : List ℕ) where
   front_parts : (r.chrom ++ bounds_text r.start r.stop) ++ (r.rest ++ end) ≡ bed_text r ++ end
   front_parts = append_assoc r.chrom (bounds_text r.start r.stop) (r.rest ++ end) ∙ record_parts r end
+
+  -- a record without further columns, and a byte that ends it
+  pub bare_parts : (byte : ℕ) → r.rest ≡ [] → end ≡ byte ∷ [] → r.chrom ++ span_text r.start r.stop byte ≡ bed_text r ++ end
+  bare_parts byte bare one =
+      ap (λ l. r.chrom ++ l) (span_is_bounds r.start r.stop byte) ∙ sym (append_assoc r.chrom (bounds_text r.start r.stop) (byte ∷ []))
+      ∙ ap (λ l. (r.chrom ++ bounds_text r.start r.stop) ++ l) (sym (ap (λ l. l ++ end) bare ∙ one)) ∙ front_parts
 
   -- the record was cut off in its name or in its bounds
   pub cut_in_front : (old new : Output) (fault : Told) → FailsToPut old (r.chrom ++ bounds_text r.start r.stop) fault new → FailsToPut old (bed_text r ++ end) fault new

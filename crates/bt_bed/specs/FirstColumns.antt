@@ -1,5 +1,5 @@
 -- The first columns of a line that are in order.
-use Rattle.std.specs.Prelude.{◌≡◌, ℕ, ◌<◌, ◌≤◌, ◌+◌, ◌==◌, Bool, true, false, List, ◌∷◌, ◌++◌}
+use Rattle.std.specs.Prelude.{◌≡◌, ℕ, ◌<◌, ◌≤◌, ◌+◌, ◌⊎◌, ◌==◌, Bool, true, false, List, ◌∷◌, ◌++◌}
 use Rattle.std.specs.Prelude.{length, take, drop, get_or, Some}
 use Rattle.std.specs.Char.{is_ascii_digit}
 use Rattle.std.specs.List.{All, list_all}
@@ -47,6 +47,22 @@ pub record BeginsWith (text : List ℕ) (lead : Leading) : Type 0 where
   pub short : lead.end ≤ 12
   pub digits : list_all is_ascii_digit (take lead.end text) ≡ true
   pub value : lead.value ≡ digits_value 10 (take lead.end text)
+
+-- a tab or a line feed: a column ends before it
+abbrev pub EndsColumn : ℕ → Type 0
+EndsColumn byte = (byte ≡ 9) ⊎ (byte ≡ 10)
+
+-- a line may begin so: with this name, and behind it, each after a tab, with a start and an end above it
+pub record HasColumns (bytes name : List ℕ) (start stop : Leading) : Type 0 where
+  pub short : length name ≤ 60
+  pub named : BeginsWithName bytes name
+  pub first : BeginsWith (drop (length name + 1) bytes) start
+  pub some_first : 0 < start.end
+  pub tab : get_or bytes (length name + start.end + 1) 0 ≡ 9
+  pub second : BeginsWith (drop (length name + start.end + 2) bytes) stop
+  pub some_second : 0 < stop.end
+  pub ended : EndsColumn (get_or bytes (length name + start.end + stop.end + 2) 0)
+  pub below : start.value < stop.value
 
 -- whether a byte is a tab
 abbrev pub is_tab : ℕ → Bool

@@ -1,6 +1,6 @@
 //! Lines of which the first three columns are in order, read in one pass.
 
-ghost use Rattle.std.specs.Prelude.{◌≡◌, ◌<◌, ◌≤◌, ◌∷◌, [], List, ℕ, Ok, Some, IfSome, IsTrue, drop, get_or, length, take};
+ghost use Rattle.std.specs.Prelude.{◌≡◌, ◌+◌, ◌<◌, ◌≤◌, ◌∷◌, [], List, ℕ, Ok, Some, IfSome, IsTrue, drop, get_or, length, take};
 ghost use Rattle.bt_bed.specs.Bed.{feature_lent};
 ghost use Rattle.bt_lines.specs.Columns.{IsFirstTab};
 ghost use Rattle.bt_bed.specs.Feature.{Feature};
@@ -11,7 +11,6 @@ ghost use Rattle.bt_lines.specs.Lines.{pieces};
 ghost use Rattle.bt_lines.specs.Number.{value_of};
 
 use crate::bed::BedRef;
-use crate::bounds::Bounds;
 use crate::leading::Leading;
 use crate::names::is_same_name;
 use crate::parsing::behind;
@@ -49,19 +48,6 @@ pub(crate) fn direct_feature_on<'t>(text: &'t [u8], name: &[u8]) -> Option<BedRe
         return None;
     }
     feature_behind(text, name.len())
-}
-
-// The bounds of the feature of such a line. Its further columns aren't looked at.
-#[inline(always)]
-pub(crate) fn direct_bounds_on(text: &[u8], name: &[u8]) -> Option<Bounds>
-    requires { IsRecordName name.now }
-    ensures { IfSome result (λ bounds. (feature : Feature) × (Ok (Some feature) ≡ record_of text.now)
-        × (feature.chrom ≡ name.now) × (feature.start ≡ bounds.start) × (feature.stop ≡ bounds.stop)) }
-{
-    if !begins_with_name(text, name) {
-        return None;
-    }
-    bounds_behind(text, name.len())
 }
 
 // Such a line, with the bounds of its feature. Its further columns aren't looked at.
@@ -114,20 +100,6 @@ fn feature_behind(text: &[u8], name: usize) -> Option<BedRef<'_>>
         stop: numbers.stop.value,
         strand: kept_strand(text, kept),
         rest: behind(text, kept),
-    })
-}
-
-// The bounds of the feature of a text of which the first column ends here, if the next two are in order.
-#[inline(always)]
-fn bounds_behind(text: &[u8], name: usize) -> Option<Bounds>
-    requires { EndsName text.now name }
-    ensures { IfSome result (λ bounds. (feature : Feature) × (Ok feature ≡ columns_say (pieces 9 text.now))
-        × (feature.chrom ≡ take name text.now) × (feature.start ≡ bounds.start) × (feature.stop ≡ bounds.stop)) }
-{
-    let numbers = numbers_behind(text, name)?;
-    Some(Bounds {
-        start: numbers.start.value,
-        stop: numbers.stop.value,
     })
 }
 
@@ -189,11 +161,12 @@ fn leading_number(text: &[u8]) -> Option<Leading>
 }
 
 // The number of one digit more, if one follows and the number may have it.
-fn with_digit(text: &[u8], first: Leading) -> Leading
+pub(crate) fn with_digit(text: &[u8], first: Leading) -> Leading
     requires begins { BeginsWith text.now first }
     requires short { first.end < 12 }
     ensures begins { BeginsWith text.now result }
     ensures some { first.end ≤ result.end }
+    ensures most { result.end ≤ first.end + 1 }
 {
     if first.end == text.len() {
         return first;

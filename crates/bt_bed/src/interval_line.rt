@@ -22,7 +22,23 @@ pub fn put_interval<K: Sink>(
         result out.new }
 {
     let mut text = [0; ROOM];
-    let first = write_span(start, stop, &mut text);
+    let first = write_span(start, stop, b'\n', &mut text);
+    put_both(chrom, &text[first..], out)
+}
+
+// Puts the name and the bounds of an interval, and a byte that ends them.
+#[inline]
+pub(crate) fn put_ended<K: Sink>(
+    chrom: &[u8],
+    start: u64,
+    stop: u64,
+    end: u8,
+    out: &mut Out<K>,
+) -> Result<(), Fault>
+    ensures { Puts out.old (chrom.now ++ span_text start stop end) result out.new }
+{
+    let mut text = [0; ROOM];
+    let first = write_span(start, stop, end, &mut text);
     put_both(chrom, &text[first..], out)
 }
 
@@ -37,18 +53,18 @@ pub(crate) fn put_columns<K: Sink>(
     ensures { Puts out.old (chrom.now ++ bounds_text start stop) result out.new }
 {
     let mut text = [0; ROOM];
-    let first = write_span(start, stop, &mut text);
+    let first = write_span(start, stop, b'\n', &mut text);
     put_both(chrom, &text[first..ROOM - 1], out)
 }
 
-// Writes what follows the name so that it ends where the text does, and gives where it begins. It stands apart, so
-// that the loops over records stay small.
+// Writes what follows the name, and a byte that ends it, so that it ends where the text does, and gives where it begins.
+// It stands apart, so that the loops over records stay small.
 #[inline(never)]
-fn write_span(start: u64, stop: u64, text: &mut [u8; ROOM]) -> usize
+fn write_span(start: u64, stop: u64, end: u8, text: &mut [u8; ROOM]) -> usize
     ensures within { result ≤ ROOM }
-    ensures written { drop result text.new ≡ span_text start stop }
+    ensures written { drop result text.new ≡ span_text start stop end }
 {
-    text[ROOM - 1] = b'\n';
+    text[ROOM - 1] = end;
     let before_stop = write_position(stop, text, ROOM - 1);
     write_position(start, text, before_stop)
 }

@@ -34,6 +34,7 @@ mod bed;
 mod blocks;
 mod bounds;
 mod byte_order;
+mod columns;
 mod cursor;
 mod direct;
 mod entry;

@@ -1,7 +1,8 @@
 //! The last record and the one ahead, sorted by some rule.
 
 ghost use Rattle.std.specs.Option.{ForSome};
-ghost use Rattle.std.specs.Prelude.{◌≡◌, ◌≤◌, length};
+ghost use Rattle.std.specs.Prelude.{◌≡◌, ◌≤◌, length, true};
+ghost use Rattle.bt_lines.specs.LentLine.{NoLineFeed};
 ghost use Rattle.bt_bed.specs.Ahead.{name_ahead, spot_of};
 ghost use Rattle.bt_bed.specs.Bed.{feature_lent};
 ghost use Rattle.bt_bed.specs.FirstColumns.{IsRecordName};
@@ -9,7 +10,7 @@ ghost use Rattle.bt_bed.specs.FirstColumns.{IsRecordName};
 use crate::bed::BedRef;
 use crate::direct::{begins_with_name, direct_feature_on};
 use crate::faults::at_line;
-use crate::names::is_same_name;
+use crate::names::{has_no_feed, is_same_name};
 use crate::parsing::parse_bed;
 use crate::sorted::Sorted;
 use crate::spot::Spot;
@@ -23,10 +24,13 @@ use std::alloc::{AllocError, Global};
 #[derive(Drop)]
 pub(crate) struct Neighbours<Q> {
     pub(crate) rule: Q,
-    // The chromosome of the last record, while `last` is one.
+    // The chromosome of the last record, while `last` is one, and whether it is known to have no line feed, as no name
+    // has that comes from a line.
     last_name: Vec<u8>,
-    // The chromosome of the record ahead, while one is ahead and `is_elsewhere` holds.
+    is_last_clear: bool,
+    // The chromosome of the record ahead, while one is ahead and `is_elsewhere` holds, and whether that is known.
     ahead_name: Vec<u8>,
+    is_ahead_clear: bool,
     // The start of the last record; `None` before the first.
     last: Option<u64>,
     // The record ahead; `None` until a line says one, and once it was passed.
@@ -34,6 +38,8 @@ pub(crate) struct Neighbours<Q> {
     // Whether the record ahead lies on another chromosome than the last, while one is ahead.
     is_elsewhere: bool,
     // A line that begins with the name of a record and a tab is no header.
+    ghost last_clear: { is_last_clear ≡ true → NoLineFeed last_name.items },
+    ghost ahead_clear: { is_ahead_clear ≡ true → NoLineFeed ahead_name.items },
     ghost last_named: { ForSome last (λ _. IsRecordName last_name.items) },
     ghost ahead_named: { ForSome ahead
         (λ _. IsRecordName (name_ahead is_elsewhere ahead_name.items last_name.items)) },
@@ -58,7 +64,9 @@ impl<Q: Sorted> Neighbours<Q> {
         Neighbours {
             rule,
             last_name: Vec::new(alloc),
+            is_last_clear: false,
             ahead_name: Vec::new(alloc),
+            is_ahead_clear: false,
             last: None,
             ahead: None,
             is_elsewhere: false,
@@ -109,6 +117,7 @@ impl<Q: Sorted> Neighbours<Q> {
     {
         if self.is_elsewhere {
             std::mem::swap(&mut self.last_name, &mut self.ahead_name);
+            std::mem::swap(&mut self.is_last_clear, &mut self.is_ahead_clear);
         }
         self.last = self.ahead.map(|spot| spot.start);
         self.ahead = None;
@@ -119,7 +128,7 @@ impl<Q: Sorted> Neighbours<Q> {
     pub(crate) fn whole<'t>(&'t self, lines: WholeLines<'t>) -> Option<WholeRecords<'t>>
         ensures { IfSome result (LendsBehind self.now lines.entry) }
     {
-        if self.ahead.is_some() {
+        if self.ahead.is_some() || !self.is_last_clear {
             return None;
         }
         let start = self.last?;
@@ -270,8 +279,10 @@ impl<Q: Sorted> Neighbours<Q> {
             self.ahead = Some(spot);
             return Ok(());
         }
+        self.is_ahead_clear = false;
         self.ahead_name.clear();
         self.ahead_name.extend_from_slice(chrom)?;
+        self.is_ahead_clear = has_no_feed(chrom);
         self.is_elsewhere = true;
         self.ahead = Some(spot);
         Ok(())

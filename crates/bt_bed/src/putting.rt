@@ -6,7 +6,7 @@ ghost use Rattle.bt_bed.specs.Bed.{feature_lent};
 ghost use Rattle.bt_bed.specs.Record.{bed_text, cut_to};
 
 use crate::bed::BedRef;
-use crate::interval_line::put_columns;
+use crate::interval_line::{put_columns, put_ended};
 use bt_lines::{Fault, Out, Sink, put_line};
 
 /// Puts a record and what ends it, as a tab or a line feed: chromosome, start, end and the kept
@@ -29,6 +29,9 @@ pub fn put_cut<K: Sink>(
 ) -> Result<(), Fault>
     ensures { Puts out.old (bed_text (cut_to start stop (feature_lent bed.now)) ++ end.now) result out.new }
 {
+    if bed.rest.is_empty() && end.len() == 1 {
+        return put_ended(bed.chrom, start, stop, end[0], out);
+    }
     put_columns(bed.chrom, start, stop, out)?;
     put_line(bed.rest, end, out)
 }
@@ -71,5 +74,23 @@ mod tests {
             b"chr1\t10\t15\ta\tchr1\t0\t15\tx\nchr1\t10\t30\ta\tchr1\t0\t15\tx\t5\nchr1\t10\t30\ta\n";
         assert!(rt; taken_by(&rt, None, lines));
         assert!(rt; taken_by(&rt, Some(9), b"chr1\t10\t1"));
+    }
+
+    // Puts a record, its first half and the record again, with nothing behind it.
+    fn put_bare<K: Sink>(bed: &BedRef<'_>, out: &mut Out<K>) -> Result<(), Fault> {
+        put_bed(bed, b"\t", out)?;
+        put_cut(bed, 10, 15, b"\n", out)?;
+        put_bed(bed, b"", out)?;
+        out.flush()
+    }
+
+    #[test]
+    fn records_without_further_columns_are_put_with_what_ends_them(rt: HostRuntime) {
+        let mut out = Out::new(ScriptSink::new(rt.alloc(), 3, None));
+        if let Ok(Some(bed)) = parse_bed(b"chr1\t010\t20") {
+            assert!(rt; put_bare(&bed, &mut out).is_ok());
+        }
+        let lines: &[u8] = b"chr1\t10\t20\tchr1\t10\t15\nchr1\t10\t20";
+        assert_eq!(rt; out.into_sink().taken(), lines);
     }
 }

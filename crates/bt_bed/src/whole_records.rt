@@ -1,10 +1,12 @@
 //! Records that stand whole in what a reader took ahead.
 
+ghost use Rattle.bt_lines.specs.LentLine.{NoLineFeed};
 ghost use Rattle.bt_bed.specs.FirstColumns.{IsRecordName};
 
 use crate::bed::BedRef;
 use crate::bounds::Bounds;
-use crate::direct::{direct_bounds_on, direct_feature_on, direct_line_on};
+use crate::columns::columns_on;
+use crate::direct::direct_line_on;
 use crate::record_line::RecordLine;
 use bt_lines::{PassedLines, WholeLines};
 
@@ -20,6 +22,7 @@ pub struct WholeRecords<'a> {
     // The start of the record before.
     pub(crate) start: u64,
     ghost named: { IsRecordName name.now },
+    ghost clear: { NoLineFeed name.now },
 }
 
 /// What was passed of the records that stood whole in what a reader took ahead.
@@ -33,10 +36,11 @@ pub struct PassedRecords {
 #[tactic(auto, unfolding(crate::specs::WholeRecords::lines_in, crate::specs::WholeRecords::chrom_in, crate::specs::WholeRecords::start_in, crate::specs::WholeRecords::records_passed))]
 impl<'a> WholeRecords<'a> {
     ghost use Rattle.std.specs.Prelude.{◌≡◌, List, None, IfSome, map};
-    ghost use Rattle.bt_lines.specs.Whole.{AreLines, passed_by};
+    ghost use Rattle.bt_lines.specs.Whole.{AreLines, BeginsWithLine, passed_by, rest_of};
     ghost use Rattle.bt_bed.specs.Bed.{feature_lent};
     ghost use Rattle.bt_bed.specs.Feature.{Feature};
     ghost use Rattle.bt_bed.specs.Record.{bed_text};
+    ghost use Rattle.bt_bed.specs.RecordLine.{IsLineOf, Says, text_in};
     ghost use Rattle.bt_bed.specs.WholeRecords.{GivesLine, GivesWhole, GivesWritten, chrom_in, lines_in, records_passed};
 
     /// The next record, which is passed.
@@ -45,14 +49,8 @@ impl<'a> WholeRecords<'a> {
         ensures given { IfSome result (λ bed. GivesWhole self.old (feature_lent bed) self.new) }
         ensures none { result ≡ None → self.new ≡ self.old }
     {
-        let text = self.lines.text()?;
-        let bed = direct_feature_on(text, self.name)?;
-        if bed.start < self.start {
-            return None;
-        }
-        self.lines.pass(text.len());
-        self.start = bed.start;
-        Some(bed)
+        let line = self.next_line()?;
+        Some(line.bed())
     }
 
     /// The bounds of the next record, which is passed. Its further columns aren't looked at.
@@ -62,14 +60,11 @@ impl<'a> WholeRecords<'a> {
             × (r.start ≡ bounds.start) × (r.stop ≡ bounds.stop)) }
         ensures none { result ≡ None → self.new ≡ self.old }
     {
-        let text = self.lines.text()?;
-        let bounds = direct_bounds_on(text, self.name)?;
-        if bounds.start < self.start {
-            return None;
-        }
-        self.lines.pass(text.len());
-        self.start = bounds.start;
-        Some(bounds)
+        let line = self.next_line()?;
+        Some(Bounds {
+            start: line.start(),
+            stop: line.stop(),
+        })
     }
 
     /// The line of the next record, which is passed. Its further columns aren't looked at.
@@ -78,14 +73,38 @@ impl<'a> WholeRecords<'a> {
         ensures given { IfSome result (λ line. (r : Feature) × GivesLine self.old line r self.new) }
         ensures none { result ≡ None → self.new ≡ self.old }
     {
-        let text = self.lines.text()?;
-        let line = direct_line_on(text, self.name)?;
+        let line = self.line_ahead()?;
         if line.start() < self.start {
             return None;
         }
-        self.lines.pass(text.len());
+        self.lines.pass(line.text().len());
         self.start = line.start();
         Some(line)
+    }
+
+    // The line of the next record: its first three columns are looked at where they stand, and the line's end is looked
+    // for behind these. There is none for another line.
+    #[inline(always)]
+    fn line_ahead(&self) -> Option<RecordLine<'a>>
+        ensures { IfSome result (λ line. BeginsWithLine (rest_of (lines_in self.now)) (text_in line)
+            × IsLineOf (text_in line) (chrom_in self.now) line) }
+    {
+        let columns = columns_on(self.lines.sight(), self.name)?;
+        let text = self.lines.text_behind(columns.end)?;
+        Some(RecordLine {
+            text,
+            name: self.name.len(),
+            start: columns.start,
+            stop: columns.stop,
+        })
+    }
+
+    /// The line of the record that was passed last, once more.
+    #[inline(always)]
+    pub fn last_line(&self) -> Option<RecordLine<'a>>
+        ensures { (old : WholeRecords) (r : Feature) → GivesWhole old r self.now → IfSome result (λ line. Says line r) }
+    {
+        direct_line_on(self.lines.last_text(), self.name)
     }
 
     /// The lines that were passed since these, but for the last one of them, each with its line feed.

@@ -18,4 +18,5 @@ pub mod ReadsLemmas
 pub mod ReaderLemmas
 pub mod StepLemmas
 pub mod WholeLemmas
+pub mod SightLemmas
 pub mod HeldLines

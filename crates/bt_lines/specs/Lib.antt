@@ -13,6 +13,7 @@ pub mod Output
 pub mod Putting
 pub mod Names
 pub mod LentLine
+pub mod Sight
 pub mod Block
 pub mod Reader
 pub mod Filling

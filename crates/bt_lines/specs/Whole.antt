@@ -1,9 +1,10 @@
 -- Lines that stand whole in what a reader took ahead, and end with a line feed alone.
-use Rattle.std.specs.Prelude.{◌≡◌, ℕ, suc, ◌+◌, Bool, false, List, [], ◌∷◌, ◌++◌, drop, flat_map, length, Option, ⊤}
+use Rattle.std.specs.Prelude.{◌≡◌, ℕ, suc, ◌+◌, ◌≤◌, Bool, false, List, [], ◌∷◌, ◌++◌, drop, flat_map, length, take, Option, ⊤}
 use Rattle.std.specs.Io.BufRead.{ends_with_byte}
 use Rattle.bt_lines.specs.LentLine.{NoLineFeed}
 use Rattle.bt_lines.specs.Lines.{TextLine}
 use Rattle.bt_lines.specs.Reader.{GivesLine, HasRead, IsSound, lines_given}
+use Rattle.bt_lines.specs.Sight.{sight_size}
 use Rattle.bt_lines.specs.declared.line.LineEnd.TheVariants.{Lf}
 use Rattle.bt_lines.specs.declared.line_reader.LineReader.{LineReader}
 use Rattle.bt_lines.specs.declared.whole.PassedLines.{PassedLines}
@@ -12,6 +13,10 @@ use Rattle.bt_lines.specs.declared.whole.WholeLines.{WholeLines}
 -- the bytes that weren't passed
 unfoldable pub rest_of : WholeLines → List ℕ
 rest_of whole = drop whole.at whole.bytes.now
+
+-- what is in sight at the first of these; what stands there behind the last of them means nothing
+unfoldable pub sight_of : WholeLines → List ℕ
+sight_of whole = take sight_size (drop whole.at whole.more.now)
 
 -- the bytes begin with this text and a line feed, which end a line there: no line feed stands before
 -- it, and no carriage return at its end
@@ -27,6 +32,12 @@ pub record PassesLine (old : WholeLines) (text : List ℕ) (new : WholeLines) : 
   pub at : new.at ≡ old.at + (length text + 1)
   pub last : new.last ≡ old.at
   pub lines : new.lines ≡ old.lines + 1
+
+-- a line of this text begins here, and so many bytes of it and one more, its line feed among them, are in sight
+pub record BeginsAsShown (whole : WholeLines) (count : ℕ) (text : List ℕ) : Type 0 where
+  pub line : BeginsWithLine (rest_of whole) text
+  pub past : count ≤ length text
+  pub front : take (count + 1) (text ++ 10 ∷ []) ≡ take (count + 1) (sight_of whole)
 
 -- lines of these texts were passed, one after another
 abbrev pub PassesLines : WholeLines → List (List ℕ) → WholeLines → Type 0

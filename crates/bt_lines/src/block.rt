@@ -4,6 +4,7 @@ ghost use Rattle.std.specs.Prelude.{◌≡◌, ℕ, ◌<◌, ◌≤◌, [], leng
 ghost use Rattle.std.specs.Io.BufRead.{ends_with_byte};
 ghost use Rattle.std.specs.Io.KnownBytes.{Consumes, IsAtEnd, Keeps};
 ghost use Rattle.bt_lines.specs.Output.{block_size};
+ghost use Rattle.bt_lines.specs.Sight.{StandsIn};
 
 use crate::device::{DeviceFailed, Source};
 use crate::feeds::first_feed;
@@ -12,12 +13,19 @@ use crate::line::LineEnd;
 /// How many bytes a reader takes ahead at most, and an output holds back.
 pub const BLOCK: usize = 8192;
 
+/// How many bytes are in sight at a place of a block: they are looked at without a test that so many were read.
+pub const SIGHT: usize = 128;
+
+// A block, and as many bytes behind it as are in sight at its end.
+const WITH_SIGHT: usize = 8320;
+
 // A block has two ranges of its bytes: `start..end` was read and not yet taken, and `from..stop` is the text of
 // the line that was cut off last, before them.
 #[derive(Drop)]
 pub(crate) struct Block {
-    // Only the bytes that the bounds below name mean anything.
-    bytes: [u8; BLOCK],
+    // Only the bytes that the bounds below name mean anything. They are among the first `BLOCK`, so that what is
+    // in sight at any of them, and behind the last, lies within.
+    bytes: [u8; WITH_SIGHT],
     // The text of the line that was cut off last, until the next fill; empty before the first.
     from: usize,
     stop: usize,
@@ -39,7 +47,7 @@ impl Block {
         ensures { unread result ≡ [] }
     {
         Block {
-            bytes: [0; BLOCK],
+            bytes: [0; WITH_SIGHT],
             from: 0,
             stop: 0,
             start: 0,
@@ -52,6 +60,13 @@ impl Block {
         ensures { result.now ≡ unread self.now }
     {
         &self.bytes[self.start..self.end]
+    }
+
+    // The same, with what stands behind them, which means nothing.
+    pub(crate) fn unread_and_more(&self) -> &[u8]
+        ensures { StandsIn (unread self.now) result.now }
+    {
+        &self.bytes[self.start..]
     }
 
     // The text of the line that was cut off last.
@@ -158,7 +173,7 @@ pub(crate) fn ends_with_return(piece: &[u8]) -> bool
 // Reads into the first `most` bytes.
 fn read_front<S: Source>(
     source: &mut S,
-    bytes: &mut [u8; BLOCK],
+    bytes: &mut [u8; WITH_SIGHT],
     most: usize,
 ) -> Result<usize, DeviceFailed>
     requires some { 0 < most }

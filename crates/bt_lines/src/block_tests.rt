@@ -456,3 +456,28 @@ fn lines_that_were_passed_are_given(rt: HostRuntime) -> Result<(), Fail> {
     assert_eq!(rt; lengths.as_slice(), [0, 3, 4].as_slice());
     Ok(())
 }
+
+// In sight are the bytes that come, and a line's end is found behind the bytes that are known to have none; the text of
+// the line that was passed is given again.
+#[test]
+fn a_text_is_found_behind_its_first_byte(rt: HostRuntime) -> Result<(), Fail> {
+    let mut reader = LineReader::new(
+        rt.alloc(),
+        ScriptSource::new(b"a\nbc\nd", BLOCK, None),
+        Input::First,
+    );
+    let is_first = matches!(reader.next()?, Some(line) if line.text == b"a".as_slice());
+    let mut ahead = reader.whole_lines();
+    let is_shown = ahead.sight()[0] == b'b' && ahead.sight()[1] == b'c';
+    let mut is_found = false;
+    if ahead.sight()[0] != b'\n' {
+        if let Some(text) = ahead.text_behind(1) {
+            is_found = text == b"bc".as_slice();
+            ahead.pass(text.len());
+        }
+    }
+    let is_passed = ahead.last_text() == b"bc".as_slice();
+    let _ = reader.into_source();
+    assert!(rt; is_first && is_shown && is_found && is_passed);
+    Ok(())
+}

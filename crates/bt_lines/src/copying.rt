@@ -50,7 +50,7 @@ pub fn copy_piece(to: &mut [u8], piece: &[u8])
 {
     if is_short(piece.len()) {
         copy_short(to, piece);
-    } else {
+    } else if !piece.is_empty() {
         copy_any(to, piece);
     }
 }

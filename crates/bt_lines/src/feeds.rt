@@ -1,9 +1,10 @@
 //! The line feed that ends a line.
 
-ghost use Rattle.std.specs.Prelude.{◌-◌, ◌≤◌, length};
+ghost use Rattle.std.specs.Prelude.{◌-◌, ◌≤◌, IfSome, length};
 ghost use Rattle.bt_lines.specs.Block.{IsFirstFeed};
-ghost use Rattle.bt_lines.specs.Early.{NoneFrom, StandsEarly};
+ghost use Rattle.bt_lines.specs.Early.{IsEarly, NoneFrom, StandsEarly};
 
+use crate::block::SIGHT;
 use crate::early::{WIDE, WIDTH, early_byte, wide_byte};
 use memchr::memchr;
 
@@ -26,6 +27,21 @@ pub(crate) fn first_feed(text: &[u8]) -> Option<usize>
         return Some(WIDTH + at);
     }
     later_feed(text)
+}
+
+// Where the first line feed in sight stands, if none stands among so many bytes from the first on, and it is one of the
+// thirty-two behind these.
+#[inline(always)]
+pub(crate) fn feed_behind(sight: &[u8; SIGHT], from: usize) -> Option<usize>
+    requires room { from ≤ 96 }
+    requires none { NoneFrom 10 sight.now 0 from }
+    ensures { IfSome result (IsEarly 128 10 sight.now 0) }
+{
+    if sight[from] == b'\n' {
+        return Some(from);
+    }
+    let at = early_byte(sight, from, b'\n')?;
+    Some(from + at)
 }
 
 // The same where it isn't one of the first sixty-four bytes: by as many at once.

@@ -45,7 +45,7 @@ mod split;
 mod to_write;
 mod whole;
 
-pub use block::BLOCK;
+pub use block::{BLOCK, SIGHT};
 pub use column_iter::Columns;
 pub use copying::copy_piece;
 pub use device::{DeviceFailed, Sink, Source};

@@ -7,7 +7,7 @@ ghost use Rattle.bt_lines.specs.Fault.{no_memory};
 ghost use Rattle.bt_lines.specs.Names.{told};
 ghost use Rattle.bt_lines.specs.declared.line_reader.State.TheVariants.{Reading};
 
-use crate::block::Block;
+use crate::block::{Block, SIGHT};
 use crate::device::Source;
 use crate::fault::{Fault, Input, Kind, Place};
 use crate::faults::no_memory;
@@ -156,9 +156,9 @@ impl<S: Source> LineReader<S> {
         ensures { fault_kept self.now ≡ None → Begins (held self.now) result }
     {
         if self.is_going() {
-            return WholeLines::new(self.block.unread());
+            return WholeLines::new(self.block.unread(), self.block.unread_and_more());
         }
-        WholeLines::new(&[])
+        WholeLines::new(&[], &[0; SIGHT])
     }
 
     /// Gives the lines that were passed in what [`LineReader::whole_lines`] lent, as [`LineReader::next`] does one

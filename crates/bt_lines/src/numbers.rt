@@ -50,7 +50,7 @@ const EVEN_BYTES: u64 = 0x00ff_00ff_00ff_00ff;
 
 /// The number that eight decimal digits denote. A sign or a space isn't allowed. All eight are read at
 /// once.
-#[inline]
+#[inline(always)]
 pub fn eight_digits(bytes: &[u8; 8]) -> Option<u64>
     ensures { result ≡ value_of bytes.now }
 {
@@ -105,7 +105,7 @@ fn other_bits(bytes: u8x8) -> u64
 }
 
 // The number that eight digits denote, of their values in the bytes of one number, the first in the lowest.
-#[inline]
+#[inline(always)]
 fn joined(ones: u64) -> u64
     requires { ones ≤ 0x0909_0909_0909_0909 }
     ensures { (digits : List ℕ) → AreOnes digits ones → result ≡ digits_value 10 digits }

@@ -1,9 +1,12 @@
 //! Lines that stand whole in what a reader took ahead.
 
-ghost use Rattle.std.specs.Prelude.{◌≡◌, ◌-◌, ◌≤◌, drop, length, take};
+ghost use Rattle.std.specs.Prelude.{◌≡◌, ◌-◌, ◌<◌, ◌≤◌, IfSome, drop, length, take};
+ghost use Rattle.std.specs.Io.BufRead.{ends_with_byte};
+ghost use Rattle.bt_lines.specs.Early.{NoneFrom};
+ghost use Rattle.bt_lines.specs.Sight.{IsFed, StandsIn};
 
-use crate::block::ends_with_return;
-use crate::feeds::first_feed;
+use crate::block::{SIGHT, ends_with_return};
+use crate::feeds::{feed_behind, first_feed};
 
 /// Goes over the lines that stand whole in what a reader took ahead, and end with a line feed alone. It is
 /// given back to the reader as what was passed ([`LineReader::pass`](crate::LineReader::pass)), so that nothing
@@ -11,12 +14,15 @@ use crate::feeds::first_feed;
 #[derive(Clone, Copy, Debug)]
 pub struct WholeLines<'a> {
     pub(crate) bytes: &'a [u8],
+    // The same, with what stands behind them, so that what is in sight at any of them lies within.
+    pub(crate) more: &'a [u8],
     // How many of the bytes were passed.
     pub(crate) at: usize,
     // Where the line that was passed last begins.
     pub(crate) last: usize,
     // How many lines were passed.
     pub(crate) lines: u64,
+    ghost stands: { StandsIn bytes.now more.now },
     ghost within: { at ≤ length bytes.now },
     ghost a_byte_each: { lines ≤ at },
 }
@@ -32,18 +38,20 @@ pub struct PassedLines {
     pub lines: u64,
 }
 
-#[tactic(auto, unfolding(crate::specs::Whole::rest_of, crate::specs::Whole::passed_by))]
+#[tactic(auto, unfolding(crate::specs::Whole::rest_of, crate::specs::Whole::sight_of, crate::specs::Whole::passed_by))]
 impl<'a> WholeLines<'a> {
     ghost use Rattle.std.specs.Prelude.{◌≡◌, ◌<◌, List, ℕ, IfSome};
-    ghost use Rattle.bt_lines.specs.Whole.{AreLines, Begins, BeginsWithLine, PassesLine, PassesLines, passed_by, rest_of};
+    ghost use Rattle.bt_lines.specs.Whole.{AreLines, Begins, BeginsAsShown, BeginsWithLine, PassesLine, PassesLines, passed_by, rest_of, sight_of};
 
-    // Those of some bytes.
+    // Those of some bytes, with which more begin.
     #[inline(always)]
-    pub(crate) fn new(bytes: &'a [u8]) -> WholeLines<'a>
+    pub(crate) fn new(bytes: &'a [u8], more: &'a [u8]) -> WholeLines<'a>
+        requires { StandsIn bytes.now more.now }
         ensures { Begins bytes.now result }
     {
         WholeLines {
             bytes,
+            more,
             at: 0,
             last: 0,
             lines: 0,
@@ -62,6 +70,63 @@ impl<'a> WholeLines<'a> {
             return None;
         }
         Some(text)
+    }
+
+    /// The bytes in sight: those that come, as many as there are, and behind the last of them bytes that mean nothing. So
+    /// a line's first columns are looked at without a test that the line is there.
+    #[inline(always)]
+    pub fn sight(&self) -> &'a [u8; SIGHT]
+        ensures { result.now ≡ sight_of self.now }
+    {
+        match self.more[self.at..].first_chunk::<SIGHT>() {
+            Some(sight) => sight,
+            None => unreachable!(),
+        }
+    }
+
+    /// The text of the next line as [`WholeLines::text`] gives it, where the first bytes in sight, so many, have no line
+    /// feed: the line's end is looked for behind them.
+    #[inline(always)]
+    pub fn text_behind(&self, count: usize) -> Option<&'a [u8]>
+        requires some { 0 < count }
+        requires room { count ≤ 96 }
+        requires none { NoneFrom 10 (sight_of self.now) 0 count }
+        ensures { IfSome result (λ text. BeginsAsShown self.now count text.now) }
+    {
+        let text = self.fed_text(count)?;
+        if last_is_return(text) {
+            return None;
+        }
+        Some(text)
+    }
+
+    // What stands before the next line feed, where the first bytes in sight, so many, have none. Where all of it is in
+    // sight it is lent from there, so that the loops over records need no second address.
+    #[inline(always)]
+    fn fed_text(&self, count: usize) -> Option<&'a [u8]>
+        requires room { count ≤ 96 }
+        requires none { NoneFrom 10 (sight_of self.now) 0 count }
+        ensures { IfSome result (λ text. IsFed (rest_of self.now) text.now) }
+    {
+        let sight = self.sight();
+        let text = match feed_behind(sight, count) {
+            Some(length) => {
+                if self.bytes.len() - self.at <= length {
+                    return None;
+                }
+                &sight[..length]
+            }
+            None => far_text(self.rest())?,
+        };
+        Some(text)
+    }
+
+    /// The text of the line that was passed last.
+    #[inline(always)]
+    pub fn last_text(&self) -> &'a [u8]
+        ensures { (old : WholeLines) (text : List ℕ) → PassesLine old text self.now → result.now ≡ text }
+    {
+        between(self.bytes, self.last, self.at.saturating_sub(1))
     }
 
     /// Passes the next line, whose text has this length.
@@ -104,6 +169,24 @@ impl<'a> WholeLines<'a> {
             lines: self.lines,
         }
     }
+}
+
+// What stands before the first line feed, wherever that is. The function isn't inlined, since few lines are so long.
+#[inline(never)]
+fn far_text(bytes: &[u8]) -> Option<&[u8]>
+    ensures { IfSome result (λ text. IsFed bytes.now text.now) }
+{
+    let length = first_feed(bytes)?;
+    Some(&bytes[..length])
+}
+
+// Whether a carriage return ends a text that isn't empty.
+#[inline(always)]
+fn last_is_return(text: &[u8]) -> bool
+    requires { 0 < length text.now }
+    ensures { result ≡ ends_with_byte 13 text.now }
+{
+    text[text.len() - 1] == b'\r'
 }
 
 // The bytes from one place to another, if these stand so.

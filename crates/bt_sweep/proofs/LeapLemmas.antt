@@ -10,9 +10,8 @@ use Rattle.bt_lines.proofs.PuttingLemmas.{grown_none}
 use Rattle.bt_bed.specs.Feature.{Feature}
 use Rattle.bt_bed.specs.Locus.{is_below_at}
 use Rattle.bt_bed.specs.Order.{Order, IsTotal}
-use Rattle.bt_bed.specs.RecordLine.{Says}
-use Rattle.bt_bed.specs.WholeRecords.{GivesLine, GivesWhole, GivesWholes, chrom_in}
-use Rattle.bt_bed.specs.declared.record_line.RecordLine.{RecordLine}
+use Rattle.bt_lines.specs.Whole.{passed_by}
+use Rattle.bt_bed.specs.WholeRecords.{GivesWhole, GivesWholes, chrom_in, lines_in}
 use Rattle.bt_bed.specs.declared.whole_records.WholeRecords.{WholeRecords}
 use Rattle.bt_bed.proofs.WholesGiven.{bytes_ahead, gives_more, record_shrinks}
 use Rattle.bt_sweep.specs.Deciding.{decides}
@@ -24,7 +23,7 @@ use Rattle.bt_sweep.specs.StatePassing.{AreUpTo, DecidesUpTo, EndUpTo, IsBare}
 use Rattle.bt_sweep.specs.SweepState.{Sweeping, want_in, want_of}
 use Rattle.bt_sweep.specs.declared.unhit.Unhit.TheVariants.{Nothing}
 use Rattle.bt_sweep.specs.declared.want.Want.TheVariants.{A, B}
-use Rattle.bt_sweep.proofs.PassingLemmas.{decided_front, gives_one, none_hits, on_chrom, passes_all_before, passes_second, passes_several}
+use Rattle.bt_sweep.proofs.PassingLemmas.{decided_front, gives_one, last_of_front, none_hits, on_chrom, passes_all_before, passes_second, passes_several}
 use Rattle.bt_sweep.proofs.StepLemmas.{last_waits, writes_a}
 use Rattle.bt_sweep.proofs.UnhitLemmas.{puts_none}
 
@@ -46,36 +45,36 @@ end_more : (stop : ℕ) (records : List Feature) (r : Feature) → EndUpTo stop 
 end_more stop [] r end within = (within, tt)
 end_more stop (a ∷ more) r end within = (end.0, end_more stop more r end.1 within)
 
-pub skips_none : (start : ℕ) (first a : Feature) (old : WholeRecords) (line : Option RecordLine) (from to : ℕ) → StandsOn first a line from to → SkipsTo start first a old line from to old
-skips_none start first a old line from to on = record { skipped = None; given = refl; are = tt; on = on }
-
-stands_line : (first r : Feature) (line : RecordLine) (from to : ℕ) → Says line r → from ≡ r.start → to ≡ r.stop → StandsOn first r (Some line) from to
-stands_line first r line from to says start stop = record { start_is = start; stop_is = stop; line_is = says }
+pub skips_none : (start : ℕ) (a : Feature) (old : WholeRecords) (from to : ℕ) → StandsOn a from to → SkipsTo start a old from to old
+skips_none start a old from to on = record { skipped = None; given = refl; are = tt; on = on }
 
 -- one more is skipped
-pub skips_more : (start : ℕ) (first a : Feature) (old mid : WholeRecords) (was : Option RecordLine) (from to : ℕ) (line : RecordLine) (r : Feature) (next_from next_to : ℕ) (new : WholeRecords) → SkipsTo start first a old was from to mid → to ≤ start → GivesLine mid line r new
-    → next_from ≡ r.start → next_to ≡ r.stop → SkipsTo start first a old (Some line) next_from next_to new
-skips_more start first a old mid was from to line r next_from next_to new skips within gives start_is stop_is = by skips.skipped skips.given skips.are skips.on
+pub skips_more : (start : ℕ) (a : Feature) (old mid : WholeRecords) (from to : ℕ) (r : Feature) (next_from next_to : ℕ) (new : WholeRecords) → SkipsTo start a old from to mid → to ≤ start → GivesWhole mid r new
+    → r.start ≡ next_from → r.stop ≡ next_to → SkipsTo start a old next_from next_to new
+skips_more start a old mid from to r next_from next_to new skips within gives start_is stop_is = by skips.skipped skips.given skips.are skips.on
   where
-    by : (s : Option Skipped) → GivesWholes old (skipped_records s) mid → AreSkipped start a s → StandsOn first (next_after a s) was from to → SkipsTo start first a old (Some line) next_from next_to new
+    stands : StandsOn r next_from next_to
+    stands = record { start_is = sym start_is; stop_is = sym stop_is }
+
+    by : (s : Option Skipped) → GivesWholes old (skipped_records s) mid → AreSkipped start a s → StandsOn (next_after a s) from to → SkipsTo start a old next_from next_to new
     by None given are on = let stop = on.stop_is in record {
       skipped = Some (record { firsts = []; next = r });
-      given = gives_more old [] r mid new given gives.gives;
+      given = gives_more old [] r mid new given gives;
       are = (omega arith, tt);
-      on = stands_line first r line next_from next_to gives.says start_is stop_is;
+      on = stands;
     }
     by (Some s) given are on = let stop = on.stop_is in record {
       skipped = Some (record { firsts = s.firsts ++ s.next ∷ []; next = r });
-      given = gives_more old (s.firsts ++ s.next ∷ []) r mid new given gives.gives;
+      given = gives_more old (s.firsts ++ s.next ∷ []) r mid new given gives;
       are = (are.0, end_more start s.firsts s.next are.1 (omega arith));
-      on = stands_line first r line next_from next_to gives.says start_is stop_is;
+      on = stands;
     }
 
 -- and one of the second input is passed
-pub leaps_on : (first a : Feature) (firsts seconds : WholeRecords) (b : Feature) (mid new_seconds : WholeRecords) (line : Option RecordLine) (start stop : ℕ) (new_firsts : WholeRecords) (from to : ℕ) → GivesWhole seconds b mid → from ≡ b.start → to ≡ b.stop
-    → SkipsTo from first a firsts line start stop new_firsts → to ≤ start → AreUpTo start mid new_seconds → LeapsOn first a firsts seconds line start stop new_firsts new_seconds
-leaps_on first a firsts seconds b mid new_seconds line start stop new_firsts from to gives from_is to_is skips within more =
-    let skipped = subst (λ (n : ℕ). SkipsTo n first a firsts line start stop new_firsts) from_is skips in
+pub leaps_on : (a : Feature) (firsts seconds : WholeRecords) (b : Feature) (mid new_seconds : WholeRecords) (start stop : ℕ) (new_firsts : WholeRecords) (from to : ℕ) → GivesWhole seconds b mid → b.start ≡ from → b.stop ≡ to
+    → SkipsTo from a firsts start stop new_firsts → to ≤ start → AreUpTo start mid new_seconds → LeapsOn a firsts seconds start stop new_firsts new_seconds
+leaps_on a firsts seconds b mid new_seconds start stop new_firsts from to gives from_is to_is skips within more =
+    let skipped = subst (λ (n : ℕ). SkipsTo n a firsts start stop new_firsts) (sym from_is) skips in
     let at = skipped.on.start_is in
     record { b = b; mid = mid; gives = gives; skips = skipped; before = omega (arith, to_is, within, at); more = more }
 
@@ -97,45 +96,45 @@ leapt_more : (a : Feature) (rounds : List Round) (round : Round) → AreLeapt a 
 leapt_more a [] round are skipped before = (skipped, before, tt)
 leapt_more a (x ∷ rounds) round are skipped before = (are.0, are.1, leapt_more (next_after a x.skipped) rounds round are.2 skipped before)
 
-leap_none : (first : Feature) (firsts seconds : WholeRecords) → IsLeap first firsts seconds None first.start first.stop firsts seconds
-leap_none first firsts seconds = record { rounds = []; given_firsts = refl; given_seconds = refl; are = tt; on = record { start_is = refl; stop_is = refl; line_is = refl } }
+leap_none : (first : Feature) (firsts seconds : WholeRecords) → IsLeap first firsts seconds first.start first.stop firsts seconds
+leap_none first firsts seconds = record { rounds = []; given_firsts = refl; given_seconds = refl; are = tt; on = record { start_is = refl; stop_is = refl } }
 
 -- one more round
-leap_round : (first : Feature) (firsts seconds : WholeRecords) (was : Option RecordLine) (from to : ℕ) (mid_firsts mid_seconds : WholeRecords) (line : Option RecordLine) (start stop : ℕ) (new_firsts new_seconds : WholeRecords) (b : Feature)
-    → (leap : IsLeap first firsts seconds was from to mid_firsts mid_seconds) → GivesWhole mid_seconds b new_seconds → (skips : SkipsTo b.start first (last_leapt first leap.rounds) mid_firsts line start stop new_firsts)
-    → b.stop ≤ (next_after (last_leapt first leap.rounds) skips.skipped).start → IsLeap first firsts seconds line start stop new_firsts new_seconds
-leap_round first firsts seconds was from to mid_firsts mid_seconds line start stop new_firsts new_seconds b leap gives skips before =
+leap_round : (first : Feature) (firsts seconds : WholeRecords) (from to : ℕ) (mid_firsts mid_seconds : WholeRecords) (start stop : ℕ) (new_firsts new_seconds : WholeRecords) (b : Feature)
+    → (leap : IsLeap first firsts seconds from to mid_firsts mid_seconds) → GivesWhole mid_seconds b new_seconds → (skips : SkipsTo b.start (last_leapt first leap.rounds) mid_firsts start stop new_firsts)
+    → b.stop ≤ (next_after (last_leapt first leap.rounds) skips.skipped).start → IsLeap first firsts seconds start stop new_firsts new_seconds
+leap_round first firsts seconds from to mid_firsts mid_seconds start stop new_firsts new_seconds b leap gives skips before =
     let round : Round = record { b = b; skipped = skips.skipped } in
     record {
       rounds = leap.rounds ++ round ∷ [];
       given_firsts = subst (λ (l : List Feature). GivesWholes firsts l new_firsts) (sym (firsts_more leap.rounds round)) (gives_append firsts (firsts_of leap.rounds) (skipped_records round.skipped) mid_firsts new_firsts leap.given_firsts skips.given);
       given_seconds = subst (λ (l : List Feature). GivesWholes seconds l new_seconds) (sym (seconds_more leap.rounds round)) (gives_more seconds (seconds_of leap.rounds) b mid_seconds new_seconds leap.given_seconds gives);
       are = leapt_more first leap.rounds round leap.are skips.are before;
-      on = subst (λ (a : Feature). StandsOn first a line start stop) (sym (last_more first leap.rounds round)) skips.on;
+      on = subst (λ (a : Feature). StandsOn a start stop) (sym (last_more first leap.rounds round)) skips.on;
     }
 
 -- records of the second input before the one of the first are passed
-leap_behind : (first : Feature) (firsts seconds : WholeRecords) (line : Option RecordLine) (start stop : ℕ) (new_firsts mid : WholeRecords) (records : List Feature) (new : WholeRecords)
-    → IsLeap first firsts seconds line start stop new_firsts mid → GivesWholes mid records new → EndUpTo start records → IsLeap first firsts seconds line start stop new_firsts new
+leap_behind : (first : Feature) (firsts seconds : WholeRecords) (start stop : ℕ) (new_firsts mid : WholeRecords) (records : List Feature) (new : WholeRecords)
+    → IsLeap first firsts seconds start stop new_firsts mid → GivesWholes mid records new → EndUpTo start records → IsLeap first firsts seconds start stop new_firsts new
 unfolding skips_none
-leap_behind first firsts seconds line start stop new_firsts mid [] new leap given end = subst (λ (w : WholeRecords). IsLeap first firsts seconds line start stop new_firsts w) (sym given) leap
-leap_behind first firsts seconds line start stop new_firsts mid (b ∷ more) new leap given end =
+leap_behind first firsts seconds start stop new_firsts mid [] new leap given end = subst (λ (w : WholeRecords). IsLeap first firsts seconds start stop new_firsts w) (sym given) leap
+leap_behind first firsts seconds start stop new_firsts mid (b ∷ more) new leap given end =
     let at = leap.on.start_is in
     let within = end.0 in
     let before : b.stop ≤ (last_leapt first leap.rounds).start = omega (arith, at, within) in
-    let next = leap_round first firsts seconds line start stop new_firsts mid line start stop new_firsts given.0 b leap given.1
-    (skips_none b.start first (last_leapt first leap.rounds) new_firsts line start stop leap.on) before in
-    leap_behind first firsts seconds line start stop new_firsts given.0 more new next given.2 end.1
+    let next = leap_round first firsts seconds start stop new_firsts mid start stop new_firsts given.0 b leap given.1
+    (skips_none b.start (last_leapt first leap.rounds) new_firsts start stop leap.on) before in
+    leap_behind first firsts seconds start stop new_firsts given.0 more new next given.2 end.1
 
-pub leap_first : (first : Feature) (firsts seconds new_seconds : WholeRecords) → AreUpTo first.start seconds new_seconds → IsLeap first firsts seconds None first.start first.stop firsts new_seconds
+pub leap_first : (first : Feature) (firsts seconds new_seconds : WholeRecords) → AreUpTo first.start seconds new_seconds → IsLeap first firsts seconds first.start first.stop firsts new_seconds
 leap_first first firsts seconds new_seconds up =
-    leap_behind first firsts seconds None first.start first.stop firsts seconds up.records new_seconds (leap_none first firsts seconds) up.given up.end
+    leap_behind first firsts seconds first.start first.stop firsts seconds up.records new_seconds (leap_none first firsts seconds) up.given up.end
 
-pub leap_more : (first : Feature) (firsts seconds : WholeRecords) (was : Option RecordLine) (from to : ℕ) (mid_firsts mid_seconds : WholeRecords) (line : Option RecordLine) (start stop : ℕ) (new_firsts new_seconds : WholeRecords)
-    → (leap : IsLeap first firsts seconds was from to mid_firsts mid_seconds) → LeapsOn first (last_leapt first leap.rounds) mid_firsts mid_seconds line start stop new_firsts new_seconds → IsLeap first firsts seconds line start stop new_firsts new_seconds
-leap_more first firsts seconds was from to mid_firsts mid_seconds line start stop new_firsts new_seconds leap on =
-    let round = leap_round first firsts seconds was from to mid_firsts mid_seconds line start stop new_firsts on.mid on.b leap on.gives on.skips on.before in
-    leap_behind first firsts seconds line start stop new_firsts on.mid on.more.records new_seconds round on.more.given on.more.end
+pub leap_more : (first : Feature) (firsts seconds : WholeRecords) (from to : ℕ) (mid_firsts mid_seconds : WholeRecords) (start stop : ℕ) (new_firsts new_seconds : WholeRecords)
+    → (leap : IsLeap first firsts seconds from to mid_firsts mid_seconds) → LeapsOn (last_leapt first leap.rounds) mid_firsts mid_seconds start stop new_firsts new_seconds → IsLeap first firsts seconds start stop new_firsts new_seconds
+leap_more first firsts seconds from to mid_firsts mid_seconds start stop new_firsts new_seconds leap on =
+    let round = leap_round first firsts seconds from to mid_firsts mid_seconds start stop new_firsts on.mid on.b leap on.gives on.skips on.before in
+    leap_behind first firsts seconds start stop new_firsts on.mid on.more.records new_seconds round on.more.given on.more.end
 
 -- so many bytes are left at most
 wholes_shrink : (old : WholeRecords) (records : List Feature) (new : WholeRecords) → GivesWholes old records new → bytes_ahead new ≤ bytes_ahead old
@@ -145,11 +144,59 @@ wholes_shrink old (r ∷ more) new given =
     let rest = wholes_shrink given.0 more new given.2 in
     omega (arith, one, rest)
 
-pub leap_shrinks : (first a : Feature) (firsts seconds : WholeRecords) (line : Option RecordLine) (start stop : ℕ) (new_firsts new_seconds : WholeRecords) → LeapsOn first a firsts seconds line start stop new_firsts new_seconds → bytes_ahead new_seconds < bytes_ahead seconds
-leap_shrinks first a firsts seconds line start stop new_firsts new_seconds on =
+pub leap_shrinks : (a : Feature) (firsts seconds : WholeRecords) (start stop : ℕ) (new_firsts new_seconds : WholeRecords) → LeapsOn a firsts seconds start stop new_firsts new_seconds → bytes_ahead new_seconds < bytes_ahead seconds
+leap_shrinks a firsts seconds start stop new_firsts new_seconds on =
     let one = record_shrinks seconds on.mid on.b on.gives in
     let rest = wholes_shrink on.mid on.more.records new_seconds on.more.given in
     omega (arith, one, rest)
+
+-- ---- the last record of the first input that was gone over
+
+bytes_grow : (old : WholeRecords) (r : Feature) (new : WholeRecords) → GivesWhole old r new → (passed_by (lines_in old)).bytes < (passed_by (lines_in new)).bytes
+unfolding passed_by
+bytes_grow old r new gives = omega (arith, gives.line.at)
+
+none_fewer : (old : WholeRecords) (records : List Feature) (new : WholeRecords) → GivesWholes old records new → (passed_by (lines_in old)).bytes ≤ (passed_by (lines_in new)).bytes
+none_fewer old [] new is = omega (arith, ap (λ (w : WholeRecords). (passed_by (lines_in w)).bytes) is)
+none_fewer old (r ∷ more) new given = omega (arith, bytes_grow old r given.0 given.1, none_fewer given.0 more new given.2)
+
+-- some records were given: the last of them is that behind which they end
+last_gives : (old : WholeRecords) (r : Feature) (more : List Feature) (new : WholeRecords) → GivesWholes old (r ∷ more) new → (mid : WholeRecords) × GivesWhole mid (last_after r more) new
+last_gives old r [] new given = (old, subst (λ (w : WholeRecords). GivesWhole old r w) (sym given.2) given.1)
+last_gives old r (next ∷ more) new given = last_gives given.0 next more new given.2
+
+last_behind : (a : Feature) (xs ys : List Feature) → last_after a (xs ++ ys) ≡ last_after (last_after a xs) ys
+last_behind a [] ys = refl
+last_behind a (x ∷ xs) ys = last_behind x xs ys
+
+last_skipped : (a : Feature) (s : Option Skipped) → last_after a (skipped_records s) ≡ next_after a s
+last_skipped a None = refl
+last_skipped a (Some s) = last_of_front a s.firsts s.next
+
+last_is : (a : Feature) (rounds : List Round) → last_after a (firsts_of rounds) ≡ last_leapt a rounds
+last_is a [] = refl
+last_is a (round ∷ more) =
+    last_behind a (skipped_records round.skipped) (firsts_of more) ∙ ap (λ (f : Feature). last_after f (firsts_of more)) (last_skipped a round.skipped)
+    ∙ last_is (next_after a round.skipped) more
+
+module _ (first : Feature) (firsts seconds : WholeRecords) (start stop : ℕ) (new_firsts new_seconds : WholeRecords) (leap : IsLeap first firsts seconds start stop new_firsts new_seconds) where
+  -- where none of the first input was passed, the record from which it began still waits
+  pub leapt_none : (passed_by (lines_in new_firsts)).bytes ≡ (passed_by (lines_in firsts)).bytes → last_leapt first leap.rounds ≡ first
+  leapt_none same = sym (last_is first leap.rounds) ∙ by (firsts_of leap.rounds) leap.given_firsts
+    where
+      by : (records : List Feature) → GivesWholes firsts records new_firsts → last_after first records ≡ first
+      by [] given = refl
+      by (r ∷ more) given = absurd (omega (arith, same, bytes_grow firsts r given.0 given.1, none_fewer given.0 more new_firsts given.2))
+
+  -- else it is the last one passed
+  pub leapt_some : ((passed_by (lines_in new_firsts)).bytes ≡ (passed_by (lines_in firsts)).bytes → ⊥) → (mid : WholeRecords) × GivesWhole mid (last_leapt first leap.rounds) new_firsts
+  leapt_some other =
+      let found = by (firsts_of leap.rounds) leap.given_firsts in
+      (found.0, subst (λ (f : Feature). GivesWhole found.0 f new_firsts) (last_is first leap.rounds) found.1)
+    where
+      by : (records : List Feature) → GivesWholes firsts records new_firsts → (mid : WholeRecords) × GivesWhole mid (last_after first records) new_firsts
+      by [] given = absurd (other (ap (λ (w : WholeRecords). (passed_by (lines_in w)).bytes) given))
+      by (r ∷ more) given = last_gives firsts r more new_firsts given
 
 -- ---- the sweep
 

@@ -95,7 +95,7 @@ front_over order b last unhit old kept stop from line to r out grown was front o
       puts = puts;
     }
 
-last_of_front : (last : Feature) (before : List Feature) (r : Feature) → last_after last (before ++ r ∷ []) ≡ r
+pub last_of_front : (last : Feature) (before : List Feature) (r : Feature) → last_after last (before ++ r ∷ []) ≡ r
 last_of_front last [] r = refl
 last_of_front last (a ∷ more) r = last_of_front a more r
 

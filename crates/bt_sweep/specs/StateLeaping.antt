@@ -1,25 +1,17 @@
 -- What going over both inputs at once does to what a sweep keeps. Callers know it by `Passing`.
 use Rattle.std.specs.Prelude.{◌≡◌, ◌⊎◌, ℕ, ◌<◌, ◌≤◌, ⊤, false, List, [], ◌∷◌, Option, Some, None}
 use Rattle.bt_bed.specs.Feature.{Feature}
-use Rattle.bt_bed.specs.RecordLine.{Says}
 use Rattle.bt_bed.specs.WholeRecords.{GivesWhole, GivesWholes, chrom_in}
-use Rattle.bt_bed.specs.declared.record_line.RecordLine.{RecordLine}
 use Rattle.bt_bed.specs.declared.whole_records.WholeRecords.{WholeRecords}
 use Rattle.bt_sweep.specs.Passing.{Round, Skipped, firsts_of, next_after, seconds_of, skipped_records}
 use Rattle.bt_sweep.specs.StatePassing.{AreUpTo, EndUpTo, IsBare, PassesBefore}
 use Rattle.bt_sweep.specs.SweepState.{Sweeping}
 use Rattle.bt_sweep.specs.declared.unhit.Unhit.TheVariants.{Nothing}
 
--- the line says the record, unless that is the first one
-abbrev pub HasLine : Feature → Feature → Option RecordLine → Type 0
-HasLine first a None = a ≡ first
-HasLine first a (Some line) = Says line a
-
--- the record lies there, and has this line
-pub record StandsOn (first a : Feature) (line : Option RecordLine) (start stop : ℕ) : Type 0 where
+-- the record lies there
+pub record StandsOn (a : Feature) (start stop : ℕ) : Type 0 where
   pub start_is : start ≡ a.start
   pub stop_is : stop ≡ a.stop
-  pub line_is : HasLine first a line
 
 -- each of the records that were skipped, and the one before them, ends at the position or before it
 abbrev pub AreSkipped : ℕ → Feature → Option Skipped → Type 0
@@ -27,21 +19,21 @@ AreSkipped start a None = ⊤
 AreSkipped start a (Some s) = (a.stop ≤ start) × EndUpTo start s.firsts
 
 -- records were skipped
-pub record SkipsTo (start : ℕ) (first a : Feature) (old : WholeRecords) (line : Option RecordLine)
-    (next_start next_stop : ℕ) (new : WholeRecords) : Type 0 where
+pub record SkipsTo (start : ℕ) (a : Feature) (old : WholeRecords) (next_start next_stop : ℕ)
+    (new : WholeRecords) : Type 0 where
   pub skipped : Option Skipped
   pub given : GivesWholes old (skipped_records skipped) new
   pub are : AreSkipped start a skipped
-  pub on : StandsOn first (next_after a skipped) line next_start next_stop
+  pub on : StandsOn (next_after a skipped) next_start next_stop
 
 -- a record of the second input was passed, which ends at the start of the one of the first that is next
 -- then, or before it, and so do those behind it that were passed too
-pub record LeapsOn (first a : Feature) (firsts seconds : WholeRecords) (line : Option RecordLine)
-    (start stop : ℕ) (new_firsts new_seconds : WholeRecords) : Type 0 where
+pub record LeapsOn (a : Feature) (firsts seconds : WholeRecords) (start stop : ℕ)
+    (new_firsts new_seconds : WholeRecords) : Type 0 where
   pub b : Feature
   pub mid : WholeRecords
   pub gives : GivesWhole seconds b mid
-  pub skips : SkipsTo b.start first a firsts line start stop new_firsts
+  pub skips : SkipsTo b.start a firsts start stop new_firsts
   pub before : b.stop ≤ (next_after a skips.skipped).start
   pub more : AreUpTo start mid new_seconds
 
@@ -58,13 +50,13 @@ AreLeapt a (round ∷ more) =
     × (round.b.stop ≤ (next_after a round.skipped).start)
     × AreLeapt (next_after a round.skipped) more
 
-pub record IsLeap (first : Feature) (firsts seconds : WholeRecords) (line : Option RecordLine)
-    (start stop : ℕ) (new_firsts new_seconds : WholeRecords) : Type 0 where
+pub record IsLeap (first : Feature) (firsts seconds : WholeRecords) (start stop : ℕ)
+    (new_firsts new_seconds : WholeRecords) : Type 0 where
   pub rounds : List Round
   pub given_firsts : GivesWholes firsts (firsts_of rounds) new_firsts
   pub given_seconds : GivesWholes seconds (seconds_of rounds) new_seconds
   pub are : AreLeapt first rounds
-  pub on : StandsOn first (last_leapt first rounds) line start stop
+  pub on : StandsOn (last_leapt first rounds) start stop
 
 -- the record of the first input that waits then is kept
 pub record KeepsLeap (old : Option Feature) (firsts seconds : WholeRecords) (kept : Option Feature)

@@ -6,13 +6,11 @@ ghost use Rattle.bt_bed.specs.Feature.{Feature};
 ghost use Rattle.bt_sweep.specs.StateLeaping.{IsLeap, LeapsOn, SkipsTo, StandsOn};
 
 use crate::whole_front::behind_up_to;
-use bt_bed::{BedRef, RecordLine, WholeRecords};
+use bt_bed::{BedRef, WholeRecords};
 
 // Where two inputs were gone over to: a record of the first, and all of the second that end at its start or before it.
 #[derive(Clone, Copy)]
 pub(crate) struct Leap<'a, 'b> {
-    // The line of that record, unless it is the one from which it began.
-    pub(crate) line: Option<RecordLine<'a>>,
     // Where that record lies.
     start: u64,
     stop: u64,
@@ -30,11 +28,10 @@ pub(crate) fn leap_over<'a, 'b>(
     firsts: WholeRecords<'a>,
     seconds: WholeRecords<'b>,
 ) -> Leap<'a, 'b>
-    ensures { IsLeap (feature_lent last.now) firsts.entry seconds.entry result.line result.start result.stop
-        result.firsts result.seconds }
+    ensures { IsLeap (feature_lent last.now) firsts.entry seconds.entry result.start result.stop result.firsts
+        result.seconds }
 {
     let mut leap = Leap {
-        line: None,
         start: last.start,
         stop: last.stop,
         firsts,
@@ -50,14 +47,13 @@ pub(crate) fn leap_over<'a, 'b>(
 // end at the start of the record that the first has come to, or before it.
 #[inline(always)]
 fn leap_on<'a, 'b>(leap: Leap<'a, 'b>) -> Option<Leap<'a, 'b>>
-    ensures { IfSome result (λ next. (first a : Feature)
-        → StandsOn first a leap.entry.line leap.entry.start leap.entry.stop
-        → LeapsOn first a leap.entry.firsts leap.entry.seconds next.line next.start next.stop next.firsts next.seconds) }
+    ensures { IfSome result (λ next. (a : Feature) → StandsOn a leap.entry.start leap.entry.stop
+        → LeapsOn a leap.entry.firsts leap.entry.seconds next.start next.stop next.firsts next.seconds) }
 {
     let mut seconds = leap.seconds;
-    let b = seconds.next_line()?;
-    let next = skip_to(leap, b.start())?;
-    if next.start < b.stop() {
+    let b = seconds.next_bounds()?;
+    let next = skip_to(leap, b.start)?;
+    if next.start < b.stop {
         return None;
     }
     Some(Leap {
@@ -69,16 +65,14 @@ fn leap_on<'a, 'b>(leap: Leap<'a, 'b>) -> Option<Leap<'a, 'b>>
 // Passes the records of the first input that end at a position or before it.
 #[inline(always)]
 fn skip_to<'a, 'b>(leap: Leap<'a, 'b>, start: u64) -> Option<Leap<'a, 'b>>
-    ensures skips { IfSome result (λ next. (first a : Feature)
-        → StandsOn first a leap.entry.line leap.entry.start leap.entry.stop
-        → SkipsTo start first a leap.entry.firsts next.line next.start next.stop next.firsts) }
+    ensures skips { IfSome result (λ next. (a : Feature) → StandsOn a leap.entry.start leap.entry.stop
+        → SkipsTo start a leap.entry.firsts next.start next.stop next.firsts) }
 {
     let mut next = leap;
     while next.stop <= start {
-        let line = next.firsts.next_line()?;
-        next.start = line.start();
-        next.stop = line.stop();
-        next.line = Some(line);
+        let bounds = next.firsts.next_bounds()?;
+        next.start = bounds.start;
+        next.stop = bounds.stop;
     }
     Some(next)
 }

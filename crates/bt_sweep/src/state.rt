@@ -514,10 +514,13 @@ fn leap_both(
         return None;
     }
     let leap = leap_over(&last, *firsts, *seconds);
-    let Some(line) = leap.line else {
+    if leap.firsts.bytes_passed() == firsts.bytes_passed() {
         *firsts = leap.firsts;
         *seconds = leap.seconds;
         return Some(false);
+    }
+    let Some(line) = leap.firsts.last_line() else {
+        return None;
     };
     if replace(alloc, kept, &line.bed()).is_err() {
         return None;

@@ -1,6 +1,7 @@
 //! Records that stand whole, one after another.
 
 use super::*;
+use crate::byte_order::ByteOrder;
 use crate::genome::Genome;
 use crate::records::Records;
 use crate::strand::Strand;
@@ -108,5 +109,88 @@ fn records_are_passed_up_to_a_line_with_a_carriage_return(rt: HostRuntime) -> Re
     let _ = records.into_reader().into_source();
     assert!(rt; are_passed);
     assert_eq!(rt; (lines, next, lines_ahead), (3, (2, 9), 4));
+    Ok(())
+}
+
+// Two lines, and the bounds of the record of the second one, if it stands whole behind that of the first.
+type Pair = (&'static [u8], Option<(u64, u64)>);
+
+const PAIRS: [Pair; 21] = [
+    (b"chr1\t1\t5\nchr1\t7\t8\n", Some((7, 8))),
+    (
+        b"chr1\t1\t5\nchr1\t1234567\t12345678\tn\n",
+        Some((1234567, 12345678)),
+    ),
+    (
+        b"chr1\t1\t5\nchr1\t12345678\t123456789\n",
+        Some((12345678, 123456789)),
+    ),
+    (
+        b"chr1\t1\t5\nchr1\t123456789\t1234567890\t\n",
+        Some((123456789, 1234567890)),
+    ),
+    (
+        b"chr1\t1\t5\nchr1\t99999999999\t999999999999\n",
+        Some((99999999999, 999999999999)),
+    ),
+    (b"chr1\t1\t5\nchr1\t000000000007\t08\n", Some((7, 8))),
+    (
+        b"NC_000001.11 of an assembly\t1\t5\nNC_000001.11 of an assembly\t5\t6\n",
+        Some((5, 6)),
+    ),
+    (
+        b"chr1\t1\t5\nchr1\t7\t8\t0123456789abcdefghijklmnopqrstuvwxyz0123456789abcdefghijklmnopqrstuvwxyz0123456789abcdefghijklmnopqrstuvwxyz0123456789abcdefghijklmnopqrstuvwxyz\n",
+        Some((7, 8)),
+    ),
+    (b"chr1\t1\t5\nchr1\t7\t8", None),
+    (b"chr1\t1\t5\nchr1\t7\t8\r\n", None),
+    (b"chr1\t1\t5\nchr1\t7\t8 \n", None),
+    (b"chr1\t1\t5\nchr1\t7 \t8\n", None),
+    (b"chr1\t1\t5\nchr1\t7\n8\t9\n", None),
+    (b"chr1\t1\t5\nchr1\t\t8\n", None),
+    (b"chr1\t1\t5\nchr1\t7\t\n", None),
+    (b"chr1\t1\t5\nchr1\t8\t8\n", None),
+    (b"chr1\t5\t9\nchr1\t4\t8\n", None),
+    (b"chr1\t1\t5\nchr1\t9999999999999\t5\n", None),
+    (b"chr1\t1\t5\nchr11\t7\t8\n", None),
+    (b"chr1\t1\t5\nchr1\n\t7\t8\n", None),
+    (b"chr1\t1\t5\n#\nchr1\t7\t8\n", None),
+];
+
+// The bounds of the record behind the first one, if it stands whole, where its line is given again once it is passed.
+fn second_of(alloc: Global, text: &'static [u8]) -> Result<Option<(u64, u64)>, Fail> {
+    let lines = LineReader::new(alloc, ScriptSource::new(text, 8192, None), Input::First);
+    let order = ByteOrder;
+    let mut records = Records::new(alloc, lines, &order);
+    if records.peek()?.is_some() {
+        records.advance();
+    }
+    let found = match records.whole() {
+        None => None,
+        Some(mut whole) => match (whole.next_bounds(), whole.last_line()) {
+            (Some(bounds), Some(line))
+                if (line.start(), line.stop()) == (bounds.start, bounds.stop) => {
+                Some((bounds.start, bounds.stop))
+            }
+            _ => None,
+        },
+    };
+    let _ = records.into_reader().into_source();
+    Ok(found)
+}
+
+// The first pair of a table whose second record is given otherwise.
+fn first_misgiven(alloc: Global, pairs: &[Pair]) -> Result<Option<&'static [u8]>, Fail> {
+    for pair in pairs {
+        if second_of(alloc, pair.0)? != pair.1 {
+            return Ok(Some(pair.0));
+        }
+    }
+    Ok(None)
+}
+
+#[test]
+fn records_are_read_up_to_what_ends_their_third_column(rt: HostRuntime) -> Result<(), Fail> {
+    assert_eq!(rt; first_misgiven(rt.alloc(), &PAIRS)?, None);
     Ok(())
 }

@@ -14,6 +14,6 @@ returns g c =
     let kept = c.write_span-first.auto.text in
     let line : Interval = record { chrom = c.args.chrom.now; start = c.args.start; stop = c.args.stop } in
     let bytes = take (43 - first) (drop first text) in
-    let behind : bytes ≡ span_text c.args.start c.args.stop = take_all (43 - first) (drop first text) (omega arith) ∙ c.write_span-first.ensures.written in
+    let behind : bytes ≡ span_text c.args.start c.args.stop 10 = take_all (43 - first) (drop first text) (omega arith) ∙ c.write_span-first.ensures.written in
     let is : c.args.chrom.now ++ bytes ≡ interval_line line = ap (λ l. c.args.chrom.now ++ l) behind ∙ line_parts line in
     subst (λ (l : List ℕ). Puts c.args.out.now l c.put_both.result c.put_both.new.out) is c.put_both.ensures

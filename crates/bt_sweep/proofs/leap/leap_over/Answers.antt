@@ -12,7 +12,7 @@ loop-next-smaller c =
     let first = feature_lent c.args.last.now in
     let leap = c.loop-next.leap in
     let next = c.in-Some.next in
-    leap_shrinks first (last_leapt first was.rounds) leap.firsts leap.seconds next.line next.start next.stop next.firsts next.seconds (c.in-Some.ensures first (last_leapt first was.rounds) was.on)
+    leap_shrinks (last_leapt first was.rounds) leap.firsts leap.seconds next.start next.stop next.firsts next.seconds (c.in-Some.ensures (last_leapt first was.rounds) was.on)
 
 pub loop-next-preserved : goal.loop-next-preserved
 loop-next-preserved c =
@@ -20,4 +20,4 @@ loop-next-preserved c =
     let first = feature_lent c.args.last.now in
     let leap = c.loop-next.leap in
     let next = c.in-Some.next in
-    leap_more first c.args.firsts c.args.seconds leap.line leap.start leap.stop leap.firsts leap.seconds next.line next.start next.stop next.firsts next.seconds was (c.in-Some.ensures first (last_leapt first was.rounds) was.on)
+    leap_more first c.args.firsts c.args.seconds leap.start leap.stop leap.firsts leap.seconds next.start next.stop next.firsts next.seconds was (c.in-Some.ensures (last_leapt first was.rounds) was.on)

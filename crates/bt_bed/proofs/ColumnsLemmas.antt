@@ -1,0 +1,177 @@
+-- Lemmas on the first columns of a line that are looked at before its end is known.
+use Rattle.std.proofs.Common.{◌≡◌, ℕ, ◌+◌, ◌-◌, ◌*◌, ◌<◌, ◌≤◌, Bool, true, false, List, [], ◌∷◌, ◌++◌, length, take, drop, get_or, Some, inl, inr, refl, sym, ap, ◌∙◌, subst, arith, eqb, eq-eqb, length-drop}
+use Rattle.std.proofs.lemmas.Bool.{cases_lt, false≢true}
+use Rattle.std.proofs.lemmas.Bool.Decides.{nat_tests}
+use Rattle.std.proofs.lemmas.List.{drop-drop, drop-take, get_or-drop, get_or-take, get_or_append_left, get_or_default, length-take-le, take-append-le, take-take}
+use Rattle.std.proofs.lemmas.List.Folds.{list_all_at}
+use Rattle.std.proofs.lemmas.Slice.Eq.{bytes_eq-Decides}
+use Rattle.std.proofs.Math.Seq.{get_or-append_seam}
+use Rattle.std.specs.Char.{is_ascii_digit}
+use Rattle.std.specs.List.{list_all}
+use Rattle.std.specs.Str.Parse.{digits_value}
+use Rattle.bt_lines.proofs.NumberLemmas.{digits_denoting, digits_more, value_more, value_short}
+use Rattle.bt_lines.specs.Early.{NoneFrom}
+use Rattle.bt_lines.specs.LentLine.{NoLineFeed}
+use Rattle.bt_lines.specs.Number.{value_of}
+use Rattle.bt_bed.specs.FirstColumns.{AreBounds, BeginsWith, BeginsWithName, HasColumns, Leads}
+use Rattle.bt_bed.specs.declared.leading.Leading.{Leading}
+use Rattle.bt_bed.proofs.FirstColumnLemmas.{begins_below, front_is_name, leads_by, name_in_front}
+
+-- eight digits that denote a number
+pub eight_begin : (text : List ℕ) (value : ℕ) → 8 ≤ length text → value_of (take 8 text) ≡ Some value → BeginsWith text (record { value = value; end = 8 })
+eight_begin text value room denotes =
+    let is = digits_denoting (take 8 text) value (sym denotes) in
+    record { within = room; short = omega arith; digits = is.0; value = is.1 }
+
+-- the digits that eight bytes begin with
+pub few_begin : (text bytes : List ℕ) (lead : Leading) → bytes ≡ take 8 text → 8 ≤ length text → BeginsWith bytes lead → BeginsWith text lead
+few_begin text bytes lead are room begins =
+    let within = begins.within in
+    let size : length bytes ≡ 8 = ap length are ∙ length-take-le 8 text room in
+    let same : take lead.end bytes ≡ take lead.end text = ap (take lead.end) are ∙ take-take lead.end 8 text (omega arith) in
+    record {
+      within = omega arith;
+      short = begins.short;
+      digits = ap (list_all is_ascii_digit) (sym same) ∙ begins.digits;
+      value = begins.value ∙ ap (digits_value 10) same;
+    }
+
+-- one digit more
+pub one_more : (text : List ℕ) (lead : Leading) → BeginsWith text lead → lead.end < 12 → lead.end < length text → is_ascii_digit (get_or text lead.end 0) ≡ true
+    → BeginsWith text (record { value = lead.value * 10 + (get_or text lead.end 0 - 48); end = lead.end + 1 })
+one_more text lead begins short inside digit = record {
+  within = omega arith;
+  short = omega arith;
+  digits = digits_more text lead.end inside begins.digits digit;
+  value = value_more text lead.end lead.value inside begins.value digit;
+}
+
+-- the number of eight digits is small
+pub eight_small : (text : List ℕ) (value : ℕ) → 8 ≤ length text → value_of (take 8 text) ≡ Some value → value ≤ 999999999999
+eight_small text value room denotes =
+    let begins = eight_begin text value room denotes in
+    value_short 8 value (begins_below text (record { value = value; end = 8 }) begins) (omega arith)
+
+-- a digit among digits
+digit_in : (xs : List ℕ) (i : ℕ) → list_all is_ascii_digit xs ≡ true → i < length xs → is_ascii_digit (get_or xs i 0) ≡ true
+digit_in xs i all inside = by (is_ascii_digit (get_or xs i 0)) refl
+  where
+    by : (b : Bool) → is_ascii_digit (get_or xs i 0) ≡ b → is_ascii_digit (get_or xs i 0) ≡ true
+    by true e = e
+    by false e = absurd (false≢true (sym (list_all_at is_ascii_digit xs i 0 inside e) ∙ all))
+
+-- a digit is no line feed
+digit_no_feed : (byte : ℕ) → is_ascii_digit byte ≡ true → eqb byte 10 ≡ false
+digit_no_feed byte digit = grind (arith, nat_tests)
+
+-- no digit that stands behind a place is a line feed
+number_clear : (bytes : List ℕ) (at k : ℕ) (lead : Leading) → BeginsWith (drop at bytes) lead → at ≤ k → k < at + lead.end → eqb (get_or bytes k 0) 10 ≡ false
+number_clear bytes at k lead begins low high =
+    let text = drop at bytes in
+    let place : at + (k - at) ≡ k = omega arith in
+    let size : length (take lead.end text) ≡ lead.end = length-take-le lead.end text begins.within in
+    let there : get_or (take lead.end text) (k - at) 0 ≡ get_or bytes k 0 =
+    get_or-take lead.end text (k - at) 0 (omega arith) ∙ get_or-drop at bytes (k - at) 0 ∙ ap (λ (i : ℕ). get_or bytes i 0) place in
+    digit_no_feed (get_or bytes k 0) (ap is_ascii_digit (sym there) ∙ digit_in (take lead.end text) (k - at) begins.digits (omega arith))
+
+module _ (bytes name : List ℕ) (start stop : Leading) (has : HasColumns bytes name start stop) where
+  name_tab : get_or bytes (length name) 0 ≡ 9
+  name_tab = ap (λ l. get_or l (length name) 0) has.named ∙ get_or-append_seam name 9 (drop (length name + 1) bytes) 0
+
+  -- the columns have no line feed, if the name has none
+  pub columns_clear : NoLineFeed name → NoneFrom 10 bytes 0 (length name + start.end + stop.end + 2)
+  columns_clear clear = λ k d low high. by k d high
+    where
+      name_byte : (k d : ℕ) → k < length name → eqb (get_or bytes k d) 10 ≡ false
+      name_byte k d inside =
+          rw (ap (λ l. get_or l k d) has.named ∙ get_or_append_left name (9 ∷ drop (length name + 1) bytes) d k inside) (clear k d inside)
+
+      room : length name + start.end + stop.end + 2 ≤ length bytes
+      room = omega (arith, has.second.within, length-drop (length name + start.end + 2) bytes)
+
+      zero_byte : (k d : ℕ) → k < length bytes → eqb (get_or bytes k 0) 10 ≡ false → eqb (get_or bytes k d) 10 ≡ false
+      zero_byte k d inside is = rw (get_or_default bytes k d 0 inside) is
+
+      by : (k d : ℕ) → k < length name + start.end + stop.end + 2 → eqb (get_or bytes k d) 10 ≡ false
+      by k d high = elim (cases_lt k (length name)) [
+        | inl inside ↦ name_byte k d inside
+        | inr past ↦ zero_byte k d (omega (arith, room)) (behind k past high)
+      ]
+        where
+          tab_byte : (k : ℕ) → get_or bytes k 0 ≡ 9 → eqb (get_or bytes k 0) 10 ≡ false
+          tab_byte k is = ap (λ (b : ℕ). eqb b 10) is
+
+          behind : (k : ℕ) → length name ≤ k → k < length name + start.end + stop.end + 2 → eqb (get_or bytes k 0) 10 ≡ false
+          behind k past high = elim (cases_lt (length name) k) [
+            | inr at ↦ tab_byte k (ap (λ (i : ℕ). get_or bytes i 0) (omega arith) ∙ name_tab)
+            | inl further ↦ elim (cases_lt k (length name + start.end + 1)) [
+              | inl first ↦ number_clear bytes (length name + 1) k start has.first (omega arith) (omega arith)
+              | inr second ↦ elim (cases_lt (length name + start.end + 1) k) [
+                | inr at ↦ tab_byte k (ap (λ (i : ℕ). get_or bytes i 0) (omega arith) ∙ has.tab)
+                | inl third ↦ number_clear bytes (length name + start.end + 2) k stop has.second (omega arith) (omega arith)
+              ]
+            ]
+          ]
+
+  -- the text of a line that stands there
+  module _ (text : List ℕ) (clear : NoLineFeed text) (past : length name + start.end + stop.end + 2 ≤ length text)
+      (front : take (length name + start.end + stop.end + 2 + 1) (text ++ 10 ∷ []) ≡ take (length name + start.end + stop.end + 2 + 1) bytes) where
+    -- a front of it
+    front_is : (n : ℕ) → n ≤ length name + start.end + stop.end + 2 → take n text ≡ take n bytes
+    front_is n small =
+        sym (take-append-le n text (10 ∷ []) (omega arith))
+        ∙ sym (take-take n (length name + start.end + stop.end + 2 + 1) (text ++ 10 ∷ []) (omega arith)) ∙ ap (take n) front
+        ∙ take-take n (length name + start.end + stop.end + 2 + 1) bytes (omega arith)
+
+    -- a byte of it
+    byte_is : (k : ℕ) → k < length name + start.end + stop.end + 2 → get_or text k 0 ≡ get_or bytes k 0
+    byte_is k small =
+        sym (get_or-take (k + 1) text k 0 (omega arith)) ∙ ap (λ l. get_or l k 0) (front_is (k + 1) (omega arith))
+        ∙ get_or-take (k + 1) bytes k 0 (omega arith)
+
+    -- a number in it
+    number_in : (at : ℕ) (lead : Leading) → BeginsWith (drop at bytes) lead → at + lead.end ≤ length name + start.end + stop.end + 2 → take lead.end (drop at text) ≡ take lead.end (drop at bytes)
+    number_in at lead begins small =
+        sym (drop-take at lead.end text) ∙ ap (drop at) (front_is (at + lead.end) small) ∙ drop-take at lead.end bytes
+
+    pub line_named : BeginsWithName text name
+    line_named =
+        name_in_front text name (omega arith) (byte_is (length name) (omega arith) ∙ name_tab)
+        ((bytes_eq-Decides name (take (length name) text)).1 (sym (front_is (length name) (omega arith) ∙ front_is_name bytes name has.named)))
+
+    leads_at : (at : ℕ) (lead : Leading) → BeginsWith (drop at bytes) lead → 0 < lead.end → at + lead.end ≤ length name + start.end + stop.end + 2 → (at + lead.end < length text → get_or text (at + lead.end) 0 ≡ 9)
+        → Leads (drop at text) lead
+    leads_at at lead begins some small tab =
+        let same = number_in at lead begins small in
+        let size = length-drop at text in
+        leads_by (drop at text) lead.value lead.end some (omega arith) (λ inside. get_or-drop at text lead.end 0 ∙ tab (omega arith))
+        (begins.value ∙ ap (digits_value 10) (sym same)) (ap (list_all is_ascii_digit) same ∙ begins.digits)
+        (value_short lead.end lead.value (begins_below (drop at bytes) lead begins) begins.short)
+
+    -- what ends the third column is no line feed inside the text
+    last_tab : length name + start.end + stop.end + 2 < length text → get_or text (length name + start.end + stop.end + 2) 0 ≡ 9
+    last_tab inside = elim has.ended [
+      | inl tab ↦ there ∙ tab
+      | inr feed ↦ absurd (false≢true (sym (clear (length name + start.end + stop.end + 2) 0 inside) ∙ eq-eqb (get_or text (length name + start.end + stop.end + 2) 0) 10 (there ∙ feed)))
+    ]
+      where
+        there : get_or text (length name + start.end + stop.end + 2) 0 ≡ get_or bytes (length name + start.end + stop.end + 2) 0
+        there =
+            sym (get_or_append_left text (10 ∷ []) 0 (length name + start.end + stop.end + 2) inside)
+            ∙ sym (get_or-take (length name + start.end + stop.end + 2 + 1) (text ++ 10 ∷ []) (length name + start.end + stop.end + 2) 0 (omega arith))
+            ∙ ap (λ l. get_or l (length name + start.end + stop.end + 2) 0) front
+            ∙ get_or-take (length name + start.end + stop.end + 2 + 1) bytes (length name + start.end + stop.end + 2) 0 (omega arith)
+
+    pub line_bounds : AreBounds text (length name) start stop
+    line_bounds =
+        let tab : get_or text (length name + start.end + 1) 0 ≡ 9 = byte_is (length name + start.end + 1) (omega arith) ∙ has.tab in
+        let first_end : length name + 1 + start.end ≡ length name + start.end + 1 = omega arith in
+        let second_end : length name + start.end + 2 + stop.end ≡ length name + start.end + stop.end + 2 = omega arith in
+        let second_at : length name + 1 + (start.end + 1) ≡ length name + start.end + 2 = omega arith in
+        record {
+          first = leads_at (length name + 1) start has.first has.some_first (omega arith) (λ inside. ap (λ (i : ℕ). get_or text i 0) first_end ∙ tab);
+          inside = omega (arith, length-drop (length name + 1) text);
+          second = subst (λ (l : List ℕ). Leads l stop) (ap (λ (i : ℕ). drop i text) (sym second_at) ∙ sym (drop-drop (start.end + 1) (length name + 1) text))
+              (leads_at (length name + start.end + 2) stop has.second has.some_second (omega arith) (λ inside. ap (λ (i : ℕ). get_or text i 0) second_end ∙ last_tab (omega arith)));
+          below = has.below;
+        }
