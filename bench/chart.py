@@ -11,7 +11,7 @@ from itertools import groupby
 from pathlib import Path
 from types import SimpleNamespace
 
-COLOURS = {"dunekettle": "#c2571a", "bedtools": "#5b7c99", "bedops": "#a9b8c4", "convert2bed": "#d3dbe2"}
+COLOURS = {"dunekettle": "#c2571a", "bedtools": "#5b7c99", "bedops": "#a9b8c4", "plain C": "#86a873", "convert2bed": "#d3dbe2"}
 WIDTH = 830
 LEFT = 260
 BAR = 14
@@ -80,15 +80,15 @@ def draw(rows):
 
 
 def write_rows(path, rows):
-    """Writes what the runs took, a line each."""
-    lines = (f"{run.seconds:8.3f} {run.kilobytes:8}  {run.program:11}  {name}\n" for name, runs in rows for run in runs)
+    """Writes what the runs took, a line each. A program's name is one word there, with a hyphen for a blank."""
+    lines = (f"{run.seconds:8.3f} {run.kilobytes:8}  {run.program.replace(' ', '-'):11}  {name}\n" for name, runs in rows for run in runs)
     path.write_text(HEAD + "".join(lines), encoding="ascii")
 
 
 def read_rows(path):
     """The workloads with their runs, as they were written."""
     lines = [line.split(maxsplit=3) for line in path.read_text(encoding="ascii").splitlines() if not line.startswith("#")]
-    runs = [(name, SimpleNamespace(program=program, seconds=float(seconds), kilobytes=int(kilobytes)))
+    runs = [(name, SimpleNamespace(program=program.replace("-", " "), seconds=float(seconds), kilobytes=int(kilobytes)))
             for seconds, kilobytes, program, name in lines]
     return [(name, [run for _, run in group]) for name, group in groupby(runs, key=lambda pair: pair[0])]
 

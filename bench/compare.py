@@ -6,12 +6,14 @@
 
 Prints, for each command and kind of record, for RECORDS records (5,000,000 where it is missing) and
 for a tenth of them, the processor time and the peak memory; beside them those of the bedtools and the
-bedops on PATH, where they are there and do the same job; and the instructions a record, where valgrind
-is there. For `bamtobed` samtools makes the BAM file that bedtools reads, and bedops' convert2bed, which
-writes further columns, isn't compared. With `--only` it takes the workloads alone whose names have these
-words in them; with `--times` each program runs so many times, and the least time and the highest memory
-are printed; with `--discard` the outputs go to /dev/null, and aren't compared; with `--chart` it draws the
-larger runs as an SVG, and writes what they took beside it, as a text of the same name.
+bedops on PATH, where they are there and do the same job, and for `merge` over three columns those of
+plain_merge.c, a plain C program that merges and does nothing else, where cc is there to build it; and the
+instructions a record, where valgrind is there. For `bamtobed` samtools makes the BAM file that bedtools
+reads, and bedops' convert2bed, which writes further columns, isn't compared. With `--only` it takes the
+workloads alone whose names have these words in them; with `--times` each program runs so many times, and
+the least time and the highest memory are printed; with `--discard` the outputs go to /dev/null, and aren't
+compared; with `--chart` it draws the larger runs as an SVG, and writes what they took beside it, as a text
+of the same name.
 It fails where a program fails, where two outputs differ, or where this program's memory grows with its
 input.
 
@@ -37,6 +39,10 @@ from pathlib import Path
 from chart import draw, write_rows
 
 PROGRAM = Path(__file__).resolve().parent.parent / "bin" / "bedtools"
+# The plain C program.
+PLAIN = Path(__file__).resolve().parent / "plain_merge.c"
+# The other programs by their names, where none of them is there.
+NO_OTHERS = dict.fromkeys(("bedtools", "bedops", "convert2bed", "plain C"))
 # The lengths of the human chromosomes in GRCh38, in million bases.
 GRCH38 = [249, 242, 198, 190, 182, 171, 159, 145, 138, 134, 135, 133, 114, 107, 102, 90, 83, 80, 59, 64, 47, 51, 156, 57]
 # The chromosomes in the order of their names' bytes, so that -g may be left out.
@@ -242,6 +248,8 @@ class Workload:
     convert2bed: list = None
     # The option that names the output file, where it isn't written to standard output.
     output_option: str = None
+    # Whether plain_merge.c does the same job.
+    is_plain: bool = False
 
     def counts(self, program):
         return self.is_drawn if self.counted is None else program in self.counted
@@ -260,7 +268,7 @@ UNHIT_SHAPES = [["-v"], ["-c"]]
 COUNTED_SHAPES = [[], ["-u"], ["-c"]]
 
 WORKLOADS = [
-    Workload(["merge"], Touching(3), OURS, ["--merge"], 450, 0.2),
+    Workload(["merge"], Touching(3), OURS, ["--merge"], 450, 0.2, is_plain=True),
     Workload(["merge"], Touching(6), OURS, ["--merge"], 600, 0.3),
     Workload(["merge", "-S", "+", "-d", "100"], Touching(6), OURS, None, 600, 0.3),
     Workload(["merge", "-s"], Alone(EXONS), OURS, None, None, 0.35),
@@ -289,7 +297,8 @@ WORKLOADS = [
         for shape in COUNTED_SHAPES
     ),
     # In the order of the names' bytes, beside the same in that of a genome file.
-    *(Workload(["merge"], Touching(columns), (), ["--merge"], aim, part) for columns, aim, part in ((3, 450, 0.2), (6, 600, 0.3))),
+    Workload(["merge"], Touching(3), (), ["--merge"], 450, 0.2, is_plain=True),
+    Workload(["merge"], Touching(6), (), ["--merge"], 600, 0.3),
     *(
         Workload(["intersect", "-sorted"], data, (), None, None, 0.35)
         for data in (Pair(READS, EXONS), Pair(EXONS, PEAKS))
@@ -480,6 +489,8 @@ def runs_of(workload, others, folder):
         runs.append(Run("bedtools", [others["bedtools"], *words, *inputs, *genome.get("bedtools", [])], output_option=into))
     if others["bedops"] and workload.bedops:
         runs.append(Run("bedops", [others["bedops"], *workload.bedops, str(folder / "records.bed")]))
+    if others["plain C"] and workload.is_plain:
+        runs.append(Run("plain C", [others["plain C"], str(folder / "records.bed")]))
     if others["convert2bed"] and workload.convert2bed:
         runs.append(Run("convert2bed", [others["convert2bed"], *workload.convert2bed], folder / "records.bed", False))
     return runs
@@ -567,7 +578,7 @@ def checked_instructions(valgrind, only):
     with tempfile.TemporaryDirectory() as folder:
         for workload in (it for it in WORKLOADS if only in it.name() and it.counts("dunekettle")):
             place = prepared(workload, Path(folder), COUNTED)
-            run = runs_of(workload, dict.fromkeys(("bedtools", "bedops", "convert2bed")), place)[0]
+            run = runs_of(workload, NO_OTHERS, place)[0]
             yield workload.name(), instructions_of(valgrind, run) / lines_of(place / "records.bed")
 
 
@@ -613,14 +624,24 @@ def main():
     compare_all(asked, valgrind)
 
 
-def compare_all(asked, valgrind):
-    """Compares the programs on each workload that is asked for."""
-    others = {name: shutil.which(name) for name in ("bedtools", "bedops", "convert2bed")}
+def found_others(folder):
+    """The other programs: those on PATH, and plain_merge.c, which is built in this folder where cc is on PATH."""
+    others = NO_OTHERS | {name: shutil.which(name) for name in ("bedtools", "bedops", "convert2bed")}
     if others["bedtools"] and Path(others["bedtools"]).resolve() == PROGRAM:
         others["bedtools"] = None
+    compiler = shutil.which("cc")
+    if compiler:
+        others["plain C"] = str(folder / PLAIN.stem)
+        subprocess.run([compiler, "-O2", "-o", others["plain C"], str(PLAIN)], check=True)
+    return others
+
+
+def compare_all(asked, valgrind):
+    """Compares the programs on each workload that is asked for."""
     rows = []
     with tempfile.TemporaryDirectory() as folder:
         folder = Path(folder)
+        others = found_others(folder)
         for workload in (it for it in WORKLOADS if asked.only in it.name()):
             sizes = (asked.records // 10, asked.records)
             small, large = (compare(workload, others, folder, size, asked.times, asked.discard) for size in sizes)

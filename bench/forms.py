@@ -18,7 +18,7 @@ import sys
 import tempfile
 from pathlib import Path
 
-from compare import COUNTED, PROGRAM, WORKLOADS, check_same, instructions_of, lines_of, prepared, runs_of, time_run
+from compare import COUNTED, NO_OTHERS, PROGRAM, WORKLOADS, check_same, instructions_of, lines_of, prepared, runs_of, time_run
 
 TOP = PROGRAM.parent.parent
 FILE = Path("crates", "bt_tool", "src", "sweeping.rt")
@@ -47,7 +47,7 @@ def build(copy):
 
 def both_runs(workload, place, other):
     """The run of each program over the inputs of a workload."""
-    ours, theirs = (runs_of(workload, dict.fromkeys(("bedtools", "bedops", "convert2bed")), place)[0] for _ in range(2))
+    ours, theirs = (runs_of(workload, NO_OTHERS, place)[0] for _ in range(2))
     ours.program, theirs.program = OURS, OTHER
     theirs.words = [str(other), *theirs.words[1:]]
     return [ours, theirs]
