@@ -270,6 +270,8 @@ COUNTED_SHAPES = [[], ["-u"], ["-c"]]
 WORKLOADS = [
     Workload(["merge"], Touching(3), OURS, ["--merge"], 450, 0.2, is_plain=True),
     Workload(["merge"], Touching(6), OURS, ["--merge"], 600, 0.3),
+    # Lines that end far behind their third column.
+    Workload(["merge"], Touching(12), OURS, ["--merge"], None, 0.3, False, counted=OURS),
     Workload(["merge", "-S", "+", "-d", "100"], Touching(6), OURS, None, 600, 0.3),
     Workload(["merge", "-s"], Alone(EXONS), OURS, None, None, 0.35),
     Workload(["merge", "-s"], Behind(), OURS, None, None, 0.35, False),
@@ -364,11 +366,12 @@ def write_genome(path):
             genome.write(f"{name}\t{length * 1_000_000}\n")
 
 
-def further_columns(numbers, columns):
-    """The columns after the third: a name, a score and a strand, or none."""
+def further_columns(numbers, columns, start, stop):
+    """The columns after the third: none, or a name, a score and a strand, and of twelve those of one block behind them."""
     if columns == 3:
         return ""
-    return f"\tread{numbers.randrange(1_000_000)}\t{numbers.randrange(1000)}\t{numbers.choice('+-')}"
+    block = f"\t{start}\t{stop}\t0\t1\t{stop - start},\t0," if columns == 12 else ""
+    return f"\tread{numbers.randrange(1_000_000)}\t{numbers.randrange(1000)}\t{numbers.choice('+-')}{block}"
 
 
 def write_records(path, count, columns, seed):
@@ -382,7 +385,7 @@ def write_records(path, count, columns, seed):
             start = numbers.randrange(mean)
             stop = start + numbers.randrange(1, mean)
             while stop <= size:
-                records.write(f"{name}\t{start}\t{stop}{further_columns(numbers, columns)}\n")
+                records.write(f"{name}\t{start}\t{stop}{further_columns(numbers, columns, start, stop)}\n")
                 start += numbers.randrange(2 * mean - 1)
                 stop = start + numbers.randrange(1, mean)
 
@@ -396,7 +399,7 @@ def write_features(path, count, features, seed, part=1.0):
             last = int(length * 1_000_000 * part) - features.longest
             for start in sorted(numbers.randrange(last) for _ in range(count * length // total)):
                 stop = start + numbers.randrange(features.shortest, features.longest)
-                records.write(f"{name}\t{start}\t{stop}{further_columns(numbers, features.columns)}\n")
+                records.write(f"{name}\t{start}\t{stop}{further_columns(numbers, features.columns, start, stop)}\n")
 
 
 def write_alignments(path, count, seed):

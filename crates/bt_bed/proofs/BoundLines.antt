@@ -1,7 +1,7 @@
 -- Lemmas on lines of which a record's bounds were read.
-use Rattle.std.proofs.Common.{◌≡◌, ℕ, zero, suc, ◌+◌, ◌<◌, ◌≤◌, ◌^◌, List, [], ◌∷◌, ◌++◌, length, take, drop, get_or, Option, None, Some, Ok, refl, sym, ap, ◌∙◌, subst, arith, append_assoc, decimal, eq-eqb, eqb, length-drop}
+use Rattle.std.proofs.Common.{◌≡◌, ℕ, zero, suc, ◌+◌, ◌<◌, ◌≤◌, List, [], ◌∷◌, ◌++◌, length, take, drop, get_or, Some, Ok, refl, sym, ap, ◌∙◌, subst, arith, append_assoc, decimal, eq-eqb, eqb, length-drop}
 use Rattle.std.specs.Prelude.{IsTrue, map, not}
-use Rattle.std.specs.Str.Parse.{AllDigits, digits_value}
+use Rattle.std.specs.Str.Parse.{AllDigits}
 use Rattle.std.proofs.lemmas.Fmt.{decimal-digits_value}
 use Rattle.std.proofs.lemmas.Bool.{false≢true}
 use Rattle.std.proofs.lemmas.List.{drop_more, get_or-drop, get_or-take, take-append-drop}
@@ -10,8 +10,8 @@ use Rattle.bt_lines.specs.Number.{value_of}
 use Rattle.bt_lines.specs.Whole.{PassesLine, PassesLines}
 use Rattle.bt_lines.proofs.NumberLemmas.{all_digits_in, digits_denoting}
 use Rattle.bt_bed.specs.Feature.{Feature}
-use Rattle.bt_bed.specs.FirstColumns.{AreBounds, EndsName, Leads}
-use Rattle.bt_bed.specs.Record.{IsFeature, bed_text, columns_in, record_of, strand_of}
+use Rattle.bt_bed.specs.FirstColumns.{Leads}
+use Rattle.bt_bed.specs.Record.{bed_text, columns_in, record_of, strand_of}
 use Rattle.bt_bed.specs.RecordLine.{IsLineOf, Says, text_in}
 use Rattle.bt_bed.specs.WholeRecords.{GivesWhole, GivesWholes, GivesWritten, lines_in}
 use Rattle.bt_bed.specs.declared.leading.Leading.{Leading}

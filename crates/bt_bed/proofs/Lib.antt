@@ -21,6 +21,7 @@ pub mod GoodLemmas
 pub mod GoodBedLemmas
 pub mod ReadingLemmas
 pub mod NeighbourLemmas
+pub mod NameKeyLemmas
 pub mod ColumnsLemmas
 pub mod ShownLines
 pub mod CursorLemmas

@@ -52,9 +52,10 @@ pub record BeginsWith (text : List ℕ) (lead : Leading) : Type 0 where
 abbrev pub EndsColumn : ℕ → Type 0
 EndsColumn byte = (byte ≡ 9) ⊎ (byte ≡ 10)
 
--- a line may begin so: with this name, and behind it, each after a tab, with a start and an end above it
+-- the bytes begin with this name, which isn't too long, and behind it, each after a tab, with a start and an end that is
+-- greater; a tab or a line feed stands behind them
 pub record HasColumns (bytes name : List ℕ) (start stop : Leading) : Type 0 where
-  pub short : length name ≤ 60
+  pub short : length name ≤ 400
   pub named : BeginsWithName bytes name
   pub first : BeginsWith (drop (length name + 1) bytes) start
   pub some_first : 0 < start.end

@@ -13,6 +13,7 @@ pub mod Together
 pub mod Header
 pub mod Record
 pub mod FirstColumns
+pub mod NameKey
 pub mod Bed
 pub mod LineKind
 pub mod Sorting

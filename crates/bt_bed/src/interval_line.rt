@@ -6,7 +6,7 @@ ghost use Rattle.bt_bed.specs.IntervalLine.{bounds_text, interval_line, span_tex
 
 use bt_lines::{COLUMN, Fault, Out, Sink, put_both, write_position};
 
-// The room for what follows the name: two columns and a line feed.
+// The room for what follows the name: two columns and what ends the second, a byte.
 const ROOM: usize = 2 * COLUMN + 1;
 
 /// Puts the line of an interval: its name, and what follows it in one piece. It takes no memory.

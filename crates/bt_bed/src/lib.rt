@@ -51,6 +51,7 @@ mod interval_line;
 mod kept_text;
 pub mod laws;
 mod leading;
+mod name_key;
 mod names;
 mod neighbours;
 mod order;

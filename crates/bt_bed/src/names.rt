@@ -1,7 +1,6 @@
 //! Names of chromosomes: whether two are one.
 
-ghost use Rattle.std.specs.Prelude.{◌≡◌, ◌-◌, ◌≤◌, IfSome, bytes_eq, drop, length, take, true};
-ghost use Rattle.bt_lines.specs.LentLine.{NoLineFeed};
+ghost use Rattle.std.specs.Prelude.{◌≡◌, ◌-◌, ◌≤◌, IfSome, bytes_eq, drop, length, take};
 ghost use Rattle.std.specs.Int.{from_le_bytes, w32};
 
 // The longest name that two words of four bytes cover.
@@ -23,13 +22,6 @@ pub fn is_same_name(left: &[u8], right: &[u8]) -> bool
         return is_same_text(left, right);
     };
     first == other_first && last == other_last
-}
-
-// Whether a name has no line feed. It is asked once for each chromosome.
-pub(crate) fn has_no_feed(name: &[u8]) -> bool
-    ensures { result ≡ true → NoLineFeed name.now }
-{
-    name.iter().all(|byte| *byte != b'\n')
 }
 
 // The same for names of any length. Those of an assembly's parts mostly differ in their last byte.

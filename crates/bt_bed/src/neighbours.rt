@@ -3,14 +3,17 @@
 ghost use Rattle.std.specs.Option.{ForSome};
 ghost use Rattle.std.specs.Prelude.{◌≡◌, ◌≤◌, length, true};
 ghost use Rattle.bt_lines.specs.LentLine.{NoLineFeed};
+ghost use Rattle.bt_lines.specs.Whole.{rest_of};
 ghost use Rattle.bt_bed.specs.Ahead.{name_ahead, spot_of};
 ghost use Rattle.bt_bed.specs.Bed.{feature_lent};
-ghost use Rattle.bt_bed.specs.FirstColumns.{IsRecordName};
+ghost use Rattle.bt_bed.specs.FirstColumns.{BeginsWithName, IsRecordName};
 
 use crate::bed::BedRef;
+use crate::columns::{LONGEST_NAME, word_at};
 use crate::direct::{begins_with_name, direct_feature_on};
 use crate::faults::at_line;
-use crate::names::{has_no_feed, is_same_name};
+use crate::name_key::NameKey;
+use crate::names::is_same_name;
 use crate::parsing::parse_bed;
 use crate::sorted::Sorted;
 use crate::spot::Spot;
@@ -24,13 +27,10 @@ use std::alloc::{AllocError, Global};
 #[derive(Drop)]
 pub(crate) struct Neighbours<Q> {
     pub(crate) rule: Q,
-    // The chromosome of the last record, while `last` is one, and whether it is known to have no line feed, as no name
-    // has that comes from a line.
+    // The chromosome of the last record, while `last` is one.
     last_name: Vec<u8>,
-    is_last_clear: bool,
-    // The chromosome of the record ahead, while one is ahead and `is_elsewhere` holds, and whether that is known.
+    // The chromosome of the record ahead, while one is ahead and `is_elsewhere` holds.
     ahead_name: Vec<u8>,
-    is_ahead_clear: bool,
     // The start of the last record; `None` before the first.
     last: Option<u64>,
     // The record ahead; `None` until a line says one, and once it was passed.
@@ -38,8 +38,6 @@ pub(crate) struct Neighbours<Q> {
     // Whether the record ahead lies on another chromosome than the last, while one is ahead.
     is_elsewhere: bool,
     // A line that begins with the name of a record and a tab is no header.
-    ghost last_clear: { is_last_clear ≡ true → NoLineFeed last_name.items },
-    ghost ahead_clear: { is_ahead_clear ≡ true → NoLineFeed ahead_name.items },
     ghost last_named: { ForSome last (λ _. IsRecordName last_name.items) },
     ghost ahead_named: { ForSome ahead
         (λ _. IsRecordName (name_ahead is_elsewhere ahead_name.items last_name.items)) },
@@ -64,9 +62,7 @@ impl<Q: Sorted> Neighbours<Q> {
         Neighbours {
             rule,
             last_name: Vec::new(alloc),
-            is_last_clear: false,
             ahead_name: Vec::new(alloc),
-            is_ahead_clear: false,
             last: None,
             ahead: None,
             is_elsewhere: false,
@@ -117,7 +113,6 @@ impl<Q: Sorted> Neighbours<Q> {
     {
         if self.is_elsewhere {
             std::mem::swap(&mut self.last_name, &mut self.ahead_name);
-            std::mem::swap(&mut self.is_last_clear, &mut self.is_ahead_clear);
         }
         self.last = self.ahead.map(|spot| spot.start);
         self.ahead = None;
@@ -128,15 +123,20 @@ impl<Q: Sorted> Neighbours<Q> {
     pub(crate) fn whole<'t>(&'t self, lines: WholeLines<'t>) -> Option<WholeRecords<'t>>
         ensures { IfSome result (LendsBehind self.now lines.entry) }
     {
-        if self.ahead.is_some() || !self.is_last_clear {
+        if self.ahead.is_some() {
             return None;
         }
         let start = self.last?;
         let name = self.last_name.as_slice();
-        if !begins_with_name(lines.rest(), name) {
+        if !begins_with_name(lines.rest(), name) || !is_in_sight(&lines, name) {
             return None;
         }
-        Some(WholeRecords { lines, name, start })
+        Some(WholeRecords {
+            lines,
+            name,
+            key: NameKey::new(word_at(lines.sight(), 0), name),
+            start,
+        })
     }
 
     // Makes a record on the last one's chromosome, which starts here, the last one.
@@ -279,14 +279,22 @@ impl<Q: Sorted> Neighbours<Q> {
             self.ahead = Some(spot);
             return Ok(());
         }
-        self.is_ahead_clear = false;
         self.ahead_name.clear();
         self.ahead_name.extend_from_slice(chrom)?;
-        self.is_ahead_clear = has_no_feed(chrom);
         self.is_elsewhere = true;
         self.ahead = Some(spot);
         Ok(())
     }
+}
+
+// Whether lines that begin with this name can be read where they stand: it isn't too long, and it has no line feed, which
+// no name in a line has.
+#[inline(always)]
+fn is_in_sight(lines: &WholeLines<'_>, name: &[u8]) -> bool
+    requires { BeginsWithName (rest_of lines.now) name.now }
+    ensures { result ≡ true → NoLineFeed name.now }
+{
+    name.len() <= LONGEST_NAME && lines.is_clear(name.len())
 }
 
 // Where a record of a line's text lies.

@@ -2,27 +2,32 @@
 
 ghost use Rattle.bt_lines.specs.LentLine.{NoLineFeed};
 ghost use Rattle.bt_bed.specs.FirstColumns.{IsRecordName};
+ghost use Rattle.bt_bed.specs.NameKey.{HasKey};
 
 use crate::bed::BedRef;
 use crate::bounds::Bounds;
 use crate::columns::columns_on;
 use crate::direct::direct_line_on;
+use crate::name_key::NameKey;
 use crate::record_line::RecordLine;
 use bt_lines::{PassedLines, WholeLines};
 
 /// Goes over the records that stand whole in what a reader took ahead, on the chromosome of the record that it
 /// passed last, in order, on lines that end with a line feed alone. It ends before the first line that isn't such
-/// a record's. What was passed is given back to the reader ([`Records::pass`](crate::Records::pass)), so that
+/// a record's, or has a number of more than twelve digits. What was passed is given back to the reader ([`Records::pass`](crate::Records::pass)), so that
 /// nothing is written to the reader for each record.
 #[derive(Clone, Copy, Debug)]
 pub struct WholeRecords<'a> {
     pub(crate) lines: WholeLines<'a>,
     // The chromosome.
     pub(crate) name: &'a [u8],
+    // By which a line on it is told.
+    pub(crate) key: NameKey,
     // The start of the record before.
     pub(crate) start: u64,
     ghost named: { IsRecordName name.now },
     ghost clear: { NoLineFeed name.now },
+    ghost keyed: { HasKey name.now key },
 }
 
 /// What was passed of the records that stood whole in what a reader took ahead.
@@ -83,13 +88,13 @@ impl<'a> WholeRecords<'a> {
     }
 
     // The line of the next record: its first three columns are looked at where they stand, and the line's end is looked
-    // for behind these. There is none for another line.
+    // for behind these. There is none for another line, and for a number of more than twelve digits.
     #[inline(always)]
     fn line_ahead(&self) -> Option<RecordLine<'a>>
         ensures { IfSome result (λ line. BeginsWithLine (rest_of (lines_in self.now)) (text_in line)
             × IsLineOf (text_in line) (chrom_in self.now) line) }
     {
-        let columns = columns_on(self.lines.sight(), self.name)?;
+        let columns = columns_on(self.lines.sight(), self.name, self.key)?;
         let text = self.lines.text_behind(columns.end)?;
         Some(RecordLine {
             text,
@@ -102,7 +107,8 @@ impl<'a> WholeRecords<'a> {
     /// The line of the record that was passed last, once more.
     #[inline(always)]
     pub fn last_line(&self) -> Option<RecordLine<'a>>
-        ensures { (old : WholeRecords) (r : Feature) → GivesWhole old r self.now → IfSome result (λ line. Says line r) }
+        ensures { (old : WholeRecords) (r : Feature) (gives : GivesWhole old r self.now)
+            → IfSome result (λ line. Says line r × (text_in line ≡ gives.text)) }
     {
         direct_line_on(self.lines.last_text(), self.name)
     }

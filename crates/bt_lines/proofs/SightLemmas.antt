@@ -1,10 +1,11 @@
 -- Lemmas on what is in sight.
-use Rattle.std.proofs.Common.{◌≡◌, ℕ, ◌+◌, ◌-◌, ◌<◌, ◌≤◌, true, false, List, [], ◌∷◌, ◌++◌, length, take, drop, get_or, inl, inr, refl, sym, ap, ◌∙◌, arith, append_assoc, eqb, eq-eqb, length-append}
+use Rattle.std.proofs.Common.{◌≡◌, ℕ, ◌+◌, ◌-◌, ◌<◌, ◌≤◌, List, [], ◌∷◌, ◌++◌, length, min, take, drop, get_or, inl, inr, sym, ap, ◌∙◌, arith, append_assoc, eqb, eq-eqb, length-append, length-take}
 use Rattle.std.proofs.lemmas.Bool.{cases_lt, false≢true}
-use Rattle.std.proofs.lemmas.List.{drop-take, drop_more, get_or-take, length-drop, length-take-le, take-append-drop, take-append-le, take-take}
+use Rattle.std.proofs.lemmas.List.{drop-take, drop_more, get_or-take, get_or_default, length-drop, length-take-le, take-append-drop, take-append-le, take-take}
 use Rattle.std.proofs.Math.Seq.{get_or-append_seam, take-length}
 use Rattle.bt_lines.specs.Early.{IsEarly, NoneFrom}
-use Rattle.bt_lines.specs.Sight.{IsFed, Shows, StandsIn, sight_size}
+use Rattle.bt_lines.specs.LentLine.{NoLineFeed}
+use Rattle.bt_lines.specs.Sight.{IsFed, Shows, HasSight, sight_size}
 
 -- what stands behind a place, as a slice has it
 pub all_behind : (bytes : List ℕ) (at : ℕ) → take (length bytes - at) (drop at bytes) ≡ drop at bytes
@@ -20,7 +21,7 @@ front_behind bytes more at n same within fits =
     sym (ap (take n) behind ∙ take-take n (length bytes - at) (drop at more) (omega arith))
 
 -- what is in sight at a place of the bytes is what stands there
-pub shows_behind : (bytes more : List ℕ) (at : ℕ) → StandsIn bytes more → at ≤ length bytes → Shows (drop at bytes) (take sight_size (drop at more))
+pub shows_behind : (bytes more : List ℕ) (at : ℕ) → HasSight bytes more → at ≤ length bytes → Shows (drop at bytes) (take sight_size (drop at more))
 shows_behind bytes more at stands within =
     let room = stands.room in
     record {
@@ -34,8 +35,22 @@ shown_byte bytes sight k shows inside small =
     sym (get_or-take (k + 1) sight k 0 (omega arith)) ∙ ap (λ l. get_or l k 0) (shows.front (k + 1) (omega arith) (omega arith))
     ∙ get_or-take (k + 1) bytes k 0 (omega arith)
 
+-- a byte that isn't among the first in sight isn't among the first of the bytes
+pub none_in_sight : (bytes sight : List ℕ) (n : ℕ) → Shows bytes sight → n ≤ sight_size → NoneFrom 10 sight 0 n → NoneFrom 10 bytes 0 (min n (length bytes))
+none_in_sight bytes sight n shows small none = λ k d low high.
+    let below : k < n = omega arith in
+    let inside : k < length bytes = omega arith in
+    rw (get_or_default bytes k d 0 inside, ← shown_byte bytes sight k shows inside (omega arith)) (none k 0 low below)
+
+-- so the front of the bytes has none
+pub clear_front : (bytes sight : List ℕ) (n : ℕ) → Shows bytes sight → n ≤ sight_size → NoneFrom 10 sight 0 n → NoLineFeed (take n bytes)
+clear_front bytes sight n shows small none = λ k d inside.
+    let size = length-take n bytes in
+    let below : k < n = omega arith in
+    ap (λ b. eqb b 10) (get_or-take n bytes k d below) ∙ none_in_sight bytes sight n shows small none k d (omega arith) (omega arith)
+
 -- what stands before a line feed in sight
-pub fed_in_sight : (bytes sight : List ℕ) (at : ℕ) → Shows bytes sight → IsEarly 128 10 sight 0 at → at < length bytes → IsFed bytes (take at sight)
+pub fed_in_sight : (bytes sight : List ℕ) (at : ℕ) → Shows bytes sight → IsEarly 512 10 sight 0 at → at < length bytes → IsFed bytes (take at sight)
 fed_in_sight bytes sight at shows early inside =
     let small = early.inside in
     let whole = shows.size in
@@ -50,7 +65,7 @@ fed_in_sight bytes sight at shows early inside =
           ∙ ap (λ (n : ℕ). take at sight ++ 10 ∷ drop (n + 1) bytes) (sym size);
     }
 
-module _ (bytes sight text : List ℕ) (count : ℕ) (shows : Shows bytes sight) (most : count ≤ 96) (none : NoneFrom 10 sight 0 count) (fed : IsFed bytes text) where
+module _ (bytes sight text : List ℕ) (count : ℕ) (shows : Shows bytes sight) (most : count ≤ 448) (none : NoneFrom 10 sight 0 count) (fed : IsFed bytes text) where
   size : length text + 1 ≤ length bytes
   size = omega (arith, ap length fed.cut, length-append text (10 ∷ drop (length text + 1) bytes))
 

@@ -4,10 +4,10 @@ use Rattle.bt_lines.specs.LentLine.{NoLineFeed}
 
 -- how many bytes are in sight
 abbrev pub sight_size : ℕ
-sight_size = 128
+sight_size = 512
 
 -- more bytes begin with these, with as many behind the last as are in sight there
-pub record StandsIn (bytes more : List ℕ) : Type 0 where
+pub record HasSight (bytes more : List ℕ) : Type 0 where
   pub same : take (length bytes) more ≡ bytes
   pub room : length bytes + sight_size ≤ length more
 

@@ -33,7 +33,7 @@ pub record PassesLine (old : WholeLines) (text : List ℕ) (new : WholeLines) : 
   pub last : new.last ≡ old.at
   pub lines : new.lines ≡ old.lines + 1
 
--- a line of this text begins here, and so many bytes of it and one more, its line feed among them, are in sight
+-- a line of this text begins here, of at least so many bytes: these, and one more of the text or its line feed, are in sight
 pub record BeginsAsShown (whole : WholeLines) (count : ℕ) (text : List ℕ) : Type 0 where
   pub line : BeginsWithLine (rest_of whole) text
   pub past : count ≤ length text

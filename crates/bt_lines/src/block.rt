@@ -4,7 +4,7 @@ ghost use Rattle.std.specs.Prelude.{◌≡◌, ℕ, ◌<◌, ◌≤◌, [], leng
 ghost use Rattle.std.specs.Io.BufRead.{ends_with_byte};
 ghost use Rattle.std.specs.Io.KnownBytes.{Consumes, IsAtEnd, Keeps};
 ghost use Rattle.bt_lines.specs.Output.{block_size};
-ghost use Rattle.bt_lines.specs.Sight.{StandsIn};
+ghost use Rattle.bt_lines.specs.Sight.{HasSight};
 
 use crate::device::{DeviceFailed, Source};
 use crate::feeds::first_feed;
@@ -14,10 +14,10 @@ use crate::line::LineEnd;
 pub const BLOCK: usize = 8192;
 
 /// How many bytes are in sight at a place of a block: they are looked at without a test that so many were read.
-pub const SIGHT: usize = 128;
+pub const SIGHT: usize = 512;
 
 // A block, and as many bytes behind it as are in sight at its end.
-const WITH_SIGHT: usize = 8320;
+const WITH_SIGHT: usize = 8704;
 
 // A block has two ranges of its bytes: `start..end` was read and not yet taken, and `from..stop` is the text of
 // the line that was cut off last, before them.
@@ -64,7 +64,7 @@ impl Block {
 
     // The same, with what stands behind them, which means nothing.
     pub(crate) fn unread_and_more(&self) -> &[u8]
-        ensures { StandsIn (unread self.now) result.now }
+        ensures { HasSight (unread self.now) result.now }
     {
         &self.bytes[self.start..]
     }

@@ -1,6 +1,6 @@
 //! The line feed that ends a line.
 
-ghost use Rattle.std.specs.Prelude.{◌-◌, ◌≤◌, IfSome, length};
+ghost use Rattle.std.specs.Prelude.{◌+◌, ◌-◌, ◌≤◌, IfSome, IsNone, length};
 ghost use Rattle.bt_lines.specs.Block.{IsFirstFeed};
 ghost use Rattle.bt_lines.specs.Early.{IsEarly, NoneFrom, StandsEarly};
 
@@ -26,33 +26,48 @@ pub(crate) fn first_feed(text: &[u8]) -> Option<usize>
     if let Some(at) = early_byte(text, WIDTH, b'\n') {
         return Some(WIDTH + at);
     }
-    later_feed(text)
+    feed_past_wide(text)
 }
 
 // Where the first line feed in sight stands, if none stands among so many bytes from the first on, and it is one of the
-// thirty-two behind these.
+// sixty-four behind these.
 #[inline(always)]
 pub(crate) fn feed_behind(sight: &[u8; SIGHT], from: usize) -> Option<usize>
-    requires room { from ≤ 96 }
+    requires room { from ≤ 448 }
     requires none { NoneFrom 10 sight.now 0 from }
-    ensures { IfSome result (IsEarly 128 10 sight.now 0) }
+    ensures found { IfSome result (IsEarly 512 10 sight.now 0) }
+    ensures none { IsNone result → NoneFrom 10 sight.now 0 (from + 64) }
 {
     if sight[from] == b'\n' {
         return Some(from);
     }
-    let at = early_byte(sight, from, b'\n')?;
-    Some(from + at)
+    if let Some(at) = early_byte(sight, from, b'\n') {
+        return Some(from + at);
+    }
+    let at = early_byte(sight, from + WIDTH, b'\n')?;
+    Some(from + WIDTH + at)
 }
 
-// The same where it isn't one of the first sixty-four bytes: by as many at once.
+// Where the first line feed of a text stands, if it isn't one of the first sixty-four bytes. It stands apart, since most
+// lines end before.
 #[inline(never)]
-fn later_feed(text: &[u8]) -> Option<usize>
-    requires room { 64 ≤ length text.now }
+fn feed_past_wide(text: &[u8]) -> Option<usize>
+    requires within { 64 ≤ length text.now }
     requires none { NoneFrom 10 text.now 0 64 }
     ensures { IsFirstFeed text.now result }
 {
+    later_feed(text, WIDE)
+}
+
+// The same where it isn't one of so many bytes from the first on: by sixty-four at once.
+#[inline(always)]
+pub(crate) fn later_feed(text: &[u8], from: usize) -> Option<usize>
+    requires within { from ≤ length text.now }
+    requires none { NoneFrom 10 text.now 0 from }
+    ensures { IsFirstFeed text.now result }
+{
     let most = text.len().min(FAR);
-    let mut at = WIDE;
+    let mut at = from;
     while at + WIDE <= most {
         if let Some(length) = wide_byte(text, at, b'\n') {
             return Some(at + length);

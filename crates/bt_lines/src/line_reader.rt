@@ -7,7 +7,7 @@ ghost use Rattle.bt_lines.specs.Fault.{no_memory};
 ghost use Rattle.bt_lines.specs.Names.{told};
 ghost use Rattle.bt_lines.specs.declared.line_reader.State.TheVariants.{Reading};
 
-use crate::block::{Block, SIGHT};
+use crate::block::Block;
 use crate::device::Source;
 use crate::fault::{Fault, Input, Kind, Place};
 use crate::faults::no_memory;
@@ -155,10 +155,11 @@ impl<S: Source> LineReader<S> {
     pub fn whole_lines(&self) -> WholeLines<'_>
         ensures { fault_kept self.now ≡ None → Begins (held self.now) result }
     {
+        let more = self.block.unread_and_more();
         if self.is_going() {
-            return WholeLines::new(self.block.unread(), self.block.unread_and_more());
+            return WholeLines::new(self.block.unread(), more);
         }
-        WholeLines::new(&[], &[0; SIGHT])
+        WholeLines::new(&[], more)
     }
 
     /// Gives the lines that were passed in what [`LineReader::whole_lines`] lent, as [`LineReader::next`] does one

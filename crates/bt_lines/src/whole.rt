@@ -1,12 +1,14 @@
 //! Lines that stand whole in what a reader took ahead.
 
-ghost use Rattle.std.specs.Prelude.{◌≡◌, ◌-◌, ◌<◌, ◌≤◌, IfSome, drop, length, take};
+ghost use Rattle.std.specs.Prelude.{◌≡◌, ◌-◌, ◌<◌, ◌≤◌, IfSome, drop, length, min, take, true};
+ghost use Rattle.bt_lines.specs.LentLine.{NoLineFeed};
 ghost use Rattle.std.specs.Io.BufRead.{ends_with_byte};
 ghost use Rattle.bt_lines.specs.Early.{NoneFrom};
-ghost use Rattle.bt_lines.specs.Sight.{IsFed, StandsIn};
+ghost use Rattle.bt_lines.specs.Sight.{IsFed, Shows, HasSight};
 
 use crate::block::{SIGHT, ends_with_return};
-use crate::feeds::{feed_behind, first_feed};
+use crate::early::{WIDE, WIDTH, early_byte};
+use crate::feeds::{feed_behind, first_feed, later_feed};
 
 /// Goes over the lines that stand whole in what a reader took ahead, and end with a line feed alone. It is
 /// given back to the reader as what was passed ([`LineReader::pass`](crate::LineReader::pass)), so that nothing
@@ -22,7 +24,7 @@ pub struct WholeLines<'a> {
     pub(crate) last: usize,
     // How many lines were passed.
     pub(crate) lines: u64,
-    ghost stands: { StandsIn bytes.now more.now },
+    ghost stands: { HasSight bytes.now more.now },
     ghost within: { at ≤ length bytes.now },
     ghost a_byte_each: { lines ≤ at },
 }
@@ -46,7 +48,7 @@ impl<'a> WholeLines<'a> {
     // Those of some bytes, with which more begin.
     #[inline(always)]
     pub(crate) fn new(bytes: &'a [u8], more: &'a [u8]) -> WholeLines<'a>
-        requires { StandsIn bytes.now more.now }
+        requires { HasSight bytes.now more.now }
         ensures { Begins bytes.now result }
     {
         WholeLines {
@@ -76,7 +78,8 @@ impl<'a> WholeLines<'a> {
     /// a line's first columns are looked at without a test that the line is there.
     #[inline(always)]
     pub fn sight(&self) -> &'a [u8; SIGHT]
-        ensures { result.now ≡ sight_of self.now }
+        ensures is { result.now ≡ sight_of self.now }
+        ensures shows { Shows (rest_of self.now) result.now }
     {
         match self.more[self.at..].first_chunk::<SIGHT>() {
             Some(sight) => sight,
@@ -89,7 +92,7 @@ impl<'a> WholeLines<'a> {
     #[inline(always)]
     pub fn text_behind(&self, count: usize) -> Option<&'a [u8]>
         requires some { 0 < count }
-        requires room { count ≤ 96 }
+        requires room { count ≤ 448 }
         requires none { NoneFrom 10 (sight_of self.now) 0 count }
         ensures { IfSome result (λ text. BeginsAsShown self.now count text.now) }
     {
@@ -100,11 +103,11 @@ impl<'a> WholeLines<'a> {
         Some(text)
     }
 
-    // What stands before the next line feed, where the first bytes in sight, so many, have none. Where all of it is in
-    // sight it is lent from there, so that the loops over records need no second address.
+    // What stands before the next line feed, where the first bytes in sight, so many, have none. Where it ends in the
+    // sixty-four bytes behind these it is lent from what is in sight, so that the loops over records need no second address.
     #[inline(always)]
     fn fed_text(&self, count: usize) -> Option<&'a [u8]>
-        requires room { count ≤ 96 }
+        requires room { count ≤ 448 }
         requires none { NoneFrom 10 (sight_of self.now) 0 count }
         ensures { IfSome result (λ text. IsFed (rest_of self.now) text.now) }
     {
@@ -116,9 +119,18 @@ impl<'a> WholeLines<'a> {
                 }
                 &sight[..length]
             }
-            None => far_text(self.rest())?,
+            None => far_text(self.rest(), count + WIDE)?,
         };
         Some(text)
+    }
+
+    /// Whether none of the next bytes, so many, is a line feed. It is quick for up to thirty-two.
+    #[inline(always)]
+    pub fn is_clear(&self, count: usize) -> bool
+        requires { count ≤ 448 }
+        ensures { result ≡ true → NoLineFeed (take count (rest_of self.now)) }
+    {
+        begins_clear(self.sight(), count)
     }
 
     /// The text of the line that was passed last.
@@ -171,13 +183,38 @@ impl<'a> WholeLines<'a> {
     }
 }
 
-// What stands before the first line feed, wherever that is. The function isn't inlined, since few lines are so long.
+// What stands before the first line feed, where so many bytes have none. The function isn't inlined, since most lines end
+// before.
 #[inline(never)]
-fn far_text(bytes: &[u8]) -> Option<&[u8]>
+fn far_text(bytes: &[u8], from: usize) -> Option<&[u8]>
+    requires { NoneFrom 10 bytes.now 0 (min from (length bytes.now)) }
     ensures { IfSome result (λ text. IsFed bytes.now text.now) }
 {
-    let length = first_feed(bytes)?;
+    let length = later_feed(bytes, from.min(bytes.len()))?;
     Some(&bytes[..length])
+}
+
+// Whether none of the first bytes in sight, so many, is a line feed.
+#[inline(always)]
+fn begins_clear(sight: &[u8; SIGHT], count: usize) -> bool
+    requires { count ≤ 448 }
+    ensures { result ≡ true → NoneFrom 10 sight.now 0 count }
+{
+    if count > WIDTH {
+        return has_no_feed(&sight[..count]);
+    }
+    match early_byte(sight, 0, b'\n') {
+        None => true,
+        Some(at) => count <= at,
+    }
+}
+
+// Whether no byte is a line feed. It stands apart, since few names are so long that it is asked.
+#[inline(never)]
+fn has_no_feed(bytes: &[u8]) -> bool
+    ensures { result ≡ true → NoLineFeed bytes.now }
+{
+    first_feed(bytes).is_none()
 }
 
 // Whether a carriage return ends a text that isn't empty.

@@ -1,6 +1,6 @@
 -- Lemmas on records that are passed one after another: of the first input while nothing is held, and of the second
 -- before the current one of the first.
-use Rattle.std.proofs.Common.{◌≡◌, ℕ, ◌<◌, ◌≤◌, ◌&&◌, ◌||◌, Bool, true, false, cond, List, [], ◌∷◌, ◌++◌, length, Option, Some, None, Ok, inl, inr, refl, sym, ap, ◌∙◌, subst, arith, append-nil, bytes_eq, filter, length-append, ltb, not}
+use Rattle.std.proofs.Common.{◌≡◌, ℕ, ◌<◌, ◌≤◌, ◌&&◌, ◌||◌, Bool, true, false, cond, List, [], ◌∷◌, ◌++◌, length, Option, Some, None, Ok, inl, inr, refl, sym, ap, ◌∙◌, subst, arith, append-nil, bytes_eq, filter, length-append, ltb, not, IfSome}
 use Rattle.std.specs.Prelude.{IsTrue}
 use Rattle.std.proofs.Math.Bool.{and-false}
 use Rattle.std.proofs.lemmas.Bool.{false≢true, le-ltb, lt-ltb}
@@ -20,7 +20,7 @@ use Rattle.bt_sweep.specs.Deciding.{decides}
 use Rattle.bt_sweep.specs.IntersectLines.{lines_for, lines_of}
 use Rattle.bt_sweep.specs.Passing.{PassesFirst, PassesFirsts, PassesSecond, PassesSeconds, TakesFirsts}
 use Rattle.bt_sweep.specs.Standing.{IsInOrder, Stage, StandsAt, last_after, with_a}
-use Rattle.bt_bed.specs.RecordLine.{Says}
+use Rattle.bt_bed.specs.RecordLine.{IsAsWritten, Says, text_in}
 use Rattle.bt_bed.specs.WholeRecords.{GivesLine}
 use Rattle.bt_bed.specs.declared.record_line.RecordLine.{RecordLine}
 use Rattle.bt_bed.proofs.BoundLines.{written_more}
@@ -33,6 +33,7 @@ use Rattle.bt_sweep.specs.StateSteps.{TakesA, held_with, holding, is_held_by, mo
 use Rattle.bt_sweep.specs.Steps.{GivesA}
 use Rattle.bt_sweep.specs.SweepState.{Sweeping, want_in}
 use Rattle.bt_sweep.specs.declared.hit_rule.HitRule.{HitRule}
+use Rattle.bt_sweep.specs.declared.whole_front.WholeFront.{WholeFront}
 use Rattle.bt_sweep.specs.declared.shape.Shape.{Shape}
 use Rattle.bt_sweep.specs.declared.want.Want.TheVariants.{A}
 use Rattle.bt_sweep.proofs.UnhitLemmas.{is_unhit, none_of_all, puts_first, puts_no_more, puts_none}
@@ -47,6 +48,13 @@ end_more stop (a ∷ more) r end within = (end.0, end_more stop more r end.1 wit
 -- it has none
 pub front_first : (stop : ℕ) (is_written : Bool) (old : WholeRecords) (line : RecordLine) (behind : WholeRecords) (r : Feature) → GivesLine old line r behind → IsFront stop is_written old line behind
 front_first stop is_written old line behind r gives = record { before = []; mid = old; next = r; given = refl; gives = gives; end = tt; written = λ e. refl }
+
+-- a walk that may go on has come to the next record, if there is one
+pub goes_further : (stop : ℕ) (is_written : Bool) (old : RecordLine) (before : WholeRecords) (found : Option WholeFront) → ((r : Feature) → Says old r → r.stop ≤ stop)
+    → (is_written ≡ true → IsAsWritten (text_in old)) → IfSome found (λ front. (r : Feature) × GivesLine before front.next r front.behind)
+    → IfSome found (λ further. GoesFurther stop is_written old before further.next further.behind)
+goes_further stop is_written old before None within written given = tt
+goes_further stop is_written old before (Some front) within written given = record { within = within; written = written; next = given.0; gives = given.1 }
 
 -- it has one more
 pub front_more : (stop : ℕ) (is_written : Bool) (old : WholeRecords) (line : RecordLine) (mid : WholeRecords) (next : RecordLine) (behind : WholeRecords) → IsFront stop is_written old line mid → GoesFurther stop is_written line mid next behind

@@ -115,7 +115,7 @@ fn records_are_passed_up_to_a_line_with_a_carriage_return(rt: HostRuntime) -> Re
 // Two lines, and the bounds of the record of the second one, if it stands whole behind that of the first.
 type Pair = (&'static [u8], Option<(u64, u64)>);
 
-const PAIRS: [Pair; 21] = [
+const PAIRS: [Pair; 27] = [
     (b"chr1\t1\t5\nchr1\t7\t8\n", Some((7, 8))),
     (
         b"chr1\t1\t5\nchr1\t1234567\t12345678\tn\n",
@@ -142,6 +142,12 @@ const PAIRS: [Pair; 21] = [
         b"chr1\t1\t5\nchr1\t7\t8\t0123456789abcdefghijklmnopqrstuvwxyz0123456789abcdefghijklmnopqrstuvwxyz0123456789abcdefghijklmnopqrstuvwxyz0123456789abcdefghijklmnopqrstuvwxyz\n",
         Some((7, 8)),
     ),
+    (b"1\t1\t5\n1\t7\t8\n", Some((7, 8))),
+    (b"chr\t1\t5\nchr\t7\t8\n", Some((7, 8))),
+    (b"chr1_ab\t1\t5\nchr1_ab\t7\t8\n", Some((7, 8))),
+    (b"chr1_abc\t1\t5\nchr1_abc\t7\t8\n", Some((7, 8))),
+    (b"chr1_abcd\t1\t5\nchr1_abcd\t7\t8\n", Some((7, 8))),
+    (b"chr1\t1\t5\nchr2\t7\t8\n", None),
     (b"chr1\t1\t5\nchr1\t7\t8", None),
     (b"chr1\t1\t5\nchr1\t7\t8\r\n", None),
     (b"chr1\t1\t5\nchr1\t7\t8 \n", None),

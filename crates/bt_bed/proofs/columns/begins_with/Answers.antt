@@ -1,9 +1,8 @@
-use Rattle.std.proofs.Common.{◌<◌, ◌∙◌, arith, length, sym}
-use Rattle.bt_bed.proofs.FirstColumnLemmas.{name_in_front}
+use Rattle.bt_bed.proofs.NameKeyLemmas.{front_begins}
 use Rattle.bt_bed.proofs.columns.begins_with.Goals as goal
 
-pub returns-then-sight-end-eq9 : goal.returns-then-sight-end-eq9
-returns-then-sight-end-eq9 c = λ same.
-    let sight = c.args.sight.now in
-    let within : length c.args.name.now < length sight = omega arith in
-    name_in_front sight c.args.name.now within c.if-sight-end-eq9.true (sym c.is_same_name.ensures ∙ same)
+pub returns-then-name-le-LONGEST_KEYED-clause-named : goal.returns-then-name-le-LONGEST_KEYED-clause-named
+returns-then-name-le-LONGEST_KEYED-clause-named c = λ same.
+    let name = c.args.name.now in
+    let short = c.if-name-le-LONGEST_KEYED.true in
+    front_begins c.args.sight.now c.word_at.result.now name c.word_at.ensures short (c.begins.ensures name (c.requires short) same)

@@ -1,4 +1,4 @@
-use Rattle.std.proofs.Common.{◌≤◌, ◌-◌, arith, drop, length, length-drop}
+use Rattle.std.proofs.Common.{◌≤◌, arith, drop, length, length-drop}
 use Rattle.bt_bed.proofs.ColumnsLemmas.{few_begin}
 use Rattle.bt_bed.proofs.columns.number_at.Goals as goal
 

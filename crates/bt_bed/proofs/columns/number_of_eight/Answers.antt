@@ -1,12 +1,12 @@
-use Rattle.std.proofs.Common.{◌≡◌, ◌+◌, ◌-◌, ◌≤◌, ◌<◌, ◌∙◌, ap, arith, drop, get_or, length, length-drop, sym, true}
+use Rattle.std.proofs.Common.{◌≡◌, ◌+◌, ◌≤◌, ◌<◌, ◌∙◌, ap, arith, drop, get_or, length, length-drop, sym, true}
 use Rattle.std.proofs.lemmas.List.{get_or-drop}
 use Rattle.std.specs.Char.{is_ascii_digit}
 use Rattle.bt_bed.proofs.ColumnsLemmas.{eight_begin, eight_small, one_more}
 use Rattle.bt_bed.proofs.FirstColumnLemmas.{digit_bound}
 use Rattle.bt_bed.proofs.columns.number_of_eight.Goals as goal
 
-pub returns-then-ends_column : goal.returns-then-ends_column
-returns-then-ends_column c =
+pub returns-then-is_column_end : goal.returns-then-is_column_end
+returns-then-is_column_end c =
     let text = drop c.args.at c.args.sight.now in
     let room : 8 ≤ length text = omega (arith, length-drop c.args.at c.args.sight.now) in
     eight_begin text c.args.value room c.requires.value
@@ -27,8 +27,8 @@ overflow_add-result c =
     let low = digit_bound (get_or c.args.sight.now (c.args.at + 8) 0) digit in
     omega (arith, c.from.ensures)
 
-pub returns-then-ends_column-2 : goal.returns-then-ends_column-2
-returns-then-ends_column-2 c =
+pub returns-then-is_column_end-2 : goal.returns-then-is_column_end-2
+returns-then-is_column_end-2 c =
     let sight = c.args.sight.now in
     let text = drop c.args.at sight in
     let room : 8 < length text = omega (arith, length-drop c.args.at sight) in

@@ -1,4 +1,4 @@
-use Rattle.std.proofs.Common.{◌≤◌, ◌-◌, arith, drop, length, length-drop, List, ℕ, subst, sym}
+use Rattle.std.proofs.Common.{◌≤◌, arith, drop, length, length-drop, List, ℕ, subst, sym}
 use Rattle.bt_bed.specs.FirstColumns.{BeginsWith}
 use Rattle.bt_bed.proofs.ColumnsLemmas.{eight_begin}
 use Rattle.bt_bed.proofs.columns.number_of_more.Goals as goal

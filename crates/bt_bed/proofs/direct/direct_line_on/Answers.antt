@@ -1,5 +1,5 @@
 use Rattle.bt_bed.proofs.BoundLines.{line_of}
-use Rattle.bt_bed.proofs.FirstColumnLemmas.{front_is_name, name_ends, named_is_no_header}
+use Rattle.bt_bed.proofs.FirstColumnLemmas.{front_is_name}
 use Rattle.bt_bed.proofs.direct.direct_line_on.Goals as goal
 
 pub returns : goal.returns

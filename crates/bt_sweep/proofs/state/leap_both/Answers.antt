@@ -36,7 +36,7 @@ returns-clause-moves c = λ told.
     let was : c.args.last.now ≡ Some first = c.in-Some.is ∙ ap Some (sym c.as_bed-last.ensures) in
     let some = leapt_some first c.args.firsts.now c.args.seconds.now found.start found.stop found.firsts found.seconds leap
     (λ same. c.if-bytes_passed.false (c.bytes_passed.ensures ∙ same ∙ sym c.bytes_passed-2.ensures)) in
-    let says = c.in-Some-last_line.ensures some.0 (last_leapt first leap.rounds) some.1 in
+    let says = (c.in-Some-last_line.ensures some.0 (last_leapt first leap.rounds) some.1).0 in
     let copied = c.bed.ensures in
     let kept = on_ok_of c.replace.result (sym c.if-is_err.ensures.value) c.replace.ensures.replaced in
     let last : feature_lent c.bed.result ≡ last_leapt first leap.rounds = let e = says.is in let f = copied.is in cc in

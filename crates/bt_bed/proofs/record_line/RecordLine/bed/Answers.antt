@@ -1,9 +1,8 @@
-use Rattle.std.proofs.Common.{◌∙◌, ap, subst, sym}
-use Rattle.bt_bed.specs.Feature.{Feature}
+use Rattle.std.proofs.Common.{◌∙◌, ap, sym}
 use Rattle.bt_bed.specs.Record.{columns_in, strand_of}
 use Rattle.bt_bed.specs.RecordLine.{text_in}
 use Rattle.bt_bed.proofs.FeatureLemmas.{columns_say_feature}
-use Rattle.bt_bed.proofs.FirstColumnLemmas.{bounds_say, bounds_within, direct_feature_is}
+use Rattle.bt_bed.proofs.FirstColumnLemmas.{bounds_say, direct_feature_is}
 use Rattle.bt_bed.proofs.record_line.RecordLine.bed.Goals as goal
 
 pub invariant_of-result : goal.invariant_of-result

@@ -1,5 +1,4 @@
-use Rattle.std.proofs.Common.{◌≡◌, ℕ, List, ◌++◌, length}
-use Rattle.bt_lines.specs.Whole.{AreLines, ended_by}
+use Rattle.std.proofs.Common.{length}
 use Rattle.bt_lines.proofs.HeldLines.{HoldsSome}
 use Rattle.bt_lines.proofs.held_back.HeldBack.append_each.Given as goal
 

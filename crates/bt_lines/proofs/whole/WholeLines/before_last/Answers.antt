@@ -1,6 +1,5 @@
-use Rattle.std.proofs.Common.{◌≡◌, ◌-◌, ◌≤◌, ◌∙◌, ap, arith, length, drop, subst, sym, take}
+use Rattle.std.proofs.Common.{◌≡◌, ◌-◌, ◌∙◌, ap, arith, length, drop, subst, sym, take}
 use Rattle.bt_lines.specs.Whole.{AreLines}
-use Rattle.bt_lines.specs.declared.whole.WholeLines.{WholeLines}
 use Rattle.bt_lines.proofs.HeldLines.{lines_between}
 use Rattle.bt_lines.proofs.WholeLemmas.{same_bytes}
 use Rattle.bt_lines.proofs.whole.WholeLines.before_last.Goals as goal
