@@ -14,8 +14,8 @@ use bt_lines::{PassedLines, WholeLines};
 
 /// Goes over the records that stand whole in what a reader took ahead, on the chromosome of the record that it
 /// passed last, in order, on lines that end with a line feed alone. It ends before the first line that isn't such
-/// a record's, or has a number of more than twelve digits. What was passed is given back to the reader ([`Records::pass`](crate::Records::pass)), so that
-/// nothing is written to the reader for each record.
+/// a record's, or has a number of more than twelve digits. What was passed is given back to the reader
+/// ([`Records::pass`](crate::Records::pass)), so that nothing is written to the reader for each record.
 #[derive(Clone, Copy, Debug)]
 pub struct WholeRecords<'a> {
     pub(crate) lines: WholeLines<'a>,

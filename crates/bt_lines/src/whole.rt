@@ -88,7 +88,7 @@ impl<'a> WholeLines<'a> {
     }
 
     /// The text of the next line as [`WholeLines::text`] gives it, where the first bytes in sight, so many, have no line
-    /// feed: the line's end is looked for behind them.
+    /// feed: the line's end is looked for behind them. They are at most 448, so that the sixty-four behind them are in sight.
     #[inline(always)]
     pub fn text_behind(&self, count: usize) -> Option<&'a [u8]>
         requires some { 0 < count }

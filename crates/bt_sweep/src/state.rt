@@ -493,8 +493,8 @@ fn put_last<H: Held, K: Sink>(
 }
 
 // Goes over both inputs from the last record on, keeps the one of the first that waits then, and answers whether that is
-// another one. Where it answers `None` it passes none, as where memory runs out, there is no last record, or the records lie on
-// another chromosome than it.
+// another one. Where it answers `None` it passes none, as where memory runs out, there is no last record, or the records
+// lie on another chromosome than it.
 fn leap_both(
     alloc: Global,
     last: &Option<Rec>,
