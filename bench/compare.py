@@ -58,6 +58,8 @@ TRACEME, CONTINUE, SETOPTIONS, STOP_AT_EVENTS = 0, 7, 0x4200, 0x50
 AT_EXIT = 6
 # How much more memory, in kilobytes, a ten times longer input may show: what the system adds to any program.
 SLACK = 1024
+# So many records are timed, where no other number is asked for.
+TIMED = 5_000_000
 # So many records are enough to count instructions: they repeat.
 COUNTED = 100_000
 # The instructions a record that are to be kept to, and by which part they may differ.
@@ -102,8 +104,8 @@ class Features:
     longest: int
     columns: int
 
-    def write(self, path, count, seed):
-        write_features(path, count // self.each, self, seed)
+    def write(self, path, count, seed, part=1.0):
+        write_features(path, count // self.each, self, seed, part, 1 - part)
 
 
 @dataclass
@@ -120,17 +122,20 @@ class Behind(OneInput):
 
 @dataclass
 class Pair(TwoInputs):
-    """Records of two kinds, as two inputs."""
+    """Records of two kinds, as two inputs: on whole chromosomes, or as close to one another as so many records that are
+    timed, whatever the size asked for."""
 
     first: Features
     second: Features
+    is_close: bool = False
 
     def name(self):
-        return f"{self.first.word} and {self.second.word}"
+        return f"{'close ' if self.is_close else ''}{self.first.word} and {self.second.word}"
 
     def write(self, folder, count):
-        self.first.write(folder / "records.bed", count, 1)
-        self.second.write(folder / "second.bed", count, 2)
+        part = min(1.0, count / TIMED) if self.is_close else 1.0
+        self.first.write(folder / "records.bed", count, 1, part)
+        self.second.write(folder / "second.bed", count, 2, part)
 
 
 @dataclass
@@ -339,6 +344,14 @@ WORKLOADS = [
     Workload(["maskfasta"], Sequences("no", 1_000_000_000_000), (), None, None, 0.3, False, counted=OURS, output_option="-fo"),
 ]
 
+# What is counted alone: of fewer records on whole chromosomes almost none share a base, so that these lie as close as those
+# that are timed.
+COUNTED_WORKLOADS = [
+    Workload([*command, *shape], Pair(*kinds, True), BOTH, None, None, None, False, counted=OURS)
+    for kinds in ((READS, EXONS), (EXONS, PEAKS), (PEAKS, REPEATS))
+    for command, shape in ((["intersect", "-sorted"], []), (["intersect", "-sorted"], ["-v"]), (["subtract"], []))
+]
+
 
 @dataclass
 class Run:
@@ -390,14 +403,15 @@ def write_records(path, count, columns, seed):
                 stop = start + numbers.randrange(1, mean)
 
 
-def write_features(path, count, features, seed, part=1.0):
-    """Writes about `count` records at random places in the first part of each chromosome, in order."""
+def write_features(path, count, features, seed, part=1.0, begin=0.0):
+    """Writes about `count` records at random places in a part of each chromosome, from another part of it on, in order."""
     numbers = random.Random(seed)
     total = sum(LENGTHS)
     with open(path, "w", encoding="ascii") as records:
         for name, length in zip(NAMES, LENGTHS):
-            last = int(length * 1_000_000 * part) - features.longest
-            for start in sorted(numbers.randrange(last) for _ in range(count * length // total)):
+            first = int(length * 1_000_000 * begin)
+            last = first + int(length * 1_000_000 * part) - features.longest
+            for start in sorted(numbers.randrange(first, last) for _ in range(count * length // total)):
                 stop = start + numbers.randrange(features.shortest, features.longest)
                 records.write(f"{name}\t{start}\t{stop}{further_columns(numbers, features.columns, start, stop)}\n")
 
@@ -441,12 +455,12 @@ def time_run(run, output):
     """Runs a program, and keeps its least processor time in seconds and its highest peak memory in kilobytes."""
     with open(run.source or os.devnull, "rb") as source, open(output, "wb") as out:
         process = subprocess.Popen(run.words_into(output), stdin=source, stdout=out, preexec_fn=lambda: trace(TRACEME, 0))
-    kilobytes, status, usage = ended(process.pid)
+    kilobytes, status, seconds = ended(process.pid)
     run.kilobytes = max(run.kilobytes, kilobytes)
     process.returncode = os.waitstatus_to_exitcode(status)
     if process.returncode != 0:
         sys.exit(f"{' '.join(run.words_into(output))}: status {process.returncode}")
-    run.seconds = min(run.seconds, usage.ru_utime + usage.ru_stime)
+    run.seconds = min(run.seconds, seconds)
 
 
 def trace(request, process, data=0):
@@ -457,21 +471,29 @@ def trace(request, process, data=0):
 
 def ended(process):
     """Waits for a traced process, which stands at its first instruction. Answers its peak memory in kilobytes, its
-    status and what it used. What the system keeps of an ended process counts its parent's memory too, so the
-    peak is read where the process is about to end."""
+    status and its processor time in seconds. What the system keeps of an ended process counts its parent's memory
+    too, so the peak is read where the process is about to end; and the time that it took before its first
+    instruction is that of copying this process, so it isn't counted."""
     os.waitpid(process, 0)
+    before = time_so_far(process)
     trace(SETOPTIONS, process, STOP_AT_EVENTS)
     peak = given_on = 0
     while True:
         trace(CONTINUE, process, given_on)
         _, status, usage = os.wait4(process, 0)
         if not os.WIFSTOPPED(status):
-            return peak, status, usage
+            return peak, status, usage.ru_utime + usage.ru_stime - before
         # A signal is given on to the process, an event isn't one.
         event = status >> 16
         given_on = 0 if event else os.WSTOPSIG(status)
         if event == AT_EXIT:
             peak = peak_of(process)
+
+
+def time_so_far(process):
+    """The processor time of a process so far in seconds, where the system keeps it (proc(5), schedstat), and else none."""
+    kept = Path(f"/proc/{process}/schedstat")
+    return int(kept.read_text(encoding="ascii").split()[0]) / 1e9 if kept.exists() else 0
 
 
 def peak_of(process):
@@ -572,14 +594,14 @@ def stored_instructions():
 def store_instructions(counts):
     """Stores the instructions a record of each workload, in the order of the workloads."""
     head = "# Instructions a record, which bench/compare.py --check keeps to, and writes anew with --store.\n"
-    names = [workload.name() for workload in WORKLOADS if workload.name() in counts]
+    names = [workload.name() for workload in (*WORKLOADS, *COUNTED_WORKLOADS) if workload.name() in counts]
     STORED.write_text(head + "".join(f"{counts[name]:9.1f}  {name}\n" for name in names), encoding="ascii")
 
 
 def checked_instructions(valgrind, only):
     """Counts this program's instructions a record of each workload, and yields its name with them."""
     with tempfile.TemporaryDirectory() as folder:
-        for workload in (it for it in WORKLOADS if only in it.name() and it.counts("dunekettle")):
+        for workload in (it for it in (*WORKLOADS, *COUNTED_WORKLOADS) if only in it.name() and it.counts("dunekettle")):
             place = prepared(workload, Path(folder), COUNTED)
             run = runs_of(workload, NO_OTHERS, place)[0]
             yield workload.name(), instructions_of(valgrind, run) / lines_of(place / "records.bed")
@@ -609,7 +631,7 @@ def check(valgrind, only, is_stored):
 
 def main():
     parser = argparse.ArgumentParser(description=__doc__.splitlines()[0])
-    parser.add_argument("records", nargs="?", type=int, default=5_000_000)
+    parser.add_argument("records", nargs="?", type=int, default=TIMED)
     parser.add_argument("--only", metavar="WORDS", default="")
     parser.add_argument("--times", metavar="N", type=int, default=1)
     parser.add_argument("--discard", action="store_true")
@@ -656,6 +678,8 @@ def compare_all(asked, valgrind):
                 count_instructions(valgrind, workload, others, folder)
             if workload.is_drawn:
                 rows.append((workload.name(), large))
+        for workload in (it for it in COUNTED_WORKLOADS if valgrind and asked.only in it.name()):
+            count_instructions(valgrind, workload, others, folder)
     if asked.chart:
         write_rows(Path(asked.chart).with_suffix(".txt"), rows)
         Path(asked.chart).write_text(draw(rows), encoding="utf-8")

@@ -1,5 +1,5 @@
 -- Records that an engine took one after another, and what it has written and become with all of them.
-use Rattle.std.proofs.Common.{◌≡◌, ℕ, ◌+◌, ◌<◌, suc, List, [], ◌∷◌, ◌++◌, length, drop, Option, Ok, Err, refl, sym, ap, subst, ◌∙◌, arith, append_assoc, append-nil, length-append, length-drop}
+use Rattle.std.proofs.Common.{◌≡◌, ℕ, List, [], ◌∷◌, ◌++◌, Option, Ok, Err, refl, sym, ap, subst, ◌∙◌, append_assoc, append-nil}
 use Rattle.std.proofs.KnownBytes.{Appends-trans, Appends-nil}
 use Rattle.bt_lines.specs.Fault.{Told}
 use Rattle.bt_lines.specs.Output.{Grows, Output}
@@ -8,7 +8,7 @@ use Rattle.bt_lines.specs.declared.fault.Fault.{Fault}
 use Rattle.bt_lines.proofs.OutputLemmas.{grows_both}
 use Rattle.bt_lines.proofs.PuttingLemmas.{grows_nothing}
 use Rattle.bt_bed.specs.Feature.{Feature}
-use Rattle.bt_bed.specs.WholeRecords.{GivesWhole, GivesWholes}
+use Rattle.bt_bed.specs.WholeRecords.{GivesWhole}
 pub use Rattle.bt_bed.proofs.WholesGiven.{bytes_ahead, gives_more, record_shrinks}
 use Rattle.bt_bed.specs.declared.whole_records.WholeRecords.{WholeRecords}
 use Rattle.bt_runs.specs.Engine.{FailsAtGiven, Feeds, TakesEach, TakesGiven}

@@ -1,6 +1,6 @@
 -- Ends in ascending order, and how many of the ends pass a test.
-use Rattle.std.proofs.Common.{◌≡◌, ℕ, ◌+◌, ◌-◌, ◌<◌, ◌≤◌, zero, suc, List, [], ◌∷◌, ◌++◌, refl, sym, ap, ap₂, ◌∙◌, arith, All, Bool, append_assoc, filter, length, nat_le, ◌&&◌, length-append, drop, get_or, subst, inl, inr, Option, Some, None, option_to_list, append-nil}
-use Rattle.std.proofs.lemmas.Bool.{cases_Bool, lt-leb}
+use Rattle.std.proofs.Common.{◌≡◌, ℕ, ◌+◌, ◌-◌, ◌<◌, ◌≤◌, zero, suc, List, [], ◌∷◌, ◌++◌, sym, ap, ap₂, ◌∙◌, arith, All, Bool, append_assoc, filter, length, nat_le, ◌&&◌, length-append, drop, get_or, subst, Option, Some, None, option_to_list, append-nil}
+use Rattle.std.proofs.lemmas.Bool.{lt-leb}
 use Rattle.std.proofs.lemmas.List.{drop-append-le, drop-drop, get_or-drop, get_or_default, length-drop}
 use Rattle.std.proofs.lemmas.List.Elements.{All-cons, All-drop, All-get_or, All-head, All-nil, All-push, All-tail, All-weaker, filter-append}
 use Rattle.bt_runs.specs.OpenEnds.{CountsFrom, CountsSame, IsAscending}

@@ -1,5 +1,5 @@
 -- Where the last run of each strand stands, as runs are added, joined and taken off, and what is written of those that a record passes.
-use Rattle.std.proofs.Common.{◌≡◌, ℕ, ◌<◌, ◌≤◌, List, [], ◌∷◌, ◌++◌, refl, sym, ap, ◌∙◌, subst, cond, get_or, length, set, arith, Bool, true, false, nat_lt, lt-ltb, le-ltb, Option, Some, None, zero, suc, ◌⊎◌, inl, inr, append_assoc, append-nil, not, ◌||◌, drop, Result, Err}
+use Rattle.std.proofs.Common.{◌≡◌, ℕ, ◌<◌, ◌≤◌, List, [], ◌∷◌, ◌++◌, refl, sym, ap, ◌∙◌, cond, get_or, length, set, arith, Bool, true, false, nat_lt, lt-ltb, le-ltb, Option, Some, None, zero, suc, ◌⊎◌, inl, inr, append_assoc, append-nil, not, ◌||◌, drop, Result, Err}
 use Rattle.std.specs.List.{slice_get}
 use Rattle.std.proofs.lemmas.Bool.{cond-true, cond-false, not_from_false, not_from_true, or_from, or_left, or_right}
 use Rattle.std.proofs.lemmas.List.{set-get_or, map-append}
@@ -9,7 +9,7 @@ use Rattle.bt_bed.specs.declared.strand.Strand.{Strand}
 use Rattle.bt_bed.specs.declared.strand.Strand.TheVariants.{Plus, Minus, Dot}
 use Rattle.bt_bed.specs.Strands.{is_strand}
 use Rattle.bt_runs.specs.StrandStep.{last_place, place_among}
-use Rattle.bt_runs.specs.Waiting.{ArePlaces, joined_here, lengthened, with_joined, left_runs, passed_runs, placed_run, placed_runs}
+use Rattle.bt_runs.specs.Waiting.{count_up_to, count_up_to_last, counts_up_to_last, slot_of, joined_here, lengthened, with_joined, left_runs, passed_runs, placed_run, placed_runs}
 use Rattle.bt_runs.specs.declared.waiting.Waiting.{Waiting}
 use Rattle.bt_lines.specs.Output.{Output}
 use Rattle.bt_lines.specs.Putting.{Adds, Grown, Puts}
@@ -44,26 +44,18 @@ module _ {A : Type 0} (test : A → Bool) where
   last_place_within [] i e = absurd (cc)
   last_place_within (x ∷ xs) i e = among_within (test x) (last_place test xs) i (length xs) (λ j is. last_place_within xs j is) e
 
-pub added_plus : (runs : List Waiting) (run : Waiting) (plus minus dot : Option ℕ) → ArePlaces runs plus minus dot → run.strand ≡ Plus → ArePlaces (runs ++ run ∷ []) (Some (length runs)) minus dot
-added_plus runs run plus minus dot p e = record {
-  plus_is = sym (last_place_pushed (λ (w : Waiting). is_strand w.strand Plus) runs run (ap (λ s. is_strand s Plus) e));
-  minus_is = p.minus_is ∙ sym (last_place_other (λ (w : Waiting). is_strand w.strand Minus) runs run (ap (λ s. is_strand s Minus) e));
-  dot_is = p.dot_is ∙ sym (last_place_other (λ (w : Waiting). is_strand w.strand Dot) runs run (ap (λ s. is_strand s Dot) e));
-}
+-- the count of a strand with one more run, of the strand or of another
+counted_so : (strand : Strand) (runs : List Waiting) (run : Waiting) → is_strand run.strand strand ≡ true → count_up_to_last strand (runs ++ run ∷ []) ≡ suc (length runs)
+counted_so strand runs run t = ap count_up_to (last_place_pushed (λ (w : Waiting). is_strand w.strand strand) runs run t)
 
-pub added_minus : (runs : List Waiting) (run : Waiting) (plus minus dot : Option ℕ) → ArePlaces runs plus minus dot → run.strand ≡ Minus → ArePlaces (runs ++ run ∷ []) plus (Some (length runs)) dot
-added_minus runs run plus minus dot p e = record {
-  plus_is = p.plus_is ∙ sym (last_place_other (λ (w : Waiting). is_strand w.strand Plus) runs run (ap (λ s. is_strand s Plus) e));
-  minus_is = sym (last_place_pushed (λ (w : Waiting). is_strand w.strand Minus) runs run (ap (λ s. is_strand s Minus) e));
-  dot_is = p.dot_is ∙ sym (last_place_other (λ (w : Waiting). is_strand w.strand Dot) runs run (ap (λ s. is_strand s Dot) e));
-}
+counted_not : (strand : Strand) (runs : List Waiting) (run : Waiting) → is_strand run.strand strand ≡ false → count_up_to_last strand (runs ++ run ∷ []) ≡ count_up_to_last strand runs
+counted_not strand runs run f = ap count_up_to (last_place_other (λ (w : Waiting). is_strand w.strand strand) runs run f)
 
-pub added_dot : (runs : List Waiting) (run : Waiting) (plus minus dot : Option ℕ) → ArePlaces runs plus minus dot → run.strand ≡ Dot → ArePlaces (runs ++ run ∷ []) plus minus (Some (length runs))
-added_dot runs run plus minus dot p e = record {
-  plus_is = p.plus_is ∙ sym (last_place_other (λ (w : Waiting). is_strand w.strand Plus) runs run (ap (λ s. is_strand s Plus) e));
-  minus_is = p.minus_is ∙ sym (last_place_other (λ (w : Waiting). is_strand w.strand Minus) runs run (ap (λ s. is_strand s Minus) e));
-  dot_is = sym (last_place_pushed (λ (w : Waiting). is_strand w.strand Dot) runs run (ap (λ s. is_strand s Dot) e));
-}
+-- the counts with one more run
+pub added_counts : (runs : List Waiting) (run : Waiting) (strand : Strand) → run.strand ≡ strand → set (counts_up_to_last runs) (slot_of strand) (suc (length runs)) ≡ counts_up_to_last (runs ++ run ∷ [])
+added_counts runs run Plus e = rw (counted_so Plus runs run (ap (λ s. is_strand s Plus) e), counted_not Minus runs run (ap (λ s. is_strand s Minus) e), counted_not Dot runs run (ap (λ s. is_strand s Dot) e)) refl
+added_counts runs run Minus e = rw (counted_not Plus runs run (ap (λ s. is_strand s Plus) e), counted_so Minus runs run (ap (λ s. is_strand s Minus) e), counted_not Dot runs run (ap (λ s. is_strand s Dot) e)) refl
+added_counts runs run Dot e = rw (counted_not Plus runs run (ap (λ s. is_strand s Plus) e), counted_not Minus runs run (ap (λ s. is_strand s Minus) e), counted_so Dot runs run (ap (λ s. is_strand s Dot) e)) refl
 
 -- a record that is joined to the run at a place, or isn't
 pub joined_not : (runs : List Waiting) (place reach stop : ℕ) (run : Waiting) → place < length runs → run ≡ get_or runs place run → run.stop < reach
@@ -79,25 +71,25 @@ joined_so runs place reach stop run within is near =
     sym (ap (joined_here reach stop runs place) (slice_get_read runs (length runs) place run refl within is)
     ∙ cond-false (nat_lt run.stop reach) (false, runs) (true, set runs place (lengthened stop run)) (le-ltb run.stop reach near))
 
--- the places stay
-set_places : (runs : List Waiting) (place stop : ℕ) (run : Waiting) (plus minus dot : Option ℕ) → slice_get runs place ≡ Some run → ArePlaces runs plus minus dot → ArePlaces (set runs place (lengthened stop run)) plus minus dot
-set_places runs place stop run plus minus dot got p =
+-- the counts stay
+set_counts : (runs : List Waiting) (place stop : ℕ) (run : Waiting) → slice_get runs place ≡ Some run → counts_up_to_last (set runs place (lengthened stop run)) ≡ counts_up_to_last runs
+set_counts runs place stop run got =
     let within = slice_get_within runs place run got in
     let is = sym (get_or_from_slice_get runs place run run got) in
-    let stays = λ (s : Strand). last_place_set (λ (w : Waiting). is_strand w.strand s) runs place (lengthened stop run) run within (ap (λ (w : Waiting). is_strand w.strand s) is) in
-    record { plus_is = p.plus_is ∙ sym (stays Plus); minus_is = p.minus_is ∙ sym (stays Minus); dot_is = p.dot_is ∙ sym (stays Dot) }
+    let stays = λ (s : Strand). ap count_up_to (last_place_set (λ (w : Waiting). is_strand w.strand s) runs place (lengthened stop run) run within (ap (λ (w : Waiting). is_strand w.strand s) is)) in
+    rw (stays Plus, stays Minus, stays Dot) refl
 
-here_places : (reach stop : ℕ) (runs : List Waiting) (place : ℕ) (plus minus dot : Option ℕ) (got : Option Waiting) → slice_get runs place ≡ got → ArePlaces runs plus minus dot → ArePlaces (joined_here reach stop runs place got).1 plus minus dot
-here_places reach stop runs place plus minus dot None is p = p
-here_places reach stop runs place plus minus dot (Some run) is p =
-    elim (nat_lt run.stop reach) as (λ b. ArePlaces (cond {A = Bool × List Waiting} b (false, runs) (true, set runs place (lengthened stop run))).1 plus minus dot) [
-      | true ↦ p
-      | false ↦ set_places runs place stop run plus minus dot is p
+here_counts : (reach stop : ℕ) (runs : List Waiting) (place : ℕ) (got : Option Waiting) → slice_get runs place ≡ got → counts_up_to_last (joined_here reach stop runs place got).1 ≡ counts_up_to_last runs
+here_counts reach stop runs place None is = refl
+here_counts reach stop runs place (Some run) is =
+    elim (nat_lt run.stop reach) as (λ b. counts_up_to_last (cond {A = Bool × List Waiting} b (false, runs) (true, set runs place (lengthened stop run))).1 ≡ counts_up_to_last runs) [
+      | true ↦ refl
+      | false ↦ set_counts runs place stop run is
     ]
 
-pub joined_places : (reach stop : ℕ) (runs new : List Waiting) (place : ℕ) (joined : Bool) (plus minus dot : Option ℕ) → (joined, new) ≡ with_joined reach stop runs (Some place) → ArePlaces runs plus minus dot → ArePlaces new plus minus dot
-joined_places reach stop runs new place joined plus minus dot is p =
-    subst (λ (pair : Bool × List Waiting). ArePlaces pair.1 plus minus dot) (sym is) (here_places reach stop runs place plus minus dot (slice_get runs place) refl p)
+pub joined_counts : (reach stop : ℕ) (runs new : List Waiting) (place : ℕ) (joined : Bool) → (joined, new) ≡ with_joined reach stop runs (Some place) → counts_up_to_last new ≡ counts_up_to_last runs
+joined_counts reach stop runs new place joined is =
+    ap (λ (pair : Bool × List Waiting). counts_up_to_last pair.1) is ∙ here_counts reach stop runs place (slice_get runs place) refl
 
 module _ (here : Bool) (reach : ℕ) where
   abbrev pub is_over : Waiting → Bool

@@ -1,6 +1,6 @@
 -- The runs that wait, without their chromosome: where the last one of each strand stands, and how
 -- one more record is joined to it.
-use Rattle.std.specs.Prelude.{◌≡◌, ℕ, zero, suc, Bool, true, false, not, cond, ◌||◌, List}
+use Rattle.std.specs.Prelude.{ℕ, suc, Bool, true, false, not, cond, ◌||◌, List, [], ◌∷◌}
 use Rattle.std.specs.Prelude.{drop, length, map, max, set, Option, Some, None, nat_lt}
 use Rattle.std.specs.List.{slice_get, take_while}
 use Rattle.bt_bed.specs.Feature.{Feature}
@@ -15,16 +15,25 @@ use Rattle.bt_runs.specs.declared.waiting.Waiting.{Waiting}
 abbrev pub place_of : Strand → List Waiting → Option ℕ
 place_of strand runs = last_place (λ (w : Waiting). is_strand w.strand strand) runs
 
-pub record ArePlaces (runs : List Waiting) (plus minus dot : Option ℕ) : Type 0 where
-  pub plus_is : plus ≡ place_of Plus runs
-  pub minus_is : minus ≡ place_of Minus runs
-  pub dot_is : dot ≡ place_of Dot runs
+-- how many elements there are up to the one at a place, that one too; 0 where there is no place
+abbrev pub count_up_to : Option ℕ → ℕ
+count_up_to None = 0
+count_up_to (Some place) = suc place
 
--- where it stands once the first one was taken off
-abbrev pub place_behind : Option ℕ → Option ℕ
-place_behind None = None
-place_behind (Some zero) = None
-place_behind (Some (suc place)) = Some place
+-- how many runs there are up to the last one of a strand, that one too; 0 where none is of it
+abbrev pub count_up_to_last : Strand → List Waiting → ℕ
+count_up_to_last strand runs = count_up_to (place_of strand runs)
+
+-- those of the three strands, each in its slot
+abbrev pub counts_up_to_last : List Waiting → List ℕ
+counts_up_to_last runs =
+    count_up_to_last Plus runs ∷ count_up_to_last Minus runs ∷ count_up_to_last Dot runs ∷ []
+
+-- the slot of a strand
+abbrev pub slot_of : Strand → ℕ
+slot_of Plus = 0
+slot_of Minus = 1
+slot_of Dot = 2
 
 -- the run that is lengthened up to `stop`
 abbrev pub lengthened : ℕ → Waiting → Waiting

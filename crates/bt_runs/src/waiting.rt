@@ -2,12 +2,16 @@
 
 ghost use Rattle.std.specs.Prelude.{◌≡◌, ◌<◌, ◌++◌, ◌∷◌, [], length, drop, OnOk, Some};
 ghost use Rattle.std.specs.List.{slice_get};
-ghost use Rattle.bt_runs.specs.Waiting.{place_behind, place_of, with_joined};
+ghost use Rattle.bt_runs.specs.Waiting.{place_of, slot_of, with_joined};
 
 use bt_bed::Strand;
 use std::alloc::{AllocError, Global};
 use std::collections::VecDeque;
 use std::marker::Model;
+
+// For how many runs room is made with the first one. They go round in a ring, and a branch is mispredicted
+// wherever it starts anew, which is seldom in a larger one.
+const ROOM: usize = 64;
 
 // A run without its chromosome.
 #[derive(Clone, Copy, Debug)]
@@ -21,29 +25,26 @@ pub(crate) struct Waiting {
 }
 
 // The runs, and where the last of each strand stands, which alone may still grow. A run is added, joined
-// and taken off without a look at the others.
+// and taken off without a look at the others, and without a branch on its strand, which nothing predicts.
 #[derive(Drop, Debug)]
 pub(crate) struct WaitingRuns {
     // In the order of their first records.
     runs: VecDeque<Waiting>,
-    // Where the last run of the strand `+` stands; `None` where none of it waits.
-    plus: Option<usize>,
-    // The same of the strand `-`.
-    minus: Option<usize>,
-    // The same of the runs without a strand.
-    dot: Option<usize>,
+    // How many runs there are up to the last one of each strand, that one too, in the strand's slot; 0 where
+    // none of it waits.
+    up_to_last: [usize; 3],
 }
 
 impl Model for WaitingRuns {
-    ghost use Rattle.std.specs.Prelude.{List};
+    ghost use Rattle.std.specs.Prelude.{◌≡◌, List};
     ghost use Rattle.bt_runs.specs.declared.waiting.Waiting.{Waiting};
-    ghost use Rattle.bt_runs.specs.Waiting.{ArePlaces};
+    ghost use Rattle.bt_runs.specs.Waiting.{counts_up_to_last};
 
     ghost Value = { List Waiting };
 
     ghost view = { λ a. a.runs.items };
 
-    ghost invariant = { λ a. ArePlaces a.runs.items a.plus a.minus a.dot };
+    ghost invariant = { λ a. a.up_to_last ≡ counts_up_to_last a.runs.items };
 }
 
 impl WaitingRuns {
@@ -52,9 +53,7 @@ impl WaitingRuns {
     {
         WaitingRuns {
             runs: VecDeque::new(alloc),
-            plus: None,
-            minus: None,
-            dot: None,
+            up_to_last: [0, 0, 0],
         }
     }
 
@@ -79,9 +78,9 @@ impl WaitingRuns {
         ensures { self.new ≡ drop 1 self.old }
     {
         let _ = self.runs.pop_front();
-        self.plus = place_behind(self.plus);
-        self.minus = place_behind(self.minus);
-        self.dot = place_behind(self.dot);
+        self.up_to_last[0] = self.up_to_last[0].saturating_sub(1);
+        self.up_to_last[1] = self.up_to_last[1].saturating_sub(1);
+        self.up_to_last[2] = self.up_to_last[2].saturating_sub(1);
     }
 
     // Joins a record that ends at `stop` to the last run of its strand, unless that ends below `reach`,
@@ -101,11 +100,7 @@ impl WaitingRuns {
     fn place(&self, strand: Strand) -> Option<usize>
         ensures { result ≡ place_of strand self.now }
     {
-        match strand {
-            Strand::Plus => self.plus,
-            Strand::Minus => self.minus,
-            Strand::Dot => self.dot,
-        }
+        self.up_to_last[slot_of(strand)].checked_sub(1)
     }
 
     // Adds a run after the others.
@@ -113,29 +108,28 @@ impl WaitingRuns {
         ensures { OnOk result (self.new ≡ self.old
             ++ record { strand = strand; start = start; stop = stop } ∷ []) }
     {
-        let run = Waiting {
+        if self.runs.is_empty() {
+            self.runs.reserve(ROOM)?;
+        }
+        self.runs.push_back(Waiting {
             strand,
             start,
             stop,
-        };
-        let place = self.runs.len();
-        self.runs.push_back(run)?;
-        match run.strand {
-            Strand::Plus => self.plus = Some(place),
-            Strand::Minus => self.minus = Some(place),
-            Strand::Dot => self.dot = Some(place),
-        }
+        })?;
+        self.up_to_last[slot_of(strand)] = self.runs.len();
         Ok(())
     }
 }
 
-// The place of a run once the first one was taken off, if it isn't that one.
-fn place_behind(place: Option<usize>) -> Option<usize>
-    ensures { result ≡ place_behind place }
+// Which of the three counts is that of a strand.
+#[inline]
+fn slot_of(strand: Strand) -> usize
+    ensures { result ≡ slot_of strand }
 {
-    match place {
-        Some(place) if 0 < place => Some(place - 1),
-        _ => None,
+    match strand {
+        Strand::Plus => 0,
+        Strand::Minus => 1,
+        Strand::Dot => 2,
     }
 }
 

@@ -1,5 +1,5 @@
 -- Lemmas on going over both inputs at once.
-use Rattle.std.proofs.Common.{◌≡◌, ℕ, ◌<◌, ◌≤◌, Bool, true, false, List, [], ◌∷◌, ◌++◌, Option, Some, None, inl, inr, refl, sym, ap, ◌∙◌, subst, arith, append_assoc, append-nil, not}
+use Rattle.std.proofs.Common.{◌≡◌, ℕ, ◌<◌, ◌≤◌, Bool, true, false, List, [], ◌∷◌, ◌++◌, Option, Some, None, refl, sym, ap, ◌∙◌, subst, arith, append_assoc, append-nil, not}
 use Rattle.std.specs.Prelude.{IsTrue}
 use Rattle.std.proofs.lemmas.Bool.{le-ltb}
 use Rattle.std.specs.declared.cmp.Ordering.{Ordering}
@@ -16,20 +16,20 @@ use Rattle.bt_bed.specs.declared.whole_records.WholeRecords.{WholeRecords}
 use Rattle.bt_bed.proofs.WholesGiven.{bytes_ahead, gives_more, record_shrinks}
 use Rattle.bt_sweep.specs.Deciding.{decides}
 use Rattle.bt_sweep.specs.IntersectLines.{lines_for}
-use Rattle.bt_sweep.specs.Passing.{PassesRound, PassesRounds, PassesSecond, PassesSeconds, PassesSkipped, Round, Skipped, TakesBoth, firsts_of, next_after, seconds_of, skipped_records}
+use Rattle.bt_sweep.specs.Passing.{PassesRound, PassesRounds, PassesSecond, PassesSeconds, PassesSkipped, Round, Skipped, firsts_of, next_after, seconds_of, skipped_records}
 use Rattle.bt_sweep.specs.Standing.{last_after}
-use Rattle.bt_sweep.specs.StateLeaping.{AreLeapt, AreSkipped, IsLeap, Leaps, LeapsOn, SkipsTo, StandsOn, last_leapt}
-use Rattle.bt_sweep.specs.StatePassing.{AreUpTo, DecidesUpTo, EndUpTo, IsBare}
+use Rattle.bt_sweep.specs.StateLeaping.{AreLeapt, AreSkipped, Halts, IsLeap, LeapsOn, SkipsTo, StandsOn, last_leapt}
+use Rattle.bt_sweep.specs.StatePassing.{DecidesUpTo, EndUpTo, IsBare}
 use Rattle.bt_sweep.specs.SweepState.{Sweeping, want_in, want_of}
 use Rattle.bt_sweep.specs.declared.unhit.Unhit.TheVariants.{Nothing}
 use Rattle.bt_sweep.specs.declared.want.Want.TheVariants.{A, B}
-use Rattle.bt_sweep.proofs.PassingLemmas.{decided_front, gives_one, last_of_front, none_hits, on_chrom, passes_all_before, passes_second, passes_several}
+use Rattle.bt_sweep.proofs.PassingLemmas.{decided_front, gives_one, last_of_front, none_hits, on_chrom, passes_second, passes_several}
 use Rattle.bt_sweep.proofs.StepLemmas.{last_waits, writes_a}
 use Rattle.bt_sweep.proofs.UnhitLemmas.{puts_none}
 
 -- ---- records that were given
 
-gives_append : (old : WholeRecords) (xs ys : List Feature) (mid new : WholeRecords) → GivesWholes old xs mid → GivesWholes mid ys new → GivesWholes old (xs ++ ys) new
+pub gives_append : (old : WholeRecords) (xs ys : List Feature) (mid new : WholeRecords) → GivesWholes old xs mid → GivesWholes mid ys new → GivesWholes old (xs ++ ys) new
 gives_append old [] ys mid new is more = subst (λ (w : WholeRecords). GivesWholes w ys new) is more
 gives_append old (x ∷ xs) ys mid new p more = (p.0, p.1, gives_append p.0 xs ys mid new p.2 more)
 
@@ -71,20 +71,45 @@ skips_more start a old mid from to r next_from next_to new skips within gives st
     }
 
 -- and one of the second input is passed
-pub leaps_on : (a : Feature) (firsts seconds : WholeRecords) (b : Feature) (mid new_seconds : WholeRecords) (start stop : ℕ) (new_firsts : WholeRecords) (from to : ℕ) → GivesWhole seconds b mid → b.start ≡ from → b.stop ≡ to
-    → SkipsTo from a firsts start stop new_firsts → to ≤ start → AreUpTo start mid new_seconds → LeapsOn a firsts seconds start stop new_firsts new_seconds
-leaps_on a firsts seconds b mid new_seconds start stop new_firsts from to gives from_is to_is skips within more =
+pub leaps_on : (a : Feature) (firsts seconds : WholeRecords) (b : Feature) (new_seconds : WholeRecords) (start stop : ℕ) (new_firsts : WholeRecords) (from to : ℕ) → GivesWhole seconds b new_seconds → b.start ≡ from → b.stop ≡ to
+    → SkipsTo from a firsts start stop new_firsts → to ≤ start → LeapsOn a firsts seconds start stop new_firsts new_seconds
+leaps_on a firsts seconds b new_seconds start stop new_firsts from to gives from_is to_is skips within =
     let skipped = subst (λ (n : ℕ). SkipsTo n a firsts start stop new_firsts) (sym from_is) skips in
     let at = skipped.on.start_is in
-    record { b = b; mid = mid; gives = gives; skips = skipped; before = omega (arith, to_is, within, at); more = more }
+    record { b = b; gives = gives; skips = skipped; before = omega (arith, to_is, within, at) }
+
+-- or it shares a base
+pub meets_at : (a : Feature) (firsts seconds : WholeRecords) (b : Feature) (behind : WholeRecords) (start stop : ℕ) (new_firsts : WholeRecords) (from to : ℕ) → GivesWhole seconds b behind → b.start ≡ from → b.stop ≡ to
+    → SkipsTo from a firsts start stop new_firsts → start < to → from < stop → Halts a firsts start stop new_firsts seconds true
+meets_at a firsts seconds b behind start stop new_firsts from to gives from_is to_is skips before past =
+    let at = skips.on.start_is in
+    let end = skips.on.stop_is in
+    record {
+      skipped = skips.skipped;
+      given = skips.given;
+      on = skips.on;
+      end = record {
+        b = b;
+        behind = behind;
+        gives = gives;
+        are = subst (λ (n : ℕ). AreSkipped n a skips.skipped) (sym from_is) skips.are;
+        share = (omega (arith, to_is, before, at), omega (arith, from_is, past, end));
+      };
+    }
+
+-- or nothing more stands whole
+pub halts_here : (a : Feature) (firsts seconds : WholeRecords) (start stop : ℕ) (meets : Bool) → StandsOn a start stop → meets ≡ false → Halts a firsts start stop firsts seconds meets
+halts_here a firsts seconds start stop meets on is =
+    let here : Halts a firsts start stop firsts seconds false = record { skipped = None; given = refl; on = on; end = refl } in
+    subst (λ (m : Bool). Halts a firsts start stop firsts seconds m) (sym is) here
 
 -- ---- rounds
 
-firsts_more : (rounds : List Round) (round : Round) → firsts_of (rounds ++ round ∷ []) ≡ firsts_of rounds ++ skipped_records round.skipped
+pub firsts_more : (rounds : List Round) (round : Round) → firsts_of (rounds ++ round ∷ []) ≡ firsts_of rounds ++ skipped_records round.skipped
 firsts_more [] round = append-nil (skipped_records round.skipped)
 firsts_more (x ∷ rounds) round = ap (λ (l : List Feature). skipped_records x.skipped ++ l) (firsts_more rounds round) ∙ sym (append_assoc (skipped_records x.skipped) (firsts_of rounds) (skipped_records round.skipped))
 
-seconds_more : (rounds : List Round) (round : Round) → seconds_of (rounds ++ round ∷ []) ≡ seconds_of rounds ++ round.b ∷ []
+pub seconds_more : (rounds : List Round) (round : Round) → seconds_of (rounds ++ round ∷ []) ≡ seconds_of rounds ++ round.b ∷ []
 seconds_more [] round = refl
 seconds_more (x ∷ rounds) round = ap (λ (l : List Feature). x.b ∷ l) (seconds_more rounds round)
 
@@ -96,59 +121,54 @@ leapt_more : (a : Feature) (rounds : List Round) (round : Round) → AreLeapt a 
 leapt_more a [] round are skipped before = (skipped, before, tt)
 leapt_more a (x ∷ rounds) round are skipped before = (are.0, are.1, leapt_more (next_after a x.skipped) rounds round are.2 skipped before)
 
-leap_none : (first : Feature) (firsts seconds : WholeRecords) → IsLeap first firsts seconds first.start first.stop firsts seconds
-leap_none first firsts seconds = record { rounds = []; given_firsts = refl; given_seconds = refl; are = tt; on = record { start_is = refl; stop_is = refl } }
+pub leap_none : (first : Feature) (firsts seconds : WholeRecords) → IsLeap first firsts seconds first.start first.stop firsts seconds false
+leap_none first firsts seconds = record {
+  rounds = [];
+  mid = firsts;
+  given_firsts = refl;
+  given_seconds = refl;
+  are = tt;
+  halts = halts_here first firsts seconds first.start first.stop false (record { start_is = refl; stop_is = refl }) refl;
+}
 
--- one more round
-leap_round : (first : Feature) (firsts seconds : WholeRecords) (from to : ℕ) (mid_firsts mid_seconds : WholeRecords) (start stop : ℕ) (new_firsts new_seconds : WholeRecords) (b : Feature)
-    → (leap : IsLeap first firsts seconds from to mid_firsts mid_seconds) → GivesWhole mid_seconds b new_seconds → (skips : SkipsTo b.start (last_leapt first leap.rounds) mid_firsts start stop new_firsts)
-    → b.stop ≤ (next_after (last_leapt first leap.rounds) skips.skipped).start → IsLeap first firsts seconds start stop new_firsts new_seconds
-leap_round first firsts seconds from to mid_firsts mid_seconds start stop new_firsts new_seconds b leap gives skips before =
-    let round : Round = record { b = b; skipped = skips.skipped } in
-    record {
-      rounds = leap.rounds ++ round ∷ [];
-      given_firsts = subst (λ (l : List Feature). GivesWholes firsts l new_firsts) (sym (firsts_more leap.rounds round)) (gives_append firsts (firsts_of leap.rounds) (skipped_records round.skipped) mid_firsts new_firsts leap.given_firsts skips.given);
-      given_seconds = subst (λ (l : List Feature). GivesWholes seconds l new_seconds) (sym (seconds_more leap.rounds round)) (gives_more seconds (seconds_of leap.rounds) b mid_seconds new_seconds leap.given_seconds gives);
-      are = leapt_more first leap.rounds round leap.are skips.are before;
-      on = subst (λ (a : Feature). StandsOn a start stop) (sym (last_more first leap.rounds round)) skips.on;
-    }
+module _ (first : Feature) (firsts seconds : WholeRecords) (from to : ℕ) (mid_firsts mid_seconds : WholeRecords) (leap : IsLeap first firsts seconds from to mid_firsts mid_seconds false) where
+  leap_here : leap.mid ≡ mid_firsts
+  leap_here = sym (subst (λ (s : Option Skipped). GivesWholes leap.mid (skipped_records s) mid_firsts) leap.halts.end leap.halts.given)
 
--- records of the second input before the one of the first are passed
-leap_behind : (first : Feature) (firsts seconds : WholeRecords) (start stop : ℕ) (new_firsts mid : WholeRecords) (records : List Feature) (new : WholeRecords)
-    → IsLeap first firsts seconds start stop new_firsts mid → GivesWholes mid records new → EndUpTo start records → IsLeap first firsts seconds start stop new_firsts new
-unfolding skips_none
-leap_behind first firsts seconds start stop new_firsts mid [] new leap given end = subst (λ (w : WholeRecords). IsLeap first firsts seconds start stop new_firsts w) (sym given) leap
-leap_behind first firsts seconds start stop new_firsts mid (b ∷ more) new leap given end =
-    let at = leap.on.start_is in
-    let within = end.0 in
-    let before : b.stop ≤ (last_leapt first leap.rounds).start = omega (arith, at, within) in
-    let next = leap_round first firsts seconds start stop new_firsts mid start stop new_firsts given.0 b leap given.1
-    (skips_none b.start (last_leapt first leap.rounds) new_firsts start stop leap.on) before in
-    leap_behind first firsts seconds start stop new_firsts given.0 more new next given.2 end.1
+  leap_given : GivesWholes firsts (firsts_of leap.rounds) mid_firsts
+  leap_given = subst (λ (w : WholeRecords). GivesWholes firsts (firsts_of leap.rounds) w) leap_here leap.given_firsts
 
-pub leap_first : (first : Feature) (firsts seconds new_seconds : WholeRecords) → AreUpTo first.start seconds new_seconds → IsLeap first firsts seconds first.start first.stop firsts new_seconds
-leap_first first firsts seconds new_seconds up =
-    leap_behind first firsts seconds first.start first.stop firsts seconds up.records new_seconds (leap_none first firsts seconds) up.given up.end
+  -- where it stands
+  pub leap_stands : StandsOn (last_leapt first leap.rounds) from to
+  leap_stands = subst (λ (s : Option Skipped). StandsOn (next_after (last_leapt first leap.rounds) s) from to) leap.halts.end leap.halts.on
 
-pub leap_more : (first : Feature) (firsts seconds : WholeRecords) (from to : ℕ) (mid_firsts mid_seconds : WholeRecords) (start stop : ℕ) (new_firsts new_seconds : WholeRecords)
-    → (leap : IsLeap first firsts seconds from to mid_firsts mid_seconds) → LeapsOn (last_leapt first leap.rounds) mid_firsts mid_seconds start stop new_firsts new_seconds → IsLeap first firsts seconds start stop new_firsts new_seconds
-leap_more first firsts seconds from to mid_firsts mid_seconds start stop new_firsts new_seconds leap on =
-    let round = leap_round first firsts seconds from to mid_firsts mid_seconds start stop new_firsts on.mid on.b leap on.gives on.skips on.before in
-    leap_behind first firsts seconds start stop new_firsts on.mid on.more.records new_seconds round on.more.given on.more.end
+  -- one more round
+  pub leap_more : (start stop : ℕ) (new_firsts new_seconds : WholeRecords) (meets : Bool) → meets ≡ false → LeapsOn (last_leapt first leap.rounds) mid_firsts mid_seconds start stop new_firsts new_seconds → IsLeap first firsts seconds start stop new_firsts new_seconds meets
+  leap_more start stop new_firsts new_seconds meets is on =
+      let round : Round = record { b = on.b; skipped = on.skips.skipped } in
+      record {
+        rounds = leap.rounds ++ round ∷ [];
+        mid = new_firsts;
+        given_firsts = subst (λ (l : List Feature). GivesWholes firsts l new_firsts) (sym (firsts_more leap.rounds round)) (gives_append firsts (firsts_of leap.rounds) (skipped_records round.skipped) mid_firsts new_firsts leap_given on.skips.given);
+        given_seconds = subst (λ (l : List Feature). GivesWholes seconds l new_seconds) (sym (seconds_more leap.rounds round)) (gives_more seconds (seconds_of leap.rounds) on.b mid_seconds new_seconds leap.given_seconds on.gives);
+        are = leapt_more first leap.rounds round leap.are on.skips.are on.before;
+        halts = halts_here (last_leapt first (leap.rounds ++ round ∷ [])) new_firsts new_seconds start stop meets (subst (λ (a : Feature). StandsOn a start stop) (sym (last_more first leap.rounds round)) on.skips.on) is;
+      }
 
--- so many bytes are left at most
-wholes_shrink : (old : WholeRecords) (records : List Feature) (new : WholeRecords) → GivesWholes old records new → bytes_ahead new ≤ bytes_ahead old
-wholes_shrink old [] new is = subst (λ (w : WholeRecords). bytes_ahead w ≤ bytes_ahead old) (sym is) (omega arith)
-wholes_shrink old (r ∷ more) new given =
-    let one = record_shrinks old given.0 r given.1 in
-    let rest = wholes_shrink given.0 more new given.2 in
-    omega (arith, one, rest)
+  -- or no more
+  pub leap_halts : (start stop : ℕ) (new_firsts new_seconds : WholeRecords) (meets : Bool) → new_seconds ≡ mid_seconds → Halts (last_leapt first leap.rounds) mid_firsts start stop new_firsts new_seconds meets → IsLeap first firsts seconds start stop new_firsts new_seconds meets
+  leap_halts start stop new_firsts new_seconds meets same halts = record {
+    rounds = leap.rounds;
+    mid = mid_firsts;
+    given_firsts = leap_given;
+    given_seconds = subst (λ (w : WholeRecords). GivesWholes seconds (seconds_of leap.rounds) w) (sym same) leap.given_seconds;
+    are = leap.are;
+    halts = halts;
+  }
 
+-- fewer bytes are left
 pub leap_shrinks : (a : Feature) (firsts seconds : WholeRecords) (start stop : ℕ) (new_firsts new_seconds : WholeRecords) → LeapsOn a firsts seconds start stop new_firsts new_seconds → bytes_ahead new_seconds < bytes_ahead seconds
-leap_shrinks a firsts seconds start stop new_firsts new_seconds on =
-    let one = record_shrinks seconds on.mid on.b on.gives in
-    let rest = wholes_shrink on.mid on.more.records new_seconds on.more.given in
-    omega (arith, one, rest)
+leap_shrinks a firsts seconds start stop new_firsts new_seconds on = record_shrinks seconds new_seconds on.b on.gives
 
 -- ---- the last record of the first input that was gone over
 
@@ -179,23 +199,35 @@ last_is a (round ∷ more) =
     last_behind a (skipped_records round.skipped) (firsts_of more) ∙ ap (λ (f : Feature). last_after f (firsts_of more)) (last_skipped a round.skipped)
     ∙ last_is (next_after a round.skipped) more
 
-module _ (first : Feature) (firsts seconds : WholeRecords) (start stop : ℕ) (new_firsts new_seconds : WholeRecords) (leap : IsLeap first firsts seconds start stop new_firsts new_seconds) where
+module _ (first : Feature) (firsts seconds : WholeRecords) (start stop : ℕ) (new_firsts new_seconds : WholeRecords) (meets : Bool) (leap : IsLeap first firsts seconds start stop new_firsts new_seconds meets) where
+  abbrev pub next_leapt : Feature
+  next_leapt = next_after (last_leapt first leap.rounds) leap.halts.skipped
+
+  abbrev all_leapt : List Feature
+  all_leapt = firsts_of leap.rounds ++ skipped_records leap.halts.skipped
+
+  all_given : GivesWholes firsts all_leapt new_firsts
+  all_given = gives_append firsts (firsts_of leap.rounds) (skipped_records leap.halts.skipped) leap.mid new_firsts leap.given_firsts leap.halts.given
+
+  all_last : last_after first all_leapt ≡ next_leapt
+  all_last = last_behind first (firsts_of leap.rounds) (skipped_records leap.halts.skipped) ∙ ap (λ (f : Feature). last_after f (skipped_records leap.halts.skipped)) (last_is first leap.rounds) ∙ last_skipped (last_leapt first leap.rounds) leap.halts.skipped
+
   -- where none of the first input was passed, the record from which it began still waits
-  pub leapt_none : (passed_by (lines_in new_firsts)).bytes ≡ (passed_by (lines_in firsts)).bytes → last_leapt first leap.rounds ≡ first
-  leapt_none same = sym (last_is first leap.rounds) ∙ by (firsts_of leap.rounds) leap.given_firsts
+  pub leapt_none : ((passed_by (lines_in firsts)).bytes < (passed_by (lines_in new_firsts)).bytes → ⊥) → next_leapt ≡ first
+  leapt_none same = sym all_last ∙ by all_leapt all_given
     where
       by : (records : List Feature) → GivesWholes firsts records new_firsts → last_after first records ≡ first
       by [] given = refl
-      by (r ∷ more) given = absurd (omega (arith, same, bytes_grow firsts r given.0 given.1, none_fewer given.0 more new_firsts given.2))
+      by (r ∷ more) given = absurd (same (omega (arith, bytes_grow firsts r given.0 given.1, none_fewer given.0 more new_firsts given.2)))
 
   -- else it is the last one passed
-  pub leapt_some : ((passed_by (lines_in new_firsts)).bytes ≡ (passed_by (lines_in firsts)).bytes → ⊥) → (mid : WholeRecords) × GivesWhole mid (last_leapt first leap.rounds) new_firsts
+  pub leapt_some : (passed_by (lines_in firsts)).bytes < (passed_by (lines_in new_firsts)).bytes → (mid : WholeRecords) × GivesWhole mid next_leapt new_firsts
   leapt_some other =
-      let found = by (firsts_of leap.rounds) leap.given_firsts in
-      (found.0, subst (λ (f : Feature). GivesWhole found.0 f new_firsts) (last_is first leap.rounds) found.1)
+      let found = by all_leapt all_given in
+      (found.0, subst (λ (f : Feature). GivesWhole found.0 f new_firsts) all_last found.1)
     where
       by : (records : List Feature) → GivesWholes firsts records new_firsts → (mid : WholeRecords) × GivesWhole mid (last_after first records) new_firsts
-      by [] given = absurd (other (ap (λ (w : WholeRecords). (passed_by (lines_in w)).bytes) given))
+      by [] given = absurd (omega (arith, other, ap (λ (w : WholeRecords). (passed_by (lines_in w)).bytes) given))
       by (r ∷ more) given = last_gives firsts r more new_firsts given
 
 -- ---- the sweep
@@ -208,7 +240,7 @@ decides_up order b chrom total known same = λ a on within.
 
 module _ (order : Order) (total : IsTotal order) (out : Output) where
   -- what one round does, in which records of the first input are skipped
-  skips_some : (old : Sweeping) (a : Feature) (b : Feature) (s : Skipped) (from to : WholeRecords) → IsBare old Nothing → old.done ≡ false → old.last ≡ Some a → IsTrue (order.knows a.chrom) → a.chrom ≡ chrom_in from → b.chrom ≡ a.chrom → a.start < a.stop
+  pub skips_some : (old : Sweeping) (a : Feature) (b : Feature) (s : Skipped) (from to : WholeRecords) → IsBare old Nothing → old.done ≡ false → old.last ≡ Some a → IsTrue (order.knows a.chrom) → a.chrom ≡ chrom_in from → b.chrom ≡ a.chrom → a.start < a.stop
       → GivesWholes from (s.firsts ++ s.next ∷ []) to → AreSkipped b.start a (Some s) → PassesSkipped order out old b s (record old { last = Some s.next; waits = true })
   skips_some old a b s from to bare going was known on same filled given are =
       let left : Sweeping = record old { waits = false } in
@@ -234,28 +266,32 @@ module _ (order : Order) (total : IsTotal order) (out : Output) where
         };
       }
 
+  -- what skipping records of the first input does, or skipping none
+  pub skip_done : (old : Sweeping) (a b : Feature) (skipped : Option Skipped) (from to : WholeRecords) → IsBare old Nothing → old.done ≡ false → old.waits ≡ true → old.last ≡ Some a → IsTrue (order.knows a.chrom) → a.chrom ≡ chrom_in from
+      → b.chrom ≡ a.chrom → a.start < a.stop → GivesWholes from (skipped_records skipped) to → AreSkipped b.start a skipped
+      → PassesRound order out old b skipped (record old { last = Some (next_after a skipped) }) × ((next_after a skipped).chrom ≡ a.chrom) × ((next_after a skipped).start < (next_after a skipped).stop)
+  skip_done old a b None from to bare going waits was known on same filled given are = (ap (λ (l : Option Feature). record old { last = l }) (sym was), refl, filled)
+  skip_done old a b (Some s) from to bare going waits was known on same filled given are =
+      let split = gives_split from s.firsts (s.next ∷ []) to given in
+      let next = split.2.1 in (
+        subst (λ (w : Bool). PassesSkipped order out old b s (record old { last = Some s.next; waits = w })) (sym waits) (skips_some old a b s from to bare going was known on same filled given are),
+        next.chrom ∙ on_chrom from s.firsts split.0 split.1 ∙ sym on,
+        next.feature.non_empty,
+      )
+
   -- what one round does
   round_done : (old : Sweeping) (a b : Feature) (skipped : Option Skipped) (from to from_second to_second : WholeRecords) → IsBare old Nothing → old.done ≡ false → old.waits ≡ true → old.last ≡ Some a → IsTrue (order.knows a.chrom) → a.chrom ≡ chrom_in from
       → a.chrom ≡ chrom_in from_second → a.start < a.stop → GivesWholes from (skipped_records skipped) to → GivesWhole from_second b to_second → AreSkipped b.start a skipped → b.stop ≤ (next_after a skipped).start
       → PassesRound order out old b skipped (record old { last = Some (next_after a skipped) }) × PassesSecond order (record old { last = Some (next_after a skipped) }) b
       × ((next_after a skipped).chrom ≡ a.chrom) × ((next_after a skipped).start < (next_after a skipped).stop)
-  round_done old a b None from to from_second to_second bare going waits was known on on_second filled given gives are before =
-      let same : record old { last = Some a } ≡ old = ap (λ (l : Option Feature). record old { last = l }) (sym was) in (
-        same,
-        passes_second order total (record old { last = Some a }) a refl filled known b (gives.chrom ∙ sym on_second) gives.feature.non_empty before,
-        refl,
-        filled,
-      )
-  round_done old a b (Some s) from to from_second to_second bare going waits was known on on_second filled given gives are before =
-      let split = gives_split from s.firsts (s.next ∷ []) to given in
-      let next = split.2.1 in
-      let chrom : s.next.chrom ≡ a.chrom = next.chrom ∙ on_chrom from s.firsts split.0 split.1 ∙ sym on in
+  round_done old a b skipped from to from_second to_second bare going waits was known on on_second filled given gives are before =
       let same = gives.chrom ∙ sym on_second in
-      let some = next.feature.non_empty in (
-        subst (λ (w : Bool). PassesSkipped order out old b s (record old { last = Some s.next; waits = w })) (sym waits) (skips_some old a b s from to bare going was known on same filled given are),
-        passes_second order total (record old { last = Some s.next }) s.next refl some (subst (λ (c : List ℕ). IsTrue (order.knows c)) (sym chrom) known) b (same ∙ sym chrom) gives.feature.non_empty before,
-        chrom,
-        some,
+      let done = skip_done old a b skipped from to bare going waits was known on same filled given are in
+      let next = next_after a skipped in (
+        done.0,
+        passes_second order total (record old { last = Some next }) next refl done.2 (subst (λ (c : List ℕ). IsTrue (order.knows c)) (sym done.1) known) b (same ∙ sym done.1) gives.feature.non_empty before,
+        done.1,
+        done.2,
       )
 
   -- what rounds do
@@ -269,39 +305,41 @@ module _ (order : Order) (total : IsTotal order) (out : Output) where
       let next = next_after a round.skipped in
       let mid : Sweeping = record old { last = Some next } in (
         mid,
+        mid,
         done.0,
         ap (λ (w : Bool). want_of w old.done) waits,
         done.1,
+        ap (λ (w : Bool). want_of w old.done) waits,
         leaps_rounds mid next more split.0 given_seconds.0 new_firsts new_seconds (record { none_held = bare.none_held; is = bare.is; going = bare.going }) going waits refl (subst (λ (c : List ℕ). IsTrue (order.knows c)) (sym done.2) known)
             (done.2 ∙ on ∙ sym (on_chrom firsts (skipped_records round.skipped) split.0 split.1)) (done.2 ∙ on_seconds ∙ sym given_seconds.1.same_chrom) done.3 split.2 given_seconds.2 are.2,
       )
 
 -- ---- of the second input alone
 
-abbrev alone : List Feature → List Round
+abbrev pub alone : List Feature → List Round
 alone [] = []
 alone (b ∷ more) = record { b = b; skipped = None } ∷ alone more
 
-firsts_alone : (seconds : List Feature) → firsts_of (alone seconds) ≡ []
+pub firsts_alone : (seconds : List Feature) → firsts_of (alone seconds) ≡ []
 firsts_alone [] = refl
 firsts_alone (b ∷ more) = firsts_alone more
 
-seconds_alone : (seconds : List Feature) → seconds_of (alone seconds) ≡ seconds
+pub seconds_alone : (seconds : List Feature) → seconds_of (alone seconds) ≡ seconds
 seconds_alone [] = refl
 seconds_alone (b ∷ more) = ap (λ (l : List Feature). b ∷ l) (seconds_alone more)
 
-rounds_alone : (order : Order) (out : Output) (sweep : Sweeping) (seconds : List Feature) → want_in sweep ≡ B → PassesSeconds order sweep seconds → PassesRounds order out sweep (alone seconds) sweep
+pub rounds_alone : (order : Order) (out : Output) (sweep : Sweeping) (seconds : List Feature) → want_in sweep ≡ B → PassesSeconds order sweep seconds → PassesRounds order out sweep (alone seconds) sweep
 rounds_alone order out sweep [] wants passes = refl
-rounds_alone order out sweep (b ∷ more) wants passes = (sweep, refl, wants, passes.0, rounds_alone order out sweep more wants passes.1)
+rounds_alone order out sweep (b ∷ more) wants passes = (sweep, sweep, refl, wants, passes.0, wants, rounds_alone order out sweep more wants passes.1)
 
 -- ---- whatever the sweep does
 
-it_waits : (waits done : Bool) → want_of waits done ≡ B → waits ≡ true
+pub it_waits : (waits done : Bool) → want_of waits done ≡ B → waits ≡ true
 it_waits true done e = refl
 it_waits false true e = cc
 it_waits false false e = cc
 
-leapt_chrom : (a : Feature) (rounds : List Round) (firsts new : WholeRecords) → a.chrom ≡ chrom_in firsts → GivesWholes firsts (firsts_of rounds) new → (last_leapt a rounds).chrom ≡ a.chrom
+pub leapt_chrom : (a : Feature) (rounds : List Round) (firsts new : WholeRecords) → a.chrom ≡ chrom_in firsts → GivesWholes firsts (firsts_of rounds) new → (last_leapt a rounds).chrom ≡ a.chrom
 leapt_chrom a [] firsts new on given = refl
 leapt_chrom a (round ∷ more) firsts new on given =
     let split = gives_split firsts (skipped_records round.skipped) (firsts_of more) new given in
@@ -313,35 +351,3 @@ leapt_chrom a (round ∷ more) firsts new on given =
     next_chrom a (Some s) from to on given =
         let split = gives_split from s.firsts (s.next ∷ []) to given in
         split.2.1.chrom ∙ on_chrom from s.firsts split.0 split.1 ∙ sym on
-
-module _ (order : Order) (total : IsTotal order) (old : Sweeping) (firsts seconds : WholeRecords) (new : Sweeping) (new_firsts new_seconds : WholeRecords) (known : (a : Feature) → old.last ≡ Some a → IsTrue (order.knows a.chrom)) where
-  pub takes_both : want_in old ≡ B → Leaps old firsts seconds new new_firsts new_seconds → TakesBoth order old firsts seconds new new_firsts new_seconds
-  takes_both wants (inl leaps) =
-      let keeps = leaps.keeps in
-      let same : new ≡ record old { last = Some (last_leapt keeps.first keeps.rounds) } = leaps.others ∙ ap (λ (l : Option Feature). record old { last = l }) keeps.is in
-      record {
-        rounds = keeps.rounds;
-        firsts = keeps.given_firsts;
-        seconds = keeps.given_seconds;
-        passes = λ out. subst (λ (s : Sweeping). PassesRounds order out old keeps.rounds s) (sym same)
-            (leaps_rounds order total out old keeps.first keeps.rounds firsts seconds new_firsts new_seconds leaps.bare leaps.going (it_waits old.waits old.done wants) keeps.was (known keeps.first keeps.was) keeps.on_firsts keeps.on_seconds keeps.filled keeps.given_firsts keeps.given_seconds keeps.are);
-      }
-  takes_both wants (inr behind) =
-      let all = passes_all_before order total old seconds new_seconds known behind.before in
-      record {
-        rounds = alone all.0;
-        firsts = subst (λ (l : List Feature). GivesWholes firsts l new_firsts) (sym (firsts_alone all.0)) behind.same_firsts;
-        seconds = subst (λ (l : List Feature). GivesWholes seconds l new_seconds) (sym (seconds_alone all.0)) all.1;
-        passes = λ out. subst (λ (s : Sweeping). PassesRounds order out old (alone all.0) s) (sym behind.same) (rounds_alone order out old all.0 wants all.2);
-      }
-
-  pub wants_still : want_in old ≡ B → Leaps old firsts seconds new new_firsts new_seconds → want_in new ≡ B
-  wants_still wants (inl leaps) = ap want_in leaps.others ∙ wants
-  wants_still wants (inr behind) = ap want_in behind.same ∙ wants
-
-  pub knows_still : Leaps old firsts seconds new new_firsts new_seconds → (a : Feature) → new.last ≡ Some a → IsTrue (order.knows a.chrom)
-  knows_still (inl leaps) a e =
-      let keeps = leaps.keeps in
-      let is : last_leapt keeps.first keeps.rounds ≡ a = let both : Some (last_leapt keeps.first keeps.rounds) ≡ Some a = sym keeps.is ∙ e in cc in
-      subst (λ (c : List ℕ). IsTrue (order.knows c)) (sym (leapt_chrom keeps.first keeps.rounds firsts new_firsts keeps.on_firsts keeps.given_firsts) ∙ ap (λ (f : Feature). f.chrom) is) (known keeps.first keeps.was)
-  knows_still (inr behind) a e = known a (ap (λ (s : Sweeping). s.last) (sym behind.same) ∙ e)

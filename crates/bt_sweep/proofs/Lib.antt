@@ -14,6 +14,7 @@ pub mod StepLemmas
 pub mod UnhitLemmas
 pub mod PassingLemmas
 pub mod LeapLemmas
+pub mod MeetLemmas
 pub mod PlainLemmas
 pub mod QuietLemmas
 pub mod RisingLemmas

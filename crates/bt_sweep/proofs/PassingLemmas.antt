@@ -1,6 +1,6 @@
 -- Lemmas on records that are passed one after another: of the first input while nothing is held, and of the second
 -- before the current one of the first.
-use Rattle.std.proofs.Common.{◌≡◌, ℕ, ◌<◌, ◌≤◌, ◌&&◌, ◌||◌, Bool, true, false, cond, List, [], ◌∷◌, ◌++◌, length, Option, Some, None, Ok, inl, inr, refl, sym, ap, ◌∙◌, subst, arith, append-nil, bytes_eq, filter, length-append, ltb, not, IfSome}
+use Rattle.std.proofs.Common.{◌≡◌, ℕ, ◌<◌, ◌≤◌, ◌&&◌, ◌||◌, Bool, true, false, cond, List, [], ◌∷◌, ◌++◌, length, Option, Some, None, Ok, inl, inr, refl, sym, ap, ◌∙◌, subst, arith, bytes_eq, length-append, ltb, not, IfSome}
 use Rattle.std.specs.Prelude.{IsTrue}
 use Rattle.std.proofs.Math.Bool.{and-false}
 use Rattle.std.proofs.lemmas.Bool.{false≢true, le-ltb, lt-ltb}
@@ -29,7 +29,7 @@ use Rattle.bt_sweep.specs.declared.unhit.Unhit.{Unhit}
 use Rattle.bt_sweep.specs.declared.unhit.Unhit.TheVariants.{Nothing, Itself, Counted}
 use Rattle.std.proofs.lemmas.Bool.Decides.{nat_tests}
 use Rattle.bt_sweep.specs.StatePassing.{AreDecided, AreUpTo, DecidesUpTo, EndUpTo, BecomeLast, GoesFurther, IsBare, IsFront, PassesBefore, PassesBy, PassesOver, TakesWhole}
-use Rattle.bt_sweep.specs.StateSteps.{TakesA, held_with, holding, is_held_by, moved_to}
+use Rattle.bt_sweep.specs.StateSteps.{TakesA, held_with, is_held_by, moved_to}
 use Rattle.bt_sweep.specs.Steps.{GivesA}
 use Rattle.bt_sweep.specs.SweepState.{Sweeping, want_in}
 use Rattle.bt_sweep.specs.declared.hit_rule.HitRule.{HitRule}
@@ -37,7 +37,7 @@ use Rattle.bt_sweep.specs.declared.whole_front.WholeFront.{WholeFront}
 use Rattle.bt_sweep.specs.declared.shape.Shape.{Shape}
 use Rattle.bt_sweep.specs.declared.want.Want.TheVariants.{A}
 use Rattle.bt_sweep.proofs.UnhitLemmas.{is_unhit, none_of_all, puts_first, puts_no_more, puts_none}
-use Rattle.bt_sweep.proofs.StepLemmas.{gives_a, last_waits, no_wait, takes_b, writes_a}
+use Rattle.bt_sweep.proofs.StepLemmas.{gives_a, last_waits, no_wait, holds_none, takes_b, writes_a}
 
 -- ---- the front of what stands whole
 
@@ -141,9 +141,6 @@ front_by order b last Nothing old kept stop from line to r out grown false was f
     puts_same records (inr p) = absurd (p.some (none_of_all records))
 front_by order b last Itself old kept stop from line to r out grown false was front on decides says is puts waits = absurd (false≢true waits)
 front_by order b last Counted old kept stop from line to r out grown false was front on decides says is puts waits = absurd (false≢true waits)
-
-filter_one : (test : Feature → Bool) (b : Feature) → test b ≡ false → filter test (b ∷ []) ≡ []
-filter_one test b e = ap (λ (c : Bool). cond c (b ∷ []) []) e
 
 -- ---- the sweep
 
@@ -322,10 +319,7 @@ module _ (order : Order) (total : IsTotal order) (sweep : Sweeping) (last : Feat
   pub passes_second : (b : Feature) → b.chrom ≡ last.chrom → b.start < b.stop → b.stop ≤ last.start → PassesSecond order sweep b
   passes_second b same filled within = λ shape rule limit stage a line out stands waits.
       let is : last ≡ a = let e : Some last ≡ Some a = sym was ∙ last_waits order shape rule limit stage a waits sweep stands in cc in
-      let none = not_held b within in
-      let unheld : sweep ≡ holding sweep b = ap (λ (l : List Feature). record sweep { held = l }) (sym (append-nil sweep.held) ∙ ap (λ (l : List Feature). sweep.held ++ l) (sym (filter_one (is_held_by sweep.last) b none))) in
-      takes_b order shape rule limit stage a waits sweep stands (tt {0}) b line sweep out (subst (λ (f : Feature). decides order f b ≡ false) is (not_decided b same filled within))
-      (unheld, λ h. absurd (false≢true (sym none ∙ h)))
+      takes_b order shape rule limit stage a waits sweep stands (tt {0}) b line sweep out (subst (λ (f : Feature). decides order f b ≡ false) is (not_decided b same filled within)) (holds_none sweep b line (not_held b within))
 
   passes_seconds : (from : WholeRecords) (records : List Feature) (to : WholeRecords) → GivesWholes from records to → EndUpTo last.start records → last.chrom ≡ chrom_in from → PassesSeconds order sweep records
   passes_seconds from [] to given end on = tt

@@ -1,7 +1,7 @@
 -- Lemmas on what a sweep keeps.
 use Rattle.std.proofs.Common.{◌≡◌, ◌<◌, ℕ, inl, Bool, true, false, cond, List, [], ◌∷◌, ◌++◌, length, Option, Some, None, Result, Ok, Err, refl, sym, ap, ◌∙◌, subst, ltb, arith, filter, bytes_eq}
 use Rattle.std.specs.Prelude.{All, OnOk, OnErr}
-use Rattle.std.specs.Result.{is_err}
+use Rattle.std.specs.Result.{is_err, is_ok}
 use Rattle.std.proofs.lemmas.Bool.{false≢true, and_parts, ltb-true}
 use Rattle.std.proofs.lemmas.List.Elements.{All-filter, All-push}
 use Rattle.bt_lines.specs.Names.{told}
@@ -39,6 +39,11 @@ kept_hit : (c : Bool) (a x : Feature) (held : List Feature) → (c ≡ true → 
 kept_hit true a x held on = on refl
 kept_hit false a x held on = none_hit x
 
+-- whether one was added or not
+pub added_or_not : {T E : Type 0} (r : Result T E) (last : Option Feature) (b : Feature) (held new : List Feature) → b.start < b.stop → is_held_by last b ≡ true → AreWith last held → OnOk r (new ≡ held ++ b ∷ []) → OnErr r (new ≡ held) → AreWith last new
+added_or_not (Ok done) last b held new some to_hold with is none = subst (AreWith last) (sym is) (added_with last b held some to_hold with)
+added_or_not (Err f) last b held new some to_hold with is none = subst (AreWith last) (sym none) with
+
 with_old : (last : Option Feature) (a : Feature) (held : List Feature) → AreWith last held → AreWith last (held_with last held a)
 with_old None a held on = λ x e. none_hit x
 with_old (Some l) a held on = λ x e. kept_hit (bytes_eq l.chrom a.chrom) a x held (λ t. All-filter (λ b. ltb a.start b.stop) (CanHit x) held (on x e))
@@ -57,6 +62,10 @@ moved_with (Err f) old new held left a on is now before =
 pub on_ok_of : {T E : Type 0} {P : Type 0} (r : Result T E) → is_err r ≡ false → OnOk r P → P
 on_ok_of (Ok done) e h = h
 on_ok_of (Err f) e h = absurd (false≢true (sym e))
+
+pub on_is_ok : {T E : Type 0} {P : Type 0} (r : Result T E) → is_ok r ≡ true → OnOk r P → P
+on_is_ok (Ok done) e h = h
+on_is_ok (Err f) e h = absurd (false≢true e)
 
 -- the lines of the last record were written
 pub writes_last : {A : Type 0} (r : Result A Fault) (inside now : Sweeping) (a : Feature) (out grown : Output) → inside ≡ now → is_err r ≡ false → Adds out (lines_for inside.shape inside.rule a inside.held) r grown → WritesLast now a out r (record inside { waits = false }) grown

@@ -15,7 +15,10 @@ use Rattle.bt_sweep.specs.IntersectLines.{lines_for}
 use Rattle.bt_sweep.specs.Standing.{Stage, given, is_held, held_for, HoldsFor, StandsAt, IsInOrder, last_given, with_a, with_a_ended, with_b, with_lines, with_b_ended}
 use Rattle.bt_sweep.specs.StateSteps.{Holds, TakesA, WritesLast, has_room_in, held_with, holding, is_held_by, moved_to}
 use Rattle.bt_sweep.specs.Steps.{EndsB, Fails, FailsToHold, FailsToWriteA, GivesA, PassesLimit, TakesB, WritesA, has_room, lines_with}
+use Rattle.bt_sweep.specs.Reaching.{IsReach, IsReachBy}
 use Rattle.bt_sweep.specs.SweepState.{Sweeping, want_in, want_of}
+use Rattle.bt_sweep.specs.declared.reach.Reach.{Reach}
+use Rattle.bt_sweep.specs.declared.reach.Reach.TheVariants.{Before, Within}
 use Rattle.bt_sweep.specs.declared.hit_rule.HitRule.{HitRule}
 use Rattle.bt_sweep.specs.declared.shape.Shape.{Shape}
 use Rattle.bt_sweep.specs.declared.want.Want.TheVariants.{A, B, Nothing}
@@ -265,3 +268,22 @@ module _ (order : Order) (shape : Shape) (rule : HitRule) (limit : Option ℕ) (
   ends_b (Ok t) new out grown writes =
       (subst (StandsAt order shape rule limit (with_b_ended stage)) (sym writes.0) stands_ended, subst (λ (l : List ℕ). Grown out l grown) waiting_lines writes.1)
   ends_b (Err f) new out grown writes = (writes.0, subst (λ (l : List ℕ). FailsToAdd out l (told f) grown) waiting_lines writes.1)
+
+-- ---- where a record of the second input lies
+
+-- what has to be held has a record beside it
+pub within_held : (order : Order) (last : Option Feature) (b : Feature) → IsReachBy Within order last b → is_held_by last b ≡ true
+within_held order None b is = absurd (let both : Within ≡ Before = is in cc)
+within_held order (Some a) b is = is.1
+
+pub reach_beside : (reach : Reach) (order : Order) (last : Option Feature) (a b : Feature) → IsReachBy reach order last b → last ≡ Some a → IsReach reach order a b
+reach_beside reach order last a b is was = subst (λ (l : Option Feature). IsReachBy reach order l b) was is
+
+filter_one : (test : Feature → Bool) (b : Feature) → test b ≡ false → filter test (b ∷ []) ≡ []
+filter_one test b e = ap (λ (c : Bool). cond c (b ∷ []) []) e
+
+-- what hasn't to be held changes nothing
+pub holds_none : (sweep : Sweeping) (b : Feature) (line : ℕ) → is_held_by sweep.last b ≡ false → Holds {A = Unit {0}} sweep b line (Ok tt) sweep
+holds_none sweep b line none =
+    let same : sweep ≡ holding sweep b = ap (λ (l : List Feature). record sweep { held = l }) (sym (append-nil sweep.held) ∙ ap (λ (l : List Feature). sweep.held ++ l) (sym (filter_one (is_held_by sweep.last) b none))) in
+    (same, λ h. absurd (false≢true (sym none ∙ h)))

@@ -13,6 +13,7 @@ pub mod Steps
 pub mod StateSteps
 pub mod Passing
 pub mod Unhit
+pub mod Reaching
 pub mod StatePassing
 pub mod StateLeaping
 pub mod PlainPieces

@@ -66,12 +66,16 @@ pub record TakesFirsts (order : Order) (b : Feature) (old : Sweeping) (from : Wh
   pub passes : PassesUpTo order b old out firsts new grown ⊎ PassesFirsts order b old out firsts new grown
 
 module _ (order : Order) (sweep : Sweeping) where
-  -- a record of the second input was given and taken, and nothing else changed
-  abbrev pub PassesSecond : Feature → Type 0
-  PassesSecond b =
+  -- a record of the second input was given and taken
+  abbrev pub TakesSecond : Feature → Sweeping → Type 0
+  TakesSecond b new =
       (shape : Shape) (rule : HitRule) (limit : Option ℕ) (stage : Stage) (a : Feature) (line : ℕ)
       (out : Output) → StandsAt order shape rule limit stage sweep → stage.waiting ≡ Some a
-      → GivesB order shape rule limit stage a b line out (Ok Yes) sweep out
+      → GivesB order shape rule limit stage a b line out (Ok Yes) new out
+
+  -- and nothing else changed
+  abbrev pub PassesSecond : Feature → Type 0
+  PassesSecond b = TakesSecond b sweep
 
   -- records were, one after another
   abbrev pub PassesSeconds : List Feature → Type 0
@@ -128,8 +132,9 @@ module _ (order : Order) (out : Output) where
   abbrev pub PassesRounds : Sweeping → List Round → Sweeping → Type 0
   PassesRounds old [] new = new ≡ old
   PassesRounds old (round ∷ more) new =
-      (mid : Sweeping) × PassesRound old round.b round.skipped mid × (want_in mid ≡ B)
-      × PassesSecond order mid round.b × PassesRounds mid more new
+      (mid : Sweeping) × (taken : Sweeping) × PassesRound old round.b round.skipped mid
+      × (want_in mid ≡ B) × TakesSecond order mid round.b taken × (want_in taken ≡ B)
+      × PassesRounds taken more new
 
 -- records of both inputs that stood whole were given in rounds
 pub record TakesBoth (order : Order) (old : Sweeping) (first second : WholeRecords) (new : Sweeping)

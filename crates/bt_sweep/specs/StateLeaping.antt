@@ -1,10 +1,11 @@
 -- What going over both inputs at once does to what a sweep keeps. Callers know it by `Passing`.
-use Rattle.std.specs.Prelude.{◌≡◌, ◌⊎◌, ℕ, ◌<◌, ◌≤◌, ⊤, false, List, [], ◌∷◌, Option, Some, None}
+use Rattle.std.specs.Prelude.{◌≡◌, ◌⊎◌, ℕ, ◌<◌, ◌≤◌, ⊤, Bool, true, false, List, [], ◌∷◌, ◌++◌, Option, Some, None}
 use Rattle.bt_bed.specs.Feature.{Feature}
 use Rattle.bt_bed.specs.WholeRecords.{GivesWhole, GivesWholes, chrom_in}
 use Rattle.bt_bed.specs.declared.whole_records.WholeRecords.{WholeRecords}
 use Rattle.bt_sweep.specs.Passing.{Round, Skipped, firsts_of, next_after, seconds_of, skipped_records}
-use Rattle.bt_sweep.specs.StatePassing.{AreUpTo, EndUpTo, IsBare, PassesBefore}
+use Rattle.bt_sweep.specs.StatePassing.{EndUpTo, IsBare, PassesBefore}
+use Rattle.bt_sweep.specs.StateSteps.{has_room_in}
 use Rattle.bt_sweep.specs.SweepState.{Sweeping}
 use Rattle.bt_sweep.specs.declared.unhit.Unhit.TheVariants.{Nothing}
 
@@ -27,15 +28,38 @@ pub record SkipsTo (start : ℕ) (a : Feature) (old : WholeRecords) (next_start 
   pub on : StandsOn (next_after a skipped) next_start next_stop
 
 -- a record of the second input was passed, which ends at the start of the one of the first that is next
--- then, or before it, and so do those behind it that were passed too
+-- then, or before it
 pub record LeapsOn (a : Feature) (firsts seconds : WholeRecords) (start stop : ℕ)
     (new_firsts new_seconds : WholeRecords) : Type 0 where
   pub b : Feature
-  pub mid : WholeRecords
-  pub gives : GivesWhole seconds b mid
+  pub gives : GivesWhole seconds b new_seconds
   pub skips : SkipsTo b.start a firsts start stop new_firsts
   pub before : b.stop ≤ (next_after a skips.skipped).start
-  pub more : AreUpTo start mid new_seconds
+
+-- they share a base
+abbrev pub Share : Feature → Feature → Type 0
+Share a b = (a.start < b.stop) × (b.start < a.stop)
+
+-- the next record of the second input shares a base with the one of the first that comes once these were
+-- skipped, all of which it decides
+pub record Meets (a : Feature) (skipped : Option Skipped) (seconds : WholeRecords) : Type 0 where
+  pub b : Feature
+  pub behind : WholeRecords
+  pub gives : GivesWhole seconds b behind
+  pub are : AreSkipped b.start a skipped
+  pub share : Share (next_after a skipped) b
+
+abbrev pub EndsAt : Bool → Feature → Option Skipped → WholeRecords → Type 0
+EndsAt true a skipped seconds = Meets a skipped seconds
+EndsAt false a skipped seconds = skipped ≡ None
+
+-- it goes no further, and where two records meet, those before the one of the first were skipped
+pub record Halts (a : Feature) (firsts : WholeRecords) (start stop : ℕ)
+    (new_firsts seconds : WholeRecords) (meets : Bool) : Type 0 where
+  pub skipped : Option Skipped
+  pub given : GivesWholes firsts (skipped_records skipped) new_firsts
+  pub on : StandsOn (next_after a skipped) start stop
+  pub end : EndsAt meets a skipped seconds
 
 -- the record of the first input that waits behind rounds
 abbrev pub last_leapt : Feature → List Round → Feature
@@ -51,12 +75,13 @@ AreLeapt a (round ∷ more) =
     × AreLeapt (next_after a round.skipped) more
 
 pub record IsLeap (first : Feature) (firsts seconds : WholeRecords) (start stop : ℕ)
-    (new_firsts new_seconds : WholeRecords) : Type 0 where
+    (new_firsts new_seconds : WholeRecords) (meets : Bool) : Type 0 where
   pub rounds : List Round
-  pub given_firsts : GivesWholes firsts (firsts_of rounds) new_firsts
+  pub mid : WholeRecords
+  pub given_firsts : GivesWholes firsts (firsts_of rounds) mid
   pub given_seconds : GivesWholes seconds (seconds_of rounds) new_seconds
   pub are : AreLeapt first rounds
-  pub on : StandsOn (last_leapt first rounds) start stop
+  pub halts : Halts (last_leapt first rounds) mid start stop new_firsts new_seconds meets
 
 -- the record of the first input that waits then is kept
 pub record KeepsLeap (old : Option Feature) (firsts seconds : WholeRecords) (kept : Option Feature)
@@ -72,13 +97,44 @@ pub record KeepsLeap (old : Option Feature) (firsts seconds : WholeRecords) (kep
   pub are : AreLeapt first rounds
   pub is : kept ≡ Some (last_leapt first rounds)
 
+-- and so was one of the second input that shares a base with it
+pub record KeepsMet (old : Option Feature) (firsts seconds : WholeRecords) (kept : Option Feature)
+    (b : Feature) (new_firsts new_seconds : WholeRecords) : Type 0 where
+  pub before : Feature
+  pub mid_firsts : WholeRecords
+  pub mid_seconds : WholeRecords
+  pub leaps : KeepsLeap old firsts seconds (Some before) mid_firsts mid_seconds
+  pub skipped : Option Skipped
+  pub given : GivesWholes mid_firsts (skipped_records skipped) new_firsts
+  pub gives : GivesWhole mid_seconds b new_seconds
+  pub are : AreSkipped b.start before skipped
+  pub share : Share (next_after before skipped) b
+  pub is : kept ≡ Some (next_after before skipped)
+
+-- it is held beside these, if there is room
+pub record HoldsMet (has_room : Bool) (old : Option Feature) (firsts seconds : WholeRecords)
+    (held : List Feature) (kept : Option Feature) (new_firsts new_seconds : WholeRecords)
+    (new_held : List Feature) : Type 0 where
+  pub room : has_room ≡ true
+  pub b : Feature
+  pub holds : new_held ≡ held ++ b ∷ []
+  pub met : KeepsMet old firsts seconds kept b new_firsts new_seconds
+
+-- both inputs were gone over
+abbrev pub GoesOver : Bool → Option Feature → WholeRecords → WholeRecords → List Feature → Option Feature
+    → WholeRecords → WholeRecords → List Feature → Type 0
+GoesOver has_room old firsts seconds held kept new_firsts new_seconds new_held =
+    (KeepsLeap old firsts seconds kept new_firsts new_seconds × (new_held ≡ held))
+    ⊎ HoldsMet has_room old firsts seconds held kept new_firsts new_seconds new_held
+
 -- a sweep that holds nothing, and has no line for a record that nothing hits, went over both inputs
 pub record LeapsBare (old : Sweeping) (firsts seconds : WholeRecords) (new : Sweeping)
     (new_firsts new_seconds : WholeRecords) : Type 0 where
   pub bare : IsBare old Nothing
   pub going : old.done ≡ false
-  pub keeps : KeepsLeap old.last firsts seconds new.last new_firsts new_seconds
-  pub others : new ≡ record old { last = new.last }
+  pub goes : GoesOver (has_room_in old) old.last firsts seconds old.held new.last new_firsts new_seconds
+      new.held
+  pub others : new ≡ record old { last = new.last; held = new.held }
 
 -- or over the second input alone
 pub record LeapsBehind (old : Sweeping) (firsts seconds : WholeRecords) (new : Sweeping)

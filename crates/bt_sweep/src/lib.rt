@@ -39,6 +39,7 @@ mod leap;
 mod pieces;
 pub mod plain;
 mod plain_pieces;
+mod reach;
 mod shape;
 mod started;
 mod state;

@@ -6,10 +6,11 @@ ghost use Rattle.bt_bed.specs.Bed.{feature_lent};
 ghost use Rattle.bt_bed.specs.Feature.{Feature};
 ghost use Rattle.bt_bed.specs.LineKind.{fault_at_line};
 ghost use Rattle.bt_lines.specs.Names.{told};
-ghost use Rattle.bt_sweep.specs.Deciding.{decides};
+ghost use Rattle.bt_sweep.specs.Reaching.{IsReachBy};
 ghost use Rattle.bt_sweep.specs.Held.{AreRising, AreWith};
 ghost use Rattle.bt_sweep.specs.IntersectLines.{lines_for};
-ghost use Rattle.bt_sweep.specs.StateLeaping.{KeepsLeap, Leaps};
+ghost use Rattle.bt_bed.specs.WholeRecords.{GivesWhole};
+ghost use Rattle.bt_sweep.specs.StateLeaping.{GoesOver, Leaps};
 ghost use Rattle.bt_sweep.specs.StatePassing.{DecidesUpTo, PassesBefore, PassesBy, TakesWhole};
 ghost use Rattle.bt_sweep.specs.StateSteps.{Holds, KeepsLast, TakesA, WritesLast, has_room_in, held_with, is_held_by, moved_to};
 ghost use Rattle.bt_sweep.specs.SweepState.{want_in};
@@ -17,6 +18,7 @@ ghost use Rattle.bt_sweep.specs.SweepState.{want_in};
 use crate::held::Held;
 use crate::hit_rule::HitRule;
 use crate::leap::leap_over;
+use crate::reach::{Reach, reach_of};
 use crate::shape::Shape;
 use crate::unhit::{Unhit, has_line, most_bytes, put_unhit, unhit_of};
 use crate::want::Want;
@@ -205,44 +207,51 @@ impl<H: Held> State<H> {
     }
 
     // Goes over both inputs as far as they stand whole and share no base, where nothing is held and a record that nothing
-    // hits has no line: the last record of the first input that was passed so waits. Else it passes records of the second
-    // alone, before the one that waits, and so it does where memory runs out.
+    // hits has no line: the last record of the first input that was passed so waits, and the record of the second that
+    // then shares a base with it is held. Else it passes records of the second alone, before the one that waits, and so
+    // it does where memory or the room for that record runs out.
     pub(crate) fn leap(&mut self, firsts: &mut WholeRecords<'_>, seconds: &mut WholeRecords<'_>)
         ensures { Leaps self.old firsts.old seconds.old self.new firsts.new seconds.new }
     {
         if self.b_ended || self.done || self.held.len() != 0 || !needs_hit(self.shape) {
             return self.pass_before(seconds);
         }
-        match leap_both(self.alloc, &self.last, &mut self.spare, firsts, seconds) {
+        let has_room = self.has_room();
+        match leap_both(
+            self.alloc,
+            has_room,
+            &self.last,
+            &mut self.spare,
+            &mut self.held,
+            firsts,
+            seconds,
+        ) {
             None => self.pass_before(seconds),
             Some(true) => become_kept(&mut self.last, &mut self.spare),
             Some(false) => {}
         }
     }
 
-    // Whether the record decides the last one of the first input.
-    pub(crate) fn is_decided_by<O: ChromOrder>(&self, order: &O, b: &BedRef<'_>) -> bool
+    // Where the record of the second input lies beside the last one of the first.
+    pub(crate) fn reach<O: ChromOrder>(&self, order: &O, b: &BedRef<'_>) -> Reach
         requires known_a { (a : Feature) → self.now.last ≡ Some a → IsTrue ((O.order order.now).knows a.chrom) }
         requires known_b { IsTrue ((O.order order.now).knows b.now.chrom.now) }
-        ensures { (a : Feature) → self.now.last ≡ Some a
-            → result ≡ decides (O.order order.now) a (feature_lent b.now) }
+        ensures { IsReachBy result (O.order order.now) self.now.last (feature_lent b.now) }
     {
         match &self.last {
-            None => false,
-            Some(last) => is_past(order, &last.as_bed(), b),
+            None => Reach::Before,
+            Some(last) => reach_of(order, &last.as_bed(), b),
         }
     }
 
-    // Holds the record, which is at a line of the second input, if it can hit the last one of the first
-    // or a later one. That there is room for it is tested before it is copied.
+    // Holds the record, which is at a line of the second input and has to be held. That there is room for it is tested
+    // before it is copied.
     pub(crate) fn hold(&mut self, b: &BedRef<'_>, line: u64) -> Result<(), Fault>
+        requires { IsTrue (is_held_by self.old.last (feature_lent b.now)) }
         ensures holds { Holds self.old (feature_lent b.now) line result self.new }
         ensures stops { OnErr result (want_in self.new ≡ Want.Nothing) }
         ensures last { self.new.last ≡ self.old.last }
     {
-        if !is_to_be_held(&self.last, b) {
-            return Ok(());
-        }
         if !self.has_room() {
             self.stop();
             return Err(too_many_held(line));
@@ -316,11 +325,7 @@ impl<H: Held> State<H> {
         ensures added { OnOk result (self.new ≡ record self.old { held = self.old.held ++ feature_lent b.now ∷ [] }) }
         ensures last { OnErr result (self.new ≡ self.old) }
     {
-        let rec = b.to_rec(self.alloc)?;
-        match self.held.push(rec) {
-            Ok(()) => Ok(()),
-            Err(_) => Err(AllocError),
-        }
+        hold_copy(self.alloc, &mut self.held, b)
     }
 }
 
@@ -366,32 +371,6 @@ fn replace(alloc: Global, last: &mut Option<Rec>, a: &BedRef<'_>) -> Result<(), 
             *last = Some(a.to_rec(alloc)?);
             Ok(())
         }
-    }
-}
-
-// Whether the record lies on the chromosome of the last one and ends above its start.
-fn is_to_be_held(last: &Option<Rec>, b: &BedRef<'_>) -> bool
-    ensures { result ≡ is_held_by last.now (feature_lent b.now) }
-{
-    match last {
-        None => false,
-        Some(last) => {
-            let a = last.as_bed();
-            is_same_name(a.chrom, b.chrom) && a.start < b.stop
-        }
-    }
-}
-
-// Whether the record b lies on a later chromosome than a, or on its own at or past its end.
-fn is_past<O: ChromOrder>(order: &O, a: &BedRef<'_>, b: &BedRef<'_>) -> bool
-    requires known_a { IsTrue ((O.order order.now).knows a.now.chrom.now) }
-    requires known_b { IsTrue ((O.order order.now).knows b.now.chrom.now) }
-    ensures { result ≡ decides (O.order order.now) (feature_lent a.now) (feature_lent b.now) }
-{
-    match order.compare(b.chrom, a.chrom) {
-        Ordering::Less => false,
-        Ordering::Equal => a.stop <= b.start,
-        Ordering::Greater => true,
     }
 }
 
@@ -492,19 +471,25 @@ fn put_last<H: Held, K: Sink>(
     }
 }
 
-// Goes over both inputs from the last record on, keeps the one of the first that waits then, and answers whether that is
-// another one. Where it answers `None` it passes none, as where memory runs out, there is no last record, or the records
-// lie on another chromosome than it.
-fn leap_both(
+// Goes over both inputs from the last record on, keeps the one of the first that waits then, holds that of the second
+// that shares a base with it, if one does, and answers whether another one waits. Where it answers `None` it passes and
+// holds none, as where memory or the room runs out, there is no last record, or the records lie on another chromosome
+// than it.
+fn leap_both<H: Held>(
     alloc: Global,
+    has_room: bool,
     last: &Option<Rec>,
     kept: &mut Option<Rec>,
+    held: &mut H,
     firsts: &mut WholeRecords<'_>,
     seconds: &mut WholeRecords<'_>,
 ) -> Option<bool>
-    ensures moves { result ≡ Some true → KeepsLeap last.now firsts.old seconds.old kept.new firsts.new seconds.new }
-    ensures stays { result ≡ Some false → KeepsLeap last.now firsts.old seconds.old last.now firsts.new seconds.new }
-    ensures none { result ≡ None → (firsts.new ≡ firsts.old) × (seconds.new ≡ seconds.old) }
+    ensures moves { result ≡ Some true → GoesOver has_room last.now firsts.old seconds.old (H.records held.old)
+        kept.new firsts.new seconds.new (H.records held.new) }
+    ensures stays { result ≡ Some false → GoesOver has_room last.now firsts.old seconds.old (H.records held.old)
+        last.now firsts.new seconds.new (H.records held.new) }
+    ensures none { result ≡ None → (firsts.new ≡ firsts.old) × (seconds.new ≡ seconds.old)
+        × (H.records held.new ≡ H.records held.old) }
 {
     let Some(last) = last else {
         return None;
@@ -514,18 +499,59 @@ fn leap_both(
         return None;
     }
     let leap = leap_over(&last, *firsts, *seconds);
-    if leap.firsts.bytes_passed() == firsts.bytes_passed() {
-        *firsts = leap.firsts;
-        *seconds = leap.seconds;
-        return Some(false);
-    }
-    let Some(line) = leap.firsts.last_line() else {
+    let is_other = firsts.bytes_passed() < leap.firsts.bytes_passed();
+    if is_other && !is_last_kept(alloc, kept, &leap.firsts) {
         return None;
-    };
-    if replace(alloc, kept, &line.bed()).is_err() {
+    }
+    let mut behind = leap.seconds;
+    if leap.meets && !is_next_held(alloc, has_room, held, &mut behind) {
         return None;
     }
     *firsts = leap.firsts;
-    *seconds = leap.seconds;
-    Some(true)
+    *seconds = behind;
+    Some(is_other)
+}
+
+// Keeps the record that was passed last, if there is memory for it, and answers whether it did.
+fn is_last_kept(alloc: Global, kept: &mut Option<Rec>, records: &WholeRecords<'_>) -> bool
+    ensures { result ≡ true → (old : WholeRecords) (r : Feature) → GivesWhole old r records.now
+        → kept.new ≡ Some r }
+{
+    match records.last_line() {
+        Some(line) => replace(alloc, kept, &line.bed()).is_ok(),
+        None => false,
+    }
+}
+
+// Holds the next record and passes it, if there are room and memory for it, and answers whether it did.
+fn is_next_held<H: Held>(
+    alloc: Global,
+    has_room: bool,
+    held: &mut H,
+    records: &mut WholeRecords<'_>,
+) -> bool
+    ensures held { result ≡ true → (has_room ≡ true) × (b : Feature) × GivesWhole records.old b records.new
+        × (H.records held.new ≡ H.records held.old ++ b ∷ []) }
+    ensures none { result ≡ false → H.records held.new ≡ H.records held.old }
+{
+    if !has_room {
+        return false;
+    }
+    let Some(b) = records.next() else {
+        return false;
+    };
+    hold_copy(alloc, held, &b).is_ok()
+}
+
+// Holds a copy of the record. The function isn't inlined, since with two calls of it less of what it calls would be.
+#[inline(never)]
+fn hold_copy<H: Held>(alloc: Global, held: &mut H, b: &BedRef<'_>) -> Result<(), AllocError>
+    ensures held { OnOk result (H.records held.new ≡ H.records held.old ++ feature_lent b.now ∷ []) }
+    ensures none { OnErr result (H.records held.new ≡ H.records held.old) }
+{
+    let rec = b.to_rec(alloc)?;
+    match held.push(rec) {
+        Ok(()) => Ok(()),
+        Err(_) => Err(AllocError),
+    }
 }

@@ -5,6 +5,7 @@ ghost use Rattle.bt_bed.specs.Feature.{Feature};
 
 use crate::held::Held;
 use crate::hit_rule::HitRule;
+use crate::reach::Reach;
 use crate::shape::Shape;
 use crate::state::State;
 use crate::want::Want;
@@ -119,12 +120,13 @@ impl<'o, H: Held, O: ChromOrder> Sweep<'o, H, O> {
         self.state.take_whole(self.order, records, b, out)
     }
 
-    /// Takes records of both inputs that stand whole, as [`Sweep::give_b`] and [`Sweep::give_a`] do with each, as long as
-    /// no record of one shares a base with one of the other: those of the second that end at the start of the current
-    /// record of the first or before it, and where nothing is held and a record that nothing hits has no line, those of
-    /// the first that end at the start of the next one of the second or before it. Nothing is held or written. What it
-    /// took was passed, which may be none. Of the first input's records only the last one is copied, and where there is no
-    /// memory for that it takes none of that input.
+    /// Takes records of both inputs that stand whole, as [`Sweep::give_b`] and [`Sweep::give_a`] do with each: those of
+    /// the second that end at the start of the current record of the first or before it, and where nothing is held and a
+    /// record that nothing hits has no line, those of the first that end at the start of the next one of the second or
+    /// before it, up to the first two that share a base. Of these the record of the second is held, and that of the first
+    /// is the current one then. Nothing is written. What it took was passed, which may be none. Of the first input's
+    /// records only the last one is copied, and where there is no memory for that or for the one to be held, or the limit
+    /// leaves no room, it takes none of that input.
     pub fn take_both(&mut self, firsts: &mut WholeRecords<'_>, seconds: &mut WholeRecords<'_>)
         requires { want_in (state_of self.old) ≡ Want.B }
         ensures takes { TakesBoth (order_of self.old) (state_of self.old) firsts.old seconds.old (state_of self.new)
@@ -176,12 +178,17 @@ impl<'o, H: Held, O: ChromOrder> Sweep<'o, H, O> {
         ensures stops { OnErr result (want_in (state_of self.new) ≡ Want.Nothing) }
         ensures order { order_of self.new ≡ order_of self.old }
     {
-        if self.state.is_decided_by(self.order, b) {
-            self.state.write(out)?;
-            return Ok(Taken::No);
+        match self.state.reach(self.order, b) {
+            Reach::Before => Ok(Taken::Yes),
+            Reach::Within => {
+                self.state.hold(b, line)?;
+                Ok(Taken::Yes)
+            }
+            Reach::Past => {
+                self.state.write(out)?;
+                Ok(Taken::No)
+            }
         }
-        self.state.hold(b, line)?;
-        Ok(Taken::Yes)
     }
 
     /// Takes the end of the second input, and writes the lines of the current record of the first. It

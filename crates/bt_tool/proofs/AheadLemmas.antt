@@ -1,13 +1,11 @@
 -- Lemmas on feeding an engine with records that stand whole in what a reader took ahead.
-use Rattle.std.proofs.Common.{◌≡◌, ℕ, ◌≤◌, Bool, List, [], ◌∷◌, ◌++◌, Option, None, Some, Result, Ok, Err, refl, sym, ◌∙◌, ap, subst, inl, inr, arith}
-use Rattle.std.specs.Prelude.{◌⊎◌, IfSome}
+use Rattle.std.proofs.Common.{◌≡◌, ℕ, ◌≤◌, Bool, List, [], ◌∷◌, ◌++◌, Option, None, Result, Ok, Err, refl, sym, ◌∙◌, ap, subst, inl, inr, arith}
 use Rattle.bt_lines.specs.Fault.{Told}
 use Rattle.bt_lines.specs.Names.{told}
 use Rattle.bt_lines.specs.Output.{Output}
-use Rattle.bt_lines.specs.Reader.{CutsOff, Hands, HasRead}
+use Rattle.bt_lines.specs.Reader.{HasRead}
 use Rattle.bt_lines.specs.declared.fault.Fault.{Fault}
 use Rattle.bt_lines.specs.declared.fault.Kind.{Kind}
-use Rattle.bt_lines.specs.declared.line_reader.LineReader.{LineReader}
 use Rattle.bt_lines.proofs.ReadsLemmas.{has_read_then, reads_same}
 use Rattle.bt_bed.specs.Feature.{Feature, intervals_of}
 use Rattle.bt_bed.specs.Good.{Member}
@@ -15,7 +13,7 @@ use Rattle.bt_bed.specs.GoodBed.{bed_format}
 use Rattle.bt_bed.specs.Interval.{AreNonEmpty}
 use Rattle.bt_bed.specs.LineKind.{IsBedKind}
 use Rattle.bt_bed.specs.Locus.{ArePlaced}
-use Rattle.bt_bed.specs.Reading.{MemberReader, good_coming}
+use Rattle.bt_bed.specs.Reading.{MemberReader}
 use Rattle.bt_bed.specs.Records.{below, fault_kept, order_in, room, view_of}
 use Rattle.bt_bed.specs.Sorting.{sorting_of}
 use Rattle.bt_bed.specs.WholeRecords.{ArePassed, LendsWhole, PassesEach, PassesNext, records_passed}
@@ -24,8 +22,8 @@ use Rattle.bt_bed.specs.declared.records.Records.{Records}
 use Rattle.bt_bed.specs.declared.whole_records.WholeRecords.{WholeRecords}
 use Rattle.bt_runs.proofs.EachTaken.{gives_more}
 use Rattle.bt_runs.specs.Engine.{Feeds as EngineFeeds, FeedsWhole, TakesEach}
-use Rattle.bt_tool.specs.Ahead.{FailsAhead, FeedsAhead, TakesAhead}
-use Rattle.bt_tool.specs.Feeding.{AreInOrder, FeedsUpTo, StopCause, StopsGrowing, StopsReading, StopsWriting, Took}
+use Rattle.bt_tool.specs.Ahead.{FeedsAhead}
+use Rattle.bt_tool.specs.Feeding.{AreInOrder, FeedsUpTo, StopCause, Took}
 use Rattle.bt_tool.specs.Passed.{HasFaultBehind, member_items}
 use Rattle.bt_tool.specs.Turns.{HasAhead}
 use Rattle.bt_tool.proofs.FeedLemmas.{Going, goes_feeding, sorted_items, stops_feeding}

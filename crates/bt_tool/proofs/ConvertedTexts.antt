@@ -1,19 +1,16 @@
 -- Lemmas on writing the alignments of lines that stand whole in what a reader took ahead.
-use Rattle.std.proofs.Common.{◌≡◌, ℕ, suc, ◌≤◌, Bool, List, [], ◌∷◌, ◌++◌, Option, None, Result, Ok, Err, refl, sym, ap, ◌∙◌, subst, arith}
+use Rattle.std.proofs.Common.{◌≡◌, ℕ, suc, ◌≤◌, Bool, List, [], ◌∷◌, ◌++◌, Option, Result, Ok, Err, refl, sym, subst, arith}
 use Rattle.bt_lines.proofs.ReadsLemmas.{has_read_then, reads_same}
-use Rattle.bt_lines.specs.Fault.{Told}
-use Rattle.bt_lines.specs.Names.{told}
 use Rattle.bt_lines.specs.Output.{Output}
-use Rattle.bt_lines.specs.Reader.{HasRead, fault_kept, held, lines_given, room}
+use Rattle.bt_lines.specs.Reader.{HasRead, held, lines_given, room}
 use Rattle.bt_lines.specs.Whole.{ArePassed, Begins, GivesPlain, GivesPlains, passed_by, plain_line}
 use Rattle.bt_lines.specs.declared.fault.Fault.{Fault}
 use Rattle.bt_lines.specs.declared.line_reader.LineReader.{LineReader}
 use Rattle.bt_lines.specs.declared.whole.WholeLines.{WholeLines}
 use Rattle.bt_seq.proofs.FeedingLemmas.{passed_behind}
-use Rattle.bt_seq.specs.Alignment.{alignment_of}
 use Rattle.bt_seq.specs.BamToBedState.{Converting}
-use Rattle.bt_seq.specs.FedTexts.{FeedsTexts, SaidUnwritten, SaidWritten, WritesTexts}
-use Rattle.bt_tool.specs.ConvertSteps.{ConvertsTexts, LineUnwritten}
+use Rattle.bt_seq.specs.FedTexts.{FeedsTexts, WritesTexts}
+use Rattle.bt_tool.specs.ConvertSteps.{ConvertsTexts}
 use Rattle.bt_tool.proofs.ConvertLemmas.{Going, going_line}
 
 module _ {S : Type 0} (left : S → Option (List ℕ)) (failed end : S → Bool) (IsRead : S → Option ℕ → S → Type 0) where

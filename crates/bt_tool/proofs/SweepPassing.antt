@@ -1,10 +1,9 @@
 -- Lemmas on several turns of a sweep at once: records of the first input that the record ahead of the second decides,
 -- or records of the second before the current one of the first.
-use Rattle.std.proofs.Common.{◌≡◌, ℕ, ◌+◌, ◌<◌, ◌≤◌, ◌⊎◌, length, Bool, List, [], ◌∷◌, ◌++◌, Option, None, Some, Ok, refl, sym, ap, subst, arith, inl, inr}
+use Rattle.std.proofs.Common.{◌≡◌, ℕ, ◌+◌, ◌<◌, ◌≤◌, ◌⊎◌, length, Bool, List, [], ◌∷◌, ◌++◌, Option, None, Some, Ok, refl, ap, subst, arith, inl, inr}
 use Rattle.bt_lines.specs.Output.{Output}
 use Rattle.bt_lines.specs.Reader.{HasRead}
 use Rattle.bt_lines.proofs.ReadsLemmas.{reads_same}
-use Rattle.bt_bed.specs.Bed.{feature_lent}
 use Rattle.bt_bed.specs.Feature.{Feature}
 use Rattle.bt_bed.specs.GoodBed.{bed_format}
 use Rattle.bt_bed.specs.Order.{Order, IsTotal}
@@ -13,7 +12,8 @@ use Rattle.bt_bed.specs.Sorting.{sorting_of}
 use Rattle.bt_bed.specs.WholeRecords.{PassesEach, PassesNext}
 use Rattle.bt_bed.specs.declared.order.ChromOrder.{Ghosts}
 use Rattle.bt_bed.specs.declared.records.Records.{Records}
-use Rattle.bt_sweep.specs.Passing.{PassesFirsts, PassesRound, PassesRounds, PassesSecond, PassesSeconds, PassesThen, PassesUpTo, Round, Skipped, firsts_of, seconds_of, skipped_records}
+use Rattle.bt_sweep.specs.Passing.{PassesFirsts, PassesRound, PassesRounds, PassesSeconds, PassesThen, PassesUpTo, Round, Skipped, firsts_of, seconds_of, skipped_records}
+use Rattle.bt_sweep.specs.Passing.{TakesSecond as GivesSecond}
 use Rattle.bt_sweep.specs.SweepState.{Sweeping, want_in}
 use Rattle.bt_sweep.specs.declared.hit_rule.HitRule.{HitRule}
 use Rattle.bt_sweep.specs.declared.shape.Shape.{Shape}
@@ -136,23 +136,23 @@ module _ {A B O : Type 0} {g : Ghosts O} (a_left : A → Option (List ℕ)) (a_f
   Has first second sweep = Sweeps a_left a_failed a_end b_left b_failed b_end (order_in old_first) shape rule limit old_first old_second out first second sweep grown
 
   -- one round
-  goes_round : (b : Feature) (skipped : Option Skipped) (first now : Records A O g) (second now_second : Records B O g) (sweep swept : Sweeping) → Has first second sweep → want_in sweep ≡ WantB → PassesEach a_left a_failed a_end IsRead first (skipped_records skipped) now
-      → PassesNext b_left b_failed b_end IsReadSecond second b now_second → PassesRound order grown sweep b skipped swept → want_in swept ≡ WantB → PassesSecond order swept b
-      → Has now now_second swept × (left_to_ask now now_second swept ≤ left_to_ask first second sweep)
-  goes_round b None first now second now_second sweep swept s wants passes next same waits given =
+  goes_round : (b : Feature) (skipped : Option Skipped) (first now : Records A O g) (second now_second : Records B O g) (sweep swept taken : Sweeping) → Has first second sweep → want_in sweep ≡ WantB → PassesEach a_left a_failed a_end IsRead first (skipped_records skipped) now
+      → PassesNext b_left b_failed b_end IsReadSecond second b now_second → PassesRound order grown sweep b skipped swept → want_in swept ≡ WantB → GivesSecond order swept b taken
+      → Has now now_second taken × (left_to_ask now now_second taken ≤ left_to_ask first second sweep)
+  goes_round b None first now second now_second sweep swept taken s wants passes next same waits given =
       let ahead = next_ahead b_left b_failed b_end IsReadSecond second now_second b next in
       let s' : Has now second swept = rw (passes, same) s in
-      let turn : TakesSecond b_left b_failed b_end order second swept grown now_second swept grown = record {
+      let turn : TakesSecond b_left b_failed b_end order second swept grown now_second taken grown = record {
         item = b;
         peeked = next.peeked;
         ahead = ahead;
         passes = next.passes;
         given = λ shape rule limit stage a stands waiting placed. given shape rule limit stage a ahead.gives.line grown stands waiting;
       } in
-      let took = turns_second a_left a_failed a_end b_left b_failed b_end shape rule limit old_first old_second out total same_order is_bed is_bed_second now second swept grown order is_order s' waits now_second swept grown (inl turn) in
+      let took = turns_second a_left a_failed a_end b_left b_failed b_end shape rule limit old_first old_second out total same_order is_bed is_bed_second now second swept grown order is_order s' waits now_second taken grown (inl turn) in
       let less : left_to_ask now second swept ≤ left_to_ask first second sweep = rw (passes, same) (let n : left_to_ask first second sweep ≤ left_to_ask first second sweep = omega arith in n) in
       (took.0, omega (arith, took.1, less))
-  goes_round b (Some k) first now second now_second sweep swept s wants passes next skips waits given =
+  goes_round b (Some k) first now second now_second sweep swept taken s wants passes next skips waits given =
       let ahead = next_ahead b_left b_failed b_end IsReadSecond second now_second b next in
       let again = is_still_ahead b_left b_failed b_end next.peeked b next.again in
       let back : LeavesSecond b_left b_failed b_end order second sweep grown next.peeked skips.left grown = record {
@@ -162,14 +162,14 @@ module _ {A B O : Type 0} {g : Ghosts O} (a_left : A → Option (List ℕ)) (a_f
       } in
       let left = turns_second a_left a_failed a_end b_left b_failed b_end shape rule limit old_first old_second out total same_order is_bed is_bed_second first second sweep grown order is_order s wants next.peeked skips.left grown (inr (inl back)) in
       let over = goes_then a_left a_failed a_end IsRead b_left b_failed b_end shape rule limit old_first old_second out total same_order is_bed is_bed_second next.peeked order is_order b again k.firsts k.next first now skips.left swept grown grown left.0 passes skips.passes in
-      let turn : TakesSecond b_left b_failed b_end order next.peeked swept grown now_second swept grown = record {
+      let turn : TakesSecond b_left b_failed b_end order next.peeked swept grown now_second taken grown = record {
         item = b;
         peeked = next.peeked;
         ahead = again;
         passes = next.passes;
         given = λ shape rule limit stage a stands waiting placed. given shape rule limit stage a again.gives.line grown stands waiting;
       } in
-      let took = turns_second a_left a_failed a_end b_left b_failed b_end shape rule limit old_first old_second out total same_order is_bed is_bed_second now next.peeked swept grown order is_order over.0 waits now_second swept grown (inl turn) in
+      let took = turns_second a_left a_failed a_end b_left b_failed b_end shape rule limit old_first old_second out total same_order is_bed is_bed_second now next.peeked swept grown order is_order over.0 waits now_second taken grown (inl turn) in
       (took.0, omega (arith, took.1, over.1, left.1))
 
   goes_rounds : (rounds : List Round) (first now : Records A O g) (second now_second : Records B O g) (sweep swept : Sweeping) → Has first second sweep → want_in sweep ≡ WantB → PassesEach a_left a_failed a_end IsRead first (firsts_of rounds) now
@@ -179,8 +179,8 @@ module _ {A B O : Type 0} {g : Ghosts O} (a_left : A → Option (List ℕ)) (a_f
       (rw (firsts, seconds, passes) s, rw (firsts, seconds, passes) (let n : left_to_ask first second sweep ≤ left_to_ask first second sweep = omega arith in n))
   goes_rounds (round ∷ more) first now second now_second sweep swept s wants firsts seconds passes =
       let split = each_split a_left a_failed a_end IsRead first now (skipped_records round.skipped) (firsts_of more) firsts in
-      let done = goes_round round.b round.skipped first split.0 second seconds.0 sweep passes.0 s wants split.1 seconds.1 passes.1 passes.2 passes.3 in
-      let rest = goes_rounds more split.0 now seconds.0 now_second passes.0 swept done.0 passes.2 split.2 seconds.2 passes.4 in
+      let done = goes_round round.b round.skipped first split.0 second seconds.0 sweep passes.0 passes.1 s wants split.1 seconds.1 passes.2 passes.3 passes.4 in
+      let rest = goes_rounds more split.0 now seconds.0 now_second passes.1 swept done.0 passes.5 split.2 seconds.2 passes.6 in
       (rest.0, omega (arith, rest.1, done.1))
 
   -- how far the run has come then, with how much is still asked for and what was read

@@ -191,7 +191,7 @@ module _ {A B O : Type 0} {g : Ghosts O} (a_left : A → Option (List ℕ)) (a_f
     (IsRead : A → Option ℕ → A → Type 0) (b_left : B → Option (List ℕ)) (b_failed b_end : B → Bool)
     (IsReadSecond : B → Option ℕ → B → Type 0)
     (order : Order) (first : Records A O g) (second : Records B O g) (sweep : Sweeping) where
-  -- records of both inputs were given and passed; none of the second is held, and nothing was written
+  -- records of both inputs were given and passed, and nothing was written
   pub record GivesRounds (new : Records A O g) (new_second : Records B O g) (swept : Sweeping)
       : Type 0 where
     pub rounds : List Round

@@ -139,7 +139,7 @@ fn turn_second<B: Source, O: ChromOrder, H: Held, K: Sink>(
 }
 
 // Gives a sweep records of both inputs that stand whole, as many as it takes so, which may be none. It is tried where
-// nothing is held, and it is time to.
+// nothing is held, no record of the second input is ahead, and it is time to.
 fn take_both<A: Source, B: Source, O: ChromOrder, H: Held>(
     pace: &mut Pace,
     first: &mut Records<'_, A, O>,
@@ -153,11 +153,14 @@ fn take_both<A: Source, B: Source, O: ChromOrder, H: Held>(
     ensures order { order_of sweep.new ≡ order_of sweep.old }
 {
     let before = second.lines();
-    if !pace.is_due(before) || sweep.held().len() != 0 {
+    if !pace.is_due(before) || sweep.held().len() != 0 || second.record().is_some() {
         return;
     }
+    let before_first = first.lines();
     pass_both(first, second, sweep);
-    pace.note(before, second.lines());
+    // Those of the first input count too.
+    let passed_first = first.lines().saturating_sub(before_first);
+    pace.note(before.saturating_sub(passed_first), second.lines());
 }
 
 // Passes records of both inputs that stand whole, or where those of the first don't, of the second alone.

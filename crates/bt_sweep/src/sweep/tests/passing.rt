@@ -57,8 +57,8 @@ fn take_whole<S: Source, K: Sink>(
     }
 }
 
-// Takes the records of both inputs that stand whole, as long as no record of one shares a base with
-// one of the other, if the second input is asked for.
+// Takes the records of both inputs that stand whole, up to the first two that share a base, if the second input is
+// asked for.
 fn take_both<S: Source>(
     records: &mut Records<'_, S, Genome>,
     seconds: &mut Records<'_, S, Genome>,
@@ -263,22 +263,33 @@ fn records_before_the_current_one_are_passed(rt: HostRuntime) -> Result<(), Fail
     Ok(())
 }
 
-// A shape, the records of both inputs behind the first two of each, and the bounds of those that are left of each then.
+// A shape, the records of both inputs behind the first two of each, and the bounds of those that are left of each then,
+// and of the one that is held.
 type Both = (
     Shape,
     &'static [u8],
     &'static [u8],
     Option<(u64, u64)>,
     Option<(u64, u64)>,
+    Option<(u64, u64)>,
 );
 
-const BOTH: [Both; 5] = [
+const BOTH: [Both; 7] = [
     (
         Shape::Cut,
         b"chr1\t1\t5\nchr1\t2\t6\nchr1\t20\t25\nchr1\t40\t45\nchr1\t60\t70\n",
-        b"chr1\t1\t2\nchr1\t1\t2\nchr1\t6\t8\nchr1\t30\t35\nchr1\t44\t50\n",
+        b"chr1\t1\t2\nchr1\t1\t2\nchr1\t6\t8\nchr1\t30\t35\nchr1\t44\t50\nchr1\t44\t60\n",
         Some((60, 70)),
+        Some((44, 60)),
         Some((44, 50)),
+    ),
+    (
+        Shape::CutAndB,
+        b"chr1\t1\t5\nchr1\t2\t6\nchr1\t20\t25\nchr1\t40\t45\nchr1\t60\t70\n",
+        b"chr1\t1\t2\nchr1\t1\t2\nchr1\t45\t60\nchr1\t59\t61\nchr1\t90\t99\n",
+        None,
+        Some((90, 99)),
+        Some((59, 61)),
     ),
     (
         Shape::Once,
@@ -286,12 +297,22 @@ const BOTH: [Both; 5] = [
         b"chr1\t1\t2\nchr1\t1\t2\nchr1\t6\t8\nchr1\t29\t30\nchr1\t46\t50\nchr1\t80\t90\n",
         None,
         Some((80, 90)),
+        None,
+    ),
+    (
+        Shape::OrigBoth,
+        b"chr1\t1\t5\nchr1\t2\t6\nchr1\t20\t25\nchr1\t26\t29\n",
+        b"chr1\t1\t2\nchr1\t1\t2\nchr1\t50\t60\n",
+        Some((20, 25)),
+        Some((50, 60)),
+        None,
     ),
     (
         Shape::OrigA,
         b"chr1\t1\t5\nchr1\t2\t6\nchr1\t20\t25\n",
         b"chr1\t1\t2\nchr1\t1\t2\nchr1\t3\t8\nchr1\t30\t35\n",
         Some((20, 25)),
+        Some((30, 35)),
         Some((3, 8)),
     ),
     (
@@ -300,6 +321,7 @@ const BOTH: [Both; 5] = [
         b"chr2\t1\t2\nchr2\t1\t2\nchr2\t6\t8\n",
         Some((20, 25)),
         Some((6, 8)),
+        None,
     ),
     (
         Shape::Missing,
@@ -307,12 +329,13 @@ const BOTH: [Both; 5] = [
         b"chr1\t1\t2\nchr1\t1\t2\nchr1\t1\t2\nchr1\t6\t8\n",
         Some((20, 25)),
         Some((6, 8)),
+        None,
     ),
 ];
 
-// Whether so many are taken of both, and a record of the first input waits.
+// Whether so many are taken of both, one is held or none, and a record of the first input waits.
 fn are_taken(alloc: Global, genome: &Genome, case: &Both) -> Result<bool, Fail> {
-    let (shape, first, second, left, left_second) = *case;
+    let (shape, first, second, left, left_second, held) = *case;
     let mut records = behind_two(alloc, first, genome)?;
     let mut seconds = behind_two(alloc, second, genome)?;
     let mut sweep = any_overlap(alloc, shape, genome);
@@ -326,9 +349,19 @@ fn are_taken(alloc: Global, genome: &Genome, case: &Both) -> Result<bool, Fail> 
     Ok(
         next == left
             && next_second == left_second
-            && sweep.held().len() == 0
+            && only_held(&sweep) == held
             && sweep.want() == Want::B,
     )
+}
+
+// The bounds of the one record that is held, if it is one.
+fn only_held(sweep: &Sweep<'_, HeldList, Genome>) -> Option<(u64, u64)> {
+    let held = sweep.held();
+    if held.len() != 1 {
+        return None;
+    }
+    let bed = held.nth(0)?.as_bed();
+    Some((bed.start, bed.stop))
 }
 
 #[test]

@@ -1,4 +1,4 @@
-use Rattle.std.proofs.Common.{List, subst, sym, ◌∙◌, ℕ}
+use Rattle.std.proofs.Common.{subst, sym}
 use Rattle.bt_lines.specs.Reader.{held}
 use Rattle.bt_lines.specs.Whole.{ArePassed}
 use Rattle.bt_tool.proofs.ConvertedTexts.{passed_of, texts_given}

@@ -1,16 +1,15 @@
-use Rattle.std.proofs.Common.{◌++◌, ◌∷◌, ◌∙◌, ◌≤◌, ◌<◌, [], refl, subst, sym, arith}
+use Rattle.std.proofs.Common.{◌++◌, ◌∷◌, ◌∙◌, [], refl, subst, sym, arith}
 use Rattle.bt_lines.proofs.ReadsLemmas.{has_read_then, reads_same}
 use Rattle.bt_lines.specs.Names.{told}
 use Rattle.bt_lines.specs.Reader.{HasRead}
 use Rattle.bt_bed.specs.Bed.{feature_lent}
-use Rattle.bt_bed.specs.Records.{below, view_of}
+use Rattle.bt_bed.specs.Records.{below}
 use Rattle.bt_bed.proofs.ResultLemmas.{passed_on}
 use Rattle.bt_tool.specs.Feeding.{FeedsRecords, member_items}
 use Rattle.bt_tool.specs.Turns.{HasAhead}
 use Rattle.bt_tool.specs.OwnReads.{AnswersNoRead}
-use Rattle.bt_tool.specs.Passed.{KeepsOwnFault}
 use Rattle.bt_tool.proofs.AheadLemmas.{each_reads, each_room, fails_ahead, going_each, next_faultless, next_reads}
-use Rattle.bt_tool.proofs.FeedLemmas.{Going, going_start, goes_feeding, sorted_items, feeds_all, stops_reading, stops_feeding}
+use Rattle.bt_tool.proofs.FeedLemmas.{going_start, goes_feeding, sorted_items, feeds_all, stops_reading, stops_feeding}
 use Rattle.bt_tool.proofs.OwnFailureLemmas.{none_kept, own_then, told_kept}
 use Rattle.bt_tool.proofs.driving.feed_all.Goals as goal
 

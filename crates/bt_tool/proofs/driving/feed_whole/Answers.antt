@@ -1,6 +1,5 @@
-use Rattle.std.proofs.Common.{refl, subst, sym, ◌≡◌, List}
-use Rattle.bt_bed.specs.Feature.{Feature}
-use Rattle.bt_bed.specs.WholeRecords.{ArePassed, PassesEach, records_passed}
+use Rattle.std.proofs.Common.{subst, sym}
+use Rattle.bt_bed.specs.WholeRecords.{ArePassed}
 use Rattle.bt_tool.proofs.AheadLemmas.{fed_ahead, given_by}
 use Rattle.bt_tool.proofs.driving.feed_whole.Goals as goal
 

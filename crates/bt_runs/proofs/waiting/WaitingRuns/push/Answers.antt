@@ -1,18 +1,11 @@
-use Rattle.std.proofs.Common.{◌≡◌, length, rules}
-use Rattle.bt_runs.proofs.WaitingLemmas.{added_dot, added_minus, added_plus}
+use Rattle.std.proofs.Common.{◌≡◌, length, rules, refl, suc, arith}
+use Rattle.bt_runs.proofs.WaitingLemmas.{added_counts}
 use Rattle.bt_runs.proofs.waiting.WaitingRuns.push.Goals as goal
+use Rattle.bt_runs.proofs.waiting.WaitingRuns.push.Goals.{then-is_empty+in_ok-reserve, else-is_empty}
 
-pub invariant_of-self-in-Plus : goal.invariant_of-self-in-Plus
-invariant_of-self-in-Plus c =
-    let count : length c.self.inside.runs.items ≡ c.len-place.result = search rules in
-    rw (c.in_ok-push_back.ensures.items, ← count) (added_plus c.self.inside.runs.items (record { strand = c.args.strand; start = c.args.start; stop = c.args.stop }) _ _ _ c.self.invariant c.in-Plus.is)
-
-pub invariant_of-self-in-Minus : goal.invariant_of-self-in-Minus
-invariant_of-self-in-Minus c =
-    let count : length c.self.inside.runs.items ≡ c.len-place.result = search rules in
-    rw (c.in_ok-push_back.ensures.items, ← count) (added_minus c.self.inside.runs.items (record { strand = c.args.strand; start = c.args.start; stop = c.args.stop }) _ _ _ c.self.invariant c.in-Minus.is)
-
-pub invariant_of-self-in-Dot : goal.invariant_of-self-in-Dot
-invariant_of-self-in-Dot c =
-    let count : length c.self.inside.runs.items ≡ c.len-place.result = search rules in
-    rw (c.in_ok-push_back.ensures.items, ← count) (added_dot c.self.inside.runs.items (record { strand = c.args.strand; start = c.args.start; stop = c.args.stop }) _ _ _ c.self.invariant c.in-Dot.is)
+pub invariant_of-self-2 : goal.invariant_of-self-2
+invariant_of-self-2 c =
+    let items : c.if-is_empty.self-inside.runs.items ≡ c.self.inside.runs.items = elim c.if-is_empty.branch [ then-is_empty+in_ok-reserve w ↦ search rules | else-is_empty w ↦ search rules ] in
+    let counts : c.if-is_empty.self-inside.up_to_last ≡ c.self.inside.up_to_last = elim c.if-is_empty.branch [ then-is_empty+in_ok-reserve w ↦ search rules | else-is_empty w ↦ search rules ] in
+    let new : c.len.result ≡ suc (length c.if-is_empty.self-inside.runs.items) = search (rules, arith) in
+    rw (c.slot_of.ensures, new, counts, c.self.invariant, c.in_ok-push_back.ensures.items, items) (added_counts c.self.inside.runs.items (record { strand = c.args.strand; start = c.args.start; stop = c.args.stop }) c.args.strand refl)

@@ -1,4 +1,4 @@
-use Rattle.bt_sweep.proofs.LeapLemmas.{knows_still, takes_both, wants_still}
+use Rattle.bt_sweep.proofs.MeetLemmas.{knows_still, takes_both, wants_still}
 use Rattle.bt_sweep.proofs.sweep.Sweep.take_both.Goals as goal
 
 pub invariant_of-self : goal.invariant_of-self

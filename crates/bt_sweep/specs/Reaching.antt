@@ -1,0 +1,25 @@
+-- Where a record of the second input lies beside one of the first.
+use Rattle.std.specs.Prelude.{◌≡◌, ◌≤◌, ◌<◌, true, false, Option, None, Some}
+use Rattle.bt_bed.specs.Feature.{Feature}
+use Rattle.bt_bed.specs.Order.{Order}
+use Rattle.bt_sweep.specs.Deciding.{decides}
+use Rattle.bt_sweep.specs.Limit.{is_held}
+use Rattle.bt_sweep.specs.declared.reach.Reach.{Reach}
+use Rattle.bt_sweep.specs.declared.reach.Reach.TheVariants.{Before, Within, Past}
+
+-- b decides a, or has to be held while a waits, or neither
+abbrev pub IsReach : Reach → Order → Feature → Feature → Type 0
+IsReach Before order a b = (decides order a b ≡ false) × (is_held a b ≡ false)
+IsReach Within order a b = (decides order a b ≡ false) × (is_held a b ≡ true)
+IsReach Past order a b = decides order a b ≡ true
+
+-- the same on one chromosome
+abbrev pub IsReachBeside : Reach → Feature → Feature → Type 0
+IsReachBeside Before a b = (b.start < a.stop) × (b.stop ≤ a.start)
+IsReachBeside Within a b = (b.start < a.stop) × (a.start < b.stop)
+IsReachBeside Past a b = a.stop ≤ b.start
+
+-- beside the record that was given last, if one was
+abbrev pub IsReachBy : Reach → Order → Option Feature → Feature → Type 0
+IsReachBy reach order None b = reach ≡ Before
+IsReachBy reach order (Some a) b = IsReach reach order a b
