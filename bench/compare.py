@@ -491,7 +491,7 @@ def ended(process):
 
 
 def time_so_far(process):
-    """The processor time of a process so far in seconds, where the system keeps it (proc(5), schedstat), and else none."""
+    """The processor time of a process so far in seconds, where Linux keeps it in its file schedstat, and else none."""
     kept = Path(f"/proc/{process}/schedstat")
     return int(kept.read_text(encoding="ascii").split()[0]) / 1e9 if kept.exists() else 0
 

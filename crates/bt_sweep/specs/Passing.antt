@@ -1,5 +1,5 @@
 -- Records of one input given one after another, without a record of the other one being taken between
--- them.
+-- them, and records of both in rounds.
 use Rattle.std.specs.Prelude.{◌≡◌, ◌⊎◌, ◌<◌, ℕ, ⊤, length, List, [], ◌∷◌, ◌++◌, Option, None, Some, Ok}
 use Rattle.bt_lines.specs.Output.{Output}
 use Rattle.bt_bed.specs.Feature.{Feature, intervals_of}

@@ -7,7 +7,7 @@ ghost use Rattle.bt_sweep.specs.StateLeaping.{Halts, IsLeap, LeapsOn, SkipsTo, S
 
 use bt_bed::{BedRef, WholeRecords};
 
-// Where two inputs were gone over to: a record of the first, and all of the second that end at its start or before it.
+// How far two inputs were gone over: to a record of the first, which waits, and what is left of both.
 #[derive(Clone, Copy)]
 pub(crate) struct Leap<'a, 'b> {
     // Where that record lies.
@@ -29,8 +29,8 @@ struct Front<'a> {
     firsts: WholeRecords<'a>,
 }
 
-// Goes over both inputs, from this record of the first, up to the first record of the second that shares a base with one
-// of the first, or as far as they stand whole. The function isn't inlined, so that the loop has the registers to itself.
+// Goes over both inputs, from this record of the first, up to the first two records that share a base, or until too few
+// stand whole for a further round. The function isn't inlined, so that the loop has the registers to itself.
 #[inline(never)]
 pub(crate) fn leap_over<'a, 'b>(
     last: &BedRef<'_>,

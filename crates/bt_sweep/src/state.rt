@@ -5,11 +5,11 @@ ghost use Rattle.bt_lines.specs.Putting.{Adds};
 ghost use Rattle.bt_bed.specs.Bed.{feature_lent};
 ghost use Rattle.bt_bed.specs.Feature.{Feature};
 ghost use Rattle.bt_bed.specs.LineKind.{fault_at_line};
+ghost use Rattle.bt_bed.specs.WholeRecords.{GivesWhole};
 ghost use Rattle.bt_lines.specs.Names.{told};
 ghost use Rattle.bt_sweep.specs.Reaching.{IsReachBy};
 ghost use Rattle.bt_sweep.specs.Held.{AreRising, AreWith};
 ghost use Rattle.bt_sweep.specs.IntersectLines.{lines_for};
-ghost use Rattle.bt_bed.specs.WholeRecords.{GivesWhole};
 ghost use Rattle.bt_sweep.specs.StateLeaping.{GoesOver, Leaps};
 ghost use Rattle.bt_sweep.specs.StatePassing.{DecidesUpTo, PassesBefore, PassesBy, TakesWhole};
 ghost use Rattle.bt_sweep.specs.StateSteps.{Holds, KeepsLast, TakesA, WritesLast, has_room_in, held_with, is_held_by, moved_to};
@@ -206,10 +206,10 @@ impl<H: Held> State<H> {
         }
     }
 
-    // Goes over both inputs as far as they stand whole and share no base, where nothing is held and a record that nothing
+    // Goes over both inputs up to the first two records that share a base, where nothing is held and a record that nothing
     // hits has no line: the last record of the first input that was passed so waits, and the record of the second that
-    // then shares a base with it is held. Else it passes records of the second alone, before the one that waits, and so
-    // it does where memory or the room for that record runs out.
+    // shares a base with it is held. Else it passes records of the second alone, before the one that waits, and so it does
+    // where memory or the room for that record runs out.
     pub(crate) fn leap(&mut self, firsts: &mut WholeRecords<'_>, seconds: &mut WholeRecords<'_>)
         ensures { Leaps self.old firsts.old seconds.old self.new firsts.new seconds.new }
     {
@@ -543,7 +543,8 @@ fn is_next_held<H: Held>(
     hold_copy(alloc, held, &b).is_ok()
 }
 
-// Holds a copy of the record. The function isn't inlined, since with two calls of it less of what it calls would be.
+// Holds a copy of the record. The function isn't inlined: it is called in two places, and in each what it calls would not
+// be inlined any more.
 #[inline(never)]
 fn hold_copy<H: Held>(alloc: Global, held: &mut H, b: &BedRef<'_>) -> Result<(), AllocError>
     ensures held { OnOk result (H.records held.new ≡ H.records held.old ++ feature_lent b.now ∷ []) }

@@ -24,8 +24,11 @@ use bt_lines::{Fault, Input, LineReader, Out, Sink, Source};
 use bt_sweep::{Held, HeldIndex, HitRule, Shape, Sweep, Taken, Want};
 use std::alloc::Global;
 
-// How many records that are passed at once are worth the question.
+// How many records of the first input that are passed at once are worth the question.
 const ENOUGH: u64 = 2;
+
+// The same of both inputs together: the last one of each is copied.
+const ENOUGH_OF_BOTH: u64 = 4;
 
 // Gives a sweep the next record of the first input, or its end.
 fn turn_first<A: Source, O: ChromOrder, H: Held, K: Sink>(
@@ -158,7 +161,7 @@ fn take_both<A: Source, B: Source, O: ChromOrder, H: Held>(
     }
     let before_first = first.lines();
     pass_both(first, second, sweep);
-    // Those of the first input count too.
+    // Those of the first input count as if they had been passed of the second.
     let passed_first = first.lines().saturating_sub(before_first);
     pace.note(before.saturating_sub(passed_first), second.lines());
 }
@@ -216,7 +219,7 @@ fn sweep_all<A: Source, B: Source, O: ChromOrder, H: Held, K: Sink>(
     ensures own_failure_second { KeepsOwnFault B.is_read (below second.old) (view_of second.new) }
 {
     let mut first_pace = Pace::new(ENOUGH);
-    let mut second_pace = Pace::new(ENOUGH);
+    let mut second_pace = Pace::new(ENOUGH_OF_BOTH);
     loop {
         match sweep.want() {
             Want::A => turn_firsts(&mut first_pace, first, second, sweep, out)?,

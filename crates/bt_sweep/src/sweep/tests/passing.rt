@@ -349,18 +349,15 @@ fn are_taken(alloc: Global, genome: &Genome, case: &Both) -> Result<bool, Fail> 
     Ok(
         next == left
             && next_second == left_second
-            && only_held(&sweep) == held
+            && first_held(&sweep) == held
+            && sweep.held().len() == usize::from(held.is_some())
             && sweep.want() == Want::B,
     )
 }
 
-// The bounds of the one record that is held, if it is one.
-fn only_held(sweep: &Sweep<'_, HeldList, Genome>) -> Option<(u64, u64)> {
-    let held = sweep.held();
-    if held.len() != 1 {
-        return None;
-    }
-    let bed = held.nth(0)?.as_bed();
+// The bounds of the first record that is held, if one is.
+fn first_held(sweep: &Sweep<'_, HeldList, Genome>) -> Option<(u64, u64)> {
+    let bed = sweep.held().nth(0)?.as_bed();
     Some((bed.start, bed.stop))
 }
 
