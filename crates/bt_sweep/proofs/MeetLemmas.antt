@@ -1,5 +1,5 @@
 -- Lemmas on what a sweep does where going over both inputs it meets two records that share a base.
-use Rattle.std.proofs.Common.{◌≡◌, ℕ, ◌+◌, ◌<◌, Bool, true, false, cond, List, [], ◌∷◌, ◌++◌, Option, Some, None, Ok, inl, inr, refl, sym, ap, ◌∙◌, subst, not, drop, filter, length, ltb, bytes_eq}
+use Rattle.std.proofs.Common.{◌≡◌, ℕ, ◌+◌, ◌<◌, ◌&&◌, Bool, true, false, cond, List, [], ◌∷◌, ◌++◌, Option, Some, None, Ok, inl, inr, refl, sym, ap, ◌∙◌, subst, not, drop, filter, length, ltb, bytes_eq, append-nil, append_assoc}
 use Rattle.std.specs.Prelude.{IsTrue, ◌==◌, ◌⊎◌}
 use Rattle.std.specs.List.{AllByRecursion}
 use Rattle.std.proofs.lemmas.Bool.{and_from, lt-ltb}
@@ -20,9 +20,10 @@ use Rattle.bt_sweep.specs.Deciding.{decides}
 use Rattle.bt_sweep.specs.Held.{AreWith, CanHit}
 use Rattle.bt_sweep.specs.Passing.{PassesRounds, Round, Skipped, TakesBoth, TakesSecond, firsts_of, next_after, seconds_of, skipped_records}
 use Rattle.bt_sweep.specs.Standing.{is_held}
-use Rattle.bt_sweep.specs.StateLeaping.{AreSkipped, GoesOver, IsLeap, KeepsLeap, KeepsMet, Leaps, Share, last_leapt}
+use Rattle.bt_sweep.specs.StateLeaping.{AreSkipped, GoesOver, HoldsBeside, HoldsOneMore, HoldsSeveral, HoldsUpTo, IsLeap, KeepsLeap, KeepsMet, Leaps, Share, StartUpTo, last_leapt}
 use Rattle.bt_sweep.specs.StatePassing.{IsBare}
 use Rattle.bt_sweep.specs.StateSteps.{has_room_in, holding, is_held_by}
+use Rattle.bt_sweep.specs.Steps.{has_room}
 use Rattle.bt_sweep.specs.SweepState.{Sweeping, want_in, want_of}
 use Rattle.bt_sweep.specs.declared.unhit.Unhit.TheVariants.{Nothing}
 use Rattle.bt_sweep.specs.declared.want.Want.TheVariants.{B}
@@ -119,6 +120,34 @@ module _ (old : Option Feature) (first : Feature) (firsts seconds : WholeRecords
     met = keeps_met meets leap met.0 met.2 behind met.3 kept is;
   })
   goes_over meets leap kept is has_room held new_held behind (inr none) = inl (subst (λ (w : WholeRecords). KeepsLeap old firsts seconds kept new_firsts w) (sym none.1) (keeps_leap meets leap none.0 kept is), none.2)
+
+-- ---- several that are held
+
+filter_append : (test : Feature → Bool) (xs ys : List Feature) → filter test (xs ++ ys) ≡ filter test xs ++ filter test ys
+filter_append test [] ys = refl
+filter_append test (x ∷ xs) ys = by (test x) (filter_append test xs ys)
+  where
+    by : (c : Bool) → filter test (xs ++ ys) ≡ filter test xs ++ filter test ys → cond c (x ∷ filter test (xs ++ ys)) (filter test (xs ++ ys)) ≡ cond c (x ∷ filter test xs) (filter test xs) ++ filter test ys
+    by true e = ap (λ l. x ∷ l) e
+    by false e = e
+
+before_more : (stop : ℕ) (bs : List Feature) (b : Feature) → StartUpTo stop bs → b.start < stop → StartUpTo stop (bs ++ b ∷ [])
+before_more stop [] b before one = (one, tt)
+before_more stop (x ∷ bs) b before one = (before.0, before_more stop bs b before.1 one)
+
+pub holds_nothing : (start stop : ℕ) (held : List Feature) (old : WholeRecords) → HoldsUpTo start stop held old held old
+holds_nothing start stop held old = record { bs = []; given = refl; before = tt; holds = sym (append-nil held) }
+
+-- one more
+pub holds_more : (start stop : ℕ) (held mid_held new_held : List Feature) (old mid new : WholeRecords) → HoldsUpTo start stop held old mid_held mid → HoldsOneMore start stop mid_held mid new_held new → HoldsUpTo start stop held old new_held new
+holds_more start stop held mid_held new_held old mid new holds more =
+    let test : Feature → Bool = λ r. ltb start r.stop in
+    record {
+      bs = holds.bs ++ more.b ∷ [];
+      given = gives_more old holds.bs more.b mid new holds.given more.gives;
+      before = before_more stop holds.bs more.b holds.before more.before;
+      holds = more.holds ∙ ap (λ (l : List Feature). l ++ filter test (more.b ∷ [])) holds.holds ∙ append_assoc held (filter test holds.bs) (filter test (more.b ∷ [])) ∙ ap (λ (l : List Feature). held ++ l) (sym (filter_append test holds.bs (more.b ∷ [])));
+    }
 
 -- ---- where two met
 
@@ -220,6 +249,35 @@ module _ (order : Order) (total : IsTotal order) (old : Sweeping) (firsts second
       rounds_then order out old leaps.rounds mid (record { b = b; skipped = met.skipped }) taken rounds
       (skipped, taken, done.0, want, holds_second order total skipped next b refl met_known (met_chrom old.last firsts seconds kept b new_firsts new_seconds met) met.share room bare.none_held, want, refl)
 
+-- ---- several beside the waiting one
+
+module _ (order : Order) (total : IsTotal order) (out : Output) (a : Feature) (known : IsTrue (order.knows a.chrom)) (filled : a.start < a.stop) where
+  -- one of them
+  holds_or_not : (sweep : Sweeping) (b : Feature) (held : Bool) → ltb a.start b.stop ≡ held → sweep.last ≡ Some a → sweep.limit ≡ None → b.chrom ≡ a.chrom → b.start < b.stop → b.start < a.stop → TakesSecond order sweep b (record sweep { held = sweep.held ++ cond held (b ∷ []) [] })
+  holds_or_not sweep b held is was no_limit same some before = λ shape rule limit stage waiting line out stands waits.
+      let one : a ≡ waiting = let e : Some a ≡ Some waiting = sym was ∙ last_waits order shape rule limit stage waiting waits sweep stands in cc in
+      let compared : order.compare b.chrom a.chrom ≡ Equal = ap (λ (c : List ℕ). order.compare c a.chrom) same ∙ total.same a.chrom known in
+      let undecided : decides order a b ≡ false = ap (λ (o : Ordering). not (is_below_at o b.start a.stop)) compared ∙ ap not (lt-ltb b.start a.stop before) in
+      let to_hold : is_held_by sweep.last b ≡ held = ap (λ (l : Option Feature). is_held_by l b) was ∙ ap (λ (c : Bool). c && ltb a.start b.stop) (name_eq a.chrom b.chrom (sym same)) ∙ is in
+      let kept : record sweep { held = sweep.held ++ cond held (b ∷ []) [] } ≡ holding sweep b = ap (λ (c : Bool). record sweep { held = sweep.held ++ cond c (b ∷ []) [] }) (sym to_hold) in
+      takes_b order shape rule limit stage waiting waits sweep stands (tt {0}) b line (record sweep { held = sweep.held ++ cond held (b ∷ []) [] }) out (subst (λ (f : Feature). decides order f b ≡ false) one undecided)
+      (kept, λ h. ap (λ (l : Option ℕ). has_room l (length sweep.held)) no_limit)
+
+  holds_all : (sweep : Sweeping) (bs : List Feature) (from to : WholeRecords) → sweep.last ≡ Some a → sweep.limit ≡ None → want_in sweep ≡ B → a.chrom ≡ chrom_in from → GivesWholes from bs to → StartUpTo a.stop bs
+      → PassesRounds order out sweep (alone bs) (record sweep { held = sweep.held ++ filter (λ r. ltb a.start r.stop) bs })
+  holds_all sweep [] from to was no_limit wants on given before = ap (λ (l : List Feature). record sweep { held = l }) (append-nil sweep.held)
+  holds_all sweep (b ∷ more) from to was no_limit wants on given before =
+      let same = given.1.chrom ∙ sym on in
+      let one = ltb a.start b.stop in
+      let mid : Sweeping = record sweep { held = sweep.held ++ cond one (b ∷ []) [] } in
+      let rest = holds_all mid more given.0 to was no_limit wants (on ∙ sym given.1.same_chrom) given.2 before.1 in
+      let all : mid.held ++ filter (λ r. ltb a.start r.stop) more ≡ sweep.held ++ filter (λ r. ltb a.start r.stop) (b ∷ more) = append_assoc sweep.held (cond one (b ∷ []) []) (filter (λ r. ltb a.start r.stop) more) ∙ ap (λ (l : List Feature). sweep.held ++ l) (front_of one b (filter (λ r. ltb a.start r.stop) more)) in
+      (sweep, mid, refl, wants, holds_or_not sweep b one refl was no_limit same given.1.feature.non_empty before.0, wants, subst (λ (l : List Feature). PassesRounds order out mid (alone more) (record sweep { held = l })) all rest)
+    where
+      front_of : (c : Bool) (b : Feature) (more : List Feature) → cond c (b ∷ []) [] ++ more ≡ cond c (b ∷ more) more
+      front_of true b more = refl
+      front_of false b more = refl
+
 module _ (order : Order) (total : IsTotal order) (old : Sweeping) (firsts seconds : WholeRecords) (new : Sweeping) (new_firsts new_seconds : WholeRecords) (known : (a : Feature) → old.last ≡ Some a → IsTrue (order.knows a.chrom)) where
   pub takes_both : want_in old ≡ B → Leaps old firsts seconds new new_firsts new_seconds → TakesBoth order old firsts seconds new new_firsts new_seconds
   takes_both wants (inl leaps) = over leaps.goes
@@ -247,7 +305,25 @@ module _ (order : Order) (total : IsTotal order) (old : Sweeping) (firsts second
             passes = λ out. subst (λ (s : Sweeping). PassesRounds order out old (met_rounds order total old firsts seconds new.last holds.b new_firsts new_seconds known met) s) (sym same)
                 (met_passes order total old firsts seconds new.last holds.b new_firsts new_seconds known met leaps.bare leaps.going wants holds.room out);
           }
-  takes_both wants (inr behind) =
+  takes_both wants (inr (inr several)) = over several.1
+    where
+      over : HoldsSeveral old seconds new new_seconds → TakesBoth order old firsts seconds new new_firsts new_seconds
+      over (inl none) = record {
+        rounds = [];
+        firsts = several.0;
+        seconds = none.1;
+        passes = λ out. none.0;
+      }
+      over (inr holds) =
+          let bs = holds.holds.bs in
+          let same : new ≡ record old { held = old.held ++ filter (λ r. ltb holds.last.start r.stop) bs } = holds.others ∙ ap (λ (l : List Feature). record old { held = l }) holds.holds.holds in
+          record {
+            rounds = alone bs;
+            firsts = subst (λ (l : List Feature). GivesWholes firsts l new_firsts) (sym (firsts_alone bs)) several.0;
+            seconds = subst (λ (l : List Feature). GivesWholes seconds l new_seconds) (sym (seconds_alone bs)) holds.holds.given;
+            passes = λ out. subst (λ (s : Sweeping). PassesRounds order out old (alone bs) s) (sym same) (holds_all order total out holds.last (known holds.last holds.was) holds.filled old bs seconds new_seconds holds.was holds.no_limit wants holds.on holds.holds.given holds.holds.before);
+          }
+  takes_both wants (inr (inl behind)) =
       let all = passes_all_before order total old seconds new_seconds known behind.before in
       record {
         rounds = alone all.0;
@@ -258,7 +334,12 @@ module _ (order : Order) (total : IsTotal order) (old : Sweeping) (firsts second
 
   pub wants_still : want_in old ≡ B → Leaps old firsts seconds new new_firsts new_seconds → want_in new ≡ B
   wants_still wants (inl leaps) = ap want_in leaps.others ∙ wants
-  wants_still wants (inr behind) = ap want_in behind.same ∙ wants
+  wants_still wants (inr (inl behind)) = ap want_in behind.same ∙ wants
+  wants_still wants (inr (inr several)) = over several.1
+    where
+      over : HoldsSeveral old seconds new new_seconds → want_in new ≡ B
+      over (inl none) = ap want_in none.0 ∙ wants
+      over (inr holds) = ap want_in holds.others ∙ wants
 
   pub knows_still : Leaps old firsts seconds new new_firsts new_seconds → (a : Feature) → new.last ≡ Some a → IsTrue (order.knows a.chrom)
   knows_still (inl leaps) a e = over leaps.goes
@@ -272,7 +353,12 @@ module _ (order : Order) (total : IsTotal order) (old : Sweeping) (firsts second
           let met = holds.met in
           let is : next_after met.before met.skipped ≡ a = let both : Some (next_after met.before met.skipped) ≡ Some a = sym met.is ∙ e in cc in
           subst (λ (f : Feature). IsTrue (order.knows f.chrom)) is (met_known order total old firsts seconds new.last holds.b new_firsts new_seconds known met)
-  knows_still (inr behind) a e = known a (ap (λ (s : Sweeping). s.last) (sym behind.same) ∙ e)
+  knows_still (inr (inl behind)) a e = known a (ap (λ (s : Sweeping). s.last) (sym behind.same) ∙ e)
+  knows_still (inr (inr several)) a e = over several.1
+    where
+      over : HoldsSeveral old seconds new new_seconds → IsTrue (order.knows a.chrom)
+      over (inl none) = known a (ap (λ (s : Sweeping). s.last) (sym none.0) ∙ e)
+      over (inr holds) = known a (ap (λ (s : Sweeping). s.last) (sym holds.others) ∙ e)
 
 -- ---- what is held can hit the record that waits
 
@@ -288,3 +374,25 @@ goes_with has_room old firsts seconds held kept new_firsts new_seconds new_held 
     let on = met_chrom old firsts seconds kept holds.b new_firsts new_seconds met in
     let with = added_with (Some next) holds.b [] met.gives.feature.non_empty (held_by next holds.b on met.share) (none_with (Some next)) in
     subst (λ (l : List Feature). AreWith kept l) (sym (holds.holds ∙ ap (λ (l : List Feature). l ++ holds.b ∷ []) none)) (subst (λ (o : Option Feature). AreWith o (holds.b ∷ [])) (sym met.is) with)
+
+module _ (last : Option Feature) (a : Feature) (was : last ≡ Some a) where
+  with_one : (held : List Feature) (b : Feature) (c : Bool) → ltb a.start b.stop ≡ c → b.chrom ≡ a.chrom → b.start < b.stop → AreWith last held → AreWith last (held ++ cond c (b ∷ []) [])
+  with_one held b true is same some with =
+      let to_hold : is_held_by last b ≡ true = ap (λ (l : Option Feature). is_held_by l b) was ∙ and_from (bytes_eq a.chrom b.chrom) (ltb a.start b.stop) (name_eq a.chrom b.chrom (sym same)) is in
+      added_with last b held some to_hold with
+  with_one held b false is same some with = subst (λ (l : List Feature). AreWith last l) (sym (append-nil held)) with
+
+  with_all : (held bs : List Feature) (from to : WholeRecords) → a.chrom ≡ chrom_in from → GivesWholes from bs to → AreWith last held → AreWith last (held ++ filter (λ r. ltb a.start r.stop) bs)
+  with_all held [] from to on given with = subst (λ (l : List Feature). AreWith last l) (sym (append-nil held)) with
+  with_all held (b ∷ more) from to on given with =
+      let one = ltb a.start b.stop in
+      let rest = filter (λ (r : Feature). ltb a.start r.stop) more in
+      let next = with_all (held ++ cond one (b ∷ []) []) more given.0 to (on ∙ sym given.1.same_chrom) given.2 (with_one held b one refl (given.1.chrom ∙ sym on) given.1.feature.non_empty with) in
+      subst (λ (l : List Feature). AreWith last l) (append_assoc held (cond one (b ∷ []) []) rest ∙ ap (λ (l : List Feature). held ++ l) (front one b rest)) next
+    where
+      front : (c : Bool) (b : Feature) (more : List Feature) → cond c (b ∷ []) [] ++ more ≡ cond c (b ∷ more) more
+      front true b more = refl
+      front false b more = refl
+
+  pub holds_with : (held new_held : List Feature) (old new : WholeRecords) → a.chrom ≡ chrom_in old → HoldsUpTo a.start a.stop held old new_held new → AreWith last held → AreWith last new_held
+  holds_with held new_held old new on holds with = subst (λ (l : List Feature). AreWith last l) (sym holds.holds) (with_all held holds.bs old new on holds.given with)

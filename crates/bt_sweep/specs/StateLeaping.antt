@@ -1,5 +1,5 @@
 -- What going over both inputs at once does to what a sweep keeps. Callers know it by `Passing`.
-use Rattle.std.specs.Prelude.{◌≡◌, ◌⊎◌, ℕ, ◌<◌, ◌≤◌, ⊤, Bool, true, false, List, [], ◌∷◌, ◌++◌, Option, Some, None}
+use Rattle.std.specs.Prelude.{◌≡◌, ◌⊎◌, ℕ, ◌<◌, ◌≤◌, ⊤, Bool, true, false, List, [], ◌∷◌, ◌++◌, Option, Some, None, filter, nat_lt}
 use Rattle.bt_bed.specs.Feature.{Feature}
 use Rattle.bt_bed.specs.WholeRecords.{GivesWhole, GivesWholes, chrom_in}
 use Rattle.bt_bed.specs.declared.whole_records.WholeRecords.{WholeRecords}
@@ -136,6 +136,42 @@ pub record LeapsBare (old : Sweeping) (firsts seconds : WholeRecords) (new : Swe
       new.held
   pub others : new ≡ record old { last = new.last; held = new.held }
 
+-- one more record that starts before `stop` was passed, and is held where it ends behind `start`
+pub record HoldsOneMore (start stop : ℕ) (held : List Feature) (old : WholeRecords)
+    (new_held : List Feature) (new : WholeRecords) : Type 0 where
+  pub b : Feature
+  pub gives : GivesWhole old b new
+  pub before : b.start < stop
+  pub holds : new_held ≡ held ++ filter (λ r. nat_lt start r.stop) (b ∷ [])
+
+-- each starts before it
+abbrev pub StartUpTo : ℕ → List Feature → Type 0
+StartUpTo stop [] = ⊤
+StartUpTo stop (b ∷ more) = (b.start < stop) × StartUpTo stop more
+
+-- so were several
+pub record HoldsUpTo (start stop : ℕ) (held : List Feature) (old : WholeRecords)
+    (new_held : List Feature) (new : WholeRecords) : Type 0 where
+  pub bs : List Feature
+  pub given : GivesWholes old bs new
+  pub before : StartUpTo stop bs
+  pub holds : new_held ≡ held ++ filter (λ r. nat_lt start r.stop) bs
+
+-- beside the record that waits, where what is held isn't limited
+pub record HoldsBeside (old : Sweeping) (seconds : WholeRecords) (new : Sweeping)
+    (new_seconds : WholeRecords) : Type 0 where
+  pub last : Feature
+  pub was : old.last ≡ Some last
+  pub filled : last.start < last.stop
+  pub on : last.chrom ≡ chrom_in seconds
+  pub no_limit : old.limit ≡ None
+  pub holds : HoldsUpTo last.start last.stop old.held seconds new.held new_seconds
+  pub others : new ≡ record old { held = new.held }
+
+abbrev pub HoldsSeveral : Sweeping → WholeRecords → Sweeping → WholeRecords → Type 0
+HoldsSeveral old seconds new new_seconds =
+    ((new ≡ old) × (new_seconds ≡ seconds)) ⊎ HoldsBeside old seconds new new_seconds
+
 -- or over the second input alone
 pub record LeapsBehind (old : Sweeping) (firsts seconds : WholeRecords) (new : Sweeping)
     (new_firsts new_seconds : WholeRecords) : Type 0 where
@@ -147,4 +183,5 @@ abbrev pub Leaps : Sweeping → WholeRecords → WholeRecords → Sweeping → W
     → Type 0
 Leaps old firsts seconds new new_firsts new_seconds =
     LeapsBare old firsts seconds new new_firsts new_seconds
-    ⊎ LeapsBehind old firsts seconds new new_firsts new_seconds
+    ⊎ (LeapsBehind old firsts seconds new new_firsts new_seconds
+    ⊎ ((new_firsts ≡ firsts) × HoldsSeveral old seconds new new_seconds))

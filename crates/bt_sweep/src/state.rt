@@ -10,7 +10,7 @@ ghost use Rattle.bt_lines.specs.Names.{told};
 ghost use Rattle.bt_sweep.specs.Reaching.{IsReachBy};
 ghost use Rattle.bt_sweep.specs.Held.{AreRising, AreWith};
 ghost use Rattle.bt_sweep.specs.IntersectLines.{lines_for};
-ghost use Rattle.bt_sweep.specs.StateLeaping.{GoesOver, Leaps};
+ghost use Rattle.bt_sweep.specs.StateLeaping.{GoesOver, HoldsOneMore, HoldsSeveral, HoldsUpTo, Leaps};
 ghost use Rattle.bt_sweep.specs.StatePassing.{DecidesUpTo, PassesBefore, PassesBy, TakesWhole};
 ghost use Rattle.bt_sweep.specs.StateSteps.{Holds, KeepsLast, TakesA, WritesLast, has_room_in, held_with, is_held_by, moved_to};
 ghost use Rattle.bt_sweep.specs.SweepState.{want_in};
@@ -208,12 +208,15 @@ impl<H: Held> State<H> {
 
     // Goes over both inputs up to the first two records that share a base, where nothing is held and a record that nothing
     // hits has no line: the last record of the first input that was passed so waits, and the record of the second that
-    // shares a base with it is held. Else it passes records of the second alone, before the one that waits, and so it does
-    // where memory or the room for that record runs out.
+    // shares a base with it is held. Where records are held, it holds further ones. Else it passes records of the second
+    // alone, before the one that waits, and so it does where memory or the room for that record runs out.
     pub(crate) fn leap(&mut self, firsts: &mut WholeRecords<'_>, seconds: &mut WholeRecords<'_>)
         ensures { Leaps self.old firsts.old seconds.old self.new firsts.new seconds.new }
     {
-        if self.b_ended || self.done || self.held.len() != 0 || !needs_hit(self.shape) {
+        if self.held.len() != 0 {
+            return self.hold_several(seconds);
+        }
+        if self.b_ended || self.done || !needs_hit(self.shape) {
             return self.pass_before(seconds);
         }
         let has_room = self.has_room();
@@ -229,6 +232,21 @@ impl<H: Held> State<H> {
             None => self.pass_before(seconds),
             Some(true) => become_kept(&mut self.last, &mut self.spare),
             Some(false) => {}
+        }
+    }
+
+    // Holds records of the second input that stand whole, on the chromosome of the last record of the first, up to the
+    // first that decides it, and passes those of them that end at its start or before it. It stops where memory runs out,
+    // and where what is held is limited it takes none.
+    fn hold_several(&mut self, records: &mut WholeRecords<'_>)
+        ensures { HoldsSeveral self.old records.old self.new records.new }
+    {
+        let Some(last) = &self.last else {
+            return;
+        };
+        let a = last.as_bed();
+        if self.limit.is_none() && is_same_name(a.chrom, records.chrom()) {
+            hold_up_to(self.alloc, a.start, a.stop, &mut self.held, records);
         }
     }
 
@@ -555,4 +573,45 @@ fn hold_copy<H: Held>(alloc: Global, held: &mut H, b: &BedRef<'_>) -> Result<(),
         Ok(()) => Ok(()),
         Err(_) => Err(AllocError),
     }
+}
+
+// Holds the records that start before `stop` and end behind `start`, and passes them and those that end before. The
+// function isn't inlined, so that the loop has the registers to itself.
+#[inline(never)]
+fn hold_up_to<H: Held>(
+    alloc: Global,
+    start: u64,
+    stop: u64,
+    held: &mut H,
+    records: &mut WholeRecords<'_>,
+)
+    ensures { HoldsUpTo start stop (H.records held.old) records.old (H.records held.new) records.new }
+{
+    while is_one_more_held(alloc, start, stop, held, records) {}
+}
+
+// A step of that: whether the next record was held or passed.
+#[inline(always)]
+fn is_one_more_held<H: Held>(
+    alloc: Global,
+    start: u64,
+    stop: u64,
+    held: &mut H,
+    records: &mut WholeRecords<'_>,
+) -> bool
+    ensures more { result ≡ true → HoldsOneMore start stop (H.records held.old) records.old (H.records held.new) records.new }
+    ensures none { result ≡ false → (H.records held.new ≡ H.records held.old) × (records.new ≡ records.old) }
+{
+    let mut behind = *records;
+    let Some(b) = behind.next() else {
+        return false;
+    };
+    if stop <= b.start {
+        return false;
+    }
+    if start < b.stop && hold_copy(alloc, held, &b).is_err() {
+        return false;
+    }
+    *records = behind;
+    true
 }

@@ -124,9 +124,10 @@ impl<'o, H: Held, O: ChromOrder> Sweep<'o, H, O> {
     /// the second that end at the start of the current record of the first or before it, and where nothing is held and a
     /// record that nothing hits has no line, those of the first that end at the start of the next one of the second or
     /// before it, up to the first two that share a base. Of these the record of the second is held, and that of the first
-    /// is the current one then. Nothing is written. What it took was passed, which may be none. Of the first input's
-    /// records only the last one is copied, and where there is no memory for that or for the one to be held, or the limit
-    /// leaves no room, it takes none of that input.
+    /// is the current one then. Where records are held and that isn't limited, it takes those of the second alone, up to
+    /// the first that decides the current one, and holds each that has to be. Nothing is written. What it took was passed,
+    /// which may be none. Of the first input's records only the last one is copied. Where there is no memory for a copy,
+    /// or the limit leaves no room, it takes none of the first input, and of the second none from there on.
     pub fn take_both(&mut self, firsts: &mut WholeRecords<'_>, seconds: &mut WholeRecords<'_>)
         requires { want_in (state_of self.old) ≡ Want.B }
         ensures takes { TakesBoth (order_of self.old) (state_of self.old) firsts.old seconds.old (state_of self.new)

@@ -141,9 +141,41 @@ fn turn_second<B: Source, O: ChromOrder, H: Held, K: Sink>(
     Ok(())
 }
 
-// Gives a sweep records of both inputs that stand whole, as many as it takes so, which may be none. It is tried where
-// nothing is held, no record of the second input is ahead, and it is time to.
+// How often a sweep is given records of both inputs at once.
+#[derive(Clone, Copy)]
+struct Paces {
+    // While nothing is held.
+    apart: Pace,
+    // While records are held.
+    held: Pace,
+}
+
+// Gives a sweep records of both inputs that stand whole, as many as it takes so, which may be none. It is tried where no
+// record of the second input is ahead, and it is time to.
 fn take_both<A: Source, B: Source, O: ChromOrder, H: Held>(
+    paces: &mut Paces,
+    first: &mut Records<'_, A, O>,
+    second: &mut Records<'_, B, O>,
+    sweep: &mut Sweep<'_, H, O>,
+)
+    requires want { want_in (state_of sweep.old) ≡ Want.B }
+    ensures gives { GivesBoth A.left A.has_failed A.end_told A.is_read B.left B.has_failed B.end_told B.is_read
+        (order_of sweep.old) first.old second.old (state_of sweep.old) first.new second.new (state_of sweep.new) }
+    ensures want { want_in (state_of sweep.new) ≡ Want.B }
+    ensures order { order_of sweep.new ≡ order_of sweep.old }
+{
+    if second.record().is_some() {
+        return;
+    }
+    if sweep.held().len() == 0 {
+        pass_in_time(&mut paces.apart, first, second, sweep);
+    } else {
+        pass_in_time(&mut paces.held, first, second, sweep);
+    }
+}
+
+// Passes them where it is time to by this pace, and keeps how many were passed.
+fn pass_in_time<A: Source, B: Source, O: ChromOrder, H: Held>(
     pace: &mut Pace,
     first: &mut Records<'_, A, O>,
     second: &mut Records<'_, B, O>,
@@ -156,7 +188,7 @@ fn take_both<A: Source, B: Source, O: ChromOrder, H: Held>(
     ensures order { order_of sweep.new ≡ order_of sweep.old }
 {
     let before = second.lines();
-    if !pace.is_due(before) || sweep.held().len() != 0 || second.record().is_some() {
+    if !pace.is_due(before) {
         return;
     }
     let before_first = first.lines();
@@ -219,7 +251,10 @@ fn sweep_all<A: Source, B: Source, O: ChromOrder, H: Held, K: Sink>(
     ensures own_failure_second { KeepsOwnFault B.is_read (below second.old) (view_of second.new) }
 {
     let mut first_pace = Pace::new(ENOUGH);
-    let mut second_pace = Pace::new(ENOUGH_OF_BOTH);
+    let mut second_pace = Paces {
+        apart: Pace::new(ENOUGH_OF_BOTH),
+        held: Pace::new(ENOUGH_OF_BOTH),
+    };
     loop {
         match sweep.want() {
             Want::A => turn_firsts(&mut first_pace, first, second, sweep, out)?,

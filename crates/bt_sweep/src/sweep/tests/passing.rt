@@ -369,3 +369,37 @@ fn records_of_both_are_taken_up_to_a_shared_base(rt: HostRuntime) -> Result<(), 
     }
     Ok(())
 }
+
+// The records of the second input behind the first two, of which four start before the end of the first input's record that
+// waits, one of these ends at its start, and the last one starts at its end.
+const SEVERAL: &[u8] =
+    b"chr1\t1\t2\nchr1\t1\t2\nchr1\t1\t8\nchr1\t1\t2\nchr1\t4\t9\nchr1\t5\t6\nchr1\t6\t7\n";
+
+// How many are held after so many calls, and the bounds of the next record of the second input.
+fn held_after(
+    alloc: Global,
+    genome: &Genome,
+    calls: usize,
+) -> Result<(usize, Option<(u64, u64)>), Fail> {
+    let mut records = behind_two(alloc, RECORDS, genome)?;
+    let mut seconds = behind_two(alloc, SEVERAL, genome)?;
+    let mut sweep = any_overlap(alloc, Shape::Cut, genome);
+    let mut out = Out::new(ScriptSink::new(alloc, 100, None));
+    let _ = give_first(&mut sweep, b"chr1\t2\t6", &mut out);
+    for _ in 0..calls {
+        take_both(&mut records, &mut seconds, &mut sweep);
+    }
+    let next = next_bounds(&mut seconds)?;
+    let _ = records.into_reader().into_source();
+    let _ = seconds.into_reader().into_source();
+    Ok((sweep.held().len(), next))
+}
+
+// Once one is held, the others that share a base are held by the next call, up to the first that decides.
+#[test]
+fn several_that_share_a_base_are_held_at_once(rt: HostRuntime) -> Result<(), Fail> {
+    let genome = read_genome(rt.alloc())?;
+    assert_eq!(rt; held_after(rt.alloc(), &genome, 1)?, (1, Some((1, 2))));
+    assert_eq!(rt; held_after(rt.alloc(), &genome, 2)?, (3, Some((6, 7))));
+    Ok(())
+}
