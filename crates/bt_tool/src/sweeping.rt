@@ -164,9 +164,6 @@ fn take_both<A: Source, B: Source, O: ChromOrder, H: Held>(
     ensures want { want_in (state_of sweep.new) ≡ Want.B }
     ensures order { order_of sweep.new ≡ order_of sweep.old }
 {
-    if second.record().is_some() {
-        return;
-    }
     if sweep.held().len() == 0 {
         pass_in_time(&mut paces.apart, first, second, sweep);
     } else {
@@ -175,6 +172,7 @@ fn take_both<A: Source, B: Source, O: ChromOrder, H: Held>(
 }
 
 // Passes them where it is time to by this pace, and keeps how many were passed.
+#[inline(always)]
 fn pass_in_time<A: Source, B: Source, O: ChromOrder, H: Held>(
     pace: &mut Pace,
     first: &mut Records<'_, A, O>,
@@ -188,7 +186,7 @@ fn pass_in_time<A: Source, B: Source, O: ChromOrder, H: Held>(
     ensures order { order_of sweep.new ≡ order_of sweep.old }
 {
     let before = second.lines();
-    if !pace.is_due(before) {
+    if !pace.is_due(before) || second.record().is_some() {
         return;
     }
     let before_first = first.lines();
