@@ -1,10 +1,11 @@
 -- Lemmas on hits: what decides a record doesn't hit it.
 use Rattle.std.proofs.Common.{◌≡◌, ℕ, ◌-◌, ◌≤◌, inl, inr, Bool, true, false, cond, List, [], ◌∷◌, ◌++◌, refl, sym, ap, ◌∙◌, subst, ltb, arith, filter, max, min, bytes_eq, append-nil, take, drop}
 use Rattle.std.specs.Prelude.{IsTrue}
-use Rattle.std.specs.List.{AllByRecursion, list_all}
-use Rattle.std.proofs.lemmas.Bool.{and_from, and_parts}
+use Rattle.std.specs.List.{AllByRecursion, list_all, list_any}
+use Rattle.std.proofs.lemmas.Bool.{and_from, and_parts, or_from}
 use Rattle.std.proofs.lemmas.List.{take-append-drop}
 use Rattle.std.proofs.lemmas.List.Elements.{filter-append, recursion_from_All}
+use Rattle.std.proofs.lemmas.List.Folds.{list_any-append}
 use Rattle.std.specs.declared.cmp.Ordering.TheVariants.{Equal, Greater}
 use Rattle.bt_bed.specs.Feature.{Feature, intervals_of}
 use Rattle.bt_bed.specs.Order.{Order, IsTotal}
@@ -69,6 +70,18 @@ module _ (rule : HitRule) (a : Feature) where
   none_rec : (bs : List Feature) → AllByRecursion (λ b. a.stop ≤ b.start) bs → hits_among rule a bs ≡ []
   none_rec [] all = refl
   none_rec (b ∷ bs) all = misses_at rule a b bs (behind_misses rule a b all.0) (none_rec bs all.1)
+
+  none_behind : (bs : List Feature) → AllByRecursion (λ b. a.stop ≤ b.start) bs → list_any (hits rule a) bs ≡ false
+  none_behind [] all = refl
+  none_behind (b ∷ bs) all = or_from (hits rule a b) (list_any (hits rule a) bs) (behind_misses rule a b all.0) (none_behind bs all.1)
+
+  -- so where none before it does, none does
+  pub none_left : (bs : List Feature) (n : ℕ) → list_any (hits rule a) (take n bs) ≡ false → StartFrom a.stop (drop n bs) → list_any (hits rule a) bs ≡ false
+  none_left bs n none behind =
+      let rest = none_behind (drop n bs) (recursion_from_All (λ (b : Feature). a.stop ≤ b.start) (drop n bs) behind) in
+      ap (list_any (hits rule a)) (sym (take-append-drop n bs))
+      ∙ list_any-append (hits rule a) (take n bs) (drop n bs)
+      ∙ or_from (list_any (hits rule a) (take n bs)) (list_any (hits rule a) (drop n bs)) none rest
 
   -- so the lines are those against what stands before that
   pub took_lines : (shape : Shape) (bs : List Feature) (n : ℕ) → StartFrom a.stop (drop n bs) → lines_for shape rule a (take n bs) ≡ lines_for shape rule a bs

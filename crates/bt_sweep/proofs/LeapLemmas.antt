@@ -339,15 +339,15 @@ it_waits true done e = refl
 it_waits false true e = cc
 it_waits false false e = cc
 
+pub next_chrom : (a : Feature) (skipped : Option Skipped) (from to : WholeRecords) → a.chrom ≡ chrom_in from → GivesWholes from (skipped_records skipped) to → (next_after a skipped).chrom ≡ a.chrom
+next_chrom a None from to on given = refl
+next_chrom a (Some s) from to on given =
+    let split = gives_split from s.firsts (s.next ∷ []) to given in
+    split.2.1.chrom ∙ on_chrom from s.firsts split.0 split.1 ∙ sym on
+
 pub leapt_chrom : (a : Feature) (rounds : List Round) (firsts new : WholeRecords) → a.chrom ≡ chrom_in firsts → GivesWholes firsts (firsts_of rounds) new → (last_leapt a rounds).chrom ≡ a.chrom
 leapt_chrom a [] firsts new on given = refl
 leapt_chrom a (round ∷ more) firsts new on given =
     let split = gives_split firsts (skipped_records round.skipped) (firsts_of more) new given in
     let next = next_chrom a round.skipped firsts split.0 on split.1 in
     leapt_chrom (next_after a round.skipped) more split.0 new (next ∙ on ∙ sym (on_chrom firsts (skipped_records round.skipped) split.0 split.1)) split.2 ∙ next
-  where
-    next_chrom : (a : Feature) (skipped : Option Skipped) (from to : WholeRecords) → a.chrom ≡ chrom_in from → GivesWholes from (skipped_records skipped) to → (next_after a skipped).chrom ≡ a.chrom
-    next_chrom a None from to on given = refl
-    next_chrom a (Some s) from to on given =
-        let split = gives_split from s.firsts (s.next ∷ []) to given in
-        split.2.1.chrom ∙ on_chrom from s.firsts split.0 split.1 ∙ sym on

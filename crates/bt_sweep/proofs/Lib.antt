@@ -15,6 +15,7 @@ pub mod UnhitLemmas
 pub mod PassingLemmas
 pub mod LeapLemmas
 pub mod MeetLemmas
+pub mod EndingLemmas
 pub mod PlainLemmas
 pub mod QuietLemmas
 pub mod RisingLemmas

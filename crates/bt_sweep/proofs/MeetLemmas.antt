@@ -18,16 +18,16 @@ use Rattle.bt_bed.proofs.NameLemmas.{name_eq}
 use Rattle.bt_bed.proofs.WholesGiven.{gives_more}
 use Rattle.bt_sweep.specs.Deciding.{decides}
 use Rattle.bt_sweep.specs.Held.{AreWith, CanHit}
-use Rattle.bt_sweep.specs.Passing.{PassesRounds, Round, Skipped, TakesBoth, TakesSecond, firsts_of, next_after, seconds_of, skipped_records}
+use Rattle.bt_sweep.specs.Passing.{PassesRounds, Round, Skipped, TakesBoth, GivesSecond, firsts_of, next_after, seconds_of, skipped_records}
 use Rattle.bt_sweep.specs.Standing.{is_held}
-use Rattle.bt_sweep.specs.StateLeaping.{AreSkipped, GoesOver, HoldsBeside, HoldsOneMore, HoldsSeveral, HoldsUpTo, IsLeap, KeepsLeap, KeepsMet, Leaps, Share, StartUpTo, last_leapt}
+use Rattle.bt_sweep.specs.StateLeaping.{AreSkipped, GoesOver, HoldsOneMore, HoldsSeveral, HoldsUpTo, IsLeap, KeepsLeap, KeepsMet, Leaps, Share, StartUpTo, last_leapt}
 use Rattle.bt_sweep.specs.StatePassing.{IsBare}
 use Rattle.bt_sweep.specs.StateSteps.{has_room_in, holding, is_held_by}
 use Rattle.bt_sweep.specs.Steps.{has_room}
 use Rattle.bt_sweep.specs.SweepState.{Sweeping, want_in, want_of}
 use Rattle.bt_sweep.specs.declared.unhit.Unhit.TheVariants.{Nothing}
 use Rattle.bt_sweep.specs.declared.want.Want.TheVariants.{B}
-use Rattle.bt_sweep.proofs.LeapLemmas.{alone, firsts_alone, firsts_more, gives_append, it_waits, leaps_rounds, gives_split, leapt_chrom, next_leapt, rounds_alone, seconds_alone, seconds_more, skip_done}
+use Rattle.bt_sweep.proofs.LeapLemmas.{alone, firsts_alone, firsts_more, gives_append, it_waits, leaps_rounds, gives_split, leapt_chrom, next_chrom, next_leapt, rounds_alone, seconds_alone, seconds_more, skip_done}
 use Rattle.bt_sweep.proofs.PassingLemmas.{on_chrom, passes_all_before}
 use Rattle.bt_sweep.proofs.StateLemmas.{added_with}
 use Rattle.bt_sweep.proofs.StepLemmas.{last_waits, takes_b}
@@ -149,6 +149,10 @@ holds_more start stop held mid_held new_held old mid new holds more =
       holds = more.holds ∙ ap (λ (l : List Feature). l ++ filter test (more.b ∷ [])) holds.holds ∙ append_assoc held (filter test holds.bs) (filter test (more.b ∷ [])) ∙ ap (λ (l : List Feature). held ++ l) (sym (filter_append test holds.bs (more.b ∷ [])));
     }
 
+before_all : (c : Bool) (b : Feature) (more : List Feature) → cond c (b ∷ []) [] ++ more ≡ cond c (b ∷ more) more
+before_all true b more = refl
+before_all false b more = refl
+
 -- ---- where two met
 
 leapt_filled : (a : Feature) (rounds : List Round) (firsts new : WholeRecords) → a.start < a.stop → GivesWholes firsts (firsts_of rounds) new → (last_leapt a rounds).start < (last_leapt a rounds).stop
@@ -161,27 +165,28 @@ leapt_filled a (round ∷ more) firsts new filled given =
     next_filled a None from to filled given = filled
     next_filled a (Some s) from to filled given = (gives_split from s.firsts (s.next ∷ []) to given).2.1.feature.non_empty
 
-next_chrom : (a : Feature) (skipped : Option Skipped) (from to : WholeRecords) → a.chrom ≡ chrom_in from → GivesWholes from (skipped_records skipped) to → (next_after a skipped).chrom ≡ a.chrom
-next_chrom a None from to on given = refl
-next_chrom a (Some s) from to on given =
-    let split = gives_split from s.firsts (s.next ∷ []) to given in
-    split.2.1.chrom ∙ on_chrom from s.firsts split.0 split.1 ∙ sym on
-
 -- it has to be held
 held_by : (a b : Feature) → b.chrom ≡ a.chrom → Share a b → is_held a b ≡ true
 held_by a b same share = and_from (bytes_eq a.chrom b.chrom) (ltb a.start b.stop) (name_eq a.chrom b.chrom (sym same)) (lt-ltb a.start b.stop share.0)
 
 module _ (order : Order) (total : IsTotal order) where
-  -- a record that shares a base with the waiting one is held
-  holds_second : (sweep : Sweeping) (a b : Feature) → sweep.last ≡ Some a → IsTrue (order.knows a.chrom) → b.chrom ≡ a.chrom → Share a b → has_room_in sweep ≡ true → sweep.held ≡ [] → TakesSecond order sweep b (record sweep { held = b ∷ [] })
-  holds_second sweep a b was known same share room none = λ shape rule limit stage waiting line out stands waits.
-      let is : a ≡ waiting = let e : Some a ≡ Some waiting = sym was ∙ last_waits order shape rule limit stage waiting waits sweep stands in cc in
+  -- a record that starts before the end of the waiting one is taken, and held if it ends behind its start
+  holds_or_not : (sweep : Sweeping) (a b : Feature) (held : Bool) → ltb a.start b.stop ≡ held → sweep.last ≡ Some a → IsTrue (order.knows a.chrom) → has_room_in sweep ≡ true → b.chrom ≡ a.chrom → b.start < a.stop
+      → GivesSecond order sweep b (record sweep { held = sweep.held ++ cond held (b ∷ []) [] })
+  holds_or_not sweep a b held is was known room same before = λ shape rule limit stage waiting line out stands waits.
+      let one : a ≡ waiting = let e : Some a ≡ Some waiting = sym was ∙ last_waits order shape rule limit stage waiting waits sweep stands in cc in
       let compared : order.compare b.chrom a.chrom ≡ Equal = ap (λ (c : List ℕ). order.compare c a.chrom) same ∙ total.same a.chrom known in
-      let undecided : decides order a b ≡ false = ap (λ (o : Ordering). not (is_below_at o b.start a.stop)) compared ∙ ap not (lt-ltb b.start a.stop share.1) in
-      let to_hold : is_held_by sweep.last b ≡ true = ap (λ (l : Option Feature). is_held_by l b) was ∙ held_by a b same share in
-      let one : filter (is_held_by sweep.last) (b ∷ []) ≡ b ∷ [] = ap (λ c. cond c (b ∷ []) []) to_hold in
-      let held : record sweep { held = b ∷ [] } ≡ holding sweep b = ap (λ (l : List Feature). record sweep { held = l }) (sym one ∙ ap (λ (l : List Feature). l ++ filter (is_held_by sweep.last) (b ∷ [])) (sym none)) in
-      takes_b order shape rule limit stage waiting waits sweep stands (tt {0}) b line (record sweep { held = b ∷ [] }) out (subst (λ (f : Feature). decides order f b ≡ false) is undecided) (held, λ h. room)
+      let undecided : decides order a b ≡ false = ap (λ (o : Ordering). not (is_below_at o b.start a.stop)) compared ∙ ap not (lt-ltb b.start a.stop before) in
+      let to_hold : is_held_by sweep.last b ≡ held = ap (λ (l : Option Feature). is_held_by l b) was ∙ ap (λ (c : Bool). c && ltb a.start b.stop) (name_eq a.chrom b.chrom (sym same)) ∙ is in
+      let kept : record sweep { held = sweep.held ++ cond held (b ∷ []) [] } ≡ holding sweep b = ap (λ (c : Bool). record sweep { held = sweep.held ++ cond c (b ∷ []) [] }) (sym to_hold) in
+      takes_b order shape rule limit stage waiting waits sweep stands (tt {0}) b line (record sweep { held = sweep.held ++ cond held (b ∷ []) [] }) out (subst (λ (f : Feature). decides order f b ≡ false) one undecided)
+      (kept, λ h. room)
+
+  -- the first that shares a base with it is held
+  holds_second : (sweep : Sweeping) (a b : Feature) → sweep.last ≡ Some a → IsTrue (order.knows a.chrom) → b.chrom ≡ a.chrom → Share a b → has_room_in sweep ≡ true → sweep.held ≡ [] → GivesSecond order sweep b (record sweep { held = b ∷ [] })
+  holds_second sweep a b was known same share room none =
+      subst (λ (l : List Feature). GivesSecond order sweep b (record sweep { held = l ++ b ∷ [] })) none
+      (holds_or_not sweep a b true (lt-ltb a.start b.stop share.0) was known room same share.1)
 
 module _ (order : Order) (out : Output) where
   -- rounds, and one more
@@ -252,17 +257,6 @@ module _ (order : Order) (total : IsTotal order) (old : Sweeping) (firsts second
 -- ---- several beside the waiting one
 
 module _ (order : Order) (total : IsTotal order) (out : Output) (a : Feature) (known : IsTrue (order.knows a.chrom)) (filled : a.start < a.stop) where
-  -- one of them
-  holds_or_not : (sweep : Sweeping) (b : Feature) (held : Bool) → ltb a.start b.stop ≡ held → sweep.last ≡ Some a → sweep.limit ≡ None → b.chrom ≡ a.chrom → b.start < b.stop → b.start < a.stop → TakesSecond order sweep b (record sweep { held = sweep.held ++ cond held (b ∷ []) [] })
-  holds_or_not sweep b held is was no_limit same some before = λ shape rule limit stage waiting line out stands waits.
-      let one : a ≡ waiting = let e : Some a ≡ Some waiting = sym was ∙ last_waits order shape rule limit stage waiting waits sweep stands in cc in
-      let compared : order.compare b.chrom a.chrom ≡ Equal = ap (λ (c : List ℕ). order.compare c a.chrom) same ∙ total.same a.chrom known in
-      let undecided : decides order a b ≡ false = ap (λ (o : Ordering). not (is_below_at o b.start a.stop)) compared ∙ ap not (lt-ltb b.start a.stop before) in
-      let to_hold : is_held_by sweep.last b ≡ held = ap (λ (l : Option Feature). is_held_by l b) was ∙ ap (λ (c : Bool). c && ltb a.start b.stop) (name_eq a.chrom b.chrom (sym same)) ∙ is in
-      let kept : record sweep { held = sweep.held ++ cond held (b ∷ []) [] } ≡ holding sweep b = ap (λ (c : Bool). record sweep { held = sweep.held ++ cond c (b ∷ []) [] }) (sym to_hold) in
-      takes_b order shape rule limit stage waiting waits sweep stands (tt {0}) b line (record sweep { held = sweep.held ++ cond held (b ∷ []) [] }) out (subst (λ (f : Feature). decides order f b ≡ false) one undecided)
-      (kept, λ h. ap (λ (l : Option ℕ). has_room l (length sweep.held)) no_limit)
-
   holds_all : (sweep : Sweeping) (bs : List Feature) (from to : WholeRecords) → sweep.last ≡ Some a → sweep.limit ≡ None → want_in sweep ≡ B → a.chrom ≡ chrom_in from → GivesWholes from bs to → StartUpTo a.stop bs
       → PassesRounds order out sweep (alone bs) (record sweep { held = sweep.held ++ filter (λ r. ltb a.start r.stop) bs })
   holds_all sweep [] from to was no_limit wants on given before = ap (λ (l : List Feature). record sweep { held = l }) (append-nil sweep.held)
@@ -271,12 +265,8 @@ module _ (order : Order) (total : IsTotal order) (out : Output) (a : Feature) (k
       let one = ltb a.start b.stop in
       let mid : Sweeping = record sweep { held = sweep.held ++ cond one (b ∷ []) [] } in
       let rest = holds_all mid more given.0 to was no_limit wants (on ∙ sym given.1.same_chrom) given.2 before.1 in
-      let all : mid.held ++ filter (λ r. ltb a.start r.stop) more ≡ sweep.held ++ filter (λ r. ltb a.start r.stop) (b ∷ more) = append_assoc sweep.held (cond one (b ∷ []) []) (filter (λ r. ltb a.start r.stop) more) ∙ ap (λ (l : List Feature). sweep.held ++ l) (front_of one b (filter (λ r. ltb a.start r.stop) more)) in
-      (sweep, mid, refl, wants, holds_or_not sweep b one refl was no_limit same given.1.feature.non_empty before.0, wants, subst (λ (l : List Feature). PassesRounds order out mid (alone more) (record sweep { held = l })) all rest)
-    where
-      front_of : (c : Bool) (b : Feature) (more : List Feature) → cond c (b ∷ []) [] ++ more ≡ cond c (b ∷ more) more
-      front_of true b more = refl
-      front_of false b more = refl
+      let all : mid.held ++ filter (λ r. ltb a.start r.stop) more ≡ sweep.held ++ filter (λ r. ltb a.start r.stop) (b ∷ more) = append_assoc sweep.held (cond one (b ∷ []) []) (filter (λ r. ltb a.start r.stop) more) ∙ ap (λ (l : List Feature). sweep.held ++ l) (before_all one b (filter (λ r. ltb a.start r.stop) more)) in
+      (sweep, mid, refl, wants, holds_or_not order total sweep a b one refl was known (ap (λ (l : Option ℕ). has_room l (length sweep.held)) no_limit) same before.0, wants, subst (λ (l : List Feature). PassesRounds order out mid (alone more) (record sweep { held = l })) all rest)
 
 module _ (order : Order) (total : IsTotal order) (old : Sweeping) (firsts seconds : WholeRecords) (new : Sweeping) (new_firsts new_seconds : WholeRecords) (known : (a : Feature) → old.last ≡ Some a → IsTrue (order.knows a.chrom)) where
   pub takes_both : want_in old ≡ B → Leaps old firsts seconds new new_firsts new_seconds → TakesBoth order old firsts seconds new new_firsts new_seconds
@@ -388,11 +378,7 @@ module _ (last : Option Feature) (a : Feature) (was : last ≡ Some a) where
       let one = ltb a.start b.stop in
       let rest = filter (λ (r : Feature). ltb a.start r.stop) more in
       let next = with_all (held ++ cond one (b ∷ []) []) more given.0 to (on ∙ sym given.1.same_chrom) given.2 (with_one held b one refl (given.1.chrom ∙ sym on) given.1.feature.non_empty with) in
-      subst (λ (l : List Feature). AreWith last l) (append_assoc held (cond one (b ∷ []) []) rest ∙ ap (λ (l : List Feature). held ++ l) (front one b rest)) next
-    where
-      front : (c : Bool) (b : Feature) (more : List Feature) → cond c (b ∷ []) [] ++ more ≡ cond c (b ∷ more) more
-      front true b more = refl
-      front false b more = refl
+      subst (λ (l : List Feature). AreWith last l) (append_assoc held (cond one (b ∷ []) []) rest ∙ ap (λ (l : List Feature). held ++ l) (before_all one b rest)) next
 
   pub holds_with : (held new_held : List Feature) (old new : WholeRecords) → a.chrom ≡ chrom_in old → HoldsUpTo a.start a.stop held old new_held new → AreWith last held → AreWith last new_held
   holds_with held new_held old new on holds with = subst (λ (l : List Feature). AreWith last l) (sym holds.holds) (with_all held holds.bs old new on holds.given with)

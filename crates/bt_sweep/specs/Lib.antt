@@ -16,6 +16,7 @@ pub mod Unhit
 pub mod Reaching
 pub mod StatePassing
 pub mod StateLeaping
+pub mod StateEnding
 pub mod PlainPieces
 pub mod Held
 pub mod HeldList

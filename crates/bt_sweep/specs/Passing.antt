@@ -1,7 +1,8 @@
 -- Records of one input given one after another, without a record of the other one being taken between
 -- them, and records of both in rounds.
-use Rattle.std.specs.Prelude.{◌≡◌, ◌⊎◌, ◌<◌, ℕ, ⊤, length, List, [], ◌∷◌, ◌++◌, Option, None, Some, Ok}
+use Rattle.std.specs.Prelude.{◌≡◌, ◌⊎◌, ◌<◌, ℕ, ⊤, Bool, true, false, length, List, [], ◌∷◌, ◌++◌, Option, None, Some, Result, Ok, Err}
 use Rattle.bt_lines.specs.Output.{Output}
+use Rattle.bt_lines.specs.declared.fault.Fault.{Fault}
 use Rattle.bt_bed.specs.Feature.{Feature, intervals_of}
 use Rattle.bt_bed.specs.Locus.{ArePlaced}
 use Rattle.bt_bed.specs.Order.{Order}
@@ -65,17 +66,70 @@ pub record TakesFirsts (order : Order) (b : Feature) (old : Sweeping) (from : Wh
   pub given : GivesWholes from firsts to
   pub passes : PassesUpTo order b old out firsts new grown ⊎ PassesFirsts order b old out firsts new grown
 
+-- once the second input has ended, which the sweep was told
+module _ (order : Order) where
+  -- a record of the first was given, and its lines were written
+  pub record WritesFirst (old : Sweeping) (out : Output) (a : Feature) (new : Sweeping)
+      (grown : Output) : Type 0 where
+    pub asks : want_in old ≡ A
+    pub ended : old.b_ended ≡ true
+    pub gives : (shape : Shape) (rule : HitRule) (limit : Option ℕ) (stage : Stage)
+        → StandsAt order shape rule limit stage old → IsInOrder order (with_a stage a)
+        → GivesA {A = Unit {0}} order shape rule limit stage a out (Ok tt) new grown
+
+  -- records were, one after another
+  abbrev pub WritesFirsts : Sweeping → Output → List Feature → Sweeping → Output → Type 0
+  WritesFirsts old out [] new grown = (new ≡ old) × (grown ≡ out)
+  WritesFirsts old out (a ∷ more) new grown =
+      (mid : Sweeping) × (through : Output)
+      × WritesFirst old out a mid through × WritesFirsts mid through more new grown
+
+  -- a record of the first was given, and it wasn't taken or its lines weren't written
+  pub record FailsAtFirst (old : Sweeping) (out : Output) (a : Feature) (fault : Fault)
+      (new : Sweeping) (grown : Output) : Type 0 where
+    pub asks : want_in old ≡ A
+    pub ended : old.b_ended ≡ true
+    pub fails : (shape : Shape) (rule : HitRule) (limit : Option ℕ) (stage : Stage)
+        → StandsAt order shape rule limit stage old → IsInOrder order (with_a stage a)
+        → GivesA {A = Unit {0}} order shape rule limit stage a out (Err fault) new grown
+
+-- records that stood whole were given and written
+pub record WritesWhole (order : Order) (old : Sweeping) (from : WholeRecords) (out : Output)
+    (new : Sweeping) (to : WholeRecords) (grown : Output) : Type 0 where
+  pub firsts : List Feature
+  pub some : 0 < length firsts
+  pub given : GivesWholes from firsts to
+  pub writes : WritesFirsts order old out firsts new grown
+
+-- records that stood whole were, and it failed at the one behind them, which was passed too
+pub record FailsInWhole (order : Order) (old : Sweeping) (from : WholeRecords) (out : Output)
+    (fault : Fault) (new : Sweeping) (to : WholeRecords) (grown : Output) : Type 0 where
+  pub firsts : List Feature
+  pub a : Feature
+  pub given : GivesWholes from (firsts ++ a ∷ []) to
+  pub mid : Sweeping
+  pub through : Output
+  pub writes : WritesFirsts order old out firsts mid through
+  pub fails : FailsAtFirst order mid through a fault new grown
+
+-- whether any were written, and how it failed
+abbrev pub WritesAny : Order → Sweeping → WholeRecords → Output → Result Bool Fault → Sweeping
+    → WholeRecords → Output → Type 0
+WritesAny order old from out (Ok true) new to grown = WritesWhole order old from out new to grown
+WritesAny order old from out (Ok false) new to grown = (new ≡ old) × (to ≡ from) × (grown ≡ out)
+WritesAny order old from out (Err fault) new to grown = FailsInWhole order old from out fault new to grown
+
 module _ (order : Order) (sweep : Sweeping) where
   -- a record of the second input was given and taken
-  abbrev pub TakesSecond : Feature → Sweeping → Type 0
-  TakesSecond b new =
+  abbrev pub GivesSecond : Feature → Sweeping → Type 0
+  GivesSecond b new =
       (shape : Shape) (rule : HitRule) (limit : Option ℕ) (stage : Stage) (a : Feature) (line : ℕ)
       (out : Output) → StandsAt order shape rule limit stage sweep → stage.waiting ≡ Some a
       → GivesB order shape rule limit stage a b line out (Ok Yes) new out
 
   -- and nothing else changed
   abbrev pub PassesSecond : Feature → Type 0
-  PassesSecond b = TakesSecond b sweep
+  PassesSecond b = GivesSecond b sweep
 
   -- records were, one after another
   abbrev pub PassesSeconds : List Feature → Type 0
@@ -133,7 +187,7 @@ module _ (order : Order) (out : Output) where
   PassesRounds old [] new = new ≡ old
   PassesRounds old (round ∷ more) new =
       (mid : Sweeping) × (taken : Sweeping) × PassesRound old round.b round.skipped mid
-      × (want_in mid ≡ B) × TakesSecond order mid round.b taken × (want_in taken ≡ B)
+      × (want_in mid ≡ B) × GivesSecond order mid round.b taken × (want_in taken ≡ B)
       × PassesRounds taken more new
 
 -- records of both inputs that stood whole were given in rounds

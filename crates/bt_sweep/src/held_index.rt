@@ -73,6 +73,7 @@ impl Held for HeldIndex {
         self.list.push(rec)
     }
 
+    #[inline(always)]
     fn drop_ended(&mut self, place: u64) {
         self.look_on(place);
         if place < self.least {

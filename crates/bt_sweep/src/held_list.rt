@@ -64,6 +64,7 @@ impl HeldList {
     }
 
     // Drops those that end at or before the place, which are all among so many from the first one on.
+    #[inline(always)]
     pub(crate) fn drop_ended_among(&mut self, count: usize, place: u64)
         requires within { count ≤ length (records_in self.old) }
         requires rest { EndAfter place (records_in self.old) count }
@@ -165,6 +166,7 @@ fn has_ended(records: &VecDeque<Rec>, count: usize, place: u64) -> bool
 
 // Drops those of so many records from the first that end at or before the place. The others are moved
 // after those that follow, and back at last.
+#[inline(always)]
 fn drop_ended_of(records: &mut VecDeque<Rec>, count: usize, place: u64)
     requires { count ≤ length records.old.items }
     ensures { records.new.items

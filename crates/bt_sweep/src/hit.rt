@@ -5,10 +5,11 @@ ghost use Rattle.std.specs.List.{list_any};
 ghost use Rattle.bt_bed.specs.Bed.{feature_lent};
 ghost use Rattle.bt_bed.specs.Strands.{is_strand};
 ghost use Rattle.bt_sweep.specs.Hits.{has_fraction, hits, hits_among, is_enough, shared_bases, strands_agree};
-ghost use Rattle.bt_sweep.specs.Held.{AreOn, CanHit, StartBefore};
+ghost use Rattle.bt_sweep.specs.Held.{AreOn, AreRising, CanHit, StartBefore};
 
 use crate::held::Held;
 use crate::hit_rule::HitRule;
+use crate::started::starts_from;
 use bt_bed::{BedRef, Rec, Strand};
 
 // Whether two records of one chromosome hit one another. Those that share no base are told by two
@@ -87,14 +88,20 @@ fn is_hit_by(rule: HitRule, a: &BedRef<'_>, b: Option<&Rec>) -> bool
     }
 }
 
-// Whether one of so many held records from the first hits the record.
-pub(crate) fn is_any_hit<H: Held>(rule: HitRule, a: &BedRef<'_>, held: &H, count: usize) -> bool
+// Whether one of the held records hits the record, where they come by their starts. None is looked at behind
+// the first one that hits it, nor behind the first one that starts at its end or after it.
+pub(crate) fn is_any_hit<H: Held>(rule: HitRule, a: &BedRef<'_>, held: &H) -> bool
     requires { AreOn a.now.chrom.now (H.records held.now) }
-    ensures { result ≡ list_any (hits rule (feature_lent a.now)) (take count (H.records held.now)) }
+    ensures { AreRising (H.records held.now)
+        → result ≡ list_any (hits rule (feature_lent a.now)) (H.records held.now) }
 {
-    for index in 0..count {
-        if is_hit_by(rule, a, held.nth(index)) {
+    for index in 0..held.len() {
+        let b = held.nth(index);
+        if is_hit_by(rule, a, b) {
             return true;
+        }
+        if starts_from(b, a.stop) {
+            return false;
         }
     }
     false
@@ -103,6 +110,7 @@ pub(crate) fn is_any_hit<H: Held>(rule: HitRule, a: &BedRef<'_>, held: &H, count
 // How many of so many held records from the first hit the record, where they start before its end. If
 // one shared base is enough, all of them do, since those that ended before it aren't held any more.
 #[tactic(auto, using(crate::proofs::OpenLemmas::all_hit, crate::proofs::OpenLemmas::on_name))]
+#[inline(always)]
 pub(crate) fn count_started_hits<H: Held>(
     rule: HitRule,
     a: &BedRef<'_>,

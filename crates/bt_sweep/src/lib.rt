@@ -50,6 +50,7 @@ mod whole_front;
 #[cfg(test)]
 mod worked;
 mod writing;
+mod written;
 
 pub use bt_bed::Taken;
 pub use held::Held;

@@ -18,6 +18,7 @@ use bt_lines::{Fault, Out, Sink};
 // Puts the pieces of a record that its hits leave, among so many held records from the first. The held
 // records lie on its chromosome and come by their starts, so one walk over them meets the pieces in
 // order. It takes no memory.
+#[inline(always)]
 pub(crate) fn put_pieces<H: Held, K: Sink>(
     rule: HitRule,
     a: &BedRef<'_>,
@@ -39,6 +40,7 @@ pub(crate) fn put_pieces<H: Held, K: Sink>(
 
 // Puts the piece of a record from a position up to the start of a held record, if there is one and it
 // hits the record. It gives the first position from there on that isn't covered by what came so far.
+#[inline(always)]
 fn put_before<K: Sink>(
     rule: HitRule,
     a: &BedRef<'_>,

@@ -9,7 +9,8 @@ use bt_bed::Rec;
 
 // How many held records stand before the first one that starts at the place or after it, where they
 // come by their starts. The last record is looked at first, since mostly it starts before the place, and
-// then those near the first one: each index that is looked at is at most twice as great as the one before it.
+// then those near the first one: each index that is looked at is at most one more than twice the one
+// before it.
 pub(crate) fn count_started<H: Held>(held: &H, place: u64) -> usize
     ensures within { result ≤ length (H.records held.now) }
     ensures before { AreRising (H.records held.now) → StartBefore place (take result (H.records held.now)) }
@@ -24,7 +25,7 @@ pub(crate) fn count_started<H: Held>(held: &H, place: u64) -> usize
     }
     let mut low = 0;
     while low < high {
-        let middle = low + ((high - low) / 2).min(low);
+        let middle = low + ((high - low) / 2).min(low.saturating_sub(1));
         if starts_from(held.nth(middle), place) {
             high = middle;
         } else {
@@ -35,7 +36,7 @@ pub(crate) fn count_started<H: Held>(held: &H, place: u64) -> usize
 }
 
 // Whether there is a record and it starts at the place or after it.
-fn starts_from(rec: Option<&Rec>, place: u64) -> bool
+pub(crate) fn starts_from(rec: Option<&Rec>, place: u64) -> bool
     ensures { result ≡ list_any (λ r. nat_le place r.start) (option_to_list (option_copied rec.entry)) }
 {
     match rec {

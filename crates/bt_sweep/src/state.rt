@@ -10,6 +10,7 @@ ghost use Rattle.bt_lines.specs.Names.{told};
 ghost use Rattle.bt_sweep.specs.Reaching.{IsReachBy};
 ghost use Rattle.bt_sweep.specs.Held.{AreRising, AreWith};
 ghost use Rattle.bt_sweep.specs.IntersectLines.{lines_for};
+ghost use Rattle.bt_sweep.specs.StateEnding.{WritesSome, WritesAtEnd, GivesNext, GivesNextWhole};
 ghost use Rattle.bt_sweep.specs.StateLeaping.{GoesOver, HoldsOneMore, HoldsSeveral, HoldsUpTo, Leaps};
 ghost use Rattle.bt_sweep.specs.StatePassing.{DecidesUpTo, PassesBefore, PassesBy, TakesWhole};
 ghost use Rattle.bt_sweep.specs.StateSteps.{Holds, KeepsLast, TakesA, WritesLast, has_room_in, held_with, is_held_by, moved_to};
@@ -24,6 +25,7 @@ use crate::unhit::{Unhit, has_line, most_bytes, put_unhit, unhit_of};
 use crate::want::Want;
 use crate::whole_front::{behind_up_to, front_up_to};
 use crate::writing::{needs_hit, put_lines};
+use crate::written::Written;
 use bt_bed::{BedRef, ChromOrder, Rec, WholeRecords, at_line, is_same_name};
 use bt_lines::{Fault, Input, Kind, MAX_NUMBER, Out, Place, Sink, no_memory};
 use std::alloc::{AllocError, Global};
@@ -152,6 +154,83 @@ impl<H: Held> State<H> {
             return self.write(out);
         }
         self.waits = true;
+        Ok(())
+    }
+
+    // Takes records of the first input that stand whole, one after another, and writes the lines of each, once the second
+    // input has ended. It answers whether it took any: none on another chromosome than that of the last one. Where it
+    // fails, the record that it failed at was passed too.
+    pub(crate) fn write_whole<K: Sink>(
+        &mut self,
+        records: &mut WholeRecords<'_>,
+        out: &mut Out<K>,
+    ) -> Result<bool, Fault>
+        ensures { WritesAtEnd self.old records.old out.old result self.new records.new out.new }
+    {
+        if self.b_ended && self.is_on(records.chrom()) {
+            return self.write_each(records, out);
+        }
+        Ok(false)
+    }
+
+    // Whether there is a last record, and it lies on the chromosome.
+    fn is_on(&self, chrom: &[u8]) -> bool
+        ensures { IsTrue result → (last : Feature) × (self.now.last ≡ Some last) × (last.chrom ≡ chrom.now) }
+    {
+        match &self.last {
+            None => false,
+            Some(last) => is_same_name(last.as_bed().chrom, chrom),
+        }
+    }
+
+    // Does so with as many as stand whole. The function isn't inlined, so that the loop has the registers to itself.
+    #[inline(never)]
+    fn write_each<K: Sink>(
+        &mut self,
+        records: &mut WholeRecords<'_>,
+        out: &mut Out<K>,
+    ) -> Result<bool, Fault>
+        ensures { WritesSome self.old records.old out.old result self.new records.new out.new }
+    {
+        let mut is_any = false;
+        while self.is_next_written(records, out)? {
+            is_any = true;
+        }
+        Ok(is_any)
+    }
+
+    // A step of that: whether there was one.
+    #[inline(always)]
+    fn is_next_written<K: Sink>(
+        &mut self,
+        records: &mut WholeRecords<'_>,
+        out: &mut Out<K>,
+    ) -> Result<bool, Fault>
+        ensures { GivesNextWhole self.old records.old out.old result self.new records.new out.new }
+    {
+        let Some(line) = records.next_line() else {
+            return Ok(false);
+        };
+        self.write_next(&Written::of_line(&line), out)?;
+        Ok(true)
+    }
+
+    // Takes the next record of the first input, and writes its lines against what is held then.
+    #[inline(always)]
+    fn write_next<K: Sink>(&mut self, a: &Written<'_>, out: &mut Out<K>) -> Result<(), Fault>
+        ensures { GivesNext self.old out.old (feature_lent a.now.bed) result self.new out.new }
+    {
+        if self.move_to(&a.bed).is_err() {
+            self.stop();
+            return Err(no_memory());
+        }
+        if needs_hit(self.shape) && self.held.len() == 0 {
+            return Ok(());
+        }
+        if let Err(fault) = put_lines(self.shape, self.rule, a, &self.held, out) {
+            self.stop();
+            return Err(fault);
+        }
         Ok(())
     }
 
@@ -329,6 +408,7 @@ impl<H: Held> State<H> {
     }
 
     // Keeps of what is held what can hit the record, which becomes the last one.
+    #[inline(always)]
     fn move_to(&mut self, a: &BedRef<'_>) -> Result<(), AllocError>
         ensures moved { OnOk result (self.new ≡ moved_to self.old (feature_lent a.now)) }
         ensures last { OnErr result (self.new.last ≡ self.old.last) }
@@ -356,6 +436,7 @@ fn too_many_held(line: u64) -> Fault
 }
 
 // Makes the record the last one, and drops the held records that neither it nor a later one can hit.
+#[inline(always)]
 fn move_last<H: Held>(
     alloc: Global,
     last: &mut Option<Rec>,
@@ -485,7 +566,7 @@ fn put_last<H: Held, K: Sink>(
 {
     match last {
         None => Ok(()),
-        Some(last) => put_lines(shape, rule, &last.as_bed(), held, out),
+        Some(last) => put_lines(shape, rule, &Written::of_bed(last.as_bed()), held, out),
     }
 }
 
@@ -561,8 +642,8 @@ fn is_next_held<H: Held>(
     hold_copy(alloc, held, &b).is_ok()
 }
 
-// Holds a copy of the record. The function isn't inlined: it is called in two places, and in each what it calls would not
-// be inlined any more.
+// Holds a copy of the record. The function isn't inlined: it is called in several places, and in each what it calls would
+// not be inlined any more.
 #[inline(never)]
 fn hold_copy<H: Held>(alloc: Global, held: &mut H, b: &BedRef<'_>) -> Result<(), AllocError>
     ensures held { OnOk result (H.records held.new ≡ H.records held.old ++ feature_lent b.now ∷ []) }

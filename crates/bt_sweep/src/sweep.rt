@@ -30,7 +30,7 @@ pub struct Sweep<'o, H: Held, O: ChromOrder> {
 }
 
 impl<'o, H: Held, O: ChromOrder> Sweep<'o, H, O> {
-    ghost use Rattle.std.specs.Prelude.{◌≡◌, ℕ, List, [], IsTrue, OnErr, Option, Some, false, true};
+    ghost use Rattle.std.specs.Prelude.{◌≡◌, ℕ, List, [], IsTrue, Ok, OnErr, Option, Some, false, true};
     ghost use Rattle.bt_bed.specs.Bed.{feature_lent};
     ghost use Rattle.bt_bed.specs.Feature.{intervals_of};
     ghost use Rattle.bt_bed.specs.Locus.{ArePlaced};
@@ -38,7 +38,7 @@ impl<'o, H: Held, O: ChromOrder> Sweep<'o, H, O> {
     ghost use Rattle.bt_sweep.specs.Standing.{IsInOrder, Stage, StandsAt, first_stage, given, held_for, last_given, want_at, with_a, with_a_ended};
     ghost use Rattle.bt_sweep.specs.Steps.{EndsB, GivesA, GivesB};
     ghost use Rattle.bt_bed.specs.WholeRecords.{GivesWholes};
-    ghost use Rattle.bt_sweep.specs.Passing.{PassesSeconds, TakesBoth, TakesFirsts};
+    ghost use Rattle.bt_sweep.specs.Passing.{PassesSeconds, TakesBoth, TakesFirsts, WritesAny};
     ghost use Rattle.bt_sweep.specs.SweepView.{order_of, state_of};
     ghost use Rattle.bt_sweep.specs.SweepState.{want_in};
 
@@ -118,6 +118,25 @@ impl<'o, H: Held, O: ChromOrder> Sweep<'o, H, O> {
         ensures order { order_of self.new ≡ order_of self.old }
     {
         self.state.take_whole(self.order, records, b, out)
+    }
+
+    /// Takes records of the first input that stand whole, one after another, once it was told that the second has ended,
+    /// and writes the lines of each, as [`Sweep::give_a`] does. It answers whether it took any: none where it wasn't told
+    /// so, before the first record, and on another chromosome than that of the record given last. What it took was
+    /// passed, and where it fails, as [`Sweep::give_a`] does, the record that it failed at too.
+    pub fn write_whole<K: Sink>(
+        &mut self,
+        records: &mut WholeRecords<'_>,
+        out: &mut Out<K>,
+    ) -> Result<bool, Fault>
+        requires want { want_in (state_of self.old) ≡ Want.A }
+        ensures before_end { (state_of self.old).b_ended ≡ false → result ≡ Ok false }
+        ensures writes { WritesAny (order_of self.old) (state_of self.old) records.old out.old result (state_of self.new)
+            records.new out.new }
+        ensures stops { OnErr result (want_in (state_of self.new) ≡ Want.Nothing) }
+        ensures order { order_of self.new ≡ order_of self.old }
+    {
+        self.state.write_whole(records, out)
     }
 
     /// Takes records of both inputs that stand whole, as [`Sweep::give_b`] and [`Sweep::give_a`] do with each: those of

@@ -16,6 +16,7 @@ use crate::pieces::put_pieces;
 use crate::shape::Shape;
 use crate::started::count_started;
 use crate::unhit::{Unhit, unhit_of};
+use crate::written::{Written, put_written};
 use bt_bed::{BedRef, Rec, put_bed, put_cut};
 use bt_lines::{Fault, Out, Sink, put_number};
 
@@ -29,41 +30,46 @@ pub(crate) fn needs_hit(shape: Shape) -> bool
 // Puts the lines of a record against these, which can hit it and come by their starts. Those that start
 // at its end or after it are passed over. It takes no memory.
 #[tactic(auto, using(crate::proofs::OpenLemmas::on_name))]
+#[inline(always)]
 pub(crate) fn put_lines<H: Held, K: Sink>(
     shape: Shape,
     rule: HitRule,
-    a: &BedRef<'_>,
+    a: &Written<'_>,
     held: &H,
     out: &mut Out<K>,
 ) -> Result<(), Fault>
-    requires { All (CanHit (feature_lent a.now)) (H.records held.now) }
+    requires { All (CanHit (feature_lent a.now.bed)) (H.records held.now) }
     ensures { AreRising (H.records held.now)
-        → Adds out.old (lines_for shape rule (feature_lent a.now) (H.records held.now)) result out.new }
+        → Adds out.old (lines_for shape rule (feature_lent a.now.bed) (H.records held.now)) result out.new }
 {
-    let count = count_started(held, a.stop);
+    let bed = &a.bed;
     match shape {
-        Shape::Count => put_counted(a, count_started_hits(rule, a, held, count) as u64, out),
-        Shape::Once => put_where(is_any_hit(rule, a, held, count), a, out),
-        Shape::Missing | Shape::Whole => put_where(!is_any_hit(rule, a, held, count), a, out),
-        Shape::Cut | Shape::OrigA | Shape::CutAndB | Shape::OrigBoth | Shape::Overlap => {
-            put_hits(shape, rule, a, held, count, out)
+        Shape::Count => {
+            let count = count_started(held, bed.stop);
+            put_counted(a, count_started_hits(rule, bed, held, count) as u64, out)
         }
-        Shape::Pieces => put_pieces(rule, a, held, count, out),
+        Shape::Once => put_where(is_any_hit(rule, bed, held), a, out),
+        Shape::Missing | Shape::Whole => put_where(!is_any_hit(rule, bed, held), a, out),
+        Shape::Cut | Shape::OrigA | Shape::CutAndB | Shape::OrigBoth | Shape::Overlap => {
+            put_hits(shape, rule, a, held, count_started(held, bed.stop), out)
+        }
+        Shape::Pieces => put_pieces(rule, bed, held, count_started(held, bed.stop), out),
     }
 }
 
 // Puts a line for each of so many held records from the first that hits the record.
+#[inline(always)]
 fn put_hits<H: Held, K: Sink>(
     shape: Shape,
     rule: HitRule,
-    a: &BedRef<'_>,
+    a: &Written<'_>,
     held: &H,
     count: usize,
     out: &mut Out<K>,
 ) -> Result<(), Fault>
-    requires { AreOn a.now.chrom.now (H.records held.now) }
-    ensures { Adds out.old (flat_map (hit_line shape (feature_lent a.now))
-        (hits_among rule (feature_lent a.now) (take count (H.records held.now)))) result out.new }
+    requires { AreOn a.now.bed.chrom.now (H.records held.now) }
+    ensures { Adds out.old (flat_map (hit_line shape (feature_lent a.now.bed))
+        (hits_among rule (feature_lent a.now.bed) (take count (H.records held.now)))) result out.new }
 {
     for index in 0..count {
         put_if_hit(shape, rule, a, held.nth(index), out)?;
@@ -72,55 +78,59 @@ fn put_hits<H: Held, K: Sink>(
 }
 
 // Puts the line of a held record, if there is one and it hits the record.
+#[inline(always)]
 fn put_if_hit<K: Sink>(
     shape: Shape,
     rule: HitRule,
-    a: &BedRef<'_>,
+    a: &Written<'_>,
     b: Option<&Rec>,
     out: &mut Out<K>,
 ) -> Result<(), Fault>
-    requires { AreOn a.now.chrom.now (option_to_list (option_copied b)) }
-    ensures { Adds out.old (flat_map (hit_line shape (feature_lent a.now))
-        (hits_among rule (feature_lent a.now) (option_to_list (option_copied b.entry)))) result out.new }
+    requires { AreOn a.now.bed.chrom.now (option_to_list (option_copied b)) }
+    ensures { Adds out.old (flat_map (hit_line shape (feature_lent a.now.bed))
+        (hits_among rule (feature_lent a.now.bed) (option_to_list (option_copied b.entry)))) result out.new }
 {
     let Some(b) = b else {
         return Ok(());
     };
     let b = b.as_bed();
-    if !is_hit(rule, a, &b) {
+    if !is_hit(rule, &a.bed, &b) {
         return Ok(());
     }
     put_hit(shape, a, &b, out)
 }
 
 // Puts the line of a record that shares a base with the record, in a shape that has one for each hit.
+#[inline(always)]
 fn put_hit<K: Sink>(
     shape: Shape,
-    a: &BedRef<'_>,
+    a: &Written<'_>,
     b: &BedRef<'_>,
     out: &mut Out<K>,
 ) -> Result<(), Fault>
-    requires { 0 < shared_bases (feature_lent a.now) (feature_lent b.now) }
-    ensures { Adds out.old (hit_line shape (feature_lent a.now) (feature_lent b.now)) result out.new }
+    requires { 0 < shared_bases (feature_lent a.now.bed) (feature_lent b.now) }
+    ensures { Adds out.old (hit_line shape (feature_lent a.now.bed) (feature_lent b.now)) result out.new }
 {
-    let start = a.start.max(b.start);
-    let stop = a.stop.min(b.stop);
+    let bed = &a.bed;
+    let start = bed.start.max(b.start);
+    let stop = bed.stop.min(b.stop);
     match shape {
-        Shape::Cut => put_cut(a, start, stop, b"\n", out),
-        Shape::OrigA => put_bed(a, b"\n", out),
-        Shape::CutAndB => put_both(a, start, stop, b, out),
-        Shape::OrigBoth => put_both(a, a.start, a.stop, b, out),
+        Shape::Cut => put_cut(bed, start, stop, b"\n", out),
+        Shape::OrigA => put_written(a, b"\n", out),
+        Shape::CutAndB => put_both(bed, start, stop, b, out),
+        Shape::OrigBoth => put_beside(a, b, out),
         Shape::Overlap => put_overlap(a, b, stop.saturating_sub(start), out),
         Shape::Once | Shape::Missing | Shape::Count | Shape::Pieces | Shape::Whole => Ok(()),
     }
 }
 
 // Puts the record's line where it is to be written, and nothing else.
-fn put_where<K: Sink>(is_put: bool, a: &BedRef<'_>, out: &mut Out<K>) -> Result<(), Fault>
-    ensures { Adds out.old (cond is_put (line_with (bed_text (feature_lent a.now) ∷ [])) []) result out.new }
+#[inline(always)]
+fn put_where<K: Sink>(is_put: bool, a: &Written<'_>, out: &mut Out<K>) -> Result<(), Fault>
+    ensures { Adds out.old (cond is_put (line_with (bed_text (feature_lent a.now.bed) ∷ [])) []) result out.new }
 {
     if is_put {
-        return put_bed(a, b"\n", out);
+        return put_written(a, b"\n", out);
     }
     Ok(())
 }
@@ -141,23 +151,33 @@ fn put_both<K: Sink>(
 }
 
 // Puts a record and a number.
-fn put_counted<K: Sink>(a: &BedRef<'_>, count: u64, out: &mut Out<K>) -> Result<(), Fault>
-    ensures { Puts out.old (line_with (bed_text (feature_lent a.now) ∷ decimal count ∷ [])) result out.new }
+#[inline(never)]
+fn put_counted<K: Sink>(a: &Written<'_>, count: u64, out: &mut Out<K>) -> Result<(), Fault>
+    ensures { Puts out.old (line_with (bed_text (feature_lent a.now.bed) ∷ decimal count ∷ [])) result out.new }
 {
-    put_bed(a, b"\t", out)?;
+    put_written(a, b"\t", out)?;
     put_number(count, b"\n", out)
+}
+
+// Puts two records.
+fn put_beside<K: Sink>(a: &Written<'_>, b: &BedRef<'_>, out: &mut Out<K>) -> Result<(), Fault>
+    ensures { Puts out.old (line_with (bed_text (feature_lent a.now.bed)
+        ∷ bed_text (feature_lent b.now) ∷ [])) result out.new }
+{
+    put_written(a, b"\t", out)?;
+    put_bed(b, b"\n", out)
 }
 
 // Puts two records and a number.
 fn put_overlap<K: Sink>(
-    a: &BedRef<'_>,
+    a: &Written<'_>,
     b: &BedRef<'_>,
     count: u64,
     out: &mut Out<K>,
 ) -> Result<(), Fault>
-    ensures { Puts out.old (line_with (bed_text (feature_lent a.now)
+    ensures { Puts out.old (line_with (bed_text (feature_lent a.now.bed)
         ∷ bed_text (feature_lent b.now) ∷ decimal count ∷ [])) result out.new }
 {
-    put_bed(a, b"\t", out)?;
-    put_counted(b, count, out)
+    put_written(a, b"\t", out)?;
+    put_counted(&Written::of_bed(*b), count, out)
 }

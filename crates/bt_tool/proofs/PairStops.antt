@@ -196,37 +196,53 @@ module _ {A B X Y U V : Type 0} (making : Making X Y) (pair : Pair A B X Y U V) 
         handed_now : HandsFirst first_now
         handed_now = bytes_more pair.a_left pair.a_failed pair.a_end pair.first past_first first s.first_passes first_now ahead.read.stays.bytes
 
-        -- there was no memory for its member
-        pub lacks_first : (fault : Told) → fault ≡ no_memory → Ends (Some fault) first_now second grown
-        unfolding near_first_by near_by
-        lacks_first fault is = record {
-          written = stage.written;
-          bytes = s.bytes;
-          wrote = wrote_first first_now handed_now;
-          why = inr (inl (ap Some is, s.puts));
-          near = near_first_by first_now grown handed_now no_more (ahead_at pair.a_left pair.a_failed pair.a_end pair.first past_first first s.first_passes s.none_ahead m first_now ahead);
-          exact = λ stops. s.puts;
-        }
+        -- a reader that stands there too, as one that has passed it
+        module _ (later : MemberReader A X U) (same : later.below ≡ first_now.below) where
+          handed_later : HandsFirst later
+          handed_later = rw same handed_now
 
-        -- its bytes weren't written
+          stops_later : (count : ℕ) × StopsBehind pair.a_left first count later.below
+          stops_later = rw same (ahead_at pair.a_left pair.a_failed pair.a_end pair.first past_first first s.first_passes s.none_ahead m first_now ahead)
+
+          -- there was no memory for its member
+          pub lacks_passed : (fault : Told) → fault ≡ no_memory → Ends (Some fault) later second grown
+          unfolding near_first_by near_by
+          lacks_passed fault is = record {
+            written = stage.written;
+            bytes = s.bytes;
+            wrote = wrote_first later handed_later;
+            why = inr (inl (ap Some is, s.puts));
+            near = near_first_by later grown handed_later no_more stops_later;
+            exact = λ stops. s.puts;
+          }
+
+          -- its bytes weren't written
+          pub fails_passed : (more : List ℕ) → (IsKnown pair → Settles making (stage.written ++ m.item ∷ []) (s.bytes ++ more) (stage.taken ++ option_to_list (item_ahead second)) stage.second_ended)
+              → (fault : Told) (now : Output) → FailsToAdd grown more fault now → Ends (Some fault) later second now
+          fails_passed more settles fault now adds =
+              let items : member_items (past_first ++ m ∷ []) ≡ (stage.written ++ m.item ∷ []) ++ [] =
+              map-append (λ m. m.item) past_first (m ∷ []) ∙ ap (λ l. l ++ m.item ∷ []) (sym (all_done none)) ∙ sym (append-nil (stage.written ++ m.item ∷ [])) in
+              record {
+                written = stage.written ++ m.item ∷ [];
+                bytes = s.bytes ++ more;
+                wrote = wrote_by past_second second second s.second_passes (omega arith) s.second_passes.bytes later handed_later (stage.written ++ m.item ∷ []) (s.bytes ++ more) stage.second_ended now
+                    (λ known. subst (λ (l : List Y). Settles making (stage.written ++ m.item ∷ []) (s.bytes ++ more) (l ++ option_to_list (item_ahead second)) stage.second_ended) s.all_taken (settles known))
+                    (items_first (good_coming pair.a_left pair.first) (stage.written ++ m.item ∷ []) []
+                    (items_begin (good_coming pair.a_left pair.first) (past_first ++ m ∷ []) (stage.written ++ m.item ∷ []) [] items
+                    (begins_more (good_coming pair.a_left pair.first) (good_coming pair.a_left first) past_first m s.first_passes.come ahead.read.first)))
+                    ended_now (grows_both out.took grown.took now.took s.grows adds.puts.grows) (given stage) given_now fits;
+                why = inr (inr (ap Some adds.puts.is, cuts_more out grown now s.bytes more fault s.puts adds));
+                near = near_first_by later now handed_later (goes_failed grown now adds.puts.grows adds.puts.failed) stops_later;
+                exact = λ stops. absurd (stops.1 (ap Some adds.puts.is));
+              }
+
+        -- the same where it is ahead
+        pub lacks_first : (fault : Told) → fault ≡ no_memory → Ends (Some fault) first_now second grown
+        lacks_first = lacks_passed first_now refl
+
         pub fails_first : (more : List ℕ) → (IsKnown pair → Settles making (stage.written ++ m.item ∷ []) (s.bytes ++ more) (stage.taken ++ option_to_list (item_ahead second)) stage.second_ended)
             → (fault : Told) (now : Output) → FailsToAdd grown more fault now → Ends (Some fault) first_now second now
-        fails_first more settles fault now adds =
-            let items : member_items (past_first ++ m ∷ []) ≡ (stage.written ++ m.item ∷ []) ++ [] =
-            map-append (λ m. m.item) past_first (m ∷ []) ∙ ap (λ l. l ++ m.item ∷ []) (sym (all_done none)) ∙ sym (append-nil (stage.written ++ m.item ∷ [])) in
-            record {
-              written = stage.written ++ m.item ∷ [];
-              bytes = s.bytes ++ more;
-              wrote = wrote_by past_second second second s.second_passes (omega arith) s.second_passes.bytes first_now handed_now (stage.written ++ m.item ∷ []) (s.bytes ++ more) stage.second_ended now
-                  (λ known. subst (λ (l : List Y). Settles making (stage.written ++ m.item ∷ []) (s.bytes ++ more) (l ++ option_to_list (item_ahead second)) stage.second_ended) s.all_taken (settles known))
-                  (items_first (good_coming pair.a_left pair.first) (stage.written ++ m.item ∷ []) []
-                  (items_begin (good_coming pair.a_left pair.first) (past_first ++ m ∷ []) (stage.written ++ m.item ∷ []) [] items
-                  (begins_more (good_coming pair.a_left pair.first) (good_coming pair.a_left first) past_first m s.first_passes.come ahead.read.first)))
-                  ended_now (grows_both out.took grown.took now.took s.grows adds.puts.grows) (given stage) given_now fits;
-              why = inr (inr (ap Some adds.puts.is, cuts_more out grown now s.bytes more fault s.puts adds));
-              near = near_first_by first_now now handed_now (goes_failed grown now adds.puts.grows adds.puts.failed) (ahead_at pair.a_left pair.a_failed pair.a_end pair.first past_first first s.first_passes s.none_ahead m first_now ahead);
-              exact = λ stops. absurd (stops.1 (ap Some adds.puts.is));
-            }
+        fails_first = fails_passed first_now refl
 
     -- where all of the first input is written, and the second was read on
     pub ends_rest : stage.first_ended ≡ true → (second_now : MemberReader B Y V) → lines_given second.below ≤ lines_given second_now.below → HandsSecond second_now

@@ -1,27 +1,30 @@
 -- Lemmas on several turns of a sweep at once: records of the first input that the record ahead of the second decides,
--- or records of the second before the current one of the first.
-use Rattle.std.proofs.Common.{◌≡◌, ℕ, ◌+◌, ◌<◌, ◌≤◌, ◌⊎◌, length, Bool, List, [], ◌∷◌, ◌++◌, Option, None, Some, Ok, refl, ap, subst, arith, inl, inr}
+-- records of the second before the current one of the first, or records of the first once the second has ended.
+use Rattle.std.proofs.Common.{◌≡◌, ℕ, ◌+◌, ◌<◌, ◌≤◌, ◌⊎◌, length, Bool, true, false, List, [], ◌∷◌, ◌++◌, Option, None, Some, Result, Ok, Err, refl, ap, subst, arith, inl, inr}
+use Rattle.bt_lines.specs.Names.{told}
 use Rattle.bt_lines.specs.Output.{Output}
 use Rattle.bt_lines.specs.Reader.{HasRead}
+use Rattle.bt_lines.specs.declared.fault.Fault.{Fault}
 use Rattle.bt_lines.proofs.ReadsLemmas.{reads_same}
 use Rattle.bt_bed.specs.Feature.{Feature}
 use Rattle.bt_bed.specs.GoodBed.{bed_format}
 use Rattle.bt_bed.specs.Order.{Order, IsTotal}
 use Rattle.bt_bed.specs.Records.{GivesRecord, below, order_in, view_of}
 use Rattle.bt_bed.specs.Sorting.{sorting_of}
-use Rattle.bt_bed.specs.WholeRecords.{PassesEach, PassesNext}
+use Rattle.bt_bed.specs.WholeRecords.{ArePassed, GivesWholes, LendsWhole, PassesEach, PassesNext, records_passed}
 use Rattle.bt_bed.specs.declared.order.ChromOrder.{Ghosts}
 use Rattle.bt_bed.specs.declared.records.Records.{Records}
-use Rattle.bt_sweep.specs.Passing.{PassesFirsts, PassesRound, PassesRounds, PassesSeconds, PassesThen, PassesUpTo, Round, Skipped, firsts_of, seconds_of, skipped_records}
-use Rattle.bt_sweep.specs.Passing.{TakesSecond as GivesSecond}
+use Rattle.bt_bed.specs.declared.whole_records.PassedRecords.{PassedRecords}
+use Rattle.bt_bed.specs.declared.whole_records.WholeRecords.{WholeRecords}
+use Rattle.bt_sweep.specs.Passing.{GivesSecond, PassesFirsts, PassesRound, PassesRounds, PassesSeconds, PassesThen, PassesUpTo, Round, Skipped, WritesAny, WritesFirsts, firsts_of, seconds_of, skipped_records}
 use Rattle.bt_sweep.specs.SweepState.{Sweeping, want_in}
 use Rattle.bt_sweep.specs.declared.hit_rule.HitRule.{HitRule}
 use Rattle.bt_sweep.specs.declared.shape.Shape.{Shape}
 use Rattle.bt_sweep.specs.declared.want.Want.TheVariants.{A as WantA, B as WantB}
-use Rattle.bt_tool.specs.SweepLoop.{Sweeps}
-use Rattle.bt_tool.specs.Turns.{GivesBoth, GivesFirst, GivesSeveral, HasAhead, LeavesSecond, TakesSecond, TakesSeconds, TurnsFirsts}
+use Rattle.bt_tool.specs.SweepLoop.{SweepEnds, Sweeps}
+use Rattle.bt_tool.specs.Turns.{GivesAny, GivesBoth, GivesFirst, GivesSeveral, HasAhead, LeavesSecond, TakesSecond, TakesSeconds, TurnsFirsts}
 use Rattle.bt_tool.proofs.AheadLemmas.{each_reads, each_split, next_ahead, passes_split}
-use Rattle.bt_tool.proofs.SweepTurns.{left_to_ask, turns_first, turns_second}
+use Rattle.bt_tool.proofs.SweepTurns.{first_stops, left_to_ask, passed_stops, turns_first, turns_second}
 
 -- a record that is given again is ahead
 pub is_still_ahead : {B O : Type 0} {g : Ghosts O} (left : B → Option (List ℕ)) (failed end : B → Bool) (records : Records B O g) (r : Feature) → GivesRecord left failed records r records → HasAhead left failed end records r records
@@ -87,12 +90,46 @@ module _ {A B O : Type 0} {g : Ghosts O} (a_left : A → Option (List ℕ)) (a_f
           let goes = goes_several gives.item gives.ahead gives.firsts first now sweep swept grown later s gives.passes all in
           (goes.0, omega (arith, goes.1, gives.some))
 
+  -- once the second input has ended, each of them was written
+  goes_written : (firsts : List Feature) (first now : Records A O g) (sweep swept : Sweeping) (grown later : Output) → Going first sweep grown
+      → PassesEach a_left a_failed a_end IsRead first firsts now → WritesFirsts order sweep grown firsts swept later → Going now swept later × (left_to_ask now second swept + length firsts ≤ left_to_ask first second sweep)
+  goes_written [] first now sweep swept grown later s passes writes =
+      (rw (passes, writes.0, writes.1) s, rw (passes, writes.0) (let n : left_to_ask first second sweep + 0 ≤ left_to_ask first second sweep = omega arith in n))
+  goes_written (r ∷ more) first now sweep swept grown later s passes writes =
+      let next = passes.1 in
+      let link = writes.2 in
+      let turn : GivesFirst a_left a_failed a_end order first sweep grown passes.0 writes.0 writes.1 = record {
+        item = r;
+        peeked = next.peeked;
+        ahead = next_ahead a_left a_failed a_end IsRead first passes.0 r next;
+        passes = next.passes;
+        given = λ shape rule limit stage stands ordered. link.gives shape rule limit stage stands ordered;
+      } in
+      let gave = turns_first a_left a_failed a_end b_left b_failed b_end shape rule limit old_first old_second out total same_order is_bed is_bed_second first second sweep grown order is_order s link.asks passes.0 writes.0 writes.1 (inl turn) in
+      let rest = goes_written more passes.0 now writes.0 swept writes.1 later gave.0 passes.2 writes.3 in
+      (rest.0, omega (arith, rest.1, gave.1))
+
   -- or whatever a turn does
   pub goes_on : {T : Type 0} (done : T) (first now : Records A O g) (sweep swept : Sweeping) (grown later : Output) → Going first sweep grown → want_in sweep ≡ WantA → TurnsFirsts a_left a_failed a_end IsRead b_left b_failed b_end order first second sweep grown (Ok done) now swept later
       → Going now swept later × (left_to_ask now second swept < left_to_ask first second sweep)
   goes_on done first now sweep swept grown later s wants (inl gives) = goes_over first now sweep swept grown later s gives
-  goes_on done first now sweep swept grown later s wants (inr turn) =
+  goes_on done first now sweep swept grown later s wants (inr (inl gives)) =
+      let goes = goes_written gives.firsts first now sweep swept grown later s gives.passes gives.writes in
+      (goes.0, omega (arith, goes.1, gives.some))
+  goes_on done first now sweep swept grown later s wants (inr (inr turn)) =
       turns_first a_left a_failed a_end b_left b_failed b_end shape rule limit old_first old_second out total same_order is_bed is_bed_second first second sweep grown order is_order s wants now swept later turn
+
+  -- how it stops at a fault
+  pub stops_on : (fault : Fault) (first now : Records A O g) (sweep swept : Sweeping) (grown later : Output) → Going first sweep grown → want_in sweep ≡ WantA → TurnsFirsts a_left a_failed a_end IsRead b_left b_failed b_end order first second sweep {T = Unit {0}} grown (Err fault) now swept later
+      → SweepEnds a_left a_failed a_end b_left b_failed b_end (order_in old_first) shape rule limit old_first old_second out (Some (told fault)) now second later
+  stops_on fault first now sweep swept grown later s wants (inl among) =
+      let split = passes_split a_left a_failed a_end IsRead first now among.firsts among.item among.passes in
+      let next = split.2 in
+      let goes = goes_written among.firsts first split.0 sweep among.mid grown among.through s split.1 among.writes in
+      passed_stops a_left a_failed a_end b_left b_failed b_end shape rule limit old_first old_second out total same_order is_bed is_bed_second split.0 second among.mid among.through order is_order goes.0 among.fails.asks among.item next.peeked now
+      (next_ahead a_left a_failed a_end IsRead split.0 now among.item next) next.passes fault later (λ shape rule limit stage stands ordered. (among.fails.fails shape rule limit stage stands ordered).1)
+  stops_on fault first now sweep swept grown later s wants (inr turn) =
+      first_stops a_left a_failed a_end b_left b_failed b_end shape rule limit old_first old_second out total same_order is_bed is_bed_second first second sweep grown order is_order s wants fault now swept later turn
 
 module _ {A B O : Type 0} {g : Ghosts O} (a_left : A → Option (List ℕ)) (a_failed a_end : A → Bool) (b_left : B → Option (List ℕ)) (b_failed b_end : B → Bool) (IsRead : B → Option ℕ → B → Type 0)
     (shape : Shape) (rule : HitRule) (limit : Option ℕ) (old_first : Records A O g) (old_second : Records B O g) (out : Output) (total : IsTotal (order_in old_first)) (same_order : order_in old_second ≡ order_in old_first)
@@ -192,3 +229,29 @@ module _ {A B O : Type 0} {g : Ghosts O} (a_left : A → Option (List ℕ)) (a_f
   goes_both first now second now_second sweep swept s wants (inr alone) =
       let goes = goes_behind a_left a_failed a_end b_left b_failed b_end IsReadSecond shape rule limit old_first old_second out total same_order is_bed is_bed_second first sweep grown wants order is_order second now_second s alone.takes in
       (rw (alone.same_first, alone.same_sweep) goes.0, rw (alone.same_first, alone.same_sweep) goes.1, reads_same IsRead (below first) (below now) (ap below alone.same_first), goes.2)
+
+-- what stood whole was given, once the second input had ended
+module _ {A O : Type 0} {g : Ghosts O} (order : Order) (first : Records A O g) (sweep swept : Sweeping) (out grown : Output) (whole to : WholeRecords) (lent : LendsWhole first whole) (passed : PassedRecords) (is : passed ≡ records_passed to) where
+  these_passed : (records : List Feature) → GivesWholes whole records to → ArePassed first records passed
+  these_passed records gives = record { first = whole; last = to; lent = lent; gives = gives; is = is }
+
+  -- the records of it that were passed
+  pub given_whole : (result : Result Bool Fault) → WritesAny order sweep whole out result swept to grown → (records : List Feature) × ArePassed first records passed
+  given_whole (Ok true) writes = (writes.firsts, these_passed writes.firsts writes.given)
+  given_whole (Ok false) same = ([], these_passed [] same.1)
+  given_whole (Err fault) fails = (fails.firsts ++ fails.a ∷ [], these_passed (fails.firsts ++ fails.a ∷ []) fails.given)
+
+  -- the reader passed them
+  pub gives_any : (left : A → Option (List ℕ)) (failed end : A → Bool) (IsRead : A → Option ℕ → A → Type 0) (result : Result Bool Fault) (new : Records A O g) → WritesAny order sweep whole out result swept to grown
+      → ((records : List Feature) → ArePassed first records passed → PassesEach left failed end IsRead first records new) → GivesAny left failed end IsRead order first sweep out result new swept grown
+  gives_any left failed end IsRead (Ok true) new writes passes = record { firsts = writes.firsts; some = writes.some; passes = passes writes.firsts (these_passed writes.firsts writes.given); writes = writes.writes }
+  gives_any left failed end IsRead (Ok false) new same passes = (passes [] (these_passed [] same.1), same.0, same.2)
+  gives_any left failed end IsRead (Err fault) new fails passes = record {
+    firsts = fails.firsts;
+    item = fails.a;
+    passes = passes (fails.firsts ++ fails.a ∷ []) (these_passed (fails.firsts ++ fails.a ∷ []) fails.given);
+    mid = fails.mid;
+    through = fails.through;
+    writes = fails.writes;
+    fails = fails.fails;
+  }

@@ -5,19 +5,22 @@ use Rattle.bt_lines.specs.Fault.{Told}
 use Rattle.bt_lines.specs.Names.{told}
 use Rattle.bt_lines.specs.Output.{Output}
 use Rattle.bt_lines.specs.declared.fault.Fault.{Fault}
+use Rattle.bt_bed.specs.Feature.{Feature}
 use Rattle.bt_bed.specs.GoodBed.{bed_format}
 use Rattle.bt_bed.specs.Order.{Order, IsTotal}
-use Rattle.bt_bed.specs.Records.{order_in, room, view_of}
+use Rattle.bt_bed.specs.Records.{PassesRecord, order_in, room, view_of}
 use Rattle.bt_bed.specs.Sorting.{sorting_of}
 use Rattle.bt_bed.specs.declared.order.ChromOrder.{Ghosts}
 use Rattle.bt_bed.specs.declared.records.Records.{Records}
+use Rattle.bt_sweep.specs.Standing.{IsInOrder, Stage, StandsAt, with_a}
+use Rattle.bt_sweep.specs.Steps.{Fails, lines_with}
 use Rattle.bt_sweep.specs.SweepState.{Sweeping, want_in, want_of}
 use Rattle.bt_sweep.specs.declared.hit_rule.HitRule.{HitRule}
 use Rattle.bt_sweep.specs.declared.shape.Shape.{Shape}
 use Rattle.bt_sweep.specs.declared.want.Want.TheVariants.{A as WantA, B as WantB, Nothing}
 use Rattle.bt_tool.specs.SweepLoop.{SweepEnds, Sweeps}
-use Rattle.bt_tool.specs.Turns.{EndsFirst, EndsSecond, FailsAtEnd, FailsFirst, FailsSecond, GivesFirst, LeavesSecond, StopsTurn, TakesSecond}
-use Rattle.bt_tool.proofs.SweptLemmas.{ends_first, ends_second, fails_at_end, fails_first, fails_second, goes_first, leaves_second, none_waits, placed_taken, stops_first, stops_second, takes_second, waiting}
+use Rattle.bt_tool.specs.Turns.{EndsFirst, EndsSecond, FailsAtEnd, FailsFirst, FailsSecond, GivesFirst, HasAhead, LeavesSecond, StopsTurn, TakesSecond}
+use Rattle.bt_tool.proofs.SweptLemmas.{ends_first, ends_second, fails_at_end, fails_first, fails_passed, fails_second, goes_first, leaves_second, none_waits, placed_taken, stops_first, stops_second, takes_second, waiting}
 
 -- a record that waits is to be written, and then the first input is asked for
 abbrev pub asks : Bool → Bool → ℕ
@@ -73,6 +76,10 @@ module _ {A B O : Type 0} {g : Ghosts O} (a_left : A → Option (List ℕ)) (a_f
   abbrev FirstFails : Order → Told → Records A O g → Sweeping → Output → Type 0
   FirstFails order fault now swept later = StopsTurn a_left a_failed a_end order first sweep grown fault now swept later ⊎ FailsFirst a_left a_failed a_end order first sweep grown fault now swept later
 
+  abbrev FailsAt : Order → Feature → Told → Output → Type 0
+  FailsAt order item fault later =
+      (shape : Shape) (rule : HitRule) (limit : Option ℕ) (stage : Stage) → StandsAt order shape rule limit stage sweep → IsInOrder order (with_a stage item) → Fails grown (lines_with shape rule stage item) fault later
+
   abbrev GoesSecond : Order → Records B O g → Sweeping → Output → Type 0
   GoesSecond order now swept later =
       TakesSecond b_left b_failed b_end order second sweep grown now swept later
@@ -105,6 +112,12 @@ module _ {A B O : Type 0} {g : Ghosts O} (a_left : A → Option (List ℕ)) (a_f
 
     pub first_stops : (fault : Fault) (now : Records A O g) (swept : Sweeping) (later : Output) → FirstFails order (told fault) now swept later → Ends (Some (told fault)) now second later
     first_stops fault now swept later turn = stopped_first (told fault) now swept later (subst (λ (o : Order). FirstFails o (told fault) now swept later) is_order turn)
+
+    -- the record that it failed at was passed
+    pub passed_stops : (item : Feature) (peeked now : Records A O g) → HasAhead a_left a_failed a_end first item peeked → PassesRecord a_left peeked now → (fault : Fault) (later : Output) → FailsAt order item (told fault) later → Ends (Some (told fault)) now second later
+    passed_stops item peeked now ahead passes fault later fails =
+        fails_passed a_left a_failed a_end b_left b_failed b_end shape rule limit old_first old_second out total same_order is_bed is_bed_second first second sweep grown s wants item peeked now ahead passes.passes.reads_nothing (told fault) later
+        (subst (λ (o : Order). FailsAt o item (told fault) later) is_order fails)
 
   module _ (wants : want_in sweep ≡ WantB) where
     turned_second : (now : Records B O g) (swept : Sweeping) (later : Output) → GoesSecond (order_in old_first) now swept later → Going first now swept later × Less first now swept

@@ -29,7 +29,7 @@ use Rattle.bt_sweep.specs.Deciding.{decided, decides}
 use Rattle.bt_sweep.specs.IntersectLines.{lines_for}
 use Rattle.bt_sweep.specs.Limit.{are_too_many, held_for, is_held, limited}
 use Rattle.bt_sweep.specs.Standing.{IsInOrder, Stage, StandsAt, given, last_given, with_a, with_a_ended, with_b, with_b_ended, with_lines}
-use Rattle.bt_sweep.specs.Steps.{Fails, has_room}
+use Rattle.bt_sweep.specs.Steps.{Fails, has_room, lines_with}
 use Rattle.bt_sweep.specs.SweepState.{Sweeping, want_in, want_of}
 use Rattle.bt_sweep.specs.declared.hit_rule.HitRule.{HitRule}
 use Rattle.bt_sweep.specs.declared.shape.Shape.{Shape}
@@ -224,20 +224,25 @@ module _ {A B O : Type 0} {g : Ghosts O} (a_left : A → Option (List ℕ)) (a_f
           rw turn.same_output (stop.stops_first making pair out wrong wrong_second (stage_of stage) s.past_first s.past_second (view_of first) (view_of second) grown s.comes asked s.fits none_waits not_ended fault (view_of first_now)
           (is_stopped a_left a_failed a_end first first_now fault turn.stopped))
 
-      fails_first_by : (b : Bool) → stage.b_ended ≡ b → (fault : Told) (first_now : Records A O g) (swept : Sweeping) (now : Output) (turn : FailsFirst a_left a_failed a_end order first sweep grown fault first_now swept now)
-          → Fails grown (cond b (lines_for shape rule turn.item stage.taken) []) fault now → Ends (Some fault) first_now second now
-      fails_first_by b e fault first_now swept now turn (inr ran) =
-          rw ran.1 (stop.lacks_first making pair out wrong wrong_second (stage_of stage) s.past_first s.past_second (view_of first) (view_of second) grown s.comes asked s.fits none_waits not_ended (next turn.item first_now turn.ahead) (view_of first_now)
-          (is_ahead a_left a_failed a_end first first_now turn.item turn.ahead) fault ran.0)
-      fails_first_by false e fault first_now swept now turn (inl adds) = absurd (adds.some refl)
-      fails_first_by true e fault first_now swept now turn (inl adds) =
-          stop.fails_first making pair out wrong wrong_second (stage_of stage) s.past_first s.past_second (view_of first) (view_of second) grown s.comes asked s.fits none_waits not_ended (next turn.item first_now turn.ahead) (view_of first_now)
-          (is_ahead a_left a_failed a_end first first_now turn.item turn.ahead) (lines_for shape rule turn.item stage.taken) (settles_here turn.item first_now turn.ahead e) fault now adds
+      -- its record wasn't taken, or not written, and the reader may have passed it
+      module _ (item : Feature) (peeked first_now : Records A O g) (ahead : HasAhead a_left a_failed a_end first item peeked) (same : (view_of first_now).below ≡ (view_of peeked).below) where
+        fails_first_by : (b : Bool) → stage.b_ended ≡ b → (fault : Told) (now : Output) → Fails grown (cond b (lines_for shape rule item stage.taken) []) fault now → Ends (Some fault) first_now second now
+        fails_first_by b e fault now (inr ran) =
+            rw ran.1 (stop.lacks_passed making pair out wrong wrong_second (stage_of stage) s.past_first s.past_second (view_of first) (view_of second) grown s.comes asked s.fits none_waits not_ended (next item peeked ahead) (view_of peeked)
+            (is_ahead a_left a_failed a_end first peeked item ahead) (view_of first_now) same fault ran.0)
+        fails_first_by false e fault now (inl adds) = absurd (adds.some refl)
+        fails_first_by true e fault now (inl adds) =
+            stop.fails_passed making pair out wrong wrong_second (stage_of stage) s.past_first s.past_second (view_of first) (view_of second) grown s.comes asked s.fits none_waits not_ended (next item peeked ahead) (view_of peeked)
+            (is_ahead a_left a_failed a_end first peeked item ahead) (view_of first_now) same (lines_for shape rule item stage.taken) (settles_here item peeked ahead e) fault now adds
 
-      -- its record wasn't taken, or not written
+        pub fails_passed : (fault : Told) (now : Output)
+            → ((shape : Shape) (rule : HitRule) (limit : Option ℕ) (stage : Stage) → StandsAt order shape rule limit stage sweep → IsInOrder order (with_a stage item) → Fails grown (lines_with shape rule stage item) fault now)
+            → Ends (Some fault) first_now second now
+        fails_passed fault now fails = fails_first_by stage.b_ended refl fault now (fails shape rule limit stage s.stands (ordered item peeked ahead))
+
+      -- where it is ahead
       pub fails_first : (fault : Told) (first_now : Records A O g) (swept : Sweeping) (now : Output) → FailsFirst a_left a_failed a_end order first sweep grown fault first_now swept now → Ends (Some fault) first_now second now
-      fails_first fault first_now swept now turn =
-          fails_first_by stage.b_ended refl fault first_now swept now turn (turn.fails shape rule limit stage s.stands (ordered turn.item first_now turn.ahead))
+      fails_first fault first_now swept now turn = fails_passed turn.item first_now first_now turn.ahead refl fault now turn.fails
 
     -- a record of the second input is asked for, while a waits
     module _ (wants : want_in sweep ≡ WantB) where

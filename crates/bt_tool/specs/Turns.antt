@@ -1,5 +1,5 @@
 -- What one turn of a sweep over two readers does: a record or the end of an input is given to it.
-use Rattle.std.specs.Prelude.{◌≡◌, ◌⊎◌, ◌<◌, ℕ, Bool, length, List, Option, Some, Result, Ok, Err}
+use Rattle.std.specs.Prelude.{◌≡◌, ◌⊎◌, ◌<◌, ℕ, Bool, true, false, length, List, [], ◌∷◌, ◌++◌, Option, Some, Result, Ok, Err}
 use Rattle.bt_lines.specs.Fault.{Told}
 use Rattle.bt_lines.specs.Names.{told}
 use Rattle.bt_lines.specs.Output.{Output}
@@ -15,7 +15,7 @@ use Rattle.bt_bed.specs.declared.order.ChromOrder.{Ghosts}
 use Rattle.bt_bed.specs.declared.records.Records.{Records}
 use Rattle.bt_bed.specs.WholeRecords.{PassesEach}
 use Rattle.bt_sweep.specs.IntersectLines.{lines_for}
-use Rattle.bt_sweep.specs.Passing.{PassesFirsts, PassesRounds, PassesSeconds, PassesUpTo, Round, firsts_of, seconds_of}
+use Rattle.bt_sweep.specs.Passing.{FailsAtFirst, PassesFirsts, PassesRounds, PassesSeconds, PassesUpTo, Round, WritesFirsts, firsts_of, seconds_of}
 use Rattle.bt_sweep.specs.Standing.{IsInOrder, Stage, StandsAt, with_a, with_a_ended, with_b_ended}
 use Rattle.bt_sweep.specs.Steps.{Fails, FailsToHold, FailsToWriteA, PassesLimit, TakesB, WritesA}
 use Rattle.bt_sweep.specs.Steps.{lines_with}
@@ -145,6 +145,35 @@ module _ {S O : Type 0} {g : Ghosts O} (left : S → Option (List ℕ)) (failed 
         StopsTurn (told fault) new swept grown
         ⊎ (FailsSecond (told fault) new swept grown ⊎ FailsAtEnd (told fault) new swept grown)
 
+-- several turns of the first input, once the second has ended
+module _ {A O : Type 0} {g : Ghosts O} (left : A → Option (List ℕ)) (failed end : A → Bool)
+    (IsRead : A → Option ℕ → A → Type 0) (order : Order) (first : Records A O g) (sweep : Sweeping)
+    (out : Output) where
+  -- records of the first input were given, written and passed
+  pub record GivesAtEnd (new : Records A O g) (swept : Sweeping) (grown : Output) : Type 0 where
+    pub firsts : List Feature
+    pub some : 0 < length firsts
+    pub passes : PassesEach left failed end IsRead first firsts new
+    pub writes : WritesFirsts order sweep out firsts swept grown
+
+  -- So were some, and the one behind them was given and passed: it wasn't taken, or its lines weren't
+  -- written.
+  pub record FailsAmong (fault : Fault) (new : Records A O g) (swept : Sweeping) (grown : Output)
+      : Type 0 where
+    pub firsts : List Feature
+    pub item : Feature
+    pub passes : PassesEach left failed end IsRead first (firsts ++ item ∷ []) new
+    pub mid : Sweeping
+    pub through : Output
+    pub writes : WritesFirsts order sweep out firsts mid through
+    pub fails : FailsAtFirst order mid through item fault swept grown
+
+  -- whether any were, and how it failed
+  abbrev pub GivesAny : Result Bool Fault → Records A O g → Sweeping → Output → Type 0
+  GivesAny (Ok true) new swept grown = GivesAtEnd new swept grown
+  GivesAny (Ok false) new swept grown = (new ≡ first) × (swept ≡ sweep) × (grown ≡ out)
+  GivesAny (Err fault) new swept grown = FailsAmong fault new swept grown
+
 -- several turns of both inputs
 module _ {A B O : Type 0} {g : Ghosts O} (a_left : A → Option (List ℕ)) (a_failed a_end : A → Bool)
     (IsRead : A → Option ℕ → A → Type 0) (b_left : B → Option (List ℕ)) (b_failed b_end : B → Bool)
@@ -161,16 +190,18 @@ module _ {A B O : Type 0} {g : Ghosts O} (a_left : A → Option (List ℕ)) (a_f
     pub given : PassesUpTo order item sweep out firsts swept grown
         ⊎ PassesFirsts order item sweep out firsts swept grown
 
-  -- so were several, or it was one turn
+  -- so were several, or some at the end of the second, or it was one turn
   abbrev pub TurnsFirsts : {T : Type 0} → Output → Result T Fault → Records A O g → Sweeping → Output
       → Type 0
   TurnsFirsts out (Ok done) new swept grown =
       GivesSeveral out new swept grown
+      ⊎ (GivesAtEnd a_left a_failed a_end IsRead order first sweep out new swept grown
       ⊎ (GivesFirst a_left a_failed a_end order first sweep out new swept grown
-      ⊎ EndsFirst a_left a_failed a_end order first sweep out new swept grown)
+      ⊎ EndsFirst a_left a_failed a_end order first sweep out new swept grown))
   TurnsFirsts out (Err fault) new swept grown =
-      StopsTurn a_left a_failed a_end order first sweep out (told fault) new swept grown
-      ⊎ FailsFirst a_left a_failed a_end order first sweep out (told fault) new swept grown
+      FailsAmong a_left a_failed a_end IsRead order first sweep out fault new swept grown
+      ⊎ (StopsTurn a_left a_failed a_end order first sweep out (told fault) new swept grown
+      ⊎ FailsFirst a_left a_failed a_end order first sweep out (told fault) new swept grown)
 
 -- several turns of the second input
 module _ {B O : Type 0} {g : Ghosts O} (left : B → Option (List ℕ)) (failed end : B → Bool)

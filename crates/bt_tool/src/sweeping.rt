@@ -15,7 +15,7 @@ ghost use Rattle.bt_tool.specs.Behaviour.{of_intersect};
 ghost use Rattle.bt_tool.specs.Passed.{KeepsOwnFault};
 ghost use Rattle.bt_tool.specs.SweepLoop.{FinishesBoth, ReadsRest, Sweeps, SweepsOrStops};
 ghost use Rattle.bt_tool.specs.OwnReads.{AnswersNoRead, IsOwnFailure, ReadsServe, TellsNoRead, TellsOwnReads};
-ghost use Rattle.bt_tool.specs.Turns.{GivesBoth, GivesSeveral, TurnsFirst, TurnsFirsts, TurnsSecond};
+ghost use Rattle.bt_tool.specs.Turns.{GivesAny, GivesBoth, GivesSeveral, TurnsFirst, TurnsFirsts, TurnsSecond};
 ghost use Rattle.bt_tool.specs.Writing.{WritesBy};
 
 use crate::pace::Pace;
@@ -92,6 +92,36 @@ fn give_whole<A: Source, B: Source, O: ChromOrder, H: Held, K: Sink>(
     true
 }
 
+// Gives a sweep records of the first input that stand whole, where the second has ended: the lines of each are written.
+// It answers whether it gave any. It is tried where no record of the second is ahead, and it is time to. A record that
+// it failed at is passed too.
+fn write_whole<A: Source, B: Source, O: ChromOrder, H: Held, K: Sink>(
+    pace: &mut Pace,
+    first: &mut Records<'_, A, O>,
+    second: &Records<'_, B, O>,
+    sweep: &mut Sweep<'_, H, O>,
+    out: &mut Out<K>,
+) -> Result<bool, Fault>
+    requires want { want_in (state_of sweep.old) ≡ Want.A }
+    ensures gives { GivesAny A.left A.has_failed A.end_told A.is_read (order_of sweep.old) first.old (state_of sweep.old)
+        out.old result first.new (state_of sweep.new) out.new }
+    ensures order { order_of sweep.new ≡ order_of sweep.old }
+{
+    let before = first.lines();
+    if !pace.is_due(before) || second.record().is_some() {
+        return Ok(false);
+    }
+    let Some(mut whole) = first.whole() else {
+        pace.note(before, before);
+        return Ok(false);
+    };
+    let written = sweep.write_whole(&mut whole, out);
+    let given = whole.passed();
+    first.pass(given);
+    pace.note(before, first.lines());
+    written
+}
+
 // Gives a sweep records of the first input: several that stand whole, or the next one, or the input's end.
 fn turn_firsts<A: Source, B: Source, O: ChromOrder, H: Held, K: Sink>(
     pace: &mut Pace,
@@ -111,6 +141,9 @@ fn turn_firsts<A: Source, B: Source, O: ChromOrder, H: Held, K: Sink>(
     ensures own_failure { fault_kept first.old ≡ None → KeepsOwnFault A.is_read (below first.old) (view_of first.new) }
 {
     if give_whole(pace, first, second, sweep, out) {
+        return Ok(());
+    }
+    if write_whole(pace, first, second, sweep, out)? {
         return Ok(());
     }
     turn_first(first, sweep, out)

@@ -4,5 +4,6 @@ use Rattle.bt_bed.specs.Bed.{feature_lent}
 use Rattle.bt_sweep.specs.Hits.{hits}
 use Rattle.bt_sweep.proofs.hit.is_any_hit.Given as goal
 
+-- none so far hits the record
 abbrev pub invariant-loop-index : goal.invariant-loop-index
-invariant-loop-index g l = list_any (hits l.rule (feature_lent l.a)) (take l.index (take l.count (g.H.Held.records l.held))) ≡ false
+invariant-loop-index g l = list_any (hits l.rule (feature_lent l.a)) (take l.index (g.H.Held.records l.held)) ≡ false

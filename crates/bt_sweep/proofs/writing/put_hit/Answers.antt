@@ -9,7 +9,7 @@ use Rattle.bt_sweep.proofs.writing.put_hit.Goals as goal
 
 pub returns-in-Overlap : goal.returns-in-Overlap
 returns-in-Overlap g c =
-    let a = feature_lent c.args.a.now in
+    let a = feature_lent c.args.a.now.bed in
     let b = feature_lent c.args.b.now in
     let size : c.saturating_sub.result ≡ shared_bases a b = cc (c.saturating_sub.ensures, c.min-stop.ensures, c.max-start.ensures, hit_shares a b c.requires) in
     rw c.in-Overlap.is (line_adds (bed_text a ∷ bed_text b ∷ decimal (shared_bases a b) ∷ []) _ _ c.put_overlap.result

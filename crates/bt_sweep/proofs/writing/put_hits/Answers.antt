@@ -11,7 +11,7 @@ use Rattle.bt_sweep.proofs.writing.put_hits.Goals as goal
 pub returns-in_err-put_if_hit : goal.returns-in_err-put_if_hit
 returns-in_err-put_if_hit g c =
     let p = err_from_is_err_and c.from_residual.result c.from_residual.ensures.1 in
-    let a = feature_lent c.args.a.now in
+    let a = feature_lent c.args.a.now.bed in
     let held = g.H.Held.records c.args.held.now in
     let at = c.nth.ensures ∙ sym (get_took held c.args.count c.loop-index.index c.loop-index-test.true) in
     let adds = subst (λ (o : Option Feature). Adds {A = Unit {0}} c.loop-index.out (flat_map (hit_line c.args.shape a) (hits_among c.args.rule a (option_to_list o))) (Err c.in_err-put_if_hit.field-0.0) c.put_if_hit.new.out) at c.in_err-put_if_hit.ensures in
@@ -19,7 +19,7 @@ returns-in_err-put_if_hit g c =
 
 pub loop-index-preserved : goal.loop-index-preserved
 loop-index-preserved g c =
-    let a = feature_lent c.args.a.now in
+    let a = feature_lent c.args.a.now.bed in
     let held = g.H.Held.records c.args.held.now in
     let at = c.nth.ensures ∙ sym (get_took held c.args.count c.loop-index.index c.loop-index-test.true) in
     let adds = subst (λ (o : Option Feature). Adds {A = Unit {0}} c.loop-index.out (flat_map (hit_line c.args.shape a) (hits_among c.args.rule a (option_to_list o))) (Ok tt) c.put_if_hit.new.out) at c.in_ok-put_if_hit.ensures in

@@ -7,6 +7,6 @@ use Rattle.bt_sweep.proofs.writing.put_if_hit.Goals as goal
 
 pub put_hit-requires : goal.put_hit-requires
 put_hit-requires g c =
-    let a = feature_lent c.args.a.now in
+    let a = feature_lent c.args.a.now.bed in
     let b = feature_lent c.as_bed-b.result in
     ltb-true 0 (shared_bases a b) (hit_overlaps c.args.rule a b (sym (c.if-not-is_hit.ensures)))

@@ -403,3 +403,115 @@ fn several_that_share_a_base_are_held_at_once(rt: HostRuntime) -> Result<(), Fai
     assert_eq!(rt; held_after(rt.alloc(), &genome, 2)?, (3, Some((6, 7))));
     Ok(())
 }
+
+// Takes the records of the first input that stand whole and writes them, if the first input is asked for. It answers
+// whether it took any.
+fn write_whole<S: Source, K: Sink>(
+    records: &mut Records<'_, S, Genome>,
+    sweep: &mut Sweep<'_, HeldList, Genome>,
+    out: &mut Out<K>,
+) -> Result<bool, Fault> {
+    let Some(mut whole) = records.whole() else {
+        return Ok(false);
+    };
+    match sweep.want() {
+        Want::A => {
+            if !sweep.write_whole(&mut whole, out)? {
+                return Ok(false);
+            }
+            let passed = whole.passed();
+            records.pass(passed);
+            Ok(true)
+        }
+        _ => Ok(false),
+    }
+}
+
+// Behind the first two, a record that shares bases with one that is held, one whose number begins with a zero and that
+// lies between two that are held, and one behind them all.
+const LATE: &[u8] =
+    b"chr1\t1\t5\nchr1\t2\t6\nchr1\t3\t7\tn\nchr1\t08\t9\nchr1\t12\t20\nchr1\t50\t60\n";
+
+// A shape, and what is written of `chr1 2 40` and then of those records, against `chr1 4 6` and `chr1 10 15`.
+const AT_THE_END: [(Shape, &[u8]); 10] = [
+    (
+        Shape::Cut,
+        b"chr1\t4\t6\nchr1\t10\t15\nchr1\t4\t6\tn\nchr1\t12\t15\n",
+    ),
+    (
+        Shape::OrigA,
+        b"chr1\t2\t40\nchr1\t2\t40\nchr1\t3\t7\tn\nchr1\t12\t20\n",
+    ),
+    (
+        Shape::CutAndB,
+        b"chr1\t4\t6\tchr1\t4\t6\nchr1\t10\t15\tchr1\t10\t15\nchr1\t4\t6\tn\tchr1\t4\t6\nchr1\t12\t15\tchr1\t10\t15\n",
+    ),
+    (
+        Shape::OrigBoth,
+        b"chr1\t2\t40\tchr1\t4\t6\nchr1\t2\t40\tchr1\t10\t15\nchr1\t3\t7\tn\tchr1\t4\t6\nchr1\t12\t20\tchr1\t10\t15\n",
+    ),
+    (
+        Shape::Overlap,
+        b"chr1\t2\t40\tchr1\t4\t6\t2\nchr1\t2\t40\tchr1\t10\t15\t5\nchr1\t3\t7\tn\tchr1\t4\t6\t2\nchr1\t12\t20\tchr1\t10\t15\t3\n",
+    ),
+    (Shape::Once, b"chr1\t2\t40\nchr1\t3\t7\tn\nchr1\t12\t20\n"),
+    (Shape::Missing, b"chr1\t8\t9\nchr1\t50\t60\n"),
+    (Shape::Whole, b"chr1\t8\t9\nchr1\t50\t60\n"),
+    (
+        Shape::Count,
+        b"chr1\t2\t40\t2\nchr1\t3\t7\tn\t1\nchr1\t8\t9\t0\nchr1\t12\t20\t1\nchr1\t50\t60\t0\n",
+    ),
+    (
+        Shape::Pieces,
+        b"chr1\t2\t4\nchr1\t6\t10\nchr1\t15\t40\nchr1\t3\t4\tn\nchr1\t6\t7\tn\nchr1\t8\t9\nchr1\t15\t20\nchr1\t50\t60\n",
+    ),
+];
+
+// Whether all are taken at the end of the second input, and that is written.
+fn are_written(alloc: Global, genome: &Genome, shape: Shape, want: &[u8]) -> Result<bool, Fail> {
+    let mut records = behind_two(alloc, LATE, genome)?;
+    let mut sweep = any_overlap(alloc, shape, genome);
+    let mut out = Out::new(ScriptSink::new(alloc, 100, None));
+    let _ = give_first(&mut sweep, b"chr1\t2\t40", &mut out);
+    let _ = give_second(&mut sweep, b"chr1\t4\t6", &mut out);
+    let _ = give_second(&mut sweep, b"chr1\t10\t15", &mut out);
+    let _ = end_second(&mut sweep, &mut out);
+    let is_any = write_whole(&mut records, &mut sweep, &mut out)?;
+    let left = next_bounds(&mut records)?;
+    let _ = records.into_reader().into_source();
+    let is_flushed = out.flush().is_ok();
+    let is_asked = sweep.want() == Want::A;
+    Ok(is_any && left.is_none() && is_flushed && is_asked && out.into_sink().taken() == want)
+}
+
+#[test]
+fn records_are_written_at_once_when_the_second_input_has_ended(
+    rt: HostRuntime,
+) -> Result<(), Fail> {
+    let genome = read_genome(rt.alloc())?;
+    for (shape, want) in &AT_THE_END {
+        assert!(rt; are_written(rt.alloc(), &genome, *shape, want)?);
+    }
+    Ok(())
+}
+
+// Whether none is taken while the second input goes on: a record of the first was given, and one of the second decided it.
+fn are_left(alloc: Global, genome: &Genome) -> Result<bool, Fail> {
+    let mut records = behind_two(alloc, LATE, genome)?;
+    let mut sweep = any_overlap(alloc, Shape::Missing, genome);
+    let mut out = Out::new(ScriptSink::new(alloc, 100, None));
+    let _ = give_first(&mut sweep, b"chr1\t2\t6", &mut out);
+    let _ = give_second(&mut sweep, b"chr1\t70\t80", &mut out);
+    let is_asked = sweep.want() == Want::A;
+    let is_any = write_whole(&mut records, &mut sweep, &mut out)?;
+    let left = next_bounds(&mut records)?;
+    let _ = records.into_reader().into_source();
+    Ok(is_asked && !is_any && left == Some((3, 7)))
+}
+
+#[test]
+fn no_record_is_written_before_the_second_input_has_ended(rt: HostRuntime) -> Result<(), Fail> {
+    let genome = read_genome(rt.alloc())?;
+    assert!(rt; are_left(rt.alloc(), &genome)?);
+    Ok(())
+}

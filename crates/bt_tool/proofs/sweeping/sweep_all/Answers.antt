@@ -6,8 +6,8 @@ use Rattle.bt_bed.proofs.ResultLemmas.{passed_on}
 use Rattle.bt_sweep.specs.SweepView.{order_of, state_of}
 use Rattle.bt_tool.specs.SweepLoop.{SweepsOrStops}
 use Rattle.bt_tool.specs.OwnReads.{AnswersNoRead}
-use Rattle.bt_tool.proofs.SweepPassing.{goes_both, goes_on}
-use Rattle.bt_tool.proofs.SweepTurns.{first_stops, second_stops, turns_second}
+use Rattle.bt_tool.proofs.SweepPassing.{goes_both, goes_on, stops_on}
+use Rattle.bt_tool.proofs.SweepTurns.{second_stops, turns_second}
 use Rattle.bt_tool.proofs.OwnFailureLemmas.{none_kept, own_then}
 use Rattle.bt_tool.proofs.sweeping.sweep_all.Goals as goal
 
@@ -32,9 +32,9 @@ returns-in_err-turn_firsts-in-A-clause-sweeps g c =
     let was = c.loop-first_pace.invariant in
     passed_on (λ r. SweepsOrStops g.A.Source.left g.A.Source.has_failed g.A.Source.end_told g.B.Source.left g.B.Source.has_failed g.B.Source.end_told (order_in c.args.first.now) (state_of c.args.sweep.now).shape (state_of c.args.sweep.now).rule (state_of c.args.sweep.now).limit c.args.first.now c.args.second.now c.args.out.now r c.turn_firsts.new.first c.loop-first_pace.second (state_of c.turn_firsts.new.sweep) c.turn_firsts.new.out)
     c.from_residual.result c.in_err-turn_firsts-in-A.field-0.0 c.from_residual.ensures.1
-    (first_stops g.A.Source.left g.A.Source.has_failed g.A.Source.end_told g.B.Source.left g.B.Source.has_failed g.B.Source.end_told (state_of c.args.sweep.now).shape (state_of c.args.sweep.now).rule (state_of c.args.sweep.now).limit c.args.first.now c.args.second.now c.args.out.now
-    c.requires.total c.requires.second c.requires.sorted c.requires.sorted_second c.loop-first_pace.first c.loop-first_pace.second (state_of c.loop-first_pace.sweep) c.loop-first_pace.out (order_of c.loop-first_pace.sweep) was.1 was.0
-    (sym c.want.ensures.is ∙ c.in-A.is) c.in_err-turn_firsts-in-A.field-0.0 c.turn_firsts.new.first (state_of c.turn_firsts.new.sweep) c.turn_firsts.new.out c.in_err-turn_firsts-in-A.ensures.turns)
+    (stops_on g.A.Source.left g.A.Source.has_failed g.A.Source.end_told g.A.Source.is_read g.B.Source.left g.B.Source.has_failed g.B.Source.end_told (state_of c.args.sweep.now).shape (state_of c.args.sweep.now).rule (state_of c.args.sweep.now).limit c.args.first.now c.args.second.now c.args.out.now
+    c.requires.total c.requires.second c.requires.sorted c.requires.sorted_second c.loop-first_pace.second (order_of c.loop-first_pace.sweep) was.1 c.in_err-turn_firsts-in-A.field-0.0 c.loop-first_pace.first c.turn_firsts.new.first (state_of c.loop-first_pace.sweep) (state_of c.turn_firsts.new.sweep) c.loop-first_pace.out c.turn_firsts.new.out
+    was.0 (sym c.want.ensures.is ∙ c.in-A.is) c.in_err-turn_firsts-in-A.ensures.turns)
 
 pub loop-first_pace-smaller : goal.loop-first_pace-smaller
 loop-first_pace-smaller g c =
