@@ -8,10 +8,15 @@ use Rattle.bt_lines.specs.declared.fault.Fault.{Fault}
 use Rattle.bt_lines.proofs.OutputLemmas.{grows_both}
 use Rattle.bt_lines.proofs.PuttingLemmas.{grows_nothing}
 use Rattle.bt_bed.specs.Feature.{Feature}
-use Rattle.bt_bed.specs.WholeRecords.{GivesWhole}
+use Rattle.bt_bed.specs.WholeRecords.{GivesWhole, GivesWholes}
 pub use Rattle.bt_bed.proofs.WholesGiven.{bytes_ahead, gives_more, record_shrinks}
 use Rattle.bt_bed.specs.declared.whole_records.WholeRecords.{WholeRecords}
 use Rattle.bt_runs.specs.Engine.{FailsAtGiven, Feeds, TakesEach, TakesGiven}
+
+-- records were given, and then others
+gives_both : (old mid new : WholeRecords) (first more : List Feature) → GivesWholes old first mid → GivesWholes mid more new → GivesWholes old (first ++ more) new
+gives_both old mid new [] more is next = subst (λ (m : WholeRecords). GivesWholes m more new) is next
+gives_both old mid new (r ∷ first) more given next = (given.0, given.1, gives_both given.0 mid new first more given.2 next)
 
 module _ {E : Type 0} (MayTake : E → List Feature → Type 0) (Stands : E → List Feature → E → Type 0) (fault : E → Option Told) (settled : E → List Feature → List ℕ) (Quiet : E → List Feature → Feature → Type 0) where
   -- one more record was taken
@@ -35,6 +40,25 @@ module _ {E : Type 0} (MayTake : E → List Feature → Type 0) (Stands : E → 
     records = takes.records ++ r ∷ [];
     given = gives_more lines takes.records r before passed takes.given given;
     taken = takes_more old out takes.records r mid through new grown takes.taken fed;
+  }
+
+  -- records were taken, and then others
+  takes_both : (old : E) (out : Output) (first more : List Feature) (mid : E) (through : Output) (new : E) (grown : Output)
+      → TakesEach MayTake Stands fault settled Quiet old out first mid through → TakesEach MayTake Stands fault settled Quiet mid through more new grown
+      → TakesEach MayTake Stands fault settled Quiet old out (first ++ more) new grown
+  takes_both old out [] more mid through new grown is next =
+      subst (λ (m : E). TakesEach MayTake Stands fault settled Quiet m out more new grown) is.0 (subst (λ (o : Output). TakesEach MayTake Stands fault settled Quiet mid o more new grown) is.1 next)
+  takes_both old out (x ∷ first) more mid through new grown taken next =
+      (taken.0, taken.1, taken.2, takes_both taken.0 taken.1 first more mid through new grown taken.3 next)
+
+  -- records were given and taken, and then others
+  pub given_then : (old : E) (lines : WholeRecords) (out : Output) (mid : E) (before : WholeRecords) (through : Output) (new : E) (passed : WholeRecords) (grown : Output)
+      → TakesGiven MayTake Stands fault settled Quiet old lines out mid before through → TakesGiven MayTake Stands fault settled Quiet mid before through new passed grown
+      → TakesGiven MayTake Stands fault settled Quiet old lines out new passed grown
+  given_then old lines out mid before through new passed grown takes more = record {
+    records = takes.records ++ more.records;
+    given = gives_both lines before passed takes.records more.records takes.given more.given;
+    taken = takes_both old out takes.records more.records mid through new grown takes.taken more.taken;
   }
 
   -- one more was given, and wasn't taken

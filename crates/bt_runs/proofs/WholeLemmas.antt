@@ -1,5 +1,5 @@
 -- What one more record on the chromosome of the open run does to a merge.
-use Rattle.std.proofs.Common.{rules, ◌≡◌, ℕ, ◌+◌, ◌<◌, Bool, cond, List, [], ◌∷◌, Option, refl, sym, ap, subst, ◌∙◌}
+use Rattle.std.proofs.Common.{rules, ◌≡◌, ℕ, ◌+◌, ◌<◌, Bool, cond, List, [], ◌∷◌, Option, Result, Ok, Err, refl, sym, ap, subst, ◌∙◌}
 use Rattle.bt_lines.specs.Fault.{Told, write_failed}
 use Rattle.bt_lines.specs.Names.{told}
 use Rattle.bt_lines.specs.Output.{Output}
@@ -12,14 +12,15 @@ use Rattle.bt_bed.specs.WholeRecords.{GivesWhole, chrom_in}
 use Rattle.bt_bed.specs.declared.bounds.Bounds.{Bounds}
 use Rattle.bt_bed.specs.declared.whole_records.WholeRecords.{WholeRecords}
 use Rattle.bt_runs.specs.Counted.{is_counted}
+use Rattle.bt_runs.specs.Engine.{FailsAtGiven, TakesGiven}
 use Rattle.bt_runs.specs.MergeStep.{left_by, settled_by, with_record}
 use Rattle.bt_runs.specs.Pooling.{is_quiet, kept_fault, may_take, settled_lines, stands_after}
 use Rattle.bt_runs.specs.Taking.{FailsToSettle, Takes, run_at}
-use Rattle.bt_runs.specs.WholeRuns.{FailsToMerge, IsInRange, MergesGiven, bounds_at, kept_at, pooling_at}
+use Rattle.bt_runs.specs.WholeRuns.{FailsToMerge, IsInRange, MergesGiven, MergesWhole, bounds_at, kept_at, pooling_at}
 use Rattle.bt_runs.specs.declared.failure.Failure.TheVariants.{Write}
 use Rattle.bt_runs.specs.declared.merge_strand.MergeStrand.{MergeStrand}
 use Rattle.bt_runs.specs.declared.pooled.Run.{Run}
-use Rattle.bt_runs.proofs.EachTaken.{fails_at_given, none_given, one_more_given}
+use Rattle.bt_runs.proofs.EachTaken.{fails_at_given, given_then, none_given, one_more_given}
 use Rattle.bt_runs.proofs.PooledLemmas.{feeds_err, feeds_ok}
 
 -- a record that starts more than the gap past a run has passed it
@@ -34,6 +35,32 @@ module _ (gap : ℕ) (strand : MergeStrand) (first : Option Run) (lines : WholeR
     in_range = range;
     same_chrom = refl;
   }
+
+  -- a loop goes on where this one ended
+  module _ (run : Option Run) (before : WholeRecords) (through : Output) (so_far : MergesGiven gap strand first lines out run before through) (passed : WholeRecords) (grown : Output) where
+    merges_then : (next : Option Run) → MergesGiven gap strand run before through next passed grown → MergesGiven gap strand first lines out next passed grown
+    merges_then next more = record {
+      takes = given_then may_take stands_after kept_fault settled_lines is_quiet (pooling_at gap strand (chrom_in lines) first) lines out
+          (pooling_at gap strand (chrom_in lines) run) before through (pooling_at gap strand (chrom_in lines) next) passed grown so_far.takes
+          (subst (λ (n : List ℕ). TakesGiven may_take stands_after kept_fault settled_lines is_quiet (pooling_at gap strand n run) before through (pooling_at gap strand n next) passed grown) so_far.same_chrom more.takes);
+      in_range = more.in_range;
+      same_chrom = more.same_chrom ∙ so_far.same_chrom;
+    }
+
+    fails_then : (answer : Fault) → FailsToMerge gap strand run before through answer passed grown → FailsToMerge gap strand first lines out answer passed grown
+    fails_then answer more = record {
+      fails = λ new kept.
+          let at : FailsAtGiven may_take stands_after kept_fault settled_lines is_quiet (pooling_at gap strand (chrom_in lines) run) before through answer new passed grown =
+          subst (λ (n : List ℕ). FailsAtGiven may_take stands_after kept_fault settled_lines is_quiet (pooling_at gap strand n run) before through answer new passed grown) so_far.same_chrom (more.fails new kept) in
+          fails_at_given may_take stands_after kept_fault settled_lines is_quiet (pooling_at gap strand (chrom_in lines) first) lines out
+          at.mid at.before at.through at.r answer new passed grown
+          (given_then may_take stands_after kept_fault settled_lines is_quiet (pooling_at gap strand (chrom_in lines) first) lines out (pooling_at gap strand (chrom_in lines) run) before through at.mid at.before at.through so_far.takes at.takes)
+          at.given at.fails;
+    }
+
+    pub merges_on : (result : Result (Option Run) Fault) → MergesWhole gap strand run before through result passed grown → MergesWhole gap strand first lines out result passed grown
+    merges_on (Ok next) more = merges_then next more
+    merges_on (Err answer) more = fails_then answer more
 
   module _ (run : Option Run) (before : WholeRecords) (through : Output) (so_far : MergesGiven gap strand first lines out run before through)
       (r : Feature) (bounds : Bounds) (counted : Bool) (passed : WholeRecords) (given : GivesWhole before r passed)

@@ -35,3 +35,4 @@ pub mod WholeDepths
 pub mod CoveredLevels
 pub mod PlainLevels
 pub mod PlainStrands
+pub mod OpenSpan

@@ -41,6 +41,7 @@ mod merge;
 mod merge_strand;
 mod open_ends;
 mod open_records;
+mod open_span;
 pub mod plain;
 pub mod plain_depths;
 pub mod plain_gaps;

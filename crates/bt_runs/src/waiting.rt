@@ -9,8 +9,8 @@ use std::alloc::{AllocError, Global};
 use std::collections::VecDeque;
 use std::marker::Model;
 
-// For how many runs room is made with the first one. They go round in a ring, and a branch is mispredicted
-// wherever it starts anew, which is seldom in a larger one.
+// For how many runs room is made with the first one. They stand in a ring, and each time round it costs a branch
+// that the processor doesn't foretell, so a small ring would cost one every few runs.
 const ROOM: usize = 64;
 
 // A run without its chromosome.

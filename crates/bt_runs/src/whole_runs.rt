@@ -1,15 +1,20 @@
 //! Merging several records on the chromosome of the open run, with the run and the place in the input at hand.
 
-ghost use Rattle.std.specs.Prelude.{◌≡◌, ◌≤◌, cond, List, ℕ, [], ◌∷◌, Some, IfOk};
+ghost use Rattle.std.specs.Prelude.{◌≡◌, ◌≤◌, cond, List, ℕ, [], ◌∷◌, None, Some, IfOk, IfSome};
 ghost use Rattle.bt_lines.specs.Number.{max_number};
 ghost use Rattle.bt_lines.specs.Putting.{Adds};
+ghost use Rattle.bt_bed.specs.Feature.{Feature};
 ghost use Rattle.bt_bed.specs.IntervalLine.{interval_lines};
+ghost use Rattle.bt_bed.specs.WholeRecords.{GivesWhole, start_in};
+ghost use Rattle.bt_runs.specs.Counted.{is_counted};
 ghost use Rattle.bt_runs.specs.MergeStep.{left_by, settled_by, with_record};
+ghost use Rattle.bt_runs.specs.OpenSpan.{IsSpan, run_in};
 ghost use Rattle.bt_runs.specs.Taking.{run_at};
 ghost use Rattle.bt_runs.specs.WholeRuns.{IsInRange, MergesWhole, bounds_at, kept_at};
 ghost use Rattle.bt_runs.specs.declared.merge_strand.MergeStrand.TheVariants.{All, One};
 
 use crate::merge_strand::MergeStrand;
+use crate::open_span::{Span, next_span, run_of, span_of};
 use crate::pooled::{Run, counts};
 use bt_bed::{Bounds, Strand, WholeRecords, put_interval};
 use bt_lines::{Fault, Out, Sink};
@@ -64,8 +69,8 @@ fn merge_all<K: Sink>(
 }
 
 // Merges those of records that have the strand, where the open run, if there is one, lies on their chromosome, and
-// gives the run that is open then. It stands apart, so that the loop has the registers to itself.
-#[inline(never)]
+// gives the run that is open then. The first record is taken by itself: of those behind it, none starts before it, so
+// that the open run is kept as two numbers.
 fn merge_one<K: Sink>(
     gap: u64,
     wanted: Strand,
@@ -78,16 +83,36 @@ fn merge_one<K: Sink>(
     ensures { MergesWhole gap (One wanted) first records.old out.old result records.new out.new }
 {
     let chrom = records.chrom();
-    let mut run = first;
+    let Some(placed) = next_placed(wanted, records) else {
+        return Ok(first);
+    };
+    let run = next_run(gap, chrom, first, placed.bounds, placed.counted, out)?;
+    match span_of(run, placed.bounds.start) {
+        None => Ok(run),
+        Some(span) => merge_spans(gap, wanted, span, records, out),
+    }
+}
+
+// Merges those of records that have the strand, where the open run, or none, doesn't start after the record passed
+// last. It stands apart, so that the loop has the registers to itself.
+#[inline(never)]
+fn merge_spans<K: Sink>(
+    gap: u64,
+    wanted: Strand,
+    first: Span,
+    records: &mut WholeRecords<'_>,
+    out: &mut Out<K>,
+) -> Result<Option<Run>, Fault>
+    requires gap_in_range { gap ≤ max_number }
+    requires is_span { IsSpan (start_in records.now) first }
+    ensures { MergesWhole gap (One wanted) (run_in first) records.old out.old result records.new out.new }
+{
+    let chrom = records.chrom();
+    let mut span = first;
     let mut whole = *records;
-    while let Some(bed) = whole.next() {
-        let bounds = Bounds {
-            start: bed.start,
-            stop: bed.stop,
-        };
-        let counted = counts(MergeStrand::One(wanted), bed.strand);
-        match next_run(gap, chrom, run, bounds, counted, out) {
-            Ok(next) => run = next,
+    while let Some(placed) = next_placed(wanted, &mut whole) {
+        match next_span(gap, chrom, span, placed.bounds, placed.counted, out) {
+            Ok(next) => span = next,
             Err(fault) => {
                 *records = whole;
                 return Err(fault);
@@ -95,7 +120,32 @@ fn merge_one<K: Sink>(
         }
     }
     *records = whole;
-    Ok(run)
+    Ok(run_of(span))
+}
+
+// Where a record lies, and whether it is merged.
+#[derive(Clone, Copy, Debug)]
+struct Placed {
+    bounds: Bounds,
+    counted: bool,
+}
+
+// The next record, which is passed.
+#[inline(always)]
+fn next_placed(wanted: Strand, records: &mut WholeRecords<'_>) -> Option<Placed>
+    ensures given { IfSome result (λ placed. (r : Feature) × GivesWhole records.old r records.new
+        × (r.start ≡ placed.bounds.start) × (r.stop ≡ placed.bounds.stop)
+        × (is_counted (One wanted) r.strand ≡ placed.counted)) }
+    ensures none { result ≡ None → records.new ≡ records.old }
+{
+    let bed = records.next()?;
+    Some(Placed {
+        bounds: Bounds {
+            start: bed.start,
+            stop: bed.stop,
+        },
+        counted: counts(MergeStrand::One(wanted), bed.strand),
+    })
 }
 
 // What is open after a record on the chromosome of the open run. The run that the record has passed is written, and

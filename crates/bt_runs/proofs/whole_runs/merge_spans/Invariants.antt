@@ -1,0 +1,12 @@
+use Rattle.bt_bed.specs.WholeRecords.{start_in}
+use Rattle.bt_runs.specs.OpenSpan.{IsSpan, run_in}
+use Rattle.bt_runs.specs.WholeRuns.{MergesGiven}
+use Rattle.bt_runs.specs.declared.merge_strand.MergeStrand.TheVariants.{One}
+use Rattle.bt_runs.proofs.EachTaken.{bytes_ahead}
+use Rattle.bt_runs.proofs.whole_runs.merge_spans.Given as goal
+
+abbrev pub invariant-loop-placed : goal.invariant-loop-placed
+invariant-loop-placed g l = MergesGiven l.fn.gap (One l.fn.wanted) (run_in l.fn.first) l.fn.records l.fn.out (run_in l.span) l.whole l.out × IsSpan (start_in l.whole) l.span
+
+abbrev pub decreases-loop-placed : goal.decreases-loop-placed
+decreases-loop-placed g l = bytes_ahead l.whole
