@@ -14,8 +14,8 @@ use bt_lines::{Fault, Out, Sink};
 
 // The start and the end of the open run. Where none is open, the start is the greatest number and the end is 0: as a
 // record joins a run by the lesser start and the greater end, these two leave the record as it is. A record that isn't
-// merged is taken for the same two, which leave the run as it is. So neither whether a run is open nor a record's
-// strand, both as good as random, takes a branch.
+// merged is taken for the same two, which leave the run as it is. So a record is joined without a branch on its strand
+// or on whether a run is open, both as good as random.
 #[derive(Clone, Copy, Debug)]
 pub(crate) struct Span {
     start: u64,
