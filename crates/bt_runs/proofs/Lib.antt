@@ -22,6 +22,7 @@ pub mod EngineLemmas
 pub mod EachTaken
 pub mod PooledLemmas
 pub mod WholeLemmas
+pub mod WholeStrandLemmas
 pub mod OpenSpanLemmas
 pub mod OneGap
 pub mod Walks

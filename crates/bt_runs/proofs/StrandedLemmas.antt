@@ -1,11 +1,12 @@
 -- What a merge that keeps the strands apart does with one more record is what the definitions say, whatever the past.
 use Rattle.std.proofs.Common.{◌≡◌, ◌⊎◌, ℕ, ◌+◌, ◌-◌, ◌≤◌, List, [], ◌∷◌, ◌++◌, length, length-append, inl, inr, not, cond, ◌||◌, drop, get_or, map, set, take, Bool, true, false, bytes_eq, nat_lt, lt-ltb, le-ltb, Option, None, Some, Result, Ok, Err, refl, sym, ap, ap₂, ◌∙◌, subst, arith}
 use Rattle.std.specs.List.{prefix_len, slice_get}
+use Rattle.std.specs.Prelude.{IsErrAnd}
 use Rattle.std.proofs.lemmas.Bool.{cases_Bool, cases_lt, cond-true, cond-false, false≢true, not_from_true}
 use Rattle.std.proofs.lemmas.Grind.{flat_map-append}
 use Rattle.std.proofs.lemmas.List.{drop-map, get_or-map, length-map, map-append, map-set, take-map}
 use Rattle.std.proofs.lemmas.Option.{get_or_from_slice_get, slice_get-get_or, slice_get_within}
-use Rattle.bt_lines.specs.Fault.{Told, no_memory}
+use Rattle.bt_lines.specs.Fault.{Told, no_memory, write_failed}
 use Rattle.bt_lines.specs.declared.fault.Kind.TheVariants.{WriteFailed, NoMemory}
 use Rattle.bt_lines.specs.Names.{told}
 use Rattle.bt_lines.specs.Output.{Output}
@@ -14,15 +15,16 @@ use Rattle.bt_lines.specs.declared.fault.Fault.{Fault}
 use Rattle.bt_bed.specs.Feature.{Feature, interval_of}
 use Rattle.bt_bed.specs.IntervalLine.{interval_line, interval_lines}
 use Rattle.bt_bed.proofs.NameLemmas.{same_name}
+use Rattle.bt_bed.proofs.ResultLemmas.{passed_on}
 use Rattle.bt_bed.specs.Strands.{is_strand}
 use Rattle.bt_runs.specs.Engine.{AfterEach, Feeds, Finishes}
 use Rattle.bt_runs.specs.Failure.{fault_of}
 use Rattle.bt_runs.specs.MergedRuns.{AreTaken, is_passed}
 use Rattle.bt_runs.specs.StrandRuns.{StrandRun, kept_strand_runs, places_of, settled_strand_runs, strand_runs}
 use Rattle.bt_runs.specs.StrandStep.{added_at, behind_settled, front_settled, kept_with, last_place, place_among, run_from, run_with, with_added}
-use Rattle.bt_runs.specs.StrandTaking.{FailsToKeep, FailsToSettle, OpensRun, Takes, TakesNext, lines_by}
+use Rattle.bt_runs.specs.StrandTaking.{FailsToKeep, FailsToSettle, Joins, JoinsPassing, OpensRun, Takes, TakesNext, lines_by}
 use Rattle.bt_runs.specs.Stranding.{Stranding, StandsAfter, held_count, is_quiet, kept_fault, may_take, settled_lines, stands_after, strand_lines, whole_output}
-use Rattle.bt_runs.specs.Waiting.{joined_here, left_runs, lengthened, passed_runs, place_of, placed_run, placed_runs, waiting_from, with_joined}
+use Rattle.bt_runs.specs.Waiting.{joined_here, left_by, left_runs, lengthened, passed_by, passed_runs, place_of, placed_run, placed_runs, waiting_from, with_joined}
 use Rattle.bt_runs.specs.declared.failure.Failure.{Failure}
 use Rattle.bt_runs.specs.declared.failure.Failure.TheVariants.{Write, Memory}
 use Rattle.bt_runs.specs.declared.waiting.Waiting.{Waiting}
@@ -157,11 +159,11 @@ module _ (gap : ℕ) (chrom : List ℕ) (runs : List Waiting) (fault : Option To
   abbrev pub old : Stranding
   old = record { gap = gap; kept = placed_runs chrom runs; fault = fault }
 
-  abbrev pub passed : List ℕ
-  passed = strand_lines (placed_runs chrom (passed_runs (bytes_eq chrom r.chrom) (r.start - gap) runs))
+  abbrev passed : List ℕ
+  passed = strand_lines (placed_runs chrom (passed_by gap chrom runs r))
 
-  abbrev pub left : List Waiting
-  left = left_runs (bytes_eq chrom r.chrom) (r.start - gap) runs
+  abbrev left : List Waiting
+  left = left_by gap chrom runs r
 
   lines_same : passed ≡ lines_by old r
   lines_same = ap strand_lines (sym (front_placed gap chrom r runs))
@@ -169,40 +171,40 @@ module _ (gap : ℕ) (chrom : List ℕ) (runs : List Waiting) (fault : Option To
   kept_same : (new : List StrandRun) → with_added gap (placed_runs chrom left) r ≡ new → kept_with gap (placed_runs chrom runs) r ≡ new
   kept_same new is = ap (λ items. with_added gap items r) (behind_placed gap chrom r runs) ∙ is
 
-  pub takes_joined : (now : List Waiting) (joined : Bool) → (joined, now) ≡ with_joined (r.start - gap) r.stop left (place_of r.strand left) → joined ≡ true → Grown out passed grown
-      → Takes old r out (record { gap = gap; kept = placed_runs chrom now; fault = fault }) grown
-  takes_joined now joined is t puts = record {
-    gap = refl;
-    fault = refl;
-    kept = sym (kept_same (placed_runs chrom now) ((added_by gap chrom r left joined now is (left_fits gap chrom r runs)).one t));
-    puts = subst (λ l. Grown out l grown) lines_same puts;
-  }
+  module _ (joined : Bool) (now : List Waiting) (p : Joins gap chrom runs r out joined now grown) where
+    added : Added gap chrom r left joined now
+    added = added_by gap chrom r left joined now p.joins (left_fits gap chrom r runs)
 
-  pub takes_opened : (now behind : List Waiting) (joined : Bool) (name : List ℕ) → (joined, now) ≡ with_joined (r.start - gap) r.stop left (place_of r.strand left) → joined ≡ false → name ≡ r.chrom → behind ≡ now ++ waiting_from r ∷ [] → Grown out passed grown
-      → Takes old r out (record { gap = gap; kept = placed_runs name behind; fault = fault }) grown
-  takes_opened now behind joined name is f named more puts =
-      let fits = left_fits gap chrom r runs in
-      let added = (added_by gap chrom r left joined now is fits).more f in
-      record {
-        gap = refl;
-        fault = refl;
-        kept = opened_by gap chrom r left behind name named (more ∙ ap (λ l. l ++ waiting_from r ∷ []) added.0) fits ∙ sym (kept_same (placed_runs chrom left ++ run_from r ∷ []) added.1);
-        puts = subst (λ l. Grown out l grown) lines_same puts;
-      }
+    puts_lines : Grown out (lines_by old r) grown
+    puts_lines = subst (λ l. Grown out l grown) lines_same p.puts
 
-  pub fails_opened : (now : List Waiting) (joined : Bool) (new : Stranding) → (joined, now) ≡ with_joined (r.start - gap) r.stop left (place_of r.strand left) → joined ≡ false → Grown out passed grown → FailsToKeep old r out new grown
-  fails_opened now joined new is f puts =
-      let added = (added_by gap chrom r left joined now is (left_fits gap chrom r runs)).more f in
-      record {
-        opens = rw (behind_placed gap chrom r runs) added.1;
-        puts = subst (λ l. Grown out l grown) lines_same puts;
-      }
+    pub takes_joined : joined ≡ true → Takes old r out (record { gap = gap; kept = placed_runs chrom now; fault = fault }) grown
+    takes_joined t = record { gap = refl; fault = refl; kept = sym (kept_same (placed_runs chrom now) (added.one t)); puts = puts_lines }
 
-  pub fails_settling : (e : Told) (new : Stranding) → FailsToAdd out passed e grown → FailsToSettle old r out new grown
-  fails_settling e new p = record {
+    pub takes_opened : (behind : List Waiting) (name : List ℕ) → joined ≡ false → name ≡ r.chrom → behind ≡ now ++ waiting_from r ∷ []
+        → Takes old r out (record { gap = gap; kept = placed_runs name behind; fault = fault }) grown
+    takes_opened behind name f named more = record {
+      gap = refl;
+      fault = refl;
+      kept = opened_by gap chrom r left behind name named (more ∙ ap (λ l. l ++ waiting_from r ∷ []) (added.more f).0) (left_fits gap chrom r runs) ∙ sym (kept_same (placed_runs chrom left ++ run_from r ∷ []) (added.more f).1);
+      puts = puts_lines;
+    }
+
+    pub fails_opened : (new : Stranding) → joined ≡ false → FailsToKeep old r out new grown
+    fails_opened new f = record { opens = rw (behind_placed gap chrom r runs) (added.more f).1; puts = puts_lines }
+
+  pub fails_settling : (new : Stranding) → FailsToAdd out passed write_failed grown → FailsToSettle old r out new grown
+  fails_settling new p = record {
     settles = λ none. p.some (ap strand_lines (sym (front_placed gap chrom r runs) ∙ none));
-    puts = subst (λ f. FailsToPut out (lines_by old r) f grown) p.puts.is (subst (λ l. FailsToPut out l e grown) lines_same p.puts);
+    puts = subst (λ l. FailsToPut out l write_failed grown) lines_same p.puts;
   }
+
+  fails_passing : (A : Type 0) (failure : Failure) (now : List Waiting) (new : Stranding) → JoinsPassing gap chrom runs r out (Err failure) now grown → TakesNext {A = A} old r out (Err failure) new grown
+  fails_passing A Write now new p = fails_settling new p
+  fails_passing A Memory now new p = absurd p
+
+  pub passes_failure : (A : Type 0) (result : Result A Failure) (failure : Failure) (now : List Waiting) (new : Stranding) → IsErrAnd result (λ e. e ≡ failure) → JoinsPassing gap chrom runs r out (Err failure) now grown → TakesNext old r out result new grown
+  passes_failure A result failure now new is p = passed_on (λ (r' : Result A Failure). TakesNext old r out r' new grown) result failure is (fails_passing A failure now new p)
 
 places-append : (xs ys : List StrandRun) → strand_lines (xs ++ ys) ≡ strand_lines xs ++ strand_lines ys
 places-append xs ys = ap interval_lines (map-append (λ (item : StrandRun). item.run) xs ys) ∙ flat_map-append interval_line (places_of xs) (places_of ys)

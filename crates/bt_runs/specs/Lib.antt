@@ -18,6 +18,7 @@ pub mod Pooling
 pub mod MergeStep
 pub mod Taking
 pub mod WholeRuns
+pub mod WholeStrands
 pub mod Gaps
 pub mod Walk
 pub mod GapStep

@@ -1,15 +1,17 @@
 -- What a merge that keeps the strands apart does with one more record, exactly.
-use Rattle.std.specs.Prelude.{◌≡◌, ℕ, List, [], ◌∷◌, ◌++◌, None, Result, Ok, Err, ⊤}
+use Rattle.std.specs.Prelude.{◌≡◌, ℕ, ◌-◌, Bool, List, [], ◌∷◌, ◌++◌, None, Result, Ok, Err, ⊤}
 use Rattle.bt_lines.specs.Fault.{no_memory, write_failed}
 use Rattle.bt_lines.specs.Names.{told}
 use Rattle.bt_lines.specs.Output.{Output}
-use Rattle.bt_lines.specs.Putting.{FailsToPut, Grown}
+use Rattle.bt_lines.specs.Putting.{FailsToAdd, FailsToPut, Grown}
 use Rattle.bt_lines.specs.declared.fault.Fault.{Fault}
 use Rattle.bt_bed.specs.Feature.{Feature}
 use Rattle.bt_runs.specs.StrandStep.{behind_settled, front_settled, kept_with, run_from, with_added}
 use Rattle.bt_runs.specs.Stranding.{Stranding, strand_lines}
+use Rattle.bt_runs.specs.Waiting.{left_by, passed_by, place_of, placed_runs, with_joined}
 use Rattle.bt_runs.specs.declared.failure.Failure.{Failure}
 use Rattle.bt_runs.specs.declared.failure.Failure.TheVariants.{Write, Memory}
+use Rattle.bt_runs.specs.declared.waiting.Waiting.{Waiting}
 
 -- the line of each run that the record settles
 abbrev pub lines_by : Stranding → Feature → List ℕ
@@ -50,3 +52,19 @@ abbrev pub TakesNext : {A : Type 0} → Stranding → Feature → Output → Res
 TakesNext old r out (Ok done) new grown = Takes old r out new grown
 TakesNext old r out (Err Write) new grown = FailsToSettle old r out new grown
 TakesNext old r out (Err Memory) new grown = FailsToKeep old r out new grown
+
+-- the runs on a chromosome that a record has passed were written, and it was joined to the last one
+-- of its strand that is left, or couldn't be
+module _ (gap : ℕ) (chrom : List ℕ) (runs : List Waiting) (r : Feature) (out : Output) where
+  pub record Joins (joined : Bool) (new : List Waiting) (grown : Output) : Type 0 where
+    pub puts : Grown out (strand_lines (placed_runs chrom (passed_by gap chrom runs r))) grown
+    pub joins : (joined, new)
+        ≡ with_joined (r.start - gap) r.stop (left_by gap chrom runs r)
+        (place_of r.strand (left_by gap chrom runs r))
+
+  -- what passing and joining does
+  abbrev pub JoinsPassing : Result Bool Failure → List Waiting → Output → Type 0
+  JoinsPassing (Ok joined) new grown = Joins joined new grown
+  JoinsPassing (Err Write) new grown =
+      FailsToAdd out (strand_lines (placed_runs chrom (passed_by gap chrom runs r))) write_failed grown
+  JoinsPassing (Err Memory) new grown = ⊥

@@ -1,6 +1,6 @@
 -- The runs that wait, without their chromosome: where the last one of each strand stands, and how
 -- one more record is joined to it.
-use Rattle.std.specs.Prelude.{ℕ, suc, Bool, true, false, not, cond, ◌||◌, List, [], ◌∷◌}
+use Rattle.std.specs.Prelude.{ℕ, ◌-◌, suc, bytes_eq, Bool, true, false, not, cond, ◌||◌, List, [], ◌∷◌}
 use Rattle.std.specs.Prelude.{drop, length, map, max, set, Option, Some, None, nat_lt}
 use Rattle.std.specs.List.{slice_get, take_while}
 use Rattle.bt_bed.specs.Feature.{Feature}
@@ -28,6 +28,12 @@ count_up_to_last strand runs = count_up_to (place_of strand runs)
 abbrev pub counts_up_to_last : List Waiting → List ℕ
 counts_up_to_last runs =
     count_up_to_last Plus runs ∷ count_up_to_last Minus runs ∷ count_up_to_last Dot runs ∷ []
+
+-- the run, where it is the only one
+abbrev pub only_of : List Waiting → Option Waiting
+only_of [] = None
+only_of (run ∷ []) = Some run
+only_of (run ∷ other ∷ runs) = None
 
 -- the slot of a strand
 abbrev pub slot_of : Strand → ℕ
@@ -73,3 +79,10 @@ left_runs here reach runs = drop (length (passed_runs here reach runs)) runs
 -- a record as a run
 abbrev pub waiting_from : Feature → Waiting
 waiting_from r = record { strand = r.strand; start = r.start; stop = r.stop }
+
+-- of the runs on a chromosome those that a record has passed, and those that are left
+abbrev pub passed_by : ℕ → List ℕ → List Waiting → Feature → List Waiting
+passed_by gap chrom runs r = passed_runs (bytes_eq chrom r.chrom) (r.start - gap) runs
+
+abbrev pub left_by : ℕ → List ℕ → List Waiting → Feature → List Waiting
+left_by gap chrom runs r = left_runs (bytes_eq chrom r.chrom) (r.start - gap) runs

@@ -48,12 +48,14 @@ pub mod plain_gaps;
 pub mod plain_strands;
 mod pooled;
 pub mod strand_laws;
+mod strand_step;
 mod stranded;
 #[cfg(test)]
 mod testing;
 mod waiting;
 mod whole_depths;
 mod whole_runs;
+mod whole_strands;
 #[cfg(test)]
 mod whole_tests;
 

@@ -1,18 +1,19 @@
 //! The engine of `bedtools merge -s`: the runs of several strands, each written once those listed before
 //! it are.
 
-ghost use Rattle.std.specs.Prelude.{◌≡◌, ◌++◌, ◌∷◌, [], length, None, OnOk};
+ghost use Rattle.std.specs.Prelude.{◌≡◌, ◌++◌, ◌∷◌, [], bytes_eq, length, None, OnOk};
 ghost use Rattle.bt_bed.specs.Bed.{feature_lent};
-ghost use Rattle.bt_lines.specs.Putting.{Adds};
 ghost use Rattle.bt_runs.specs.Engine.{Feeds, KeepsHeld};
-ghost use Rattle.bt_runs.specs.Stranding.{StandsAfter, held_count, is_quiet, kept_fault, may_take, settled_lines, stands_after, strand_lines, whole_output};
+ghost use Rattle.bt_runs.specs.Stranding.{StandsAfter, held_count, is_quiet, kept_fault, may_take, settled_lines, stands_after, whole_output};
 ghost use Rattle.bt_runs.specs.StrandTaking.{IsForRun, TakesNext};
-ghost use Rattle.bt_runs.specs.Waiting.{left_runs, passed_runs, placed_runs, waiting_from};
+ghost use Rattle.bt_runs.specs.Waiting.{waiting_from};
 
 use crate::engine::Engine;
 use crate::failure::Failure;
+use crate::strand_step::{join_passing, put_passed};
 use crate::waiting::WaitingRuns;
-use bt_bed::{BedRef, is_same_name, put_interval};
+use crate::whole_strands::merge_strands;
+use bt_bed::{BedRef, WholeRecords, is_same_name};
 use bt_lines::{Fault, Out, Sink};
 use std::alloc::{AllocError, Global};
 use std::marker::Model;
@@ -66,15 +67,17 @@ impl Stranded {
         ensures { TakesNext self.old (feature_lent bed.now) out.old result self.new out.new }
     {
         let here = is_same_name(self.chrom.as_slice(), bed.chrom);
-        let reach = bed.start.saturating_sub(self.gap);
-        match put_passed(self.chrom.as_slice(), here, reach, &mut self.runs, out) {
-            Err(_) => return Err(Failure::Write),
-            Ok(()) => (),
-        }
-        if self.runs.join(bed.strand, bed.stop, reach) {
+        if join_passing(
+            self.gap,
+            self.chrom.as_slice(),
+            here,
+            bed,
+            &mut self.runs,
+            out,
+        )? {
             return Ok(());
         }
-        match open(bed, &mut self.chrom, &mut self.runs) {
+        match open(here, bed, &mut self.chrom, &mut self.runs) {
             Ok(()) => Ok(()),
             Err(AllocError) => Err(Failure::Memory),
         }
@@ -114,6 +117,24 @@ impl Engine for Stranded {
         }
     }
 
+    // It takes records on the chromosome of the runs alone, and none that is the first.
+    fn feed_whole<K: Sink>(
+        &mut self,
+        records: &mut WholeRecords<'_>,
+        out: &mut Out<K>,
+    ) -> Result<(), Fault> {
+        if self.failure.is_some() || !is_same_name(self.chrom.as_slice(), records.chrom()) {
+            return Ok(());
+        }
+        match merge_strands(self.gap, &mut self.runs, records, out) {
+            Ok(()) => Ok(()),
+            Err(failure) => {
+                self.failure = Some(failure);
+                Err(failure.fault())
+            }
+        }
+    }
+
     fn finish<K: Sink>(mut self, out: &mut Out<K>) -> Result<(), Fault> {
         if let Some(before) = self.failure {
             return Err(before.fault());
@@ -129,37 +150,20 @@ impl Engine for Stranded {
     }
 }
 
-// Writes the first runs that a record has passed, and takes them off: all, where the record lies on
-// another chromosome, and else those up to the first that doesn't end below `reach`.
-#[inline]
-fn put_passed<K: Sink>(
-    chrom: &[u8],
-    here: bool,
-    reach: u64,
-    runs: &mut WaitingRuns,
-    out: &mut Out<K>,
-) -> Result<(), Fault>
-    ensures adds { Adds out.old (strand_lines (placed_runs chrom.now (passed_runs here reach runs.old)))
-        result out.new }
-    ensures left { OnOk result (runs.new ≡ left_runs here reach runs.old) }
-{
-    while let Some(run) = runs.first() {
-        if here && reach <= run.stop {
-            return Ok(());
-        }
-        put_interval(chrom, run.start, run.stop, out)?;
-        runs.drop_first();
-    }
-    Ok(())
-}
-
-// Adds a run with the record, where none is kept of another chromosome.
+// Adds a run with the record, where none is kept of another chromosome. `here` says whether the name is already the one
+// of its chromosome.
 #[inline(always)]
-fn open(bed: &BedRef<'_>, chrom: &mut Vec<u8>, runs: &mut WaitingRuns) -> Result<(), AllocError>
+fn open(
+    here: bool,
+    bed: &BedRef<'_>,
+    chrom: &mut Vec<u8>,
+    runs: &mut WaitingRuns,
+) -> Result<(), AllocError>
+    requires { here ≡ bytes_eq chrom.old.items bed.now.chrom.now }
     ensures { OnOk result ((chrom.new.items ≡ bed.now.chrom.now)
         × (runs.new ≡ runs.old ++ waiting_from (feature_lent bed.now) ∷ [])) }
 {
-    if !is_same_name(chrom.as_slice(), bed.chrom) {
+    if !here {
         chrom.clear();
         chrom.extend_from_slice(bed.chrom)?;
     }

@@ -2,7 +2,7 @@
 
 ghost use Rattle.std.specs.Prelude.{◌≡◌, ◌<◌, ◌++◌, ◌∷◌, [], length, drop, OnOk, Some};
 ghost use Rattle.std.specs.List.{slice_get};
-ghost use Rattle.bt_runs.specs.Waiting.{place_of, slot_of, with_joined};
+ghost use Rattle.bt_runs.specs.Waiting.{only_of, place_of, slot_of, with_joined};
 
 use bt_bed::Strand;
 use std::alloc::{AllocError, Global};
@@ -71,6 +71,27 @@ impl WaitingRuns {
             Some(run) => Some(*run),
             None => None,
         }
+    }
+
+    // The run, where it is the only one.
+    #[inline]
+    pub(crate) fn only(&self) -> Option<Waiting>
+        ensures { result ≡ only_of self.now }
+    {
+        if self.runs.len() != 1 {
+            return None;
+        }
+        self.first()
+    }
+
+    // Puts a run in the place of the only one.
+    pub(crate) fn set_only(&mut self, run: Waiting)
+        requires { length self.old ≡ 1 }
+        ensures { self.new ≡ run ∷ [] }
+    {
+        self.runs[0] = run;
+        self.up_to_last = [0, 0, 0];
+        self.up_to_last[slot_of(run.strand)] = 1;
     }
 
     // Takes off the first run, if there is one.

@@ -139,6 +139,7 @@ fn merge_of_a_strand(rt: HostRuntime) -> Result<(), Fail> {
 
 #[test]
 fn merge_of_each_strand(rt: HostRuntime) -> Result<(), Fail> {
+    check_merge(&rt, rt.alloc(), 0, MergeStrand::Each, "merge -s")?;
     check_merge(&rt, rt.alloc(), 2, MergeStrand::Each, "merge -s -d 2")
 }
 

@@ -2,8 +2,8 @@ use Rattle.std.proofs.Common.{sym, ◌∙◌, ◌≡◌, inl, inr, Ok, true}
 use Rattle.std.proofs.lemmas.Result.{err_from_is_err_and}
 use Rattle.bt_lines.proofs.PuttingLemmas.{grown_none}
 use Rattle.bt_runs.proofs.WaitingLemmas.{all_left, all_written, is_over, line_cut, line_more, next_written, none_written, over_not, over_so, stopped_at}
-use Rattle.bt_runs.proofs.stranded.put_passed.Goals as goal
-use Rattle.bt_runs.proofs.stranded.put_passed.Goals.{else-here-via-then-here+else-reach-run, else-here-via-else-here}
+use Rattle.bt_runs.proofs.strand_step.put_passed.Goals as goal
+use Rattle.bt_runs.proofs.strand_step.put_passed.Goals.{else-here-via-then-here+else-reach-run, else-here-via-else-here}
 
 pub loop-run-init : goal.loop-run-init
 loop-run-init g c = record { written = none_written c.args.here c.args.reach c.args.runs.now; puts = grown_none c.args.out.now }

@@ -3,7 +3,7 @@ use Rattle.bt_lines.specs.Putting.{Grown}
 use Rattle.bt_runs.specs.Stranding.{strand_lines}
 use Rattle.bt_runs.specs.Waiting.{placed_runs}
 use Rattle.bt_runs.proofs.WaitingLemmas.{Written}
-use Rattle.bt_runs.proofs.stranded.put_passed.Given as goal
+use Rattle.bt_runs.proofs.strand_step.put_passed.Given as goal
 
 -- the runs that were taken off were written
 abbrev pub invariant-loop-run : goal.invariant-loop-run

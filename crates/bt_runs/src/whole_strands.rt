@@ -1,0 +1,149 @@
+//! Merging several records of each strand by itself, where the runs that wait lie on the records' chromosome.
+
+ghost use Rattle.std.specs.Prelude.{◌≡◌};
+ghost use Rattle.bt_bed.specs.Bed.{feature_lent};
+ghost use Rattle.bt_runs.specs.StrandTaking.{TakesNext};
+ghost use Rattle.bt_runs.specs.Waiting.{waiting_from};
+ghost use Rattle.bt_runs.specs.WholeStrands.{MergesAlone, MergesStrands, MergesUpTo, StaysAlone, stranding_at};
+
+use crate::failure::Failure;
+use crate::strand_step::join_passing;
+use crate::waiting::{Waiting, WaitingRuns};
+use bt_bed::{BedRef, WholeRecords, put_interval};
+use bt_lines::{Out, Sink};
+use std::alloc::AllocError;
+
+// Merges records where the runs that wait, if there are any, lie on their chromosome.
+pub(crate) fn merge_strands<K: Sink>(
+    gap: u64,
+    runs: &mut WaitingRuns,
+    records: &mut WholeRecords<'_>,
+    out: &mut Out<K>,
+) -> Result<(), Failure>
+    ensures { MergesStrands gap runs.old records.old out.old result runs.new records.new out.new }
+{
+    while let Some(bed) = next_beside(gap, runs, records, out)? {
+        take_on(gap, &bed, runs, out)?;
+    }
+    Ok(())
+}
+
+// The next record, which is passed. Where a single run waits, those are merged first that don't make a second one wait.
+#[inline(always)]
+fn next_beside<'t, K: Sink>(
+    gap: u64,
+    runs: &mut WaitingRuns,
+    records: &mut WholeRecords<'t>,
+    out: &mut Out<K>,
+) -> Result<Option<BedRef<'t>>, Failure>
+    ensures { MergesUpTo gap runs.old records.old out.old result runs.new records.new out.new }
+{
+    let Some(run) = runs.only() else {
+        return Ok(records.next());
+    };
+    let alone = merge_alone(gap, run, records, out)?;
+    runs.set_only(alone.run);
+    Ok(alone.next)
+}
+
+// Takes a record on the chromosome of the runs that wait.
+#[inline(always)]
+fn take_on<K: Sink>(
+    gap: u64,
+    bed: &BedRef<'_>,
+    runs: &mut WaitingRuns,
+    out: &mut Out<K>,
+) -> Result<(), Failure>
+    ensures { TakesNext (stranding_at gap bed.now.chrom.now runs.old) (feature_lent bed.now) out.old result
+        (stranding_at gap bed.now.chrom.now runs.new) out.new }
+{
+    if join_passing(gap, bed.chrom, true, bed, runs, out)? {
+        return Ok(());
+    }
+    match runs.push(bed.strand, bed.start, bed.stop) {
+        Ok(()) => Ok(()),
+        Err(AllocError) => Err(Failure::Memory),
+    }
+}
+
+// The only run that waits, and the next record, if there is one.
+#[derive(Clone, Copy, Debug)]
+struct Alone<'t> {
+    run: Waiting,
+    next: Option<BedRef<'t>>,
+}
+
+// Merges records, up to the first that makes a second run wait: it lies on another strand than the only one, and hasn't
+// passed it. That record is passed and isn't merged. The function stands apart, so that the loop has the registers to
+// itself.
+#[inline(never)]
+fn merge_alone<'t, K: Sink>(
+    gap: u64,
+    first: Waiting,
+    records: &mut WholeRecords<'t>,
+    out: &mut Out<K>,
+) -> Result<Alone<'t>, Failure>
+    ensures { MergesAlone gap first records.old out.old result records.new out.new }
+{
+    let chrom = records.chrom();
+    let mut run = first;
+    let mut whole = *records;
+    while let Some(bed) = whole.next() {
+        match next_alone(gap, chrom, run, &bed, out) {
+            Ok(Some(next)) => run = next,
+            Ok(None) => {
+                *records = whole;
+                return Ok(Alone {
+                    run,
+                    next: Some(bed),
+                });
+            }
+            Err(failure) => {
+                *records = whole;
+                return Err(failure);
+            }
+        }
+    }
+    *records = whole;
+    Ok(Alone { run, next: None })
+}
+
+// The only run after a record on its chromosome, or none where the record makes a second one wait. The run that the
+// record has passed is written.
+#[inline(always)]
+fn next_alone<K: Sink>(
+    gap: u64,
+    chrom: &[u8],
+    run: Waiting,
+    bed: &BedRef<'_>,
+    out: &mut Out<K>,
+) -> Result<Option<Waiting>, Failure>
+    requires same { bed.now.chrom.now ≡ chrom.now }
+    ensures { StaysAlone gap chrom.now run (feature_lent bed.now) out.old result out.new }
+{
+    if run.stop < bed.start.saturating_sub(gap) {
+        return match put_interval(chrom, run.start, run.stop, out) {
+            Ok(()) => Ok(Some(run_from(bed))),
+            Err(_) => Err(Failure::Write),
+        };
+    }
+    if run.strand != bed.strand {
+        return Ok(None);
+    }
+    Ok(Some(Waiting {
+        strand: run.strand,
+        start: run.start,
+        stop: run.stop.max(bed.stop),
+    }))
+}
+
+// A record as a run.
+fn run_from(bed: &BedRef<'_>) -> Waiting
+    ensures { result ≡ waiting_from (feature_lent bed.now) }
+{
+    Waiting {
+        strand: bed.strand,
+        start: bed.start,
+        stop: bed.stop,
+    }
+}
