@@ -271,6 +271,8 @@ SHAPES = [[], ["-wa"], ["-wb"], ["-wa", "-wb"], ["-wo"], ["-u"], ["-v"], ["-c"]]
 UNHIT_SHAPES = [["-v"], ["-c"]]
 # Of many held records: what is written of each hit, and what is asked of all of them at once.
 COUNTED_SHAPES = [[], ["-u"], ["-c"]]
+# Those that write both records of a hit.
+BOTH_SHAPES = [["-wa", "-wb"], ["-wo"]]
 
 WORKLOADS = [
     Workload(["merge"], Touching(3), OURS, ["--merge"], 450, 0.2, is_plain=True),
@@ -301,7 +303,7 @@ WORKLOADS = [
     ),
     *(
         Workload(["intersect", "-sorted", *shape], Nested(1_000), BOTH, None, None, 0.35, False, counted=OURS)
-        for shape in COUNTED_SHAPES
+        for shape in (*COUNTED_SHAPES, *BOTH_SHAPES)
     ),
     # In the order of the names' bytes, beside the same in that of a genome file.
     Workload(["merge"], Touching(3), (), ["--merge"], 450, 0.2, is_plain=True),
@@ -349,7 +351,10 @@ WORKLOADS = [
 COUNTED_WORKLOADS = [
     Workload([*command, *shape], Pair(*kinds, True), BOTH, None, None, None, False, counted=OURS)
     for kinds in ((READS, EXONS), (EXONS, PEAKS), (PEAKS, REPEATS))
-    for command, shape in ((["intersect", "-sorted"], []), (["intersect", "-sorted"], ["-v"]), (["subtract"], []))
+    for command, shape in (
+        *((["intersect", "-sorted"], shape) for shape in ([], ["-v"], *BOTH_SHAPES)),
+        (["subtract"], []),
+    )
 ]
 
 

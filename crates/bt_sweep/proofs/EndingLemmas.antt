@@ -1,5 +1,5 @@
 -- Lemmas on records of the first input that are given once the second has ended.
-use Rattle.std.proofs.Common.{◌≡◌, ℕ, ◌<◌, Bool, true, false, cond, List, [], ◌∷◌, ◌++◌, length, Option, Some, Result, Ok, Err, inl, inr, refl, sym, ap, ◌∙◌, subst, arith, length-append}
+use Rattle.std.proofs.Common.{◌≡◌, ℕ, Bool, true, false, cond, List, [], ◌∷◌, ◌++◌, length, Option, Some, Result, Ok, Err, inl, inr, refl, sym, ap, ◌∙◌, subst}
 use Rattle.std.specs.Prelude.{IsTrue, OnErr}
 use Rattle.std.proofs.lemmas.Bool.{false≢true}
 use Rattle.std.specs.Result.{is_err}
@@ -23,7 +23,7 @@ use Rattle.bt_sweep.specs.Steps.{Fails}
 use Rattle.bt_sweep.specs.SweepState.{Sweeping, want_in, want_of}
 use Rattle.bt_sweep.specs.declared.want.Want.TheVariants.{A, B, Nothing}
 use Rattle.bt_sweep.proofs.LeapLemmas.{gives_split}
-use Rattle.bt_sweep.proofs.PassingLemmas.{on_chrom}
+use Rattle.bt_sweep.proofs.PassingLemmas.{on_chrom, some_more}
 use Rattle.bt_sweep.proofs.StateLemmas.{none_of}
 use Rattle.bt_sweep.proofs.StepLemmas.{gives_a, next_rises}
 
@@ -64,9 +64,6 @@ each_more old out [] mid through a new grown each next =
     (new, grown, here, (refl, refl))
 each_more old out (x ∷ firsts) mid through a new grown each next = (each.0, each.1, each.2, each_more each.0 each.1 firsts mid through a new grown each.3 next)
 
-some_with : (firsts : List Feature) (a : Feature) → 0 < length (firsts ++ a ∷ [])
-some_with firsts a = omega (arith, length-append firsts (a ∷ []))
-
 -- one more
 pub writes_more : (old : Sweeping) (from : WholeRecords) (out : Output) (is_any : Bool) (mid : Sweeping) (mid_from : WholeRecords) (through : Output) (new : Sweeping) (to : WholeRecords) (grown : Output) → WritesUpTo old from out is_any mid mid_from through
     → (a : Feature) × GivesWhole mid_from a to × WritesNext mid through a new grown → WritesUpTo old from out true new to grown
@@ -74,7 +71,7 @@ writes_more old from out is_any mid mid_from through new to grown upto next = re
   firsts = upto.firsts ++ next.0 ∷ [];
   given = gives_more from upto.firsts next.0 mid_from to upto.given next.1;
   writes = each_more old out upto.firsts mid through next.0 new grown upto.writes next.2;
-  some = λ e. some_with upto.firsts next.0;
+  some = λ e. some_more upto.firsts next.0;
   none = λ e. absurd (false≢true (sym e));
 }
 

@@ -107,7 +107,7 @@ pub last_of_front : (last : Feature) (before : List Feature) (r : Feature) → l
 last_of_front last [] r = refl
 last_of_front last (a ∷ more) r = last_of_front a more r
 
-some_more : (before : List Feature) (r : Feature) → 0 < length (before ++ r ∷ [])
+pub some_more : (before : List Feature) (r : Feature) → 0 < length (before ++ r ∷ [])
 some_more before r = omega (arith, length-append before (r ∷ []))
 
 -- the one behind it is decided too

@@ -5,11 +5,11 @@ use bt_bed::Records;
 use bt_lines::Source;
 
 // A reader that has passed the first two records of a text, which comes in one piece.
-fn behind_two<'o>(
+fn behind_two<'o, 't>(
     alloc: Global,
-    text: &'static [u8],
+    text: &'t [u8],
     genome: &'o Genome,
-) -> Result<Records<'o, ScriptSource<'static>, Genome>, Fail> {
+) -> Result<Records<'o, ScriptSource<'t>, Genome>, Fail> {
     let lines = LineReader::new(alloc, ScriptSource::new(text, 8192, None), Input::First);
     let mut records = Records::new(alloc, lines, genome);
     for _ in 0..2 {
@@ -405,7 +405,7 @@ fn several_that_share_a_base_are_held_at_once(rt: HostRuntime) -> Result<(), Fai
 }
 
 // Takes the records of the first input that stand whole and writes them, if the first input is asked for. It answers
-// whether it took any.
+// whether it took any, and passes what was passed where a write failed too.
 fn write_whole<S: Source, K: Sink>(
     records: &mut Records<'_, S, Genome>,
     sweep: &mut Sweep<'_, HeldList, Genome>,
@@ -416,12 +416,10 @@ fn write_whole<S: Source, K: Sink>(
     };
     match sweep.want() {
         Want::A => {
-            if !sweep.write_whole(&mut whole, out)? {
-                return Ok(false);
-            }
+            let is_any = sweep.write_whole(&mut whole, out);
             let passed = whole.passed();
             records.pass(passed);
-            Ok(true)
+            is_any
         }
         _ => Ok(false),
     }
@@ -513,5 +511,44 @@ fn are_left(alloc: Global, genome: &Genome) -> Result<bool, Fail> {
 fn no_record_is_written_before_the_second_input_has_ended(rt: HostRuntime) -> Result<(), Fail> {
     let genome = read_genome(rt.alloc())?;
     assert!(rt; are_left(rt.alloc(), &genome)?);
+    Ok(())
+}
+
+// Behind two records, three with a name of 1,000 bytes, and one more.
+fn long_records(alloc: Global) -> Result<Vec<u8>, AllocError> {
+    let mut text = Vec::from_slice(alloc, b"chr1\t1\t5\nchr1\t2\t6\n")?;
+    for _ in 0..3 {
+        text.extend_from_slice(b"chr1\t3\t9\t")?;
+        text.extend_from_slice(&[b'n'; 1000])?;
+        text.push(b'\n')?;
+    }
+    text.extend_from_slice(b"chr1\t3\t8\n")?;
+    Ok(text)
+}
+
+// Whether the call fails where the sink takes 25 bytes, which are the first, and the record that it failed at was passed:
+// three records are held, so that the third has the line that fills the output's block up.
+fn fails_at_the_third(alloc: Global, genome: &Genome) -> Result<bool, Fail> {
+    let text = long_records(alloc)?;
+    let mut records = behind_two(alloc, text.as_slice(), genome)?;
+    let mut sweep = any_overlap(alloc, Shape::OrigA, genome);
+    let mut out = Out::new(ScriptSink::new(alloc, 100, Some(25)));
+    let _ = give_first(&mut sweep, b"chr1\t2\t40", &mut out);
+    for _ in 0..3 {
+        let _ = give_second(&mut sweep, b"chr1\t4\t6", &mut out);
+    }
+    let _ = end_second(&mut sweep, &mut out);
+    let has_failed = write_whole(&mut records, &mut sweep, &mut out).is_err();
+    let left = next_bounds(&mut records)?;
+    let _ = records.into_reader().into_source();
+    let front: &[u8] = b"chr1\t2\t40\nchr1\t2\t40\nchr1\t";
+    let ends = sweep.want() == Want::Nothing && left == Some((3, 8));
+    Ok(has_failed && ends && out.into_sink().taken() == front)
+}
+
+#[test]
+fn a_write_that_fails_among_several_ends_them_there(rt: HostRuntime) -> Result<(), Fail> {
+    let genome = read_genome(rt.alloc())?;
+    assert!(rt; fails_at_the_third(rt.alloc(), &genome)?);
     Ok(())
 }
