@@ -24,7 +24,7 @@ use Rattle.bt_runs.specs.StrandRuns.{StrandRun, kept_strand_runs, places_of, set
 use Rattle.bt_runs.specs.StrandStep.{added_at, behind_settled, front_settled, kept_with, last_place, place_among, run_from, run_with, with_added}
 use Rattle.bt_runs.specs.StrandTaking.{FailsToKeep, FailsToSettle, Joins, JoinsPassing, OpensRun, Takes, TakesNext, lines_by}
 use Rattle.bt_runs.specs.Stranding.{Stranding, StandsAfter, held_count, is_quiet, kept_fault, may_take, settled_lines, stands_after, strand_lines, whole_output}
-use Rattle.bt_runs.specs.Waiting.{joined_here, left_by, left_runs, lengthened, passed_by, passed_runs, place_of, placed_run, placed_runs, waiting_from, with_joined}
+use Rattle.bt_runs.specs.Waiting.{joined_here, left_waiting, left_runs, lengthened, passed_waiting, passed_runs, place_of, placed_run, placed_runs, waiting_from, with_joined}
 use Rattle.bt_runs.specs.declared.failure.Failure.{Failure}
 use Rattle.bt_runs.specs.declared.failure.Failure.TheVariants.{Write, Memory}
 use Rattle.bt_runs.specs.declared.waiting.Waiting.{Waiting}
@@ -160,10 +160,10 @@ module _ (gap : ℕ) (chrom : List ℕ) (runs : List Waiting) (fault : Option To
   old = record { gap = gap; kept = placed_runs chrom runs; fault = fault }
 
   abbrev passed : List ℕ
-  passed = strand_lines (placed_runs chrom (passed_by gap chrom runs r))
+  passed = strand_lines (placed_runs chrom (passed_waiting gap chrom runs r))
 
   abbrev left : List Waiting
-  left = left_by gap chrom runs r
+  left = left_waiting gap chrom runs r
 
   lines_same : passed ≡ lines_by old r
   lines_same = ap strand_lines (sym (front_placed gap chrom r runs))

@@ -1,5 +1,5 @@
 -- What one more record on the chromosome of the open run does to a merge.
-use Rattle.std.proofs.Common.{rules, ◌≡◌, ℕ, ◌+◌, ◌<◌, Bool, cond, List, [], ◌∷◌, Option, Result, Ok, Err, refl, sym, ap, subst, ◌∙◌}
+use Rattle.std.proofs.Common.{rules, ◌≡◌, ℕ, ◌+◌, ◌<◌, Bool, List, [], ◌∷◌, Option, Result, Ok, Err, refl, sym, ap, subst, ◌∙◌}
 use Rattle.bt_lines.specs.Fault.{Told, write_failed}
 use Rattle.bt_lines.specs.Names.{told}
 use Rattle.bt_lines.specs.Output.{Output}
@@ -13,7 +13,7 @@ use Rattle.bt_bed.specs.declared.bounds.Bounds.{Bounds}
 use Rattle.bt_bed.specs.declared.whole_records.WholeRecords.{WholeRecords}
 use Rattle.bt_runs.specs.Counted.{is_counted}
 use Rattle.bt_runs.specs.Engine.{FailsAtGiven, TakesGiven}
-use Rattle.bt_runs.specs.MergeStep.{left_by, settled_by, with_record}
+use Rattle.bt_runs.specs.MergeStep.{kept_then, settled_by}
 use Rattle.bt_runs.specs.Pooling.{is_quiet, kept_fault, may_take, settled_lines, stands_after}
 use Rattle.bt_runs.specs.Taking.{FailsToSettle, Takes, run_at}
 use Rattle.bt_runs.specs.WholeRuns.{FailsToMerge, IsInRange, MergesGiven, MergesWhole, bounds_at, kept_at, pooling_at}
@@ -68,24 +68,21 @@ module _ (gap : ℕ) (strand : MergeStrand) (first : Option Run) (lines : WholeR
     abbrev settled_at : List ℕ → List Interval
     settled_at name = settled_by gap (kept_at name run) (bounds_at name bounds)
 
-    abbrev kept_with : Bool → Interval → List Interval → List Interval
-    kept_with counts x kept = cond counts (with_record (left_by gap kept x) x) (left_by gap kept x)
-
     place : interval_of r ≡ bounds_at (chrom_in lines) bounds
     place = let c : r.chrom ≡ chrom_in lines = given.chrom ∙ so_far.same_chrom in cc
 
     settles_same : (name : List ℕ) → name ≡ chrom_in lines → settled_at name ≡ settled_by gap (kept_at (chrom_in lines) run) (interval_of r)
     settles_same name is = ap settled_at is ∙ ap (settled_by gap (kept_at (chrom_in lines) run)) (sym place)
 
-    keeps_same : (name : List ℕ) → name ≡ chrom_in lines → kept_with counted (bounds_at name bounds) (kept_at name run) ≡ kept_with (is_counted strand r.strand) (interval_of r) (kept_at (chrom_in lines) run)
+    keeps_same : (name : List ℕ) → name ≡ chrom_in lines → kept_then gap counted (kept_at name run) (bounds_at name bounds) ≡ kept_then gap (is_counted strand r.strand) (kept_at (chrom_in lines) run) (interval_of r)
     keeps_same name is =
-        ap (λ n. kept_with counted (bounds_at n bounds) (kept_at n run)) is
-        ∙ ap (λ x. kept_with counted x (kept_at (chrom_in lines) run)) (sym place)
-        ∙ ap (λ b. kept_with b (interval_of r) (kept_at (chrom_in lines) run)) (sym counts)
+        ap (λ n. kept_then gap counted (kept_at n run) (bounds_at n bounds)) is
+        ∙ ap (kept_then gap counted (kept_at (chrom_in lines) run)) (sym place)
+        ∙ ap (λ b. kept_then gap b (kept_at (chrom_in lines) run) (interval_of r)) (sym counts)
 
     -- one more record is taken
     pub merges_next : (name : List ℕ) (next : Option Run) (grown : Output) → name ≡ chrom_in lines → Grown through (interval_lines (settled_at name)) grown
-        → kept_at name next ≡ kept_with counted (bounds_at name bounds) (kept_at name run) → IsInRange next
+        → kept_at name next ≡ kept_then gap counted (kept_at name run) (bounds_at name bounds) → IsInRange next
         → MergesGiven gap strand first lines out next passed grown
     merges_next name next grown is adds keeps range =
         let takes : Takes (pooling_at gap strand (chrom_in lines) run) r through (pooling_at gap strand (chrom_in lines) next) grown = record {

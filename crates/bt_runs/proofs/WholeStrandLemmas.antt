@@ -11,7 +11,7 @@ use Rattle.bt_runs.specs.Engine.{FailsAtGiven, TakesGiven}
 use Rattle.bt_runs.specs.StrandTaking.{Takes, TakesNext}
 use Rattle.bt_runs.specs.Stranding.{Stranding, is_quiet, kept_fault, may_take, settled_lines, stands_after}
 use Rattle.bt_runs.specs.Waiting.{only_of}
-use Rattle.bt_runs.specs.WholeStrands.{FailsToMerge, MergesBefore, MergesGiven, NextGiven, stranding_at}
+use Rattle.bt_runs.specs.WholeStrands.{StrandsFail, MergesBefore, StrandsTaken, NextGiven, stranding_at}
 use Rattle.bt_runs.specs.declared.failure.Failure.{Failure}
 use Rattle.bt_runs.specs.declared.waiting.Waiting.{Waiting}
 use Rattle.bt_runs.proofs.EachTaken.{bytes_ahead, fails_at_given, given_then, none_given, one_more_given, record_shrinks}
@@ -41,22 +41,22 @@ module _ (gap : ℕ) (first : List Waiting) (lines : WholeRecords) (out : Output
   start = stranding_at gap (chrom_in lines) first
 
   -- a loop that has taken no record
-  pub begins_merging : MergesGiven gap first lines out first lines out
+  pub begins_merging : StrandsTaken gap first lines out first lines out
   begins_merging = record { takes = none_given may_take stands_after kept_fault settled_lines is_quiet start lines out; same_chrom = refl }
 
-  module _ (runs : List Waiting) (before : WholeRecords) (through : Output) (so_far : MergesGiven gap first lines out runs before through) (passed : WholeRecords) (grown : Output) where
+  module _ (runs : List Waiting) (before : WholeRecords) (through : Output) (so_far : StrandsTaken gap first lines out runs before through) (passed : WholeRecords) (grown : Output) where
     abbrev at : Stranding
     at = stranding_at gap (chrom_in lines) runs
 
     -- a loop goes on where this one ended
-    pub merges_then : (next : List Waiting) → MergesGiven gap runs before through next passed grown → MergesGiven gap first lines out next passed grown
+    pub merges_then : (next : List Waiting) → StrandsTaken gap runs before through next passed grown → StrandsTaken gap first lines out next passed grown
     merges_then next more = record {
       takes = given_then may_take stands_after kept_fault settled_lines is_quiet start lines out at before through (stranding_at gap (chrom_in lines) next) passed grown so_far.takes
           (subst (λ (n : List ℕ). TakesGiven may_take stands_after kept_fault settled_lines is_quiet (stranding_at gap n runs) before through (stranding_at gap n next) passed grown) so_far.same_chrom more.takes);
       same_chrom = more.same_chrom ∙ so_far.same_chrom;
     }
 
-    pub fails_then : (failure : Failure) → FailsToMerge gap runs before through failure passed grown → FailsToMerge gap first lines out failure passed grown
+    pub fails_then : (failure : Failure) → StrandsFail gap runs before through failure passed grown → StrandsFail gap first lines out failure passed grown
     fails_then failure more = record {
       fails = λ answer new is kept.
           let failed : FailsAtGiven may_take stands_after kept_fault settled_lines is_quiet at before through answer new passed grown =
@@ -69,7 +69,7 @@ module _ (gap : ℕ) (first : List Waiting) (lines : WholeRecords) (out : Output
     -- one more record is given
     module _ (r : Feature) (given : GivesWhole before r passed) (name : List ℕ) (is : name ≡ chrom_in lines) where
       -- and taken
-      pub merges_next : (next : List Waiting) → Takes (stranding_at gap name runs) r through (stranding_at gap name next) grown → MergesGiven gap first lines out next passed grown
+      pub merges_next : (next : List Waiting) → Takes (stranding_at gap name runs) r through (stranding_at gap name next) grown → StrandsTaken gap first lines out next passed grown
       merges_next next takes =
           let taken : Takes at r through (stranding_at gap (chrom_in lines) next) grown =
           subst (λ (n : List ℕ). Takes (stranding_at gap n runs) r through (stranding_at gap n next) grown) is takes in
@@ -80,7 +80,7 @@ module _ (gap : ℕ) (first : List Waiting) (lines : WholeRecords) (out : Output
           }
 
       -- and not taken
-      pub fails_next : (failure : Failure) (mid : Stranding) → TakesNext {A = Unit {0}} (stranding_at gap name runs) r through (Err failure) mid grown → FailsToMerge gap first lines out failure passed grown
+      pub fails_next : (failure : Failure) (mid : Stranding) → TakesNext {A = Unit {0}} (stranding_at gap name runs) r through (Err failure) mid grown → StrandsFail gap first lines out failure passed grown
       fails_next failure mid fails = record {
         fails = λ answer new told kept.
             let failed : TakesNext {A = Unit {0}} at r through (Err failure) mid grown =
@@ -90,8 +90,8 @@ module _ (gap : ℕ) (first : List Waiting) (lines : WholeRecords) (out : Output
       }
 
   -- it ends behind the records that were taken, where none more was given
-  pub ends_before : (runs : List Waiting) (passed : WholeRecords) (grown : Output) → MergesBefore gap first lines out runs None passed grown → MergesGiven gap first lines out runs passed grown
-  ends_before runs passed grown p = subst (λ (w : WholeRecords). MergesGiven gap first lines out runs w grown) (sym p.next) p.merges
+  pub ends_before : (runs : List Waiting) (passed : WholeRecords) (grown : Output) → MergesBefore gap first lines out runs None passed grown → StrandsTaken gap first lines out runs passed grown
+  ends_before runs passed grown p = subst (λ (w : WholeRecords). StrandsTaken gap first lines out runs w grown) (sym p.next) p.merges
 
   -- where one was, less is left
   pub before_shrinks : (runs : List Waiting) (r : Feature) (passed : WholeRecords) (grown : Output) (p : MergesBefore gap first lines out runs (Some r) passed grown) → bytes_ahead passed < bytes_ahead lines

@@ -12,6 +12,6 @@ run_in span =
 -- numbers that stand for no run, or for one that doesn't start after the record passed last
 pub record IsSpan (last : ℕ) (span : Span) : Type 0 where
   pub in_range : span.stop ≤ max_number
-  -- by the lesser start, the run of a record that none is joined to starts where the record does
+  -- the greatest number, so that the lesser of it and the start of a record is the record's
   pub none : span.stop ≡ 0 → span.start ≡ 18446744073709551615
   pub some : 0 < span.stop → span.start ≤ last

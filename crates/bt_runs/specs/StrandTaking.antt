@@ -8,7 +8,7 @@ use Rattle.bt_lines.specs.declared.fault.Fault.{Fault}
 use Rattle.bt_bed.specs.Feature.{Feature}
 use Rattle.bt_runs.specs.StrandStep.{behind_settled, front_settled, kept_with, run_from, with_added}
 use Rattle.bt_runs.specs.Stranding.{Stranding, strand_lines}
-use Rattle.bt_runs.specs.Waiting.{left_by, passed_by, place_of, placed_runs, with_joined}
+use Rattle.bt_runs.specs.Waiting.{left_waiting, passed_waiting, place_of, placed_runs, with_joined}
 use Rattle.bt_runs.specs.declared.failure.Failure.{Failure}
 use Rattle.bt_runs.specs.declared.failure.Failure.TheVariants.{Write, Memory}
 use Rattle.bt_runs.specs.declared.waiting.Waiting.{Waiting}
@@ -57,14 +57,14 @@ TakesNext old r out (Err Memory) new grown = FailsToKeep old r out new grown
 -- of its strand that is left, or couldn't be
 module _ (gap : ℕ) (chrom : List ℕ) (runs : List Waiting) (r : Feature) (out : Output) where
   pub record Joins (joined : Bool) (new : List Waiting) (grown : Output) : Type 0 where
-    pub puts : Grown out (strand_lines (placed_runs chrom (passed_by gap chrom runs r))) grown
+    pub puts : Grown out (strand_lines (placed_runs chrom (passed_waiting gap chrom runs r))) grown
     pub joins : (joined, new)
-        ≡ with_joined (r.start - gap) r.stop (left_by gap chrom runs r)
-        (place_of r.strand (left_by gap chrom runs r))
+        ≡ with_joined (r.start - gap) r.stop (left_waiting gap chrom runs r)
+        (place_of r.strand (left_waiting gap chrom runs r))
 
   -- what passing and joining does
   abbrev pub JoinsPassing : Result Bool Failure → List Waiting → Output → Type 0
   JoinsPassing (Ok joined) new grown = Joins joined new grown
   JoinsPassing (Err Write) new grown =
-      FailsToAdd out (strand_lines (placed_runs chrom (passed_by gap chrom runs r))) write_failed grown
+      FailsToAdd out (strand_lines (placed_runs chrom (passed_waiting gap chrom runs r))) write_failed grown
   JoinsPassing (Err Memory) new grown = ⊥

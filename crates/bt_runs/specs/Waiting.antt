@@ -81,8 +81,8 @@ abbrev pub waiting_from : Feature → Waiting
 waiting_from r = record { strand = r.strand; start = r.start; stop = r.stop }
 
 -- of the runs on a chromosome those that a record has passed, and those that are left
-abbrev pub passed_by : ℕ → List ℕ → List Waiting → Feature → List Waiting
-passed_by gap chrom runs r = passed_runs (bytes_eq chrom r.chrom) (r.start - gap) runs
+abbrev pub passed_waiting : ℕ → List ℕ → List Waiting → Feature → List Waiting
+passed_waiting gap chrom runs r = passed_runs (bytes_eq chrom r.chrom) (r.start - gap) runs
 
-abbrev pub left_by : ℕ → List ℕ → List Waiting → Feature → List Waiting
-left_by gap chrom runs r = left_runs (bytes_eq chrom r.chrom) (r.start - gap) runs
+abbrev pub left_waiting : ℕ → List ℕ → List Waiting → Feature → List Waiting
+left_waiting gap chrom runs r = left_runs (bytes_eq chrom r.chrom) (r.start - gap) runs

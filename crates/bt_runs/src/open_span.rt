@@ -4,7 +4,7 @@ ghost use Rattle.std.specs.Prelude.{◌≡◌, ◌<◌, ◌≤◌, cond, List, �
 ghost use Rattle.bt_lines.specs.Number.{max_number};
 ghost use Rattle.bt_lines.specs.Putting.{Adds};
 ghost use Rattle.bt_bed.specs.IntervalLine.{interval_lines};
-ghost use Rattle.bt_runs.specs.MergeStep.{left_by, settled_by, with_record};
+ghost use Rattle.bt_runs.specs.MergeStep.{kept_then, left_by, settled_by, with_record};
 ghost use Rattle.bt_runs.specs.OpenSpan.{IsSpan, run_in};
 ghost use Rattle.bt_runs.specs.WholeRuns.{IsInRange, bounds_at, kept_at};
 
@@ -28,7 +28,8 @@ const NONE: Span = Span {
     stop: 0,
 };
 
-// The numbers of the open run, or of none, where it doesn't start after the last record. None that a merge keeps does.
+// The numbers of the open run, or of none. A run that starts behind the last record, or that has no bases, has no such
+// numbers; a merge keeps no run of that kind.
 #[inline(always)]
 pub(crate) fn span_of(run: Option<Run>, last: u64) -> Option<Span>
     requires run_in_range { IsInRange run }
@@ -77,10 +78,8 @@ pub(crate) fn next_span<K: Sink>(
     requires record_in_range { bounds.stop ≤ max_number }
     ensures adds { Adds out.old (interval_lines
         (settled_by gap (kept_at chrom.now (run_in span)) (bounds_at chrom.now bounds))) result out.new }
-    ensures kept { IfOk result (λ next. kept_at chrom.now (run_in next) ≡ cond counted
-        (with_record (left_by gap (kept_at chrom.now (run_in span)) (bounds_at chrom.now bounds))
-        (bounds_at chrom.now bounds))
-        (left_by gap (kept_at chrom.now (run_in span)) (bounds_at chrom.now bounds))) }
+    ensures kept { IfOk result (λ next. kept_at chrom.now (run_in next)
+        ≡ kept_then gap counted (kept_at chrom.now (run_in span)) (bounds_at chrom.now bounds)) }
     ensures is_span { IfOk result (IsSpan bounds.start) }
 {
     let left = left_span(gap, chrom, span, bounds, out)?;

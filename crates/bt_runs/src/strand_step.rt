@@ -13,8 +13,9 @@ use crate::waiting::WaitingRuns;
 use bt_bed::{BedRef, put_interval};
 use bt_lines::{Fault, Out, Sink};
 
-// Writes the runs that a record has passed, and joins the record to the last run of its strand that is left, unless that
-// ends more than the gap before it. It answers whether it did. `here` says whether the record lies on their chromosome.
+// Writes the runs that a record has passed, and joins the record to the last run of its strand, if one is left that
+// doesn't end more than the gap before it. It answers whether it did. `here` says whether the record lies on the runs'
+// chromosome.
 #[inline(always)]
 pub(crate) fn join_passing<K: Sink>(
     gap: u64,

@@ -150,8 +150,8 @@ impl Engine for Stranded {
     }
 }
 
-// Adds a run with the record, where none is kept of another chromosome. `here` says whether the name is already the one
-// of its chromosome.
+// Adds a run with the record, where none is kept of another chromosome. `here` says whether the name that is kept is
+// that of the record's chromosome.
 #[inline(always)]
 fn open(
     here: bool,

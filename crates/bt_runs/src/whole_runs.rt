@@ -1,13 +1,13 @@
 //! Merging several records on the chromosome of the open run, with the run and the place in the input at hand.
 
-ghost use Rattle.std.specs.Prelude.{◌≡◌, ◌≤◌, cond, List, ℕ, [], ◌∷◌, None, Some, IfOk, IfSome};
+ghost use Rattle.std.specs.Prelude.{◌≡◌, ◌≤◌, List, ℕ, [], ◌∷◌, None, Some, IfOk, IfSome};
 ghost use Rattle.bt_lines.specs.Number.{max_number};
 ghost use Rattle.bt_lines.specs.Putting.{Adds};
 ghost use Rattle.bt_bed.specs.Feature.{Feature};
 ghost use Rattle.bt_bed.specs.IntervalLine.{interval_lines};
 ghost use Rattle.bt_bed.specs.WholeRecords.{GivesWhole, start_in};
 ghost use Rattle.bt_runs.specs.Counted.{is_counted};
-ghost use Rattle.bt_runs.specs.MergeStep.{left_by, settled_by, with_record};
+ghost use Rattle.bt_runs.specs.MergeStep.{kept_then, left_by, settled_by, with_record};
 ghost use Rattle.bt_runs.specs.OpenSpan.{IsSpan, run_in};
 ghost use Rattle.bt_runs.specs.Taking.{run_at};
 ghost use Rattle.bt_runs.specs.WholeRuns.{IsInRange, MergesWhole, bounds_at, kept_at};
@@ -164,10 +164,8 @@ fn next_run<K: Sink>(
     requires record_in_range { bounds.stop ≤ max_number }
     ensures adds { Adds out.old (interval_lines
         (settled_by gap (kept_at chrom.now run) (bounds_at chrom.now bounds))) result out.new }
-    ensures kept { IfOk result (λ next. kept_at chrom.now next ≡ cond counted
-        (with_record (left_by gap (kept_at chrom.now run) (bounds_at chrom.now bounds))
-        (bounds_at chrom.now bounds))
-        (left_by gap (kept_at chrom.now run) (bounds_at chrom.now bounds))) }
+    ensures kept { IfOk result (λ next. kept_at chrom.now next
+        ≡ kept_then gap counted (kept_at chrom.now run) (bounds_at chrom.now bounds)) }
     ensures in_range { IfOk result IsInRange }
 {
     let left = left_run(gap, chrom, run, bounds, out)?;

@@ -4,7 +4,7 @@ ghost use Rattle.std.specs.Prelude.{◌≡◌};
 ghost use Rattle.bt_bed.specs.Bed.{feature_lent};
 ghost use Rattle.bt_runs.specs.StrandTaking.{TakesNext};
 ghost use Rattle.bt_runs.specs.Waiting.{waiting_from};
-ghost use Rattle.bt_runs.specs.WholeStrands.{MergesAlone, MergesStrands, MergesUpTo, StaysAlone, stranding_at};
+ghost use Rattle.bt_runs.specs.WholeStrands.{MergesSingle, MergesStrands, MergesUpTo, StepsSingle, stranding_at};
 
 use crate::failure::Failure;
 use crate::strand_step::join_passing;
@@ -13,7 +13,9 @@ use bt_bed::{BedRef, WholeRecords, put_interval};
 use bt_lines::{Out, Sink};
 use std::alloc::AllocError;
 
-// Merges records where the runs that wait, if there are any, lie on their chromosome.
+// Merges records where the runs that wait, if there are any, lie on their chromosome. A record behind one that left more
+// or fewer runs than there were is taken by itself: where each other record makes a second run wait, as where pairs of
+// both strands overlap, going over to the loop of a single run and back would cost more than that loop saves.
 pub(crate) fn merge_strands<K: Sink>(
     gap: u64,
     runs: &mut WaitingRuns,
@@ -22,33 +24,39 @@ pub(crate) fn merge_strands<K: Sink>(
 ) -> Result<(), Failure>
     ensures { MergesStrands gap runs.old records.old out.old result runs.new records.new out.new }
 {
-    while let Some(bed) = next_beside(gap, runs, records, out)? {
-        take_on(gap, &bed, runs, out)?;
+    let mut is_steady = true;
+    while let Some(bed) = next_unmerged(gap, is_steady, runs, records, out)? {
+        let before = runs.len();
+        take_here(gap, &bed, runs, out)?;
+        is_steady = runs.len() == before;
     }
     Ok(())
 }
 
-// The next record, which is passed. Where a single run waits, those are merged first that don't make a second one wait.
+// The next record that isn't merged here, which is passed. Where as many runs wait as before, and that is a single one,
+// those are merged first that don't make a second one wait.
 #[inline(always)]
-fn next_beside<'t, K: Sink>(
+fn next_unmerged<'t, K: Sink>(
     gap: u64,
+    is_steady: bool,
     runs: &mut WaitingRuns,
     records: &mut WholeRecords<'t>,
     out: &mut Out<K>,
 ) -> Result<Option<BedRef<'t>>, Failure>
     ensures { MergesUpTo gap runs.old records.old out.old result runs.new records.new out.new }
 {
-    let Some(run) = runs.only() else {
+    let single = if is_steady { runs.only() } else { None };
+    let Some(run) = single else {
         return Ok(records.next());
     };
-    let alone = merge_alone(gap, run, records, out)?;
-    runs.set_only(alone.run);
-    Ok(alone.next)
+    let merged = merge_single(gap, run, records, out)?;
+    runs.set_only(merged.run);
+    Ok(merged.next)
 }
 
 // Takes a record on the chromosome of the runs that wait.
 #[inline(always)]
-fn take_on<K: Sink>(
+fn take_here<K: Sink>(
     gap: u64,
     bed: &BedRef<'_>,
     runs: &mut WaitingRuns,
@@ -66,9 +74,9 @@ fn take_on<K: Sink>(
     }
 }
 
-// The only run that waits, and the next record, if there is one.
+// The only run that waits, and the record behind those that were merged into it or took its place, if there is one.
 #[derive(Clone, Copy, Debug)]
-struct Alone<'t> {
+struct Single<'t> {
     run: Waiting,
     next: Option<BedRef<'t>>,
 }
@@ -77,23 +85,23 @@ struct Alone<'t> {
 // passed it. That record is passed and isn't merged. The function stands apart, so that the loop has the registers to
 // itself.
 #[inline(never)]
-fn merge_alone<'t, K: Sink>(
+fn merge_single<'t, K: Sink>(
     gap: u64,
     first: Waiting,
     records: &mut WholeRecords<'t>,
     out: &mut Out<K>,
-) -> Result<Alone<'t>, Failure>
-    ensures { MergesAlone gap first records.old out.old result records.new out.new }
+) -> Result<Single<'t>, Failure>
+    ensures { MergesSingle gap first records.old out.old result records.new out.new }
 {
     let chrom = records.chrom();
     let mut run = first;
     let mut whole = *records;
     while let Some(bed) = whole.next() {
-        match next_alone(gap, chrom, run, &bed, out) {
+        match next_single(gap, chrom, run, &bed, out) {
             Ok(Some(next)) => run = next,
             Ok(None) => {
                 *records = whole;
-                return Ok(Alone {
+                return Ok(Single {
                     run,
                     next: Some(bed),
                 });
@@ -105,13 +113,13 @@ fn merge_alone<'t, K: Sink>(
         }
     }
     *records = whole;
-    Ok(Alone { run, next: None })
+    Ok(Single { run, next: None })
 }
 
 // The only run after a record on its chromosome, or none where the record makes a second one wait. The run that the
 // record has passed is written.
 #[inline(always)]
-fn next_alone<K: Sink>(
+fn next_single<K: Sink>(
     gap: u64,
     chrom: &[u8],
     run: Waiting,
@@ -119,11 +127,11 @@ fn next_alone<K: Sink>(
     out: &mut Out<K>,
 ) -> Result<Option<Waiting>, Failure>
     requires same { bed.now.chrom.now ≡ chrom.now }
-    ensures { StaysAlone gap chrom.now run (feature_lent bed.now) out.old result out.new }
+    ensures { StepsSingle gap chrom.now run (feature_lent bed.now) out.old result out.new }
 {
     if run.stop < bed.start.saturating_sub(gap) {
         return match put_interval(chrom, run.start, run.stop, out) {
-            Ok(()) => Ok(Some(run_from(bed))),
+            Ok(()) => Ok(Some(waiting_from(bed))),
             Err(_) => Err(Failure::Write),
         };
     }
@@ -138,7 +146,7 @@ fn next_alone<K: Sink>(
 }
 
 // A record as a run.
-fn run_from(bed: &BedRef<'_>) -> Waiting
+fn waiting_from(bed: &BedRef<'_>) -> Waiting
     ensures { result ≡ waiting_from (feature_lent bed.now) }
 {
     Waiting {

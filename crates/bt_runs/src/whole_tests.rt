@@ -28,24 +28,63 @@ const BOUNDS: [(u64, u64); 7] = [
     (98, 99),
 ];
 
-// The line of a record: each seven lie up to 100 further on.
-fn line_of(alloc: Global, number: u64) -> Result<String, AllocError>
+// What the records are like: each on another strand than the one before, or in chains of one strand, and then short ones
+// behind a long one of another strand.
+#[derive(Clone, Copy)]
+enum Layout {
+    Mixed,
+    Chains,
+}
+
+// Where a record lies: of the mixed ones each seven lie up to 100 further on.
+fn mixed_bounds(number: u64) -> (u64, u64)
     requires { number < RECORDS }
 {
     let (start, stop) = BOUNDS[(number % 7) as usize];
-    let strand = STRANDS[(number % 3) as usize];
     let first = number / 7 * 100;
-    format!(in alloc;
-        "chr1\t{}\t{}\tname\t0\t{strand}",
-        first + start,
-        first + stop
-    )
+    (first + start, first + stop)
 }
 
-fn text(alloc: Global) -> Result<Vec<u8>, AllocError> {
+// The ends of those in chains, from their starts on, which are 10 apart: some overlap the next one, some touch it.
+const LENGTHS: [u64; 5] = [12, 3, 25, 10, 4];
+
+// The first ones change the strand at each fifth. The long one comes behind 30 of them, and more short runs behind it than
+// a merge has room for at first.
+const CHAINED: u64 = 30;
+
+fn chain_bounds(number: u64) -> (u64, u64)
+    requires { number < RECORDS }
+{
+    let start = 10 * number;
+    if number == CHAINED {
+        return (start, start + 10_000);
+    }
+    (start, start + LENGTHS[(number % 5) as usize])
+}
+
+fn chain_strand(number: u64) -> &'static str
+    requires { number < RECORDS }
+{
+    if number < CHAINED {
+        return STRANDS[(number / 5 % 3) as usize];
+    }
+    if number == CHAINED { "+" } else { "-" }
+}
+
+fn line_of(alloc: Global, layout: Layout, number: u64) -> Result<String, AllocError>
+    requires { number < RECORDS }
+{
+    let ((start, stop), strand) = match layout {
+        Layout::Mixed => (mixed_bounds(number), STRANDS[(number % 3) as usize]),
+        Layout::Chains => (chain_bounds(number), chain_strand(number)),
+    };
+    format!(in alloc; "chr1\t{start}\t{stop}\tname\t0\t{strand}")
+}
+
+fn text(alloc: Global, layout: Layout) -> Result<Vec<u8>, AllocError> {
     let mut text = Vec::new(alloc);
     for number in 0..RECORDS {
-        text.extend_from_slice(line_of(alloc, number)?.as_bytes())?;
+        text.extend_from_slice(line_of(alloc, layout, number)?.as_bytes())?;
         text.push(b'\n')?;
     }
     Ok(text)
@@ -55,11 +94,12 @@ fn text(alloc: Global) -> Result<Vec<u8>, AllocError> {
 fn feed_each<E: Engine, K: Sink>(
     rt: &impl Abort,
     alloc: Global,
+    layout: Layout,
     engine: &mut E,
     out: &mut Out<K>,
 ) -> Result<(), AllocError> {
     for number in 0..RECORDS {
-        let line = line_of(alloc, number)?;
+        let line = line_of(alloc, layout, number)?;
         holds(
             rt,
             feed_line(engine, line.as_bytes(), out).is_ok(),
@@ -92,11 +132,12 @@ fn feed_whole<E: Engine, K: Sink>(
 fn check_whole<E: Engine + Drop>(
     rt: &impl Abort,
     alloc: Global,
+    layout: Layout,
     mut several: E,
     mut single: E,
     name: &str,
 ) -> Result<(), Fail> {
-    let text = text(alloc)?;
+    let text = text(alloc, layout)?;
     let source = ScriptSource::new(text.as_slice(), 8192, None);
     let reader = LineReader::new(alloc, source, Input::First);
     let mut records = Records::new(alloc, reader, &ByteOrder);
@@ -105,7 +146,7 @@ fn check_whole<E: Engine + Drop>(
     let _ = records.into_reader().into_source();
     holds(rt, all == Ok(true), name);
     let mut wanted = Out::new(ScriptSink::new(alloc, 512, None));
-    feed_each(rt, alloc, &mut single, &mut wanted)?;
+    feed_each(rt, alloc, layout, &mut single, &mut wanted)?;
     expect_same(rt, several, out, single, wanted, name);
     Ok(())
 }
@@ -119,9 +160,12 @@ fn check_merge(
 ) -> Result<(), Fail>
     requires { d < 1000 }
 {
-    let several = Merge::new(alloc, d, strand);
-    let single = Merge::new(alloc, d, strand);
-    check_whole(rt, alloc, several, single, name)
+    for layout in [Layout::Mixed, Layout::Chains] {
+        let several = Merge::new(alloc, d, strand);
+        let single = Merge::new(alloc, d, strand);
+        check_whole(rt, alloc, layout, several, single, name)?;
+    }
+    Ok(())
 }
 
 #[test]
@@ -148,7 +192,14 @@ fn complement_of_all(rt: HostRuntime) -> Result<(), Fail> {
     let genome = genome(rt.alloc(), b"chr1\t2500\nchr2\t40\n")?;
     let several = Complement::new(&genome, false);
     let single = Complement::new(&genome, false);
-    check_whole(&rt, rt.alloc(), several, single, "complement")
+    check_whole(
+        &rt,
+        rt.alloc(),
+        Layout::Mixed,
+        several,
+        single,
+        "complement",
+    )
 }
 
 #[test]
@@ -156,7 +207,14 @@ fn coverage_of_all(rt: HostRuntime) -> Result<(), Fail> {
     let genome = genome(rt.alloc(), b"chr1\t2500\nchr2\t40\n")?;
     let several = Coverage::new(rt.alloc(), &genome, true, None);
     let single = Coverage::new(rt.alloc(), &genome, true, None);
-    check_whole(&rt, rt.alloc(), several, single, "genomecov -bga")
+    check_whole(
+        &rt,
+        rt.alloc(),
+        Layout::Mixed,
+        several,
+        single,
+        "genomecov -bga",
+    )
 }
 
 #[test]
@@ -165,5 +223,12 @@ fn coverage_of_a_strand(rt: HostRuntime) -> Result<(), Fail> {
     let minus = Some(Strand::Minus);
     let several = Coverage::new(rt.alloc(), &genome, false, minus);
     let single = Coverage::new(rt.alloc(), &genome, false, minus);
-    check_whole(&rt, rt.alloc(), several, single, "genomecov -bg -strand -")
+    check_whole(
+        &rt,
+        rt.alloc(),
+        Layout::Mixed,
+        several,
+        single,
+        "genomecov -bg -strand -",
+    )
 }

@@ -10,34 +10,34 @@ use Rattle.bt_runs.proofs.whole_strands.merge_strands.Goals as goal
 
 pub returns-in_err-bed : goal.returns-in_err-bed
 returns-in_err-bed g c =
-    passed_on (λ (r : Result (Unit {0}) Failure). MergesStrands c.args.gap c.args.runs.now c.args.records.now c.args.out.now r c.next_beside.new.runs c.next_beside.new.records c.next_beside.new.out)
+    passed_on (λ (r : Result (Unit {0}) Failure). MergesStrands c.args.gap c.args.runs.now c.args.records.now c.args.out.now r c.next_unmerged.new.runs c.next_unmerged.new.records c.next_unmerged.new.out)
     c.from_residual.result c.in_err-bed.field-0.0 c.from_residual.ensures.1
-    (fails_then c.args.gap c.args.runs.now c.args.records.now c.args.out.now c.loop-bed.runs c.loop-bed.records c.loop-bed.out c.loop-bed.invariant c.next_beside.new.records c.next_beside.new.out c.in_err-bed.field-0.0 c.in_err-bed.ensures)
+    (fails_then c.args.gap c.args.runs.now c.args.records.now c.args.out.now c.loop-bed.runs c.loop-bed.records c.loop-bed.out c.loop-bed.invariant c.next_unmerged.new.records c.next_unmerged.new.out c.in_err-bed.field-0.0 c.in_err-bed.ensures)
 
 pub loop-bed-smaller : goal.loop-bed-smaller
 loop-bed-smaller g c =
-    let given = subst (λ (b : Option BedRef). MergesBefore c.args.gap c.loop-bed.runs c.loop-bed.records c.loop-bed.out c.next_beside.new.runs (option_map feature_lent b) c.next_beside.new.records c.next_beside.new.out) c.in-Some.is c.in_ok-bed.ensures in
-    before_shrinks c.args.gap c.loop-bed.runs c.loop-bed.records c.loop-bed.out c.next_beside.new.runs (feature_lent c.in-Some.bed) c.next_beside.new.records c.next_beside.new.out given
+    let given = subst (λ (b : Option BedRef). MergesBefore c.args.gap c.loop-bed.runs c.loop-bed.records c.loop-bed.out c.next_unmerged.new.runs (option_map feature_lent b) c.next_unmerged.new.records c.next_unmerged.new.out) c.in-Some.is c.in_ok-bed.ensures in
+    before_shrinks c.args.gap c.loop-bed.runs c.loop-bed.records c.loop-bed.out c.next_unmerged.new.runs (feature_lent c.in-Some.bed) c.next_unmerged.new.records c.next_unmerged.new.out given
 
 pub loop-bed-preserved : goal.loop-bed-preserved
 loop-bed-preserved g c =
-    let given = subst (λ (b : Option BedRef). MergesBefore c.args.gap c.loop-bed.runs c.loop-bed.records c.loop-bed.out c.next_beside.new.runs (option_map feature_lent b) c.next_beside.new.records c.next_beside.new.out) c.in-Some.is c.in_ok-bed.ensures in
-    let merged = merges_then c.args.gap c.args.runs.now c.args.records.now c.args.out.now c.loop-bed.runs c.loop-bed.records c.loop-bed.out c.loop-bed.invariant given.before c.next_beside.new.out c.next_beside.new.runs given.merges in
-    merges_next c.args.gap c.args.runs.now c.args.records.now c.args.out.now c.next_beside.new.runs given.before c.next_beside.new.out merged c.next_beside.new.records c.take_on.new.out
-    (feature_lent c.in-Some.bed) given.next c.in-Some.bed.chrom.now (given.next.chrom ∙ merged.same_chrom) c.take_on.new.runs c.in_ok-take_on.ensures
+    let given = subst (λ (b : Option BedRef). MergesBefore c.args.gap c.loop-bed.runs c.loop-bed.records c.loop-bed.out c.next_unmerged.new.runs (option_map feature_lent b) c.next_unmerged.new.records c.next_unmerged.new.out) c.in-Some.is c.in_ok-bed.ensures in
+    let merged = merges_then c.args.gap c.args.runs.now c.args.records.now c.args.out.now c.loop-bed.runs c.loop-bed.records c.loop-bed.out c.loop-bed.invariant given.before c.next_unmerged.new.out c.next_unmerged.new.runs given.merges in
+    merges_next c.args.gap c.args.runs.now c.args.records.now c.args.out.now c.next_unmerged.new.runs given.before c.next_unmerged.new.out merged c.next_unmerged.new.records c.take_here.new.out
+    (feature_lent c.in-Some.bed) given.next c.in-Some.bed.chrom.now (given.next.chrom ∙ merged.same_chrom) c.take_here.new.runs c.in_ok-take_here.ensures
 
-pub returns-in_err-take_on : goal.returns-in_err-take_on
-returns-in_err-take_on g c =
-    let given = subst (λ (b : Option BedRef). MergesBefore c.args.gap c.loop-bed.runs c.loop-bed.records c.loop-bed.out c.next_beside.new.runs (option_map feature_lent b) c.next_beside.new.records c.next_beside.new.out) c.in-Some.is c.in_ok-bed.ensures in
-    let merged = merges_then c.args.gap c.args.runs.now c.args.records.now c.args.out.now c.loop-bed.runs c.loop-bed.records c.loop-bed.out c.loop-bed.invariant given.before c.next_beside.new.out c.next_beside.new.runs given.merges in
-    passed_on (λ (r : Result (Unit {0}) Failure). MergesStrands c.args.gap c.args.runs.now c.args.records.now c.args.out.now r c.take_on.new.runs c.next_beside.new.records c.take_on.new.out)
-    c.from_residual-in_err-take_on.result c.in_err-take_on.field-0.0 c.from_residual-in_err-take_on.ensures.1
-    (fails_next c.args.gap c.args.runs.now c.args.records.now c.args.out.now c.next_beside.new.runs given.before c.next_beside.new.out merged c.next_beside.new.records c.take_on.new.out
-    (feature_lent c.in-Some.bed) given.next c.in-Some.bed.chrom.now (given.next.chrom ∙ merged.same_chrom) c.in_err-take_on.field-0.0 _ c.in_err-take_on.ensures)
+pub returns-in_err-take_here : goal.returns-in_err-take_here
+returns-in_err-take_here g c =
+    let given = subst (λ (b : Option BedRef). MergesBefore c.args.gap c.loop-bed.runs c.loop-bed.records c.loop-bed.out c.next_unmerged.new.runs (option_map feature_lent b) c.next_unmerged.new.records c.next_unmerged.new.out) c.in-Some.is c.in_ok-bed.ensures in
+    let merged = merges_then c.args.gap c.args.runs.now c.args.records.now c.args.out.now c.loop-bed.runs c.loop-bed.records c.loop-bed.out c.loop-bed.invariant given.before c.next_unmerged.new.out c.next_unmerged.new.runs given.merges in
+    passed_on (λ (r : Result (Unit {0}) Failure). MergesStrands c.args.gap c.args.runs.now c.args.records.now c.args.out.now r c.take_here.new.runs c.next_unmerged.new.records c.take_here.new.out)
+    c.from_residual-in_err-take_here.result c.in_err-take_here.field-0.0 c.from_residual-in_err-take_here.ensures.1
+    (fails_next c.args.gap c.args.runs.now c.args.records.now c.args.out.now c.next_unmerged.new.runs given.before c.next_unmerged.new.out merged c.next_unmerged.new.records c.take_here.new.out
+    (feature_lent c.in-Some.bed) given.next c.in-Some.bed.chrom.now (given.next.chrom ∙ merged.same_chrom) c.in_err-take_here.field-0.0 _ c.in_err-take_here.ensures)
 
 pub returns : goal.returns
 returns g c =
     let none : c.in_ok-bed.field-0 ≡ None = search rules in
-    let given = subst (λ (b : Option BedRef). MergesBefore c.args.gap c.loop-bed.runs c.loop-bed.records c.loop-bed.out c.next_beside.new.runs (option_map feature_lent b) c.next_beside.new.records c.next_beside.new.out) none c.in_ok-bed.ensures in
-    merges_then c.args.gap c.args.runs.now c.args.records.now c.args.out.now c.loop-bed.runs c.loop-bed.records c.loop-bed.out c.loop-bed.invariant c.next_beside.new.records c.next_beside.new.out c.next_beside.new.runs
-    (ends_before c.args.gap c.loop-bed.runs c.loop-bed.records c.loop-bed.out c.next_beside.new.runs c.next_beside.new.records c.next_beside.new.out given)
+    let given = subst (λ (b : Option BedRef). MergesBefore c.args.gap c.loop-bed.runs c.loop-bed.records c.loop-bed.out c.next_unmerged.new.runs (option_map feature_lent b) c.next_unmerged.new.records c.next_unmerged.new.out) none c.in_ok-bed.ensures in
+    merges_then c.args.gap c.args.runs.now c.args.records.now c.args.out.now c.loop-bed.runs c.loop-bed.records c.loop-bed.out c.loop-bed.invariant c.next_unmerged.new.records c.next_unmerged.new.out c.next_unmerged.new.runs
+    (ends_before c.args.gap c.loop-bed.runs c.loop-bed.records c.loop-bed.out c.next_unmerged.new.runs c.next_unmerged.new.records c.next_unmerged.new.out given)

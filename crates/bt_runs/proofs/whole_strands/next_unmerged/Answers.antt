@@ -1,5 +1,5 @@
 use Rattle.bt_runs.proofs.WholeStrandLemmas.{begins_merging, next_given}
-use Rattle.bt_runs.proofs.whole_strands.next_beside.Goals as goal
+use Rattle.bt_runs.proofs.whole_strands.next_unmerged.Goals as goal
 
 pub returns-in_default : goal.returns-in_default
 returns-in_default g c = record {

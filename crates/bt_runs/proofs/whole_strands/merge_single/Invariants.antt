@@ -1,10 +1,10 @@
 use Rattle.std.proofs.Common.{[], ◌∷◌}
-use Rattle.bt_runs.specs.WholeStrands.{MergesGiven}
+use Rattle.bt_runs.specs.WholeStrands.{StrandsTaken}
 use Rattle.bt_runs.proofs.EachTaken.{bytes_ahead}
-use Rattle.bt_runs.proofs.whole_strands.merge_alone.Given as goal
+use Rattle.bt_runs.proofs.whole_strands.merge_single.Given as goal
 
 abbrev pub invariant-loop-bed : goal.invariant-loop-bed
-invariant-loop-bed g l = MergesGiven l.fn.gap (l.fn.first ∷ []) l.fn.records l.fn.out (l.run ∷ []) l.whole l.out
+invariant-loop-bed g l = StrandsTaken l.fn.gap (l.fn.first ∷ []) l.fn.records l.fn.out (l.run ∷ []) l.whole l.out
 
 abbrev pub decreases-loop-bed : goal.decreases-loop-bed
 decreases-loop-bed g l = bytes_ahead l.whole

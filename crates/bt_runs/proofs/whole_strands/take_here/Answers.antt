@@ -1,7 +1,7 @@
 use Rattle.std.proofs.Common.{None, refl}
 use Rattle.bt_bed.specs.Bed.{feature_lent}
 use Rattle.bt_runs.proofs.StrandedLemmas.{fails_opened, passes_failure, takes_joined, takes_opened}
-use Rattle.bt_runs.proofs.whole_strands.take_on.Goals as goal
+use Rattle.bt_runs.proofs.whole_strands.take_here.Goals as goal
 
 pub returns-in_err-join_passing : goal.returns-in_err-join_passing
 returns-in_err-join_passing g c =
