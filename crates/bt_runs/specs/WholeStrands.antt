@@ -1,5 +1,5 @@
 -- What a merge that keeps the strands apart does with several records on the chromosome of its runs.
-use Rattle.std.specs.Prelude.{◌≡◌, ℕ, List, [], ◌∷◌, Option, Some, None, Result, Ok, Err}
+use Rattle.std.specs.Prelude.{◌≡◌, ℕ, Bool, true, false, List, [], ◌∷◌, Option, Some, None, Result, Ok, Err}
 use Rattle.std.specs.Prelude.{option_map}
 use Rattle.bt_lines.specs.Names.{told}
 use Rattle.bt_lines.specs.Output.{Output}
@@ -26,13 +26,13 @@ stranding_at gap chrom runs = record { gap = gap; kept = placed_runs chrom runs;
 -- what a merge with a single run does with a record on its chromosome: the record is taken, and a
 -- single run waits again; or it is left for another call; or the run that it has passed can't be
 -- written
-abbrev pub StepsSingle : ℕ → List ℕ → Waiting → Feature → Output → Result (Option Waiting) Failure
+abbrev pub StepsSingle : ℕ → List ℕ → Waiting → Feature → Output → Result Bool Failure → Waiting
     → Output → Type 0
-StepsSingle gap chrom run r out (Ok (Some next)) grown =
+StepsSingle gap chrom run r out (Ok true) next grown =
     TakesNext {A = Unit {0}} (stranding_at gap chrom (run ∷ [])) r out (Ok tt)
     (stranding_at gap chrom (next ∷ [])) grown
-StepsSingle gap chrom run r out (Ok None) grown = grown ≡ out
-StepsSingle gap chrom run r out (Err failure) grown =
+StepsSingle gap chrom run r out (Ok false) next grown = (next ≡ run) × (grown ≡ out)
+StepsSingle gap chrom run r out (Err failure) next grown =
     (failure ≡ Write) × ((new : Stranding)
     → TakesNext {A = Unit {0}} (stranding_at gap chrom (run ∷ [])) r out (Err failure) new grown)
 

@@ -3,7 +3,6 @@
 ghost use Rattle.std.specs.Prelude.{◌≡◌};
 ghost use Rattle.bt_bed.specs.Bed.{feature_lent};
 ghost use Rattle.bt_runs.specs.StrandTaking.{TakesNext};
-ghost use Rattle.bt_runs.specs.Waiting.{waiting_from};
 ghost use Rattle.bt_runs.specs.WholeStrands.{MergesSingle, MergesStrands, MergesUpTo, StepsSingle, stranding_at};
 
 use crate::failure::Failure;
@@ -97,9 +96,9 @@ fn merge_single<'t, K: Sink>(
     let mut run = first;
     let mut whole = *records;
     while let Some(bed) = whole.next() {
-        match next_single(gap, chrom, run, &bed, out) {
-            Ok(Some(next)) => run = next,
-            Ok(None) => {
+        match merge_next(gap, chrom, &mut run, &bed, out) {
+            Ok(true) => (),
+            Ok(false) => {
                 *records = whole;
                 return Ok(Single {
                     run,
@@ -116,42 +115,32 @@ fn merge_single<'t, K: Sink>(
     Ok(Single { run, next: None })
 }
 
-// The only run after a record on its chromosome, or none where the record makes a second one wait. The run that the
-// record has passed is written.
+// Merges one more record on the chromosome of the only run: it is joined to that run, or takes its place, once the run
+// that it has passed is written. It answers whether it did, and doesn't where the record makes a second run wait. The run
+// is changed where it stands, so that it stays in registers: a run that is given back went through memory.
 #[inline(always)]
-fn next_single<K: Sink>(
+fn merge_next<K: Sink>(
     gap: u64,
     chrom: &[u8],
-    run: Waiting,
+    run: &mut Waiting,
     bed: &BedRef<'_>,
     out: &mut Out<K>,
-) -> Result<Option<Waiting>, Failure>
+) -> Result<bool, Failure>
     requires same { bed.now.chrom.now ≡ chrom.now }
-    ensures { StepsSingle gap chrom.now run (feature_lent bed.now) out.old result out.new }
+    ensures { StepsSingle gap chrom.now run.old (feature_lent bed.now) out.old result run.new out.new }
 {
     if run.stop < bed.start.saturating_sub(gap) {
-        return match put_interval(chrom, run.start, run.stop, out) {
-            Ok(()) => Ok(Some(waiting_from(bed))),
-            Err(_) => Err(Failure::Write),
-        };
+        if put_interval(chrom, run.start, run.stop, out).is_err() {
+            return Err(Failure::Write);
+        }
+        run.strand = bed.strand;
+        run.start = bed.start;
+        run.stop = bed.stop;
+        return Ok(true);
     }
     if run.strand != bed.strand {
-        return Ok(None);
+        return Ok(false);
     }
-    Ok(Some(Waiting {
-        strand: run.strand,
-        start: run.start,
-        stop: run.stop.max(bed.stop),
-    }))
-}
-
-// A record as a run.
-fn waiting_from(bed: &BedRef<'_>) -> Waiting
-    ensures { result ≡ waiting_from (feature_lent bed.now) }
-{
-    Waiting {
-        strand: bed.strand,
-        start: bed.start,
-        stop: bed.stop,
-    }
+    run.stop = run.stop.max(bed.stop);
+    Ok(true)
 }
