@@ -121,6 +121,18 @@ class Behind(OneInput):
 
 
 @dataclass
+class Overlapping(OneInput):
+    """Pairs of records that overlap, one of each strand, each pair apart from the next."""
+
+    def name(self):
+        return "overlapping pairs of both strands"
+
+    def write(self, folder, count):
+        lines = (f"chr1\t{at * 50}\t{at * 50 + 20}\tx\t1\t+\nchr1\t{at * 50 + 1}\t{at * 50 + 21}\tx\t1\t-\n" for at in range(count // 2))
+        (folder / "records.bed").write_text("".join(lines), encoding="ascii")
+
+
+@dataclass
 class Pair(TwoInputs):
     """Records of two kinds, as two inputs: on whole chromosomes, or as close to one another as so many records that are
     timed, whatever the size asked for."""
@@ -355,6 +367,9 @@ COUNTED_WORKLOADS = [
         *((["intersect", "-sorted"], shape) for shape in ([], ["-v"], *BOTH_SHAPES)),
         (["subtract"], []),
     )
+] + [
+    # Where each other record makes a second run wait.
+    Workload(["merge", "-s"], Overlapping(), OURS, None, None, None, False, counted=OURS)
 ]
 
 
