@@ -5,7 +5,8 @@ use Rattle.bt_lines.specs.Putting.{Adds, Puts}
 use Rattle.bt_lines.specs.declared.fault.Fault.{Fault}
 use Rattle.bt_lines.proofs.PuttingLemmas.{line_alone}
 use Rattle.bt_bed.specs.Interval.{Interval}
-use Rattle.bt_bed.specs.IntervalLine.{interval_line, interval_lines, span_text}
+use Rattle.bt_lines.specs.Span.{span_text}
+use Rattle.bt_bed.specs.IntervalLine.{interval_line, interval_lines}
 
 -- the name, and what stands behind it
 pub line_parts : (r : Interval) → r.chrom ++ span_text r.start r.stop 10 ≡ interval_line r

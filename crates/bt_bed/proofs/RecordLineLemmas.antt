@@ -7,7 +7,8 @@ use Rattle.bt_lines.specs.Putting.{FailsToPut, Puts, PutsAll}
 use Rattle.bt_lines.specs.declared.fault.Fault.{Fault}
 use Rattle.bt_lines.proofs.PuttingLemmas.{fails_before, puts_more}
 use Rattle.bt_bed.specs.Feature.{Feature}
-use Rattle.bt_bed.specs.IntervalLine.{bounds_text, span_text}
+use Rattle.bt_lines.specs.Span.{span_text}
+use Rattle.bt_bed.specs.IntervalLine.{bounds_text}
 use Rattle.bt_bed.specs.Record.{bed_text}
 
 -- what stands behind a name, without its line feed

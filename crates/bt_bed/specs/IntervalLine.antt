@@ -1,16 +1,11 @@
 -- The lines that intervals are written as: columns with tabs between them (UCSC BED description,
 -- fields chrom, chromStart and chromEnd).
-use Rattle.std.specs.Prelude.{ℕ, List, [], ◌∷◌, ◌++◌, codes, decimal, flat_map}
+use Rattle.std.specs.Prelude.{ℕ, List, ◌++◌, codes, decimal, flat_map}
 use Rattle.bt_bed.specs.Interval.{Interval}
 
 -- the bounds after the name: a tab, the start, a tab and the stop
 abbrev pub bounds_text : ℕ → ℕ → List ℕ
 bounds_text start stop = codes "\t" ++ (decimal start ++ (codes "\t" ++ decimal stop))
-
--- what stands after the name: a tab, the start, a tab, the stop and a byte that ends them
-abbrev pub span_text : ℕ → ℕ → ℕ → List ℕ
-span_text start stop end =
-    codes "\t" ++ (decimal start ++ (codes "\t" ++ (decimal stop ++ end ∷ [])))
 
 -- chromosome, start and stop
 abbrev pub interval_line : Interval → List ℕ

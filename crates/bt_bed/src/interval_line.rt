@@ -1,16 +1,16 @@
 //! The line of an interval in BED output.
 
-ghost use Rattle.std.specs.Prelude.{◌≡◌, ◌+◌, ◌≤◌, ◌++◌, codes, decimal, drop};
-ghost use Rattle.bt_lines.specs.Putting.{Puts};
-ghost use Rattle.bt_bed.specs.IntervalLine.{bounds_text, interval_line, span_text};
+ghost use Rattle.std.specs.Prelude.{◌≡◌, ◌+◌, ◌≤◌, ◌++◌, codes, decimal, drop, false, true};
+ghost use Rattle.bt_lines.specs.Putting.{Puts, PutsAll};
+ghost use Rattle.bt_lines.specs.Span.{span_text};
+ghost use Rattle.bt_bed.specs.IntervalLine.{bounds_text, interval_line};
 
-use bt_lines::{COLUMN, Fault, Out, Sink, put_both, write_position};
+use bt_lines::{COLUMN, Fault, Out, Sink, put_both, put_column, write_position};
 
 // The room for what follows the name: two columns and what ends the second, a byte.
 const ROOM: usize = 2 * COLUMN + 1;
 
-/// Puts the line of an interval: its name, and what follows it in one piece. It takes no memory.
-/// The start is zero-based, and the end isn't included.
+/// Puts the line of an interval. It takes no memory. The start is zero-based, and the end isn't included.
 #[inline]
 pub fn put_interval<K: Sink>(
     chrom: &[u8],
@@ -21,9 +21,7 @@ pub fn put_interval<K: Sink>(
     ensures { Puts out.old (interval_line (record { chrom = chrom.now; start = start; stop = stop }))
         result out.new }
 {
-    let mut text = [0; ROOM];
-    let first = write_span(start, stop, b'\n', &mut text);
-    put_both(chrom, &text[first..], out)
+    put_ended(chrom, start, stop, b'\n', out)
 }
 
 // Puts the name and the bounds of an interval, and a byte that ends them.
@@ -37,9 +35,37 @@ pub(crate) fn put_ended<K: Sink>(
 ) -> Result<(), Fault>
     ensures { Puts out.old (chrom.now ++ span_text start stop end) result out.new }
 {
+    if hold_ended(chrom, start, stop, end, out) {
+        return Ok(());
+    }
+    put_slowly(chrom, start, stop, end, out)
+}
+
+// Puts them where there is room and none of them is long, and answers whether it did. It stands apart, so that the loops
+// over records stay small.
+#[inline(never)]
+fn hold_ended<K: Sink>(chrom: &[u8], start: u64, stop: u64, end: u8, out: &mut Out<K>) -> bool
+    ensures held { result ≡ true → PutsAll out.old (chrom.now ++ span_text start stop end) out.new }
+    ensures unchanged { result ≡ false → out.new ≡ out.old }
+{
+    out.hold_span(chrom, start, stop, end)
+}
+
+// Puts them by way of a text that is written beside the output.
+#[cold]
+#[inline(never)]
+fn put_slowly<K: Sink>(
+    chrom: &[u8],
+    start: u64,
+    stop: u64,
+    end: u8,
+    out: &mut Out<K>,
+) -> Result<(), Fault>
+    ensures { Puts out.old (chrom.now ++ span_text start stop end) result out.new }
+{
     let mut text = [0; ROOM];
     let first = write_span(start, stop, end, &mut text);
-    put_both(chrom, &text[first..], out)
+    put_column(chrom, &text[first..], out)
 }
 
 // Puts the name and the bounds of an interval, without a line feed.
@@ -58,7 +84,7 @@ pub(crate) fn put_columns<K: Sink>(
 }
 
 // Writes what follows the name, and a byte that ends it, so that it ends where the text does, and gives where it begins.
-// It stands apart, so that the loops over records stay small.
+// It stands apart, as `hold_ended` does.
 #[inline(never)]
 fn write_span(start: u64, stop: u64, end: u8, text: &mut [u8; ROOM]) -> usize
     ensures within { result ≤ ROOM }
@@ -80,9 +106,11 @@ mod tests {
         let mut out = Out::new(ScriptSink::new(rt.alloc(), 3, None));
         let put = put_interval(b"chr 1", 0, 999999999999, &mut out).is_ok()
             && put_interval(b"c", 7, 8, &mut out).is_ok()
+            && put_interval(b"", 7, 8, &mut out).is_ok()
+            && put_interval(b"chr1", 99999999, 100000000, &mut out).is_ok()
             && out.flush().is_ok();
         assert!(rt; put);
-        let want: &[u8] = b"chr 1\t0\t999999999999\nc\t7\t8\n";
+        let want: &[u8] = b"chr 1\t0\t999999999999\nc\t7\t8\n\t7\t8\nchr1\t99999999\t100000000\n";
         assert_eq!(rt; out.into_sink().taken(), want);
         Ok(())
     }

@@ -38,15 +38,12 @@ pub(crate) fn second_tab(text: &[u8], from: usize) -> Option<usize>
     }
     let begin = from.min(text.len() - WIDTH);
     let tabs = tab_bits(u8x16::from_slice(&text[begin..])) >> (from - begin);
-    if tabs == 0 {
-        return None;
-    }
-    let behind = tabs.trailing_zeros() as usize + 1;
-    let others = tabs >> behind;
+    // The lowest bit is that of the first tab.
+    let others = tabs & tabs.wrapping_sub(1);
     if others == 0 {
         return None;
     }
-    Some(behind + others.trailing_zeros() as usize)
+    Some(others.trailing_zeros() as usize)
 }
 
 // The bits of the bytes that are tabs, the first byte's the lowest.

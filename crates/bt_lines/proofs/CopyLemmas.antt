@@ -1,5 +1,5 @@
 -- A piece that is copied by its first and its last bytes.
-use Rattle.std.proofs.Common.{◌≡◌, ℕ, ◌+◌, ◌-◌, ◌*◌, ◌≤◌, List, ◌++◌, length, take, drop, refl, sym, ap, ◌∙◌, append_assoc, arith, length-append, length-take-le}
+use Rattle.std.proofs.Common.{◌≡◌, ℕ, ◌+◌, ◌-◌, ◌*◌, ◌/◌, ◌≤◌, List, [], ◌∷◌, ◌++◌, set, slice_index, length, take, drop, refl, sym, ap, ◌∙◌, append_assoc, arith, length-append, length-take-le}
 use Rattle.std.proofs.Math.Seq.{take-add}
 use Rattle.std.proofs.lemmas.List.{take-take, take_all}
 use Rattle.std.proofs.lemmas.Simd.{length-chunk, length-put_chunk, take_more_put_chunk}
@@ -29,6 +29,24 @@ both_ends width to piece same low high =
     ∙ sym (take-add from width piece)
     ∙ ap (λ n. take n piece) whole
     ∙ take_all (length piece) piece (omega arith)
+
+-- the first byte, the middle one and the last are all of up to three
+pub few_copied : (to piece : List ℕ) → length to ≡ length piece → 1 ≤ length piece → length piece ≤ 3
+    → set (set (set to 0 (slice_index piece 0)) (length piece / 2) (slice_index piece (length piece / 2))) (length piece - 1) (slice_index piece (length piece - 1)) ≡ piece
+few_copied [] piece same some few = absurd (omega arith)
+few_copied (x ∷ []) [] same some few = absurd (omega arith)
+few_copied (x ∷ []) (a ∷ []) same some few = refl
+few_copied (x ∷ []) (a ∷ b ∷ piece) same some few = absurd (omega arith)
+few_copied (x ∷ y ∷ []) [] same some few = absurd (omega arith)
+few_copied (x ∷ y ∷ []) (a ∷ []) same some few = absurd (omega arith)
+few_copied (x ∷ y ∷ []) (a ∷ b ∷ []) same some few = refl
+few_copied (x ∷ y ∷ []) (a ∷ b ∷ c ∷ piece) same some few = absurd (omega arith)
+few_copied (x ∷ y ∷ z ∷ []) [] same some few = absurd (omega arith)
+few_copied (x ∷ y ∷ z ∷ []) (a ∷ []) same some few = absurd (omega arith)
+few_copied (x ∷ y ∷ z ∷ []) (a ∷ b ∷ []) same some few = absurd (omega arith)
+few_copied (x ∷ y ∷ z ∷ []) (a ∷ b ∷ c ∷ []) same some few = refl
+few_copied (x ∷ y ∷ z ∷ []) (a ∷ b ∷ c ∷ d ∷ piece) same some few = absurd (omega arith)
+few_copied (x ∷ y ∷ z ∷ w ∷ to) piece same some few = absurd (omega arith)
 
 -- two pieces are written behind the first bytes, one behind the other
 pub two_put : (bytes piece end : List ℕ) (len : ℕ) (k m : ℕ) → len + (length piece + length end) ≤ length bytes

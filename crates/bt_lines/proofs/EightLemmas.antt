@@ -172,7 +172,7 @@ last_one (byte ∷ next ∷ bytes) = 0 ∷ last_one (next ∷ bytes)
 pub record Eight (bytes : List ℕ) : Type 0 where
   pub bits : bits_of bytes ≡ 64
   pub last : worth (last_one bytes) ≡ 72057594037927936
-  word : from_le_bytes w64 bytes ≡ worth bytes
+  pub word : from_le_bytes w64 bytes ≡ worth bytes
   uppers : worth (all_of 240 bytes) ≡ 17361641481138401520
   zeros : worth (all_of 48 bytes) ≡ 3472328296227680304
   sixes : worth (all_of 6 bytes) ≡ 434041037028460038

@@ -1,5 +1,6 @@
 pub mod PiecesLemmas
 pub mod PrintLemmas
+pub mod LeftLemmas
 pub mod BlockLemmas
 pub mod ColumnLemmas
 pub mod CopyLemmas

@@ -245,7 +245,7 @@ are_first digit (next ∷ digits) all =
           rw is (subst (λ n. AreFirst (48 ∷ next ∷ digits) (n / 8)) (sym (passed (bits_of (next ∷ digits)) rest)) (stands_later (next ∷ digits) _ (are_first next digits all.2)))
     ])
 
-within_behind : (bytes : List ℕ) (low high n : ℕ) → AreWithin low high bytes → AreWithin low high (drop n bytes)
+pub within_behind : (bytes : List ℕ) (low high n : ℕ) → AreWithin low high bytes → AreWithin low high (drop n bytes)
 within_behind bytes low high zero all = all
 within_behind [] low high (suc n) all = tt
 within_behind (byte ∷ bytes) low high (suc n) all = within_behind bytes low high n all.2
@@ -270,18 +270,21 @@ zeros_are (digit ∷ digits) ones (n, all, is) =
     let same : zeros_of (digit ∷ digits) ≡ count_trailing_zeros 64 (bit_or ones 72057594037927936) / 8 = λ i. count_trailing_zeros (e.bits i) (bit_or (sym values i) (e.last i)) / 8 in
     zeros_before (digit ∷ digits) _ n within (subst (AreFirst (digit ∷ digits)) same (are_first digit digits within))
 
-below_256 : (bytes : List ℕ) (low high : ℕ) → high < 256 → AreWithin low high bytes → (i : ℕ) → get_or bytes i 0 < 256
+pub below_256 : (bytes : List ℕ) (low high : ℕ) → high < 256 → AreWithin low high bytes → (i : ℕ) → get_or bytes i 0 < 256
 below_256 [] low high small all i = omega arith
 below_256 (byte ∷ bytes) low high small all zero = omega arith
 below_256 (byte ∷ bytes) low high small all (suc i) = below_256 bytes low high small all.2 i
 
--- the bytes that the code makes of digits' values are the digits
-bytes_are : (digits : List ℕ) (ones : ℕ) → AreOnes digits ones → to_le_bytes w64 (bit_xor ones 3472328296227680304) ≡ digits
-bytes_are digits ones (n, all, is) =
+-- what the code makes of digits' values is the number whose bytes they are
+pub word_of : (digits : List ℕ) (ones : ℕ) → AreOnes digits ones → bit_xor ones 3472328296227680304 ≡ from_le_bytes w64 digits
+word_of digits ones (n, all, is) =
     let word = from_le_bytes w64 digits in
-    let back : bit_xor ones 3472328296227680304 ≡ word =
-    ap (λ x. bit_xor x 3472328296227680304) is ∙ xor_assoc word 3472328296227680304 3472328296227680304 ∙ xor_zero_r word in
-    le_bytes_8 digits (bit_xor ones 3472328296227680304) n (below_256 digits 48 57 (omega arith) (digits_within digits all)) back
+    ap (λ x. bit_xor x 3472328296227680304) is ∙ xor_assoc word 3472328296227680304 3472328296227680304 ∙ xor_zero_r word
+
+-- so its bytes are the digits
+pub bytes_are : (digits : List ℕ) (ones : ℕ) → AreOnes digits ones → to_le_bytes w64 (bit_xor ones 3472328296227680304) ≡ digits
+bytes_are digits ones (n, all, is) =
+    le_bytes_8 digits (bit_xor ones 3472328296227680304) n (below_256 digits 48 57 (omega arith) (digits_within digits all)) (word_of digits ones (n, all, is))
 
 -- they are put before what stands behind the end
 pub eight_put : (text digits bytes : List ℕ) (ones end : ℕ) → 8 ≤ end → end ≤ length text → AreOnes digits ones → bytes ≡ to_le_bytes w64 (bit_xor ones 3472328296227680304)
@@ -315,7 +318,20 @@ eight_value n small =
     )
     (value_of_places n small)
 
--- a number of at most eight digits, of which the zeros before it are left out
+-- the digits of a number of at most eight, behind the zeros before it
+pub record Few (n count : ℕ) : Type 0 where
+  pub few : count < 8
+  pub size : 8 - count ≡ length (decimal n)
+  pub digits : drop count (eight_digits_of n) ≡ decimal n
+
+pub few_digits : (n count : ℕ) → n < 100000000 → AreZeros (eight_digits_of n) count → Few n count
+few_digits n count small zeros =
+    let is : drop count (eight_digits_of n) ≡ decimal n = zeros ∙ ap decimal (eight_value n small) in
+    let size : 8 - count ≡ length (decimal n) = sym (length-drop count (eight_digits_of n)) ∙ ap length is in
+    let some = decimal_nonempty n (omega arith) in
+    record { few = omega arith; size = size; digits = is }
+
+-- they are written where they end
 pub record Small (text new : List ℕ) (n count end : ℕ) : Type 0 where
   pub few : count < 8
   pub start : end - 8 + count + length (decimal n) ≡ end
@@ -324,16 +340,16 @@ pub record Small (text new : List ℕ) (n count end : ℕ) : Type 0 where
 pub small_written : (text new : List ℕ) (n count end : ℕ) → n < 100000000 → 8 ≤ end
     → AreZeros (eight_digits_of n) count → drop (end - 8) new ≡ eight_digits_of n ++ drop end text → Small text new n count end
 small_written text new n count end small room zeros put =
-    let is : drop count (eight_digits_of n) ≡ decimal n = zeros ∙ ap decimal (eight_value n small) in
-    let size : 8 - count ≡ length (decimal n) = sym (length-drop count (eight_digits_of n)) ∙ ap length is in
-    let some = decimal_nonempty n (omega arith) in
+    let f = few_digits n count small zeros in
+    let few = f.few in
+    let size = f.size in
     record {
-      few = omega arith;
+      few = few;
       start = omega arith;
       written =
           sym (drop-drop count (end - 8) new) ∙ ap (drop count) put
           ∙ drop-append-le count (eight_digits_of n) (drop end text) (omega arith)
-          ∙ ap (λ l. l ++ drop end text) is;
+          ∙ ap (λ l. l ++ drop end text) f.digits;
     }
 
 -- a number's last digit, and those before it

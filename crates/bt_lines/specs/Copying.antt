@@ -1,13 +1,17 @@
 -- Pieces that are copied by their first and their last bytes.
 use Rattle.std.specs.Prelude.{◌≡◌, ℕ, ◌*◌, ◌≤◌, ◌⊎◌}
 
--- a piece of so many bytes is copied by vectors
+-- a piece of so many bytes is copied without a call
 abbrev pub IsShort : ℕ → Type 0
-IsShort size = (4 ≤ size) × (size ≤ 64)
+IsShort size = (1 ≤ size) × (size ≤ 64)
+
+-- it is copied by vectors
+abbrev pub IsWide : ℕ → Type 0
+IsWide size = (4 ≤ size) × (size ≤ 64)
 
 -- the same, or it is a single byte
 abbrev pub IsEnd : ℕ → Type 0
-IsEnd size = (size ≡ 1) ⊎ IsShort size
+IsEnd size = (size ≡ 1) ⊎ IsWide size
 
 -- the first bytes of a piece, so many, and as many of its last bytes are all of it
 abbrev pub Covers : ℕ → ℕ → Type 0

@@ -11,6 +11,7 @@ pub mod Columns
 pub mod Copying
 pub mod Output
 pub mod Putting
+pub mod Span
 pub mod Names
 pub mod LentLine
 pub mod Sight

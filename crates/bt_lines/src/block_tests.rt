@@ -402,12 +402,107 @@ fn lines_are_held_with_another_end(rt: HostRuntime) -> Result<(), Fail> {
     Ok(())
 }
 
+// Whether a name, a start and a stop are held back behind so many bytes, and what the sink has of them then.
+fn span_behind(
+    alloc: Global,
+    before: usize,
+    name: &[u8],
+    start: u64,
+    stop: u64,
+) -> Result<(bool, Vec<u8>), Fail> {
+    let mut output = Out::new(ScriptSink::new(alloc, BLOCK, None));
+    output.put(long_line(alloc, before, b"")?.as_slice())?;
+    let is_held = output.hold_span(name, start, stop, b'\n');
+    output.flush()?;
+    let sink = output.into_sink();
+    let mut taken = Vec::new(alloc);
+    taken.extend_from_slice(sink.taken().get(before..).unwrap_or(b""))?;
+    Ok((is_held, taken))
+}
+
+// Bytes before it, a name, a start and a stop, and the line that is held, which is empty where none is.
+type SpanRow = (usize, &'static [u8], u64, u64, &'static [u8]);
+
+// The numbers at which a digit more is written or the way changes, names of each length that is copied otherwise, and
+// the last places of a block where there is room.
+const SPANS: [SpanRow; 13] = [
+    (0, b"c", 0, 7, b"c\t0\t7\n"),
+    (0, b"22", 9, 10, b"22\t9\t10\n"),
+    (
+        0,
+        b"chr",
+        99_999_999,
+        100_000_000,
+        b"chr\t99999999\t100000000\n",
+    ),
+    (
+        0,
+        b"chr1",
+        248_956_421,
+        248_956_422,
+        b"chr1\t248956421\t248956422\n",
+    ),
+    (
+        0,
+        b"chromosome_of_20_byte",
+        5,
+        999_999_999,
+        b"chromosome_of_20_byte\t5\t999999999\n",
+    ),
+    (
+        0,
+        b"c",
+        1_000_000_000,
+        999_999_999_999,
+        b"c\t1000000000\t999999999999\n",
+    ),
+    (0, b"c", 5, 1_000_000_000_000, b""),
+    (0, b"c", 1_000_000_000_000, 5, b""),
+    (0, b"", 5, 9, b""),
+    (
+        0,
+        b"a_name_of_sixty-five_bytes_a_name_of_sixty-five_bytes_a_name_of_s",
+        5,
+        9,
+        b"",
+    ),
+    (
+        8161,
+        b"chr1",
+        100_000_000_000,
+        999_999_999_999,
+        b"chr1\t100000000000\t999999999999\n",
+    ),
+    (8162, b"chr1", 100_000_000_000, 999_999_999_999, b""),
+    (8162, b"chr1", 5, 9, b""),
+];
+
+// The first row whose span is held otherwise.
+fn first_misheld_span(alloc: Global, rows: &[SpanRow]) -> Result<Option<SpanRow>, Fail> {
+    for row in rows {
+        let (before, name, start, stop, line) = *row;
+        let (is_held, taken) = span_behind(alloc, before, name, start, stop)?;
+        if is_held == line.is_empty() || taken.as_slice() != line {
+            return Ok(Some(*row));
+        }
+    }
+    Ok(None)
+}
+
+#[test]
+fn short_spans_are_held_where_there_is_room(rt: HostRuntime) -> Result<(), Fail> {
+    assert_eq!(rt; first_misheld_span(rt.alloc(), &SPANS)?, None);
+    Ok(())
+}
+
 #[test]
 fn nothing_is_held_behind_a_failure(rt: HostRuntime) -> Result<(), Fail> {
     let mut failed = Out::new(ScriptSink::new(rt.alloc(), BLOCK, Some(0)));
     failed.put(b"line")?;
     let is_told = failed.flush().is_err();
-    let is_held = failed.hold_both(b"line", b"\n") || failed.hold_lines(b"line\n", b"\n");
+    let is_held = failed.hold_both(b"line", b"\n")
+        || failed.hold_lines(b"line\n", b"\n")
+        || failed.hold_span(b"chr1", 5, 9, b'\n');
     assert!(rt; is_told && !is_held);
     Ok(())
 }

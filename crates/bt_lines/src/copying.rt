@@ -1,31 +1,53 @@
 //! Short pieces, copied without a call.
 
-ghost use Rattle.std.specs.Prelude.{◌≡◌, length, true};
-ghost use Rattle.bt_lines.specs.Copying.{Covers, IsEnd, IsShort};
+ghost use Rattle.std.specs.Prelude.{◌≡◌, ◌≤◌, length, true};
+ghost use Rattle.bt_lines.specs.Copying.{Covers, IsEnd, IsShort, IsWide};
 
 use std::simd::prelude::*;
 
-// Whether a piece is copied by vectors: it has 4 to 64 bytes, as most have.
+// Whether a piece is copied without a call: it has 1 to 64 bytes, as most have.
 #[inline(always)]
 pub(crate) fn is_short(size: usize) -> bool
     ensures { result ≡ true → IsShort size }
 {
+    size >= 1 && size <= 64
+}
+
+// Whether a piece is copied by vectors: it has 4 to 64 bytes.
+#[inline(always)]
+pub(crate) fn is_wide(size: usize) -> bool
+    ensures { result ≡ true → IsWide size }
+{
     size >= 4 && size <= 64
 }
 
-// Whether a piece is copied by vectors, or is a single byte.
+// Whether a piece is copied by vectors, or is a single byte, as most line ends are.
 #[inline(always)]
 pub(crate) fn is_end(size: usize) -> bool
     ensures { result ≡ true → IsEnd size }
 {
-    size == 1 || is_short(size)
+    size == 1 || is_wide(size)
 }
 
-// Copies a short piece to as many bytes: its first ones and its last ones, by one vector each, which may overlap.
+// Copies a short piece to as many bytes.
 #[inline(always)]
 pub(crate) fn copy_short(to: &mut [u8], piece: &[u8])
     requires same { length to.old ≡ length piece.now }
     requires short { IsShort (length piece.now) }
+    ensures { to.new ≡ piece.now }
+{
+    if piece.len() < 4 {
+        copy_few(to, piece);
+    } else {
+        copy_wide(to, piece);
+    }
+}
+
+// Copies a piece to as many bytes: its first ones and its last ones, by one vector each, which may overlap.
+#[inline(always)]
+pub(crate) fn copy_wide(to: &mut [u8], piece: &[u8])
+    requires same { length to.old ≡ length piece.now }
+    requires wide { IsWide (length piece.now) }
     ensures { to.new ≡ piece.now }
 {
     let size = piece.len();
@@ -48,8 +70,8 @@ pub fn copy_piece(to: &mut [u8], piece: &[u8])
     requires { length to.old ≡ length piece.now }
     ensures { to.new ≡ piece.now }
 {
-    if is_short(piece.len()) {
-        copy_short(to, piece);
+    if is_wide(piece.len()) {
+        copy_wide(to, piece);
     } else if !piece.is_empty() {
         copy_any(to, piece);
     }
@@ -64,7 +86,7 @@ fn copy_any(to: &mut [u8], piece: &[u8])
     to.copy_from_slice(piece);
 }
 
-// Copies a short piece or a single byte to as many bytes.
+// Copies a piece by vectors, or a single byte, to as many bytes.
 #[inline(always)]
 pub(crate) fn copy_end(to: &mut [u8], piece: &[u8])
     requires same { length to.old ≡ length piece.now }
@@ -74,7 +96,7 @@ pub(crate) fn copy_end(to: &mut [u8], piece: &[u8])
     if piece.len() == 1 {
         copy_byte(to, piece);
     } else {
-        copy_short(to, piece);
+        copy_wide(to, piece);
     }
 }
 
@@ -85,6 +107,20 @@ fn copy_byte(to: &mut [u8], piece: &[u8])
     ensures { to.new ≡ piece.now }
 {
     to[0] = piece[0];
+}
+
+// Copies the first byte, the middle one and the last.
+fn copy_few(to: &mut [u8], piece: &[u8])
+    requires same { length to.old ≡ length piece.now }
+    requires some { 1 ≤ length piece.now }
+    requires few { length piece.now ≤ 3 }
+    ensures { to.new ≡ piece.now }
+{
+    let last = piece.len() - 1;
+    let middle = piece.len() / 2;
+    to[0] = piece[0];
+    to[middle] = piece[middle];
+    to[last] = piece[last];
 }
 
 // Copies the first and the last four bytes.
@@ -135,9 +171,11 @@ fn copy_thirty_twos(to: &mut [u8], piece: &[u8])
 mod tests {
     use super::*;
 
-    // No byte, too few for a vector, as many as each way copies, and more than all of them.
-    const PIECES: [&[u8]; 7] = [
+    // No byte, one to three, as many as each way copies, and more than all of them.
+    const PIECES: [&[u8]; 9] = [
         b"",
+        b"a",
+        b"ab",
         b"abc",
         b"abcd",
         b"abcdefghi",

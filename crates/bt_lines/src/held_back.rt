@@ -2,13 +2,19 @@
 
 ghost use Rattle.std.specs.Prelude.{◌≡◌, ◌+◌, ◌-◌, ◌≤◌, ◌<◌, ◌++◌, ℕ, List, [], ◌∷◌, false, length, take, true};
 ghost use Rattle.bt_lines.specs.Copying.{IsShort};
+ghost use Rattle.bt_lines.specs.Number.{max_number};
 ghost use Rattle.bt_lines.specs.Output.{block_size};
+ghost use Rattle.bt_lines.specs.Span.{span_text};
 ghost use Rattle.bt_lines.specs.Whole.{AreLines, ended_by};
 
 use crate::block::BLOCK;
-use crate::copying::{copy_end, copy_piece, copy_short, is_end, is_short};
+use crate::copying::{copy_end, copy_piece, copy_short, copy_wide, is_end, is_wide};
 use crate::feeds::first_feed;
+use crate::from_left::{BOUND, write_bound};
 use std::marker::Model;
+
+// The room for what stands behind a name: a start, a stop and a byte that ends them.
+pub(crate) const SPAN: usize = 2 * BOUND + 1;
 
 // Its first `len` bytes are held back.
 #[derive(Drop)]
@@ -72,13 +78,13 @@ impl HeldBack {
         requires { length self.old + (length piece.now + length end.now) ≤ block_size }
         ensures { self.new ≡ self.old ++ (piece.now ++ end.now) }
     {
-        if !is_short(piece.len()) || !is_end(end.len()) {
+        if !is_wide(piece.len()) || !is_end(end.len()) {
             return self.append_any(piece, end);
         }
         let len = self.len;
         let middle = len + piece.len();
         let stop = middle + end.len();
-        copy_short(&mut self.bytes[len..middle], piece);
+        copy_wide(&mut self.bytes[len..middle], piece);
         copy_end(&mut self.bytes[middle..stop], end);
         self.len = stop;
     }
@@ -164,6 +170,24 @@ impl HeldBack {
         copy_short(&mut self.bytes[len..middle], piece);
         copy_short(&mut self.bytes[middle..stop], next);
         self.len = stop;
+    }
+
+    // Holds back the first columns of a line too: a short name, a start and a stop, and a byte that ends them.
+    #[inline(always)]
+    pub(crate) fn append_span(&mut self, name: &[u8], start: u64, stop: u64, end: u8)
+        requires name { IsShort (length name.now) }
+        requires start { start ≤ max_number }
+        requires stop { stop ≤ max_number }
+        requires room { length self.old + (length name.now + SPAN) ≤ block_size }
+        ensures { self.new ≡ self.old ++ (name.now ++ span_text start stop end) }
+    {
+        let len = self.len;
+        let middle = len + name.len();
+        copy_short(&mut self.bytes[len..middle], name);
+        let before_stop = write_bound(start, &mut self.bytes, middle);
+        let last = write_bound(stop, &mut self.bytes, before_stop);
+        self.bytes[last] = end;
+        self.len = last + 1;
     }
 
     // Holds back two pieces too, of any length.

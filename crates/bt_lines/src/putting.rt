@@ -3,6 +3,7 @@
 ghost use Rattle.std.specs.Prelude.{◌≡◌, ◌++◌, decimal, false, true};
 ghost use Rattle.bt_lines.specs.Putting.{Puts, PutsAll};
 
+use crate::copying::is_wide;
 use crate::device::Sink;
 use crate::fault::Fault;
 use crate::output::Out;
@@ -27,7 +28,7 @@ pub fn put_line<K: Sink>(text: &[u8], end: &[u8], out: &mut Out<K>) -> Result<()
     put_across(text, end, out)
 }
 
-/// Puts two pieces of a line as [`put_line`] does, by a call that they share. It is fast where both have 4 to 64 bytes.
+/// Puts two pieces of a line as [`put_line`] does, by a call that they share. It is fast where both have 1 to 64 bytes.
 #[inline(always)]
 pub fn put_both<K: Sink>(piece: &[u8], next: &[u8], out: &mut Out<K>) -> Result<(), Fault>
     ensures { Puts out.old (piece.now ++ next.now) result out.new }
@@ -56,12 +57,17 @@ fn put_across<K: Sink>(text: &[u8], end: &[u8], out: &mut Out<K>) -> Result<(), 
     put_column(text, end, out)
 }
 
-/// Puts a number in decimal, without leading zeros, and what ends it. It takes no memory.
+/// Puts a number in decimal, without leading zeros, and what ends it. It takes no memory. One of up to three digits, as
+/// most counts are, is put by the call that [`put_both`] shares.
 pub fn put_number<K: Sink>(number: u64, end: &[u8], out: &mut Out<K>) -> Result<(), Fault>
     ensures { Puts out.old (decimal number ++ end.now) result out.new }
 {
-    let mut digits = Buffer::new();
-    put_line(digits.format(number).as_bytes(), end, out)
+    let mut buffer = Buffer::new();
+    let digits = buffer.format(number).as_bytes();
+    if is_wide(digits.len()) {
+        return put_line(digits, end, out);
+    }
+    put_both(digits, end, out)
 }
 
 #[cfg(test)]

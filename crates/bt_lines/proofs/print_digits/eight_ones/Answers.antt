@@ -1,6 +1,6 @@
 use Rattle.std.proofs.Common.{arith}
 use Rattle.bt_lines.proofs.PrintLemmas.{ones_of_number, parts}
-use Rattle.bt_lines.proofs.from_right.eight_ones.Goals as goal
+use Rattle.bt_lines.proofs.print_digits.eight_ones.Goals as goal
 
 pub overflow_sub-pairs-2 : goal.overflow_sub-pairs-2
 overflow_sub-pairs-2 c = (parts c.args.number c.requires).hundreds
