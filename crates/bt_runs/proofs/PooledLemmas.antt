@@ -66,8 +66,8 @@ module _ (gap : ℕ) (strand : MergeStrand) (past : List Feature) (old : Pooling
   }
 
   -- where a run has to be opened and none was kept, the record isn't quiet
-  pub loud_next : (r : Feature) (out : Output) (new : Pooling) (grown : Output) → AreTaken (past ++ r ∷ []) → FailsToKeep old r out new grown → lines_by old r ≡ [] → length (kept_runs gap strand (past ++ r ∷ [])) ≤ length (kept_runs gap strand past) → ⊥
-  loud_next r out new grown taken p none more =
+  pub loud_next : (r : Feature) (out grown : Output) → AreTaken (past ++ r ∷ []) → FailsToKeep old r out grown → lines_by old r ≡ [] → length (kept_runs gap strand (past ++ r ∷ [])) ≤ length (kept_runs gap strand past) → ⊥
+  loud_next r out grown taken p none more =
       let x = interval_of r in
       let left = left_by old.gap old.kept x in
       let nothing = none_at_all old.gap old.kept x (no_lines (settled_by old.gap old.kept x) none) p.opens.none in
@@ -103,7 +103,7 @@ module _ (old : Pooling) (was_going : kept_fault old ≡ None) (out : Output) wh
         (λ none. p.settles (no_lines (settled_by old.gap old.kept (interval_of r)) none)) p.puts
     feeds_err Memory e mid new grown is kept p =
         feeds_short may_take stands_after kept_fault settled_lines old (λ first past stands. stands.going) was_going out (lines_by old r) is_quiet r next none e new grown is kept
-        (λ first past stands taken q. loud_next first.gap first.strand past old stands r out mid grown taken p (none first past stands taken q) q.keeps) p.puts
+        (λ first past stands taken q. loud_next first.gap first.strand past old stands r out grown taken p (none first past stands taken q) q.keeps) p.puts
 
   -- the kept run's line is put, if a run is kept
   pub finishes_kept : {A : Type 0} (kept : List Interval) (result : Result A Fault) (grown : Output) → old.kept ≡ kept → Adds out (interval_lines kept) result grown

@@ -190,17 +190,17 @@ module _ (gap : ℕ) (chrom : List ℕ) (runs : List Waiting) (fault : Option To
       puts = puts_lines;
     }
 
-    pub fails_opened : (new : Stranding) → joined ≡ false → FailsToKeep old r out new grown
-    fails_opened new f = record { opens = rw (behind_placed gap chrom r runs) (added.more f).1; puts = puts_lines }
+    pub fails_opened : joined ≡ false → FailsToKeep old r out grown
+    fails_opened f = record { opens = rw (behind_placed gap chrom r runs) (added.more f).1; puts = puts_lines }
 
-  pub fails_settling : (new : Stranding) → FailsToAdd out passed write_failed grown → FailsToSettle old r out new grown
-  fails_settling new p = record {
+  pub fails_settling : FailsToAdd out passed write_failed grown → FailsToSettle old r out grown
+  fails_settling p = record {
     settles = λ none. p.some (ap strand_lines (sym (front_placed gap chrom r runs) ∙ none));
     puts = subst (λ l. FailsToPut out l write_failed grown) lines_same p.puts;
   }
 
   fails_passing : (A : Type 0) (failure : Failure) (now : List Waiting) (new : Stranding) → JoinsPassing gap chrom runs r out (Err failure) now grown → TakesNext {A = A} old r out (Err failure) new grown
-  fails_passing A Write now new p = fails_settling new p
+  fails_passing A Write now new p = fails_settling p
   fails_passing A Memory now new p = absurd p
 
   pub passes_failure : (A : Type 0) (result : Result A Failure) (failure : Failure) (now : List Waiting) (new : Stranding) → IsErrAnd result (λ e. e ≡ failure) → JoinsPassing gap chrom runs r out (Err failure) now grown → TakesNext old r out result new grown

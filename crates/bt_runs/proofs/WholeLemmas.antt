@@ -106,7 +106,7 @@ module _ (gap : ℕ) (strand : MergeStrand) (first : Option Run) (lines : WholeR
     fails_next name answer grown is fails = record {
       fails = λ new kept.
           let failed : FailsToPut through (interval_lines (settled_at name)) write_failed grown = subst (λ (t : Told). FailsToPut through (interval_lines (settled_at name)) t grown) fails.puts.is fails.puts in
-          let settle : FailsToSettle (pooling_at gap strand (chrom_in lines) run) r through new grown = record {
+          let settle : FailsToSettle (pooling_at gap strand (chrom_in lines) run) r through grown = record {
             settles = λ none. fails.some (ap interval_lines (settles_same name is ∙ none));
             puts = subst (λ (runs : List Interval). FailsToPut through (interval_lines runs) write_failed grown) (settles_same name is) failed;
           } in

@@ -10,18 +10,11 @@ use Rattle.bt_bed.specs.declared.whole_records.WholeRecords.{WholeRecords}
 use Rattle.bt_runs.specs.Engine.{FailsAtGiven, TakesGiven}
 use Rattle.bt_runs.specs.StrandTaking.{Takes, TakesNext}
 use Rattle.bt_runs.specs.Stranding.{Stranding, is_quiet, kept_fault, may_take, settled_lines, stands_after}
-use Rattle.bt_runs.specs.Waiting.{only_of}
 use Rattle.bt_runs.specs.WholeStrands.{StrandsFail, MergesBefore, StrandsTaken, NextGiven, stranding_at}
 use Rattle.bt_runs.specs.declared.failure.Failure.{Failure}
 use Rattle.bt_runs.specs.declared.waiting.Waiting.{Waiting}
 use Rattle.bt_runs.proofs.EachTaken.{bytes_ahead, fails_at_given, given_then, none_given, one_more_given, record_shrinks}
 use Rattle.bt_runs.proofs.StrandedLemmas.{feeds_err, feeds_ok}
-
--- a single run is all
-pub only_one : (runs : List Waiting) (run : Waiting) → only_of runs ≡ Some run → runs ≡ run ∷ []
-only_one [] run is = absurd (cc)
-only_one (x ∷ []) run is = let same : x ≡ run = cc in ap (λ w. w ∷ []) same
-only_one (x ∷ y ∷ runs) run is = absurd (cc)
 
 -- what was given, if anything
 pub next_given : (old : WholeRecords) (bed : Option BedRef) (new : WholeRecords) → IfSome bed (λ b. GivesWhole old (feature_lent b) new) → (bed ≡ None → new ≡ old) → NextGiven old (option_map feature_lent bed) new

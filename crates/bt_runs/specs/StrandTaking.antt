@@ -28,21 +28,21 @@ abbrev pub IsForRun : {A : Type 0} → Stranding → Feature → Result A Fault 
 IsForRun old r (Ok done) = ⊤
 IsForRun old r (Err fault) = told fault ≡ no_memory → old.fault ≡ None → OpensRun old r
 
-module _ (old : Stranding) (r : Feature) (out : Output) (new : Stranding) (grown : Output) where
+module _ (old : Stranding) (r : Feature) (out : Output) where
   -- one more record was taken, as the step says
-  pub record Takes : Type 0 where
+  pub record Takes (new : Stranding) (grown : Output) : Type 0 where
     pub gap : new.gap ≡ old.gap
     pub fault : new.fault ≡ old.fault
     pub kept : new.kept ≡ kept_with old.gap old.kept r
     pub puts : Grown out (lines_by old r) grown
 
   -- the runs that the record settles couldn't be written
-  pub record FailsToSettle : Type 0 where
+  pub record FailsToSettle (grown : Output) : Type 0 where
     pub settles : front_settled old.gap old.kept r ≡ [] → ⊥
     pub puts : FailsToPut out (lines_by old r) write_failed grown
 
   -- a run that has to be opened couldn't be kept
-  pub record FailsToKeep : Type 0 where
+  pub record FailsToKeep (grown : Output) : Type 0 where
     pub opens : OpensRun old r
     pub puts : Grown out (lines_by old r) grown
 
@@ -50,8 +50,8 @@ module _ (old : Stranding) (r : Feature) (out : Output) (new : Stranding) (grown
 abbrev pub TakesNext : {A : Type 0} → Stranding → Feature → Output → Result A Failure → Stranding
     → Output → Type 0
 TakesNext old r out (Ok done) new grown = Takes old r out new grown
-TakesNext old r out (Err Write) new grown = FailsToSettle old r out new grown
-TakesNext old r out (Err Memory) new grown = FailsToKeep old r out new grown
+TakesNext old r out (Err Write) new grown = FailsToSettle old r out grown
+TakesNext old r out (Err Memory) new grown = FailsToKeep old r out grown
 
 -- the runs on a chromosome that a record has passed were written, and it was joined to the last one
 -- of its strand that is left, or couldn't be

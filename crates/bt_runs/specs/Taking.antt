@@ -33,9 +33,9 @@ abbrev pub IsForRun : {A : Type 0} → Pooling → Feature → Result A Fault �
 IsForRun old feature (Ok done) = ⊤
 IsForRun old feature (Err fault) = told fault ≡ no_memory → old.fault ≡ None → OpensRun old feature
 
-module _ (old : Pooling) (feature : Feature) (out : Output) (new : Pooling) (grown : Output) where
+module _ (old : Pooling) (feature : Feature) (out : Output) where
   -- one more record was taken, as the step says
-  pub record Takes : Type 0 where
+  pub record Takes (new : Pooling) (grown : Output) : Type 0 where
     pub gap : new.gap ≡ old.gap
     pub strand : new.strand ≡ old.strand
     pub fault : new.fault ≡ old.fault
@@ -43,12 +43,12 @@ module _ (old : Pooling) (feature : Feature) (out : Output) (new : Pooling) (gro
     pub puts : Grown out (lines_by old feature) grown
 
   -- the run that the record settles couldn't be written
-  pub record FailsToSettle : Type 0 where
+  pub record FailsToSettle (grown : Output) : Type 0 where
     pub settles : settled_by old.gap old.kept (interval_of feature) ≡ [] → ⊥
     pub puts : FailsToPut out (lines_by old feature) write_failed grown
 
   -- the name of the chromosome of a run that has to be opened couldn't be kept
-  pub record FailsToKeep : Type 0 where
+  pub record FailsToKeep (grown : Output) : Type 0 where
     pub opens : OpensRun old feature
     pub puts : Grown out (lines_by old feature) grown
 
@@ -56,8 +56,8 @@ module _ (old : Pooling) (feature : Feature) (out : Output) (new : Pooling) (gro
 abbrev pub TakesNext : {A : Type 0} → Pooling → Feature → Output → Result A Failure → Pooling
     → Output → Type 0
 TakesNext old feature out (Ok done) new grown = Takes old feature out new grown
-TakesNext old feature out (Err Write) new grown = FailsToSettle old feature out new grown
-TakesNext old feature out (Err Memory) new grown = FailsToKeep old feature out new grown
+TakesNext old feature out (Err Write) new grown = FailsToSettle old feature out grown
+TakesNext old feature out (Err Memory) new grown = FailsToKeep old feature out grown
 
 -- the runs that the record has passed were written, and are kept no longer
 pub record ClosesRuns (old : Pooling) (feature : Feature) (out : Output) (new : Pooling)
@@ -69,4 +69,4 @@ pub record ClosesRuns (old : Pooling) (feature : Feature) (out : Output) (new : 
 abbrev pub SettlesRuns : {A : Type 0} {E : Type 0} → Pooling → Feature → Output → Result A E
     → Pooling → Output → Type 0
 SettlesRuns old feature out (Ok done) new grown = ClosesRuns old feature out new grown
-SettlesRuns old feature out (Err fault) new grown = FailsToSettle old feature out new grown
+SettlesRuns old feature out (Err fault) new grown = FailsToSettle old feature out grown

@@ -21,4 +21,4 @@ returns-in-Ok g c =
 pub returns-in-Err : goal.returns-in-Err
 returns-in-Err g c =
     fails_opened c.args.gap c.args.bed.now.chrom.now c.args.runs.now None (feature_lent c.args.bed.now) c.args.out.now c.join_passing.new.out
-    c.in_ok-join_passing.field-0 c.join_passing.new.runs c.in_ok-join_passing.ensures _ c.if-branch.false
+    c.in_ok-join_passing.field-0 c.join_passing.new.runs c.in_ok-join_passing.ensures c.if-branch.false

@@ -26,5 +26,5 @@ returns g c =
       | in-Ok w ↦ rw (w.result-is, ← c.self.view_is) (takes_opened c.self.inside.gap c.self.inside.chrom.items c.self.inside.runs (option_map fault_of c.self.inside.failure) (feature_lent c.args.bed.now) c.args.out.now c.join_passing.new.out
           c.in_ok-join_passing.field-0 c.join_passing.new.runs joins c.open.new.runs c.open.new.chrom.items c.if-branch.false w.in-Ok.ensures.0 w.in-Ok.ensures.1)
       | in-Err w ↦ rw (w.result-is, ← c.self.view_is) (fails_opened c.self.inside.gap c.self.inside.chrom.items c.self.inside.runs (option_map fault_of c.self.inside.failure) (feature_lent c.args.bed.now) c.args.out.now c.join_passing.new.out
-          c.in_ok-join_passing.field-0 c.join_passing.new.runs joins _ c.if-branch.false)
+          c.in_ok-join_passing.field-0 c.join_passing.new.runs joins c.if-branch.false)
     ]
