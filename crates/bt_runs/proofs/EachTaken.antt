@@ -1,5 +1,5 @@
 -- Records that an engine took one after another, and what it has written and become with all of them.
-use Rattle.std.proofs.Common.{◌≡◌, ℕ, List, [], ◌∷◌, ◌++◌, Option, Ok, Err, refl, sym, ap, subst, ◌∙◌, append_assoc, append-nil}
+use Rattle.std.proofs.Common.{◌≡◌, ℕ, List, [], ◌∷◌, ◌++◌, Option, Result, Ok, Err, refl, sym, ap, subst, ◌∙◌, append_assoc, append-nil}
 use Rattle.std.proofs.KnownBytes.{Appends-trans, Appends-nil}
 use Rattle.bt_lines.specs.Fault.{Told}
 use Rattle.bt_lines.specs.Output.{Grows, Output}
@@ -11,7 +11,7 @@ use Rattle.bt_bed.specs.Feature.{Feature}
 use Rattle.bt_bed.specs.WholeRecords.{GivesWhole, GivesWholes}
 pub use Rattle.bt_bed.proofs.WholesGiven.{bytes_ahead, gives_more, record_shrinks}
 use Rattle.bt_bed.specs.declared.whole_records.WholeRecords.{WholeRecords}
-use Rattle.bt_runs.specs.Engine.{FailsAtGiven, Feeds, TakesEach, TakesGiven}
+use Rattle.bt_runs.specs.Engine.{FailsAtGiven, FailsWhere, Feeds, TakesEach, TakesGiven}
 
 -- records were given, and then others
 gives_both : (old mid new : WholeRecords) (first more : List Feature) → GivesWholes old first mid → GivesWholes mid more new → GivesWholes old (first ++ more) new
@@ -67,6 +67,13 @@ module _ {E : Type 0} (MayTake : E → List Feature → Type 0) (Stands : E → 
       → FailsAtGiven MayTake Stands fault settled Quiet old lines out answer new passed grown
   fails_at_given old lines out mid before through r answer new passed grown takes given fed =
       record { mid = mid; before = before; through = through; takes = takes; r = r; given = given; fails = fed }
+
+  -- and this holds of it
+  pub fails_where : (P : E → Feature → Result (Unit {0}) Fault → Type 0) (old : E) (lines : WholeRecords) (out : Output) (mid : E) (before : WholeRecords) (through : Output) (r : Feature) (answer : Fault) (new : E) (passed : WholeRecords) (grown : Output)
+      → TakesGiven MayTake Stands fault settled Quiet old lines out mid before through → GivesWhole before r passed → Feeds MayTake Stands fault settled mid r through {A = Unit {0}} Quiet (Err answer) new grown
+      → P mid r (Err answer) → FailsWhere MayTake Stands fault settled Quiet old lines out {A = Unit {0}} P (Err answer) new passed grown
+  fails_where P old lines out mid before through r answer new passed grown takes given fed holds =
+      (record { mid = mid; before = before; through = through; takes = takes; r = r; given = given; fails = fed }, holds)
 
 -- what both texts have behind the one before is put in two parts
 puts_both : (first mid last : List ℕ) (old through new : Output) → PutsRest first mid old through → PutsRest mid last through new → PutsRest first last old new

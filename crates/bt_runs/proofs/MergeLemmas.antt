@@ -8,7 +8,7 @@ use Rattle.bt_lines.specs.Putting.{CutsRest, PutsRest}
 use Rattle.bt_lines.specs.declared.fault.Fault.{Fault}
 use Rattle.bt_bed.specs.Feature.{Feature}
 use Rattle.bt_bed.specs.declared.whole_records.WholeRecords.{WholeRecords}
-use Rattle.bt_runs.specs.Engine.{AfterEach, AtEnd, FeedAnswers, Feeds, FeedsWhole, FinishAnswers, Finishes, NotTaken, TakesEach, TakesGiven}
+use Rattle.bt_runs.specs.Engine.{AfterEach, AtEnd, FailsAtGiven, FailsWhere, FeedAnswers, Feeds, FeedsWhole, FinishAnswers, Finishes, NotTaken, TakesEach, TakesGiven}
 use Rattle.bt_runs.specs.Merging.{Merging, Together, Apart, is_quiet, kept_fault, may_take, settled_lines, stands_after, whole_output}
 use Rattle.bt_runs.specs.Pooling as pool
 use Rattle.bt_runs.specs.Stranding as strands
@@ -134,10 +134,9 @@ module _ {E : Type 0} (merge : E → Merging) (only : (first : Merging) (past : 
       → TakesGiven may_take stands_after kept_fault settled_lines is_quiet (merge old) lines out (merge new) passed grown
   given_inside old lines out new passed grown p = record { records = p.records; given = p.given; taken = each_inside p.records old out new grown p.taken }
 
-  pub whole_inside : {A : Type 0} (old : E) (lines : WholeRecords) (out : Output) (new : E) (passed : WholeRecords) (grown : Output) (result : Result A Fault) → FeedsWhole MayTakeIn StandsIn fault_in settled_in QuietIn old lines out result new passed grown
-      → FeedsWhole may_take stands_after kept_fault settled_lines is_quiet (merge old) lines out result (merge new) passed grown
-  whole_inside old lines out new passed grown (Ok done) p = given_inside old lines out new passed grown p
-  whole_inside old lines out new passed grown (Err answer) p = record {
+  abbrev fails_inside : (old : E) (lines : WholeRecords) (out : Output) (answer : Fault) (new : E) (passed : WholeRecords) (grown : Output) → FailsAtGiven MayTakeIn StandsIn fault_in settled_in QuietIn old lines out answer new passed grown
+      → FailsAtGiven may_take stands_after kept_fault settled_lines is_quiet (merge old) lines out answer (merge new) passed grown
+  fails_inside old lines out answer new passed grown p = record {
     mid = merge p.mid;
     before = p.before;
     through = p.through;
@@ -146,6 +145,17 @@ module _ {E : Type 0} (merge : E → Merging) (only : (first : Merging) (past : 
     given = p.given;
     fails = feeds_inside merge only p.mid p.r p.through new grown (Err answer) p.fails;
   }
+
+  pub whole_inside : {A : Type 0} (old : E) (lines : WholeRecords) (out : Output) (new : E) (passed : WholeRecords) (grown : Output) (result : Result A Fault) → FeedsWhole MayTakeIn StandsIn fault_in settled_in QuietIn old lines out result new passed grown
+      → FeedsWhole may_take stands_after kept_fault settled_lines is_quiet (merge old) lines out result (merge new) passed grown
+  whole_inside old lines out new passed grown (Ok done) p = given_inside old lines out new passed grown p
+  whole_inside old lines out new passed grown (Err answer) p = fails_inside old lines out answer new passed grown p
+
+  pub where_inside : {A : Type 0} (P : Merging → Feature → Result (Unit {0}) Fault → Type 0) (old : E) (lines : WholeRecords) (out : Output) (new : E) (passed : WholeRecords) (grown : Output) (result : Result A Fault)
+      → FailsWhere MayTakeIn StandsIn fault_in settled_in QuietIn old lines out (λ mid r answer. P (merge mid) r answer) result new passed grown
+      → FailsWhere may_take stands_after kept_fault settled_lines is_quiet (merge old) lines out P result (merge new) passed grown
+  where_inside P old lines out new passed grown (Ok done) p = p
+  where_inside P old lines out new passed grown (Err answer) p = (fails_inside old lines out answer new passed grown p.0, p.1)
 
 -- one that merges all records together, and one that keeps the strands apart
 pub only_together : (first : Merging) (past : List Feature) (old : pool.Pooling) → stands_after first past (Together old) → (inner : pool.Pooling) × (Together inner ≡ first)

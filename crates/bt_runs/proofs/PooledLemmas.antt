@@ -1,23 +1,25 @@
 -- From the exact step of a merge to what it writes after the records of the past.
 use Rattle.std.proofs.Common.{arith, ◌≡◌, ℕ, ◌≤◌, List, [], ◌∷◌, ◌++◌, length, inl, inr, not, cond, Some, None, Result, Ok, Err, refl, sym, ap, ◌∙◌, codes, decimal}
+use Rattle.std.specs.Prelude.{IfErr}
 use Rattle.std.proofs.lemmas.Bool.{cases_Bool, cond-true}
 use Rattle.std.proofs.lemmas.Grind.{flat_map-append}
-use Rattle.bt_lines.specs.Fault.{no_memory}
+use Rattle.bt_lines.specs.Fault.{no_memory, write_failed}
 use Rattle.bt_lines.specs.declared.fault.Kind.TheVariants.{WriteFailed, NoMemory}
 use Rattle.bt_lines.specs.Names.{told}
 use Rattle.bt_lines.specs.Output.{Output}
 use Rattle.bt_lines.specs.declared.fault.Fault.{Fault}
 use Rattle.bt_bed.specs.Feature.{Feature, interval_of}
 use Rattle.bt_bed.specs.Interval.{Interval}
+use Rattle.bt_bed.specs.declared.whole_records.WholeRecords.{WholeRecords}
 use Rattle.bt_runs.specs.Counted.{is_counted}
 use Rattle.bt_runs.specs.Failure.{fault_of}
-use Rattle.bt_runs.specs.Engine.{AfterEach, Feeds, Finishes}
+use Rattle.bt_runs.specs.Engine.{AfterEach, FailsWhere, Feeds, FeedsWhole, Finishes}
 use Rattle.bt_bed.specs.IntervalLine.{interval_line, interval_lines}
 use Rattle.bt_runs.specs.MergedRuns.{is_passed, merged_runs, settled_runs, kept_runs, AreTaken}
 use Rattle.bt_runs.specs.MergeStep.{with_record, settled_by, left_by, kept_by}
 use Rattle.bt_runs.specs.Pooling.{Pooling, StandsAfter, kept_fault, held_count, is_quiet, may_take, settled_lines, stands_after, whole_output}
 use Rattle.bt_lines.specs.Putting.{Adds}
-use Rattle.bt_runs.specs.Taking.{lines_by, FailsToKeep, OpensRun, Takes, TakesNext}
+use Rattle.bt_runs.specs.Taking.{lines_by, FailsToKeep, IsForRun, OpensRun, Takes, TakesNext}
 use Rattle.bt_runs.specs.declared.failure.Failure.{Failure}
 use Rattle.bt_runs.specs.declared.failure.Failure.TheVariants.{Write, Memory}
 use Rattle.bt_runs.specs.declared.merge_strand.MergeStrand.{MergeStrand}
@@ -116,3 +118,10 @@ module _ (old : Pooling) (was_going : kept_fault old ≡ None) (out : Output) wh
 pub ends_for_run : (old : Pooling) (r : Feature) (out : Output) (mid : Pooling) (grown : Output) (failure : Failure) → TakesNext {A = Unit {0}} old r out (Err failure) mid grown → fault_of failure ≡ no_memory → OpensRun old r
 ends_for_run old r out mid grown Write p e = let kind : WriteFailed ≡ NoMemory = ap (λ t. t.kind) e in absurd (cc)
 ends_for_run old r out mid grown Memory p e = p.opens
+
+-- where only writing fails, memory doesn't run out
+pub only_writes : {A : Type 0} (old : Pooling) (lines : WholeRecords) (out : Output) (new : Pooling) (passed : WholeRecords) (grown : Output) (result : Result A Fault) → FeedsWhole may_take stands_after kept_fault settled_lines is_quiet old lines out result new passed grown → IfErr result (λ fault. told fault ≡ write_failed)
+    → FailsWhere may_take stands_after kept_fault settled_lines is_quiet old lines out IsForRun result new passed grown
+only_writes old lines out new passed grown (Ok done) fed writes = tt
+only_writes old lines out new passed grown (Err answer) fed writes =
+    (fed, λ is_memory going. let kind : WriteFailed ≡ NoMemory = ap (λ t. t.kind) (sym writes ∙ is_memory) in absurd (cc))

@@ -49,6 +49,7 @@ module _ (gap : ℕ) (strand : MergeStrand) (first : Option Run) (lines : WholeR
 
     fails_then : (answer : Fault) → FailsToMerge gap strand run before through answer passed grown → FailsToMerge gap strand first lines out answer passed grown
     fails_then answer more = record {
+      is = more.is;
       fails = λ new kept.
           let at : FailsAtGiven may_take stands_after kept_fault settled_lines is_quiet (pooling_at gap strand (chrom_in lines) run) before through answer new passed grown =
           subst (λ (n : List ℕ). FailsAtGiven may_take stands_after kept_fault settled_lines is_quiet (pooling_at gap strand n run) before through answer new passed grown) so_far.same_chrom (more.fails new kept) in
@@ -104,6 +105,7 @@ module _ (gap : ℕ) (strand : MergeStrand) (first : Option Run) (lines : WholeR
     pub fails_next : (name : List ℕ) (answer : Fault) (grown : Output) → name ≡ chrom_in lines → FailsToAdd through (interval_lines (settled_at name)) (told answer) grown
         → FailsToMerge gap strand first lines out answer passed grown
     fails_next name answer grown is fails = record {
+      is = fails.puts.is;
       fails = λ new kept.
           let failed : FailsToPut through (interval_lines (settled_at name)) write_failed grown = subst (λ (t : Told). FailsToPut through (interval_lines (settled_at name)) t grown) fails.puts.is fails.puts in
           let settle : FailsToSettle (pooling_at gap strand (chrom_in lines) run) r through grown = record {

@@ -7,14 +7,14 @@ use Rattle.bt_bed.specs.Feature.{Feature}
 use Rattle.bt_bed.specs.WholeRecords.{GivesWhole, GivesWholes, chrom_in}
 use Rattle.bt_bed.specs.declared.bed.BedRef.{BedRef}
 use Rattle.bt_bed.specs.declared.whole_records.WholeRecords.{WholeRecords}
-use Rattle.bt_runs.specs.Engine.{FailsAtGiven, TakesGiven}
-use Rattle.bt_runs.specs.StrandTaking.{Takes, TakesNext}
+use Rattle.bt_runs.specs.Engine.{FailsWhere, TakesGiven}
+use Rattle.bt_runs.specs.StrandTaking.{IsForRun, Takes, TakesNext}
 use Rattle.bt_runs.specs.Stranding.{Stranding, is_quiet, kept_fault, may_take, settled_lines, stands_after}
 use Rattle.bt_runs.specs.WholeStrands.{StrandsFail, MergesBefore, StrandsTaken, NextGiven, stranding_at}
 use Rattle.bt_runs.specs.declared.failure.Failure.{Failure}
 use Rattle.bt_runs.specs.declared.waiting.Waiting.{Waiting}
-use Rattle.bt_runs.proofs.EachTaken.{bytes_ahead, fails_at_given, given_then, none_given, one_more_given, record_shrinks}
-use Rattle.bt_runs.proofs.StrandedLemmas.{feeds_err, feeds_ok}
+use Rattle.bt_runs.proofs.EachTaken.{bytes_ahead, fails_where, given_then, none_given, one_more_given, record_shrinks}
+use Rattle.bt_runs.proofs.StrandedLemmas.{ends_for_run, feeds_err, feeds_ok}
 
 -- what was given, if anything
 pub next_given : (old : WholeRecords) (bed : Option BedRef) (new : WholeRecords) → IfSome bed (λ b. GivesWhole old (feature_lent b) new) → (bed ≡ None → new ≡ old) → NextGiven old (option_map feature_lent bed) new
@@ -52,11 +52,11 @@ module _ (gap : ℕ) (first : List Waiting) (lines : WholeRecords) (out : Output
     pub fails_then : (failure : Failure) → StrandsFail gap runs before through failure passed grown → StrandsFail gap first lines out failure passed grown
     fails_then failure more = record {
       fails = λ answer new is kept.
-          let failed : FailsAtGiven may_take stands_after kept_fault settled_lines is_quiet at before through answer new passed grown =
-          subst (λ (n : List ℕ). FailsAtGiven may_take stands_after kept_fault settled_lines is_quiet (stranding_at gap n runs) before through answer new passed grown) so_far.same_chrom (more.fails answer new is kept) in
-          fails_at_given may_take stands_after kept_fault settled_lines is_quiet start lines out failed.mid failed.before failed.through failed.r answer new passed grown
-          (given_then may_take stands_after kept_fault settled_lines is_quiet start lines out at before through failed.mid failed.before failed.through so_far.takes failed.takes)
-          failed.given failed.fails;
+          let failed : FailsWhere may_take stands_after kept_fault settled_lines is_quiet at before through {A = Unit {0}} IsForRun (Err answer) new passed grown =
+          subst (λ (n : List ℕ). FailsWhere may_take stands_after kept_fault settled_lines is_quiet (stranding_at gap n runs) before through {A = Unit {0}} IsForRun (Err answer) new passed grown) so_far.same_chrom (more.fails answer new is kept) in
+          fails_where may_take stands_after kept_fault settled_lines is_quiet IsForRun start lines out failed.0.mid failed.0.before failed.0.through failed.0.r answer new passed grown
+          (given_then may_take stands_after kept_fault settled_lines is_quiet start lines out at before through failed.0.mid failed.0.before failed.0.through so_far.takes failed.0.takes)
+          failed.0.given failed.0.fails failed.1;
     }
 
     -- one more record is given
@@ -78,8 +78,9 @@ module _ (gap : ℕ) (first : List Waiting) (lines : WholeRecords) (out : Output
         fails = λ answer new told kept.
             let failed : TakesNext {A = Unit {0}} at r through (Err failure) mid grown =
             subst (λ (n : List ℕ). TakesNext {A = Unit {0}} (stranding_at gap n runs) r through (Err failure) mid grown) is fails in
-            fails_at_given may_take stands_after kept_fault settled_lines is_quiet start lines out at before through r answer new passed grown so_far.takes given
-            (feeds_err at refl through r {A = Unit {0}} failure answer mid new grown told kept failed);
+            fails_where may_take stands_after kept_fault settled_lines is_quiet IsForRun start lines out at before through r answer new passed grown so_far.takes given
+            (feeds_err at refl through r {A = Unit {0}} failure answer mid new grown told kept failed)
+            (λ is_memory going. ends_for_run at r through mid grown failure failed (sym told ∙ is_memory));
       }
 
   -- it ends behind the records that were taken, where none more was given

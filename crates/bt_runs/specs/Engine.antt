@@ -1,7 +1,7 @@
 -- What the calls of an engine do: what they write and what the engine has become, after every list
 -- of records that it stands after.
 use Rattle.std.specs.Prelude.{◌≡◌, ℕ, ◌≤◌, ◌⊎◌, true, List, [], ◌∷◌, ◌++◌}
-use Rattle.std.specs.Prelude.{Option, Some, None, Result, Ok, Err, IsOk}
+use Rattle.std.specs.Prelude.{Option, Some, None, Result, Ok, Err, IsOk, ⊤}
 use Rattle.bt_lines.specs.Fault.{Told, no_memory, write_failed}
 use Rattle.bt_lines.specs.Names.{told}
 use Rattle.bt_lines.specs.Output.{Output, Grows}
@@ -133,6 +133,14 @@ module _ {E : Type 0} (MayTake : E → List Feature → Type 0)
       abbrev pub FeedsWhole : {A : Type 0} → Result A Fault → E → WholeRecords → Output → Type 0
       FeedsWhole (Ok done) new passed grown = TakesGiven new passed grown
       FeedsWhole (Err answer) new passed grown = FailsAtGiven answer new passed grown
+
+      -- where it failed, this holds of what the engine had become before the record that it failed
+      -- at, of that record, and of the answer
+      abbrev pub FailsWhere : {A : Type 0} → (E → Feature → Result (Unit {0}) Fault → Type 0)
+          → Result A Fault → E → WholeRecords → Output → Type 0
+      FailsWhere P (Ok done) new passed grown = ⊤
+      FailsWhere P (Err answer) new passed grown =
+          (at : FailsAtGiven answer new passed grown) × P at.mid at.r (Err answer)
 
   -- the end of the input
   module _ (whole : E → List Feature → List ℕ) (last : E) (out : Output) where

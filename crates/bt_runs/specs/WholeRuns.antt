@@ -3,6 +3,7 @@ use Rattle.std.specs.Prelude.{◌≡◌, ℕ, ◌≤◌, List, Option, Some, Non
 use Rattle.std.specs.Prelude.{option_map, option_to_list}
 use Rattle.std.specs.Option.{ForSome}
 use Rattle.bt_lines.specs.Fault.{write_failed}
+use Rattle.bt_lines.specs.Names.{told}
 use Rattle.bt_lines.specs.Number.{max_number}
 use Rattle.bt_lines.specs.Output.{Output}
 use Rattle.bt_lines.specs.declared.fault.Fault.{Fault}
@@ -43,9 +44,10 @@ module _ (gap : ℕ) (strand : MergeStrand) (open_run : Option Run) (lines : Who
     pub in_range : IsInRange run
     pub same_chrom : chrom_in passed ≡ chrom_in lines
 
-  -- the run that the last record given has passed couldn't be written: so it is for the merge,
-  -- once it keeps that fault
+  -- the run that the last record given has passed couldn't be written, which is the answer: so it is
+  -- for the merge, once it keeps that fault
   pub record FailsToMerge (answer : Fault) (passed : WholeRecords) (grown : Output) : Type 0 where
+    pub is : told answer ≡ write_failed
     pub fails : (new : Pooling) → new.fault ≡ Some write_failed
         → FailsAtGiven may_take stands_after kept_fault settled_lines is_quiet
         (pooling_at gap strand (chrom_in lines) open_run) lines out answer new passed grown

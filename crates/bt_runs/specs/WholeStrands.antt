@@ -9,9 +9,9 @@ use Rattle.bt_bed.specs.Feature.{Feature}
 use Rattle.bt_bed.specs.WholeRecords.{GivesWhole, chrom_in}
 use Rattle.bt_bed.specs.declared.bed.BedRef.{BedRef}
 use Rattle.bt_bed.specs.declared.whole_records.WholeRecords.{WholeRecords}
-use Rattle.bt_runs.specs.Engine.{FailsAtGiven, TakesGiven}
+use Rattle.bt_runs.specs.Engine.{FailsWhere, TakesGiven}
 use Rattle.bt_runs.specs.Failure.{fault_of}
-use Rattle.bt_runs.specs.StrandTaking.{TakesNext}
+use Rattle.bt_runs.specs.StrandTaking.{IsForRun, TakesNext}
 use Rattle.bt_runs.specs.Stranding.{Stranding, is_quiet, kept_fault, may_take, settled_lines, stands_after}
 use Rattle.bt_runs.specs.Waiting.{placed_runs}
 use Rattle.bt_runs.specs.declared.failure.Failure.{Failure}
@@ -50,12 +50,14 @@ module _ (gap : ℕ) (first : List Waiting) (lines : WholeRecords) (out : Output
         (stranding_at gap (chrom_in lines) runs) passed grown
     pub same_chrom : chrom_in passed ≡ chrom_in lines
 
-  -- the last record that was given couldn't be taken, for the fault that the merge keeps then
+  -- the last record that was given couldn't be taken, for the fault that the merge keeps then: where
+  -- memory ran out, a run had to be opened
   pub record StrandsFail (failure : Failure) (passed : WholeRecords) (grown : Output) : Type 0 where
     pub fails : (answer : Fault) (new : Stranding) → told answer ≡ fault_of failure
         → new.fault ≡ Some (fault_of failure)
-        → FailsAtGiven may_take stands_after kept_fault settled_lines is_quiet
-        (stranding_at gap (chrom_in lines) first) lines out answer new passed grown
+        → FailsWhere may_take stands_after kept_fault settled_lines is_quiet
+        (stranding_at gap (chrom_in lines) first) lines out {A = Unit {0}} IsForRun (Err answer) new
+        passed grown
 
   -- what a loop over records does
   abbrev pub MergesStrands : {A : Type 0} → Result A Failure → List Waiting → WholeRecords → Output

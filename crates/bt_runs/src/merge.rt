@@ -4,7 +4,7 @@
 ghost use Rattle.std.specs.Prelude.{◌≡◌, ◌≤◌, length};
 ghost use Rattle.bt_bed.specs.Bed.{feature_lent};
 ghost use Rattle.bt_lines.specs.Number.{max_number};
-ghost use Rattle.bt_runs.specs.Engine.{Feeds, KeepsHeld};
+ghost use Rattle.bt_runs.specs.Engine.{FailsWhere, Feeds, FeedsWhole, KeepsHeld};
 ghost use Rattle.bt_runs.specs.Merging.{IsForRun, StandsNew, held_count, is_quiet, kept_fault, kept_places, may_take, merge_begun, settled_lines, stands_after, whole_output};
 
 use crate::engine::Engine;
@@ -90,11 +90,17 @@ impl Engine for Merge {
         }
     }
 
+    /// `NoMemory` is answered only where a run has to be opened.
     fn feed_whole<K: Sink>(
         &mut self,
         records: &mut WholeRecords<'_>,
         out: &mut Out<K>,
-    ) -> Result<(), Fault> {
+    ) -> Result<(), Fault>
+        ensures feeds { FeedsWhole may_take stands_after kept_fault settled_lines is_quiet self.old
+            records.old out.old result self.new records.new out.new }
+        ensures memory { FailsWhere may_take stands_after kept_fault settled_lines is_quiet self.old
+            records.old out.old IsForRun result self.new records.new out.new }
+    {
         match &mut self.kept {
             Kept::Pooled(merge) => merge.feed_whole(records, out),
             Kept::Stranded(merge) => merge.feed_whole(records, out),

@@ -1,9 +1,11 @@
 //! The engine of `bedtools merge` without `-s`: one open run, which each record extends or leaves behind.
 
-ghost use Rattle.std.specs.Prelude.{◌≡◌, ◌≤◌, ◌&&◌, ◌||◌, ℕ, List, [], length, None, not, nat_lt, bytes_eq, ◌∷◌, OnOk, OnErr};
+ghost use Rattle.std.specs.Prelude.{◌≡◌, ◌≤◌, ◌&&◌, ◌||◌, ℕ, List, [], length, None, not, nat_lt, bytes_eq, ◌∷◌, IfErr, OnOk, OnErr};
 ghost use Rattle.bt_bed.specs.Bed.{feature_lent};
 ghost use Rattle.bt_bed.specs.Feature.{Feature, interval_of};
 ghost use Rattle.bt_runs.specs.Counted.{is_counted};
+ghost use Rattle.bt_lines.specs.Fault.{write_failed};
+ghost use Rattle.bt_lines.specs.Names.{told};
 ghost use Rattle.bt_lines.specs.Number.{max_number};
 ghost use Rattle.bt_runs.specs.Engine.{Feeds, FeedsWhole, KeepsHeld};
 ghost use Rattle.bt_bed.specs.IntervalLine.{interval_lines};
@@ -183,12 +185,17 @@ impl Engine for Pooled {
         }
     }
 
-    /// It takes records on the chromosome of the open run alone, and none that is the first.
+    /// It takes records on the chromosome of the open run alone, and none that is the first. `NoMemory` is never
+    /// answered.
     fn feed_whole<K: Sink>(
         &mut self,
         records: &mut WholeRecords<'_>,
         out: &mut Out<K>,
-    ) -> Result<(), Fault> {
+    ) -> Result<(), Fault>
+        ensures feeds { FeedsWhole may_take stands_after kept_fault settled_lines is_quiet self.old
+            records.old out.old result self.new records.new out.new }
+        ensures memory { IfErr result (λ fault. told fault ≡ write_failed) }
+    {
         if self.failure.is_some() || !is_same_name(self.chrom.as_slice(), records.chrom()) {
             return Ok(());
         }

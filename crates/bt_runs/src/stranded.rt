@@ -3,7 +3,7 @@
 
 ghost use Rattle.std.specs.Prelude.{◌≡◌, ◌++◌, ◌∷◌, [], bytes_eq, length, None, OnOk};
 ghost use Rattle.bt_bed.specs.Bed.{feature_lent};
-ghost use Rattle.bt_runs.specs.Engine.{Feeds, KeepsHeld};
+ghost use Rattle.bt_runs.specs.Engine.{FailsWhere, Feeds, FeedsWhole, KeepsHeld};
 ghost use Rattle.bt_runs.specs.Stranding.{StandsAfter, held_count, is_quiet, kept_fault, may_take, settled_lines, stands_after, whole_output};
 ghost use Rattle.bt_runs.specs.StrandTaking.{IsForRun, TakesNext};
 ghost use Rattle.bt_runs.specs.Waiting.{waiting_from};
@@ -117,12 +117,18 @@ impl Engine for Stranded {
         }
     }
 
-    // It takes records on the chromosome of the runs alone, and none that is the first.
+    // It takes records on the chromosome of the runs alone, and none that is the first. `NoMemory` is answered only
+    // where a run has to be opened.
     fn feed_whole<K: Sink>(
         &mut self,
         records: &mut WholeRecords<'_>,
         out: &mut Out<K>,
-    ) -> Result<(), Fault> {
+    ) -> Result<(), Fault>
+        ensures feeds { FeedsWhole may_take stands_after kept_fault settled_lines is_quiet self.old
+            records.old out.old result self.new records.new out.new }
+        ensures memory { FailsWhere may_take stands_after kept_fault settled_lines is_quiet self.old
+            records.old out.old IsForRun result self.new records.new out.new }
+    {
         if self.failure.is_some() || !is_same_name(self.chrom.as_slice(), records.chrom()) {
             return Ok(());
         }
