@@ -233,7 +233,7 @@ module _ (table : List Entry) (zeros : Bool) (strand : Option Strand) (current :
       finishes_by may_take stands_after kept_fault settled_lines old (λ first past stands. stands.going) was_going out (depth_lines (left stop)) whole_output (lines_left stop all) result grown p
 
 -- where memory ran out, what is said of that holds
-pub ends_for_record : {P : Type 0} (failure : Failure)
-    → OnWant {A = Option DepthPlace} P (Err failure) → fault_of failure ≡ no_memory → P
-ends_for_record Write holds e = let kind : WriteFailed ≡ NoMemory = ap (λ t. t.kind) e in absurd (cc)
-ends_for_record Memory holds e = holds
+pub ends_for_record : (A : Type 0) {P : Type 0} (failure : Failure)
+    → OnWant {A = A} P (Err failure) → fault_of failure ≡ no_memory → P
+ends_for_record A Write holds e = let kind : WriteFailed ≡ NoMemory = ap (λ t. t.kind) e in absurd (cc)
+ends_for_record A Memory holds e = holds

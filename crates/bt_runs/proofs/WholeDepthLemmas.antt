@@ -1,14 +1,15 @@
 -- What one more record on the chromosome that a coverage has reached does to it.
-use Rattle.std.proofs.Common.{◌≡◌, ℕ, Bool, true, List, [], Option, None, Some, Result, Ok, Err, refl, ap, ◌∙◌}
+use Rattle.std.proofs.Common.{◌≡◌, ℕ, ◌<◌, Bool, true, List, [], Option, None, Some, Result, Ok, Err, refl, sym, ap, ◌∙◌}
 use Rattle.bt_lines.specs.Output.{Output}
 use Rattle.bt_bed.specs.Feature.{Feature}
-use Rattle.bt_bed.specs.Genome.{Entry}
+use Rattle.bt_bed.specs.Genome.{Entry, genome_names}
+use Rattle.bt_bed.specs.Rank.{rank_of}
 use Rattle.bt_bed.specs.WholeRecords.{GivesWhole, chrom_in}
 use Rattle.bt_bed.specs.declared.bounds.Bounds.{Bounds}
 use Rattle.bt_bed.specs.declared.strand.Strand.{Strand}
 use Rattle.bt_bed.specs.declared.whole_records.WholeRecords.{WholeRecords}
 use Rattle.bt_runs.specs.CountSeen.{known_seen, place_seen, seen}
-use Rattle.bt_runs.specs.Covering.{AdvanceAnswers, is_quiet, kept_fault, may_take, settled_lines, stands_after}
+use Rattle.bt_runs.specs.Covering.{AdvanceAnswers, HasToKeep, IsForRecord, OnWant, is_quiet, kept_fault, may_take, settled_lines, stands_after}
 use Rattle.bt_runs.specs.Depth.{DepthInterval, is_counted_by}
 use Rattle.bt_runs.specs.DepthStep.{Known, depth_walk}
 use Rattle.bt_runs.specs.OpenRecords.{OpenAt}
@@ -18,8 +19,10 @@ use Rattle.bt_runs.specs.declared.depths.BegunDepth.{BegunDepth}
 use Rattle.bt_runs.specs.declared.depths.DepthPlace.{DepthPlace}
 use Rattle.bt_runs.specs.declared.failure.Failure.{Failure}
 use Rattle.bt_runs.specs.declared.failure.Failure.TheVariants.{Write, Memory}
-use Rattle.bt_runs.proofs.DepthSteps.{feeds_err, feeds_ok}
-use Rattle.bt_runs.proofs.EachTaken.{fails_at_given, none_given, one_more_given}
+use Rattle.bt_bed.proofs.NameLemmas.{same_name}
+use Rattle.bt_runs.proofs.DepthSteps.{ends_for_record, feeds_err, feeds_ok}
+use Rattle.bt_runs.proofs.EachTaken.{fails_where, none_given, one_more_given}
+use Rattle.bt_runs.proofs.GenomeRanks.{size_ranked}
 use Rattle.bt_runs.proofs.Walks.{going_on, step_goes}
 
 -- what a coverage has reached with a record, if it could be counted
@@ -85,13 +88,20 @@ module _ (table : List Entry) (zeros : Bool) (strand : Option Strand) (first : D
         same_chrom = given.same_chrom ∙ so_far.same_chrom;
       }
 
+      to_keep : (counted ≡ true) × (bounds.start < size) → HasToKeep table strand r
+      to_keep is =
+          let ranked : rank_of (genome_names table) r.chrom ≡ Some first.rank = ap (rank_of (genome_names table)) (sym (same_name (entry_at table first.rank).name r.chrom still_on)) ∙ at.named in
+          record { counted = counts ∙ is.0; starts = rw (starts, size_ranked table r.chrom first.rank ranked, sized) is.1 }
+
       -- it can't be
       pub fails_counting : (failure : Failure) (now_held : OpenAt) (grown : Output)
           → CountAnswers chrom (levels_past zeros size (known_seen begun held) bounds) (known_past zeros counted size (known_seen begun held) bounds) (Err failure) now_held through grown
+          → OnWant {A = Option BegunDepth} ((counted ≡ true) × (bounds.start < size)) (Err failure)
           → FailsToCount table zeros strand first first_held lines out failure passed grown
-      fails_counting failure now_held grown answers = record {
+      fails_counting failure now_held grown answers memory = record {
         fails = λ answer new is kept.
-            fails_at_given may_take stands_after kept_fault settled_lines is_quiet (covering_at table zeros strand first first_held) lines out
+            fails_where may_take stands_after kept_fault settled_lines is_quiet IsForRecord (covering_at table zeros strand first first_held) lines out
             (covering_at table zeros strand here held) before through r answer new passed grown so_far.takes given
-            (feeds_err table zeros strand (Some here) held at None (covering_at table zeros strand here held) refl refl through r {A = Unit {0}} failure answer now_held new grown is kept (steps_so (Err failure) now_held grown answers));
+            (feeds_err table zeros strand (Some here) held at None (covering_at table zeros strand here held) refl refl through r {A = Unit {0}} failure answer now_held new grown is kept (steps_so (Err failure) now_held grown answers))
+            (λ is_memory going. to_keep (ends_for_record (Option BegunDepth) failure memory (sym is ∙ is_memory)));
       }

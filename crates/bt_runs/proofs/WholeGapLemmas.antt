@@ -76,6 +76,7 @@ module _ (table : List Entry) (limit : Bool) (first : GapPlace) (at : AreReached
     pub fails_covering : (answer : Fault) (grown : Output) → FailsToAdd through (interval_lines (covering table reached bounds.start bounds.stop).1) (told answer) grown
         → FailsToCover table limit first lines out answer passed grown
     fails_covering answer grown fails = record {
+      is = fails.puts.is;
       fails = λ new kept.
           fails_at_given may_take stands_after kept_fault settled_lines is_quiet (complementing_at table limit first) lines out
           (complementing_at table limit reached) before through r answer new passed grown so_far.takes given

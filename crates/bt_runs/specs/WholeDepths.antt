@@ -11,10 +11,10 @@ use Rattle.bt_bed.specs.declared.bounds.Bounds.{Bounds}
 use Rattle.bt_bed.specs.declared.strand.Strand.{Strand}
 use Rattle.bt_bed.specs.declared.whole_records.WholeRecords.{WholeRecords}
 use Rattle.bt_runs.specs.CountSeen.{known_seen, seen}
-use Rattle.bt_runs.specs.Covering.{Covering, begun_of, is_quiet, kept_fault, may_take, settled_lines, stands_after}
+use Rattle.bt_runs.specs.Covering.{Covering, IsForRecord, begun_of, is_quiet, kept_fault, may_take, settled_lines, stands_after}
 use Rattle.bt_runs.specs.Depth.{depth_lines}
 use Rattle.bt_runs.specs.DepthStep.{Known, known_by, levels_by, levels_on, start_from}
-use Rattle.bt_runs.specs.Engine.{FailsAtGiven, TakesGiven}
+use Rattle.bt_runs.specs.Engine.{FailsWhere, TakesGiven}
 use Rattle.bt_runs.specs.Failure.{fault_of}
 use Rattle.bt_runs.specs.Levels.{Level}
 use Rattle.bt_runs.specs.OpenRecords.{OpenAt}
@@ -71,12 +71,14 @@ module _ (table : List Entry) (zeros : Bool) (strand : Option Strand) (first : D
     pub same_rank : reached.rank ≡ first.rank
     pub same_chrom : chrom_in passed ≡ chrom_in lines
 
-  -- the last record given couldn't be taken: so it is for the coverage, once it keeps why
+  -- the last record given couldn't be taken: so it is for the coverage, once it keeps why. Where memory
+  -- ran out, the record had to be kept
   pub record FailsToCount (failure : Failure) (passed : WholeRecords) (grown : Output) : Type 0 where
     pub fails : (answer : Fault) (new : Covering) → told answer ≡ fault_of failure
         → new.fault ≡ Some (fault_of failure)
-        → FailsAtGiven may_take stands_after kept_fault settled_lines is_quiet
-        (covering_at table zeros strand first first_held) lines out answer new passed grown
+        → FailsWhere may_take stands_after kept_fault settled_lines is_quiet
+        (covering_at table zeros strand first first_held) lines out {A = Unit {0}} IsForRecord
+        (Err answer) new passed grown
 
   -- what a loop over records does
   abbrev pub CountsWhole : Result DepthPlace Failure → OpenAt → WholeRecords → Output → Type 0

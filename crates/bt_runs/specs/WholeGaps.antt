@@ -1,6 +1,7 @@
 -- What a complement does with several records on the chromosome that it has reached.
 use Rattle.std.specs.Prelude.{◌≡◌, Bool, List, Some, None, Result, Ok, Err}
 use Rattle.bt_lines.specs.Fault.{write_failed}
+use Rattle.bt_lines.specs.Names.{told}
 use Rattle.bt_lines.specs.Output.{Output}
 use Rattle.bt_lines.specs.declared.fault.Fault.{Fault}
 use Rattle.bt_bed.specs.Genome.{Entry}
@@ -33,9 +34,10 @@ module _ (table : List Entry) (limit : Bool) (first : GapPlace) (lines : WholeRe
     pub same_rank : reached.rank ≡ first.rank
     pub same_chrom : chrom_in passed ≡ chrom_in lines
 
-  -- the gap that the last record given settles couldn't be written: so it is for the complement,
-  -- once it keeps that fault
+  -- the gap that the last record given settles couldn't be written, which is the answer: so it is for
+  -- the complement, once it keeps that fault
   pub record FailsToCover (answer : Fault) (passed : WholeRecords) (grown : Output) : Type 0 where
+    pub is : told answer ≡ write_failed
     pub fails : (new : Complementing) → new.fault ≡ Some write_failed
         → FailsAtGiven may_take stands_after kept_fault settled_lines is_quiet
         (complementing_at table limit first) lines out answer new passed grown

@@ -12,7 +12,7 @@ ghost use Rattle.bt_runs.specs.WholeGaps.{CoversWhole};
 ghost use Rattle.bt_runs.specs.Walk.{AreReached, begun, going, is_on, left_before, left_of, walk_step};
 ghost use Rattle.bt_lines.specs.Fault.{write_failed};
 ghost use Rattle.bt_lines.specs.Names.{told};
-ghost use Rattle.bt_runs.specs.Engine.{Feeds, KeepsHeld};
+ghost use Rattle.bt_runs.specs.Engine.{Feeds, FeedsWhole, KeepsHeld};
 ghost use Rattle.bt_bed.specs.IntervalLine.{interval_lines};
 ghost use Rattle.bt_lines.specs.Putting.{Adds};
 
@@ -120,12 +120,17 @@ impl Engine for Complement<'_> {
         }
     }
 
-    /// It takes records on the chromosome that it has reached alone.
+    /// It takes records on the chromosome that it has reached alone. It fails only where a write fails: it takes
+    /// no memory.
     fn feed_whole<K: Sink>(
         &mut self,
         records: &mut WholeRecords<'_>,
         out: &mut Out<K>,
-    ) -> Result<(), Fault> {
+    ) -> Result<(), Fault>
+        ensures feeds { FeedsWhole may_take stands_after kept_fault settled_lines is_quiet self.old
+            records.old out.old result self.new records.new out.new }
+        ensures memory { IfErr result (λ fault. told fault ≡ write_failed) }
+    {
         let Some(first) = self.current else {
             return Ok(());
         };

@@ -8,7 +8,7 @@ ghost use Rattle.bt_runs.specs.CountSeen.{known_seen, place_seen, seen};
 ghost use Rattle.bt_runs.specs.Covering.{AdvanceAnswers, HasToKeep, IsForRecord, IsToKeep, OnWant, StandsAfter, held_count, is_quiet, kept_fault, may_take, settled_known, settled_lines, stands_after, whole_output};
 ghost use Rattle.bt_runs.specs.Depth.{depth_lines, is_counted_by};
 ghost use Rattle.bt_runs.specs.DepthStep.{bare_of, depth_walk, depths_left, levels_by, levels_left, levels_on};
-ghost use Rattle.bt_runs.specs.Engine.{Feeds, KeepsHeld};
+ghost use Rattle.bt_runs.specs.Engine.{FailsWhere, Feeds, FeedsWhole, KeepsHeld};
 ghost use Rattle.bt_runs.specs.OpenRecords.{none_open_at, open_with};
 ghost use Rattle.bt_runs.specs.Walk.{AreReached, IsPlaced, begun, entry_at, is_on, left_before, left_of, taking, walk_step};
 ghost use Rattle.bt_runs.specs.WholeDepths.{CountAnswers, known_past, levels_past};
@@ -144,12 +144,18 @@ impl Engine for Coverage<'_> {
         }
     }
 
-    /// It takes records on the chromosome that it has reached alone.
+    /// It takes records on the chromosome that it has reached alone. `NoMemory` is answered only where a record has
+    /// to be kept.
     fn feed_whole<K: Sink>(
         &mut self,
         records: &mut WholeRecords<'_>,
         out: &mut Out<K>,
-    ) -> Result<(), Fault> {
+    ) -> Result<(), Fault>
+        ensures feeds { FeedsWhole may_take stands_after kept_fault settled_lines is_quiet self.old
+            records.old out.old result self.new records.new out.new }
+        ensures memory { FailsWhere may_take stands_after kept_fault settled_lines is_quiet self.old
+            records.old out.old IsForRecord result self.new records.new out.new }
+    {
         let Some(first) = self.current else {
             return Ok(());
         };

@@ -32,7 +32,7 @@ returns-in-Err g c =
     c.name-chrom.result.now c.length-length.result (name_read table c.args.first.rank c.name-chrom.result.now c.name-chrom.ensures) (length_read table c.args.first.rank c.length-length.result c.length-length.ensures.is)
     c.loop-bounds.begun c.loop-bounds.held c.loop-bounds.whole c.loop-bounds.out c.loop-bounds.invariant
     given.0 c.in-Some.bounds c.next_bounds.new.self given.1 given.2 given.3 _ refl
-    c.in-Err.failure c.count_bounds.new.held c.count_bounds.new.out c.in-Err.ensures.counts
+    c.in-Err.failure c.count_bounds.new.held c.count_bounds.new.out c.in-Err.ensures.counts c.in-Err.ensures.memory
 
 pub returns : goal.returns
 returns g c =

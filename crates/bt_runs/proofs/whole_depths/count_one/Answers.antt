@@ -33,7 +33,7 @@ returns-in-Err g c =
     c.name-chrom.result.now c.length-length.result (name_read table c.args.first.rank c.name-chrom.result.now c.name-chrom.ensures) (length_read table c.args.first.rank c.length-length.result c.length-length.ensures.is)
     c.loop-bed.begun c.loop-bed.held c.loop-bed.whole c.loop-bed.out c.loop-bed.invariant
     (feature_lent c.in-Some.bed) (record { start = c.in-Some.bed.start; stop = c.in-Some.bed.stop }) c.next.new.self given refl refl c.counts-counted.result (sym c.counts-counted.ensures)
-    c.in-Err.failure c.count_bounds.new.held c.count_bounds.new.out c.in-Err.ensures.counts
+    c.in-Err.failure c.count_bounds.new.held c.count_bounds.new.out c.in-Err.ensures.counts c.in-Err.ensures.memory
 
 pub returns : goal.returns
 returns g c =

@@ -18,8 +18,8 @@ invariant_of-self g c =
     let at : IsPlaced table c.in-Some.first.rank = subst (λ (o : Option GapPlace). AreReached table (seen o)) c.in-Some.is c.self.invariant in
     subst (λ (rank : ℕ). IsPlaced table rank) (sym (c.in-Ok.ensures true).same_rank) at
 
-pub returns-in-Err : goal.returns-in-Err
-returns-in-Err g c =
+pub returns-in-Err-clause-feeds : goal.returns-in-Err-clause-feeds
+returns-in-Err-clause-feeds g c =
     let table = entries c.self.inside.genome.now in
     let limit = c.self.inside.limit in
     let none : c.self.inside.failure ≡ None = search rules in
@@ -28,3 +28,6 @@ returns-in-Err g c =
     let new = shown table limit c.self.inside.current (Some write_failed) in
     subst (λ (old : Complementing). FailsAtGiven may_take stands_after kept_fault settled_lines is_quiet old c.args.records.now c.args.out.now c.in-Err.fault new c.cover_whole.new.records c.cover_whole.new.out)
     was ((c.in-Err.ensures limit).fails new refl)
+
+pub returns-in-Err-clause-memory : goal.returns-in-Err-clause-memory
+returns-in-Err-clause-memory g c = (c.in-Err.ensures c.self.inside.limit).is

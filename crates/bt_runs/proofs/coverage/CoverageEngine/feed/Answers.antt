@@ -1,7 +1,8 @@
-use Rattle.std.proofs.Common.{ap, sym, ◌∙◌, option_map, refl}
+use Rattle.std.proofs.Common.{ap, sym, ◌∙◌, Option, option_map, refl}
 use Rattle.bt_bed.specs.Bed.{feature_lent}
 use Rattle.bt_bed.specs.GenomeTable.{entries}
 use Rattle.bt_runs.specs.Failure.{fault_of}
+use Rattle.bt_runs.specs.declared.depths.DepthPlace.{DepthPlace}
 use Rattle.bt_runs.proofs.DepthSteps.{ends_for_record, feeds_ok, feeds_err}
 use Rattle.bt_runs.proofs.coverage.CoverageEngine.feed.Goals as goal
 
@@ -17,5 +18,5 @@ returns-in-Err-clause-feeds g c =
 
 pub returns-in-Err-clause-memory : goal.returns-in-Err-clause-memory
 returns-in-Err-clause-memory g c = λ is_memory going.
-    rw (← c.self.view_is) (ends_for_record c.in-Err.failure c.in-Err.ensures.memory
+    rw (← c.self.view_is) (ends_for_record (Option DepthPlace) c.in-Err.failure c.in-Err.ensures.memory
     (sym c.fault-in-Err.ensures ∙ is_memory))
