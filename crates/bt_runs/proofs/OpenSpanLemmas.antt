@@ -1,5 +1,5 @@
 -- The open run of a merge as two numbers.
-use Rattle.std.proofs.Common.{rules, ◌≡◌, ℕ, ◌+◌, ◌<◌, ◌≤◌, List, [], ◌∷◌}
+use Rattle.std.proofs.Common.{rules, ◌≡◌, ℕ, ◌+◌, ◌-◌, ◌<◌, ◌≤◌, List, [], ◌∷◌}
 use Rattle.bt_bed.specs.declared.bounds.Bounds.{Bounds}
 use Rattle.bt_runs.specs.MergeStep.{settled_by}
 use Rattle.bt_runs.specs.OpenSpan.{IsSpan, run_in}
@@ -8,14 +8,14 @@ use Rattle.bt_runs.specs.WholeRuns.{IsInRange, bounds_at, kept_at}
 use Rattle.bt_runs.specs.declared.open_span.Span.{Span}
 
 -- a record that starts more than the gap past an open run has passed it
-pub passed_span : (gap : ℕ) (chrom : List ℕ) (span : Span) (bounds : Bounds) → span.stop + gap < bounds.start → 0 < span.stop
-    → settled_by gap (kept_at chrom (run_in span)) (bounds_at chrom bounds) ≡ run_at chrom (record { start = span.start; stop = span.stop }) ∷ []
+pub passed_span : (gap : ℕ) (chrom : List ℕ) (span : Span) (bounds : Bounds) → span.beyond - (gap + 1) + gap < bounds.start → 0 < span.beyond
+    → settled_by gap (kept_at chrom (run_in gap span)) (bounds_at chrom bounds) ≡ run_at chrom (record { start = span.start; stop = span.beyond - (gap + 1) }) ∷ []
 passed_span gap chrom span bounds passed some = search rules
 
 -- the run ends where a record can
-pub span_in_range : (last : ℕ) (span : Span) → IsSpan last span → IsInRange (run_in span)
-span_in_range last span is = search rules
+pub span_in_range : (gap last : ℕ) (span : Span) → IsSpan gap last span → IsInRange (run_in gap span)
+span_in_range gap last span is = search rules
 
 -- what doesn't start after a record doesn't start after one that comes later
-pub span_before : (last next : ℕ) (span : Span) → last ≤ next → IsSpan last span → IsSpan next span
-span_before last next span rises is = record { in_range = is.in_range; none = is.none; some = λ opened. (let s = is.some opened in search rules) }
+pub span_before : (gap last next : ℕ) (span : Span) → last ≤ next → IsSpan gap last span → IsSpan gap next span
+span_before gap last next span rises is = record { in_range = is.in_range; none = is.none; ends = is.ends; some = λ opened. (let s = is.some opened in search rules) }

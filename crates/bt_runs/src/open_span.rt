@@ -1,6 +1,6 @@
 //! The open run of a merge as two numbers, to which a record is joined without a branch.
 
-ghost use Rattle.std.specs.Prelude.{◌≡◌, ◌<◌, ◌≤◌, cond, List, ℕ, IfOk, IfSome};
+ghost use Rattle.std.specs.Prelude.{◌≡◌, ◌+◌, ◌<◌, ◌≤◌, cond, List, ℕ, IfOk, IfSome};
 ghost use Rattle.bt_lines.specs.Number.{max_number};
 ghost use Rattle.bt_lines.specs.Putting.{Adds};
 ghost use Rattle.bt_bed.specs.IntervalLine.{interval_lines};
@@ -12,28 +12,31 @@ use crate::pooled::Run;
 use bt_bed::{Bounds, put_interval};
 use bt_lines::{Fault, Out, Sink};
 
-// The start and the end of the open run. Where none is open, the start is the greatest number and the end is 0: as a
+// The open run as two numbers. In the place of its end stands the least start of a record that passes it, so that one
+// test says whether a record does. Where none is open, that number is 0, and the start is the greatest number: as a
 // record joins a run by the lesser start and the greater end, these two leave the record as it is. A record that isn't
 // merged is taken for the same two, which leave the run as it is. So a record is joined without a branch on its strand
 // or on whether a run is open, both as good as random.
 #[derive(Clone, Copy, Debug)]
 pub(crate) struct Span {
     start: u64,
-    stop: u64,
+    // The least start of a record that passes the run, or 0 where none is open.
+    beyond: u64,
 }
 
 // What stands for no run.
 const NONE: Span = Span {
     start: u64::MAX,
-    stop: 0,
+    beyond: 0,
 };
 
 // The numbers of the open run, or of none. A run that starts behind the last record, or that has no bases, has no such
 // numbers; a merge keeps no run of that kind.
 #[inline(always)]
-pub(crate) fn span_of(run: Option<Run>, last: u64) -> Option<Span>
+pub(crate) fn span_of(gap: u64, run: Option<Run>, last: u64) -> Option<Span>
+    requires gap_in_range { gap ≤ max_number }
     requires run_in_range { IsInRange run }
-    ensures { IfSome result (λ span. IsSpan last span × (run_in span ≡ run)) }
+    ensures { IfSome result (λ span. IsSpan gap last span × (run_in gap span ≡ run)) }
 {
     let Some(open) = run else {
         return Some(NONE);
@@ -43,21 +46,23 @@ pub(crate) fn span_of(run: Option<Run>, last: u64) -> Option<Span>
     }
     Some(Span {
         start: open.start,
-        stop: open.stop,
+        beyond: open.stop + (gap + 1),
     })
 }
 
 // The run that the numbers stand for.
 #[inline(always)]
-pub(crate) fn run_of(span: Span) -> Option<Run>
-    ensures { result ≡ run_in span }
+pub(crate) fn run_of(gap: u64, span: Span) -> Option<Run>
+    requires gap_in_range { gap ≤ max_number }
+    requires has_end { 0 < span.beyond → gap + 1 < span.beyond }
+    ensures { result ≡ run_in gap span }
 {
-    if span.stop == 0 {
+    if span.beyond == 0 {
         return None;
     }
     Some(Run {
         start: span.start,
-        stop: span.stop,
+        stop: span.beyond - (gap + 1),
     })
 }
 
@@ -73,20 +78,21 @@ pub(crate) fn next_span<K: Sink>(
     out: &mut Out<K>,
 ) -> Result<Span, Fault>
     requires gap_in_range { gap ≤ max_number }
-    requires is_span { IsSpan bounds.start span }
+    requires is_span { IsSpan gap bounds.start span }
     requires non_empty { bounds.start < bounds.stop }
     requires record_in_range { bounds.stop ≤ max_number }
     ensures adds { Adds out.old (interval_lines
-        (settled_by gap (kept_at chrom.now (run_in span)) (bounds_at chrom.now bounds))) result out.new }
-    ensures kept { IfOk result (λ next. kept_at chrom.now (run_in next)
-        ≡ kept_then gap counted (kept_at chrom.now (run_in span)) (bounds_at chrom.now bounds)) }
-    ensures is_span { IfOk result (IsSpan bounds.start) }
+        (settled_by gap (kept_at chrom.now (run_in gap span)) (bounds_at chrom.now bounds))) result out.new }
+    ensures kept { IfOk result (λ next. kept_at chrom.now (run_in gap next)
+        ≡ kept_then gap counted (kept_at chrom.now (run_in gap span)) (bounds_at chrom.now bounds)) }
+    ensures is_span { IfOk result (IsSpan gap bounds.start) }
 {
     let left = left_span(gap, chrom, span, bounds, out)?;
-    Ok(joined_span(left, bounds, counted))
+    Ok(joined_span(gap, left, bounds, counted))
 }
 
-// Writes the open run, if the record has passed it, and gives what is left.
+// Writes the open run, if the record has passed it, and gives what is left. Where none is open, 0 less 1 wraps to the
+// greatest number, which no start exceeds, so that nothing is written.
 #[inline(always)]
 fn left_span<K: Sink>(
     gap: u64,
@@ -96,15 +102,15 @@ fn left_span<K: Sink>(
     out: &mut Out<K>,
 ) -> Result<Span, Fault>
     requires gap_in_range { gap ≤ max_number }
-    requires is_span { IsSpan bounds.start span }
+    requires is_span { IsSpan gap bounds.start span }
     ensures adds { Adds out.old (interval_lines
-        (settled_by gap (kept_at chrom.now (run_in span)) (bounds_at chrom.now bounds))) result out.new }
-    ensures left { IfOk result (λ left. kept_at chrom.now (run_in left)
-        ≡ left_by gap (kept_at chrom.now (run_in span)) (bounds_at chrom.now bounds)) }
-    ensures is_span { IfOk result (IsSpan bounds.start) }
+        (settled_by gap (kept_at chrom.now (run_in gap span)) (bounds_at chrom.now bounds))) result out.new }
+    ensures left { IfOk result (λ left. kept_at chrom.now (run_in gap left)
+        ≡ left_by gap (kept_at chrom.now (run_in gap span)) (bounds_at chrom.now bounds)) }
+    ensures is_span { IfOk result (IsSpan gap bounds.start) }
 {
-    if span.stop + gap < bounds.start && span.stop != 0 {
-        put_interval(chrom, span.start, span.stop, out)?;
+    if span.beyond.wrapping_sub(1) < bounds.start {
+        put_interval(chrom, span.start, span.beyond - (gap + 1), out)?;
         return Ok(NONE);
     }
     Ok(span)
@@ -112,19 +118,24 @@ fn left_span<K: Sink>(
 
 // The open run, or none, with a record that has not passed it, if that counts.
 #[inline(always)]
-fn joined_span(left: Span, bounds: Bounds, counted: bool) -> Span
-    requires is_span { IsSpan bounds.start left }
+fn joined_span(gap: u64, left: Span, bounds: Bounds, counted: bool) -> Span
+    requires gap_in_range { gap ≤ max_number }
+    requires is_span { IsSpan gap bounds.start left }
     requires non_empty { bounds.start < bounds.stop }
     requires record_in_range { bounds.stop ≤ max_number }
-    ensures joined { (chrom : List ℕ) → kept_at chrom (run_in result) ≡ cond counted
-        (with_record (kept_at chrom (run_in left)) (bounds_at chrom bounds))
-        (kept_at chrom (run_in left)) }
-    ensures is_span { IsSpan bounds.start result }
+    ensures joined { (chrom : List ℕ) → kept_at chrom (run_in gap result) ≡ cond counted
+        (with_record (kept_at chrom (run_in gap left)) (bounds_at chrom bounds))
+        (kept_at chrom (run_in gap left)) }
+    ensures is_span { IsSpan gap bounds.start result }
 {
     let start = if counted { bounds.start } else { NONE.start };
-    let stop = if counted { bounds.stop } else { NONE.stop };
+    let beyond = if counted {
+        bounds.stop + (gap + 1)
+    } else {
+        NONE.beyond
+    };
     Span {
         start: left.start.min(start),
-        stop: left.stop.max(stop),
+        beyond: left.beyond.max(beyond),
     }
 }

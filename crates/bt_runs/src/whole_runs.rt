@@ -87,7 +87,7 @@ fn merge_one<K: Sink>(
         return Ok(first);
     };
     let run = next_run(gap, chrom, first, placed.bounds, placed.counted, out)?;
-    match span_of(run, placed.bounds.start) {
+    match span_of(gap, run, placed.bounds.start) {
         None => Ok(run),
         Some(span) => merge_spans(gap, wanted, span, records, out),
     }
@@ -104,8 +104,8 @@ fn merge_spans<K: Sink>(
     out: &mut Out<K>,
 ) -> Result<Option<Run>, Fault>
     requires gap_in_range { gap ≤ max_number }
-    requires is_span { IsSpan (start_in records.now) first }
-    ensures { MergesWhole gap (One wanted) (run_in first) records.old out.old result records.new out.new }
+    requires is_span { IsSpan gap (start_in records.now) first }
+    ensures { MergesWhole gap (One wanted) (run_in gap first) records.old out.old result records.new out.new }
 {
     let chrom = records.chrom();
     let mut span = first;
@@ -120,7 +120,7 @@ fn merge_spans<K: Sink>(
         }
     }
     *records = whole;
-    Ok(run_of(span))
+    Ok(run_of(gap, span))
 }
 
 // Where a record lies, and whether it is merged.

@@ -6,7 +6,7 @@ use Rattle.bt_runs.proofs.EachTaken.{bytes_ahead}
 use Rattle.bt_runs.proofs.whole_runs.merge_spans.Given as goal
 
 abbrev pub invariant-loop-placed : goal.invariant-loop-placed
-invariant-loop-placed g l = MergesGiven l.fn.gap (One l.fn.wanted) (run_in l.fn.first) l.fn.records l.fn.out (run_in l.span) l.whole l.out × IsSpan (start_in l.whole) l.span
+invariant-loop-placed g l = MergesGiven l.fn.gap (One l.fn.wanted) (run_in l.fn.gap l.fn.first) l.fn.records l.fn.out (run_in l.fn.gap l.span) l.whole l.out × IsSpan l.fn.gap (start_in l.whole) l.span
 
 abbrev pub decreases-loop-placed : goal.decreases-loop-placed
 decreases-loop-placed g l = bytes_ahead l.whole
