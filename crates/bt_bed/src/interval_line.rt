@@ -41,7 +41,7 @@ pub(crate) fn put_ended<K: Sink>(
     put_slowly(chrom, start, stop, end, out)
 }
 
-// Puts them where there is room and none of them is long, and answers whether it did. It stands apart, so that the loops
+// Puts what `put_ended` puts where `Out::hold_span` does, and answers whether it did. It stands apart, so that the loops
 // over records stay small.
 #[inline(never)]
 fn hold_ended<K: Sink>(chrom: &[u8], start: u64, stop: u64, end: u8, out: &mut Out<K>) -> bool
@@ -51,7 +51,7 @@ fn hold_ended<K: Sink>(chrom: &[u8], start: u64, stop: u64, end: u8, out: &mut O
     out.hold_span(chrom, start, stop, end)
 }
 
-// Puts them by way of a text that is written beside the output.
+// Puts what `put_ended` puts by way of a text that is written beside the output.
 #[cold]
 #[inline(never)]
 fn put_slowly<K: Sink>(
@@ -98,7 +98,7 @@ fn write_span(start: u64, stop: u64, end: u8, text: &mut [u8; ROOM]) -> usize
 #[cfg(test)]
 mod tests {
     use super::*;
-    use bt_lines::ScriptSink;
+    use bt_lines::{BLOCK, ScriptSink};
     use std::test::Fail;
 
     #[test]
@@ -111,6 +111,38 @@ mod tests {
             && out.flush().is_ok();
         assert!(rt; put);
         let want: &[u8] = b"chr 1\t0\t999999999999\nc\t7\t8\n\t7\t8\nchr1\t99999999\t100000000\n";
+        assert_eq!(rt; out.into_sink().taken(), want);
+        Ok(())
+    }
+
+    // Where the line of an interval doesn't fit into the block that is held back, and its name is long.
+    #[test]
+    fn a_line_is_put_across_a_block(rt: HostRuntime) -> Result<(), Fail> {
+        let mut out = Out::new(ScriptSink::new(rt.alloc(), 3, None));
+        let before = [b'.'; BLOCK - 5];
+        let name = [b'n'; 65];
+        out.put(&before)?;
+        let put = put_interval(b"chr1", 7, 123456789, &mut out).is_ok()
+            && put_interval(&name, 7, 8, &mut out).is_ok()
+            && out.flush().is_ok();
+        assert!(rt; put);
+        let sink = out.into_sink();
+        let lines = sink.taken().get(BLOCK - 5..).unwrap_or(b"");
+        let first: &[u8] = b"chr1\t7\t123456789\n";
+        assert_eq!(rt; lines.get(..17), Some(first));
+        assert_eq!(rt; lines.get(17..82), Some(name.as_slice()));
+        let last: &[u8] = b"\t7\t8\n";
+        assert_eq!(rt; lines.get(82..), Some(last));
+        Ok(())
+    }
+
+    #[test]
+    fn a_line_is_not_put_behind_a_failure(rt: HostRuntime) -> Result<(), Fail> {
+        let mut out = Out::new(ScriptSink::new(rt.alloc(), 3, Some(4)));
+        let is_held = put_interval(b"chr1", 7, 8, &mut out).is_ok();
+        let is_told = out.flush().is_err() && put_interval(b"chr1", 7, 8, &mut out).is_err();
+        assert!(rt; is_held && is_told);
+        let want: &[u8] = b"chr1";
         assert_eq!(rt; out.into_sink().taken(), want);
         Ok(())
     }

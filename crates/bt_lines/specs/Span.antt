@@ -1,4 +1,5 @@
--- What stands behind a name at the beginning of a line: where an interval starts and stops.
+-- What stands behind a name at the beginning of a line: where an interval starts and stops (UCSC BED
+-- description, fields chromStart and chromEnd).
 use Rattle.std.specs.Prelude.{ℕ, List, [], ◌∷◌, ◌++◌, codes, decimal}
 
 -- a tab, the start, a tab, the stop and a byte that ends them

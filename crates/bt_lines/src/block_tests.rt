@@ -423,9 +423,9 @@ fn span_behind(
 // Bytes before it, a name, a start and a stop, and the line that is held, which is empty where none is.
 type SpanRow = (usize, &'static [u8], u64, u64, &'static [u8]);
 
-// The numbers at which a digit more is written or the way changes, names of each length that is copied otherwise, and
-// the last places of a block where there is room.
-const SPANS: [SpanRow; 13] = [
+// The numbers at which a digit more is written or the way changes, names of each length that is copied otherwise, also
+// the longest that is held, and the last places of a block where there is room.
+const SPANS: [SpanRow; 15] = [
     (0, b"c", 0, 7, b"c\t0\t7\n"),
     (0, b"22", 9, 10, b"22\t9\t10\n"),
     (
@@ -444,10 +444,24 @@ const SPANS: [SpanRow; 13] = [
     ),
     (
         0,
-        b"chromosome_of_20_byte",
+        b"chromosome",
         5,
         999_999_999,
-        b"chromosome_of_20_byte\t5\t999999999\n",
+        b"chromosome\t5\t999999999\n",
+    ),
+    (
+        0,
+        b"chromosome_of_20_chr",
+        5,
+        9,
+        b"chromosome_of_20_chr\t5\t9\n",
+    ),
+    (
+        0,
+        b"a_name_of_sixty-four_bytes_a_name_of_sixty-four_bytes_a_name_of_",
+        5,
+        9,
+        b"a_name_of_sixty-four_bytes_a_name_of_sixty-four_bytes_a_name_of_\t5\t9\n",
     ),
     (
         0,
@@ -461,7 +475,7 @@ const SPANS: [SpanRow; 13] = [
     (0, b"", 5, 9, b""),
     (
         0,
-        b"a_name_of_sixty-five_bytes_a_name_of_sixty-five_bytes_a_name_of_s",
+        b"a_name_of_sixty-four_bytes_a_name_of_sixty-four_bytes_a_name_of_s",
         5,
         9,
         b"",
@@ -492,6 +506,16 @@ fn first_misheld_span(alloc: Global, rows: &[SpanRow]) -> Result<Option<SpanRow>
 #[test]
 fn short_spans_are_held_where_there_is_room(rt: HostRuntime) -> Result<(), Fail> {
     assert_eq!(rt; first_misheld_span(rt.alloc(), &SPANS)?, None);
+    Ok(())
+}
+
+#[test]
+fn a_span_ends_as_it_is_told_to(rt: HostRuntime) -> Result<(), Fail> {
+    let mut output = Out::new(ScriptSink::new(rt.alloc(), BLOCK, None));
+    let is_held = output.hold_span(b"chr1", 5, 9, b'\t');
+    output.flush()?;
+    let sink = output.into_sink();
+    assert!(rt; is_held && sink.taken() == b"chr1\t5\t9\t".as_slice());
     Ok(())
 }
 

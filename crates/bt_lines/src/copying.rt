@@ -171,7 +171,7 @@ fn copy_thirty_twos(to: &mut [u8], piece: &[u8])
 mod tests {
     use super::*;
 
-    // No byte, one to three, as many as each way copies, and more than all of them.
+    // No byte, as many as each way copies, and more than all of them.
     const PIECES: [&[u8]; 9] = [
         b"",
         b"a",
@@ -184,6 +184,12 @@ mod tests {
         b"abcdefghijklmnopqrstuvwxyz0123456789abcdefghijklmnopqrstuvwxyz0123456789",
     ];
 
+    // Whether a piece was copied behind the first byte of a text, with nothing beside it.
+    fn is_copied(text: &[u8; 80], piece: &[u8]) -> bool {
+        let behind = &text[piece.len().min(72) + 1..];
+        text[0] == b'.' && text.get(1..piece.len() + 1) == Some(piece) && behind[0] == b'.'
+    }
+
     // The first piece of a table that is copied otherwise, or with bytes beside it.
     fn first_miscopied(pieces: &[&'static [u8]]) -> Option<&'static [u8]> {
         for piece in pieces {
@@ -191,11 +197,23 @@ mod tests {
             if let Some(to) = text.get_mut(1..piece.len() + 1) {
                 copy_piece(to, piece);
             }
-            let behind = &text[piece.len().min(72) + 1..];
-            if text[0] != b'.'
-                || text.get(1..piece.len() + 1) != Some(*piece)
-                || behind[0] != b'.'
-            {
+            if !is_copied(&text, piece) {
+                return Some(*piece);
+            }
+        }
+        None
+    }
+
+    // The first piece of a table that isn't short, or is copied otherwise as a short one.
+    fn first_miscopied_short(pieces: &[&'static [u8]]) -> Option<&'static [u8]> {
+        for piece in pieces {
+            let mut text = [b'.'; 80];
+            if let Some(to) = text.get_mut(1..piece.len() + 1) {
+                if is_short(piece.len()) {
+                    copy_short(to, piece);
+                }
+            }
+            if !is_copied(&text, piece) {
                 return Some(*piece);
             }
         }
@@ -205,5 +223,6 @@ mod tests {
     #[test]
     fn pieces_of_each_way_are_copied(rt: HostRuntime) {
         assert_eq!(rt; first_miscopied(&PIECES), None);
+        assert_eq!(rt; first_miscopied_short(&PIECES[1..8]), None);
     }
 }

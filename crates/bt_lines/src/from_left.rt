@@ -12,7 +12,7 @@ use crate::print_digits::{eight_ones, zeros_in_front};
 pub(crate) const BOUND: usize = 13;
 
 // Writes a tab and a start or a stop in decimal, without leading zeros, so that they begin where they are told to, and
-// gives where they end. Bytes behind that may change too, up to the room for them.
+// gives where they end. Bytes behind that may change too.
 #[inline(always)]
 pub(crate) fn write_bound(number: u64, text: &mut [u8], begin: usize) -> usize
     requires in_range { number ≤ max_number }

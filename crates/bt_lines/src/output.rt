@@ -150,8 +150,8 @@ impl<K: Sink> Out<K> {
     }
 
     /// Puts a name, a start and a stop in the columns behind it, and a byte that ends them, if no write has failed, the
-    /// name has 1 to 64 bytes, there is room for any start and stop behind it, and neither is above the greatest that a
-    /// text may denote; and answers whether it did; else nothing changes. It writes nothing to the sink.
+    /// name has 1 to 64 bytes, there is room for any start and stop behind it, and neither is above
+    /// [`MAX_NUMBER`]; and answers whether it did; else nothing changes. It writes nothing to the sink.
     #[inline(always)]
     pub fn hold_span(&mut self, name: &[u8], start: u64, stop: u64, end: u8) -> bool
         ensures held { result ≡ true → PutsAll self.old (name.now ++ span_text start stop end) self.new }

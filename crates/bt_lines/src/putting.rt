@@ -81,11 +81,13 @@ mod tests {
         let mut out = Out::new(ScriptSink::new(rt.alloc(), 2, None));
         let put = put_column(b"chr1", b"\t", &mut out).is_ok()
             && put_number(0, b"\t", &mut out).is_ok()
+            && put_number(999, b"\t", &mut out).is_ok()
+            && put_number(1000, b"\t", &mut out).is_ok()
             && put_number(999999999999, b"\n", &mut out).is_ok()
             && put_line(b"ACGT", b"\r\n", &mut out).is_ok()
             && out.flush().is_ok();
         assert!(rt; put);
-        let want: &[u8] = b"chr1\t0\t999999999999\nACGT\r\n";
+        let want: &[u8] = b"chr1\t0\t999\t1000\t999999999999\nACGT\r\n";
         assert_eq!(rt; out.into_sink().taken(), want);
         Ok(())
     }

@@ -1,5 +1,5 @@
 -- The open run of a merge as two numbers.
-use Rattle.std.proofs.Common.{rules, ◌≡◌, ℕ, ◌+◌, ◌-◌, ◌<◌, ◌≤◌, List, [], ◌∷◌}
+use Rattle.std.proofs.Common.{rules, ◌≡◌, ℕ, ◌+◌, ◌-◌, ◌<◌, List, [], ◌∷◌}
 use Rattle.bt_bed.specs.declared.bounds.Bounds.{Bounds}
 use Rattle.bt_runs.specs.MergeStep.{settled_by}
 use Rattle.bt_runs.specs.OpenSpan.{IsSpan, run_in}
@@ -15,7 +15,3 @@ passed_span gap chrom span bounds passed some = search rules
 -- the run ends where a record can
 pub span_in_range : (gap last : ℕ) (span : Span) → IsSpan gap last span → IsInRange (run_in gap span)
 span_in_range gap last span is = search rules
-
--- what doesn't start after a record doesn't start after one that comes later
-pub span_before : (gap last next : ℕ) (span : Span) → last ≤ next → IsSpan gap last span → IsSpan gap next span
-span_before gap last next span rises is = record { in_range = is.in_range; none = is.none; ends = is.ends; some = λ opened. (let s = is.some opened in search rules) }

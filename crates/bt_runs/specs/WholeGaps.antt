@@ -34,7 +34,7 @@ module _ (table : List Entry) (limit : Bool) (first : GapPlace) (lines : WholeRe
     pub same_rank : reached.rank ≡ first.rank
     pub same_chrom : chrom_in passed ≡ chrom_in lines
 
-  -- the gap that the last record given settles couldn't be written, which is the answer: so it is for
+  -- the gap that the last record given settles couldn't be written, and that is answered: so it is for
   -- the complement, once it keeps that fault
   pub record FailsToCover (answer : Fault) (passed : WholeRecords) (grown : Output) : Type 0 where
     pub is : told answer ≡ write_failed

@@ -44,7 +44,7 @@ module _ (gap : ℕ) (strand : MergeStrand) (open_run : Option Run) (lines : Who
     pub in_range : IsInRange run
     pub same_chrom : chrom_in passed ≡ chrom_in lines
 
-  -- the run that the last record given has passed couldn't be written, which is the answer: so it is
+  -- the run that the last record given has passed couldn't be written, and that is answered: so it is
   -- for the merge, once it keeps that fault
   pub record FailsToMerge (answer : Fault) (passed : WholeRecords) (grown : Output) : Type 0 where
     pub is : told answer ≡ write_failed

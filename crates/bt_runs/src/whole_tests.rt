@@ -178,6 +178,7 @@ fn merge_of_all(rt: HostRuntime) -> Result<(), Fail> {
 fn merge_of_a_strand(rt: HostRuntime) -> Result<(), Fail> {
     let plus = MergeStrand::One(Strand::Plus);
     check_merge(&rt, rt.alloc(), 0, plus, "merge -S +")?;
+    check_merge(&rt, rt.alloc(), 2, plus, "merge -S + -d 2")?;
     check_merge(&rt, rt.alloc(), 100, plus, "merge -S + -d 100")
 }
 
