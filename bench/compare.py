@@ -86,12 +86,14 @@ class Touching(OneInput):
     """Records of which a third touch or overlap the one before, as one input."""
 
     columns: int
+    # What the names of the chromosomes begin with: nothing where they are named as Ensembl's are.
+    prefix: str = "chr"
 
     def name(self):
-        return f"{self.columns} columns"
+        return f"{self.columns} columns" + ("" if self.prefix else ", names of one or two bytes")
 
     def write(self, folder, count):
-        write_records(folder / "records.bed", count, self.columns, 1)
+        write_records(folder / "records.bed", count, self.columns, 1, self.prefix)
 
 
 @dataclass
@@ -369,7 +371,8 @@ COUNTED_WORKLOADS = [
     )
 ] + [
     # Where each other record makes a second run wait.
-    Workload(["merge", "-s"], Overlapping(), OURS, None, None, None, False, counted=OURS)
+    Workload(["merge", "-s"], Overlapping(), OURS, None, None, None, False, counted=OURS),
+    Workload(["merge"], Touching(6, ""), (), None, None, None, False, counted=OURS),
 ]
 
 
@@ -407,7 +410,7 @@ def further_columns(numbers, columns, start, stop):
     return f"\tread{numbers.randrange(1_000_000)}\t{numbers.randrange(1000)}\t{numbers.choice('+-')}{block}"
 
 
-def write_records(path, count, columns, seed):
+def write_records(path, count, columns, seed, prefix="chr"):
     """Writes about `count` records in order, a third of which touch or overlap the one before."""
     numbers = random.Random(seed)
     total = sum(LENGTHS)
@@ -415,10 +418,11 @@ def write_records(path, count, columns, seed):
         for name, length in zip(NAMES, LENGTHS):
             size = length * 1_000_000
             mean = size // (count * length // total)
+            named = prefix + name.removeprefix("chr")
             start = numbers.randrange(mean)
             stop = start + numbers.randrange(1, mean)
             while stop <= size:
-                records.write(f"{name}\t{start}\t{stop}{further_columns(numbers, columns, start, stop)}\n")
+                records.write(f"{named}\t{start}\t{stop}{further_columns(numbers, columns, start, stop)}\n")
                 start += numbers.randrange(2 * mean - 1)
                 stop = start + numbers.randrange(1, mean)
 

@@ -179,6 +179,8 @@ TRIALS = [
           "merge -i ties.bed -S + -s", "", "bedtools: options exclude one another\n", 2),
     Trial("blank line in merge", "merge -i blank_within.bed", "chr1\t2\t9\nchr1\t6\t12\n", 0,
           "merge -i blank_within.bed", "chr1\t2\t12\n", "", 0),
+    Trial("`-d` above 2,147,483,647", "merge -i f.bed -d 2147483648", FILES["f.bed"], 0,
+          "merge -i f.bed -d 2147483648", "chr1\t2\t17\n", "", 0),
     Trial("negative `-d`", "merge -i f.bed -d -3", "chr1\t2\t6\nchr1\t4\t9\nchr1\t14\t17\n", 0,
           "merge -i f.bed -d -3", "", "bedtools: bad value: -d\n", 2),
     Trial("blank line in complement", "complement -i blank_within.bed -g g.txt",
