@@ -36,3 +36,4 @@ pub mod OwnFailureLemmas
 pub mod WholeRecordLemmas
 pub mod WholesGiven
 pub mod BoundLines
+pub mod GivenAgain

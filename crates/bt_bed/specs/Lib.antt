@@ -35,5 +35,6 @@ pub mod KeptForm
 pub mod Rec
 pub mod OrderInUse
 pub mod RecordLine
+pub mod RecordOn
 pub mod WholeInside
 pub mod WholeRecords

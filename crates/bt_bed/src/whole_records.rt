@@ -1,14 +1,21 @@
 //! Records that stand whole in what a reader took ahead.
 
+ghost use Rattle.std.specs.Prelude.{◌≡◌, List, ℕ, None, IfSome};
+ghost use Rattle.bt_lines.specs.Block.{IsFirstFeed};
 ghost use Rattle.bt_lines.specs.LentLine.{NoLineFeed};
+ghost use Rattle.bt_lines.specs.Whole.{BeginsWithLine};
+ghost use Rattle.bt_bed.specs.Bed.{feature_lent};
+ghost use Rattle.bt_bed.specs.Feature.{Feature};
 ghost use Rattle.bt_bed.specs.FirstColumns.{IsRecordName};
 ghost use Rattle.bt_bed.specs.NameKey.{HasKey};
+ghost use Rattle.bt_bed.specs.RecordOn.{IsRecordOn};
 
 use crate::bed::BedRef;
 use crate::bounds::Bounds;
 use crate::columns::columns_on;
 use crate::direct::direct_line_on;
 use crate::name_key::NameKey;
+use crate::parsing::parse_bed;
 use crate::record_line::RecordLine;
 use bt_lines::{PassedLines, WholeLines};
 
@@ -46,7 +53,7 @@ impl<'a> WholeRecords<'a> {
     ghost use Rattle.bt_bed.specs.Feature.{Feature};
     ghost use Rattle.bt_bed.specs.Record.{bed_text};
     ghost use Rattle.bt_bed.specs.RecordLine.{IsLineOf, Says, text_in};
-    ghost use Rattle.bt_bed.specs.WholeRecords.{GivesLine, GivesWhole, GivesWritten, chrom_in, lines_in, records_passed};
+    ghost use Rattle.bt_bed.specs.WholeRecords.{GivesLine, GivesWhole, GivesWholes, GivesWritten, chrom_in, lines_in, records_passed};
 
     /// The next record, which is passed.
     #[inline(always)]
@@ -122,6 +129,38 @@ impl<'a> WholeRecords<'a> {
         self.lines.before_last(&later.lines)
     }
 
+    /// These, gone on to where so many bytes of lines were passed ([`WholeRecords::bytes_passed`]): for one who was given
+    /// records by a copy of these, and has to stand behind one before the last of them. They are gone over once more, so
+    /// that nothing has to be kept for each record.
+    #[cold]
+    #[inline(never)]
+    pub fn up_to(&self, bytes: usize) -> WholeRecords<'a>
+        ensures { (records : List Feature) (later : WholeRecords) → GivesWholes self.now records later
+            → (passed_by (lines_in later)).bytes ≡ bytes → GivesWholes self.now records result }
+    {
+        let mut whole = *self;
+        while whole.bytes_passed() < bytes {
+            let Some(_) = whole.next_again() else {
+                break;
+            };
+        }
+        whole
+    }
+
+    // The next record, which is passed. There is one wherever a record's line stands whole, where `next` may end before:
+    // so what was given once is given again.
+    fn next_again(&mut self) -> Option<BedRef<'a>>
+        ensures given { IfSome result (λ bed. GivesWhole self.old (feature_lent bed) self.new) }
+        ensures none { result ≡ None → (r : Feature) (new : WholeRecords) → GivesWhole self.old r new → ⊥ }
+        ensures unchanged { result ≡ None → self.new ≡ self.old }
+    {
+        let text = whole_text(self.lines.rest())?;
+        let bed = record_on(self.name, self.start, text)?;
+        self.lines.pass(text.len());
+        self.start = bed.start;
+        Some(bed)
+    }
+
     /// How many bytes of lines were passed since the reader lent them.
     #[inline(always)]
     pub fn bytes_passed(&self) -> usize
@@ -147,6 +186,40 @@ impl<'a> WholeRecords<'a> {
             start: self.start,
         }
     }
+}
+
+// The text of the line that begins here, if a line feed alone ends it.
+fn whole_text(bytes: &[u8]) -> Option<&[u8]>
+    ensures found { IfSome result (λ text. BeginsWithLine bytes.now text.now) }
+    ensures none { result ≡ None → (text : List ℕ) → BeginsWithLine bytes.now text → ⊥ }
+{
+    let length = first_feed(bytes)?;
+    let text = &bytes[..length];
+    if text.last() == Some(&b'\r') {
+        return None;
+    }
+    Some(text)
+}
+
+// Where the first line feed stands.
+fn first_feed(bytes: &[u8]) -> Option<usize>
+    ensures { IsFirstFeed bytes.now result }
+{
+    bytes.iter().position(|byte| *byte == b'\n')
+}
+
+// The record that a line says, if it lies on the chromosome of this name and doesn't start before this.
+fn record_on<'a>(name: &[u8], start: u64, text: &'a [u8]) -> Option<BedRef<'a>>
+    ensures said { IfSome result (λ bed. IsRecordOn name.now start text.now (feature_lent bed)) }
+    ensures none { result ≡ None → (r : Feature) → IsRecordOn name.now start text.now r → ⊥ }
+{
+    let Ok(Some(bed)) = parse_bed(text) else {
+        return None;
+    };
+    if bed.chrom != name || bed.start < start {
+        return None;
+    }
+    Some(bed)
 }
 
 #[cfg(test)]

@@ -112,6 +112,33 @@ fn records_are_passed_up_to_a_line_with_a_carriage_return(rt: HostRuntime) -> Re
     Ok(())
 }
 
+// How many bytes were passed behind the first record, which is gone over again once a copy has passed three, and the
+// bounds of the record that comes there.
+fn stands_again(records: &Records<'_, ScriptSource<'_>, Genome>) -> Option<(usize, Bounds)> {
+    let whole = records.whole()?;
+    let mut ahead = whole;
+    let _ = ahead.next_bounds()?;
+    let bytes = ahead.bytes_passed();
+    let _ = ahead.next_bounds()?;
+    let _ = ahead.next_bounds()?;
+    let mut again = whole.up_to(bytes);
+    Some((again.bytes_passed(), again.next_bounds()?))
+}
+
+#[test]
+fn records_that_were_given_are_gone_over_again(rt: HostRuntime) -> Result<(), Fail> {
+    let alloc = rt.alloc();
+    let lengths = ScriptSource::new(b"chr1\t90\n", 7, None);
+    let mut lengths = LineReader::new(alloc, lengths, Input::Genome);
+    let genome = Genome::read(alloc, &mut lengths)?;
+    let text = b"chr1\t1\t5\nchr1\t2\t4\tn\t0\t-\nchr1\t02\t6\nchr1\t3\t06\n";
+    let records = behind_first(alloc, text, &genome)?;
+    let again = stands_again(&records);
+    let _ = records.into_reader().into_source();
+    assert_eq!(rt; again, Some((15, Bounds { start: 2, stop: 6 })));
+    Ok(())
+}
+
 // Two lines, and the bounds of the record of the second one, if it stands whole behind that of the first.
 type Pair = (&'static [u8], Option<(u64, u64)>);
 
