@@ -115,7 +115,7 @@ mod tests {
         Ok(())
     }
 
-    // Where the line of an interval doesn't fit into the block that is held back, and its name is long.
+    // Lines that aren't printed right into the block that is held back: one that doesn't fit, and one with a long name.
     #[test]
     fn a_line_is_put_across_a_block(rt: HostRuntime) -> Result<(), Fail> {
         let mut out = Out::new(ScriptSink::new(rt.alloc(), 3, None));
