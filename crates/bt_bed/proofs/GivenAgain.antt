@@ -62,7 +62,8 @@ record StandsAt (place whole : WholeRecords) : Type 0 where
   pub chrom : chrom_in whole ≡ chrom_in place
   pub start : start_in whole ≡ start_in place
 
-same_record : (old mid new : WholeRecords) (r other : Feature) → GivesWhole old r mid → GivesWhole old other new → r ≡ other
+-- one record comes next
+pub same_record : (old mid new : WholeRecords) (r other : Feature) → GivesWhole old r mid → GivesWhole old other new → r ≡ other
 same_record old mid new r other gives again =
     let text = same_text (rest_of (lines_in old)) gives.text again.text gives.line.begins again.line.begins in
     let both : Ok (Some r) ≡ Ok (Some other) = sym gives.says ∙ ap record_of text ∙ again.says in

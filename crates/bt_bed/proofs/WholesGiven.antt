@@ -1,5 +1,5 @@
 -- Lemmas on records that stand whole in what a reader took ahead, given one after another.
-use Rattle.std.proofs.Common.{◌≡◌, ℕ, ◌+◌, ◌<◌, suc, List, [], ◌∷◌, ◌++◌, length, drop, refl, ap, subst, ◌∙◌, arith, length-append, length-drop}
+use Rattle.std.proofs.Common.{◌≡◌, ℕ, ◌+◌, ◌<◌, suc, List, [], ◌∷◌, ◌++◌, length, drop, refl, sym, ap, subst, ◌∙◌, arith, length-append, length-drop}
 use Rattle.bt_lines.specs.Whole.{PassesLine, rest_of}
 use Rattle.bt_lines.specs.declared.whole.WholeLines.{WholeLines}
 use Rattle.bt_bed.specs.Feature.{Feature}
@@ -10,6 +10,24 @@ use Rattle.bt_bed.specs.declared.whole_records.WholeRecords.{WholeRecords}
 pub gives_more : (old : WholeRecords) (records : List Feature) (r : Feature) (mid new : WholeRecords) → GivesWholes old records mid → GivesWhole mid r new → GivesWholes old (records ++ r ∷ []) new
 gives_more old [] r mid new is next = (new, subst (λ (w : WholeRecords). GivesWhole w r new) is next, refl)
 gives_more old (x ∷ records) r mid new more next = (more.0, more.1, gives_more more.0 records r mid new more.2 next)
+
+-- records were given, and then others
+pub gives_append : (old : WholeRecords) (xs ys : List Feature) (mid new : WholeRecords) → GivesWholes old xs mid → GivesWholes mid ys new → GivesWholes old (xs ++ ys) new
+gives_append old [] ys mid new is more = subst (λ (w : WholeRecords). GivesWholes w ys new) is more
+gives_append old (x ∷ xs) ys mid new p more = (p.0, p.1, gives_append p.0 xs ys mid new p.2 more)
+
+-- what was given is split
+pub gives_split : (old : WholeRecords) (xs ys : List Feature) (new : WholeRecords) → GivesWholes old (xs ++ ys) new → (mid : WholeRecords) × GivesWholes old xs mid × GivesWholes mid ys new
+gives_split old [] ys new p = (old, refl, p)
+gives_split old (x ∷ xs) ys new p =
+    let more = gives_split p.0 xs ys new p.2 in
+    (more.0, (p.0, p.1, more.1), more.2)
+
+-- the last of some was given by itself
+pub gives_last : (old : WholeRecords) (records : List Feature) (r : Feature) (new : WholeRecords) → GivesWholes old (records ++ r ∷ []) new → (mid : WholeRecords) × GivesWholes old records mid × GivesWhole mid r new
+gives_last old records r new p =
+    let split = gives_split old records (r ∷ []) new p in
+    (split.0, split.1, subst (λ (w : WholeRecords). GivesWhole split.0 r w) (sym split.2.2) split.2.1)
 
 -- how many bytes weren't passed
 unfoldable pub bytes_ahead : WholeRecords → ℕ
@@ -28,3 +46,12 @@ line_shrinks old new text p =
 pub record_shrinks : (old new : WholeRecords) (r : Feature) → GivesWhole old r new → bytes_ahead new < bytes_ahead old
 unfolding bytes_ahead
 record_shrinks old new r p = line_shrinks (lines_in old) (lines_in new) p.text p.line
+
+-- and some records do so too
+pub records_shrink : (old new : WholeRecords) (records : List Feature) → GivesWholes old records new → 0 < length records → bytes_ahead new < bytes_ahead old
+records_shrink old new (r ∷ []) p some = subst (λ (w : WholeRecords). bytes_ahead w < bytes_ahead old) (sym p.2) (record_shrinks old p.0 r p.1)
+records_shrink old new (r ∷ x ∷ records) p some =
+    let one = record_shrinks old p.0 r p.1 in
+    let more = records_shrink p.0 new (x ∷ records) p.2 (omega arith) in
+    omega (arith, one, more)
+records_shrink old new [] p some = absurd (omega (arith, some))

@@ -8,15 +8,10 @@ use Rattle.bt_lines.specs.declared.fault.Fault.{Fault}
 use Rattle.bt_lines.proofs.OutputLemmas.{grows_both}
 use Rattle.bt_lines.proofs.PuttingLemmas.{grows_nothing}
 use Rattle.bt_bed.specs.Feature.{Feature}
-use Rattle.bt_bed.specs.WholeRecords.{GivesWhole, GivesWholes}
-pub use Rattle.bt_bed.proofs.WholesGiven.{bytes_ahead, gives_more, record_shrinks}
+use Rattle.bt_bed.specs.WholeRecords.{GivesWhole}
+pub use Rattle.bt_bed.proofs.WholesGiven.{bytes_ahead, gives_append, gives_more, record_shrinks}
 use Rattle.bt_bed.specs.declared.whole_records.WholeRecords.{WholeRecords}
 use Rattle.bt_runs.specs.Engine.{FailsAtGiven, FailsWhere, Feeds, TakesEach, TakesGiven}
-
--- records were given, and then others
-gives_both : (old mid new : WholeRecords) (first more : List Feature) → GivesWholes old first mid → GivesWholes mid more new → GivesWholes old (first ++ more) new
-gives_both old mid new [] more is next = subst (λ (m : WholeRecords). GivesWholes m more new) is next
-gives_both old mid new (r ∷ first) more given next = (given.0, given.1, gives_both given.0 mid new first more given.2 next)
 
 module _ {E : Type 0} (MayTake : E → List Feature → Type 0) (Stands : E → List Feature → E → Type 0) (fault : E → Option Told) (settled : E → List Feature → List ℕ) (Quiet : E → List Feature → Feature → Type 0) where
   -- one more record was taken
@@ -57,7 +52,7 @@ module _ {E : Type 0} (MayTake : E → List Feature → Type 0) (Stands : E → 
       → TakesGiven MayTake Stands fault settled Quiet old lines out new passed grown
   given_then old lines out mid before through new passed grown takes more = record {
     records = takes.records ++ more.records;
-    given = gives_both lines before passed takes.records more.records takes.given more.given;
+    given = gives_append lines takes.records more.records before passed takes.given more.given;
     taken = takes_both old out takes.records more.records mid through new grown takes.taken more.taken;
   }
 

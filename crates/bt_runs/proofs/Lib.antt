@@ -24,6 +24,7 @@ pub mod PooledLemmas
 pub mod WholeLemmas
 pub mod WholeStrandLemmas
 pub mod OpenSpanLemmas
+pub mod GatheringLemmas
 pub mod OneGap
 pub mod Walks
 pub mod GenomeRanks

@@ -37,3 +37,4 @@ pub mod CoveredLevels
 pub mod PlainLevels
 pub mod PlainStrands
 pub mod OpenSpan
+pub mod Gathering

@@ -33,6 +33,7 @@ mod engine;
 #[cfg(test)]
 mod example;
 mod failure;
+mod gathered;
 #[cfg(test)]
 mod growth_tests;
 pub mod laws;
@@ -42,6 +43,7 @@ mod merge_strand;
 mod open_ends;
 mod open_records;
 mod open_span;
+mod placed;
 pub mod plain;
 pub mod plain_depths;
 pub mod plain_gaps;

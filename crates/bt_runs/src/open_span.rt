@@ -1,10 +1,10 @@
 //! The open run of a merge as two numbers, to which a record is joined without a branch.
 
-ghost use Rattle.std.specs.Prelude.{◌≡◌, ◌+◌, ◌<◌, ◌≤◌, cond, List, ℕ, IfOk, IfSome};
+ghost use Rattle.std.specs.Prelude.{◌≡◌, ◌+◌, ◌<◌, ◌≤◌, cond, true, List, ℕ, [], IfSome};
 ghost use Rattle.bt_lines.specs.Number.{max_number};
 ghost use Rattle.bt_lines.specs.Putting.{Adds};
 ghost use Rattle.bt_bed.specs.IntervalLine.{interval_lines};
-ghost use Rattle.bt_runs.specs.MergeStep.{kept_then, left_by, settled_by, with_record};
+ghost use Rattle.bt_runs.specs.MergeStep.{kept_then, settled_by, with_record};
 ghost use Rattle.bt_runs.specs.OpenSpan.{IsSpan, run_in};
 ghost use Rattle.bt_runs.specs.WholeRuns.{IsInRange, bounds_at, kept_at};
 
@@ -25,7 +25,7 @@ pub(crate) struct Span {
 }
 
 // What stands for no run.
-const NONE: Span = Span {
+pub(crate) const NONE: Span = Span {
     start: u64::MAX,
     beyond: 0,
 };
@@ -66,54 +66,51 @@ pub(crate) fn run_of(gap: u64, span: Span) -> Option<Run>
     })
 }
 
-// What is open after a record on the chromosome of the open run. The run that the record has passed is written, and
-// the record is joined to the run, or opens one, if it counts.
+// What a record on the chromosome of the open run does to it.
+#[derive(Clone, Copy, Debug)]
+pub(crate) struct SpanStep {
+    // Whether it has passed the run.
+    pub(crate) passes: bool,
+    // What is open after it.
+    pub(crate) span: Span,
+}
+
+// What a record on the chromosome of the open run does to it: it passes it or not, and is joined to what is left, or
+// opens a run, if it counts. Where none is open, 0 less 1 wraps to the greatest number, which no start exceeds, so
+// that it passes none.
 #[inline(always)]
-pub(crate) fn next_span<K: Sink>(
-    gap: u64,
-    chrom: &[u8],
-    span: Span,
-    bounds: Bounds,
-    counted: bool,
-    out: &mut Out<K>,
-) -> Result<Span, Fault>
+pub(crate) fn span_step(gap: u64, span: Span, bounds: Bounds, counted: bool) -> SpanStep
     requires gap_in_range { gap ≤ max_number }
     requires is_span { IsSpan gap bounds.start span }
     requires non_empty { bounds.start < bounds.stop }
     requires record_in_range { bounds.stop ≤ max_number }
-    ensures adds { Adds out.old (interval_lines
-        (settled_by gap (kept_at chrom.now (run_in gap span)) (bounds_at chrom.now bounds))) result out.new }
-    ensures kept { IfOk result (λ next. kept_at chrom.now (run_in gap next)
-        ≡ kept_then gap counted (kept_at chrom.now (run_in gap span)) (bounds_at chrom.now bounds)) }
-    ensures is_span { IfOk result (IsSpan gap bounds.start) }
+    ensures settles { (chrom : List ℕ) → settled_by gap (kept_at chrom (run_in gap span)) (bounds_at chrom bounds)
+        ≡ cond result.passes (kept_at chrom (run_in gap span)) [] }
+    ensures kept { (chrom : List ℕ) → kept_at chrom (run_in gap result.span)
+        ≡ kept_then gap counted (kept_at chrom (run_in gap span)) (bounds_at chrom bounds) }
+    ensures is_span { IsSpan gap bounds.start result.span }
+    ensures ended { result.passes ≡ true → gap + 1 < span.beyond }
 {
-    let left = left_span(gap, chrom, span, bounds, out)?;
-    Ok(joined_span(gap, left, bounds, counted))
+    let passes = span.beyond.wrapping_sub(1) < bounds.start;
+    let left = if passes { NONE } else { span };
+    SpanStep {
+        passes,
+        span: joined_span(gap, left, bounds, counted),
+    }
 }
 
-// Writes the open run, if the record has passed it, and gives what is left. Where none is open, 0 less 1 wraps to the
-// greatest number, which no start exceeds, so that nothing is written.
+// Writes a run.
 #[inline(always)]
-fn left_span<K: Sink>(
+pub(crate) fn put_span<K: Sink>(
     gap: u64,
     chrom: &[u8],
     span: Span,
-    bounds: Bounds,
     out: &mut Out<K>,
-) -> Result<Span, Fault>
-    requires gap_in_range { gap ≤ max_number }
-    requires is_span { IsSpan gap bounds.start span }
-    ensures adds { Adds out.old (interval_lines
-        (settled_by gap (kept_at chrom.now (run_in gap span)) (bounds_at chrom.now bounds))) result out.new }
-    ensures left { IfOk result (λ left. kept_at chrom.now (run_in gap left)
-        ≡ left_by gap (kept_at chrom.now (run_in gap span)) (bounds_at chrom.now bounds)) }
-    ensures is_span { IfOk result (IsSpan gap bounds.start) }
+) -> Result<(), Fault>
+    requires ended { gap + 1 < span.beyond }
+    ensures { Adds out.old (interval_lines (kept_at chrom.now (run_in gap span))) result out.new }
 {
-    if span.beyond.wrapping_sub(1) < bounds.start {
-        put_interval(chrom, span.start, span.beyond - (gap + 1), out)?;
-        return Ok(NONE);
-    }
-    Ok(span)
+    put_interval(chrom, span.start, span.beyond - (gap + 1), out)
 }
 
 // The open run, or none, with a record that has not passed it, if that counts.

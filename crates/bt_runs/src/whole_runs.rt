@@ -1,21 +1,21 @@
 //! Merging several records on the chromosome of the open run, with the run and the place in the input at hand.
 
-ghost use Rattle.std.specs.Prelude.{◌≡◌, ◌≤◌, List, ℕ, [], ◌∷◌, None, Some, IfOk, IfSome};
+ghost use Rattle.std.specs.Prelude.{◌≡◌, ◌≤◌, List, ℕ, [], ◌∷◌, None, Some, IfOk};
 ghost use Rattle.bt_lines.specs.Number.{max_number};
 ghost use Rattle.bt_lines.specs.Putting.{Adds};
-ghost use Rattle.bt_bed.specs.Feature.{Feature};
 ghost use Rattle.bt_bed.specs.IntervalLine.{interval_lines};
-ghost use Rattle.bt_bed.specs.WholeRecords.{GivesWhole, start_in};
-ghost use Rattle.bt_runs.specs.Counted.{is_counted};
+ghost use Rattle.bt_bed.specs.WholeRecords.{start_in};
 ghost use Rattle.bt_runs.specs.MergeStep.{kept_then, left_by, settled_by, with_record};
 ghost use Rattle.bt_runs.specs.OpenSpan.{IsSpan, run_in};
 ghost use Rattle.bt_runs.specs.Taking.{run_at};
 ghost use Rattle.bt_runs.specs.WholeRuns.{IsInRange, MergesWhole, bounds_at, kept_at};
 ghost use Rattle.bt_runs.specs.declared.merge_strand.MergeStrand.TheVariants.{All, One};
 
+use crate::gathered::{NO_RUN, ROOM, gather, put_gathered};
 use crate::merge_strand::MergeStrand;
-use crate::open_span::{Span, next_span, run_of, span_of};
-use crate::pooled::{Run, counts};
+use crate::open_span::{Span, run_of, span_of};
+use crate::placed::next_placed;
+use crate::pooled::Run;
 use bt_bed::{Bounds, Strand, WholeRecords, put_interval};
 use bt_lines::{Fault, Out, Sink};
 
@@ -94,7 +94,8 @@ fn merge_one<K: Sink>(
 }
 
 // Merges those of records that have the strand, where the open run, or none, doesn't start after the record passed
-// last. It stands apart, so that the loop has the registers to itself.
+// last. The runs that they pass are written several at a time: where one of them can't be written, the records are
+// gone over again, up to the one that has passed it. It stands apart, so that the loop has the registers to itself.
 #[inline(never)]
 fn merge_spans<K: Sink>(
     gap: u64,
@@ -110,42 +111,20 @@ fn merge_spans<K: Sink>(
     let chrom = records.chrom();
     let mut span = first;
     let mut whole = *records;
-    while let Some(placed) = next_placed(wanted, &mut whole) {
-        match next_span(gap, chrom, span, placed.bounds, placed.counted, out) {
-            Ok(next) => span = next,
-            Err(fault) => {
-                *records = whole;
-                return Err(fault);
-            }
+    let mut runs = [NO_RUN; ROOM];
+    loop {
+        let before = whole;
+        let gathered = gather(gap, wanted, span, &mut whole, &mut runs);
+        if let Err(cut) = put_gathered(gap, chrom, &runs[..gathered.count], out) {
+            *records = before.up_to(cut.bytes);
+            return Err(cut.fault);
+        }
+        span = gathered.span;
+        if gathered.count < ROOM {
+            *records = whole;
+            return Ok(run_of(gap, span));
         }
     }
-    *records = whole;
-    Ok(run_of(gap, span))
-}
-
-// Where a record lies, and whether it is merged.
-#[derive(Clone, Copy, Debug)]
-struct Placed {
-    bounds: Bounds,
-    counted: bool,
-}
-
-// The next record, which is passed.
-#[inline(always)]
-fn next_placed(wanted: Strand, records: &mut WholeRecords<'_>) -> Option<Placed>
-    ensures given { IfSome result (λ placed. (r : Feature) × GivesWhole records.old r records.new
-        × (r.start ≡ placed.bounds.start) × (r.stop ≡ placed.bounds.stop)
-        × (is_counted (One wanted) r.strand ≡ placed.counted)) }
-    ensures none { result ≡ None → records.new ≡ records.old }
-{
-    let bed = records.next()?;
-    Some(Placed {
-        bounds: Bounds {
-            start: bed.start,
-            stop: bed.stop,
-        },
-        counted: counts(MergeStrand::One(wanted), bed.strand),
-    })
 }
 
 // What is open after a record on the chromosome of the open run. The run that the record has passed is written, and

@@ -28,12 +28,14 @@ const BOUNDS: [(u64, u64); 7] = [
     (98, 99),
 ];
 
-// What the records are like: each on another strand than the one before, or in chains of one strand, and then short ones
-// behind a long one of another strand.
+// What the records are like: each on another strand than the one before; in chains of one strand, and then short ones
+// behind a long one of another strand; or apart from one another, four of five on one strand, so that they are more runs
+// than are written at a time.
 #[derive(Clone, Copy)]
 enum Layout {
     Mixed,
     Chains,
+    Apart,
 }
 
 // Where a record lies: of the mixed ones each seven lie up to 100 further on.
@@ -71,12 +73,23 @@ fn chain_strand(number: u64) -> &'static str
     if number == CHAINED { "+" } else { "-" }
 }
 
+fn apart_bounds(number: u64) -> (u64, u64)
+    requires { number < RECORDS }
+{
+    (10 * number, 10 * number + 7)
+}
+
+fn apart_strand(number: u64) -> &'static str {
+    if number % 5 == 3 { "-" } else { "+" }
+}
+
 fn line_of(alloc: Global, layout: Layout, number: u64) -> Result<String, AllocError>
     requires { number < RECORDS }
 {
     let ((start, stop), strand) = match layout {
         Layout::Mixed => (mixed_bounds(number), STRANDS[(number % 3) as usize]),
         Layout::Chains => (chain_bounds(number), chain_strand(number)),
+        Layout::Apart => (apart_bounds(number), apart_strand(number)),
     };
     format!(in alloc; "chr1\t{start}\t{stop}\tname\t0\t{strand}")
 }
@@ -160,7 +173,7 @@ fn check_merge(
 ) -> Result<(), Fail>
     requires { d < 1000 }
 {
-    for layout in [Layout::Mixed, Layout::Chains] {
+    for layout in [Layout::Mixed, Layout::Chains, Layout::Apart] {
         let several = Merge::new(alloc, d, strand);
         let single = Merge::new(alloc, d, strand);
         check_whole(rt, alloc, layout, several, single, name)?;
@@ -180,6 +193,52 @@ fn merge_of_a_strand(rt: HostRuntime) -> Result<(), Fail> {
     check_merge(&rt, rt.alloc(), 0, plus, "merge -S +")?;
     check_merge(&rt, rt.alloc(), 2, plus, "merge -S + -d 2")?;
     check_merge(&rt, rt.alloc(), 100, plus, "merge -S + -d 100")
+}
+
+// Lines of records that lie apart.
+const APART: &[u8] =
+    b"chr1\t0\t1\tname\t0\t+\nchr1\t10\t11\tname\t0\t+\nchr1\t20\t21\tname\t0\t+\nchr1\t30\t31\tname\t0\t+\n\
+chr1\t40\t41\tname\t0\t+\n";
+
+// The output has room for the line of the first run, and not for that of the second: a merge fails at the record that has
+// passed that, and the next one is given behind it.
+#[test]
+fn a_run_of_several_that_cannot_be_written(rt: HostRuntime) -> Result<(), Fail> {
+    let source = ScriptSource::new(APART, 8192, None);
+    let reader = LineReader::new(rt.alloc(), source, Input::First);
+    let mut records = Records::new(rt.alloc(), reader, &ByteOrder);
+    let mut merge = Merge::new(rt.alloc(), 0, MergeStrand::One(Strand::Plus));
+    let mut out = Out::new(ScriptSink::new(rt.alloc(), 512, Some(0)));
+    out.put(&[b'.'; 8180])?;
+    let next = start_behind_a_fault(&mut records, &mut merge, &mut out)?;
+    let _ = records.into_reader().into_source();
+    let _ = out.into_sink();
+    assert_eq!(rt; next, Some(30));
+    Ok(())
+}
+
+// Feeds a merge with the first record by itself and then with those that stand whole, which has to fail, and gives the
+// start of the record that comes then.
+fn start_behind_a_fault<K: Sink>(
+    records: &mut Records<'_, ScriptSource<'_>, ByteOrder>,
+    merge: &mut Merge,
+    out: &mut Out<K>,
+) -> Result<Option<u64>, Fault> {
+    match records.peek()? {
+        None => return Ok(None),
+        Some(first) => merge.feed(&first, out)?,
+    }
+    records.advance();
+    let Some(mut whole) = records.whole() else {
+        return Ok(None);
+    };
+    if merge.feed_whole(&mut whole, out).is_ok() {
+        return Ok(None);
+    }
+    match whole.next() {
+        None => Ok(None),
+        Some(bed) => Ok(Some(bed.start)),
+    }
 }
 
 #[test]

@@ -13,7 +13,7 @@ use Rattle.bt_bed.specs.Feature.{Feature}
 use Rattle.bt_bed.specs.Order.{Order, IsTotal}
 use Rattle.bt_bed.specs.WholeRecords.{GivesWhole, GivesWholes, chrom_in}
 use Rattle.bt_bed.specs.declared.whole_records.WholeRecords.{WholeRecords}
-use Rattle.bt_bed.proofs.WholesGiven.{gives_more}
+use Rattle.bt_bed.proofs.WholesGiven.{gives_more, gives_split}
 use Rattle.bt_sweep.specs.Held.{AreRising}
 use Rattle.bt_sweep.specs.IntersectLines.{lines_for}
 use Rattle.bt_sweep.specs.Passing.{FailsAtFirst, WritesAny, WritesFirst, WritesFirsts}
@@ -22,7 +22,6 @@ use Rattle.bt_sweep.specs.StateSteps.{KeepsLast, NeedsHit, TakesA, held_with, mo
 use Rattle.bt_sweep.specs.Steps.{Fails}
 use Rattle.bt_sweep.specs.SweepState.{Sweeping, want_in, want_of}
 use Rattle.bt_sweep.specs.declared.want.Want.TheVariants.{A, B, Nothing}
-use Rattle.bt_sweep.proofs.LeapLemmas.{gives_split}
 use Rattle.bt_sweep.proofs.PassingLemmas.{on_chrom, some_more}
 use Rattle.bt_sweep.proofs.StateLemmas.{none_of}
 use Rattle.bt_sweep.proofs.StepLemmas.{gives_a, next_rises}

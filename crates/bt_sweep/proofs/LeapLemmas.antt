@@ -13,7 +13,7 @@ use Rattle.bt_bed.specs.Order.{Order, IsTotal}
 use Rattle.bt_lines.specs.Whole.{passed_by}
 use Rattle.bt_bed.specs.WholeRecords.{GivesWhole, GivesWholes, chrom_in, lines_in}
 use Rattle.bt_bed.specs.declared.whole_records.WholeRecords.{WholeRecords}
-use Rattle.bt_bed.proofs.WholesGiven.{bytes_ahead, gives_more, record_shrinks}
+use Rattle.bt_bed.proofs.WholesGiven.{bytes_ahead, gives_append, gives_more, gives_split, record_shrinks}
 use Rattle.bt_sweep.specs.Deciding.{decides}
 use Rattle.bt_sweep.specs.IntersectLines.{lines_for}
 use Rattle.bt_sweep.specs.Passing.{PassesRound, PassesRounds, PassesSecond, PassesSeconds, PassesSkipped, Round, Skipped, firsts_of, next_after, seconds_of, skipped_records}
@@ -26,18 +26,6 @@ use Rattle.bt_sweep.specs.declared.want.Want.TheVariants.{A, B}
 use Rattle.bt_sweep.proofs.PassingLemmas.{decided_front, gives_one, last_of_front, none_hits, on_chrom, passes_second, passes_several}
 use Rattle.bt_sweep.proofs.StepLemmas.{last_waits, writes_a}
 use Rattle.bt_sweep.proofs.UnhitLemmas.{puts_none}
-
--- ---- records that were given
-
-pub gives_append : (old : WholeRecords) (xs ys : List Feature) (mid new : WholeRecords) → GivesWholes old xs mid → GivesWholes mid ys new → GivesWholes old (xs ++ ys) new
-gives_append old [] ys mid new is more = subst (λ (w : WholeRecords). GivesWholes w ys new) is more
-gives_append old (x ∷ xs) ys mid new p more = (p.0, p.1, gives_append p.0 xs ys mid new p.2 more)
-
-pub gives_split : (old : WholeRecords) (xs ys : List Feature) (new : WholeRecords) → GivesWholes old (xs ++ ys) new → (mid : WholeRecords) × GivesWholes old xs mid × GivesWholes mid ys new
-gives_split old [] ys new p = (old, refl, p)
-gives_split old (x ∷ xs) ys new p =
-    let more = gives_split p.0 xs ys new p.2 in
-    (more.0, (p.0, p.1, more.1), more.2)
 
 -- ---- records that are skipped
 

@@ -1,21 +1,19 @@
 -- Lemmas on what a sweep does where going over both inputs it meets two records that share a base.
-use Rattle.std.proofs.Common.{◌≡◌, ℕ, ◌+◌, ◌<◌, ◌&&◌, Bool, true, false, cond, List, [], ◌∷◌, ◌++◌, Option, Some, None, Ok, inl, inr, refl, sym, ap, ◌∙◌, subst, not, drop, filter, length, ltb, bytes_eq, append-nil, append_assoc}
-use Rattle.std.specs.Prelude.{IsTrue, ◌==◌, ◌⊎◌}
-use Rattle.std.specs.List.{AllByRecursion}
+use Rattle.std.proofs.Common.{◌≡◌, ℕ, ◌+◌, ◌<◌, ◌&&◌, Bool, true, false, cond, List, [], ◌∷◌, ◌++◌, Option, Some, None, inl, inr, refl, sym, ap, ◌∙◌, subst, not, filter, length, ltb, bytes_eq, append-nil, append_assoc}
+use Rattle.std.specs.Prelude.{IsTrue, ◌⊎◌}
 use Rattle.std.proofs.lemmas.Bool.{and_from, lt-ltb}
-use Rattle.std.proofs.lemmas.List.Elements.{All-from_recursion, recursion_from_All}
+use Rattle.std.proofs.lemmas.List.Elements.{All-from_recursion}
 use Rattle.std.specs.declared.cmp.Ordering.{Ordering}
 use Rattle.std.specs.declared.cmp.Ordering.TheVariants.{Equal}
 use Rattle.bt_lines.specs.Output.{Output}
-use Rattle.bt_lines.specs.Whole.{BeginsWithLine, rest_of}
 use Rattle.bt_bed.specs.Feature.{Feature}
 use Rattle.bt_bed.specs.Locus.{is_below_at}
 use Rattle.bt_bed.specs.Order.{Order, IsTotal}
-use Rattle.bt_bed.specs.Record.{record_of}
-use Rattle.bt_bed.specs.WholeRecords.{GivesWhole, GivesWholes, chrom_in, lines_in}
+use Rattle.bt_bed.specs.WholeRecords.{GivesWhole, GivesWholes, chrom_in}
 use Rattle.bt_bed.specs.declared.whole_records.WholeRecords.{WholeRecords}
+use Rattle.bt_bed.proofs.GivenAgain.{same_record}
 use Rattle.bt_bed.proofs.NameLemmas.{name_eq}
-use Rattle.bt_bed.proofs.WholesGiven.{gives_more}
+use Rattle.bt_bed.proofs.WholesGiven.{gives_append, gives_more, gives_split}
 use Rattle.bt_sweep.specs.Deciding.{decides}
 use Rattle.bt_sweep.specs.Held.{AreWith, CanHit}
 use Rattle.bt_sweep.specs.Passing.{PassesRounds, Round, Skipped, TakesBoth, GivesSecond, firsts_of, next_after, seconds_of, skipped_records}
@@ -27,37 +25,10 @@ use Rattle.bt_sweep.specs.Steps.{has_room}
 use Rattle.bt_sweep.specs.SweepState.{Sweeping, want_in, want_of}
 use Rattle.bt_sweep.specs.declared.unhit.Unhit.TheVariants.{Nothing}
 use Rattle.bt_sweep.specs.declared.want.Want.TheVariants.{B}
-use Rattle.bt_sweep.proofs.LeapLemmas.{alone, firsts_alone, firsts_more, gives_append, it_waits, leaps_rounds, gives_split, leapt_chrom, next_chrom, next_leapt, rounds_alone, seconds_alone, seconds_more, skip_done}
+use Rattle.bt_sweep.proofs.LeapLemmas.{alone, firsts_alone, firsts_more, it_waits, leaps_rounds, leapt_chrom, next_chrom, next_leapt, rounds_alone, seconds_alone, seconds_more, skip_done}
 use Rattle.bt_sweep.proofs.PassingLemmas.{on_chrom, passes_all_before}
 use Rattle.bt_sweep.proofs.StateLemmas.{added_with}
 use Rattle.bt_sweep.proofs.StepLemmas.{last_waits, takes_b}
-
--- ---- a line says one record
-
-same_front : (xs ys : List ℕ) (more rest : List ℕ) → AllByRecursion (λ byte. (byte == 10) ≡ false) xs → AllByRecursion (λ byte. (byte == 10) ≡ false) ys → xs ++ 10 ∷ more ≡ ys ++ 10 ∷ rest → xs ≡ ys
-same_front [] [] more rest clear clear_too e = refl
-same_front [] (y ∷ ys) more rest clear clear_too e =
-    let is : 10 ≡ y = let both : 10 ∷ more ≡ y ∷ (ys ++ 10 ∷ rest) = e in cc in
-    absurd (let no : (10 == 10) ≡ false = subst (λ n. (n == 10) ≡ false) (sym is) clear_too.0 in cc)
-same_front (x ∷ xs) [] more rest clear clear_too e =
-    let is : x ≡ 10 = let both : x ∷ (xs ++ 10 ∷ more) ≡ 10 ∷ rest = e in cc in
-    absurd (let no : (10 == 10) ≡ false = subst (λ n. (n == 10) ≡ false) is clear.0 in cc)
-same_front (x ∷ xs) (y ∷ ys) more rest clear clear_too e =
-    let both : x ∷ (xs ++ 10 ∷ more) ≡ y ∷ (ys ++ 10 ∷ rest) = e in
-    let head : x ≡ y = cc in
-    let tail : xs ++ 10 ∷ more ≡ ys ++ 10 ∷ rest = cc in
-    ap (λ n. n ∷ xs) head ∙ ap (λ l. y ∷ l) (same_front xs ys more rest clear.1 clear_too.1 tail)
-
-same_text : (bytes xs ys : List ℕ) → BeginsWithLine bytes xs → BeginsWithLine bytes ys → xs ≡ ys
-same_text bytes xs ys is is_too =
-    same_front xs ys (drop (length xs + 1) bytes) (drop (length ys + 1) bytes) (recursion_from_All (λ (byte : ℕ). (byte == 10) ≡ false) xs is.clear) (recursion_from_All (λ (byte : ℕ). (byte == 10) ≡ false) ys is_too.clear) (sym is.cut ∙ is_too.cut)
-
--- so the record that comes next is one
-same_whole : (old : WholeRecords) (r other : Feature) (new new_too : WholeRecords) → GivesWhole old r new → GivesWhole old other new_too → r ≡ other
-same_whole old r other new new_too gives gives_too =
-    let text = same_text (rest_of (lines_in old)) gives.text gives_too.text gives.line.begins gives_too.line.begins in
-    let both : Ok (Some r) ≡ Ok (Some other) = sym gives.says ∙ ap record_of text ∙ gives_too.says in
-    cc
 
 -- ---- what is kept
 
@@ -84,7 +55,7 @@ module _ (old : Option Feature) (first : Feature) (firsts seconds : WholeRecords
   keeps_met false leap met b behind gives kept is = absurd (let both : false ≡ true = met in cc)
   keeps_met true leap is_met b behind gives kept is =
       let met = leap.halts.end in
-      let same = same_whole new_seconds met.b b met.behind behind met.gives gives in
+      let same = same_record new_seconds met.behind behind met.b b met.gives gives in
       record {
         before = last_leapt first leap.rounds;
         mid_firsts = leap.mid;

@@ -1,26 +1,37 @@
-use Rattle.bt_runs.proofs.EachTaken.{record_shrinks}
-use Rattle.bt_runs.proofs.OpenSpanLemmas.{span_in_range}
-use Rattle.bt_runs.proofs.WholeLemmas.{fails_next, merges_next}
-use Rattle.bt_runs.specs.OpenSpan.{IsSpan, run_in}
+use Rattle.std.proofs.Common.{rules, Option, Ok, Err, subst, sym, ◌∙◌}
+use Rattle.bt_runs.specs.OpenSpan.{run_in}
+use Rattle.bt_runs.specs.WholeRuns.{MergesGiven}
 use Rattle.bt_runs.specs.declared.merge_strand.MergeStrand.TheVariants.{One}
-use Rattle.std.proofs.Common.{ℕ, subst, sym, ◌∙◌}
+use Rattle.bt_runs.specs.declared.pooled.Run.{Run}
+use Rattle.bt_runs.proofs.GatheringLemmas.{fails_gathered, gathers_some, merges_gathered}
+use Rattle.bt_runs.proofs.WholeLemmas.{merges_on}
 use Rattle.bt_runs.proofs.whole_runs.merge_spans.Goals as goal
-
-pub loop-placed-smaller : goal.loop-placed-smaller
-loop-placed-smaller g c = record_shrinks c.loop-placed.whole c.next_placed.new.records c.in-Some.ensures.given.0 c.in-Some.ensures.given.1
-
-pub loop-placed-preserved : goal.loop-placed-preserved
-loop-placed-preserved g c =
-    let given = c.in-Some.ensures.given in (
-      merges_next c.args.gap (One c.args.wanted) (run_in c.args.gap c.args.first) c.args.records.now c.args.out.now (run_in c.args.gap c.loop-placed.span) c.loop-placed.whole c.loop-placed.out c.loop-placed.invariant.0
-          given.0 c.in-Some.placed.bounds c.in-Some.placed.counted c.next_placed.new.records given.1 given.2 given.3 given.4
-          c.chrom-chrom.result.now (run_in c.args.gap c.in-Ok.next) c.next_span.new.out c.chrom-chrom.ensures c.in-Ok.ensures.adds c.in-Ok.ensures.kept (span_in_range c.args.gap c.in-Some.placed.bounds.start c.in-Ok.next c.in-Ok.ensures.is_span),
-      subst (λ (last : ℕ). IsSpan c.args.gap last c.in-Ok.next) (sym (given.1.start ∙ given.2)) c.in-Ok.ensures.is_span,
-    )
 
 pub returns-in-Err : goal.returns-in-Err
 returns-in-Err g c =
-    let given = c.in-Some.ensures.given in
-    fails_next c.args.gap (One c.args.wanted) (run_in c.args.gap c.args.first) c.args.records.now c.args.out.now (run_in c.args.gap c.loop-placed.span) c.loop-placed.whole c.loop-placed.out c.loop-placed.invariant.0
-    given.0 c.in-Some.placed.bounds c.in-Some.placed.counted c.next_placed.new.records given.1 given.2 given.3 given.4
-    c.chrom-chrom.result.now c.in-Err.fault c.next_span.new.out c.chrom-chrom.ensures c.in-Err.ensures.adds
+    merges_on c.args.gap (One c.args.wanted) (run_in c.args.gap c.args.first) c.args.records.now c.args.out.now
+    (run_in c.args.gap c.loop-cut.span) c.loop-cut.whole c.loop-cut.out c.loop-cut.invariant.0 c.up_to.result c.put_gathered.new.out (Err c.in-Err.cut.fault)
+    (fails_gathered c.args.gap c.args.wanted c.loop-cut.span c.loop-cut.whole _ c.gather-gathered.result.span c.gather-gathered.new.records c.gather-gathered.ensures.gathers
+    c.chrom-chrom.result.now (c.chrom-chrom.ensures ∙ sym c.loop-cut.invariant.0.same_chrom) c.loop-cut.out c.put_gathered.new.out c.in-Err.cut c.up_to.result c.in-Err.ensures c.up_to.ensures)
+
+pub returns-then-gathered-lt-ROOM : goal.returns-then-gathered-lt-ROOM
+returns-then-gathered-lt-ROOM g c =
+    subst (λ (run : Option Run). MergesGiven c.args.gap (One c.args.wanted) (run_in c.args.gap c.args.first) c.args.records.now c.args.out.now run c.gather-gathered.new.records c.put_gathered.new.out) (sym c.run_of.ensures)
+    (merges_on c.args.gap (One c.args.wanted) (run_in c.args.gap c.args.first) c.args.records.now c.args.out.now
+    (run_in c.args.gap c.loop-cut.span) c.loop-cut.whole c.loop-cut.out c.loop-cut.invariant.0 c.gather-gathered.new.records c.put_gathered.new.out (Ok (run_in c.args.gap c.gather-gathered.result.span))
+    (merges_gathered c.args.gap c.args.wanted c.loop-cut.span c.loop-cut.whole _ c.gather-gathered.result.span c.gather-gathered.new.records c.gather-gathered.ensures.gathers
+    c.chrom-chrom.result.now (c.chrom-chrom.ensures ∙ sym c.loop-cut.invariant.0.same_chrom) c.loop-cut.out c.put_gathered.new.out c.in_default.ensures))
+
+pub loop-cut-smaller : goal.loop-cut-smaller
+loop-cut-smaller g c =
+    gathers_some c.args.gap c.args.wanted c.loop-cut.span c.loop-cut.whole _ c.gather-gathered.result.span c.gather-gathered.new.records c.gather-gathered.ensures.gathers
+    c.chrom-chrom.result.now (c.chrom-chrom.ensures ∙ sym c.loop-cut.invariant.0.same_chrom) c.loop-cut.out c.put_gathered.new.out (search rules)
+
+pub loop-cut-preserved : goal.loop-cut-preserved
+loop-cut-preserved g c = (
+  merges_on c.args.gap (One c.args.wanted) (run_in c.args.gap c.args.first) c.args.records.now c.args.out.now
+      (run_in c.args.gap c.loop-cut.span) c.loop-cut.whole c.loop-cut.out c.loop-cut.invariant.0 c.gather-gathered.new.records c.put_gathered.new.out (Ok (run_in c.args.gap c.gather-gathered.result.span))
+      (merges_gathered c.args.gap c.args.wanted c.loop-cut.span c.loop-cut.whole _ c.gather-gathered.result.span c.gather-gathered.new.records c.gather-gathered.ensures.gathers
+      c.chrom-chrom.result.now (c.chrom-chrom.ensures ∙ sym c.loop-cut.invariant.0.same_chrom) c.loop-cut.out c.put_gathered.new.out c.in_default.ensures),
+  c.gather-gathered.ensures.is_span,
+)
