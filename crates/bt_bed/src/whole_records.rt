@@ -1,9 +1,7 @@
 //! Records that stand whole in what a reader took ahead.
 
-ghost use Rattle.std.specs.Prelude.{◌≡◌, List, ℕ, None, IfSome};
-ghost use Rattle.bt_lines.specs.Block.{IsFirstFeed};
+ghost use Rattle.std.specs.Prelude.{◌≡◌, List, None, IfSome};
 ghost use Rattle.bt_lines.specs.LentLine.{NoLineFeed};
-ghost use Rattle.bt_lines.specs.Whole.{BeginsWithLine};
 ghost use Rattle.bt_bed.specs.Bed.{feature_lent};
 ghost use Rattle.bt_bed.specs.Feature.{Feature};
 ghost use Rattle.bt_bed.specs.FirstColumns.{IsRecordName};
@@ -129,9 +127,9 @@ impl<'a> WholeRecords<'a> {
         self.lines.before_last(&later.lines)
     }
 
-    /// These, gone on to where so many bytes of lines were passed ([`WholeRecords::bytes_passed`]): for one who was given
-    /// records by a copy of these, and has to stand behind one before the last of them. They are gone over once more, so
-    /// that nothing has to be kept for each record.
+    /// These, gone on to where so many bytes of lines were passed: as many as [`WholeRecords::bytes_passed`] gave behind a
+    /// record that a copy of these was given. For another number nothing is said of where they stand. The records are gone
+    /// over once more, so that one who may have to go back to one of them keeps nothing but that number.
     #[cold]
     #[inline(never)]
     pub fn up_to(&self, bytes: usize) -> WholeRecords<'a>
@@ -147,14 +145,14 @@ impl<'a> WholeRecords<'a> {
         whole
     }
 
-    // The next record, which is passed. There is one wherever a record's line stands whole, where `next` may end before:
-    // so what was given once is given again.
+    // The next record, which is passed. It is given wherever the line of one stands whole, while `next` may give none at any
+    // record: so what was given before is given again.
     fn next_again(&mut self) -> Option<BedRef<'a>>
         ensures given { IfSome result (λ bed. GivesWhole self.old (feature_lent bed) self.new) }
         ensures none { result ≡ None → (r : Feature) (new : WholeRecords) → GivesWhole self.old r new → ⊥ }
         ensures unchanged { result ≡ None → self.new ≡ self.old }
     {
-        let text = whole_text(self.lines.rest())?;
+        let text = self.lines.text()?;
         let bed = record_on(self.name, self.start, text)?;
         self.lines.pass(text.len());
         self.start = bed.start;
@@ -186,26 +184,6 @@ impl<'a> WholeRecords<'a> {
             start: self.start,
         }
     }
-}
-
-// The text of the line that begins here, if a line feed alone ends it.
-fn whole_text(bytes: &[u8]) -> Option<&[u8]>
-    ensures found { IfSome result (λ text. BeginsWithLine bytes.now text.now) }
-    ensures none { result ≡ None → (text : List ℕ) → BeginsWithLine bytes.now text → ⊥ }
-{
-    let length = first_feed(bytes)?;
-    let text = &bytes[..length];
-    if text.last() == Some(&b'\r') {
-        return None;
-    }
-    Some(text)
-}
-
-// Where the first line feed stands.
-fn first_feed(bytes: &[u8]) -> Option<usize>
-    ensures { IsFirstFeed bytes.now result }
-{
-    bytes.iter().position(|byte| *byte == b'\n')
 }
 
 // The record that a line says, if it lies on the chromosome of this name and doesn't start before this.

@@ -18,6 +18,7 @@ pub mod ScriptLemmas
 pub mod ReadsLemmas
 pub mod ReaderLemmas
 pub mod StepLemmas
+pub mod LineLemmas
 pub mod WholeLemmas
 pub mod SightLemmas
 pub mod HeldLines

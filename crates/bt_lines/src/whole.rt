@@ -42,7 +42,7 @@ pub struct PassedLines {
 
 #[tactic(auto, unfolding(crate::specs::Whole::rest_of, crate::specs::Whole::sight_of, crate::specs::Whole::passed_by))]
 impl<'a> WholeLines<'a> {
-    ghost use Rattle.std.specs.Prelude.{◌≡◌, ◌<◌, List, ℕ, IfSome};
+    ghost use Rattle.std.specs.Prelude.{◌≡◌, ◌<◌, List, ℕ, None, IfSome};
     ghost use Rattle.bt_lines.specs.Whole.{AreLines, Begins, BeginsAsShown, BeginsWithLine, PassesLine, PassesLines, passed_by, rest_of, sight_of};
 
     // Those of some bytes, with which more begin.
@@ -63,9 +63,10 @@ impl<'a> WholeLines<'a> {
     /// The text of the next line, if one stands whole here and ends with a line feed alone.
     #[inline(always)]
     pub fn text(&self) -> Option<&'a [u8]>
-        ensures { IfSome result (λ text. BeginsWithLine (rest_of self.now) text.now) }
+        ensures found { IfSome result (λ text. BeginsWithLine (rest_of self.now) text.now) }
+        ensures none { result ≡ None → (text : List ℕ) → BeginsWithLine (rest_of self.now) text → ⊥ }
     {
-        let rest = &self.bytes[self.at..];
+        let rest = self.rest();
         let length = first_feed(rest)?;
         let text = &rest[..length];
         if ends_with_return(text) {

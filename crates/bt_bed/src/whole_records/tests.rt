@@ -112,8 +112,8 @@ fn records_are_passed_up_to_a_line_with_a_carriage_return(rt: HostRuntime) -> Re
     Ok(())
 }
 
-// How many bytes were passed behind the first record, which is gone over again once a copy has passed three, and the
-// bounds of the record that comes there.
+// A copy passes three records, and the first of them is gone over again: how many bytes were passed there, and the bounds
+// of the record that comes next.
 fn stands_again(records: &Records<'_, ScriptSource<'_>, Genome>) -> Option<(usize, Bounds)> {
     let whole = records.whole()?;
     let mut ahead = whole;
