@@ -1,4 +1,4 @@
--- Lemmas on runs that are gathered so as to be written together.
+-- Lemmas on runs that are settled, and gathered so as to be written together.
 use Rattle.std.proofs.Common.{rules, ◌≡◌, ℕ, ◌+◌, ◌<◌, Bool, true, false, cond, List, [], ◌∷◌, ◌++◌, length, take, drop, set, get_or, suc, refl, sym, ap, subst, ◌∙◌, append_assoc, append-nil, arith, take-suc-set, take-suc, length-append}
 use Rattle.std.proofs.lemmas.List.{take-set}
 use Rattle.std.proofs.lemmas.List.Elements.{All-append, All-cons, All-nil}
@@ -18,11 +18,11 @@ use Rattle.bt_bed.specs.declared.strand.Strand.{Strand}
 use Rattle.bt_bed.specs.declared.whole_records.WholeRecords.{WholeRecords}
 use Rattle.bt_bed.proofs.WholesGiven.{bytes_ahead, gives_last, gives_more, records_shrink}
 use Rattle.bt_runs.specs.Counted.{is_counted}
-use Rattle.bt_runs.specs.Gathering.{AddsEach, CutsAt, EachBehind, Gathers, IsPassed, line_of}
+use Rattle.bt_runs.specs.Gathering.{AddsEach, FailsAtRun, EachBehind, Gathers, IsSettled, line_of}
 use Rattle.bt_runs.specs.MergeStep.{kept_then, settled_by}
 use Rattle.bt_runs.specs.OpenSpan.{run_in}
 use Rattle.bt_runs.specs.WholeRuns.{FailsToMerge, IsInRange, MergesGiven, bounds_at, kept_at}
-use Rattle.bt_runs.specs.declared.gathered.Cut.{Cut}
+use Rattle.bt_runs.specs.declared.gathered.FailedRun.{FailedRun}
 use Rattle.bt_runs.specs.declared.gathered.GatheredRun.{GatheredRun}
 use Rattle.bt_runs.specs.declared.merge_strand.MergeStrand.TheVariants.{One}
 use Rattle.bt_runs.specs.declared.open_span.Span.{Span}
@@ -51,10 +51,10 @@ module _ (gap : ℕ) (chrom : List ℕ) where
       subst (λ (l : List GatheredRun). AddsEach gap chrom old l new) (sym (take-suc runs index default low) ∙ ap (λ n. take n runs) (sym one)) (adds_more (take index runs) (get_or runs index default) old through new adds grown)
 
   -- it can't put that
-  pub cuts_at : (runs : List GatheredRun) (index : ℕ) (default : GatheredRun) (old through new : Output) (fault : Fault) → index < length runs → AddsEach gap chrom old (take index runs) through
+  pub fails_at_run : (runs : List GatheredRun) (index : ℕ) (default : GatheredRun) (old through new : Output) (fault : Fault) → index < length runs → AddsEach gap chrom old (take index runs) through
       → FailsToAdd through (line_of gap chrom (get_or runs index default)) (told fault) new
-      → CutsAt gap chrom old runs (record { fault = fault; bytes = (get_or runs index default).bytes }) new
-  cuts_at runs index default old through new fault low adds fails = record {
+      → FailsAtRun gap chrom old runs (record { fault = fault; bytes = (get_or runs index default).bytes }) new
+  fails_at_run runs index default old through new fault low adds fails = record {
     before = take index runs;
     run = get_or runs index default;
     after = drop (suc index) runs;
@@ -95,7 +95,7 @@ module _ (gap : ℕ) (wanted : Strand) (first : Span) (lines : WholeRecords) whe
   begins_gathering range = record {
     records = [];
     given = refl;
-    as_many = search rules;
+    no_more = search rules;
     ended = search rules;
     merges = λ passed out grown is adds.
         subst (λ (w : WholeRecords). MergesGiven gap (One wanted) (run_in gap first) lines out (run_in gap first) w grown) (sym is)
@@ -139,16 +139,16 @@ module _ (gap : ℕ) (wanted : Strand) (first : Span) (lines : WholeRecords) whe
           → Gathers gap wanted first lines (cond passes (runs ++ record { span = open_run; bytes = bytes } ∷ []) runs) next passed
       gathers_next true bytes place settles ends =
           let run : GatheredRun = record { span = open_run; bytes = bytes } in
-          let ends_past : GatheredRun → Type 0 = λ x. gap + 1 < x.span.beyond in
+          let has_end : GatheredRun → Type 0 = λ x. gap + 1 < x.span.beyond in
           record {
             records = with_it;
             given = gives_more lines so_far.records r before passed so_far.given given;
-            as_many = let longer = length-append so_far.records (r ∷ []) in let more = length-append runs (run ∷ []) in let fewer = so_far.as_many in omega (arith, longer, more, fewer);
-            ended = All-append ends_past runs (run ∷ []) so_far.ended (All-cons ends_past run [] (ends refl) (All-nil ends_past));
+            no_more = let longer = length-append so_far.records (r ∷ []) in let more = length-append runs (run ∷ []) in let fewer = so_far.no_more in omega (arith, longer, more, fewer);
+            ended = All-append has_end runs (run ∷ []) so_far.ended (All-cons has_end run [] (ends refl) (All-nil has_end));
             merges = λ last out grown all adds.
                 let at = adds_last gap chrom runs run out grown adds in
                 takes_it last out at.0 grown all at.1 (subst (λ (l : List Interval). Grown at.0 (interval_lines l) grown) (sym settles) at.2);
-            each = each_more (IsPassed gap wanted first lines) [] runs run so_far.each (record {
+            each = each_more (IsSettled gap wanted first lines) [] runs run so_far.each (record {
               records = with_it;
               last = passed;
               given = gives_more lines so_far.records r before passed so_far.given given;
@@ -160,7 +160,7 @@ module _ (gap : ℕ) (wanted : Strand) (first : Span) (lines : WholeRecords) whe
       gathers_next false bytes place settles ends = record {
         records = with_it;
         given = gives_more lines so_far.records r before passed so_far.given given;
-        as_many = let longer = length-append so_far.records (r ∷ []) in let fewer = so_far.as_many in omega (arith, longer, fewer);
+        no_more = let longer = length-append so_far.records (r ∷ []) in let fewer = so_far.no_more in omega (arith, longer, fewer);
         ended = so_far.ended;
         merges = λ last out grown all adds. takes_it last out grown grown all adds (subst (λ (l : List Interval). Grown grown (interval_lines l) grown) (sym settles) (grown_none grown));
         each = so_far.each;
@@ -175,15 +175,15 @@ module _ (gap : ℕ) (wanted : Strand) (first : Span) (lines : WholeRecords) (ru
   merges_gathered adds = gathers.merges now out grown gathers.given (subst (λ (n : List ℕ). AddsEach gap n out runs grown) named adds)
 
   -- up to one that can't be
-  pub fails_gathered : (cut : Cut) (passed : WholeRecords) → CutsAt gap chrom out runs cut grown
-      → ((records : List Feature) (later : WholeRecords) → GivesWholes lines records later → (passed_by (lines_in later)).bytes ≡ cut.bytes → GivesWholes lines records passed)
-      → FailsToMerge gap (One wanted) (run_in gap first) lines out cut.fault passed grown
-  fails_gathered cut passed cuts goes_back =
-      let at = each_at (IsPassed gap wanted first lines) [] cuts.before cuts.run cuts.after (subst (EachBehind (IsPassed gap wanted first lines) []) cuts.is gathers.each) in
-      at.fails passed out cuts.through grown cut.fault (goes_back at.records at.last at.given (at.bytes ∙ sym cuts.bytes))
-      (subst (λ (n : List ℕ). AddsEach gap n out cuts.before cuts.through) named cuts.adds)
-      (subst (λ (n : List ℕ). FailsToAdd cuts.through (line_of gap n cuts.run) (told cut.fault) grown) named cuts.fails)
+  pub fails_gathered : (failed : FailedRun) (passed : WholeRecords) → FailsAtRun gap chrom out runs failed grown
+      → ((records : List Feature) (later : WholeRecords) → GivesWholes lines records later → (passed_by (lines_in later)).bytes ≡ failed.bytes → GivesWholes lines records passed)
+      → FailsToMerge gap (One wanted) (run_in gap first) lines out failed.fault passed grown
+  fails_gathered failed passed stops goes_back =
+      let at = each_at (IsSettled gap wanted first lines) [] stops.before stops.run stops.after (subst (EachBehind (IsSettled gap wanted first lines) []) stops.is gathers.each) in
+      at.fails passed out stops.through grown failed.fault (goes_back at.records at.last at.given (at.bytes ∙ sym stops.bytes))
+      (subst (λ (n : List ℕ). AddsEach gap n out stops.before stops.through) named stops.adds)
+      (subst (λ (n : List ℕ). FailsToAdd stops.through (line_of gap n stops.run) (told failed.fault) grown) named stops.fails)
 
-  -- where there are some, records were passed
+  -- where there are some, records were given
   pub gathers_some : 0 < length runs → bytes_ahead now < bytes_ahead lines
-  gathers_some some = let fewer = gathers.as_many in records_shrink lines now gathers.records gathers.given (omega (arith, some, fewer))
+  gathers_some some = let fewer = gathers.no_more in records_shrink lines now gathers.records gathers.given (omega (arith, some, fewer))

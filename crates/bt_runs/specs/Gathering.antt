@@ -1,4 +1,4 @@
--- Runs that records have passed, gathered so as to be written together.
+-- Runs that are settled, gathered so as to be written together.
 use Rattle.std.specs.Prelude.{◌≡◌, ℕ, ◌+◌, ◌<◌, ◌≤◌, List, [], ◌∷◌, ◌++◌, length, Result, Ok, Err, ⊤}
 use Rattle.std.specs.List.{All}
 use Rattle.bt_lines.specs.Names.{told}
@@ -13,7 +13,7 @@ use Rattle.bt_bed.specs.declared.strand.Strand.{Strand}
 use Rattle.bt_bed.specs.declared.whole_records.WholeRecords.{WholeRecords}
 use Rattle.bt_runs.specs.OpenSpan.{run_in}
 use Rattle.bt_runs.specs.WholeRuns.{FailsToMerge, MergesGiven, kept_at}
-use Rattle.bt_runs.specs.declared.gathered.Cut.{Cut}
+use Rattle.bt_runs.specs.declared.gathered.FailedRun.{FailedRun}
 use Rattle.bt_runs.specs.declared.gathered.GatheredRun.{GatheredRun}
 use Rattle.bt_runs.specs.declared.merge_strand.MergeStrand.TheVariants.{One}
 use Rattle.bt_runs.specs.declared.open_span.Span.{Span}
@@ -30,31 +30,32 @@ module _ (gap : ℕ) (chrom : List ℕ) where
       (through : Output) × Grown old (line_of run) through × AddsEach through runs new
 
   module _ (old : Output) (runs : List GatheredRun) where
-    -- the line of one of them couldn't be put
-    pub record CutsAt (cut : Cut) (new : Output) : Type 0 where
+    -- the lines of those before one of them were put, and its own couldn't be: it is told by the bytes that were passed
+    -- behind the record that settled it
+    pub record FailsAtRun (failed : FailedRun) (new : Output) : Type 0 where
       pub before : List GatheredRun
       pub run : GatheredRun
       pub after : List GatheredRun
       pub is : runs ≡ before ++ run ∷ after
       pub through : Output
       pub adds : AddsEach old before through
-      pub fails : FailsToAdd through (line_of run) (told cut.fault) new
-      pub bytes : cut.bytes ≡ run.bytes
+      pub fails : FailsToAdd through (line_of run) (told failed.fault) new
+      pub bytes : failed.bytes ≡ run.bytes
 
     -- what the writing of the runs does
-    abbrev pub PutsGathered : {A : Type 0} → Result A Cut → Output → Type 0
+    abbrev pub PutsGathered : {A : Type 0} → Result A FailedRun → Output → Type 0
     PutsGathered (Ok done) new = AddsEach old runs new
-    PutsGathered (Err cut) new = CutsAt cut new
+    PutsGathered (Err failed) new = FailsAtRun failed new
 
--- this holds of each run and of those that were gathered before it
+-- this holds of each run, with those that were gathered before it
 abbrev pub EachBehind : (List GatheredRun → GatheredRun → Type 0) → List GatheredRun → List GatheredRun → Type 0
 EachBehind P before [] = ⊤
 EachBehind P before (run ∷ runs) = P before run × EachBehind P (before ++ run ∷ []) runs
 
 module _ (gap : ℕ) (wanted : Strand) (first : Span) (lines : WholeRecords) where
-  -- the last of some records has passed the run: if that can't be written after the runs before it, the merge fails
-  -- there, with these records passed
-  pub record IsPassed (before : List GatheredRun) (run : GatheredRun) : Type 0 where
+  -- the last of some records settles the run: where its line can't be put behind those of the runs before it, the merge
+  -- fails at that record
+  pub record IsSettled (before : List GatheredRun) (run : GatheredRun) : Type 0 where
     pub records : List Feature
     pub last : WholeRecords
     pub given : GivesWholes lines records last
@@ -64,15 +65,16 @@ module _ (gap : ℕ) (wanted : Strand) (first : Span) (lines : WholeRecords) whe
         → FailsToAdd through (line_of gap (chrom_in lines) run) (told answer) grown
         → FailsToMerge gap (One wanted) (run_in gap first) lines out answer passed grown
 
-  -- records were given and passed, and have passed these runs: once the runs are written, the merge has taken the
-  -- records, and has this run or none
+  -- records were given that settle these runs: once the lines of the runs are put, the merge has taken the records, and
+  -- has this open run, or none
   pub record Gathers (runs : List GatheredRun) (open_run : Span) (now : WholeRecords) : Type 0 where
     pub records : List Feature
     pub given : GivesWholes lines records now
-    -- a record passes one run at most
-    pub as_many : length runs ≤ length records
+    -- a record settles one run at most
+    pub no_more : length runs ≤ length records
+    -- each stands for a run, and not for none
     pub ended : All (λ run. gap + 1 < run.span.beyond) runs
     pub merges : (passed : WholeRecords) (out grown : Output)
         → GivesWholes lines records passed → AddsEach gap (chrom_in lines) out runs grown
         → MergesGiven gap (One wanted) (run_in gap first) lines out (run_in gap open_run) passed grown
-    pub each : EachBehind IsPassed [] runs
+    pub each : EachBehind IsSettled [] runs

@@ -1,4 +1,4 @@
-//! Runs that records have passed, gathered so as to be written together.
+//! Runs that are settled, gathered so as to be written together.
 
 ghost use Rattle.std.specs.Prelude.{◌+◌, ◌<◌, ◌≤◌, take};
 ghost use Rattle.std.specs.List.{All};
@@ -15,11 +15,11 @@ use bt_lines::{Fault, Out, Sink};
 // How many runs are gathered at most.
 pub(crate) const ROOM: usize = 32;
 
-// A run that a record has passed.
+// A run that a record has settled.
 #[derive(Clone, Copy, Debug)]
 pub(crate) struct GatheredRun {
     span: Span,
-    // How many bytes of lines were passed with that record.
+    // How many bytes of lines were passed behind the record that settled it.
     bytes: usize,
 }
 
@@ -29,26 +29,26 @@ pub(crate) const NO_RUN: GatheredRun = GatheredRun {
     bytes: 0,
 };
 
-// What records have left.
+// What was gathered.
 #[derive(Clone, Copy, Debug)]
 pub(crate) struct Gathered {
-    // How many runs they have passed.
+    // How many runs.
     pub(crate) count: usize,
-    // What is open behind them.
+    // The run that is open behind the records, or none.
     pub(crate) span: Span,
 }
 
-// Why a gathered run couldn't be written.
+// A gathered run that couldn't be written.
 #[derive(Drop, Debug)]
-pub(crate) struct Cut {
+pub(crate) struct FailedRun {
     pub(crate) fault: Fault,
-    // How many bytes of lines were passed with the record that has passed the run.
+    // How many bytes of lines were passed behind the record that settled it.
     pub(crate) bytes: usize,
 }
 
 // Takes records on the chromosome of the open run, until there is no further one, or no room for a further run. Whether
-// a record passes the run is as good as random, so there is no branch on it: the run is put behind those that were
-// gathered in any case, and counted among them where it was passed.
+// a record settles the run is as good as random, so there is no branch on it: the run is put behind those that were
+// gathered in any case, and counted among them where it is settled.
 #[inline(always)]
 pub(crate) fn gather(
     gap: u64,
@@ -87,7 +87,7 @@ pub(crate) fn put_gathered<K: Sink>(
     chrom: &[u8],
     runs: &[GatheredRun],
     out: &mut Out<K>,
-) -> Result<(), Cut>
+) -> Result<(), FailedRun>
     requires ended { All (λ run. gap + 1 < run.span.beyond) runs.now }
     ensures { PutsGathered gap chrom.now out.old runs.now result out.new }
 {
@@ -95,7 +95,7 @@ pub(crate) fn put_gathered<K: Sink>(
     while index < runs.len() {
         let run = runs[index];
         if let Err(fault) = put_span(gap, chrom, run.span, out) {
-            return Err(Cut {
+            return Err(FailedRun {
                 fault,
                 bytes: run.bytes,
             });

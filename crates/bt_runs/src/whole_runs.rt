@@ -94,8 +94,8 @@ fn merge_one<K: Sink>(
 }
 
 // Merges those of records that have the strand, where the open run, or none, doesn't start after the record passed
-// last. The runs that they pass are written several at a time: where one of them can't be written, the records are
-// gone over again, up to the one that has passed it. It stands apart, so that the loop has the registers to itself.
+// last. The runs that they settle are written several at a time: where one of them can't be written, the records are
+// gone over again, up to the one that settled it. It stands apart, so that the loop has the registers to itself.
 #[inline(never)]
 fn merge_spans<K: Sink>(
     gap: u64,
@@ -115,9 +115,9 @@ fn merge_spans<K: Sink>(
     loop {
         let before = whole;
         let gathered = gather(gap, wanted, span, &mut whole, &mut runs);
-        if let Err(cut) = put_gathered(gap, chrom, &runs[..gathered.count], out) {
-            *records = before.up_to(cut.bytes);
-            return Err(cut.fault);
+        if let Err(failed) = put_gathered(gap, chrom, &runs[..gathered.count], out) {
+            *records = before.up_to(failed.bytes);
+            return Err(failed.fault);
         }
         span = gathered.span;
         if gathered.count < ROOM {

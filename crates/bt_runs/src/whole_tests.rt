@@ -122,8 +122,8 @@ fn feed_each<E: Engine, K: Sink>(
     Ok(())
 }
 
-// Feeds an engine with the first record by itself and then with those that stand whole, and gives how many those are
-// not.
+// Feeds an engine with the first record by itself and then with those that stand whole, and gives whether all were
+// taken.
 fn feed_whole<E: Engine, K: Sink>(
     records: &mut Records<'_, ScriptSource<'_>, ByteOrder>,
     engine: &mut E,
@@ -195,31 +195,51 @@ fn merge_of_a_strand(rt: HostRuntime) -> Result<(), Fail> {
     check_merge(&rt, rt.alloc(), 100, plus, "merge -S + -d 100")
 }
 
-// Lines of records that lie apart.
-const APART: &[u8] =
-    b"chr1\t0\t1\tname\t0\t+\nchr1\t10\t11\tname\t0\t+\nchr1\t20\t21\tname\t0\t+\nchr1\t30\t31\tname\t0\t+\n\
-chr1\t40\t41\tname\t0\t+\n";
+// How many lines the output has room for, and the start of the record behind the one that settles the run of the next
+// line. At 31 and 32 that is the last one of those that are gathered at first, and the first one of the others.
+const ROOMS: [(usize, u64); 6] = [
+    (0, 1020),
+    (1, 1030),
+    (31, 1330),
+    (32, 1340),
+    (50, 1520),
+    (96, 1980),
+];
 
-// The output has room for the line of the first run, and not for that of the second: a merge fails at the record that has
-// passed that, and the next one is given behind it.
-#[test]
-fn a_run_of_several_that_cannot_be_written(rt: HostRuntime) -> Result<(), Fail> {
-    let source = ScriptSource::new(APART, 8192, None);
-    let reader = LineReader::new(rt.alloc(), source, Input::First);
-    let mut records = Records::new(rt.alloc(), reader, &ByteOrder);
-    let mut merge = Merge::new(rt.alloc(), 0, MergeStrand::One(Strand::Plus));
-    let mut out = Out::new(ScriptSink::new(rt.alloc(), 512, Some(0)));
-    out.put(&[b'.'; 8180])?;
-    let next = start_behind_a_fault(&mut records, &mut merge, &mut out)?;
-    let _ = records.into_reader().into_source();
-    let _ = out.into_sink();
-    assert_eq!(rt; next, Some(30));
-    Ok(())
+// A record that lies apart from the one before, whose line as a run has 15 bytes.
+fn line_apart(alloc: Global, number: u64) -> Result<String, AllocError>
+    requires { number < 100 }
+{
+    let start = 1000 + 10 * number;
+    let stop = start + 1;
+    format!(in alloc; "chr1\t{start}\t{stop}\tname\t0\t+\n")
 }
 
-// Feeds a merge with the first record by itself and then with those that stand whole, which has to fail, and gives the
-// start of the record that comes then.
-fn start_behind_a_fault<K: Sink>(
+fn lines_apart(alloc: Global) -> Result<Vec<u8>, AllocError> {
+    let mut text = Vec::new(alloc);
+    for number in 0..100 {
+        text.extend_from_slice(line_apart(alloc, number)?.as_bytes())?;
+    }
+    Ok(text)
+}
+
+// The start of the record that comes behind the one at which a merge fails, where the output has room for so many lines.
+fn start_behind_a_fault(alloc: Global, text: &[u8], room: usize) -> Result<Option<u64>, Fail>
+    requires { room < 100 }
+{
+    let source = ScriptSource::new(text, 8192, None);
+    let reader = LineReader::new(alloc, source, Input::First);
+    let mut records = Records::new(alloc, reader, &ByteOrder);
+    let mut merge = Merge::new(alloc, 0, MergeStrand::One(Strand::Plus));
+    let mut out = Out::new(ScriptSink::new(alloc, 512, Some(0)));
+    out.put(&[b'.'; 8187][..8187 - 15 * room])?;
+    let next = next_start(&mut records, &mut merge, &mut out)?;
+    let _ = records.into_reader().into_source();
+    let _ = out.into_sink();
+    Ok(next)
+}
+
+fn next_start<K: Sink>(
     records: &mut Records<'_, ScriptSource<'_>, ByteOrder>,
     merge: &mut Merge,
     out: &mut Out<K>,
@@ -239,6 +259,16 @@ fn start_behind_a_fault<K: Sink>(
         None => Ok(None),
         Some(bed) => Ok(Some(bed.start)),
     }
+}
+
+#[test]
+fn a_run_of_several_that_cannot_be_written(rt: HostRuntime) -> Result<(), Fail> {
+    let text = lines_apart(rt.alloc())?;
+    for (room, start) in ROOMS {
+        let next = start_behind_a_fault(rt.alloc(), text.as_slice(), room.min(99))?;
+        holds(&rt, next == Some(start), "the record behind the fault");
+    }
+    Ok(())
 }
 
 #[test]

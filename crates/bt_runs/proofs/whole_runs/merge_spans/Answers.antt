@@ -10,28 +10,28 @@ use Rattle.bt_runs.proofs.whole_runs.merge_spans.Goals as goal
 pub returns-in-Err : goal.returns-in-Err
 returns-in-Err g c =
     merges_on c.args.gap (One c.args.wanted) (run_in c.args.gap c.args.first) c.args.records.now c.args.out.now
-    (run_in c.args.gap c.loop-cut.span) c.loop-cut.whole c.loop-cut.out c.loop-cut.invariant.0 c.up_to.result c.put_gathered.new.out (Err c.in-Err.cut.fault)
-    (fails_gathered c.args.gap c.args.wanted c.loop-cut.span c.loop-cut.whole _ c.gather-gathered.result.span c.gather-gathered.new.records c.gather-gathered.ensures.gathers
-    c.chrom-chrom.result.now (c.chrom-chrom.ensures ∙ sym c.loop-cut.invariant.0.same_chrom) c.loop-cut.out c.put_gathered.new.out c.in-Err.cut c.up_to.result c.in-Err.ensures c.up_to.ensures)
+    (run_in c.args.gap c.loop-failed.span) c.loop-failed.whole c.loop-failed.out c.loop-failed.invariant.0 c.up_to.result c.put_gathered.new.out (Err c.in-Err.failed.fault)
+    (fails_gathered c.args.gap c.args.wanted c.loop-failed.span c.loop-failed.whole _ c.gather-gathered.result.span c.gather-gathered.new.records c.gather-gathered.ensures.gathers
+    c.chrom-chrom.result.now (c.chrom-chrom.ensures ∙ sym c.loop-failed.invariant.0.same_chrom) c.loop-failed.out c.put_gathered.new.out c.in-Err.failed c.up_to.result c.in-Err.ensures c.up_to.ensures)
 
 pub returns-then-gathered-lt-ROOM : goal.returns-then-gathered-lt-ROOM
 returns-then-gathered-lt-ROOM g c =
     subst (λ (run : Option Run). MergesGiven c.args.gap (One c.args.wanted) (run_in c.args.gap c.args.first) c.args.records.now c.args.out.now run c.gather-gathered.new.records c.put_gathered.new.out) (sym c.run_of.ensures)
     (merges_on c.args.gap (One c.args.wanted) (run_in c.args.gap c.args.first) c.args.records.now c.args.out.now
-    (run_in c.args.gap c.loop-cut.span) c.loop-cut.whole c.loop-cut.out c.loop-cut.invariant.0 c.gather-gathered.new.records c.put_gathered.new.out (Ok (run_in c.args.gap c.gather-gathered.result.span))
-    (merges_gathered c.args.gap c.args.wanted c.loop-cut.span c.loop-cut.whole _ c.gather-gathered.result.span c.gather-gathered.new.records c.gather-gathered.ensures.gathers
-    c.chrom-chrom.result.now (c.chrom-chrom.ensures ∙ sym c.loop-cut.invariant.0.same_chrom) c.loop-cut.out c.put_gathered.new.out c.in_default.ensures))
+    (run_in c.args.gap c.loop-failed.span) c.loop-failed.whole c.loop-failed.out c.loop-failed.invariant.0 c.gather-gathered.new.records c.put_gathered.new.out (Ok (run_in c.args.gap c.gather-gathered.result.span))
+    (merges_gathered c.args.gap c.args.wanted c.loop-failed.span c.loop-failed.whole _ c.gather-gathered.result.span c.gather-gathered.new.records c.gather-gathered.ensures.gathers
+    c.chrom-chrom.result.now (c.chrom-chrom.ensures ∙ sym c.loop-failed.invariant.0.same_chrom) c.loop-failed.out c.put_gathered.new.out c.in_default.ensures))
 
-pub loop-cut-smaller : goal.loop-cut-smaller
-loop-cut-smaller g c =
-    gathers_some c.args.gap c.args.wanted c.loop-cut.span c.loop-cut.whole _ c.gather-gathered.result.span c.gather-gathered.new.records c.gather-gathered.ensures.gathers
-    c.chrom-chrom.result.now (c.chrom-chrom.ensures ∙ sym c.loop-cut.invariant.0.same_chrom) c.loop-cut.out c.put_gathered.new.out (search rules)
+pub loop-failed-smaller : goal.loop-failed-smaller
+loop-failed-smaller g c =
+    gathers_some c.args.gap c.args.wanted c.loop-failed.span c.loop-failed.whole _ c.gather-gathered.result.span c.gather-gathered.new.records c.gather-gathered.ensures.gathers
+    c.chrom-chrom.result.now (c.chrom-chrom.ensures ∙ sym c.loop-failed.invariant.0.same_chrom) c.loop-failed.out c.put_gathered.new.out (search rules)
 
-pub loop-cut-preserved : goal.loop-cut-preserved
-loop-cut-preserved g c = (
+pub loop-failed-preserved : goal.loop-failed-preserved
+loop-failed-preserved g c = (
   merges_on c.args.gap (One c.args.wanted) (run_in c.args.gap c.args.first) c.args.records.now c.args.out.now
-      (run_in c.args.gap c.loop-cut.span) c.loop-cut.whole c.loop-cut.out c.loop-cut.invariant.0 c.gather-gathered.new.records c.put_gathered.new.out (Ok (run_in c.args.gap c.gather-gathered.result.span))
-      (merges_gathered c.args.gap c.args.wanted c.loop-cut.span c.loop-cut.whole _ c.gather-gathered.result.span c.gather-gathered.new.records c.gather-gathered.ensures.gathers
-      c.chrom-chrom.result.now (c.chrom-chrom.ensures ∙ sym c.loop-cut.invariant.0.same_chrom) c.loop-cut.out c.put_gathered.new.out c.in_default.ensures),
+      (run_in c.args.gap c.loop-failed.span) c.loop-failed.whole c.loop-failed.out c.loop-failed.invariant.0 c.gather-gathered.new.records c.put_gathered.new.out (Ok (run_in c.args.gap c.gather-gathered.result.span))
+      (merges_gathered c.args.gap c.args.wanted c.loop-failed.span c.loop-failed.whole _ c.gather-gathered.result.span c.gather-gathered.new.records c.gather-gathered.ensures.gathers
+      c.chrom-chrom.result.now (c.chrom-chrom.ensures ∙ sym c.loop-failed.invariant.0.same_chrom) c.loop-failed.out c.put_gathered.new.out c.in_default.ensures),
   c.gather-gathered.ensures.is_span,
 )
