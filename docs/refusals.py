@@ -44,6 +44,7 @@ ALIGNMENTS = (
     "r001\t147\tref\t37\t30\t9M\t=\t7\t-39\tCAGCGGCAT\t*\nr004\t0\tref\t16\t30\t6M14N5M\t*\t0\t0\tATAGCTTCAGC\t*\n"
     "r005\t4\tref\t16\t30\t6M\t*\t0\t0\tATAGCT\t*\nr006\t0\tref\t16\t30\t*\t*\t0\t0\tATAGCT\t*\n"
 )
+MALFORMED = "r007\t0\tref\t16\t30\t5Q\t*\t0\t0\tATAGCT\t*\n"
 MASKED = {"a.fa": ">s d\nACGTAC\nGTAC", "b.bed": "s\t4\t8\n"}
 TWO = "-a a.bed -b b.bed -g g.txt"
 
@@ -69,6 +70,7 @@ RUNS = [
     *((f"subtract {TWO} {further}", PIECES) for further in ("", "-A", "-f 0.1")),
     *((f"genomecov -i a.bed -g g.txt {further}", SECOND_CHROMOSOME) for further in ("-bga", "-bg")),
     *((f"bamtobed -i a.sam {further}", {"a.sam": ALIGNMENTS}) for further in ("", "-split", "-cigar", "-split -cigar")),
+    *((f"bamtobed -i a.sam {further}", {"a.sam": ALIGNMENTS + MALFORMED}) for further in ("", "-split")),
     *((f"maskfasta -fi a.fa -bed b.bed {further}", MASKED) for further in ("", "-soft", "-mc x", "-fullHeader", "-fo masked.fa")),
     # Command lines that can't be used, and the last of two values.
     *((words, {}) for words in ("", "merge -q", "merge -d", "merge", "merge -g -", "intersect -a x", "genomecov -g g")),

@@ -6,14 +6,13 @@ ghost use Rattle.bedtools.specs.Opened.{output_has_failed, output_is_flushed};
 use bt_lines::{DeviceFailed, Sink, ToWrite};
 use std::fs::File;
 use std::io;
-use std::io::{BufWriter, Stdout};
+use std::io::Stdout;
 
-/// An output. `run` writes to it in blocks. Those of a file are gathered, for fewer writes cost the system
-/// less.
+/// An output. `run` writes to it in blocks of 8,192 bytes, and nothing is held back after them.
 #[derive(Drop)]
 pub enum Output {
     Standard(ToWrite<Stdout>),
-    File(ToWrite<BufWriter<File>>),
+    File(ToWrite<File>),
 }
 
 impl Output {
@@ -25,13 +24,9 @@ impl Output {
     /// Creates the file of this name, or empties it where it is there.
     pub fn create(rt: &HostRuntime, name: &str) -> io::Result<Output> {
         let file = File::create(rt, name)?;
-        let gathered = BufWriter::with_capacity(rt.alloc(), GATHERED, file)?;
-        Ok(Output::File(ToWrite::new(gathered)))
+        Ok(Output::File(ToWrite::new(file)))
     }
 }
-
-// How many bytes are gathered before a file is written to.
-const GATHERED: usize = 131_072;
 
 impl Sink for Output {
     ghost took = { λ _. None };

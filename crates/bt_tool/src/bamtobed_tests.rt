@@ -163,14 +163,15 @@ fn worked_cases(rt: HostRuntime) -> Result<(), Fail> {
     check_rows(&rt, rt.alloc(), BAMTOBED, &CASES)
 }
 
-fn check_edge(rt: &impl Abort, alloc: Global, edge: &Edge) -> Result<(), Fail> {
+fn check_edge(rt: &impl Abort, alloc: Global, edge: &Edge, step: usize) -> Result<(), Fail> {
     let (columns, options, output, told) = *edge;
+    let script = whole(step.max(1));
     let row = format!(in alloc; "r {columns} * 0 0 * *")?;
     let first = text(alloc, row.as_str())?;
     let output = text(alloc, output)?;
     let words = with_options(alloc, BAMTOBED, options)?;
-    let inputs = ((b"".as_slice(), whole(1)), (first.as_slice(), whole(7)));
-    let answer = run_words(alloc, words.as_slice(), inputs.0, inputs.1, whole(7))?;
+    let inputs = ((b"".as_slice(), whole(1)), (first.as_slice(), script));
+    let answer = run_words(alloc, words.as_slice(), inputs.0, inputs.1, script)?;
     if told.is_empty() {
         expect(rt, &answer, output.as_slice(), b"", columns);
         return Ok(());
@@ -182,7 +183,9 @@ fn check_edge(rt: &impl Abort, alloc: Global, edge: &Edge) -> Result<(), Fail> {
 
 fn check_edges(rt: &impl Abort, alloc: Global, edges: &[Edge]) -> Result<(), Fail> {
     for edge in edges {
-        check_edge(rt, alloc, edge)?;
+        for step in [1, 7, 8192] {
+            check_edge(rt, alloc, edge, step)?;
+        }
     }
     Ok(())
 }

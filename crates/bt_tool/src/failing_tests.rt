@@ -171,12 +171,12 @@ fn devices_of_masking_fail(rt: HostRuntime) -> Result<(), Fail> {
     check_rows(&rt, rt.alloc(), &MASKED)
 }
 
-// A run with one input that serves so many bytes, or a sink that takes so many.
+// A run with one input that serves this many bytes, or a sink that takes this many.
 struct Named {
     name: &'static str,
     row: Row,
     cut: Option<(Input, usize)>,
-    out: (usize, Option<usize>),
+    taken: Option<usize>,
     output: &'static [u8],
     line: &'static str,
 }
@@ -198,7 +198,7 @@ const NAMED: [Named; 10] = [
         name: "three lines of four",
         row: TOUCHING_RUN,
         cut: Some((Input::First, 39)),
-        out: (7, None),
+        taken: None,
         output: b"",
         line: "bedtools merge: a.bed:4: reading failed\n",
     },
@@ -206,7 +206,7 @@ const NAMED: [Named; 10] = [
         name: "all but the last line feed",
         row: TOUCHING_RUN,
         cut: Some((Input::First, 52)),
-        out: (7, None),
+        taken: None,
         output: b"",
         line: "bedtools merge: a.bed:4: reading failed\n",
     },
@@ -214,7 +214,7 @@ const NAMED: [Named; 10] = [
         name: "two lines before one out of order",
         row: BACK_RUN,
         cut: Some((Input::First, 21)),
-        out: (7, None),
+        taken: None,
         output: b"chr1\t0\t10\n",
         line: "bedtools merge: a.bed:3: reading failed\n",
     },
@@ -222,7 +222,7 @@ const NAMED: [Named; 10] = [
         name: "the second input up to its faulty line",
         row: FAULTY_RUN,
         cut: Some((Input::Second, 20)),
-        out: (7, None),
+        taken: None,
         output: HIT,
         line: "bedtools intersect: b.bed:3: reading failed\n",
     },
@@ -230,7 +230,7 @@ const NAMED: [Named; 10] = [
         name: "the second input inside its second line",
         row: FAULTY_RUN,
         cut: Some((Input::Second, 15)),
-        out: (7, None),
+        taken: None,
         output: b"",
         line: "bedtools intersect: b.bed:2: reading failed\n",
     },
@@ -238,7 +238,7 @@ const NAMED: [Named; 10] = [
         name: "one line of the genome file",
         row: TOUCHING_RUN,
         cut: Some((Input::Genome, 10)),
-        out: (7, None),
+        taken: None,
         output: b"",
         line: "bedtools merge: g.txt:2: reading failed\n",
     },
@@ -246,7 +246,7 @@ const NAMED: [Named; 10] = [
         name: "a failed write comes before a record out of order",
         row: BACK_RUN,
         cut: None,
-        out: (7, Some(4)),
+        taken: Some(4),
         output: b"chr1",
         line: "bedtools merge: writing failed\n",
     },
@@ -254,7 +254,7 @@ const NAMED: [Named; 10] = [
         name: "a sink of five bytes",
         row: TOUCHING_RUN,
         cut: None,
-        out: (7, Some(5)),
+        taken: Some(5),
         output: b"chr1\t",
         line: "bedtools merge: writing failed\n",
     },
@@ -262,33 +262,35 @@ const NAMED: [Named; 10] = [
         name: "nothing to write",
         row: EMPTY,
         cut: None,
-        out: (7, Some(0)),
+        taken: Some(0),
         output: b"",
         line: "",
     },
     Named {
-        name: "a sink that takes byte by byte",
+        name: "devices that serve",
         row: TOUCHING_RUN,
         cut: None,
-        out: (1, None),
+        taken: None,
         output: b"chr1\t100\t500\nchr1\t501\t1000\n",
         line: "",
     },
 ];
 
-fn check_named(rt: &impl Abort, alloc: Global, case: &Named) -> Result<(), Fail> {
-    let out = match case.out {
-        (step, Some(good)) => failing_by(step.max(1), good),
-        (step, None) => whole(step.max(1)),
+fn check_named(rt: &impl Abort, alloc: Global, case: &Named, step: usize) -> Result<(), Fail> {
+    let out = match case.taken {
+        Some(good) => failing_by(step.max(1), good),
+        None => whole(step.max(1)),
     };
-    let answer = run_row(alloc, &case.row, case.cut, 7, out)?;
+    let answer = run_row(alloc, &case.row, case.cut, step, out)?;
     expect(rt, &answer, case.output, case.line.as_bytes(), case.name);
     Ok(())
 }
 
 fn check_all_named(rt: &impl Abort, alloc: Global, cases: &[Named]) -> Result<(), Fail> {
     for case in cases {
-        check_named(rt, alloc, case)?;
+        for step in [1, 7, 8192] {
+            check_named(rt, alloc, case, step)?;
+        }
     }
     Ok(())
 }

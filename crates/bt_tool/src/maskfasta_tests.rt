@@ -5,7 +5,7 @@ use std::test::Fail;
 const MASKFASTA: &[&str] = &["maskfasta", "-fi", "a.fa", "-bed", "b.bed"];
 
 // What stands for the bases that records cover.
-const BASES: [Pair; 9] = [
+const BASES: [Pair; 11] = [
     Pair {
         name: "records over a line's end",
         options: &[],
@@ -68,6 +68,22 @@ const BASES: [Pair; 9] = [
         first: b">s\nACGT\n",
         second: b"s\t2\t20\n",
         output: b">s\nACNN\n",
+        line: b"",
+    },
+    Pair {
+        name: "carriage returns before the line feeds",
+        options: &[],
+        first: b">s\r\nACGT\r\n",
+        second: b"s\t1\t2\n",
+        output: b">s\r\nANGT\r\n",
+        line: b"",
+    },
+    Pair {
+        name: "a lone carriage return at the end of the last line",
+        options: &[],
+        first: b">s\r\nACGT\r",
+        second: b"s\t1\t2\n",
+        output: b">s\r\nANGT\r",
         line: b"",
     },
     Pair {

@@ -38,6 +38,14 @@ const R147: &[u8] = b"r001\t147\tref\t37\t30\t9M\t=\t7\t-39\tCAGCGGCAT\t*\n";
 
 const R004: &[u8] = b"r004\t0\tref\t16\t30\t6M14N5M\t*\t0\t0\tATAGCTTCAGC\t*\n";
 
+const UNMAPPED: &[u8] = b"r004\t4\tref\t16\t30\t6M14N5M\t*\t0\t0\tATAGCTTCAGC\t*\n";
+
+const NO_CIGAR: &[u8] = b"r004\t0\tref\t16\t30\t*\t*\t0\t0\tATAGCTTCAGC\t*\n";
+
+const BAD_CIGAR: &[u8] = b"r004\t0\tref\t16\t30\t5Q\t*\t0\t0\tATAGCTTCAGC\t*\n";
+
+const MALFORMED: &str = "bedtools bamtobed: a.sam:1: CIGAR is malformed\n";
+
 const BLOCKS: &[u8] = b"a\t0\ts\t1\t9\t5M2N5M\t*\t0\t0\t*\t*\nb\t16\ts\t4\t8\t3M\t*\t0\t0\t*\t*\n";
 
 const TWO_A: &[u8] = b"chr1\t0\t10\nchr1\t100\t110\n";
@@ -184,7 +192,7 @@ pub(crate) const MERGE: [Row; 8] = [
 ];
 
 // The commands of one input beside merge.
-pub(crate) const ONE_INPUT: [Row; 9] = [
+pub(crate) const ONE_INPUT: [Row; 12] = [
     Row {
         name: "gaps",
         words: &["complement", "-i", "a.bed", "-g", "g.txt"],
@@ -280,6 +288,39 @@ pub(crate) const ONE_INPUT: [Row; 9] = [
             (b"", ""),
             (b"ref\t15\t21\tr004\t30\t+\nref\t35\t40\tr004\t30\t+\n", ""),
         ],
+        second_cut: &[],
+    },
+    Row {
+        name: "an unmapped read",
+        words: &["bamtobed", "-i", "a.sam", "-split"],
+        genome: b"",
+        first: UNMAPPED,
+        second: b"",
+        output: b"",
+        line: "",
+        first_cut: &[(b"", ""), (b"", "")],
+        second_cut: &[],
+    },
+    Row {
+        name: "an alignment without a CIGAR",
+        words: &["bamtobed", "-i", "a.sam", "-split"],
+        genome: b"",
+        first: NO_CIGAR,
+        second: b"",
+        output: b"",
+        line: "",
+        first_cut: &[(b"", ""), (b"", "")],
+        second_cut: &[],
+    },
+    Row {
+        name: "a letter that is no operation",
+        words: &["bamtobed", "-i", "a.sam", "-split"],
+        genome: b"",
+        first: BAD_CIGAR,
+        second: b"",
+        output: b"",
+        line: MALFORMED,
+        first_cut: &[(b"", ""), (b"", MALFORMED)],
         second_cut: &[],
     },
     Row {
