@@ -18,8 +18,8 @@ pub fn put_interval<K: Sink>(
     stop: u64,
     out: &mut Out<K>,
 ) -> Result<(), Fault>
-    ensures { Puts out.old (interval_line (record { chrom = chrom.now; start = start; stop = stop }))
-        result out.new }
+    ensures { Puts out.old.output (interval_line (record { chrom = chrom.now; start = start; stop = stop }))
+        result out.new.output }
 {
     put_ended(chrom, start, stop, b'\n', out)
 }
@@ -33,7 +33,7 @@ pub(crate) fn put_ended<K: Sink>(
     end: u8,
     out: &mut Out<K>,
 ) -> Result<(), Fault>
-    ensures { Puts out.old (chrom.now ++ span_text start stop end) result out.new }
+    ensures { Puts out.old.output (chrom.now ++ span_text start stop end) result out.new.output }
 {
     if hold_ended(chrom, start, stop, end, out) {
         return Ok(());
@@ -45,8 +45,8 @@ pub(crate) fn put_ended<K: Sink>(
 // over records stay small.
 #[inline(never)]
 fn hold_ended<K: Sink>(chrom: &[u8], start: u64, stop: u64, end: u8, out: &mut Out<K>) -> bool
-    ensures held { result ≡ true → PutsAll out.old (chrom.now ++ span_text start stop end) out.new }
-    ensures unchanged { result ≡ false → out.new ≡ out.old }
+    ensures held { result ≡ true → PutsAll out.old.output (chrom.now ++ span_text start stop end) out.new.output }
+    ensures unchanged { result ≡ false → out.new.output ≡ out.old.output }
 {
     out.hold_span(chrom, start, stop, end)
 }
@@ -61,7 +61,7 @@ fn put_slowly<K: Sink>(
     end: u8,
     out: &mut Out<K>,
 ) -> Result<(), Fault>
-    ensures { Puts out.old (chrom.now ++ span_text start stop end) result out.new }
+    ensures { Puts out.old.output (chrom.now ++ span_text start stop end) result out.new.output }
 {
     let mut text = [0; ROOM];
     let first = write_span(start, stop, end, &mut text);
@@ -76,7 +76,7 @@ pub(crate) fn put_columns<K: Sink>(
     stop: u64,
     out: &mut Out<K>,
 ) -> Result<(), Fault>
-    ensures { Puts out.old (chrom.now ++ bounds_text start stop) result out.new }
+    ensures { Puts out.old.output (chrom.now ++ bounds_text start stop) result out.new.output }
 {
     let mut text = [0; ROOM];
     let first = write_span(start, stop, b'\n', &mut text);

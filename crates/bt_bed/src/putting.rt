@@ -13,7 +13,7 @@ use bt_lines::{Fault, Out, Sink, put_line};
 /// columns, with tabs between them. Start and end are printed without leading zeros. It takes no
 /// memory.
 pub fn put_bed<K: Sink>(bed: &BedRef<'_>, end: &[u8], out: &mut Out<K>) -> Result<(), Fault>
-    ensures { Puts out.old (bed_text (feature_lent bed.now) ++ end.now) result out.new }
+    ensures { Puts out.old.output (bed_text (feature_lent bed.now) ++ end.now) result out.new.output }
 {
     put_cut(bed, bed.start, bed.stop, end, out)
 }
@@ -27,7 +27,7 @@ pub fn put_cut<K: Sink>(
     end: &[u8],
     out: &mut Out<K>,
 ) -> Result<(), Fault>
-    ensures { Puts out.old (bed_text (cut_to start stop (feature_lent bed.now)) ++ end.now) result out.new }
+    ensures { Puts out.old.output (bed_text (cut_to start stop (feature_lent bed.now)) ++ end.now) result out.new.output }
 {
     if bed.rest.is_empty() && end.len() == 1 {
         return put_ended(bed.chrom, start, stop, end[0], out);

@@ -15,6 +15,11 @@ pub record Output : Type 0 where
   -- whether the sink has passed on all that it took
   pub sink_is_flushed : Bool
 
+-- an output and its sink, whose bytes and failures the output tells
+pub record OutputOver (K : Type 0) : Type 0 where
+  pub output : Output
+  pub sink : K
+
 -- what was put and what was taken differ by at most a block, held back
 abbrev pub HoldsBlock : Option (List ℕ) → Option (List ℕ) → Type 0
 HoldsBlock took put = (held : List ℕ) × Appends took put held × (length held ≤ block_size)

@@ -34,16 +34,19 @@ pub struct Out<K: Sink> {
 impl<K: Sink> Model for Out<K> {
     ghost use Rattle.std.specs.Prelude.{◌≡◌, true};
     ghost use Rattle.std.specs.Io.KnownBytes.{append_known};
-    ghost use Rattle.bt_lines.specs.Output.{Output};
+    ghost use Rattle.bt_lines.specs.Output.{OutputOver};
 
-    ghost Value = { Output };
+    ghost Value = { OutputOver K };
 
     ghost view = { λ o. record {
-      put = append_known (K.took o.sink) o.held;
-      took = K.took o.sink;
-      has_failed = o.has_failed;
-      sink_has_failed = K.has_failed o.sink;
-      sink_is_flushed = K.is_flushed o.sink;
+      output = record {
+        put = append_known (K.took o.sink) o.held;
+        took = K.took o.sink;
+        has_failed = o.has_failed;
+        sink_has_failed = K.has_failed o.sink;
+        sink_is_flushed = K.is_flushed o.sink;
+      };
+      sink = o.sink;
     } };
 
     ghost invariant = { λ o. o.has_failed ≡ true → K.has_failed o.sink ≡ true };
@@ -53,11 +56,14 @@ impl<K: Sink> Out<K> {
     /// An output that has put nothing yet beside what the sink took before.
     pub fn new(sink: K) -> Out<K>
         ensures { result ≡ record {
-          put = K.took sink;
-          took = K.took sink;
-          has_failed = false;
-          sink_has_failed = K.has_failed sink;
-          sink_is_flushed = K.is_flushed sink;
+          output = record {
+            put = K.took sink;
+            took = K.took sink;
+            has_failed = false;
+            sink_has_failed = K.has_failed sink;
+            sink_is_flushed = K.is_flushed sink;
+          };
+          sink = sink;
         } }
     {
         Out {
@@ -69,18 +75,19 @@ impl<K: Sink> Out<K> {
 
     /// Puts a piece after what was put before. It may stay held back until a `flush`.
     pub fn put(&mut self, piece: &[u8]) -> Result<(), Fault>
-        ensures put { OnOk result (Appends self.old.put self.new.put piece.now) }
-        ensures block { OnOk result (HoldsBlock self.new.took self.new.put) }
-        ensures front { OnErr result (IsFrontOf self.new.took self.old.put piece.now) }
-        ensures grows { Grows self.old.took self.new.took }
+        ensures put { OnOk result (Appends self.old.output.put self.new.output.put piece.now) }
+        ensures block { OnOk result (HoldsBlock self.new.output.took self.new.output.put) }
+        ensures front { OnErr result (IsFrontOf self.new.output.took self.old.output.put piece.now) }
+        ensures grows { Grows self.old.output.took self.new.output.took }
 
-        ensures served { OnOk result ((self.new.has_failed ≡ false)
-            × (self.old.has_failed ≡ false)
-            × (self.new.sink_has_failed ≡ self.old.sink_has_failed)) }
+        ensures served { OnOk result ((self.new.output.has_failed ≡ false)
+            × (self.old.output.has_failed ≡ false)
+            × (self.new.output.sink_has_failed ≡ self.old.output.sink_has_failed)) }
         ensures fault { IfErr result (λ fault. told fault ≡ write_failed) }
-        ensures cause { OnErr result ((self.new.has_failed ≡ true)
-            × (self.new.sink_has_failed ≡ true)) }
-        ensures again { self.old.has_failed ≡ true → IsErr result × (self.new ≡ self.old) }
+        ensures cause { OnErr result ((self.new.output.has_failed ≡ true)
+            × (self.new.output.sink_has_failed ≡ true)) }
+        ensures again { self.old.output.has_failed ≡ true → IsErr result × (self.new.output ≡ self.old.output) }
+        ensures unasked { self.old.output.has_failed ≡ true → self.new.sink ≡ self.old.sink }
     {
         if self.has_failed {
             return Err(write_failed());
@@ -107,9 +114,10 @@ impl<K: Sink> Out<K> {
     /// answers whether it did; else nothing changes. It writes nothing to the sink.
     #[inline(always)]
     pub fn hold_both(&mut self, piece: &[u8], end: &[u8]) -> bool
-        ensures held { result ≡ true → PutsAll self.old (piece.now ++ end.now) self.new }
-        ensures untaken { self.new.took ≡ self.old.took }
-        ensures unchanged { result ≡ false → self.new ≡ self.old }
+        ensures held { result ≡ true → PutsAll self.old.output (piece.now ++ end.now) self.new.output }
+        ensures untaken { self.new.output.took ≡ self.old.output.took }
+        ensures unasked { self.new.sink ≡ self.old.sink }
+        ensures unchanged { result ≡ false → self.new.output ≡ self.old.output }
     {
         if self.has_failed || self.held.room() < piece.len() + end.len() {
             return false;
@@ -123,9 +131,10 @@ impl<K: Sink> Out<K> {
     #[inline(always)]
     pub fn hold_lines(&mut self, lines: &[u8], end: &[u8]) -> bool
         ensures held { result ≡ true → (texts : List (List ℕ)) → AreLines lines.now texts
-            → PutsAll self.old (ended_by end.now texts) self.new }
-        ensures untaken { self.new.took ≡ self.old.took }
-        ensures unchanged { result ≡ false → self.new ≡ self.old }
+            → PutsAll self.old.output (ended_by end.now texts) self.new.output }
+        ensures untaken { self.new.output.took ≡ self.old.output.took }
+        ensures unasked { self.new.sink ≡ self.old.sink }
+        ensures unchanged { result ≡ false → self.new.output ≡ self.old.output }
     {
         if self.has_failed {
             return false;
@@ -136,8 +145,9 @@ impl<K: Sink> Out<K> {
     // Puts two short pieces, as `hold_both` does, and no others: so nothing is called where they are put.
     #[inline(always)]
     pub(crate) fn hold_short(&mut self, piece: &[u8], next: &[u8]) -> bool
-        ensures held { result ≡ true → PutsAll self.old (piece.now ++ next.now) self.new }
-        ensures unchanged { result ≡ false → self.new ≡ self.old }
+        ensures held { result ≡ true → PutsAll self.old.output (piece.now ++ next.now) self.new.output }
+        ensures unasked { self.new.sink ≡ self.old.sink }
+        ensures unchanged { result ≡ false → self.new.output ≡ self.old.output }
     {
         if self.has_failed || self.held.room() < piece.len() + next.len() {
             return false;
@@ -154,9 +164,10 @@ impl<K: Sink> Out<K> {
     /// [`MAX_NUMBER`]; and answers whether it did; else nothing changes. It writes nothing to the sink.
     #[inline(always)]
     pub fn hold_span(&mut self, name: &[u8], start: u64, stop: u64, end: u8) -> bool
-        ensures held { result ≡ true → PutsAll self.old (name.now ++ span_text start stop end) self.new }
-        ensures untaken { self.new.took ≡ self.old.took }
-        ensures unchanged { result ≡ false → self.new ≡ self.old }
+        ensures held { result ≡ true → PutsAll self.old.output (name.now ++ span_text start stop end) self.new.output }
+        ensures untaken { self.new.output.took ≡ self.old.output.took }
+        ensures unasked { self.new.sink ≡ self.old.sink }
+        ensures unchanged { result ≡ false → self.new.output ≡ self.old.output }
     {
         if !is_short(name.len()) || start > MAX_NUMBER || stop > MAX_NUMBER {
             return false;
@@ -170,19 +181,20 @@ impl<K: Sink> Out<K> {
 
     /// Hands on all that is held back. After an `Ok` the sink has taken all bytes put.
     pub fn flush(&mut self) -> Result<(), Fault>
-        ensures put { OnOk result (Keeps self.old.put self.new.put) }
-        ensures taken { OnOk result (Keeps self.new.put self.new.took) }
-        ensures flushed { OnOk result (self.new.sink_is_flushed ≡ true) }
-        ensures front { OnErr result (IsFrontOf self.new.took self.old.put []) }
-        ensures grows { Grows self.old.took self.new.took }
+        ensures put { OnOk result (Keeps self.old.output.put self.new.output.put) }
+        ensures taken { OnOk result (Keeps self.new.output.put self.new.output.took) }
+        ensures flushed { OnOk result (self.new.output.sink_is_flushed ≡ true) }
+        ensures front { OnErr result (IsFrontOf self.new.output.took self.old.output.put []) }
+        ensures grows { Grows self.old.output.took self.new.output.took }
 
-        ensures served { OnOk result ((self.new.has_failed ≡ false)
-            × (self.old.has_failed ≡ false)
-            × (self.new.sink_has_failed ≡ self.old.sink_has_failed)) }
+        ensures served { OnOk result ((self.new.output.has_failed ≡ false)
+            × (self.old.output.has_failed ≡ false)
+            × (self.new.output.sink_has_failed ≡ self.old.output.sink_has_failed)) }
         ensures fault { IfErr result (λ fault. told fault ≡ write_failed) }
-        ensures cause { OnErr result ((self.new.has_failed ≡ true)
-            × (self.new.sink_has_failed ≡ true)) }
-        ensures again { self.old.has_failed ≡ true → IsErr result × (self.new ≡ self.old) }
+        ensures cause { OnErr result ((self.new.output.has_failed ≡ true)
+            × (self.new.output.sink_has_failed ≡ true)) }
+        ensures again { self.old.output.has_failed ≡ true → IsErr result × (self.new.output ≡ self.old.output) }
+        ensures unasked { self.old.output.has_failed ≡ true → self.new.sink ≡ self.old.sink }
     {
         if self.has_failed {
             return Err(write_failed());
@@ -196,9 +208,10 @@ impl<K: Sink> Out<K> {
 
     /// Gives back the sink. What was held back and not flushed is lost.
     pub fn into_sink(self) -> K
-        ensures took { K.took result ≡ self.took }
-        ensures failed { K.has_failed result ≡ self.sink_has_failed }
-        ensures flushed { K.is_flushed result ≡ self.sink_is_flushed }
+        ensures sink { result ≡ self.sink }
+        ensures took { K.took result ≡ self.output.took }
+        ensures failed { K.has_failed result ≡ self.output.sink_has_failed }
+        ensures flushed { K.is_flushed result ≡ self.output.sink_is_flushed }
     {
         let Out {
             sink,

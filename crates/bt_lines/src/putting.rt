@@ -11,7 +11,7 @@ use itoa::Buffer;
 
 /// Puts a column and what ends it, as a tab or a line feed.
 pub fn put_column<K: Sink>(column: &[u8], end: &[u8], out: &mut Out<K>) -> Result<(), Fault>
-    ensures { Puts out.old (column.now ++ end.now) result out.new }
+    ensures { Puts out.old.output (column.now ++ end.now) result out.new.output }
 {
     out.put(column)?;
     out.put(end)
@@ -20,7 +20,7 @@ pub fn put_column<K: Sink>(column: &[u8], end: &[u8], out: &mut Out<K>) -> Resul
 /// Puts a text and its line end, by one test of the room where there is room for both.
 #[inline]
 pub fn put_line<K: Sink>(text: &[u8], end: &[u8], out: &mut Out<K>) -> Result<(), Fault>
-    ensures { Puts out.old (text.now ++ end.now) result out.new }
+    ensures { Puts out.old.output (text.now ++ end.now) result out.new.output }
 {
     if out.hold_both(text, end) {
         return Ok(());
@@ -31,7 +31,7 @@ pub fn put_line<K: Sink>(text: &[u8], end: &[u8], out: &mut Out<K>) -> Result<()
 /// Puts two pieces of a line as [`put_line`] does, by a call that they share. It is fast where both have 1 to 64 bytes.
 #[inline(always)]
 pub fn put_both<K: Sink>(piece: &[u8], next: &[u8], out: &mut Out<K>) -> Result<(), Fault>
-    ensures { Puts out.old (piece.now ++ next.now) result out.new }
+    ensures { Puts out.old.output (piece.now ++ next.now) result out.new.output }
 {
     if hold_pieces(piece, next, out) {
         return Ok(());
@@ -42,8 +42,8 @@ pub fn put_both<K: Sink>(piece: &[u8], next: &[u8], out: &mut Out<K>) -> Result<
 // Puts both where they are short and there is room for them, and answers whether it did.
 #[inline(never)]
 fn hold_pieces<K: Sink>(piece: &[u8], next: &[u8], out: &mut Out<K>) -> bool
-    ensures held { result ≡ true → PutsAll out.old (piece.now ++ next.now) out.new }
-    ensures unchanged { result ≡ false → out.new ≡ out.old }
+    ensures held { result ≡ true → PutsAll out.old.output (piece.now ++ next.now) out.new.output }
+    ensures unchanged { result ≡ false → out.new.output ≡ out.old.output }
 {
     out.hold_short(piece, next)
 }
@@ -52,7 +52,7 @@ fn hold_pieces<K: Sink>(piece: &[u8], next: &[u8], out: &mut Out<K>) -> bool
 #[cold]
 #[inline(never)]
 fn put_across<K: Sink>(text: &[u8], end: &[u8], out: &mut Out<K>) -> Result<(), Fault>
-    ensures { Puts out.old (text.now ++ end.now) result out.new }
+    ensures { Puts out.old.output (text.now ++ end.now) result out.new.output }
 {
     put_column(text, end, out)
 }
@@ -60,7 +60,7 @@ fn put_across<K: Sink>(text: &[u8], end: &[u8], out: &mut Out<K>) -> Result<(), 
 /// Puts a number in decimal, without leading zeros, and what ends it. It takes no memory. One of up to three digits, as
 /// most counts are, is put by the call that [`put_both`] shares.
 pub fn put_number<K: Sink>(number: u64, end: &[u8], out: &mut Out<K>) -> Result<(), Fault>
-    ensures { Puts out.old (decimal number ++ end.now) result out.new }
+    ensures { Puts out.old.output (decimal number ++ end.now) result out.new.output }
 {
     let mut buffer = Buffer::new();
     let digits = buffer.format(number).as_bytes();

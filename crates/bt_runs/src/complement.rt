@@ -102,7 +102,7 @@ impl Engine for Complement<'_> {
     /// It fails only where a write fails: it takes no memory.
     fn feed<K: Sink>(&mut self, bed: &BedRef<'_>, out: &mut Out<K>) -> Result<(), Fault>
         ensures feeds { Feeds may_take stands_after kept_fault settled_lines self.old
-            (feature_lent bed.now) out.old is_quiet result self.new out.new }
+            (feature_lent bed.now) out.old.output is_quiet result self.new out.new.output }
         ensures memory { self.old.fault ≡ None → IfErr result (λ fault. told fault ≡ write_failed) }
     {
         if let Some(failure) = self.failure {
@@ -128,7 +128,7 @@ impl Engine for Complement<'_> {
         out: &mut Out<K>,
     ) -> Result<(), Fault>
         ensures feeds { FeedsWhole may_take stands_after kept_fault settled_lines is_quiet self.old
-            records.old out.old result self.new records.new out.new }
+            records.old out.old.output result self.new records.new out.new.output }
         ensures memory { IfErr result (λ fault. told fault ≡ write_failed) }
     {
         let Some(first) = self.current else {
@@ -176,8 +176,8 @@ fn advance<K: Sink>(
     out: &mut Out<K>,
 ) -> Result<Option<GapPlace>, Fault>
     requires { AreReached (entries genome.now) (seen current) }
-    ensures adds { Adds out.old (interval_lines (walk_step (gap_walk limit) (entries genome.now)
-        (seen current) (feature_lent bed.now)).1) result out.new }
+    ensures adds { Adds out.old.output (interval_lines (walk_step (gap_walk limit) (entries genome.now)
+        (seen current) (feature_lent bed.now)).1) result out.new.output }
     ensures reached { IfOk result (λ reached. seen reached ≡ (walk_step (gap_walk limit)
         (entries genome.now) (seen current) (feature_lent bed.now)).0) }
     ensures at { IfOk result (λ reached. AreReached (entries genome.now) (seen reached)) }
@@ -198,8 +198,8 @@ fn go_to<K: Sink>(
     out: &mut Out<K>,
 ) -> Result<Option<GapPlace>, Fault>
     requires { AreReached (entries genome.now) (seen current) }
-    ensures adds { Adds out.old (interval_lines (going (gap_walk limit) (entries genome.now)
-        (seen current) chrom.now).1) result out.new }
+    ensures adds { Adds out.old.output (interval_lines (going (gap_walk limit) (entries genome.now)
+        (seen current) chrom.now).1) result out.new.output }
     ensures reached { IfOk result (λ reached.
         seen reached ≡ (going (gap_walk limit) (entries genome.now) (seen current) chrom.now).0) }
     ensures at { IfOk result (λ reached. AreReached (entries genome.now) (seen reached)) }
@@ -236,8 +236,8 @@ fn cover_whole<K: Sink>(
 ) -> Result<GapPlace, Fault>
     requires at { AreReached (entries genome.now) (seen (Some first)) }
     requires on { is_on (entries genome.now) (seen (Some first)) (chrom_in records.old) ≡ true }
-    ensures { (limit : Bool) → CoversWhole (entries genome.now) limit first records.old out.old
-        result records.new out.new }
+    ensures { (limit : Bool) → CoversWhole (entries genome.now) limit first records.old out.old.output
+        result records.new out.new.output }
 {
     let mut reached = first;
     let mut whole = *records;
@@ -264,8 +264,8 @@ fn cover<K: Sink>(
     out: &mut Out<K>,
 ) -> Result<GapPlace, Fault>
     requires { reached.rank < length (entries genome.now) }
-    ensures adds { Adds out.old
-        (interval_lines (covering (entries genome.now) reached start stop).1) result out.new }
+    ensures adds { Adds out.old.output
+        (interval_lines (covering (entries genome.now) reached start stop).1) result out.new.output }
     ensures reached { IfOk result (λ next.
         next ≡ (covering (entries genome.now) reached start stop).0) }
 {
@@ -288,8 +288,8 @@ fn put_before<K: Sink>(
 ) -> Result<(), Fault>
     requires at { AreReached (entries genome.now) (seen current) }
     requires within { stop ≤ length (entries genome.now) }
-    ensures { Adds out.old (interval_lines (left_before last_gap (bare_gap limit) (entries genome.now)
-        (seen current) stop)) result out.new }
+    ensures { Adds out.old.output (interval_lines (left_before last_gap (bare_gap limit) (entries genome.now)
+        (seen current) stop)) result out.new.output }
 {
     put_left(genome, current, out)?;
     if limit {
@@ -316,8 +316,8 @@ fn put_left<K: Sink>(
     out: &mut Out<K>,
 ) -> Result<(), Fault>
     requires { AreReached (entries genome.now) (seen current) }
-    ensures { Adds out.old (interval_lines (left_of last_gap (entries genome.now) (seen current)))
-        result out.new }
+    ensures { Adds out.old.output (interval_lines (left_of last_gap (entries genome.now) (seen current)))
+        result out.new.output }
 {
     match current {
         None => Ok(()),
@@ -334,8 +334,8 @@ fn put_whole<K: Sink>(
 ) -> Result<(), Fault>
     requires order { first ≤ stop }
     requires within { stop ≤ length (entries genome.now) }
-    ensures { Adds out.old (interval_lines
-        (flat_map whole_of (slice_range (entries genome.now) first stop))) result out.new }
+    ensures { Adds out.old.output (interval_lines
+        (flat_map whole_of (slice_range (entries genome.now) first stop))) result out.new.output }
 {
     for rank in first..stop {
         let start = GapPlace { rank, end: 0 };
@@ -352,7 +352,7 @@ fn put_gap<K: Sink>(
     out: &mut Out<K>,
 ) -> Result<(), Fault>
     requires { reached.rank < length (entries genome.now) }
-    ensures { Adds out.old (interval_lines (gap_to (entries genome.now) reached stop)) result out.new }
+    ensures { Adds out.old.output (interval_lines (gap_to (entries genome.now) reached stop)) result out.new.output }
 {
     if reached.end < stop {
         return put_interval(genome.name(reached.rank), reached.end, stop, out);

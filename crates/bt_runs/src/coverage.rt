@@ -118,7 +118,7 @@ impl Engine for Coverage<'_> {
     /// chromosome's length.
     fn feed<K: Sink>(&mut self, bed: &BedRef<'_>, out: &mut Out<K>) -> Result<(), Fault>
         ensures feeds { Feeds may_take stands_after kept_fault settled_lines self.old
-            (feature_lent bed.now) out.old is_quiet result self.new out.new }
+            (feature_lent bed.now) out.old.output is_quiet result self.new out.new.output }
         ensures memory { IsForRecord self.old (feature_lent bed.now) result }
     {
         if let Some(failure) = self.failure {
@@ -152,9 +152,9 @@ impl Engine for Coverage<'_> {
         out: &mut Out<K>,
     ) -> Result<(), Fault>
         ensures feeds { FeedsWhole may_take stands_after kept_fault settled_lines is_quiet self.old
-            records.old out.old result self.new records.new out.new }
+            records.old out.old.output result self.new records.new out.new.output }
         ensures memory { FailsWhere may_take stands_after kept_fault settled_lines is_quiet self.old
-            records.old out.old IsForRecord result self.new records.new out.new }
+            records.old out.old.output IsForRecord result self.new records.new out.new.output }
     {
         let Some(first) = self.current else {
             return Ok(());
@@ -218,7 +218,7 @@ fn advance<K: Sink>(
     out: &mut Out<K>,
 ) -> Result<Option<DepthPlace>, Failure>
     requires { AreReached (entries genome.now) (seen current held.now) }
-    ensures steps { AdvanceAnswers (walk_step (depth_walk zeros strand) (entries genome.now) (seen current held.old) (feature_lent bed.now)) (entries genome.now) result held.new out.old out.new }
+    ensures steps { AdvanceAnswers (walk_step (depth_walk zeros strand) (entries genome.now) (seen current held.old) (feature_lent bed.now)) (entries genome.now) result held.new out.old.output out.new.output }
     ensures memory { OnWant (HasToKeep (entries genome.now) strand (feature_lent bed.now)) result }
 {
     if let Some(reached) = current {
@@ -244,7 +244,7 @@ fn begin<K: Sink>(
 ) -> Result<Option<DepthPlace>, Failure>
     requires at { AreReached (entries genome.now) (seen current held.now) }
     requires elsewhere { is_on (entries genome.now) (seen current held.now) bed.now.chrom.now ≡ false }
-    ensures steps { AdvanceAnswers (walk_step (depth_walk zeros strand) (entries genome.now) (seen current held.old) (feature_lent bed.now)) (entries genome.now) result held.new out.old out.new }
+    ensures steps { AdvanceAnswers (walk_step (depth_walk zeros strand) (entries genome.now) (seen current held.old) (feature_lent bed.now)) (entries genome.now) result held.new out.old.output out.new.output }
     ensures memory { OnWant (HasToKeep (entries genome.now) strand (feature_lent bed.now)) result }
 {
     let Some(rank) = genome.rank(bed.chrom) else {
@@ -273,7 +273,7 @@ fn count<K: Sink>(
     out: &mut Out<K>,
 ) -> Result<Option<DepthPlace>, Failure>
     requires { IsPlaced (entries genome.now) reached.rank }
-    ensures steps { AdvanceAnswers (Some (taking (depth_walk zeros strand) (entries genome.now) (place_seen reached held.old) (feature_lent bed.now)).0, (taking (depth_walk zeros strand) (entries genome.now) (place_seen reached held.old) (feature_lent bed.now)).1) (entries genome.now) result held.new out.old out.new }
+    ensures steps { AdvanceAnswers (Some (taking (depth_walk zeros strand) (entries genome.now) (place_seen reached held.old) (feature_lent bed.now)).0, (taking (depth_walk zeros strand) (entries genome.now) (place_seen reached held.old) (feature_lent bed.now)).1) (entries genome.now) result held.new out.old.output out.new.output }
     ensures memory { OnWant (IsToKeep (entry_at (entries genome.now) reached.rank).length strand
         (feature_lent bed.now)) result }
 {
@@ -312,7 +312,7 @@ pub(crate) fn count_bounds<K: Sink>(
 ) -> Result<Option<BegunDepth>, Failure>
     ensures counts { CountAnswers chrom.now (levels_past zeros length (known_seen begun held.old) bounds)
         (known_past zeros counted length (known_seen begun held.old) bounds)
-        result held.new out.old out.new }
+        result held.new out.old.output out.new.output }
     ensures memory { OnWant ((counted ≡ true) × (bounds.start < length)) result }
 {
     let start = bounds.start.max(held.at());
@@ -348,7 +348,7 @@ fn settle<K: Sink>(
     out: &mut Out<K>,
 ) -> Result<Option<BegunDepth>, Fault>
     requires { held.now.at ≤ start }
-    ensures adds { Adds out.old (depth_lines (levels_on chrom.now (levels_by zeros length (known_seen begun held.old) start))) result out.new }
+    ensures adds { Adds out.old.output (depth_lines (levels_on chrom.now (levels_by zeros length (known_seen begun held.old) start))) result out.new.output }
     ensures known { IfOk result (λ next. known_seen next held.new ≡ settled_known zeros length (known_seen begun held.old) start) }
 {
     if length < start {
@@ -381,7 +381,7 @@ fn put_rest<K: Sink>(
     length: u64,
     out: &mut Out<K>,
 ) -> Result<(), Fault>
-    ensures adds { Adds out.old (depth_lines (levels_on chrom.now (levels_left zeros length (known_seen begun held.old)))) result out.new }
+    ensures adds { Adds out.old.output (depth_lines (levels_on chrom.now (levels_left zeros length (known_seen begun held.old)))) result out.new.output }
     ensures none { OnOk result (held.new ≡ none_open_at length) }
 {
     put_left(chrom, zeros, held, begun, length, out)?;
@@ -398,7 +398,7 @@ fn put_left<K: Sink>(
     length: u64,
     out: &mut Out<K>,
 ) -> Result<(), Fault>
-    ensures { Adds out.old (depth_lines (levels_on chrom.now (levels_left zeros length (known_seen begun held.old)))) result out.new }
+    ensures { Adds out.old.output (depth_lines (levels_on chrom.now (levels_left zeros length (known_seen begun held.old)))) result out.new.output }
 {
     let begun = go_on(chrom, zeros, held, begun, length, out)?;
     put_ended(chrom, begun, length, out)
@@ -416,7 +416,7 @@ fn put_before<K: Sink>(
 ) -> Result<(), Fault>
     requires at { AreReached (entries genome.now) (seen current held.now) }
     requires within { stop ≤ length (entries genome.now) }
-    ensures { Adds out.old (depth_lines (left_before (depths_left zeros) (bare_of zeros) (entries genome.now) (seen current held.old) stop)) result out.new }
+    ensures { Adds out.old.output (depth_lines (left_before (depths_left zeros) (bare_of zeros) (entries genome.now) (seen current held.old) stop)) result out.new.output }
 {
     put_current(genome, zeros, current, held, out)?;
     put_bares(genome, zeros, first_rank(current, stop), stop, out)
@@ -442,7 +442,7 @@ fn put_current<K: Sink>(
     out: &mut Out<K>,
 ) -> Result<(), Fault>
     requires { AreReached (entries genome.now) (seen current held.now) }
-    ensures { Adds out.old (depth_lines (left_of (depths_left zeros) (entries genome.now) (seen current held.old))) result out.new }
+    ensures { Adds out.old.output (depth_lines (left_of (depths_left zeros) (entries genome.now) (seen current held.old))) result out.new.output }
 {
     match current {
         None => Ok(()),
@@ -464,7 +464,7 @@ fn put_bares<K: Sink>(
 ) -> Result<(), Fault>
     requires order { first ≤ stop }
     requires within { stop ≤ length (entries genome.now) }
-    ensures { Adds out.old (depth_lines (flat_map (bare_of zeros) (slice_range (entries genome.now) first stop))) result out.new }
+    ensures { Adds out.old.output (depth_lines (flat_map (bare_of zeros) (slice_range (entries genome.now) first stop))) result out.new.output }
 {
     for rank in first..stop {
         put_bare(genome, zeros, rank, out)?;
@@ -480,7 +480,7 @@ fn put_bare<K: Sink>(
     out: &mut Out<K>,
 ) -> Result<(), Fault>
     requires { rank < length (entries genome.now) }
-    ensures { Adds out.old (depth_lines (bare_of zeros (entry_at (entries genome.now) rank))) result out.new }
+    ensures { Adds out.old.output (depth_lines (bare_of zeros (entry_at (entries genome.now) rank))) result out.new.output }
 {
     let length = genome.length(rank);
     if zeros && 0 < length {

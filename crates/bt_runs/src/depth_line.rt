@@ -19,7 +19,7 @@ pub(crate) fn put_depth<K: Sink>(
     depth: u64,
     out: &mut Out<K>,
 ) -> Result<(), Fault>
-    ensures { Puts out.old (depth_line (record { chrom = chrom.now; start = start; stop = stop; depth = depth })) result out.new }
+    ensures { Puts out.old.output (depth_line (record { chrom = chrom.now; start = start; stop = stop; depth = depth })) result out.new.output }
 {
     let mut text = [0; ROOM];
     let first = write_depth(start, stop, depth, &mut text);

@@ -42,7 +42,7 @@ pub(crate) fn go_on<K: Sink>(
     stop: u64,
     out: &mut Out<K>,
 ) -> Result<Option<BegunDepth>, Fault>
-    ensures adds { Adds out.old (depth_lines (levels_on chrom.now (ended_after (depth_of zeros held.old.spans) held.old.at (stop - held.old.at) (begun_seen begun)))) result out.new }
+    ensures adds { Adds out.old.output (depth_lines (levels_on chrom.now (ended_after (depth_of zeros held.old.spans) held.old.at (stop - held.old.at) (begun_seen begun)))) result out.new.output }
     ensures begun { IfOk result (λ next. begun_seen next ≡ begun_after (depth_of zeros held.old.spans) held.old.at (stop - held.old.at) (begun_seen begun)) }
     ensures held { OnOk result (held.old.at ≤ stop → held.new ≡ open_from stop held.old) }
 {
@@ -78,7 +78,7 @@ fn put_next<K: Sink>(
     depth: Option<u64>,
     out: &mut Out<K>,
 ) -> Result<Option<BegunDepth>, Fault>
-    ensures adds { Adds out.old (depth_lines (levels_on chrom.now (next_ended position depth (begun_seen begun)))) result out.new }
+    ensures adds { Adds out.old.output (depth_lines (levels_on chrom.now (next_ended position depth (begun_seen begun)))) result out.new.output }
     ensures begun { IfOk result (λ next. begun_seen next ≡ next_begun position depth (begun_seen begun)) }
 {
     if goes_on(begun, depth) {
@@ -116,7 +116,7 @@ pub(crate) fn put_ended<K: Sink>(
     stop: u64,
     out: &mut Out<K>,
 ) -> Result<(), Fault>
-    ensures { Adds out.old (depth_lines (levels_on chrom.now (ended_at (begun_seen begun) stop))) result out.new }
+    ensures { Adds out.old.output (depth_lines (levels_on chrom.now (ended_at (begun_seen begun) stop))) result out.new.output }
 {
     match begun {
         None => Ok(()),

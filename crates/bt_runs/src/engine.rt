@@ -39,8 +39,8 @@ pub trait Engine {
     /// they can't be written, and with `NoMemory` where what is kept can't grow. The first fault is
     /// answered from then on.
     fn feed<K: Sink>(&mut self, bed: &BedRef<'_>, out: &mut Out<K>) -> Result<(), Fault>
-        ensures { Feeds takes stands fault settled self.old (feature_lent bed.now) out.old quiet
-            result self.new out.new };
+        ensures { Feeds takes stands fault settled self.old (feature_lent bed.now) out.old.output quiet
+            result self.new out.new.output };
 
     /// Takes records that stand whole, as [`Engine::feed`] does one after another: as many of them as it can,
     /// which may be none. What it took was passed. Where it fails, the record that it failed at was passed too.
@@ -49,8 +49,8 @@ pub trait Engine {
         records: &mut WholeRecords<'_>,
         out: &mut Out<K>,
     ) -> Result<(), Fault>
-        ensures { FeedsWhole takes stands fault settled quiet self.old records.old out.old
-            result self.new records.new out.new }
+        ensures { FeedsWhole takes stands fault settled quiet self.old records.old out.old.output
+            result self.new records.new out.new.output }
     {
         while let Some(bed) = records.next() {
             self.feed(&bed, out)?;
@@ -61,7 +61,7 @@ pub trait Engine {
     /// Writes the lines that are still unsettled, after the last record. It fails with `WriteFailed`
     /// where they can't be written, and with the fault that was answered before, if one was.
     fn finish<K: Sink>(self, out: &mut Out<K>) -> Result<(), Fault>
-        ensures { Finishes takes stands fault settled whole self out.old result out.new };
+        ensures { Finishes takes stands fault settled whole self out.old.output result out.new.output };
 
     /// How many items it keeps.
     fn kept_len(&self) -> usize

@@ -89,7 +89,7 @@ pub(crate) fn put_gathered<K: Sink>(
     out: &mut Out<K>,
 ) -> Result<(), FailedRun>
     requires ended { All (λ run. gap + 1 < run.span.beyond) runs.now }
-    ensures { PutsGathered gap chrom.now out.old runs.now result out.new }
+    ensures { PutsGathered gap chrom.now out.old.output runs.now result out.new.output }
 {
     let mut index = 0;
     while index < runs.len() {

@@ -81,7 +81,7 @@ impl Engine for Merge {
     /// answered only where a run has to be opened.
     fn feed<K: Sink>(&mut self, bed: &BedRef<'_>, out: &mut Out<K>) -> Result<(), Fault>
         ensures feeds { Feeds may_take stands_after kept_fault settled_lines self.old
-            (feature_lent bed.now) out.old is_quiet result self.new out.new }
+            (feature_lent bed.now) out.old.output is_quiet result self.new out.new.output }
         ensures memory { IsForRun self.old (feature_lent bed.now) result }
     {
         match &mut self.kept {
@@ -97,9 +97,9 @@ impl Engine for Merge {
         out: &mut Out<K>,
     ) -> Result<(), Fault>
         ensures feeds { FeedsWhole may_take stands_after kept_fault settled_lines is_quiet self.old
-            records.old out.old result self.new records.new out.new }
+            records.old out.old.output result self.new records.new out.new.output }
         ensures memory { FailsWhere may_take stands_after kept_fault settled_lines is_quiet self.old
-            records.old out.old IsForRun result self.new records.new out.new }
+            records.old out.old.output IsForRun result self.new records.new out.new.output }
     {
         match &mut self.kept {
             Kept::Pooled(merge) => merge.feed_whole(records, out),

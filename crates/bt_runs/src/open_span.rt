@@ -108,7 +108,7 @@ pub(crate) fn put_span<K: Sink>(
     out: &mut Out<K>,
 ) -> Result<(), Fault>
     requires ended { gap + 1 < span.beyond }
-    ensures { Adds out.old (interval_lines (kept_at chrom.now (run_in gap span))) result out.new }
+    ensures { Adds out.old.output (interval_lines (kept_at chrom.now (run_in gap span))) result out.new.output }
 {
     put_interval(chrom, span.start, span.beyond - (gap + 1), out)
 }

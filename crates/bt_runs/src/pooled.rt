@@ -87,7 +87,7 @@ impl Pooled {
 
     // Takes one more record.
     fn take<K: Sink>(&mut self, bed: &BedRef<'_>, out: &mut Out<K>) -> Result<(), Failure>
-        ensures { TakesNext self.old (feature_lent bed.now) out.old result self.new out.new }
+        ensures { TakesNext self.old (feature_lent bed.now) out.old.output result self.new out.new.output }
     {
         if self.settle(bed, out).is_err() {
             return Err(Failure::Write);
@@ -103,7 +103,7 @@ impl Pooled {
 
     // Writes the open run and closes it, if the record has passed it.
     fn settle<K: Sink>(&mut self, bed: &BedRef<'_>, out: &mut Out<K>) -> Result<(), Fault>
-        ensures { SettlesRuns self.old (feature_lent bed.now) out.old result self.new out.new }
+        ensures { SettlesRuns self.old (feature_lent bed.now) out.old.output result self.new out.new.output }
     {
         let Some(run) = self.run else {
             return Ok(());
@@ -170,7 +170,7 @@ impl Engine for Pooled {
     /// only where a run has to be opened.
     fn feed<K: Sink>(&mut self, bed: &BedRef<'_>, out: &mut Out<K>) -> Result<(), Fault>
         ensures feeds { Feeds may_take stands_after kept_fault settled_lines self.old
-            (feature_lent bed.now) out.old is_quiet result self.new out.new }
+            (feature_lent bed.now) out.old.output is_quiet result self.new out.new.output }
         ensures memory { IsForRun self.old (feature_lent bed.now) result }
     {
         if let Some(failure) = self.failure {
@@ -193,7 +193,7 @@ impl Engine for Pooled {
         out: &mut Out<K>,
     ) -> Result<(), Fault>
         ensures feeds { FeedsWhole may_take stands_after kept_fault settled_lines is_quiet self.old
-            records.old out.old result self.new records.new out.new }
+            records.old out.old.output result self.new records.new out.new.output }
         ensures memory { IfErr result (λ fault. told fault ≡ write_failed) }
     {
         if self.failure.is_some() || !is_same_name(self.chrom.as_slice(), records.chrom()) {

@@ -26,7 +26,7 @@ pub(crate) fn join_passing<K: Sink>(
     out: &mut Out<K>,
 ) -> Result<bool, Failure>
     requires { here ≡ bytes_eq chrom.now bed.now.chrom.now }
-    ensures { JoinsPassing gap chrom.now runs.old (feature_lent bed.now) out.old result runs.new out.new }
+    ensures { JoinsPassing gap chrom.now runs.old (feature_lent bed.now) out.old.output result runs.new out.new.output }
 {
     let reach = bed.start.saturating_sub(gap);
     match put_passed(chrom, here, reach, runs, out) {
@@ -45,8 +45,8 @@ pub(crate) fn put_passed<K: Sink>(
     runs: &mut WaitingRuns,
     out: &mut Out<K>,
 ) -> Result<(), Fault>
-    ensures adds { Adds out.old (strand_lines (placed_runs chrom.now (passed_runs here reach runs.old)))
-        result out.new }
+    ensures adds { Adds out.old.output (strand_lines (placed_runs chrom.now (passed_runs here reach runs.old)))
+        result out.new.output }
     ensures left { OnOk result (runs.new ≡ left_runs here reach runs.old) }
 {
     while let Some(run) = runs.first() {

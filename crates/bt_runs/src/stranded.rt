@@ -64,7 +64,7 @@ impl Stranded {
     // Takes one more record.
     #[inline(always)]
     fn take<K: Sink>(&mut self, bed: &BedRef<'_>, out: &mut Out<K>) -> Result<(), Failure>
-        ensures { TakesNext self.old (feature_lent bed.now) out.old result self.new out.new }
+        ensures { TakesNext self.old (feature_lent bed.now) out.old.output result self.new out.new.output }
     {
         let here = is_same_name(self.chrom.as_slice(), bed.chrom);
         if join_passing(
@@ -102,7 +102,7 @@ impl Engine for Stranded {
     #[inline(always)]
     fn feed<K: Sink>(&mut self, bed: &BedRef<'_>, out: &mut Out<K>) -> Result<(), Fault>
         ensures feeds { Feeds may_take stands_after kept_fault settled_lines self.old
-            (feature_lent bed.now) out.old is_quiet result self.new out.new }
+            (feature_lent bed.now) out.old.output is_quiet result self.new out.new.output }
         ensures memory { IsForRun self.old (feature_lent bed.now) result }
     {
         if let Some(failure) = self.failure {
@@ -125,9 +125,9 @@ impl Engine for Stranded {
         out: &mut Out<K>,
     ) -> Result<(), Fault>
         ensures feeds { FeedsWhole may_take stands_after kept_fault settled_lines is_quiet self.old
-            records.old out.old result self.new records.new out.new }
+            records.old out.old.output result self.new records.new out.new.output }
         ensures memory { FailsWhere may_take stands_after kept_fault settled_lines is_quiet self.old
-            records.old out.old IsForRun result self.new records.new out.new }
+            records.old out.old.output IsForRun result self.new records.new out.new.output }
     {
         if self.failure.is_some() || !is_same_name(self.chrom.as_slice(), records.chrom()) {
             return Ok(());

@@ -27,8 +27,8 @@ pub(crate) fn count_whole<K: Sink>(
 ) -> Result<DepthPlace, Failure>
     requires at { AreReached (entries genome.now) (seen (Some first) held.now) }
     requires on { is_on (entries genome.now) (seen (Some first) held.now) (chrom_in records.old) ≡ true }
-    ensures { CountsWhole (entries genome.now) zeros strand first held.old records.old out.old
-        result held.new records.new out.new }
+    ensures { CountsWhole (entries genome.now) zeros strand first held.old records.old out.old.output
+        result held.new records.new out.new.output }
 {
     match strand {
         None => count_all(genome, zeros, first, held, records, out),
@@ -48,8 +48,8 @@ fn count_all<K: Sink>(
 ) -> Result<DepthPlace, Failure>
     requires at { AreReached (entries genome.now) (seen (Some first) held.now) }
     requires on { is_on (entries genome.now) (seen (Some first) held.now) (chrom_in records.old) ≡ true }
-    ensures { CountsWhole (entries genome.now) zeros None first held.old records.old out.old
-        result held.new records.new out.new }
+    ensures { CountsWhole (entries genome.now) zeros None first held.old records.old out.old.output
+        result held.new records.new out.new.output }
 {
     let chrom = genome.name(first.rank);
     let length = genome.length(first.rank);
@@ -84,8 +84,8 @@ fn count_one<K: Sink>(
 ) -> Result<DepthPlace, Failure>
     requires at { AreReached (entries genome.now) (seen (Some first) held.now) }
     requires on { is_on (entries genome.now) (seen (Some first) held.now) (chrom_in records.old) ≡ true }
-    ensures { CountsWhole (entries genome.now) zeros (Some wanted) first held.old records.old out.old
-        result held.new records.new out.new }
+    ensures { CountsWhole (entries genome.now) zeros (Some wanted) first held.old records.old out.old.output
+        result held.new records.new out.new.output }
 {
     let chrom = genome.name(first.rank);
     let length = genome.length(first.rank);

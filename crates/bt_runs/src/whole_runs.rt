@@ -30,7 +30,7 @@ pub(crate) fn merge_whole<K: Sink>(
 ) -> Result<Option<Run>, Fault>
     requires gap_in_range { gap ≤ max_number }
     requires stop_in_range { IsInRange first }
-    ensures { MergesWhole gap strand first records.old out.old result records.new out.new }
+    ensures { MergesWhole gap strand first records.old out.old.output result records.new out.new.output }
 {
     match (strand, first) {
         (MergeStrand::All, Some(run)) => merge_all(gap, run, records, out),
@@ -50,7 +50,7 @@ fn merge_all<K: Sink>(
 ) -> Result<Option<Run>, Fault>
     requires gap_in_range { gap ≤ max_number }
     requires stop_in_range { first.stop ≤ max_number }
-    ensures { MergesWhole gap All (Some first) records.old out.old result records.new out.new }
+    ensures { MergesWhole gap All (Some first) records.old out.old.output result records.new out.new.output }
 {
     let chrom = records.chrom();
     let mut run = Some(first);
@@ -80,7 +80,7 @@ fn merge_one<K: Sink>(
 ) -> Result<Option<Run>, Fault>
     requires gap_in_range { gap ≤ max_number }
     requires stop_in_range { IsInRange first }
-    ensures { MergesWhole gap (One wanted) first records.old out.old result records.new out.new }
+    ensures { MergesWhole gap (One wanted) first records.old out.old.output result records.new out.new.output }
 {
     let chrom = records.chrom();
     let Some(placed) = next_placed(wanted, records) else {
@@ -106,7 +106,7 @@ fn merge_spans<K: Sink>(
 ) -> Result<Option<Run>, Fault>
     requires gap_in_range { gap ≤ max_number }
     requires is_span { IsSpan gap (start_in records.now) first }
-    ensures { MergesWhole gap (One wanted) (run_in gap first) records.old out.old result records.new out.new }
+    ensures { MergesWhole gap (One wanted) (run_in gap first) records.old out.old.output result records.new out.new.output }
 {
     let chrom = records.chrom();
     let mut span = first;
@@ -141,8 +141,8 @@ fn next_run<K: Sink>(
     requires gap_in_range { gap ≤ max_number }
     requires run_in_range { IsInRange run }
     requires record_in_range { bounds.stop ≤ max_number }
-    ensures adds { Adds out.old (interval_lines
-        (settled_by gap (kept_at chrom.now run) (bounds_at chrom.now bounds))) result out.new }
+    ensures adds { Adds out.old.output (interval_lines
+        (settled_by gap (kept_at chrom.now run) (bounds_at chrom.now bounds))) result out.new.output }
     ensures kept { IfOk result (λ next. kept_at chrom.now next
         ≡ kept_then gap counted (kept_at chrom.now run) (bounds_at chrom.now bounds)) }
     ensures in_range { IfOk result IsInRange }
@@ -165,8 +165,8 @@ fn left_run<K: Sink>(
 ) -> Result<Option<Run>, Fault>
     requires gap_in_range { gap ≤ max_number }
     requires run_in_range { IsInRange run }
-    ensures adds { Adds out.old (interval_lines
-        (settled_by gap (kept_at chrom.now run) (bounds_at chrom.now bounds))) result out.new }
+    ensures adds { Adds out.old.output (interval_lines
+        (settled_by gap (kept_at chrom.now run) (bounds_at chrom.now bounds))) result out.new.output }
     ensures left { IfOk result (λ left. kept_at chrom.now left
         ≡ left_by gap (kept_at chrom.now run) (bounds_at chrom.now bounds)) }
     ensures in_range { IfOk result IsInRange }

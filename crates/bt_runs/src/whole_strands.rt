@@ -21,7 +21,7 @@ pub(crate) fn merge_strands<K: Sink>(
     records: &mut WholeRecords<'_>,
     out: &mut Out<K>,
 ) -> Result<(), Failure>
-    ensures { MergesStrands gap runs.old records.old out.old result runs.new records.new out.new }
+    ensures { MergesStrands gap runs.old records.old out.old.output result runs.new records.new out.new.output }
 {
     let mut is_steady = true;
     while let Some(bed) = next_unmerged(gap, is_steady, runs, records, out)? {
@@ -42,7 +42,7 @@ fn next_unmerged<'t, K: Sink>(
     records: &mut WholeRecords<'t>,
     out: &mut Out<K>,
 ) -> Result<Option<BedRef<'t>>, Failure>
-    ensures { MergesUpTo gap runs.old records.old out.old result runs.new records.new out.new }
+    ensures { MergesUpTo gap runs.old records.old out.old.output result runs.new records.new out.new.output }
 {
     let single = if is_steady { runs.only() } else { None };
     let Some(run) = single else {
@@ -61,8 +61,8 @@ fn take_here<K: Sink>(
     runs: &mut WaitingRuns,
     out: &mut Out<K>,
 ) -> Result<(), Failure>
-    ensures { TakesNext (stranding_at gap bed.now.chrom.now runs.old) (feature_lent bed.now) out.old result
-        (stranding_at gap bed.now.chrom.now runs.new) out.new }
+    ensures { TakesNext (stranding_at gap bed.now.chrom.now runs.old) (feature_lent bed.now) out.old.output result
+        (stranding_at gap bed.now.chrom.now runs.new) out.new.output }
 {
     if join_passing(gap, bed.chrom, true, bed, runs, out)? {
         return Ok(());
@@ -90,7 +90,7 @@ fn merge_single<'t, K: Sink>(
     records: &mut WholeRecords<'t>,
     out: &mut Out<K>,
 ) -> Result<Single<'t>, Failure>
-    ensures { MergesSingle gap first records.old out.old result records.new out.new }
+    ensures { MergesSingle gap first records.old out.old.output result records.new out.new.output }
 {
     let chrom = records.chrom();
     let mut run = first;
@@ -127,7 +127,7 @@ fn merge_next<K: Sink>(
     out: &mut Out<K>,
 ) -> Result<bool, Failure>
     requires same { bed.now.chrom.now ≡ chrom.now }
-    ensures { StepsSingle gap chrom.now run.old (feature_lent bed.now) out.old result run.new out.new }
+    ensures { StepsSingle gap chrom.now run.old (feature_lent bed.now) out.old.output result run.new out.new.output }
 {
     if run.stop < bed.start.saturating_sub(gap) {
         if put_interval(chrom, run.start, run.stop, out).is_err() {

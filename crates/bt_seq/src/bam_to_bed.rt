@@ -60,13 +60,13 @@ impl BamToBed {
     /// that fault from then on.
     pub fn feed<K: Sink>(&mut self, sam: &SamRef<'_>, out: &mut Out<K>) -> Result<(), Fault>
         ensures writes { self.old.fault ≡ None
-            → Adds out.old (bed_lines_by self.old (alignment_lent sam.now)) result out.new }
+            → Adds out.old.output (bed_lines_by self.old (alignment_lent sam.now)) result out.new.output }
         ensures unchanged { OnOk result (self.new ≡ self.old) }
         ensures kept { IfErr result (λ fault.
             self.new ≡ record self.old { fault = Some (told fault) }) }
         ensures cause { IfErr result (λ fault. told fault ≡ write_failed) }
         ensures again { (fault : Told) → self.old.fault ≡ Some fault
-            → IsErr result × (self.new ≡ self.old) × (out.new ≡ out.old) }
+            → IsErr result × (self.new ≡ self.old) × (out.new.output ≡ out.old.output) }
     {
         if self.has_failed {
             return Err(write_failed());
@@ -85,13 +85,13 @@ impl BamToBed {
         out: &mut Out<K>,
     ) -> Result<(), Fault>
         ensures feeds { self.old.fault ≡ None
-            → FeedsTexts self.old.split self.old.with_cigar lines.old out.old result lines.new out.new }
+            → FeedsTexts self.old.split self.old.with_cigar lines.old out.old.output result lines.new out.new.output }
         ensures unchanged { OnOk result (self.new ≡ self.old) }
         ensures kept { IfErr result (λ fault.
             self.new ≡ record self.old { fault = Some (told fault) }) }
         ensures cause { IfErr result (λ fault. told fault ≡ write_failed) }
         ensures again { (fault : Told) → self.old.fault ≡ Some fault
-            → IsErr result × (self.new ≡ self.old) × (lines.new ≡ lines.old) × (out.new ≡ out.old) }
+            → IsErr result × (self.new ≡ self.old) × (lines.new ≡ lines.old) × (out.new.output ≡ out.old.output) }
     {
         if self.has_failed {
             return Err(write_failed());
@@ -110,7 +110,7 @@ pub(crate) fn put_lines<K: Sink>(
     with_cigar: bool,
     out: &mut Out<K>,
 ) -> Result<(), Fault>
-    ensures { Adds out.old (bed_lines split with_cigar (alignment_lent sam.now)) result out.new }
+    ensures { Adds out.old.output (bed_lines split with_cigar (alignment_lent sam.now)) result out.new.output }
 {
     if !split {
         return put_line(sam, sam.start, sam.stop, with_cigar, out);
@@ -121,7 +121,7 @@ pub(crate) fn put_lines<K: Sink>(
 // Puts the line of each block of an alignment that is cut at each N.
 #[inline(never)]
 fn put_blocks<K: Sink>(sam: &SamRef<'_>, with_cigar: bool, out: &mut Out<K>) -> Result<(), Fault>
-    ensures { Adds out.old (bed_lines true with_cigar (alignment_lent sam.now)) result out.new }
+    ensures { Adds out.old.output (bed_lines true with_cigar (alignment_lent sam.now)) result out.new.output }
 {
     for (start, stop) in blocks(sam, true) {
         put_line(sam, start, stop, with_cigar, out)?;

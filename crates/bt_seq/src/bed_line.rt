@@ -35,8 +35,8 @@ pub(crate) fn put_line<K: Sink>(
     with_cigar: bool,
     out: &mut Out<K>,
 ) -> Result<(), Fault>
-    ensures { Puts out.old (bed_line with_cigar (alignment_lent sam.now)
-        (record { start = start; stop = stop })) result out.new }
+    ensures { Puts out.old.output (bed_line with_cigar (alignment_lent sam.now)
+        (record { start = start; stop = stop })) result out.new.output }
 {
     if hold_line(sam, start, stop, with_cigar, &mut [0; LINE_ROOM], out) {
         return Ok(());
@@ -54,8 +54,8 @@ fn put_pieces<K: Sink>(
     with_cigar: bool,
     out: &mut Out<K>,
 ) -> Result<(), Fault>
-    ensures { Puts out.old (bed_line with_cigar (alignment_lent sam.now)
-        (record { start = start; stop = stop })) result out.new }
+    ensures { Puts out.old.output (bed_line with_cigar (alignment_lent sam.now)
+        (record { start = start; stop = stop })) result out.new.output }
 {
     put_place(sam.chrom, start, stop, out)?;
     put_read(sam, with_cigar, out)
@@ -72,9 +72,9 @@ pub(crate) fn hold_line<K: Sink>(
     text: &mut [u8; LINE_ROOM],
     out: &mut Out<K>,
 ) -> bool
-    ensures held { result ≡ true → PutsAll out.old (bed_line with_cigar (alignment_lent sam.now)
-        (record { start = start; stop = stop })) out.new }
-    ensures unchanged { result ≡ false → out.new ≡ out.old }
+    ensures held { result ≡ true → PutsAll out.old.output (bed_line with_cigar (alignment_lent sam.now)
+        (record { start = start; stop = stop })) out.new.output }
+    ensures unchanged { result ≡ false → out.new.output ≡ out.old.output }
 {
     if !is_short(sam, with_cigar) {
         return false;
@@ -145,7 +145,7 @@ fn write_piece(piece: &[u8], text: &mut [u8], end: usize) -> usize
 
 // Puts the chromosome and the bounds of a block, with a tab between and after them.
 fn put_place<K: Sink>(chrom: &[u8], start: u64, stop: u64, out: &mut Out<K>) -> Result<(), Fault>
-    ensures { Puts out.old (chrom.now ++ bounds_text start stop) result out.new }
+    ensures { Puts out.old.output (chrom.now ++ bounds_text start stop) result out.new.output }
 {
     let mut text = [0; BOUNDS_ROOM];
     let first = write_bounds(start, stop, &mut text, BOUNDS_ROOM);
@@ -154,7 +154,7 @@ fn put_place<K: Sink>(chrom: &[u8], start: u64, stop: u64, out: &mut Out<K>) -> 
 
 // Puts name, marks, mapping quality and strand, and the CIGAR where it is asked for.
 fn put_read<K: Sink>(sam: &SamRef<'_>, with_cigar: bool, out: &mut Out<K>) -> Result<(), Fault>
-    ensures { Puts out.old (sam.now.name.now ++ line_tail with_cigar (alignment_lent sam.now)) result out.new }
+    ensures { Puts out.old.output (sam.now.name.now ++ line_tail with_cigar (alignment_lent sam.now)) result out.new.output }
 {
     let mut text = [0; TAIL_ROOM];
     let quality = write_quality(sam, with_cigar, &mut text, TAIL_ROOM);

@@ -34,7 +34,7 @@ pub(crate) fn feed_all<'a, K: Sink>(
     lines: WholeLines<'a>,
     out: &mut Out<K>,
 ) -> (WholeLines<'a>, Result<(), Fault>)
-    ensures { FeedsTexts split with_cigar lines.entry out.old result.1 result.0 out.new }
+    ensures { FeedsTexts split with_cigar lines.entry out.old.output result.1 result.0 out.new.output }
 {
     let mut ahead = lines;
     let mut room = [0; LINE_ROOM];
@@ -56,7 +56,7 @@ fn feed_next<K: Sink>(
     room: &mut [u8; LINE_ROOM],
     out: &mut Out<K>,
 ) -> Fed
-    ensures { FeedsNext split with_cigar lines.old out.old result lines.new out.new }
+    ensures { FeedsNext split with_cigar lines.old out.old.output result lines.new out.new.output }
 {
     let Some(text) = lines.text() else {
         return Fed::Left;
@@ -83,7 +83,7 @@ fn feed_text<K: Sink>(
     room: &mut [u8; LINE_ROOM],
     out: &mut Out<K>,
 ) -> Fed
-    ensures { FeedsSaid split with_cigar (alignment_of text.now) out.old result out.new }
+    ensures { FeedsSaid split with_cigar (alignment_of text.now) out.old.output result out.new.output }
 {
     if is_skipped(text) {
         return Fed::Written;
@@ -108,8 +108,8 @@ fn feed_late<K: Sink>(
     room: &mut [u8; LINE_ROOM],
     out: &mut Out<K>,
 ) -> Fed
-    ensures { FeedsSaid split with_cigar (fields_say (fields_of (name.now ∷ pieces 9 rest.now))) out.old result
-        out.new }
+    ensures { FeedsSaid split with_cigar (fields_say (fields_of (name.now ∷ pieces 9 rest.now))) out.old.output result
+        out.new.output }
 {
     let Some(fields) = fields_behind(name, rest) else {
         return Fed::Left;
@@ -126,7 +126,7 @@ fn feed_fields<K: Sink>(
     room: &mut [u8; LINE_ROOM],
     out: &mut Out<K>,
 ) -> Fed
-    ensures { FeedsSaid split with_cigar (fields_say (Some (fields_lent fields.entry))) out.old result out.new }
+    ensures { FeedsSaid split with_cigar (fields_say (Some (fields_lent fields.entry))) out.old.output result out.new.output }
 {
     let Some(numbers) = numbers_in(&fields) else {
         return Fed::Left;
@@ -149,7 +149,7 @@ fn feed_alignment<K: Sink>(
     room: &mut [u8; LINE_ROOM],
     out: &mut Out<K>,
 ) -> Fed
-    ensures { FeedsSaid split with_cigar (Ok (Some (alignment_lent sam.entry))) out.old result out.new }
+    ensures { FeedsSaid split with_cigar (Ok (Some (alignment_lent sam.entry))) out.old.output result out.new.output }
 {
     if !split && hold_line(&sam, sam.start, sam.stop, with_cigar, room, out) {
         return Fed::Written;
@@ -160,7 +160,7 @@ fn feed_alignment<K: Sink>(
 // Writes an alignment.
 #[inline(never)]
 fn put_any<K: Sink>(sam: SamRef<'_>, split: bool, with_cigar: bool, out: &mut Out<K>) -> Fed
-    ensures { FeedsSaid split with_cigar (Ok (Some (alignment_lent sam.entry))) out.old result out.new }
+    ensures { FeedsSaid split with_cigar (Ok (Some (alignment_lent sam.entry))) out.old.output result out.new.output }
 {
     match put_lines(&sam, split, with_cigar, out) {
         Ok(()) => Fed::Written,

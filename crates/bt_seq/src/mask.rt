@@ -78,7 +78,7 @@ impl Mask {
     pub fn give_line<K: Sink>(&mut self, line: &Line<'_>, out: &mut Out<K>) -> Result<(), Fault>
         requires { self.old.want ≡ MaskWant.Line }
         ensures gives { (how : MaskHow) (full : Bool) (stage : MaskStage) → MaskStandsAt how full stage self.old
-            → GivesNextLine how full stage (line_seen line.now) out.old result self.new out.new }
+            → GivesNextLine how full stage (line_seen line.now) out.old.output result self.new out.new.output }
         ensures stops { OnErr result (self.new.want ≡ MaskWant.Nothing) }
     {
         self.state.take_line(line, out)
@@ -101,7 +101,7 @@ impl Mask {
     ) -> WholeLines<'a>
         requires { self.old.want ≡ MaskWant.Line }
         ensures passes { (texts : List (List ℕ)) × PassesLines lines.entry texts result
-            × TakesTexts self.old texts out.old self.new out.new }
+            × TakesTexts self.old texts out.old.output self.new out.new.output }
         ensures asks { self.new.want ≡ MaskWant.Line }
     {
         self.state.pass_lines(lines, out)
@@ -132,11 +132,11 @@ impl Mask {
         ensures waits { (how : MaskHow) (full : Bool) (stage : MaskStage) (waiting : SequenceLine)
             → MaskStandsAt how full stage self.old → stage.waiting ≡ Some waiting
             → IsNext stage.ahead (feature_lent bed.now)
-            → GivesBed how full stage waiting (feature_lent bed.now) out.old result self.new out.new }
+            → GivesBed how full stage waiting (feature_lent bed.now) out.old.output result self.new out.new.output }
         ensures none_waits { (how : MaskHow) (full : Bool) (stage : MaskStage)
             → MaskStandsAt how full stage self.old → stage.waiting ≡ None
             → IsNext stage.ahead (feature_lent bed.now)
-            → ChecksRecord how full stage (feature_lent bed.now) line out.old result self.new out.new }
+            → ChecksRecord how full stage (feature_lent bed.now) line out.old.output result self.new out.new.output }
         ensures stops { OnErr result (self.new.want ≡ MaskWant.Nothing) }
     {
         if self.state.waits() {
@@ -152,10 +152,10 @@ impl Mask {
         requires { self.old.want ≡ MaskWant.Bed }
         ensures waits { (how : MaskHow) (full : Bool) (stage : MaskStage) (waiting : SequenceLine)
             → MaskStandsAt how full stage self.old → stage.waiting ≡ Some waiting
-            → EndsRecords how full stage waiting out.old result self.new out.new }
+            → EndsRecords how full stage waiting out.old.output result self.new out.new.output }
         ensures none_waits { (how : MaskHow) (full : Bool) (stage : MaskStage)
             → MaskStandsAt how full stage self.old → stage.waiting ≡ None
-            → EndsCheck how full stage out.old result self.new out.new }
+            → EndsCheck how full stage out.old.output result self.new out.new.output }
         ensures stops { OnErr result (self.new.want ≡ MaskWant.Nothing) }
     {
         self.state.end_bed(out)

@@ -126,7 +126,7 @@ impl MaskState {
         out: &mut Out<K>,
     ) -> Result<(), Fault>
         ensures { TakesLine self.old line.now.number
-            (record { text = line.now.text.now; ending = line.now.ending }) out.old result self.new out.new }
+            (record { text = line.now.text.now; ending = line.now.ending }) out.old.output result self.new out.new.output }
     {
         if self.passes(line.text, line.ending, out) {
             return Ok(());
@@ -137,7 +137,7 @@ impl MaskState {
     // The same for any line.
     fn take_any<K: Sink>(&mut self, line: &Line<'_>, out: &mut Out<K>) -> Result<(), Fault>
         ensures { TakesLine self.old line.now.number
-            (record { text = line.now.text.now; ending = line.now.ending }) out.old result self.new out.new }
+            (record { text = line.now.text.now; ending = line.now.ending }) out.old.output result self.new out.new.output }
     {
         if let Err(fault) = self.move_to(line.number, line.text) {
             self.want = MaskWant::Nothing;
@@ -156,7 +156,7 @@ impl MaskState {
         out: &mut Out<K>,
     ) -> Result<Taken, Fault>
         ensures { (line : Waiting) → self.old.waiting ≡ Some line
-            → TakesBed self.old line (feature_lent bed.now) out.old result self.new out.new }
+            → TakesBed self.old line (feature_lent bed.now) out.old.output result self.new out.new.output }
     {
         let owner = self.matching.owner(bed.chrom);
         if self.is_decided(owner, bed.start) {
@@ -199,10 +199,10 @@ impl MaskState {
     // Takes the end of the records, and writes the line that waits.
     pub(crate) fn end_bed<K: Sink>(&mut self, out: &mut Out<K>) -> Result<(), Fault>
         ensures waits { (line : Waiting) → self.old.waiting ≡ Some line
-            → Writes (record self.old { bed_ended = true }) line out.old result self.new out.new }
+            → Writes (record self.old { bed_ended = true }) line out.old.output result self.new out.new.output }
         ensures none_waits { self.old.waiting ≡ None → IsOk result
             × (self.new ≡ record self.old { bed_ended = true; want = MaskWant.Nothing })
-            × (out.new ≡ out.old) }
+            × (out.new.output ≡ out.old.output) }
     {
         self.bed_ended = true;
         if self.waits {
@@ -218,8 +218,8 @@ impl MaskState {
     #[inline(always)]
     fn passes<K: Sink>(&mut self, text: &[u8], ending: LineEnd, out: &mut Out<K>) -> bool
         ensures passed { result ≡ true → PassesLine self.old
-            (record { text = text.now; ending = ending }) out.old self.new out.new }
-        ensures unchanged { result ≡ false → (self.new ≡ self.old) × (out.new ≡ out.old) }
+            (record { text = text.now; ending = ending }) out.old.output self.new out.new.output }
+        ensures unchanged { result ≡ false → (self.new ≡ self.old) × (out.new.output ≡ out.old.output) }
     {
         let bases = self.window.bases_with(text.len());
         if !self.stays_as_given(text, bases) || !hold_text(text, ending, out) {
@@ -246,7 +246,7 @@ impl MaskState {
         out: &mut Out<K>,
     ) -> WholeLines<'a>
         ensures { (texts : List (List ℕ)) × PassesLines lines.entry texts result
-            × MaskPasses self.old texts out.old self.new out.new }
+            × MaskPasses self.old texts out.old.output self.new out.new.output }
     {
         if !self.matching.is_named() || !self.window.is_empty() {
             return lines;
@@ -379,7 +379,7 @@ impl MaskState {
         ending: LineEnd,
         out: &mut Out<K>,
     ) -> Result<(), Fault>
-        ensures { WritesGiven self.old (record { text = text.now; ending = ending }) out.old result self.new out.new }
+        ensures { WritesGiven self.old (record { text = text.now; ending = ending }) out.old.output result self.new out.new.output }
     {
         if self.window.is_empty() {
             let written = put_text(text, ending, out);
@@ -392,7 +392,7 @@ impl MaskState {
     // Writes the line that waits.
     fn write<K: Sink>(&mut self, out: &mut Out<K>) -> Result<(), Fault>
         ensures { (line : Waiting) → self.old.waiting ≡ Some line
-            → Writes self.old line out.old result self.new out.new }
+            → Writes self.old line out.old.output result self.new out.new.output }
     {
         self.window.mask(self.text.as_mut_slice(), self.how);
         let written = put_text(self.text.as_slice(), self.ending, out);

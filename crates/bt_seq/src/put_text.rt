@@ -12,8 +12,8 @@ use bt_lines::{Fault, LineEnd, Out, Sink, WholeLines, put_line};
 // whether it did; else nothing changes.
 #[inline(always)]
 pub(crate) fn hold_text<K: Sink>(text: &[u8], ending: LineEnd, out: &mut Out<K>) -> bool
-    ensures held { result ≡ true → Grown out.old (text.now ++ end_bytes ending) out.new }
-    ensures unchanged { result ≡ false → out.new ≡ out.old }
+    ensures held { result ≡ true → Grown out.old.output (text.now ++ end_bytes ending) out.new.output }
+    ensures unchanged { result ≡ false → out.new.output ≡ out.old.output }
 {
     ending == LineEnd::Lf && out.hold_both(text, b"\n")
 }
@@ -27,10 +27,10 @@ pub(crate) fn hold_passed<K: Sink>(
 ) -> bool
     requires { (texts : List (List ℕ)) × PassesLines from texts to }
     ensures held { result ≡ true → (texts : List (List ℕ)) → PassesLines from.entry texts to.entry
-        → PutsAll out.old (plain_lines texts) out.new }
+        → PutsAll out.old.output (plain_lines texts) out.new.output }
     ensures some { result ≡ true → from.entry.at < to.entry.at }
-    ensures untaken { out.new.took ≡ out.old.took }
-    ensures unchanged { result ≡ false → out.new ≡ out.old }
+    ensures untaken { out.new.output.took ≡ out.old.output.took }
+    ensures unchanged { result ≡ false → out.new.output ≡ out.old.output }
 {
     let count = to.passed().bytes - from.passed().bytes;
     count > 0 && out.hold_both(&from.rest()[..count], b"")
@@ -39,7 +39,7 @@ pub(crate) fn hold_passed<K: Sink>(
 // Puts a text and its line end, which mostly is a line feed. It takes no memory.
 #[inline(always)]
 pub(crate) fn put_text<K: Sink>(text: &[u8], ending: LineEnd, out: &mut Out<K>) -> Result<(), Fault>
-    ensures { Adds out.old (text.now ++ end_bytes ending) result out.new }
+    ensures { Adds out.old.output (text.now ++ end_bytes ending) result out.new.output }
 {
     if ending == LineEnd::Lf {
         return put_line(text, b"\n", out);
@@ -51,7 +51,7 @@ pub(crate) fn put_text<K: Sink>(text: &[u8], ending: LineEnd, out: &mut Out<K>) 
 #[cold]
 #[inline(never)]
 fn put_ended<K: Sink>(text: &[u8], ending: LineEnd, out: &mut Out<K>) -> Result<(), Fault>
-    ensures { Adds out.old (text.now ++ end_bytes ending) result out.new }
+    ensures { Adds out.old.output (text.now ++ end_bytes ending) result out.new.output }
 {
     let end = bytes_of(ending);
     if text.len().max(end.len()) == 0 {

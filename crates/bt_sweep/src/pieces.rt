@@ -27,9 +27,9 @@ pub(crate) fn put_pieces<H: Held, K: Sink>(
     out: &mut Out<K>,
 ) -> Result<(), Fault>
     requires { AreOn a.now.chrom.now (H.records held.now) }
-    ensures { AreRising (H.records held.now) → Adds out.old (flat_map (piece_line (feature_lent a.now))
+    ensures { AreRising (H.records held.now) → Adds out.old.output (flat_map (piece_line (feature_lent a.now))
         (pieces (feature_lent a.now) (hits_among rule (feature_lent a.now) (take count (H.records held.now)))))
-        result out.new }
+        result out.new.output }
 {
     let mut free = a.start;
     for index in 0..count {
@@ -49,8 +49,8 @@ fn put_before<K: Sink>(
     out: &mut Out<K>,
 ) -> Result<u64, Fault>
     requires { AreOn a.now.chrom.now (option_to_list (option_copied b)) }
-    ensures adds { Adds out.old (lines_before (feature_lent a.now) free
-        (hits_among rule (feature_lent a.now) (option_to_list (option_copied b.entry)))) result out.new }
+    ensures adds { Adds out.old.output (lines_before (feature_lent a.now) free
+        (hits_among rule (feature_lent a.now) (option_to_list (option_copied b.entry)))) result out.new.output }
     ensures next { IfOk result (λ next. next ≡ free_after free
         (hits_among rule (feature_lent a.now) (option_to_list (option_copied b.entry)))) }
 {
@@ -67,7 +67,7 @@ fn put_before<K: Sink>(
 
 // Puts the piece of a record between two positions, if it has a base.
 fn put_gap<K: Sink>(a: &BedRef<'_>, start: u64, stop: u64, out: &mut Out<K>) -> Result<(), Fault>
-    ensures { Adds out.old (gap_lines (feature_lent a.now) start stop) result out.new }
+    ensures { Adds out.old.output (gap_lines (feature_lent a.now) start stop) result out.new.output }
 {
     if start < stop {
         return put_cut(a, start, stop, b"\n", out);

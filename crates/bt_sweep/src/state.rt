@@ -142,7 +142,7 @@ impl<H: Held> State<H> {
     #[inline(always)]
     pub(crate) fn take_a<K: Sink>(&mut self, a: &BedRef<'_>, out: &mut Out<K>) -> Result<(), Fault>
         ensures takes { AreRising (held_with self.old.last self.old.held (feature_lent a.now))
-            → TakesA self.old (feature_lent a.now) out.old result self.new out.new }
+            → TakesA self.old (feature_lent a.now) out.old.output result self.new out.new.output }
         ensures stops { OnErr result (want_in self.new ≡ Want.Nothing) }
         ensures last { KeepsLast self.old (feature_lent a.now) self.new }
     {
@@ -165,7 +165,7 @@ impl<H: Held> State<H> {
         records: &mut WholeRecords<'_>,
         out: &mut Out<K>,
     ) -> Result<bool, Fault>
-        ensures { WritesAtEnd self.old records.old out.old result self.new records.new out.new }
+        ensures { WritesAtEnd self.old records.old out.old.output result self.new records.new out.new.output }
     {
         if self.b_ended && self.is_on(records.chrom()) {
             return self.write_each(records, out);
@@ -190,7 +190,7 @@ impl<H: Held> State<H> {
         records: &mut WholeRecords<'_>,
         out: &mut Out<K>,
     ) -> Result<bool, Fault>
-        ensures { WritesSome self.old records.old out.old result self.new records.new out.new }
+        ensures { WritesSome self.old records.old out.old.output result self.new records.new out.new.output }
     {
         let mut is_any = false;
         while self.is_next_written(records, out)? {
@@ -206,7 +206,7 @@ impl<H: Held> State<H> {
         records: &mut WholeRecords<'_>,
         out: &mut Out<K>,
     ) -> Result<bool, Fault>
-        ensures { GivesNextWhole self.old records.old out.old result self.new records.new out.new }
+        ensures { GivesNextWhole self.old records.old out.old.output result self.new records.new out.new.output }
     {
         let Some(line) = records.next_line() else {
             return Ok(false);
@@ -218,7 +218,7 @@ impl<H: Held> State<H> {
     // Takes the next record of the first input, and writes its lines against what is held then.
     #[inline(always)]
     fn write_next<K: Sink>(&mut self, a: &Written<'_>, out: &mut Out<K>) -> Result<(), Fault>
-        ensures { GivesNext self.old out.old (feature_lent a.now.bed) result self.new out.new }
+        ensures { GivesNext self.old out.old.output (feature_lent a.now.bed) result self.new out.new.output }
     {
         if self.move_to(&a.bed).is_err() {
             self.stop();
@@ -246,9 +246,9 @@ impl<H: Held> State<H> {
     ) -> bool
         requires known_a { (a : Feature) → self.old.last ≡ Some a → IsTrue ((O.order order.now).knows a.chrom) }
         requires known_b { IsTrue ((O.order order.now).knows b.now.chrom.now) }
-        ensures taken { result ≡ true → TakesWhole (O.order order.now) (feature_lent b.now) self.old records.old out.old
-            self.new records.new out.new }
-        ensures none { result ≡ false → (self.new ≡ self.old) × (records.new ≡ records.old) × (out.new ≡ out.old) }
+        ensures taken { result ≡ true → TakesWhole (O.order order.now) (feature_lent b.now) self.old records.old out.old.output
+            self.new records.new out.new.output }
+        ensures none { result ≡ false → (self.new ≡ self.old) × (records.new ≡ records.old) × (out.new.output ≡ out.old.output) }
     {
         if self.b_ended || self.held.len() != 0 {
             return false;
@@ -363,7 +363,7 @@ impl<H: Held> State<H> {
     // Writes the lines of the last record of the first input, which waits no longer.
     pub(crate) fn write<K: Sink>(&mut self, out: &mut Out<K>) -> Result<(), Fault>
         ensures writes { (a : Feature) → self.old.last ≡ Some a → AreRising self.old.held
-            → WritesLast self.old a out.old result self.new out.new }
+            → WritesLast self.old a out.old.output result self.new out.new.output }
         ensures stops { OnErr result (want_in self.new ≡ Want.Nothing) }
         ensures last { self.new.last ≡ self.old.last }
     {
@@ -381,7 +381,7 @@ impl<H: Held> State<H> {
     // Says that the second input has ended, and writes the lines of the record that waits.
     pub(crate) fn end_b<K: Sink>(&mut self, out: &mut Out<K>) -> Result<(), Fault>
         ensures writes { (a : Feature) → self.old.last ≡ Some a → AreRising self.old.held
-            → WritesLast (record self.old { b_ended = true }) a out.old result self.new out.new }
+            → WritesLast (record self.old { b_ended = true }) a out.old.output result self.new out.new.output }
         ensures stops { OnErr result (want_in self.new ≡ Want.Nothing) }
         ensures last { self.new.last ≡ self.old.last }
     {
@@ -491,8 +491,8 @@ fn pass_over<O: ChromOrder, K: Sink>(
     requires known_a { (a : Feature) → last.now ≡ Some a → IsTrue ((O.order order.now).knows a.chrom) }
     requires known_b { IsTrue ((O.order order.now).knows b.now.chrom.now) }
     ensures passed { IfSome result (λ waits. PassesBy (O.order order.now) (feature_lent b.now) unhit waits last.now records.old
-        out.old kept.new records.new out.new) }
-    ensures none { result ≡ None → (records.new ≡ records.old) × (out.new ≡ out.old) }
+        out.old.output kept.new records.new out.new.output) }
+    ensures none { result ≡ None → (records.new ≡ records.old) × (out.new.output ≡ out.old.output) }
 {
     let Some(last) = last else {
         return None;
@@ -562,7 +562,7 @@ fn put_last<H: Held, K: Sink>(
 ) -> Result<(), Fault>
     requires { AreWith last.now (H.records held.now) }
     ensures { (a : Feature) → last.now ≡ Some a → AreRising (H.records held.now)
-        → Adds out.old (lines_for shape rule a (H.records held.now)) result out.new }
+        → Adds out.old.output (lines_for shape rule a (H.records held.now)) result out.new.output }
 {
     match last {
         None => Ok(()),

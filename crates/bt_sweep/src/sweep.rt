@@ -90,8 +90,8 @@ impl<'o, H: Held, O: ChromOrder> Sweep<'o, H, O> {
         requires known { IsTrue ((order_of self.old).knows a.now.chrom.now) }
         ensures gives { (shape : Shape) (rule : HitRule) (limit : Option ℕ) (stage : Stage) → StandsAt (order_of self.old) shape rule limit stage (state_of self.old)
             → IsInOrder (order_of self.old) (with_a stage (feature_lent a.now))
-            → GivesA (order_of self.old) shape rule limit stage (feature_lent a.now) out.old result
-            (state_of self.new) out.new }
+            → GivesA (order_of self.old) shape rule limit stage (feature_lent a.now) out.old.output result
+            (state_of self.new) out.new.output }
         ensures stops { OnErr result (want_in (state_of self.new) ≡ Want.Nothing) }
         ensures order { order_of self.new ≡ order_of self.old }
     {
@@ -112,9 +112,9 @@ impl<'o, H: Held, O: ChromOrder> Sweep<'o, H, O> {
         requires want { want_in (state_of self.old) ≡ Want.A }
         requires known { IsTrue ((order_of self.old).knows b.now.chrom.now) }
         ensures takes { result ≡ true → TakesFirsts (order_of self.old) (feature_lent b.now) (state_of self.old) records.old
-            out.old (state_of self.new) records.new out.new }
+            out.old.output (state_of self.new) records.new out.new.output }
         ensures none { result ≡ false → (state_of self.new ≡ state_of self.old) × (records.new ≡ records.old)
-            × (out.new ≡ out.old) }
+            × (out.new.output ≡ out.old.output) }
         ensures order { order_of self.new ≡ order_of self.old }
     {
         self.state.take_whole(self.order, records, b, out)
@@ -131,8 +131,8 @@ impl<'o, H: Held, O: ChromOrder> Sweep<'o, H, O> {
     ) -> Result<bool, Fault>
         requires want { want_in (state_of self.old) ≡ Want.A }
         ensures before_end { (state_of self.old).b_ended ≡ false → result ≡ Ok false }
-        ensures writes { WritesAny (order_of self.old) (state_of self.old) records.old out.old result (state_of self.new)
-            records.new out.new }
+        ensures writes { WritesAny (order_of self.old) (state_of self.old) records.old out.old.output result (state_of self.new)
+            records.new out.new.output }
         ensures stops { OnErr result (want_in (state_of self.new) ≡ Want.Nothing) }
         ensures order { order_of self.new ≡ order_of self.old }
     {
@@ -193,8 +193,8 @@ impl<'o, H: Held, O: ChromOrder> Sweep<'o, H, O> {
         ensures gives { (shape : Shape) (rule : HitRule) (limit : Option ℕ) (stage : Stage) (a : Feature)
             → StandsAt (order_of self.old) shape rule limit stage (state_of self.old) → stage.waiting ≡ Some a
             → ArePlaced (order_of self.old) (intervals_of stage.taken)
-            → GivesB (order_of self.old) shape rule limit stage a (feature_lent b.now) line out.old result
-            (state_of self.new) out.new }
+            → GivesB (order_of self.old) shape rule limit stage a (feature_lent b.now) line out.old.output result
+            (state_of self.new) out.new.output }
         ensures stops { OnErr result (want_in (state_of self.new) ≡ Want.Nothing) }
         ensures order { order_of self.new ≡ order_of self.old }
     {
@@ -218,7 +218,7 @@ impl<'o, H: Held, O: ChromOrder> Sweep<'o, H, O> {
         ensures gives { (shape : Shape) (rule : HitRule) (limit : Option ℕ) (stage : Stage) (a : Feature)
             → StandsAt (order_of self.old) shape rule limit stage (state_of self.old) → stage.waiting ≡ Some a
             → ArePlaced (order_of self.old) (intervals_of stage.taken)
-            → EndsB (order_of self.old) shape rule limit stage a out.old result (state_of self.new) out.new }
+            → EndsB (order_of self.old) shape rule limit stage a out.old.output result (state_of self.new) out.new.output }
         ensures stops { OnErr result (want_in (state_of self.new) ≡ Want.Nothing) }
         ensures order { order_of self.new ≡ order_of self.old }
     {

@@ -61,8 +61,8 @@ pub(crate) fn most_bytes<K: Sink>(unhit: Unhit, out: &Out<K>) -> usize {
 // Puts what is written of records that nothing hits, whose lines are given as they are written, if there is room for it.
 pub(crate) fn put_unhit<K: Sink>(unhit: Unhit, lines: &[u8], out: &mut Out<K>) -> bool
     ensures puts { result ≡ true → (records : List Feature) → AreKnown unhit lines.now records
-        → PutsUnhit unhit records out.old out.new }
-    ensures none { result ≡ false → out.new ≡ out.old }
+        → PutsUnhit unhit records out.old.output out.new.output }
+    ensures none { result ≡ false → out.new.output ≡ out.old.output }
 {
     if lines.is_empty() {
         return true;

@@ -40,7 +40,7 @@ pub(crate) fn put_lines<H: Held, K: Sink>(
 ) -> Result<(), Fault>
     requires { All (CanHit (feature_lent a.now.bed)) (H.records held.now) }
     ensures { AreRising (H.records held.now)
-        → Adds out.old (lines_for shape rule (feature_lent a.now.bed) (H.records held.now)) result out.new }
+        → Adds out.old.output (lines_for shape rule (feature_lent a.now.bed) (H.records held.now)) result out.new.output }
 {
     let bed = &a.bed;
     match shape {
@@ -68,8 +68,8 @@ fn put_hits<H: Held, K: Sink>(
     out: &mut Out<K>,
 ) -> Result<(), Fault>
     requires { AreOn a.now.bed.chrom.now (H.records held.now) }
-    ensures { Adds out.old (flat_map (hit_line shape (feature_lent a.now.bed))
-        (hits_among rule (feature_lent a.now.bed) (take count (H.records held.now)))) result out.new }
+    ensures { Adds out.old.output (flat_map (hit_line shape (feature_lent a.now.bed))
+        (hits_among rule (feature_lent a.now.bed) (take count (H.records held.now)))) result out.new.output }
 {
     for index in 0..count {
         put_if_hit(shape, rule, a, held.nth(index), out)?;
@@ -87,8 +87,8 @@ fn put_if_hit<K: Sink>(
     out: &mut Out<K>,
 ) -> Result<(), Fault>
     requires { AreOn a.now.bed.chrom.now (option_to_list (option_copied b)) }
-    ensures { Adds out.old (flat_map (hit_line shape (feature_lent a.now.bed))
-        (hits_among rule (feature_lent a.now.bed) (option_to_list (option_copied b.entry)))) result out.new }
+    ensures { Adds out.old.output (flat_map (hit_line shape (feature_lent a.now.bed))
+        (hits_among rule (feature_lent a.now.bed) (option_to_list (option_copied b.entry)))) result out.new.output }
 {
     let Some(b) = b else {
         return Ok(());
@@ -109,7 +109,7 @@ fn put_hit<K: Sink>(
     out: &mut Out<K>,
 ) -> Result<(), Fault>
     requires { 0 < shared_bases (feature_lent a.now.bed) (feature_lent b.now) }
-    ensures { Adds out.old (hit_line shape (feature_lent a.now.bed) (feature_lent b.now)) result out.new }
+    ensures { Adds out.old.output (hit_line shape (feature_lent a.now.bed) (feature_lent b.now)) result out.new.output }
 {
     let bed = &a.bed;
     let start = bed.start.max(b.start);
@@ -127,7 +127,7 @@ fn put_hit<K: Sink>(
 // Puts the record's line where it is to be written, and nothing else.
 #[inline(always)]
 fn put_where<K: Sink>(is_put: bool, a: &Written<'_>, out: &mut Out<K>) -> Result<(), Fault>
-    ensures { Adds out.old (cond is_put (line_with (bed_text (feature_lent a.now.bed) ∷ [])) []) result out.new }
+    ensures { Adds out.old.output (cond is_put (line_with (bed_text (feature_lent a.now.bed) ∷ [])) []) result out.new.output }
 {
     if is_put {
         return put_written(a, b"\n", out);
@@ -143,8 +143,8 @@ fn put_both<K: Sink>(
     b: &BedRef<'_>,
     out: &mut Out<K>,
 ) -> Result<(), Fault>
-    ensures { Puts out.old (line_with (bed_text (cut_to start stop (feature_lent a.now))
-        ∷ bed_text (feature_lent b.now) ∷ [])) result out.new }
+    ensures { Puts out.old.output (line_with (bed_text (cut_to start stop (feature_lent a.now))
+        ∷ bed_text (feature_lent b.now) ∷ [])) result out.new.output }
 {
     put_cut(a, start, stop, b"\t", out)?;
     put_bed(b, b"\n", out)
@@ -153,7 +153,7 @@ fn put_both<K: Sink>(
 // Puts a record and a number.
 #[inline(never)]
 fn put_counted<K: Sink>(a: &Written<'_>, count: u64, out: &mut Out<K>) -> Result<(), Fault>
-    ensures { Puts out.old (line_with (bed_text (feature_lent a.now.bed) ∷ decimal count ∷ [])) result out.new }
+    ensures { Puts out.old.output (line_with (bed_text (feature_lent a.now.bed) ∷ decimal count ∷ [])) result out.new.output }
 {
     put_written(a, b"\t", out)?;
     put_number(count, b"\n", out)
@@ -161,8 +161,8 @@ fn put_counted<K: Sink>(a: &Written<'_>, count: u64, out: &mut Out<K>) -> Result
 
 // Puts two records.
 fn put_beside<K: Sink>(a: &Written<'_>, b: &BedRef<'_>, out: &mut Out<K>) -> Result<(), Fault>
-    ensures { Puts out.old (line_with (bed_text (feature_lent a.now.bed)
-        ∷ bed_text (feature_lent b.now) ∷ [])) result out.new }
+    ensures { Puts out.old.output (line_with (bed_text (feature_lent a.now.bed)
+        ∷ bed_text (feature_lent b.now) ∷ [])) result out.new.output }
 {
     put_written(a, b"\t", out)?;
     put_bed(b, b"\n", out)
@@ -175,8 +175,8 @@ fn put_overlap<K: Sink>(
     count: u64,
     out: &mut Out<K>,
 ) -> Result<(), Fault>
-    ensures { Puts out.old (line_with (bed_text (feature_lent a.now.bed)
-        ∷ bed_text (feature_lent b.now) ∷ decimal count ∷ [])) result out.new }
+    ensures { Puts out.old.output (line_with (bed_text (feature_lent a.now.bed)
+        ∷ bed_text (feature_lent b.now) ∷ decimal count ∷ [])) result out.new.output }
 {
     put_written(a, b"\t", out)?;
     put_counted(&Written::of_bed(*b), count, out)

@@ -54,7 +54,7 @@ pub(crate) fn put_written<K: Sink>(
     end: &[u8],
     out: &mut Out<K>,
 ) -> Result<(), Fault>
-    ensures { Puts out.old (bed_text (feature_lent a.now.bed) ++ end.now) result out.new }
+    ensures { Puts out.old.output (bed_text (feature_lent a.now.bed) ++ end.now) result out.new.output }
 {
     match a.text {
         None => put_bed(&a.bed, end, out),

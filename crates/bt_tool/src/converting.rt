@@ -25,7 +25,7 @@ fn convert_line<K: Sink>(
     out: &mut Out<K>,
 ) -> Result<(), Fault>
     requires { converter.old.fault ≡ None }
-    ensures { ConvertsLine input converter.old (line_seen line.entry) out.old result converter.new out.new }
+    ensures { ConvertsLine input converter.old (line_seen line.entry) out.old.output result converter.new out.new.output }
 {
     match sam_line(line.text) {
         Ok(Some(sam)) => converter.feed(&sam, out),
@@ -61,8 +61,8 @@ fn convert_whole<S: Source, K: Sink>(
     out: &mut Out<K>,
 ) -> Result<(), Fault>
     requires { converter.old.fault ≡ None }
-    ensures converts { ConvertsTexts S.left S.has_failed S.end_told S.is_read converter.old lines.old out.old result
-        lines.new out.new }
+    ensures converts { ConvertsTexts S.left S.has_failed S.end_told S.is_read converter.old lines.old out.old.output result
+        lines.new out.new.output }
     ensures unchanged { OnOk result (converter.new ≡ converter.old) }
 {
     if !may_convert_whole(lines) {
@@ -83,9 +83,9 @@ fn convert_all<S: Source, K: Sink>(
 ) -> Result<(), Fault>
     requires fresh { IsFresh S.left S.end_told (sam_reader lines.old) }
     requires going { converter.old.fault ≡ None }
-    requires block { HoldsBlock out.old.took out.old.put }
-    ensures converts { ConvertsAll S.left S.has_failed S.end_told converter.old lines.old out.old result
-        lines.new out.new }
+    requires block { HoldsBlock out.old.output.took out.old.output.put }
+    ensures converts { ConvertsAll S.left S.has_failed S.end_told converter.old lines.old out.old.output result
+        lines.new out.new.output }
     ensures reads { AnswersNoRead result → HasRead S.is_read lines.old lines.new }
     ensures own_failure { IsOwnFault S.is_read lines.old (fault_kept lines.new) lines.new }
 {
@@ -108,9 +108,9 @@ pub(crate) fn convert<A: Source, K: Sink>(
     first: A,
     out: &mut Out<K>,
 ) -> (Option<Fault>, A)
-    requires { HoldsBlock out.old.took out.old.put }
+    requires { HoldsBlock out.old.output.took out.old.output.put }
     ensures written { WritesAlone A.left A.has_failed (of_bamtobed split cigar)
-        first out.old (option_map told result.0) result.1 out.new }
+        first out.old.output (option_map told result.0) result.1 out.new.output }
     ensures reads { TellsNoRead (option_map told result.0) → ReadsServe A.is_read first result.1 }
     ensures own_failure { TellsOwnReads ⊥ (IsOwnFailure A.is_read first result.1) ⊥
         (option_map told result.0) }

@@ -41,9 +41,9 @@ fn feed_all<S: Source, O: ChromOrder, E: Engine, K: Sink>(
     requires nothing { E.settled engine.old [] ≡ [] }
     requires takes { (past : List Feature) → ArePlaced (order_in records.old) (intervals_of past)
         → AreNonEmpty (intervals_of past) → E.takes engine.old past }
-    requires block { HoldsBlock out.old.took out.old.put }
+    requires block { HoldsBlock out.old.output.took out.old.output.put }
     ensures feeds { FeedsRecords (E.settled engine.old) S.left S.has_failed S.end_told
-        (λ past. E.stands engine.old past engine.new) records.old out.old result records.new out.new }
+        (λ past. E.stands engine.old past engine.new) records.old out.old.output result records.new out.new.output }
     ensures reads { AnswersNoRead result → HasRead S.is_read (below records.old) (below records.new) }
     ensures own_failure { KeepsOwnFault S.is_read (below records.old) (view_of records.new) }
 {
@@ -67,7 +67,7 @@ fn feed_whole<S: Source, O: ChromOrder, E: Engine, K: Sink>(
     out: &mut Out<K>,
 ) -> Result<(), Fault>
     ensures { FeedsAhead S.left S.has_failed S.end_told S.is_read E.takes E.stands E.fault E.settled E.quiet
-        records.old engine.old out.old result records.new engine.new out.new }
+        records.old engine.old out.old.output result records.new engine.new out.new.output }
 {
     let before = records.lines();
     if !pace.is_due(before) {
@@ -99,10 +99,10 @@ pub(crate) fn drive<A: Source, O: ChromOrder, E: Engine + Drop, K: Sink>(
         → AreNonEmpty (intervals_of past) → E.takes engine past }
     requires stays { SettledStays (E.settled engine) (E.takes engine) }
     requires begins { SettledBegins (E.settled engine) (E.whole engine) (E.takes engine) }
-    requires block { HoldsBlock out.old.took out.old.put }
+    requires block { HoldsBlock out.old.output.took out.old.output.put }
     ensures written { WritesRecords A.left A.has_failed
         (record { whole = E.whole engine; settled = E.settled engine }) (O.order order.now)
-        first out.old (option_map told result.0) result.1 out.new }
+        first out.old.output (option_map told result.0) result.1 out.new.output }
     ensures reads { TellsNoRead (option_map told result.0) → ReadsServe A.is_read first result.1 }
     ensures own_failure { TellsOwnReads ⊥ (IsOwnFailure A.is_read first result.1) ⊥
         (option_map told result.0) }

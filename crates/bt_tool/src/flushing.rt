@@ -9,9 +9,9 @@ use bt_lines::{Fault, Kind, Out, Sink};
 
 // Hands on what is held back, unless a write failed, and gives the fault that the run ends with.
 pub(crate) fn flushed<K: Sink>(fault: Option<Fault>, out: &mut Out<K>) -> Option<Fault>
-    ensures ends { Flushes out.old (option_map told fault) (option_map told result) out.new }
+    ensures ends { Flushes out.old.output (option_map told fault) (option_map told result) out.new.output }
     ensures flushed { (option_map told result ≡ Some write_failed)
-        ⊎ (out.new.sink_is_flushed ≡ true) }
+        ⊎ (out.new.output.sink_is_flushed ≡ true) }
 {
     if let Some(fault) = fault {
         if fault.kind == Kind::WriteFailed {

@@ -29,7 +29,7 @@ fn turn_line<A: Source, K: Sink>(
     out: &mut Out<K>,
 ) -> Result<(), Fault>
     requires { mask.old.want ≡ MaskWant.Line }
-    ensures turns { TurnsLine A.left A.has_failed A.end_told lines.old mask.old out.old result lines.new mask.new out.new }
+    ensures turns { TurnsLine A.left A.has_failed A.end_told lines.old mask.old out.old.output result lines.new mask.new out.new.output }
     ensures reads { line_fault lines.old ≡ None → AnswersNoRead result → HasRead A.is_read lines.old lines.new }
     ensures own_failure { line_fault lines.old ≡ None → IsOwnFault A.is_read lines.old (line_fault lines.new) lines.new }
 {
@@ -70,7 +70,7 @@ fn pass_lines<A: Source, K: Sink>(
     requires asked { mask.old.want ≡ MaskWant.Line }
     requires going { line_fault lines.old ≡ None }
     ensures passes { (texts : List (List ℕ)) × GivesTexts A.left A.has_failed A.end_told A.is_read texts
-        lines.old mask.old out.old lines.new mask.new out.new }
+        lines.old mask.old out.old.output lines.new mask.new out.new.output }
     ensures asks { mask.new.want ≡ MaskWant.Line }
 {
     let before = lines.lines();
@@ -105,8 +105,8 @@ fn turn_bed<B: Source, K: Sink>(
     out: &mut Out<K>,
 ) -> Result<(), Fault>
     requires { mask.old.want ≡ MaskWant.Bed }
-    ensures turns { TurnsBed B.left B.has_failed B.end_told (view_of records.old) mask.old out.old result
-        (view_of records.new) mask.new out.new }
+    ensures turns { TurnsBed B.left B.has_failed B.end_told (view_of records.old) mask.old out.old.output result
+        (view_of records.new) mask.new out.new.output }
     ensures reads { fault_kept records.old ≡ None → AnswersNoRead result → HasRead B.is_read (below records.old) (below records.new) }
     ensures own_failure { fault_kept records.old ≡ None → KeepsOwnFault B.is_read (below records.old) (view_of records.new) }
 {
@@ -134,10 +134,10 @@ fn mask_all<A: Source, B: Source, K: Sink>(
     requires first { input_of lines.old ≡ Input.First }
     requires blocks { (view_of records.old).format ≡ block_format }
     requires starts { Masks A.left A.has_failed A.end_told B.left B.has_failed B.end_told mask.old.how mask.old.full
-        (line_members mask.old.full (record { names = []; bases = 0 }) lines.old) (view_of records.old) out.old
-        (line_members mask.old.full (record { names = []; bases = 0 }) lines.old) (view_of records.old) mask.old out.old }
+        (line_members mask.old.full (record { names = []; bases = 0 }) lines.old) (view_of records.old) out.old.output
+        (line_members mask.old.full (record { names = []; bases = 0 }) lines.old) (view_of records.old) mask.old out.old.output }
     ensures finishes { FinishesMask A.left A.has_failed A.end_told B.left B.has_failed B.end_told mask.old.how mask.old.full
-        lines.old (view_of records.old) out.old result lines.new (view_of records.new) out.new }
+        lines.old (view_of records.old) out.old.output result lines.new (view_of records.new) out.new.output }
     ensures reads_first { AnswersNoRead result → HasRead A.is_read lines.old lines.new }
     ensures reads_second { AnswersNoRead result → HasRead B.is_read (below records.old) (below records.new) }
     ensures own_failure { IsOwnFault A.is_read lines.old (line_fault lines.new) lines.new }
@@ -167,9 +167,9 @@ pub(crate) fn mask<A: Source, B: Source, K: Sink>(
     second: B,
     out: &mut Out<K>,
 ) -> (Option<Fault>, A, B)
-    requires { HoldsBlock out.old.took out.old.put }
+    requires { HoldsBlock out.old.output.took out.old.output.put }
     ensures written { WritesBy A.left A.has_failed A.end_told B.left B.has_failed (of_maskfasta how full)
-        first (Some second) out.old (option_map told result.0) result.1 (Some result.2) out.new }
+        first (Some second) out.old.output (option_map told result.0) result.1 (Some result.2) out.new.output }
     ensures reads { TellsNoRead (option_map told result.0) → ReadsServe A.is_read first result.1 × ReadsServe B.is_read second result.2 }
     ensures own_failure { TellsOwnReads ⊥ (IsOwnFailure A.is_read first result.1)
         (IsOwnFailure B.is_read second result.2) (option_map told result.0) }

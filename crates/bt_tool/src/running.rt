@@ -131,9 +131,9 @@ fn write_output<A: Source, B: Source, K: Sink>(
     requires second { IsNamedBy (table_of (tool_of command)) (table_of (tool_of command)).second second }
     requires distinct { MatchResult chromosomes
         (λ table. IfSome table (λ table. AreDistinct (names_of table))) (λ _. ⊤) }
-    requires block { HoldsBlock out.old.took out.old.put }
+    requires block { HoldsBlock out.old.output.took out.old.output.put }
     ensures written { WritesOutput A.left A.has_failed A.end_told B.left B.has_failed command chromosomes first second
-        out.old (option_map told result.0) result.1 result.2 out.new }
+        out.old.output (option_map told result.0) result.1 result.2 out.new.output }
     ensures second { is_some result.2 ≡ is_some second }
     ensures reads { TellsNoRead (option_map told result.0)
         → ReadsServe A.is_read first result.1 × ReadsServeIf B.is_read second result.2 }
@@ -161,10 +161,10 @@ fn write_records<A: Source, B: Source, K: Sink>(
     requires genome { IsNamedBy (table_of (tool_of command)) (table_of (tool_of command)).genome genome.now }
     requires second { IsNamedBy (table_of (tool_of command)) (table_of (tool_of command)).second second }
     requires distinct { IfSome genome.now (λ table. AreDistinct (names_of table)) }
-    requires block { HoldsBlock out.old.took out.old.put }
+    requires block { HoldsBlock out.old.output.took out.old.output.put }
     ensures written { WritesBy A.left A.has_failed A.end_told B.left B.has_failed
         (behaviour_of command (option_map entries genome.now))
-        first second out.old (option_map told result.0) result.1 result.2 out.new }
+        first second out.old.output (option_map told result.0) result.1 result.2 out.new.output }
     ensures second { is_some result.2 ≡ is_some second }
     ensures reads { TellsNoRead (option_map told result.0)
         → ReadsServe A.is_read first result.1 × ReadsServeIf B.is_read second result.2 }
@@ -209,9 +209,9 @@ fn merge<A: Source, K: Sink>(
     out: &mut Out<K>,
 ) -> (Option<Fault>, A)
     requires limit { d ≤ max_number }
-    requires block { HoldsBlock out.old.took out.old.put }
+    requires block { HoldsBlock out.old.output.took out.old.output.put }
     ensures written { WritesRecords A.left A.has_failed (merge_written (order_of (option_map entries genome.now)) d strand)
-        (order_of (option_map entries genome.now)) first out.old (option_map told result.0) result.1 out.new }
+        (order_of (option_map entries genome.now)) first out.old.output (option_map told result.0) result.1 out.new.output }
     ensures reads { TellsNoRead (option_map told result.0) → ReadsServe A.is_read first result.1 }
     ensures own_failure { TellsOwnReads ⊥ (IsOwnFailure A.is_read first result.1) ⊥
         (option_map told result.0) }
@@ -230,10 +230,10 @@ fn complement<A: Source, K: Sink>(
 ) -> (Option<Fault>, A)
     requires genome { IsSome genome.now }
     requires distinct { IfSome genome.now (λ table. AreDistinct (names_of table)) }
-    requires block { HoldsBlock out.old.took out.old.put }
+    requires block { HoldsBlock out.old.output.took out.old.output.put }
     ensures written { WritesRecords A.left A.has_failed
         (complement_written (entries_in (option_map entries genome.now)) limit)
-        (order_of (option_map entries genome.now)) first out.old (option_map told result.0) result.1 out.new }
+        (order_of (option_map entries genome.now)) first out.old.output (option_map told result.0) result.1 out.new.output }
     ensures reads { TellsNoRead (option_map told result.0) → ReadsServe A.is_read first result.1 }
     ensures own_failure { TellsOwnReads ⊥ (IsOwnFailure A.is_read first result.1) ⊥
         (option_map told result.0) }
@@ -254,10 +254,10 @@ fn cover<A: Source, K: Sink>(
 ) -> (Option<Fault>, A)
     requires genome { IsSome genome.now }
     requires distinct { IfSome genome.now (λ table. AreDistinct (names_of table)) }
-    requires block { HoldsBlock out.old.took out.old.put }
+    requires block { HoldsBlock out.old.output.took out.old.output.put }
     ensures written { WritesRecords A.left A.has_failed
         (coverage_written (entries_in (option_map entries genome.now)) zeros strand)
-        (order_of (option_map entries genome.now)) first out.old (option_map told result.0) result.1 out.new }
+        (order_of (option_map entries genome.now)) first out.old.output (option_map told result.0) result.1 out.new.output }
     ensures reads { TellsNoRead (option_map told result.0) → ReadsServe A.is_read first result.1 }
     ensures own_failure { TellsOwnReads ⊥ (IsOwnFailure A.is_read first result.1) ⊥
         (option_map told result.0) }
@@ -287,10 +287,10 @@ fn sweep_both<A: Source, B: Source, K: Sink>(
     out: &mut Out<K>,
 ) -> (Option<Fault>, A, Option<B>)
     requires second { IsSome second }
-    requires block { HoldsBlock out.old.took out.old.put }
+    requires block { HoldsBlock out.old.output.took out.old.output.put }
     ensures written { WritesBy A.left A.has_failed A.end_told B.left B.has_failed
         (of_intersect (order_of (option_map entries genome.now)) shape rule limit)
-        first second out.old (option_map told result.0) result.1 result.2 out.new }
+        first second out.old.output (option_map told result.0) result.1 result.2 out.new.output }
     ensures second { is_some result.2 ≡ is_some second }
     ensures reads { TellsNoRead (option_map told result.0)
         → ReadsServe A.is_read first result.1 × ReadsServeIf B.is_read second result.2 }
@@ -312,9 +312,9 @@ fn mask_both<A: Source, B: Source, K: Sink>(
     out: &mut Out<K>,
 ) -> (Option<Fault>, A, Option<B>)
     requires second { IsSome second }
-    requires block { HoldsBlock out.old.took out.old.put }
+    requires block { HoldsBlock out.old.output.took out.old.output.put }
     ensures written { WritesBy A.left A.has_failed A.end_told B.left B.has_failed (of_maskfasta how full)
-        first second out.old (option_map told result.0) result.1 result.2 out.new }
+        first second out.old.output (option_map told result.0) result.1 result.2 out.new.output }
     ensures second { is_some result.2 ≡ is_some second }
     ensures reads { TellsNoRead (option_map told result.0)
         → ReadsServe A.is_read first result.1 × ReadsServeIf B.is_read second result.2 }

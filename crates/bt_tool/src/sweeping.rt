@@ -38,8 +38,8 @@ fn turn_first<A: Source, O: ChromOrder, H: Held, K: Sink>(
 ) -> Result<(), Fault>
     requires want { want_in (state_of sweep.old) ≡ Want.A }
     requires order { order_of sweep.old ≡ order_in first.old }
-    ensures turns { TurnsFirst A.left A.has_failed A.end_told (order_of sweep.old) first.old (state_of sweep.old) out.old
-        result first.new (state_of sweep.new) out.new }
+    ensures turns { TurnsFirst A.left A.has_failed A.end_told (order_of sweep.old) first.old (state_of sweep.old) out.old.output
+        result first.new (state_of sweep.new) out.new.output }
     ensures order { order_of sweep.new ≡ order_of sweep.old }
     ensures reads { fault_kept first.old ≡ None → AnswersNoRead result → HasRead A.is_read (below first.old) (below first.new) }
     ensures own_failure { fault_kept first.old ≡ None → KeepsOwnFault A.is_read (below first.old) (view_of first.new) }
@@ -66,9 +66,9 @@ fn give_whole<A: Source, B: Source, O: ChromOrder, H: Held, K: Sink>(
     requires want { want_in (state_of sweep.old) ≡ Want.A }
     requires second { order_of sweep.old ≡ order_in second.now }
     ensures gives { result ≡ true → GivesSeveral A.left A.has_failed A.end_told A.is_read B.left B.has_failed B.end_told
-        (order_of sweep.old) first.old second.now (state_of sweep.old) out.old first.new (state_of sweep.new) out.new }
+        (order_of sweep.old) first.old second.now (state_of sweep.old) out.old.output first.new (state_of sweep.new) out.new.output }
     ensures none { result ≡ false → (first.new ≡ first.old) × (state_of sweep.new ≡ state_of sweep.old)
-        × (out.new ≡ out.old) }
+        × (out.new.output ≡ out.old.output) }
     ensures order { order_of sweep.new ≡ order_of sweep.old }
 {
     let before = first.lines();
@@ -104,7 +104,7 @@ fn write_whole<A: Source, B: Source, O: ChromOrder, H: Held, K: Sink>(
 ) -> Result<bool, Fault>
     requires want { want_in (state_of sweep.old) ≡ Want.A }
     ensures gives { GivesAny A.left A.has_failed A.end_told A.is_read (order_of sweep.old) first.old (state_of sweep.old)
-        out.old result first.new (state_of sweep.new) out.new }
+        out.old.output result first.new (state_of sweep.new) out.new.output }
     ensures order { order_of sweep.new ≡ order_of sweep.old }
 {
     let before = first.lines();
@@ -134,8 +134,8 @@ fn turn_firsts<A: Source, B: Source, O: ChromOrder, H: Held, K: Sink>(
     requires order { order_of sweep.old ≡ order_in first.old }
     requires second { order_of sweep.old ≡ order_in second.now }
     ensures turns { TurnsFirsts A.left A.has_failed A.end_told A.is_read B.left B.has_failed B.end_told
-        (order_of sweep.old) first.old second.now (state_of sweep.old) out.old
-        result first.new (state_of sweep.new) out.new }
+        (order_of sweep.old) first.old second.now (state_of sweep.old) out.old.output
+        result first.new (state_of sweep.new) out.new.output }
     ensures order { order_of sweep.new ≡ order_of sweep.old }
     ensures reads { fault_kept first.old ≡ None → AnswersNoRead result → HasRead A.is_read (below first.old) (below first.new) }
     ensures own_failure { fault_kept first.old ≡ None → KeepsOwnFault A.is_read (below first.old) (view_of first.new) }
@@ -157,8 +157,8 @@ fn turn_second<B: Source, O: ChromOrder, H: Held, K: Sink>(
 ) -> Result<(), Fault>
     requires want { want_in (state_of sweep.old) ≡ Want.B }
     requires order { order_of sweep.old ≡ order_in second.old }
-    ensures turns { TurnsSecond B.left B.has_failed B.end_told (order_of sweep.old) second.old (state_of sweep.old) out.old
-        result second.new (state_of sweep.new) out.new }
+    ensures turns { TurnsSecond B.left B.has_failed B.end_told (order_of sweep.old) second.old (state_of sweep.old) out.old.output
+        result second.new (state_of sweep.new) out.new.output }
     ensures order { order_of sweep.new ≡ order_of sweep.old }
     ensures reads { fault_kept second.old ≡ None → AnswersNoRead result → HasRead B.is_read (below second.old) (below second.new) }
     ensures own_failure { fault_kept second.old ≡ None → KeepsOwnFault B.is_read (below second.old) (view_of second.new) }
@@ -273,9 +273,9 @@ fn sweep_all<A: Source, B: Source, O: ChromOrder, H: Held, K: Sink>(
     requires sorted { (view_of first.old).format ≡ bed_format (sorting_of (order_in first.old)) }
     requires sorted_second { (view_of second.old).format ≡ bed_format (sorting_of (order_in second.old)) }
     requires starts { Sweeps A.left A.has_failed A.end_told B.left B.has_failed B.end_told (order_in first.old)
-        (state_of sweep.old).shape (state_of sweep.old).rule (state_of sweep.old).limit first.old second.old out.old first.old second.old (state_of sweep.old) out.old }
+        (state_of sweep.old).shape (state_of sweep.old).rule (state_of sweep.old).limit first.old second.old out.old.output first.old second.old (state_of sweep.old) out.old.output }
     ensures sweeps { SweepsOrStops A.left A.has_failed A.end_told B.left B.has_failed B.end_told (order_in first.old)
-        (state_of sweep.old).shape (state_of sweep.old).rule (state_of sweep.old).limit first.old second.old out.old result first.new second.new (state_of sweep.new) out.new }
+        (state_of sweep.old).shape (state_of sweep.old).rule (state_of sweep.old).limit first.old second.old out.old.output result first.new second.new (state_of sweep.new) out.new.output }
     ensures reads_first { AnswersNoRead result → HasRead A.is_read (below first.old) (below first.new) }
     ensures reads_second { AnswersNoRead result → HasRead B.is_read (below second.old) (below second.new) }
     ensures own_failure { KeepsOwnFault A.is_read (below first.old) (view_of first.new) }
@@ -323,9 +323,9 @@ fn read_both<A: Source, B: Source, O: ChromOrder, H: Held, K: Sink>(
     requires sorted { (view_of first.old).format ≡ bed_format (sorting_of (order_in first.old)) }
     requires sorted_second { (view_of second.old).format ≡ bed_format (sorting_of (order_in second.old)) }
     requires starts { Sweeps A.left A.has_failed A.end_told B.left B.has_failed B.end_told (order_in first.old)
-        (state_of sweep.old).shape (state_of sweep.old).rule (state_of sweep.old).limit first.old second.old out.old first.old second.old (state_of sweep.old) out.old }
+        (state_of sweep.old).shape (state_of sweep.old).rule (state_of sweep.old).limit first.old second.old out.old.output first.old second.old (state_of sweep.old) out.old.output }
     ensures finishes { FinishesBoth A.left A.has_failed A.end_told B.left B.has_failed B.end_told (order_in first.old)
-        (state_of sweep.old).shape (state_of sweep.old).rule (state_of sweep.old).limit first.old second.old out.old result first.new second.new out.new }
+        (state_of sweep.old).shape (state_of sweep.old).rule (state_of sweep.old).limit first.old second.old out.old.output result first.new second.new out.new.output }
     ensures reads_first { AnswersNoRead result → HasRead A.is_read (below first.old) (below first.new) }
     ensures reads_second { AnswersNoRead result → HasRead B.is_read (below second.old) (below second.new) }
     ensures own_failure { KeepsOwnFault A.is_read (below first.old) (view_of first.new) }
@@ -350,10 +350,10 @@ pub(crate) fn sweep<A: Source, B: Source, O: ChromOrder, K: Sink>(
     out: &mut Out<K>,
 ) -> (Option<Fault>, A, B)
     requires total { IsTotal (O.order order.now) }
-    requires block { HoldsBlock out.old.took out.old.put }
+    requires block { HoldsBlock out.old.output.took out.old.output.put }
     ensures written { WritesBy A.left A.has_failed A.end_told B.left B.has_failed
         (of_intersect (O.order order.now) shape rule limit)
-        first (Some second) out.old (option_map told result.0) result.1 (Some result.2) out.new }
+        first (Some second) out.old.output (option_map told result.0) result.1 (Some result.2) out.new.output }
     ensures reads { TellsNoRead (option_map told result.0) → ReadsServe A.is_read first result.1 × ReadsServe B.is_read second result.2 }
     ensures own_failure { TellsOwnReads ⊥ (IsOwnFailure A.is_read first result.1)
         (IsOwnFailure B.is_read second result.2) (option_map told result.0) }

@@ -12,4 +12,4 @@ returns g c =
     let size : length text ≡ 43 = omega arith in
     let bytes = take (42 - first) (drop first text) in
     let is : bytes ≡ bounds_text c.args.start c.args.stop = bounds_before_feed text first c.args.start c.args.stop size c.write_span-first.ensures.written in
-    subst (λ (l : List ℕ). Puts c.args.out.now (c.args.chrom.now ++ l) c.put_both.result c.put_both.new.out) is c.put_both.ensures
+    subst (λ (l : List ℕ). Puts c.args.out.now.output (c.args.chrom.now ++ l) c.put_both.result c.put_both.new.out.output) is c.put_both.ensures

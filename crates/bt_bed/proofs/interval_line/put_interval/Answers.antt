@@ -7,4 +7,4 @@ use Rattle.bt_bed.proofs.interval_line.put_interval.Goals as goal
 pub returns : goal.returns
 returns g c =
     let line : Interval = record { chrom = c.args.chrom.now; start = c.args.start; stop = c.args.stop } in
-    subst (λ (l : List ℕ). Puts c.args.out.now l c.put_ended.result c.put_ended.new.out) (line_parts line) c.put_ended.ensures
+    subst (λ (l : List ℕ). Puts c.args.out.now.output l c.put_ended.result c.put_ended.new.out.output) (line_parts line) c.put_ended.ensures

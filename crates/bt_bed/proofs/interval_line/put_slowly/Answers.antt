@@ -12,4 +12,4 @@ returns g c =
     let kept = c.write_span-first.auto.text in
     let bytes = take (43 - first) (drop first text) in
     let behind : bytes ≡ span_text c.args.start c.args.stop c.args.end = take_all (43 - first) (drop first text) (omega arith) ∙ c.write_span-first.ensures.written in
-    subst (λ (l : List ℕ). Puts c.args.out.now (c.args.chrom.now ++ l) c.put_column.result c.put_column.new.out) behind c.put_column.ensures
+    subst (λ (l : List ℕ). Puts c.args.out.now.output (c.args.chrom.now ++ l) c.put_column.result c.put_column.new.out.output) behind c.put_column.ensures

@@ -14,5 +14,5 @@ returns g c =
     let e = c.in_ok-put.ensures in
     let s = c.put-2.ensures in
     puts_more _ _ _ _ _ c.put-2.result
-    (puts_from {A = Unit {0}} c.args.out.now c.put.new.self c.args.column.now (Ok tt) e.put e.block e.front e.grows e.served e.fault e.cause e.again)
+    (puts_from {A = Unit {0}} c.args.out.now.output c.put.new.self.output c.args.column.now (Ok tt) e.put e.block e.front e.grows e.served e.fault e.cause e.again)
     (puts_from _ _ _ _ s.put s.block s.front s.grows s.served s.fault s.cause s.again)

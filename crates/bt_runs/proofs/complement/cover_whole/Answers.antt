@@ -7,7 +7,7 @@ use Rattle.bt_runs.proofs.WholeGapLemmas.{begins_covering, covers_next, fails_co
 use Rattle.bt_runs.proofs.complement.cover_whole.Goals as goal
 
 pub loop-bounds-init : goal.loop-bounds-init
-loop-bounds-init g c = λ limit. begins_covering (entries c.args.genome.now) limit c.args.first c.requires.at c.args.records.now c.requires.on c.args.out.now
+loop-bounds-init g c = λ limit. begins_covering (entries c.args.genome.now) limit c.args.first c.requires.at c.args.records.now c.requires.on c.args.out.now.output
 
 pub cover-requires : goal.cover-requires
 cover-requires g c =
@@ -21,18 +21,18 @@ loop-bounds-smaller g c = record_shrinks c.loop-bounds.whole c.next_bounds.new.s
 pub loop-bounds-preserved : goal.loop-bounds-preserved
 loop-bounds-preserved g c = λ limit.
     let given = c.in-Some.ensures.given in
-    covers_next (entries c.args.genome.now) limit c.args.first c.requires.at c.args.records.now c.requires.on c.args.out.now c.loop-bounds.reached c.loop-bounds.whole c.loop-bounds.out (c.loop-bounds.invariant limit)
+    covers_next (entries c.args.genome.now) limit c.args.first c.requires.at c.args.records.now c.requires.on c.args.out.now.output c.loop-bounds.reached c.loop-bounds.whole c.loop-bounds.out.output (c.loop-bounds.invariant limit)
     given.0 c.in-Some.bounds c.next_bounds.new.self given.1 given.2 given.3
-    c.in-Ok.next c.cover.new.out c.in-Ok.ensures.adds c.in-Ok.ensures.reached
+    c.in-Ok.next c.cover.new.out.output c.in-Ok.ensures.adds c.in-Ok.ensures.reached
 
 pub returns-in-Err : goal.returns-in-Err
 returns-in-Err g c = λ limit.
     let given = c.in-Some.ensures.given in
-    fails_covering (entries c.args.genome.now) limit c.args.first c.requires.at c.args.records.now c.requires.on c.args.out.now c.loop-bounds.reached c.loop-bounds.whole c.loop-bounds.out (c.loop-bounds.invariant limit)
+    fails_covering (entries c.args.genome.now) limit c.args.first c.requires.at c.args.records.now c.requires.on c.args.out.now.output c.loop-bounds.reached c.loop-bounds.whole c.loop-bounds.out.output (c.loop-bounds.invariant limit)
     given.0 c.in-Some.bounds c.next_bounds.new.self given.1 given.2 given.3
-    c.in-Err.fault c.cover.new.out c.in-Err.ensures.adds
+    c.in-Err.fault c.cover.new.out.output c.in-Err.ensures.adds
 
 pub returns : goal.returns
 returns g c = λ limit.
-    subst (λ (w : WholeRecords). CoversGiven (entries c.args.genome.now) limit c.args.first c.args.records.now c.args.out.now c.loop-bounds.reached w c.loop-bounds.out)
+    subst (λ (w : WholeRecords). CoversGiven (entries c.args.genome.now) limit c.args.first c.args.records.now c.args.out.now.output c.loop-bounds.reached w c.loop-bounds.out.output)
     (sym (c.in_default.ensures.none refl)) (c.loop-bounds.invariant limit)

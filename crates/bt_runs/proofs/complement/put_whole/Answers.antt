@@ -14,7 +14,7 @@ returns-in_err-put_gap g c =
     let rank = c.loop-rank.rank in
     let size = length_read table rank c.length.result c.length.ensures.is in
     let gap = λ (n : ℕ). interval_lines (gap_to table (record { rank = rank; end = 0 }) n) in
-    let cut = subst (λ n. Adds {A = Unit {0}} c.loop-rank.out (gap n) (Err c.in_err-put_gap.field-0.0) c.put_gap.new.out) (sym size) c.in_err-put_gap.ensures in
+    let cut = subst (λ n. Adds {A = Unit {0}} c.loop-rank.out.output (gap n) (Err c.in_err-put_gap.field-0.0) c.put_gap.new.out.output) (sym size) c.in_err-put_gap.ensures in
     rw (p.1, p.2) (bare_cut whole_of table interval_line c.args.first rank (omega arith) (omega arith) _ _ _ c.loop-rank.invariant c.args.stop c.in_err-put_gap.field-0.0 (omega arith) cut)
 
 pub loop-rank-preserved : goal.loop-rank-preserved
@@ -23,7 +23,7 @@ loop-rank-preserved g c =
     let rank = c.loop-rank.rank in
     let size = length_read table rank c.length.result c.length.ensures.is in
     let gap = λ (n : ℕ). interval_lines (gap_to table (record { rank = rank; end = 0 }) n) in
-    let whole = subst (λ n. Grown c.loop-rank.out (gap n) c.put_gap.new.out) (sym size) c.in_ok-put_gap.ensures in
+    let whole = subst (λ n. Grown c.loop-rank.out.output (gap n) c.put_gap.new.out.output) (sym size) c.in_ok-put_gap.ensures in
     one_bare whole_of table interval_line c.args.first rank (omega arith) (omega arith) _ _ _ c.loop-rank.invariant whole
 
 pub returns : goal.returns

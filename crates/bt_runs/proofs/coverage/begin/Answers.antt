@@ -23,7 +23,7 @@ returns-in-Err-clause-steps g c =
     let place = seen c.args.current c.args.held.now in
     let r = feature_lent c.args.bed.now in
     let start : Place Known = record { rank = c.in-Some.rank; known = unknown } in
-    rw (count_begins c.args.zeros c.args.strand table place r c.in-Some.rank c.requires.elsewhere c.in-Some.ensures) (begins_cut (left_before (depths_left c.args.zeros) (bare_of c.args.zeros) table place c.in-Some.rank) (taking (depth_walk c.args.zeros c.args.strand) table start r).1 c.args.out.now c.put_before.new.out c.in-Err.field-0 (c.in-Err.ensures))
+    rw (count_begins c.args.zeros c.args.strand table place r c.in-Some.rank c.requires.elsewhere c.in-Some.ensures) (begins_cut (left_before (depths_left c.args.zeros) (bare_of c.args.zeros) table place c.in-Some.rank) (taking (depth_walk c.args.zeros c.args.strand) table start r).1 c.args.out.now.output c.put_before.new.out.output c.in-Err.field-0 (c.in-Err.ensures))
 
 pub count-requires : goal.count-requires
 count-requires g c = found_at (entries c.args.genome.now) c.args.bed.now.chrom.now c.in-Some.rank (sym c.in-Some.ensures)
@@ -37,7 +37,7 @@ returns-in-Ok-clause-steps g c =
     let reached : DepthPlace = record { rank = c.in-Some.rank; begun = None } in
     let step = taking (depth_walk c.args.zeros c.args.strand) table start r in
     rw (count_begins c.args.zeros c.args.strand table place r c.in-Some.rank c.requires.elsewhere c.in-Some.ensures)
-    (advances_more _ (left_before (depths_left c.args.zeros) (bare_of c.args.zeros) table place c.in-Some.rank) step.1 table c.count.result c.count.new.held c.args.out.now c.put_before.new.out c.count.new.out c.in-Ok.ensures (subst (λ (l : OpenAt). AdvanceAnswers (Some (taking (depth_walk c.args.zeros c.args.strand) table (place_seen reached l) r).0, (taking (depth_walk c.args.zeros c.args.strand) table (place_seen reached l) r).1) table c.count.result c.count.new.held c.put_before.new.out c.count.new.out) c.clear.ensures c.count.ensures.steps))
+    (advances_more _ (left_before (depths_left c.args.zeros) (bare_of c.args.zeros) table place c.in-Some.rank) step.1 table c.count.result c.count.new.held c.args.out.now.output c.put_before.new.out.output c.count.new.out.output c.in-Ok.ensures (subst (λ (l : OpenAt). AdvanceAnswers (Some (taking (depth_walk c.args.zeros c.args.strand) table (place_seen reached l) r).0, (taking (depth_walk c.args.zeros c.args.strand) table (place_seen reached l) r).1) table c.count.result c.count.new.held c.put_before.new.out.output c.count.new.out.output) c.clear.ensures c.count.ensures.steps))
 
 pub returns-in-Ok-clause-memory : goal.returns-in-Ok-clause-memory
 returns-in-Ok-clause-memory g c =

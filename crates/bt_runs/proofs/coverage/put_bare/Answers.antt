@@ -10,4 +10,4 @@ returns-then-length-gt0 g c =
     let size = length_read table c.args.rank c.length-length.result c.length-length.ensures.is in
     let named = name_read table c.args.rank c.name.result.now c.name.ensures in
     let r : DepthInterval = record { chrom = c.name.result.now; start = 0; stop = c.length-length.result; depth = 0 } in
-    rw (bare_some c.args.zeros table c.args.rank c.length-length.result c.name.result.now size named c.if-zeros.true c.if-length-gt0.true) (adds_line r c.args.out.now c.put_depth.new.out c.put_depth.result c.put_depth.ensures)
+    rw (bare_some c.args.zeros table c.args.rank c.length-length.result c.name.result.now size named c.if-zeros.true c.if-length-gt0.true) (adds_line r c.args.out.now.output c.put_depth.new.out.output c.put_depth.result c.put_depth.ensures)

@@ -16,4 +16,4 @@ returns g c =
     let bytes = take (64 - first) (drop first text) in
     let behind : bytes ≡ depth_text c.args.start c.args.stop c.args.depth = take_all (64 - first) (drop first text) (omega arith) ∙ c.write_depth-first.ensures.written in
     let is : c.args.chrom.now ++ bytes ≡ depth_line line = ap (λ l. c.args.chrom.now ++ l) behind ∙ line_parts line in
-    subst (λ (l : List ℕ). Puts c.args.out.now l c.put_both.result c.put_both.new.out) is c.put_both.ensures
+    subst (λ (l : List ℕ). Puts c.args.out.now.output l c.put_both.result c.put_both.new.out.output) is c.put_both.ensures

@@ -26,7 +26,7 @@ loop-position-init g c =
       here = omega arith;
       left = left;
       open_here = refl;
-      puts = rw (no_ended u known (known - known) begun (omega arith)) (grown_none c.args.out.now);
+      puts = rw (no_ended u known (known - known) begun (omega arith)) (grown_none c.args.out.now.output);
       begun = sym (no_begun u known (known - known) begun (omega arith));
     })
 
@@ -46,7 +46,7 @@ returns-in_err-begun-clause-adds g c =
     let is : value ≡ reported c.args.zeros (length (still_open (at + 1) c.loop-position.held.spans)) = c.reported-depth.ensures ∙ ap (reported c.args.zeros) (c.len.ensures ∙ ap length now) in
     let here = here_depth c.args.zeros c.loop-position.held.at at held.spans c.loop-position.held.spans i.here i.open_here c.go_on.ensures.started value is in
     let more = turn_more u held.at at c.args.stop first begun value i.from (omega arith) here i.begun in
-    rw (p.1, p.2) (cut_levels c.args.chrom.now c.args.out.now c.loop-position.out c.put_next.new.out (ended_after u held.at (at - held.at) first) (next_ended at value begun) (ended_after u held.at (c.args.stop - held.at) first) more.0 c.in_err-begun.field-0.0 more.1 i.puts c.in_err-begun.ensures.adds)
+    rw (p.1, p.2) (cut_levels c.args.chrom.now c.args.out.now.output c.loop-position.out.output c.put_next.new.out.output (ended_after u held.at (at - held.at) first) (next_ended at value begun) (ended_after u held.at (c.args.stop - held.at) first) more.0 c.in_err-begun.field-0.0 more.1 i.puts c.in_err-begun.ensures.adds)
 
 pub loop-position-preserved : goal.loop-position-preserved
 loop-position-preserved g c =
@@ -77,7 +77,7 @@ loop-position-preserved g c =
       here = omega arith;
       left = c.first_end-position.ensures.ends;
       open_here = ap (still_open next) now ∙ walk_same c.loop-position.held.at at held.spans spans i.here i.open_here next behind;
-      puts = adds_levels c.args.chrom.now c.args.out.now c.loop-position.out c.put_next.new.out (ended_after u held.at (at - held.at) first) (next_ended at value begun) (ended_after u held.at (next - held.at) first) {A = Unit {0}} (Ok tt) ended i.puts c.in_ok-begun.ensures.adds;
+      puts = adds_levels c.args.chrom.now c.args.out.now.output c.loop-position.out.output c.put_next.new.out.output (ended_after u held.at (at - held.at) first) (next_ended at value begun) (ended_after u held.at (next - held.at) first) {A = Unit {0}} (Ok tt) ended i.puts c.in_ok-begun.ensures.adds;
       begun = c.in_ok-begun.ensures.begun ∙ ap (next_begun at value) i.begun ∙ sym (turn_begun u held.at at next first value low behind run);
     }
 

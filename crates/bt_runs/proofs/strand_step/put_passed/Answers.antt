@@ -6,7 +6,7 @@ use Rattle.bt_runs.proofs.strand_step.put_passed.Goals as goal
 use Rattle.bt_runs.proofs.strand_step.put_passed.Goals.{else-here-via-then-here+else-reach-run, else-here-via-else-here}
 
 pub loop-run-init : goal.loop-run-init
-loop-run-init g c = record { written = none_written c.args.here c.args.reach c.args.runs.now; puts = grown_none c.args.out.now }
+loop-run-init g c = record { written = none_written c.args.here c.args.reach c.args.runs.now; puts = grown_none c.args.out.now.output }
 
 pub returns-then-reach-run-clause-adds : goal.returns-then-reach-run-clause-adds
 returns-then-reach-run-clause-adds g c =
@@ -28,7 +28,7 @@ returns-in_err-put_interval-clause-adds g c =
       | else-here-via-then-here+else-reach-run w ↦ over_so c.args.here c.args.reach c.in-Some.run' (inr w.if-reach-run.false)
       | else-here-via-else-here w ↦ over_so c.args.here c.args.reach c.in-Some.run' (inl w.if-here.false)
     ] in
-    rw (p.1, p.2) (line_cut (Unit {0}) c.args.chrom.now c.args.here c.args.reach c.args.runs.now c.loop-run.runs c.in-Some.run' c.args.out.now c.loop-run.out c.put_interval.new.out c.in_err-put_interval.field-0.0 c.loop-run.invariant.written is over c.loop-run.invariant.puts c.in_err-put_interval.ensures)
+    rw (p.1, p.2) (line_cut (Unit {0}) c.args.chrom.now c.args.here c.args.reach c.args.runs.now c.loop-run.runs c.in-Some.run' c.args.out.now.output c.loop-run.out.output c.put_interval.new.out.output c.in_err-put_interval.field-0.0 c.loop-run.invariant.written is over c.loop-run.invariant.puts c.in_err-put_interval.ensures)
 
 pub loop-run-preserved : goal.loop-run-preserved
 loop-run-preserved g c =
@@ -39,5 +39,5 @@ loop-run-preserved g c =
     ] in
     rw (c.drop_first.ensures) (record {
       written = next_written c.args.here c.args.reach c.args.runs.now c.loop-run.runs c.in-Some.run' is over c.loop-run.invariant.written;
-      puts = line_more {A = Unit {0}} c.args.chrom.now c.loop-run.invariant.written.done c.in-Some.run' c.args.out.now c.loop-run.out c.put_interval.new.out (Ok tt) c.loop-run.invariant.puts c.in_ok-put_interval.ensures;
+      puts = line_more {A = Unit {0}} c.args.chrom.now c.loop-run.invariant.written.done c.in-Some.run' c.args.out.now.output c.loop-run.out.output c.put_interval.new.out.output (Ok tt) c.loop-run.invariant.puts c.in_ok-put_interval.ensures;
     })

@@ -16,7 +16,7 @@ returns-in_err-put_interval-clause-adds g c =
     let run = run_at c.args.chrom.now c.in-Some.open in
     let x = bounds_at c.args.chrom.now c.args.bounds in
     let lines = ap (λ kept. settled_by c.args.gap (kept_at c.args.chrom.now kept) x) c.in-Some.is ∙ passed_alone c.args.gap c.args.chrom.now c.in-Some.open c.args.bounds c.if-open-gap.true in
-    passed_on (λ r. Adds c.args.out.now (interval_lines (settled_by c.args.gap (kept_at c.args.chrom.now c.args.run) x)) r c.put_interval.new.out)
+    passed_on (λ r. Adds c.args.out.now.output (interval_lines (settled_by c.args.gap (kept_at c.args.chrom.now c.args.run) x)) r c.put_interval.new.out.output)
     c.from_residual.result c.in_err-put_interval.field-0.0 c.from_residual.ensures.1
-    (subst (λ (runs : List Interval). Adds {A = Option Run} c.args.out.now (interval_lines runs) (Err c.in_err-put_interval.field-0.0) c.put_interval.new.out) (sym lines)
-    (adds_line {A = Option Run} run c.args.out.now c.put_interval.new.out (Err c.in_err-put_interval.field-0.0) c.in_err-put_interval.ensures))
+    (subst (λ (runs : List Interval). Adds {A = Option Run} c.args.out.now.output (interval_lines runs) (Err c.in_err-put_interval.field-0.0) c.put_interval.new.out.output) (sym lines)
+    (adds_line {A = Option Run} run c.args.out.now.output c.put_interval.new.out.output (Err c.in_err-put_interval.field-0.0) c.in_err-put_interval.ensures))

@@ -13,4 +13,4 @@ returns g c =
     let bytes = take (43 - first) (drop first text) in
     let is : bytes ≡ bounds_text c.args.start c.args.stop = take_all (43 - first) (drop first text) (omega arith) ∙ c.write_bounds-first.ensures.written
     ∙ ap (λ l. bounds_text c.args.start c.args.stop ++ l) (drop_all 43 (replicate 43 0) (omega arith)) ∙ append-nil (bounds_text c.args.start c.args.stop) in
-    subst (λ (l : List ℕ). Puts c.args.out.now l c.put_both.result c.put_both.new.out) (ap (λ l. c.args.chrom.now ++ l) is) c.put_both.ensures
+    subst (λ (l : List ℕ). Puts c.args.out.now.output l c.put_both.result c.put_both.new.out.output) (ap (λ l. c.args.chrom.now ++ l) is) c.put_both.ensures

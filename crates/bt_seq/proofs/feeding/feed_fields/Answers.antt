@@ -15,6 +15,6 @@ returns-then-gives_nothing g c =
 pub returns : goal.returns
 returns g c =
     let n = c.in-Some.numbers in
-    subst (λ (says : Result (Option Alignment) Kind). FeedsSaid c.args.split c.args.with_cigar says c.args.out.now c.feed_alignment.result c.feed_alignment.new.out)
+    subst (λ (says : Result (Option Alignment) Kind). FeedsSaid c.args.split c.args.with_cigar says c.args.out.now.output c.feed_alignment.result c.feed_alignment.new.out.output)
     (ap (λ a. Ok (Some a)) c.alignment_by.ensures ∙ says_alignment (fields_lent c.args.fields) n.flag n.position n.quality n.span c.in-Some.ensures (sym c.gives_nothing.ensures ∙ c.if-gives_nothing.false) c.if-numbers-gt-MAX_NUMBER.false)
     c.feed_alignment.ensures

@@ -14,13 +14,13 @@ returns-then-is_skipped g c =
 
 pub returns-then-tabs-eq0 : goal.returns-then-tabs-eq0
 returns-then-tabs-eq0 g c =
-    subst (λ (says : Result (Option Alignment) Kind). FeedsSaid c.args.split c.args.with_cigar says c.args.out.now c.feed_late.result c.feed_late.new.out)
+    subst (λ (says : Result (Option Alignment) Kind). FeedsSaid c.args.split c.args.with_cigar says c.args.out.now.output c.feed_late.result c.feed_late.new.out.output)
     (says_behind c.args.text.now c.in-Some.name.now (pieces 9 c.in-Some.rest.now) (sym c.is_skipped.ensures ∙ c.if-is_skipped.false) c.in-Some.ensures)
     c.feed_late.ensures
 
 pub returns : goal.returns
 returns g c =
-    subst (λ (says : Result (Option Alignment) Kind). FeedsSaid c.args.split c.args.with_cigar says c.args.out.now c.feed_fields.result c.feed_fields.new.out)
+    subst (λ (says : Result (Option Alignment) Kind). FeedsSaid c.args.split c.args.with_cigar says c.args.out.now.output c.feed_fields.result c.feed_fields.new.out.output)
     (line_says c.args.text.now (fields_lent c.plain_fields.result) _ (sym c.is_skipped.ensures ∙ c.if-is_skipped.false)
     (sym (ap fields_of c.in-Some.ensures ∙ c.plain_fields.ensures)) refl)
     c.feed_fields.ensures

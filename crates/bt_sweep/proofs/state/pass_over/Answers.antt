@@ -27,7 +27,7 @@ returns-then-has_line-clause-passed g c =
     let decides = subst (λ (n : List ℕ). DecidesUpTo order b n stop) (sym named) c.in-Some-decided_up_to.ensures in
     let kept = on_ok_of c.replace.result (sym c.if-is_err.ensures.value) c.replace.ensures.replaced in
     let puts = c.put_unhit.ensures.puts c.if-not-put_unhit.false front.before (known_lines c.args.unhit c.before_last.result.now front.before (λ h. c.before_last.ensures front.before front.mid front.next (front.written h) front.gives.gives)) in
-    front_by order b c.in-Some.last c.args.unhit c.args.last.now c.replace.new.last stop c.args.records.now line behind r c.args.out.now c.put_unhit.new.out _ c.in-Some.is front on decides c.bed.ensures kept puts
+    front_by order b c.in-Some.last c.args.unhit c.args.last.now c.replace.new.last stop c.args.records.now line behind r c.args.out.now.output c.put_unhit.new.out.output _ c.in-Some.is front on decides c.bed.ensures kept puts
     (c.if-has_line.true ∙ ap (λ (h : Bool). h || ltb stop r.stop) (sym (sym c.has_line-2.ensures ∙ c.if-has_line.true)))
 
 pub returns-else-has_line-clause-passed : goal.returns-else-has_line-clause-passed
@@ -44,5 +44,5 @@ returns-else-has_line-clause-passed g c =
     let decides = subst (λ (n : List ℕ). DecidesUpTo order b n stop) (sym named) c.in-Some-decided_up_to.ensures in
     let kept = on_ok_of c.replace.result (sym c.if-is_err.ensures.value) c.replace.ensures.replaced in
     let puts = c.put_unhit.ensures.puts c.if-not-put_unhit.false front.before (known_lines c.args.unhit c.before_last.result.now front.before (λ h. c.before_last.ensures front.before front.mid front.next (front.written h) front.gives.gives)) in
-    front_by order b c.in-Some.last c.args.unhit c.args.last.now c.replace.new.last stop c.args.records.now line behind r c.args.out.now c.put_unhit.new.out _ c.in-Some.is front on decides c.bed.ensures kept puts
+    front_by order b c.in-Some.last c.args.unhit c.args.last.now c.replace.new.last stop c.args.records.now line behind r c.args.out.now.output c.put_unhit.new.out.output _ c.in-Some.is front on decides c.bed.ensures kept puts
     (ap (ltb stop) (c.stop.ensures r c.bed.ensures) ∙ ap (λ (h : Bool). h || ltb stop r.stop) (sym (sym c.has_line-2.ensures ∙ c.if-has_line.false)))

@@ -6,18 +6,18 @@ use Rattle.bt_sweep.proofs.unhit.put_unhit.Goals as goal
 
 pub returns-then-is_empty-clause-puts : goal.returns-then-is_empty-clause-puts
 returns-then-is_empty-clause-puts g c = λ e.
-    puts_nothing c.args.unhit c.args.lines.now c.args.out.now (eqb-true (length c.args.lines.now) 0 (sym c.is_empty.ensures ∙ c.if-is_empty.true))
+    puts_nothing c.args.unhit c.args.lines.now c.args.out.now.output (eqb-true (length c.args.lines.now) 0 (sym c.is_empty.ensures ∙ c.if-is_empty.true))
 
 pub returns-in-Nothing-clause-puts : goal.returns-in-Nothing-clause-puts
 returns-in-Nothing-clause-puts g c = λ e records known.
-    subst (λ u. PutsUnhit u records c.args.out.now c.args.out.now) (sym c.in-Nothing.is) (puts_none c.args.out.now records)
+    subst (λ u. PutsUnhit u records c.args.out.now.output c.args.out.now.output) (sym c.in-Nothing.is) (puts_none c.args.out.now.output records)
 
 pub returns-in-Itself-clause-puts : goal.returns-in-Itself-clause-puts
 returns-in-Itself-clause-puts g c = λ e records known.
-    subst (λ u. PutsUnhit u records c.args.out.now c.hold_both.new.self) (sym c.in-Itself.is)
-    (puts_themselves c.args.lines.now c.args.out.now c.hold_both.new.self records (eqb-false (length c.args.lines.now) 0 (sym c.is_empty.ensures ∙ c.if-is_empty.false)) (subst (λ u. AreKnown u c.args.lines.now records) c.in-Itself.is known) (c.hold_both.ensures.held e) c.hold_both.ensures.untaken)
+    subst (λ u. PutsUnhit u records c.args.out.now.output c.hold_both.new.self) (sym c.in-Itself.is)
+    (puts_themselves c.args.lines.now c.args.out.now.output c.hold_both.new.self records (eqb-false (length c.args.lines.now) 0 (sym c.is_empty.ensures ∙ c.if-is_empty.false)) (subst (λ u. AreKnown u c.args.lines.now records) c.in-Itself.is known) (c.hold_both.ensures.held e) c.hold_both.ensures.untaken)
 
 pub returns-in-Counted-clause-puts : goal.returns-in-Counted-clause-puts
 returns-in-Counted-clause-puts g c = λ e records known.
-    subst (λ u. PutsUnhit u records c.args.out.now c.hold_lines.new.self) (sym c.in-Counted.is)
-    (puts_counted c.args.lines.now c.args.out.now c.hold_lines.new.self records (eqb-false (length c.args.lines.now) 0 (sym c.is_empty.ensures ∙ c.if-is_empty.false)) (subst (λ u. AreKnown u c.args.lines.now records) c.in-Counted.is known) (c.hold_lines.ensures.held e) c.hold_lines.ensures.untaken)
+    subst (λ u. PutsUnhit u records c.args.out.now.output c.hold_lines.new.self) (sym c.in-Counted.is)
+    (puts_counted c.args.lines.now c.args.out.now.output c.hold_lines.new.self records (eqb-false (length c.args.lines.now) 0 (sym c.is_empty.ensures ∙ c.if-is_empty.false)) (subst (λ u. AreKnown u c.args.lines.now records) c.in-Counted.is known) (c.hold_lines.ensures.held e) c.hold_lines.ensures.untaken)

@@ -13,4 +13,4 @@ returns-in-Overlap g c =
     let b = feature_lent c.args.b.now in
     let size : c.saturating_sub.result ≡ shared_bases a b = cc (c.saturating_sub.ensures, c.min-stop.ensures, c.max-start.ensures, hit_shares a b c.requires) in
     rw c.in-Overlap.is (line_adds (bed_text a ∷ bed_text b ∷ decimal (shared_bases a b) ∷ []) _ _ c.put_overlap.result
-    (subst (λ (n : ℕ). Puts c.args.out.now (line_with (bed_text a ∷ bed_text b ∷ decimal n ∷ [])) c.put_overlap.result c.put_overlap.new.out) size c.put_overlap.ensures))
+    (subst (λ (n : ℕ). Puts c.args.out.now.output (line_with (bed_text a ∷ bed_text b ∷ decimal n ∷ [])) c.put_overlap.result c.put_overlap.new.out.output) size c.put_overlap.ensures))

@@ -14,13 +14,13 @@ returns-in_err-put_if_hit g c =
     let a = feature_lent c.args.a.now.bed in
     let held = g.H.Held.records c.args.held.now in
     let at = c.nth.ensures ∙ sym (get_took held c.args.count c.loop-index.index c.loop-index-test.true) in
-    let adds = subst (λ (o : Option Feature). Adds {A = Unit {0}} c.loop-index.out (flat_map (hit_line c.args.shape a) (hits_among c.args.rule a (option_to_list o))) (Err c.in_err-put_if_hit.field-0.0) c.put_if_hit.new.out) at c.in_err-put_if_hit.ensures in
-    rw (p.1, p.2) (lines_cut (hit_line c.args.shape a) (hits c.args.rule a) (take c.args.count held) c.loop-index.index (Unit {0}) c.args.out.now c.loop-index.out c.put_if_hit.new.out c.in_err-put_if_hit.field-0.0 c.loop-index.invariant adds)
+    let adds = subst (λ (o : Option Feature). Adds {A = Unit {0}} c.loop-index.out.output (flat_map (hit_line c.args.shape a) (hits_among c.args.rule a (option_to_list o))) (Err c.in_err-put_if_hit.field-0.0) c.put_if_hit.new.out.output) at c.in_err-put_if_hit.ensures in
+    rw (p.1, p.2) (lines_cut (hit_line c.args.shape a) (hits c.args.rule a) (take c.args.count held) c.loop-index.index (Unit {0}) c.args.out.now.output c.loop-index.out.output c.put_if_hit.new.out.output c.in_err-put_if_hit.field-0.0 c.loop-index.invariant adds)
 
 pub loop-index-preserved : goal.loop-index-preserved
 loop-index-preserved g c =
     let a = feature_lent c.args.a.now.bed in
     let held = g.H.Held.records c.args.held.now in
     let at = c.nth.ensures ∙ sym (get_took held c.args.count c.loop-index.index c.loop-index-test.true) in
-    let adds = subst (λ (o : Option Feature). Adds {A = Unit {0}} c.loop-index.out (flat_map (hit_line c.args.shape a) (hits_among c.args.rule a (option_to_list o))) (Ok tt) c.put_if_hit.new.out) at c.in_ok-put_if_hit.ensures in
+    let adds = subst (λ (o : Option Feature). Adds {A = Unit {0}} c.loop-index.out.output (flat_map (hit_line c.args.shape a) (hits_among c.args.rule a (option_to_list o))) (Ok tt) c.put_if_hit.new.out.output) at c.in_ok-put_if_hit.ensures in
     lines_next (hit_line c.args.shape a) (hits c.args.rule a) (take c.args.count held) c.loop-index.index _ _ _ c.loop-index.invariant adds

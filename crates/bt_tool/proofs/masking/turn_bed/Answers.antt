@@ -13,21 +13,21 @@ use Rattle.bt_tool.proofs.masking.turn_bed.Goals as goal
 
 pub returns-in_err-line-clause-turns : goal.returns-in_err-line-clause-turns
 returns-in_err-line-clause-turns g c =
-    passed_on (λ r. TurnsBed g.B.Source.left g.B.Source.has_failed g.B.Source.end_told (view_of c.args.records.now) c.args.mask.now c.args.out.now r (view_of c.line_ahead.new.records) c.args.mask.now c.args.out.now) c.from_residual.result c.in_err-line.field-0.0
+    passed_on (λ r. TurnsBed g.B.Source.left g.B.Source.has_failed g.B.Source.end_told (view_of c.args.records.now) c.args.mask.now c.args.out.now.output r (view_of c.line_ahead.new.records) c.args.mask.now c.args.out.now.output) c.from_residual.result c.in_err-line.field-0.0
     c.from_residual.ensures.1
     (inl (record { asked = view_of c.args.records.now; has_asked = inl refl; stopped = c.in_err-line.ensures.asks; same_output = refl }))
 
 pub returns-in_default-clause-turns : goal.returns-in_default-clause-turns
 returns-in_default-clause-turns g c =
     let over = rw c.in_default.is at c.in_ok-line.ensures.asks in
-    ends_turn g.B.Source.left g.B.Source.has_failed g.B.Source.end_told (view_of c.args.records.now) c.args.mask.now c.args.out.now (view_of c.args.records.now) (view_of c.line_ahead.new.records) (inl refl) over
-    c.end_bed.result c.end_bed.new.self c.end_bed.new.out c.end_bed.ensures.waits c.end_bed.ensures.none_waits
+    ends_turn g.B.Source.left g.B.Source.has_failed g.B.Source.end_told (view_of c.args.records.now) c.args.mask.now c.args.out.now.output (view_of c.args.records.now) (view_of c.line_ahead.new.records) (inl refl) over
+    c.end_bed.result c.end_bed.new.self c.end_bed.new.out.output c.end_bed.ensures.waits c.end_bed.ensures.none_waits
 
 pub returns-in_err-record-clause-turns : goal.returns-in_err-record-clause-turns
 returns-in_err-record-clause-turns g c =
     let first = rw c.in-Some.is at c.in_ok-line.ensures.asks in
     let peek = rw c.in_err-record.was at c.peek.follows.holds-at-none in
-    passed_on (λ r. TurnsBed g.B.Source.left g.B.Source.has_failed g.B.Source.end_told (view_of c.args.records.now) c.args.mask.now c.args.out.now r (view_of c.peek.follows.lender-at-none) c.args.mask.now c.args.out.now) c.from_residual-in_err-record.result c.in_err-record.field-0.0
+    passed_on (λ r. TurnsBed g.B.Source.left g.B.Source.has_failed g.B.Source.end_told (view_of c.args.records.now) c.args.mask.now c.args.out.now.output r (view_of c.peek.follows.lender-at-none) c.args.mask.now c.args.out.now.output) c.from_residual-in_err-record.result c.in_err-record.field-0.0
     c.from_residual-in_err-record.ensures.1
     (inl (record {
       asked = view_of c.line_ahead.new.records;
@@ -41,7 +41,7 @@ returns-in_err-give_bed-in-Some-2-clause-turns g c =
     let first = rw c.in-Some.is at c.in_ok-line.ensures.asks in
     let peek = rw (c.in_ok-record.was, c.in-Some-2.is) at c.peek.follows.holds-at-none in
     let r = feature_lent c.in-Some-2.record in
-    passed_on (λ r. TurnsBed g.B.Source.left g.B.Source.has_failed g.B.Source.end_told (view_of c.args.records.now) c.args.mask.now c.args.out.now r (view_of c.peek.follows.lender-at-none) c.give_bed.new.self c.give_bed.new.out) c.from_residual-in_err-give_bed-in-Some-2.result c.in_err-give_bed-in-Some-2.field-0.0
+    passed_on (λ r. TurnsBed g.B.Source.left g.B.Source.has_failed g.B.Source.end_told (view_of c.args.records.now) c.args.mask.now c.args.out.now.output r (view_of c.peek.follows.lender-at-none) c.give_bed.new.self c.give_bed.new.out.output) c.from_residual-in_err-give_bed-in-Some-2.result c.in_err-give_bed-in-Some-2.field-0.0
     c.from_residual-in_err-give_bed-in-Some-2.ensures.1
     (inr (inl (record {
       m = record { line = c.in-Some.line; item = r };
@@ -54,7 +54,7 @@ pub returns-in_err-end_bed-in-None-clause-turns : goal.returns-in_err-end_bed-in
 returns-in_err-end_bed-in-None-clause-turns g c =
     let first = rw c.in-Some.is at c.in_ok-line.ensures.asks in
     let peek = rw (c.in_ok-record.was, c.in-None.is) at c.peek.follows.holds-at-none in
-    passed_on (λ r. TurnsBed g.B.Source.left g.B.Source.has_failed g.B.Source.end_told (view_of c.args.records.now) c.args.mask.now c.args.out.now r (view_of c.peek.follows.lender-at-none) c.end_bed-in-None.new.self c.end_bed-in-None.new.out) c.from_residual-in_err-end_bed-in-None.result c.in_err-end_bed-in-None.field-0.0
+    passed_on (λ r. TurnsBed g.B.Source.left g.B.Source.has_failed g.B.Source.end_told (view_of c.args.records.now) c.args.mask.now c.args.out.now.output r (view_of c.peek.follows.lender-at-none) c.end_bed-in-None.new.self c.end_bed-in-None.new.out.output) c.from_residual-in_err-end_bed-in-None.result c.in_err-end_bed-in-None.field-0.0
     c.from_residual-in_err-end_bed-in-None.ensures.1
     (inr (inr (record {
       asked = view_of c.line_ahead.new.records;

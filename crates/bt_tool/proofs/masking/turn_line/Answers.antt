@@ -9,7 +9,7 @@ use Rattle.bt_tool.proofs.masking.turn_line.Goals as goal
 pub returns-in-Some-clause-turns : goal.returns-in-Some-clause-turns
 returns-in-Some-clause-turns g c =
     let next = rw (c.in_ok-line.was, c.in-Some.is) at c.next.follows.holds-at-none in
-    line_turn g.A.Source.left g.A.Source.has_failed g.A.Source.end_told c.args.lines.now c.next.follows.lender-at-none c.args.mask.now c.args.out.now (line_seen c.in-Some.line) next.answers next.sound c.give_line.result c.give_line.new.self c.give_line.new.out
+    line_turn g.A.Source.left g.A.Source.has_failed g.A.Source.end_told c.args.lines.now c.next.follows.lender-at-none c.args.mask.now c.args.out.now.output (line_seen c.in-Some.line) next.answers next.sound c.give_line.result c.give_line.new.self c.give_line.new.out.output
     c.give_line.ensures.gives
 
 pub returns-in_err-line-clause-own_failure : goal.returns-in_err-line-clause-own_failure

@@ -24,4 +24,4 @@ pub returns-clause-written : goal.returns-clause-written
 returns-clause-written g c =
     rw (← order_is c.args.genome.now)
     (merge_writes (order_by c.args.genome.now) (orders_total c.args.genome.now) g.A.Source.left g.A.Source.has_failed c.args.d c.args.strand c.new-engine.result c.new-engine.ensures.begun
-    c.args.first c.args.out.now (option_map told c.drive.result.0) c.drive.result.1 c.drive.new.out c.drive.ensures.written)
+    c.args.first c.args.out.now.output (option_map told c.drive.result.0) c.drive.result.1 c.drive.new.out.output c.drive.ensures.written)

@@ -34,7 +34,7 @@ read_both-swept-requires-clause-starts g c =
     let reader_2 = c.new-2.ensures in
     let records_2 = c.new-seconds.ensures in
     let stands = c.new-sweep.ensures.stands in
-    sweeps_start g.A.Source.left g.A.Source.has_failed g.A.Source.end_told g.B.Source.left g.B.Source.has_failed g.B.Source.end_told (state_of c.new-sweep.result).shape (state_of c.new-sweep.result).rule (state_of c.new-sweep.result).limit c.new-firsts.result c.new-seconds.result c.args.out.now
+    sweeps_start g.A.Source.left g.A.Source.has_failed g.A.Source.end_told g.B.Source.left g.B.Source.has_failed g.B.Source.end_told (state_of c.new-sweep.result).shape (state_of c.new-sweep.result).rule (state_of c.new-sweep.result).limit c.new-firsts.result c.new-seconds.result c.args.out.now.output
     (fresh_start _ _ c.new.result c.new-firsts.result records.below reader.none_given reader.none_taken.0 reader.none_fed (records.fault ∙ reader.going.0) records.none_ahead reader.sound) records.none_last
     (fresh_start _ _ c.new-2.result c.new-seconds.result records_2.below reader_2.none_given reader_2.none_taken.0 reader_2.none_fed (records_2.fault ∙ reader_2.going.0) records_2.none_ahead reader_2.sound) records_2.none_last
     c.requires.block (state_of c.new-sweep.result)
@@ -56,11 +56,11 @@ returns-in-Ok-clause-written g c =
     let begins_second = begins_by g.B.Source.left order Second c.args.second c.new-2.result c.new-seconds.result records_2.below reader_2.source reader_2.input reader_2.none_taken.0 reader_2.none_fed reader_2.going.0 reader_2.lines records_2.good in
     let ended = sym (c.into_source-first.ensures ∙ ap source_of c.into_reader.ensures) in
     let ended_second = sym (c.into_source-second.ensures ∙ ap source_of c.into_reader-2.ensures) in
-    writes_both making pair c.args.out.now format format (λ two. placed_good Second order two c.requires.total) (sweep_limits order c.args.shape c.args.rule c.args.limit) c.args.first c.args.second begins begins_second
-    (view_of c.read_both-swept.new.first) (view_of c.read_both-swept.new.second) c.into_source-first.result c.into_source-second.result ended ended_second None c.read_both-swept.new.out ends
+    writes_both making pair c.args.out.now.output format format (λ two. placed_good Second order two c.requires.total) (sweep_limits order c.args.shape c.args.rule c.args.limit) c.args.first c.args.second begins begins_second
+    (view_of c.read_both-swept.new.first) (view_of c.read_both-swept.new.second) c.into_source-first.result c.into_source-second.result ended ended_second None c.read_both-swept.new.out.output ends
     (intersect_settles order c.args.shape c.args.rule) (intersect_reaches order)
-    (near_both making pair c.args.out.now format format (λ two. placed_good Second order two c.requires.total) (sweep_needs order c.args.shape c.args.rule c.args.limit) c.args.first c.args.second begins begins_second
-    (view_of c.read_both-swept.new.first) (view_of c.read_both-swept.new.second) c.into_source-first.result c.into_source-second.result ended ended_second None c.read_both-swept.new.out ends)
+    (near_both making pair c.args.out.now.output format format (λ two. placed_good Second order two c.requires.total) (sweep_needs order c.args.shape c.args.rule c.args.limit) c.args.first c.args.second begins begins_second
+    (view_of c.read_both-swept.new.first) (view_of c.read_both-swept.new.second) c.into_source-first.result c.into_source-second.result ended ended_second None c.read_both-swept.new.out.output ends)
 
 pub returns-clause-written : goal.returns-clause-written
 returns-clause-written g c =
@@ -79,11 +79,11 @@ returns-clause-written g c =
     let begins_second = begins_by g.B.Source.left order Second c.args.second c.new-2.result c.new-seconds.result records_2.below reader_2.source reader_2.input reader_2.none_taken.0 reader_2.none_fed reader_2.going.0 reader_2.lines records_2.good in
     let ended = sym (c.into_source-first.ensures ∙ ap source_of c.into_reader.ensures) in
     let ended_second = sym (c.into_source-second.ensures ∙ ap source_of c.into_reader-2.ensures) in
-    writes_both making pair c.args.out.now format format (λ two. placed_good Second order two c.requires.total) (sweep_limits order c.args.shape c.args.rule c.args.limit) c.args.first c.args.second begins begins_second
-    (view_of c.read_both-swept.new.first) (view_of c.read_both-swept.new.second) c.into_source-first.result c.into_source-second.result ended ended_second fault c.read_both-swept.new.out ends
+    writes_both making pair c.args.out.now.output format format (λ two. placed_good Second order two c.requires.total) (sweep_limits order c.args.shape c.args.rule c.args.limit) c.args.first c.args.second begins begins_second
+    (view_of c.read_both-swept.new.first) (view_of c.read_both-swept.new.second) c.into_source-first.result c.into_source-second.result ended ended_second fault c.read_both-swept.new.out.output ends
     (intersect_settles order c.args.shape c.args.rule) (intersect_reaches order)
-    (near_both making pair c.args.out.now format format (λ two. placed_good Second order two c.requires.total) (sweep_needs order c.args.shape c.args.rule c.args.limit) c.args.first c.args.second begins begins_second
-    (view_of c.read_both-swept.new.first) (view_of c.read_both-swept.new.second) c.into_source-first.result c.into_source-second.result ended ended_second fault c.read_both-swept.new.out ends)
+    (near_both making pair c.args.out.now.output format format (λ two. placed_good Second order two c.requires.total) (sweep_needs order c.args.shape c.args.rule c.args.limit) c.args.first c.args.second begins begins_second
+    (view_of c.read_both-swept.new.first) (view_of c.read_both-swept.new.second) c.into_source-first.result c.into_source-second.result ended ended_second fault c.read_both-swept.new.out.output ends)
 
 pub returns-in-Ok-clause-own_failure : goal.returns-in-Ok-clause-own_failure
 returns-in-Ok-clause-own_failure g c = tells_nothing ⊥ _ _ None refl
@@ -96,10 +96,10 @@ returns-clause-own_failure g c =
     let records_2 = c.new-seconds.ensures in
     let order = g.O.ChromOrder.order c.args.order.now in
     let fault = Some (told c.in-Err.fault) in
-    let ends = subst (λ (l : Option ℕ). SweepEnds g.A.Source.left g.A.Source.has_failed g.A.Source.end_told g.B.Source.left g.B.Source.has_failed g.B.Source.end_told order c.args.shape c.args.rule l c.new-firsts.result c.new-seconds.result c.args.out.now fault c.read_both-swept.new.first c.read_both-swept.new.second c.read_both-swept.new.out) c.new-sweep.ensures.stands.limit_is
-    (subst (λ (r : HitRule). SweepEnds g.A.Source.left g.A.Source.has_failed g.A.Source.end_told g.B.Source.left g.B.Source.has_failed g.B.Source.end_told order c.args.shape r (state_of c.new-sweep.result).limit c.new-firsts.result c.new-seconds.result c.args.out.now fault c.read_both-swept.new.first c.read_both-swept.new.second c.read_both-swept.new.out) c.new-sweep.ensures.stands.rule_is
-    (subst (λ (s : Shape). SweepEnds g.A.Source.left g.A.Source.has_failed g.A.Source.end_told g.B.Source.left g.B.Source.has_failed g.B.Source.end_told order s (state_of c.new-sweep.result).rule (state_of c.new-sweep.result).limit c.new-firsts.result c.new-seconds.result c.args.out.now fault c.read_both-swept.new.first c.read_both-swept.new.second c.read_both-swept.new.out) c.new-sweep.ensures.stands.shape_is
-    (subst (λ (o : Order). SweepEnds g.A.Source.left g.A.Source.has_failed g.A.Source.end_told g.B.Source.left g.B.Source.has_failed g.B.Source.end_told o (state_of c.new-sweep.result).shape (state_of c.new-sweep.result).rule (state_of c.new-sweep.result).limit c.new-firsts.result c.new-seconds.result c.args.out.now fault c.read_both-swept.new.first c.read_both-swept.new.second c.read_both-swept.new.out) records.order c.in-Err.ensures.finishes))) in
+    let ends = subst (λ (l : Option ℕ). SweepEnds g.A.Source.left g.A.Source.has_failed g.A.Source.end_told g.B.Source.left g.B.Source.has_failed g.B.Source.end_told order c.args.shape c.args.rule l c.new-firsts.result c.new-seconds.result c.args.out.now.output fault c.read_both-swept.new.first c.read_both-swept.new.second c.read_both-swept.new.out.output) c.new-sweep.ensures.stands.limit_is
+    (subst (λ (r : HitRule). SweepEnds g.A.Source.left g.A.Source.has_failed g.A.Source.end_told g.B.Source.left g.B.Source.has_failed g.B.Source.end_told order c.args.shape r (state_of c.new-sweep.result).limit c.new-firsts.result c.new-seconds.result c.args.out.now.output fault c.read_both-swept.new.first c.read_both-swept.new.second c.read_both-swept.new.out.output) c.new-sweep.ensures.stands.rule_is
+    (subst (λ (s : Shape). SweepEnds g.A.Source.left g.A.Source.has_failed g.A.Source.end_told g.B.Source.left g.B.Source.has_failed g.B.Source.end_told order s (state_of c.new-sweep.result).rule (state_of c.new-sweep.result).limit c.new-firsts.result c.new-seconds.result c.args.out.now.output fault c.read_both-swept.new.first c.read_both-swept.new.second c.read_both-swept.new.out.output) c.new-sweep.ensures.stands.shape_is
+    (subst (λ (o : Order). SweepEnds g.A.Source.left g.A.Source.has_failed g.A.Source.end_told g.B.Source.left g.B.Source.has_failed g.B.Source.end_told o (state_of c.new-sweep.result).shape (state_of c.new-sweep.result).rule (state_of c.new-sweep.result).limit c.new-firsts.result c.new-seconds.result c.args.out.now.output fault c.read_both-swept.new.first c.read_both-swept.new.second c.read_both-swept.new.out.output) records.order c.in-Err.ensures.finishes))) in
     let making = sweep_making order c.args.shape c.args.rule c.args.limit in
     let pair = records_pair g.A.Source.left g.A.Source.has_failed g.A.Source.end_told g.B.Source.left g.B.Source.has_failed g.B.Source.end_told c.new-firsts.result c.new-seconds.result in
     let format = bed_format (sorting_of order) in
@@ -107,8 +107,8 @@ returns-clause-own_failure g c =
     let begins_second = begins_by g.B.Source.left order Second c.args.second c.new-2.result c.new-seconds.result records_2.below reader_2.source reader_2.input reader_2.none_taken.0 reader_2.none_fed reader_2.going.0 reader_2.lines records_2.good in
     let ended = sym (c.into_source-first.ensures ∙ ap source_of c.into_reader.ensures) in
     let ended_second = sym (c.into_source-second.ensures ∙ ap source_of c.into_reader-2.ensures) in
-    both_own making pair c.args.out.now g.A.Source.is_read g.B.Source.is_read format format c.args.first c.args.second begins begins_second
-    (view_of c.read_both-swept.new.first) (view_of c.read_both-swept.new.second) c.into_source-first.result c.into_source-second.result ended ended_second fault c.read_both-swept.new.out ends
+    both_own making pair c.args.out.now.output g.A.Source.is_read g.B.Source.is_read format format c.args.first c.args.second begins begins_second
+    (view_of c.read_both-swept.new.first) (view_of c.read_both-swept.new.second) c.into_source-first.result c.into_source-second.result ended ended_second fault c.read_both-swept.new.out.output ends
     (bed_no_read order) (swept_no_read order c.args.limit) c.read_both-swept.ensures.own_failure c.read_both-swept.ensures.own_failure_second
 
 pub returns-in-Ok-clause-reads : goal.returns-in-Ok-clause-reads

@@ -14,14 +14,14 @@ use Rattle.bt_tool.proofs.sweeping.sweep_all.Goals as goal
 pub loop-first_pace-smaller-in-Continue-1 : goal.loop-first_pace-smaller-in-Continue-1
 loop-first_pace-smaller-in-Continue-1 g c =
     let was = c.loop-first_pace.invariant in
-    (goes_on g.A.Source.left g.A.Source.has_failed g.A.Source.end_told g.A.Source.is_read g.B.Source.left g.B.Source.has_failed g.B.Source.end_told (state_of c.args.sweep.now).shape (state_of c.args.sweep.now).rule (state_of c.args.sweep.now).limit c.args.first.now c.args.second.now c.args.out.now
-    c.requires.total c.requires.second c.requires.sorted c.requires.sorted_second c.loop-first_pace.second (order_of c.loop-first_pace.sweep) was.1 c.in_ok-turn_firsts-in-A.field-0 c.loop-first_pace.first c.turn_firsts.new.first (state_of c.loop-first_pace.sweep) (state_of c.turn_firsts.new.sweep) c.loop-first_pace.out c.turn_firsts.new.out was.0 (sym c.want.ensures.is ∙ c.in-A.is) c.in_ok-turn_firsts-in-A.ensures.turns).1
+    (goes_on g.A.Source.left g.A.Source.has_failed g.A.Source.end_told g.A.Source.is_read g.B.Source.left g.B.Source.has_failed g.B.Source.end_told (state_of c.args.sweep.now).shape (state_of c.args.sweep.now).rule (state_of c.args.sweep.now).limit c.args.first.now c.args.second.now c.args.out.now.output
+    c.requires.total c.requires.second c.requires.sorted c.requires.sorted_second c.loop-first_pace.second (order_of c.loop-first_pace.sweep) was.1 c.in_ok-turn_firsts-in-A.field-0 c.loop-first_pace.first c.turn_firsts.new.first (state_of c.loop-first_pace.sweep) (state_of c.turn_firsts.new.sweep) c.loop-first_pace.out.output c.turn_firsts.new.out.output was.0 (sym c.want.ensures.is ∙ c.in-A.is) c.in_ok-turn_firsts-in-A.ensures.turns).1
 
 pub loop-first_pace-preserved-in-Continue-1 : goal.loop-first_pace-preserved-in-Continue-1
 loop-first_pace-preserved-in-Continue-1 g c =
     let was = c.loop-first_pace.invariant in (
-      (goes_on g.A.Source.left g.A.Source.has_failed g.A.Source.end_told g.A.Source.is_read g.B.Source.left g.B.Source.has_failed g.B.Source.end_told (state_of c.args.sweep.now).shape (state_of c.args.sweep.now).rule (state_of c.args.sweep.now).limit c.args.first.now c.args.second.now c.args.out.now
-          c.requires.total c.requires.second c.requires.sorted c.requires.sorted_second c.loop-first_pace.second (order_of c.loop-first_pace.sweep) was.1 c.in_ok-turn_firsts-in-A.field-0 c.loop-first_pace.first c.turn_firsts.new.first (state_of c.loop-first_pace.sweep) (state_of c.turn_firsts.new.sweep) c.loop-first_pace.out c.turn_firsts.new.out was.0 (sym c.want.ensures.is ∙ c.in-A.is) c.in_ok-turn_firsts-in-A.ensures.turns).0,
+      (goes_on g.A.Source.left g.A.Source.has_failed g.A.Source.end_told g.A.Source.is_read g.B.Source.left g.B.Source.has_failed g.B.Source.end_told (state_of c.args.sweep.now).shape (state_of c.args.sweep.now).rule (state_of c.args.sweep.now).limit c.args.first.now c.args.second.now c.args.out.now.output
+          c.requires.total c.requires.second c.requires.sorted c.requires.sorted_second c.loop-first_pace.second (order_of c.loop-first_pace.sweep) was.1 c.in_ok-turn_firsts-in-A.field-0 c.loop-first_pace.first c.turn_firsts.new.first (state_of c.loop-first_pace.sweep) (state_of c.turn_firsts.new.sweep) c.loop-first_pace.out.output c.turn_firsts.new.out.output was.0 (sym c.want.ensures.is ∙ c.in-A.is) c.in_ok-turn_firsts-in-A.ensures.turns).0,
       c.turn_firsts.ensures.order ∙ was.1,
       has_read_then g.A.Source.is_read (below c.args.first.now) (below c.loop-first_pace.first) (below c.turn_firsts.new.first) was.2 (c.in_ok-turn_firsts-in-A.ensures.reads was.0.comes.first_passes.going tt),
       was.3,
@@ -30,36 +30,36 @@ loop-first_pace-preserved-in-Continue-1 g c =
 pub returns-in_err-turn_firsts-in-A-clause-sweeps : goal.returns-in_err-turn_firsts-in-A-clause-sweeps
 returns-in_err-turn_firsts-in-A-clause-sweeps g c =
     let was = c.loop-first_pace.invariant in
-    passed_on (λ r. SweepsOrStops g.A.Source.left g.A.Source.has_failed g.A.Source.end_told g.B.Source.left g.B.Source.has_failed g.B.Source.end_told (order_in c.args.first.now) (state_of c.args.sweep.now).shape (state_of c.args.sweep.now).rule (state_of c.args.sweep.now).limit c.args.first.now c.args.second.now c.args.out.now r c.turn_firsts.new.first c.loop-first_pace.second (state_of c.turn_firsts.new.sweep) c.turn_firsts.new.out)
+    passed_on (λ r. SweepsOrStops g.A.Source.left g.A.Source.has_failed g.A.Source.end_told g.B.Source.left g.B.Source.has_failed g.B.Source.end_told (order_in c.args.first.now) (state_of c.args.sweep.now).shape (state_of c.args.sweep.now).rule (state_of c.args.sweep.now).limit c.args.first.now c.args.second.now c.args.out.now.output r c.turn_firsts.new.first c.loop-first_pace.second (state_of c.turn_firsts.new.sweep) c.turn_firsts.new.out.output)
     c.from_residual.result c.in_err-turn_firsts-in-A.field-0.0 c.from_residual.ensures.1
-    (stops_on g.A.Source.left g.A.Source.has_failed g.A.Source.end_told g.A.Source.is_read g.B.Source.left g.B.Source.has_failed g.B.Source.end_told (state_of c.args.sweep.now).shape (state_of c.args.sweep.now).rule (state_of c.args.sweep.now).limit c.args.first.now c.args.second.now c.args.out.now
-    c.requires.total c.requires.second c.requires.sorted c.requires.sorted_second c.loop-first_pace.second (order_of c.loop-first_pace.sweep) was.1 c.in_err-turn_firsts-in-A.field-0.0 c.loop-first_pace.first c.turn_firsts.new.first (state_of c.loop-first_pace.sweep) (state_of c.turn_firsts.new.sweep) c.loop-first_pace.out c.turn_firsts.new.out
+    (stops_on g.A.Source.left g.A.Source.has_failed g.A.Source.end_told g.A.Source.is_read g.B.Source.left g.B.Source.has_failed g.B.Source.end_told (state_of c.args.sweep.now).shape (state_of c.args.sweep.now).rule (state_of c.args.sweep.now).limit c.args.first.now c.args.second.now c.args.out.now.output
+    c.requires.total c.requires.second c.requires.sorted c.requires.sorted_second c.loop-first_pace.second (order_of c.loop-first_pace.sweep) was.1 c.in_err-turn_firsts-in-A.field-0.0 c.loop-first_pace.first c.turn_firsts.new.first (state_of c.loop-first_pace.sweep) (state_of c.turn_firsts.new.sweep) c.loop-first_pace.out.output c.turn_firsts.new.out.output
     was.0 (sym c.want.ensures.is ∙ c.in-A.is) c.in_err-turn_firsts-in-A.ensures.turns)
 
 pub loop-first_pace-smaller : goal.loop-first_pace-smaller
 loop-first_pace-smaller g c =
     let was = c.loop-first_pace.invariant in
     let wants = sym c.want.ensures.is ∙ c.in-B.is in
-    let behind = goes_both g.A.Source.left g.A.Source.has_failed g.A.Source.end_told g.A.Source.is_read g.B.Source.left g.B.Source.has_failed g.B.Source.end_told g.B.Source.is_read (state_of c.args.sweep.now).shape (state_of c.args.sweep.now).rule (state_of c.args.sweep.now).limit c.args.first.now c.args.second.now c.args.out.now
-    c.requires.total c.requires.second c.requires.sorted c.requires.sorted_second (order_of c.loop-first_pace.sweep) was.1 c.loop-first_pace.out c.loop-first_pace.first c.take_both.new.first c.loop-first_pace.second c.take_both.new.second (state_of c.loop-first_pace.sweep) (state_of c.take_both.new.sweep) was.0 wants c.take_both.ensures.gives in
+    let behind = goes_both g.A.Source.left g.A.Source.has_failed g.A.Source.end_told g.A.Source.is_read g.B.Source.left g.B.Source.has_failed g.B.Source.end_told g.B.Source.is_read (state_of c.args.sweep.now).shape (state_of c.args.sweep.now).rule (state_of c.args.sweep.now).limit c.args.first.now c.args.second.now c.args.out.now.output
+    c.requires.total c.requires.second c.requires.sorted c.requires.sorted_second (order_of c.loop-first_pace.sweep) was.1 c.loop-first_pace.out.output c.loop-first_pace.first c.take_both.new.first c.loop-first_pace.second c.take_both.new.second (state_of c.loop-first_pace.sweep) (state_of c.take_both.new.sweep) was.0 wants c.take_both.ensures.gives in
     omega (
       arith,
       behind.1,
-      (turns_second g.A.Source.left g.A.Source.has_failed g.A.Source.end_told g.B.Source.left g.B.Source.has_failed g.B.Source.end_told (state_of c.args.sweep.now).shape (state_of c.args.sweep.now).rule (state_of c.args.sweep.now).limit c.args.first.now c.args.second.now c.args.out.now
-          c.requires.total c.requires.second c.requires.sorted c.requires.sorted_second c.take_both.new.first c.take_both.new.second (state_of c.take_both.new.sweep) c.loop-first_pace.out (order_of c.take_both.new.sweep) (c.take_both.ensures.order ∙ was.1) behind.0
-          c.take_both.ensures.want c.turn_second.new.second (state_of c.turn_second.new.sweep) c.turn_second.new.out c.in_ok-turn_second-in-B.ensures.turns).1,
+      (turns_second g.A.Source.left g.A.Source.has_failed g.A.Source.end_told g.B.Source.left g.B.Source.has_failed g.B.Source.end_told (state_of c.args.sweep.now).shape (state_of c.args.sweep.now).rule (state_of c.args.sweep.now).limit c.args.first.now c.args.second.now c.args.out.now.output
+          c.requires.total c.requires.second c.requires.sorted c.requires.sorted_second c.take_both.new.first c.take_both.new.second (state_of c.take_both.new.sweep) c.loop-first_pace.out.output (order_of c.take_both.new.sweep) (c.take_both.ensures.order ∙ was.1) behind.0
+          c.take_both.ensures.want c.turn_second.new.second (state_of c.turn_second.new.sweep) c.turn_second.new.out.output c.in_ok-turn_second-in-B.ensures.turns).1,
     )
 
 pub loop-first_pace-preserved : goal.loop-first_pace-preserved
 loop-first_pace-preserved g c =
     let was = c.loop-first_pace.invariant in
     let wants = sym c.want.ensures.is ∙ c.in-B.is in
-    let behind = goes_both g.A.Source.left g.A.Source.has_failed g.A.Source.end_told g.A.Source.is_read g.B.Source.left g.B.Source.has_failed g.B.Source.end_told g.B.Source.is_read (state_of c.args.sweep.now).shape (state_of c.args.sweep.now).rule (state_of c.args.sweep.now).limit c.args.first.now c.args.second.now c.args.out.now
-    c.requires.total c.requires.second c.requires.sorted c.requires.sorted_second (order_of c.loop-first_pace.sweep) was.1 c.loop-first_pace.out c.loop-first_pace.first c.take_both.new.first c.loop-first_pace.second c.take_both.new.second (state_of c.loop-first_pace.sweep) (state_of c.take_both.new.sweep) was.0 wants c.take_both.ensures.gives in
+    let behind = goes_both g.A.Source.left g.A.Source.has_failed g.A.Source.end_told g.A.Source.is_read g.B.Source.left g.B.Source.has_failed g.B.Source.end_told g.B.Source.is_read (state_of c.args.sweep.now).shape (state_of c.args.sweep.now).rule (state_of c.args.sweep.now).limit c.args.first.now c.args.second.now c.args.out.now.output
+    c.requires.total c.requires.second c.requires.sorted c.requires.sorted_second (order_of c.loop-first_pace.sweep) was.1 c.loop-first_pace.out.output c.loop-first_pace.first c.take_both.new.first c.loop-first_pace.second c.take_both.new.second (state_of c.loop-first_pace.sweep) (state_of c.take_both.new.sweep) was.0 wants c.take_both.ensures.gives in
     let read = has_read_then g.B.Source.is_read (below c.args.second.now) (below c.loop-first_pace.second) (below c.take_both.new.second) was.3 behind.3 in (
-      (turns_second g.A.Source.left g.A.Source.has_failed g.A.Source.end_told g.B.Source.left g.B.Source.has_failed g.B.Source.end_told (state_of c.args.sweep.now).shape (state_of c.args.sweep.now).rule (state_of c.args.sweep.now).limit c.args.first.now c.args.second.now c.args.out.now
-          c.requires.total c.requires.second c.requires.sorted c.requires.sorted_second c.take_both.new.first c.take_both.new.second (state_of c.take_both.new.sweep) c.loop-first_pace.out (order_of c.take_both.new.sweep) (c.take_both.ensures.order ∙ was.1) behind.0
-          c.take_both.ensures.want c.turn_second.new.second (state_of c.turn_second.new.sweep) c.turn_second.new.out c.in_ok-turn_second-in-B.ensures.turns).0,
+      (turns_second g.A.Source.left g.A.Source.has_failed g.A.Source.end_told g.B.Source.left g.B.Source.has_failed g.B.Source.end_told (state_of c.args.sweep.now).shape (state_of c.args.sweep.now).rule (state_of c.args.sweep.now).limit c.args.first.now c.args.second.now c.args.out.now.output
+          c.requires.total c.requires.second c.requires.sorted c.requires.sorted_second c.take_both.new.first c.take_both.new.second (state_of c.take_both.new.sweep) c.loop-first_pace.out.output (order_of c.take_both.new.sweep) (c.take_both.ensures.order ∙ was.1) behind.0
+          c.take_both.ensures.want c.turn_second.new.second (state_of c.turn_second.new.sweep) c.turn_second.new.out.output c.in_ok-turn_second-in-B.ensures.turns).0,
       c.turn_second.ensures.order ∙ c.take_both.ensures.order ∙ was.1,
       has_read_then g.A.Source.is_read (below c.args.first.now) (below c.loop-first_pace.first) (below c.take_both.new.first) was.2 behind.2,
       has_read_then g.B.Source.is_read (below c.args.second.now) (below c.take_both.new.second) (below c.turn_second.new.second) read (c.in_ok-turn_second-in-B.ensures.reads behind.0.comes.second_passes.going tt),
@@ -69,13 +69,13 @@ pub returns-in_err-turn_second-in-B-clause-sweeps : goal.returns-in_err-turn_sec
 returns-in_err-turn_second-in-B-clause-sweeps g c =
     let was = c.loop-first_pace.invariant in
     let wants = sym c.want.ensures.is ∙ c.in-B.is in
-    let behind = goes_both g.A.Source.left g.A.Source.has_failed g.A.Source.end_told g.A.Source.is_read g.B.Source.left g.B.Source.has_failed g.B.Source.end_told g.B.Source.is_read (state_of c.args.sweep.now).shape (state_of c.args.sweep.now).rule (state_of c.args.sweep.now).limit c.args.first.now c.args.second.now c.args.out.now
-    c.requires.total c.requires.second c.requires.sorted c.requires.sorted_second (order_of c.loop-first_pace.sweep) was.1 c.loop-first_pace.out c.loop-first_pace.first c.take_both.new.first c.loop-first_pace.second c.take_both.new.second (state_of c.loop-first_pace.sweep) (state_of c.take_both.new.sweep) was.0 wants c.take_both.ensures.gives in
-    passed_on (λ r. SweepsOrStops g.A.Source.left g.A.Source.has_failed g.A.Source.end_told g.B.Source.left g.B.Source.has_failed g.B.Source.end_told (order_in c.args.first.now) (state_of c.args.sweep.now).shape (state_of c.args.sweep.now).rule (state_of c.args.sweep.now).limit c.args.first.now c.args.second.now c.args.out.now r c.take_both.new.first c.turn_second.new.second (state_of c.turn_second.new.sweep) c.turn_second.new.out)
+    let behind = goes_both g.A.Source.left g.A.Source.has_failed g.A.Source.end_told g.A.Source.is_read g.B.Source.left g.B.Source.has_failed g.B.Source.end_told g.B.Source.is_read (state_of c.args.sweep.now).shape (state_of c.args.sweep.now).rule (state_of c.args.sweep.now).limit c.args.first.now c.args.second.now c.args.out.now.output
+    c.requires.total c.requires.second c.requires.sorted c.requires.sorted_second (order_of c.loop-first_pace.sweep) was.1 c.loop-first_pace.out.output c.loop-first_pace.first c.take_both.new.first c.loop-first_pace.second c.take_both.new.second (state_of c.loop-first_pace.sweep) (state_of c.take_both.new.sweep) was.0 wants c.take_both.ensures.gives in
+    passed_on (λ r. SweepsOrStops g.A.Source.left g.A.Source.has_failed g.A.Source.end_told g.B.Source.left g.B.Source.has_failed g.B.Source.end_told (order_in c.args.first.now) (state_of c.args.sweep.now).shape (state_of c.args.sweep.now).rule (state_of c.args.sweep.now).limit c.args.first.now c.args.second.now c.args.out.now.output r c.take_both.new.first c.turn_second.new.second (state_of c.turn_second.new.sweep) c.turn_second.new.out.output)
     c.from_residual-in_err-turn_second-in-B.result c.in_err-turn_second-in-B.field-0.0 c.from_residual-in_err-turn_second-in-B.ensures.1
-    (second_stops g.A.Source.left g.A.Source.has_failed g.A.Source.end_told g.B.Source.left g.B.Source.has_failed g.B.Source.end_told (state_of c.args.sweep.now).shape (state_of c.args.sweep.now).rule (state_of c.args.sweep.now).limit c.args.first.now c.args.second.now c.args.out.now
-    c.requires.total c.requires.second c.requires.sorted c.requires.sorted_second c.take_both.new.first c.take_both.new.second (state_of c.take_both.new.sweep) c.loop-first_pace.out (order_of c.take_both.new.sweep) (c.take_both.ensures.order ∙ was.1) behind.0
-    c.take_both.ensures.want c.in_err-turn_second-in-B.field-0.0 c.turn_second.new.second (state_of c.turn_second.new.sweep) c.turn_second.new.out c.in_err-turn_second-in-B.ensures.turns)
+    (second_stops g.A.Source.left g.A.Source.has_failed g.A.Source.end_told g.B.Source.left g.B.Source.has_failed g.B.Source.end_told (state_of c.args.sweep.now).shape (state_of c.args.sweep.now).rule (state_of c.args.sweep.now).limit c.args.first.now c.args.second.now c.args.out.now.output
+    c.requires.total c.requires.second c.requires.sorted c.requires.sorted_second c.take_both.new.first c.take_both.new.second (state_of c.take_both.new.sweep) c.loop-first_pace.out.output (order_of c.take_both.new.sweep) (c.take_both.ensures.order ∙ was.1) behind.0
+    c.take_both.ensures.want c.in_err-turn_second-in-B.field-0.0 c.turn_second.new.second (state_of c.turn_second.new.sweep) c.turn_second.new.out.output c.in_err-turn_second-in-B.ensures.turns)
 
 pub returns-in_err-turn_firsts-in-A-clause-own_failure : goal.returns-in_err-turn_firsts-in-A-clause-own_failure
 returns-in_err-turn_firsts-in-A-clause-own_failure g c =
@@ -92,16 +92,16 @@ pub returns-in_err-turn_second-in-B-clause-own_failure : goal.returns-in_err-tur
 returns-in_err-turn_second-in-B-clause-own_failure g c =
     let was = c.loop-first_pace.invariant in
     let wants = sym c.want.ensures.is ∙ c.in-B.is in
-    let behind = goes_both g.A.Source.left g.A.Source.has_failed g.A.Source.end_told g.A.Source.is_read g.B.Source.left g.B.Source.has_failed g.B.Source.end_told g.B.Source.is_read (state_of c.args.sweep.now).shape (state_of c.args.sweep.now).rule (state_of c.args.sweep.now).limit c.args.first.now c.args.second.now c.args.out.now
-    c.requires.total c.requires.second c.requires.sorted c.requires.sorted_second (order_of c.loop-first_pace.sweep) was.1 c.loop-first_pace.out c.loop-first_pace.first c.take_both.new.first c.loop-first_pace.second c.take_both.new.second (state_of c.loop-first_pace.sweep) (state_of c.take_both.new.sweep) was.0 wants c.take_both.ensures.gives in
+    let behind = goes_both g.A.Source.left g.A.Source.has_failed g.A.Source.end_told g.A.Source.is_read g.B.Source.left g.B.Source.has_failed g.B.Source.end_told g.B.Source.is_read (state_of c.args.sweep.now).shape (state_of c.args.sweep.now).rule (state_of c.args.sweep.now).limit c.args.first.now c.args.second.now c.args.out.now.output
+    c.requires.total c.requires.second c.requires.sorted c.requires.sorted_second (order_of c.loop-first_pace.sweep) was.1 c.loop-first_pace.out.output c.loop-first_pace.first c.take_both.new.first c.loop-first_pace.second c.take_both.new.second (state_of c.loop-first_pace.sweep) (state_of c.take_both.new.sweep) was.0 wants c.take_both.ensures.gives in
     none_kept g.A.Source.is_read _ _ _ behind.0.comes.first_passes.going
 
 pub returns-in_err-turn_second-in-B-clause-own_failure_second : goal.returns-in_err-turn_second-in-B-clause-own_failure_second
 returns-in_err-turn_second-in-B-clause-own_failure_second g c =
     let was = c.loop-first_pace.invariant in
     let wants = sym c.want.ensures.is ∙ c.in-B.is in
-    let behind = goes_both g.A.Source.left g.A.Source.has_failed g.A.Source.end_told g.A.Source.is_read g.B.Source.left g.B.Source.has_failed g.B.Source.end_told g.B.Source.is_read (state_of c.args.sweep.now).shape (state_of c.args.sweep.now).rule (state_of c.args.sweep.now).limit c.args.first.now c.args.second.now c.args.out.now
-    c.requires.total c.requires.second c.requires.sorted c.requires.sorted_second (order_of c.loop-first_pace.sweep) was.1 c.loop-first_pace.out c.loop-first_pace.first c.take_both.new.first c.loop-first_pace.second c.take_both.new.second (state_of c.loop-first_pace.sweep) (state_of c.take_both.new.sweep) was.0 wants c.take_both.ensures.gives in
+    let behind = goes_both g.A.Source.left g.A.Source.has_failed g.A.Source.end_told g.A.Source.is_read g.B.Source.left g.B.Source.has_failed g.B.Source.end_told g.B.Source.is_read (state_of c.args.sweep.now).shape (state_of c.args.sweep.now).rule (state_of c.args.sweep.now).limit c.args.first.now c.args.second.now c.args.out.now.output
+    c.requires.total c.requires.second c.requires.sorted c.requires.sorted_second (order_of c.loop-first_pace.sweep) was.1 c.loop-first_pace.out.output c.loop-first_pace.first c.take_both.new.first c.loop-first_pace.second c.take_both.new.second (state_of c.loop-first_pace.sweep) (state_of c.take_both.new.sweep) was.0 wants c.take_both.ensures.gives in
     let read = has_read_then g.B.Source.is_read (below c.args.second.now) (below c.loop-first_pace.second) (below c.take_both.new.second) was.3 behind.3 in
     own_then g.B.Source.is_read (below c.args.second.now) (below c.take_both.new.second) _ _ read (c.turn_second.ensures.own_failure behind.0.comes.second_passes.going)
 
@@ -135,16 +135,16 @@ pub returns-in_err-turn_second-in-B-clause-reads_first : goal.returns-in_err-tur
 returns-in_err-turn_second-in-B-clause-reads_first g c =
     let was = c.loop-first_pace.invariant in
     let wants = sym c.want.ensures.is ∙ c.in-B.is in
-    let behind = goes_both g.A.Source.left g.A.Source.has_failed g.A.Source.end_told g.A.Source.is_read g.B.Source.left g.B.Source.has_failed g.B.Source.end_told g.B.Source.is_read (state_of c.args.sweep.now).shape (state_of c.args.sweep.now).rule (state_of c.args.sweep.now).limit c.args.first.now c.args.second.now c.args.out.now
-    c.requires.total c.requires.second c.requires.sorted c.requires.sorted_second (order_of c.loop-first_pace.sweep) was.1 c.loop-first_pace.out c.loop-first_pace.first c.take_both.new.first c.loop-first_pace.second c.take_both.new.second (state_of c.loop-first_pace.sweep) (state_of c.take_both.new.sweep) was.0 wants c.take_both.ensures.gives in
+    let behind = goes_both g.A.Source.left g.A.Source.has_failed g.A.Source.end_told g.A.Source.is_read g.B.Source.left g.B.Source.has_failed g.B.Source.end_told g.B.Source.is_read (state_of c.args.sweep.now).shape (state_of c.args.sweep.now).rule (state_of c.args.sweep.now).limit c.args.first.now c.args.second.now c.args.out.now.output
+    c.requires.total c.requires.second c.requires.sorted c.requires.sorted_second (order_of c.loop-first_pace.sweep) was.1 c.loop-first_pace.out.output c.loop-first_pace.first c.take_both.new.first c.loop-first_pace.second c.take_both.new.second (state_of c.loop-first_pace.sweep) (state_of c.take_both.new.sweep) was.0 wants c.take_both.ensures.gives in
     λ never. has_read_then g.A.Source.is_read (below c.args.first.now) (below c.loop-first_pace.first) (below c.take_both.new.first) was.2 behind.2
 
 pub returns-in_err-turn_second-in-B-clause-reads_second : goal.returns-in_err-turn_second-in-B-clause-reads_second
 returns-in_err-turn_second-in-B-clause-reads_second g c =
     let was = c.loop-first_pace.invariant in
     let wants = sym c.want.ensures.is ∙ c.in-B.is in
-    let behind = goes_both g.A.Source.left g.A.Source.has_failed g.A.Source.end_told g.A.Source.is_read g.B.Source.left g.B.Source.has_failed g.B.Source.end_told g.B.Source.is_read (state_of c.args.sweep.now).shape (state_of c.args.sweep.now).rule (state_of c.args.sweep.now).limit c.args.first.now c.args.second.now c.args.out.now
-    c.requires.total c.requires.second c.requires.sorted c.requires.sorted_second (order_of c.loop-first_pace.sweep) was.1 c.loop-first_pace.out c.loop-first_pace.first c.take_both.new.first c.loop-first_pace.second c.take_both.new.second (state_of c.loop-first_pace.sweep) (state_of c.take_both.new.sweep) was.0 wants c.take_both.ensures.gives in
+    let behind = goes_both g.A.Source.left g.A.Source.has_failed g.A.Source.end_told g.A.Source.is_read g.B.Source.left g.B.Source.has_failed g.B.Source.end_told g.B.Source.is_read (state_of c.args.sweep.now).shape (state_of c.args.sweep.now).rule (state_of c.args.sweep.now).limit c.args.first.now c.args.second.now c.args.out.now.output
+    c.requires.total c.requires.second c.requires.sorted c.requires.sorted_second (order_of c.loop-first_pace.sweep) was.1 c.loop-first_pace.out.output c.loop-first_pace.first c.take_both.new.first c.loop-first_pace.second c.take_both.new.second (state_of c.loop-first_pace.sweep) (state_of c.take_both.new.sweep) was.0 wants c.take_both.ensures.gives in
     let read = has_read_then g.B.Source.is_read (below c.args.second.now) (below c.loop-first_pace.second) (below c.take_both.new.second) was.3 behind.3 in
     passed_on (λ r. AnswersNoRead r → HasRead g.B.Source.is_read (below c.args.second.now) (below c.turn_second.new.second)) c.from_residual-in_err-turn_second-in-B.result c.in_err-turn_second-in-B.field-0.0 c.from_residual-in_err-turn_second-in-B.ensures.1
     (λ never. has_read_then g.B.Source.is_read (below c.args.second.now) (below c.take_both.new.second) (below c.turn_second.new.second) read (c.in_err-turn_second-in-B.ensures.reads behind.0.comes.second_passes.going never))
@@ -169,8 +169,8 @@ pub turn_second-requires-clause-order : goal.turn_second-requires-clause-order
 turn_second-requires-clause-order g c =
     let was = c.loop-first_pace.invariant in
     let wants = sym c.want.ensures.is ∙ c.in-B.is in
-    let behind = goes_both g.A.Source.left g.A.Source.has_failed g.A.Source.end_told g.A.Source.is_read g.B.Source.left g.B.Source.has_failed g.B.Source.end_told g.B.Source.is_read (state_of c.args.sweep.now).shape (state_of c.args.sweep.now).rule (state_of c.args.sweep.now).limit c.args.first.now c.args.second.now c.args.out.now
-    c.requires.total c.requires.second c.requires.sorted c.requires.sorted_second (order_of c.loop-first_pace.sweep) was.1 c.loop-first_pace.out c.loop-first_pace.first c.take_both.new.first c.loop-first_pace.second c.take_both.new.second (state_of c.loop-first_pace.sweep) (state_of c.take_both.new.sweep) was.0 wants c.take_both.ensures.gives in
+    let behind = goes_both g.A.Source.left g.A.Source.has_failed g.A.Source.end_told g.A.Source.is_read g.B.Source.left g.B.Source.has_failed g.B.Source.end_told g.B.Source.is_read (state_of c.args.sweep.now).shape (state_of c.args.sweep.now).rule (state_of c.args.sweep.now).limit c.args.first.now c.args.second.now c.args.out.now.output
+    c.requires.total c.requires.second c.requires.sorted c.requires.sorted_second (order_of c.loop-first_pace.sweep) was.1 c.loop-first_pace.out.output c.loop-first_pace.first c.take_both.new.first c.loop-first_pace.second c.take_both.new.second (state_of c.loop-first_pace.sweep) (state_of c.take_both.new.sweep) was.0 wants c.take_both.ensures.gives in
     c.take_both.ensures.order ∙ was.1 ∙ sym c.requires.second ∙ sym behind.0.second_placed.order
 
 pub take_both-requires : goal.take_both-requires

@@ -12,7 +12,7 @@ use Rattle.bt_tool.proofs.sweeping.turn_first.Goals as goal
 pub returns-in_err-give_a-in-Some-clause-turns : goal.returns-in_err-give_a-in-Some-clause-turns
 returns-in_err-give_a-in-Some-clause-turns g c =
     let peek = rw (c.in_ok-record.was, c.in-Some.is) at c.peek.follows.holds-at-none in
-    passed_on (λ r. TurnsFirst g.A.Source.left g.A.Source.has_failed g.A.Source.end_told (order_of c.args.sweep.now) c.args.first.now (state_of c.args.sweep.now) c.args.out.now r c.peek.follows.lender-at-none (state_of c.give_a.new.self) c.give_a.new.out)
+    passed_on (λ r. TurnsFirst g.A.Source.left g.A.Source.has_failed g.A.Source.end_told (order_of c.args.sweep.now) c.args.first.now (state_of c.args.sweep.now) c.args.out.now.output r c.peek.follows.lender-at-none (state_of c.give_a.new.self) c.give_a.new.out.output)
     c.from_residual-in_err-give_a-in-Some.result c.in_err-give_a-in-Some.field-0.0 c.from_residual-in_err-give_a-in-Some.ensures.1
     (inr (record {
       item = feature_lent c.in-Some.record;

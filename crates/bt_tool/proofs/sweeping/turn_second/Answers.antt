@@ -15,7 +15,7 @@ use Rattle.bt_tool.proofs.sweeping.turn_second.Goals as goal
 
 pub returns-in_err-step-clause-turns : goal.returns-in_err-step-clause-turns
 returns-in_err-step-clause-turns g c =
-    passed_on (λ r. TurnsSecond g.B.Source.left g.B.Source.has_failed g.B.Source.end_told (order_of c.args.sweep.now) c.args.second.now (state_of c.args.sweep.now) c.args.out.now r c.step.new.self (state_of c.args.sweep.now) c.args.out.now) c.from_residual.result c.in_err-step.field-0.0 c.from_residual.ensures.1
+    passed_on (λ r. TurnsSecond g.B.Source.left g.B.Source.has_failed g.B.Source.end_told (order_of c.args.sweep.now) c.args.second.now (state_of c.args.sweep.now) c.args.out.now.output r c.step.new.self (state_of c.args.sweep.now) c.args.out.now.output) c.from_residual.result c.in_err-step.field-0.0 c.from_residual.ensures.1
     (inl (record { stopped = record { answers = c.in_err-step.ensures.answers; sound = c.step.ensures.sound; order = c.step.ensures.order }; same_sweep = refl; same_output = refl }))
 
 pub returns-in_err-give_b-in-Some-clause-turns : goal.returns-in_err-give_b-in-Some-clause-turns
@@ -25,19 +25,19 @@ returns-in_err-give_b-in-Some-clause-turns g c =
     let line = its_line g.B.Source.left g.B.Source.has_failed c.args.second.now c.step.new.self r gives c.line.result c.line.ensures in
     let order = order_of c.args.sweep.now in
     let fault = told c.in_err-give_b-in-Some.field-0.0 in
-    passed_on (λ r. TurnsSecond g.B.Source.left g.B.Source.has_failed g.B.Source.end_told (order_of c.args.sweep.now) c.args.second.now (state_of c.args.sweep.now) c.args.out.now r c.step.new.self (state_of c.give_b.new.self) c.give_b.new.out)
+    passed_on (λ r. TurnsSecond g.B.Source.left g.B.Source.has_failed g.B.Source.end_told (order_of c.args.sweep.now) c.args.second.now (state_of c.args.sweep.now) c.args.out.now.output r c.step.new.self (state_of c.give_b.new.self) c.give_b.new.out.output)
     c.from_residual-in_err-give_b-in-Some.result c.in_err-give_b-in-Some.field-0.0 c.from_residual-in_err-give_b-in-Some.ensures.1
     (inr (inl (record {
       item = r;
       ahead = record { gives = gives; sound = c.step.ensures.sound; order = c.step.ensures.order };
       fails = λ shape rule limit stage a stands waits placed.
-          subst (λ (n : ℕ). FailsToWriteA order shape rule limit stage a r n c.args.out.now fault c.give_b.new.out ⊎ (PassesLimit order shape rule limit stage a r n c.args.out.now fault c.give_b.new.out ⊎ FailsToHold order shape rule limit stage a r n c.args.out.now fault c.give_b.new.out)) line
+          subst (λ (n : ℕ). FailsToWriteA order shape rule limit stage a r n c.args.out.now.output fault c.give_b.new.out.output ⊎ (PassesLimit order shape rule limit stage a r n c.args.out.now.output fault c.give_b.new.out.output ⊎ FailsToHold order shape rule limit stage a r n c.args.out.now.output fault c.give_b.new.out.output)) line
           ((c.in_err-give_b-in-Some.ensures.gives shape rule limit stage a stands waits placed).1);
     })))
 
 pub returns-in_err-end_b-in-None-clause-turns : goal.returns-in_err-end_b-in-None-clause-turns
 returns-in_err-end_b-in-None-clause-turns g c =
-    passed_on (λ r. TurnsSecond g.B.Source.left g.B.Source.has_failed g.B.Source.end_told (order_of c.args.sweep.now) c.args.second.now (state_of c.args.sweep.now) c.args.out.now r c.step.new.self (state_of c.end_b.new.self) c.end_b.new.out)
+    passed_on (λ r. TurnsSecond g.B.Source.left g.B.Source.has_failed g.B.Source.end_told (order_of c.args.sweep.now) c.args.second.now (state_of c.args.sweep.now) c.args.out.now.output r c.step.new.self (state_of c.end_b.new.self) c.end_b.new.out.output)
     c.from_residual-in_err-end_b-in-None.result c.in_err-end_b-in-None.field-0.0 c.from_residual-in_err-end_b-in-None.ensures.1
     (inr (inr (record {
       ended = record { ends = has_run_out g.B.Source.left g.B.Source.has_failed c.args.second.now c.step.new.self (sym (ap (option_map feature_lent) c.in-None.is) ∙ c.record.ensures.is) c.in_ok-step.ensures.answers; sound = c.step.ensures.sound; order = c.step.ensures.order };
@@ -56,7 +56,7 @@ returns-in-Yes-clause-turns g c =
       ahead = record { gives = gives; sound = c.step.ensures.sound; order = c.step.ensures.order };
       passes = c.advance.ensures;
       given = λ shape rule limit stage a stands waits placed.
-          subst (λ (n : ℕ). TakesB order shape rule limit stage a r n c.args.out.now (state_of c.give_b.new.self) c.give_b.new.out) line
+          subst (λ (n : ℕ). TakesB order shape rule limit stage a r n c.args.out.now.output (state_of c.give_b.new.self) c.give_b.new.out.output) line
           (rw c.in-Yes.is at c.in_ok-give_b-in-Some.ensures.gives shape rule limit stage a stands waits placed);
     })
 
@@ -70,7 +70,7 @@ returns-in-No-clause-turns g c =
       item = r;
       ahead = record { gives = gives; sound = c.step.ensures.sound; order = c.step.ensures.order };
       given = λ shape rule limit stage a stands waits placed.
-          subst (λ (n : ℕ). WritesA order shape rule limit stage a r n c.args.out.now (state_of c.give_b.new.self) c.give_b.new.out) line
+          subst (λ (n : ℕ). WritesA order shape rule limit stage a r n c.args.out.now.output (state_of c.give_b.new.self) c.give_b.new.out.output) line
           (rw c.in-No.is at c.in_ok-give_b-in-Some.ensures.gives shape rule limit stage a stands waits placed);
     }))
 

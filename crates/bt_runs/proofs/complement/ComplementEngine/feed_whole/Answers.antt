@@ -26,7 +26,7 @@ returns-in-Err-clause-feeds g c =
     let was : complementing_at table limit c.in-Some.first ≡ c.args.self.now =
     ap₂ (λ (o : Option GapPlace) (failure : Option Failure). shown table limit o (option_map fault_of failure)) (sym c.in-Some.is) (sym none) ∙ c.self.view_is in
     let new = shown table limit c.self.inside.current (Some write_failed) in
-    subst (λ (old : Complementing). FailsAtGiven may_take stands_after kept_fault settled_lines is_quiet old c.args.records.now c.args.out.now c.in-Err.fault new c.cover_whole.new.records c.cover_whole.new.out)
+    subst (λ (old : Complementing). FailsAtGiven may_take stands_after kept_fault settled_lines is_quiet old c.args.records.now c.args.out.now.output c.in-Err.fault new c.cover_whole.new.records c.cover_whole.new.out.output)
     was ((c.in-Err.ensures limit).fails new refl)
 
 pub returns-in-Err-clause-memory : goal.returns-in-Err-clause-memory

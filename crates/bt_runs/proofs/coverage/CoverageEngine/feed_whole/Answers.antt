@@ -24,7 +24,7 @@ returns-in-Err-clause-memory g c =
     let was : covering_at table c.self.inside.zeros c.self.inside.strand c.in-Some.first c.self.inside.held ≡ c.args.self.now =
     ap₂ (λ (o : Option DepthPlace) (failure : Option Failure). shown table c.self.inside.zeros c.self.inside.strand o c.self.inside.held (option_map fault_of failure)) (sym c.in-Some.is) (sym none) ∙ c.self.view_is in
     let new = shown table c.self.inside.zeros c.self.inside.strand c.self.inside.current c.count_whole.new.held (Some (fault_of c.in-Err.failure)) in
-    subst (λ (old : Covering). FailsWhere may_take stands_after kept_fault settled_lines is_quiet old c.args.records.now c.args.out.now {A = Unit {0}} IsForRecord (Err c.fault.result) new c.count_whole.new.records c.count_whole.new.out)
+    subst (λ (old : Covering). FailsWhere may_take stands_after kept_fault settled_lines is_quiet old c.args.records.now c.args.out.now.output {A = Unit {0}} IsForRecord (Err c.fault.result) new c.count_whole.new.records c.count_whole.new.out.output)
     was (c.in-Err.ensures.fails c.fault.result new c.fault.ensures refl)
 
 pub returns-in-Err-clause-feeds : goal.returns-in-Err-clause-feeds

@@ -10,12 +10,12 @@ pub returns-in-None : goal.returns-in-None
 returns-in-None g c =
     let going = ap (λ m. m.fault) (sym c.self.view_is) ∙ ap (option_map fault_of) c.in_default.is in
     let none = ap (λ m. m.kept) (sym c.self.view_is) ∙ ap (λ run. option_to_list (option_map (run_at c.self.inside.chrom.items) run)) c.in-None.is in
-    finishes_kept c.args.self going c.args.out.now [] (Ok tt) _ none (grown_none c.args.out.now)
+    finishes_kept c.args.self going c.args.out.now.output [] (Ok tt) _ none (grown_none c.args.out.now.output)
 
 pub returns : goal.returns
 returns g c =
     let going = ap (λ m. m.fault) (sym c.self.view_is) ∙ ap (option_map fault_of) c.in_default.is in
     let run = run_at c.as_slice.result.now c.in-Some-run.run' in
     let one = ap (λ m. m.kept) (sym c.self.view_is) ∙ ap (λ run. option_to_list (option_map (run_at c.self.inside.chrom.items) run)) c.in-Some-run.is ∙ ap (λ name. run_at name c.in-Some-run.run' ∷ []) (sym c.as_slice.ensures.value) in
-    finishes_kept c.args.self going c.args.out.now (run ∷ []) c.put_interval.result c.put_interval.new.out one
-    (adds_line run c.args.out.now c.put_interval.new.out c.put_interval.result c.put_interval.ensures)
+    finishes_kept c.args.self going c.args.out.now.output (run ∷ []) c.put_interval.result c.put_interval.new.out.output one
+    (adds_line run c.args.out.now.output c.put_interval.new.out.output c.put_interval.result c.put_interval.ensures)

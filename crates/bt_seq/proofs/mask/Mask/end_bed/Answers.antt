@@ -7,10 +7,10 @@ use Rattle.bt_seq.specs.MaskState.{Masking}
 pub returns-clause-waits : goal.returns-clause-waits
 returns-clause-waits g c = λ how full stage waiting stands is.
     let at : MaskStandsAt how full stage c.self.inside.state = subst (λ (m : Masking). MaskStandsAt how full stage m) (sym c.self.view_is) stands in
-    ends_bed how full stage waiting is c.self.inside.state at c.end_bed.result c.args.out.now c.end_bed.new.self c.end_bed.new.out
+    ends_bed how full stage waiting is c.self.inside.state at c.end_bed.result c.args.out.now.output c.end_bed.new.self c.end_bed.new.out.output
     (c.end_bed.ensures.waits (kept_line waiting) (kept_is how full stage waiting is c.self.inside.state at))
 
 pub returns-clause-stops : goal.returns-clause-stops
 returns-clause-stops g c =
-    stops_end (record c.self.inside.state { bed_ended = true }) c.end_bed.new.self c.args.out.now c.end_bed.new.out c.end_bed.result c.self.inside.state.waiting
+    stops_end (record c.self.inside.state { bed_ended = true }) c.end_bed.new.self c.args.out.now.output c.end_bed.new.out.output c.end_bed.result c.self.inside.state.waiting
     c.end_bed.ensures.waits (λ none. (c.end_bed.ensures.none_waits none).0)

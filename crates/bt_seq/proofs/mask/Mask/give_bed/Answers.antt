@@ -10,12 +10,12 @@ pub returns-then-waits-clause-waits : goal.returns-then-waits-clause-waits
 returns-then-waits-clause-waits g c = λ how full stage waiting stands is next.
     let at : MaskStandsAt how full stage c.self.inside.state = subst (λ (m : Masking). MaskStandsAt how full stage m) (sym c.self.view_is) stands in
     gives_bed how full stage waiting is c.self.inside.state at (feature_lent c.args.bed.now) c.args.bed.now.non_empty c.args.bed.now.in_range next
-    c.args.out.now c.take_bed.new.self c.take_bed.new.out c.take_bed.result
+    c.args.out.now.output c.take_bed.new.self c.take_bed.new.out.output c.take_bed.result
     (c.take_bed.ensures (kept_line waiting) (kept_is how full stage waiting is c.self.inside.state at))
 
 pub returns-then-waits-clause-stops : goal.returns-then-waits-clause-stops
 returns-then-waits-clause-stops g c =
-    stops_bed c.self.inside.state c.take_bed.new.self (feature_lent c.args.bed.now) c.args.out.now c.take_bed.new.out c.take_bed.result c.self.inside.state.waiting
+    stops_bed c.self.inside.state c.take_bed.new.self (feature_lent c.args.bed.now) c.args.out.now.output c.take_bed.new.out.output c.take_bed.result c.self.inside.state.waiting
     (sym c.waits.ensures ∙ c.if-waits.true) c.take_bed.ensures
 
 pub returns-in_err-check_bed-clause-none_waits : goal.returns-in_err-check_bed-clause-none_waits
@@ -25,11 +25,11 @@ returns-in_err-check_bed-clause-none_waits g c = λ how full stage stands none n
     rw (p.1, p.2) (
       c.in_err-check_bed.ensures.2,
       lacks_sequence how full stage none c.self.inside.state at (ap (λ (m : Masking). m.want) c.self.view_is ∙ c.requires) (feature_lent c.args.bed.now) c.args.bed.now.in_range next
-          c.args.line c.args.out.now c.in_err-check_bed.field-0.0 c.in_err-check_bed.ensures.0 c.in_err-check_bed.ensures.1,
+          c.args.line c.args.out.now.output c.in_err-check_bed.field-0.0 c.in_err-check_bed.ensures.0 c.in_err-check_bed.ensures.1,
     )
 
 pub returns-clause-none_waits : goal.returns-clause-none_waits
 returns-clause-none_waits g c = λ how full stage stands none next.
     let at : MaskStandsAt how full stage c.self.inside.state = subst (λ (m : Masking). MaskStandsAt how full stage m) (sym c.self.view_is) stands in
     checks_bed how full stage none c.self.inside.state at (ap (λ (m : Masking). m.want) c.self.view_is ∙ c.requires) (feature_lent c.args.bed.now) c.args.bed.now.in_range next
-    c.args.line c.args.out.now c.check_bed.new.self c.in_ok-check_bed.ensures.0 c.in_ok-check_bed.ensures.1
+    c.args.line c.args.out.now.output c.check_bed.new.self c.in_ok-check_bed.ensures.0 c.in_ok-check_bed.ensures.1

@@ -8,4 +8,4 @@ use Rattle.bt_seq.specs.MaskState.{Masking}
 pub returns-clause-gives : goal.returns-clause-gives
 returns-clause-gives g c = λ how full stage stands.
     gives_line how full stage c.self.inside.state (subst (λ (m : Masking). MaskStandsAt how full stage m) (sym c.self.view_is) stands)
-    (ap (λ (m : Masking). m.want) c.self.view_is ∙ c.requires) (line_seen c.args.line.now) c.args.out.now c.take_line.new.self c.take_line.new.out c.take_line.result c.take_line.ensures
+    (ap (λ (m : Masking). m.want) c.self.view_is ∙ c.requires) (line_seen c.args.line.now) c.args.out.now.output c.take_line.new.self c.take_line.new.out.output c.take_line.result c.take_line.ensures

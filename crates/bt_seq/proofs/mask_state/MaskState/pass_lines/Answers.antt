@@ -40,6 +40,6 @@ returns g c =
     subst (λ (w : WholeLines). w.at < last.lines.at) (sym c.new-passing.ensures.lines) (held.some c.if-not-hold_passed.false) in (
       p.0,
       passes,
-      rw (← c.self.view_is) (passes_some to p.0 first last old c.stand_at.new.self c.args.out.now c.hold_passed.new.out at named known c.stand_at.ensures p.1 some
+      rw (← c.self.view_is) (passes_some to p.0 first last old c.stand_at.new.self c.args.out.now.output c.hold_passed.new.out.output at named known c.stand_at.ensures p.1 some
           (held.held c.if-not-hold_passed.false p.0 passes) held.untaken),
     )

@@ -6,7 +6,7 @@ use Rattle.bt_sweep.proofs.state.State.write.Goals as goal
 
 pub returns-then-len-eq0-clause-writes : goal.returns-then-len-eq0-clause-writes
 returns-then-len-eq0-clause-writes g c = λ a is rises.
-    writes_none _ c.args.self.now a c.args.out.now c.self.view_is (c.needs_hit.ensures c.if-needs_hit.true) (sym c.len.ensures ∙ c.if-len-eq0.true)
+    writes_none _ c.args.self.now a c.args.out.now.output c.self.view_is (c.needs_hit.ensures c.if-needs_hit.true) (sym c.len.ensures ∙ c.if-len-eq0.true)
 
 pub returns-then-is_err-clause-writes : goal.returns-then-is_err-clause-writes
 returns-then-is_err-clause-writes g c = λ a is rises.

@@ -18,5 +18,5 @@ given order old from out (Err fault) new to grown is = (is.firsts ++ is.a ∷ []
 
 pub pass-requires : goal.pass-requires
 pass-requires g c =
-    let gives = given (order_of c.args.sweep.now) (state_of c.args.sweep.now) c.in-Some.whole c.args.out.now c.write_whole-is_any.result (state_of c.write_whole-is_any.new.self) c.write_whole-is_any.new.records c.write_whole-is_any.new.out c.write_whole-is_any.ensures.writes in
+    let gives = given (order_of c.args.sweep.now) (state_of c.args.sweep.now) c.in-Some.whole c.args.out.now.output c.write_whole-is_any.result (state_of c.write_whole-is_any.new.self) c.write_whole-is_any.new.records c.write_whole-is_any.new.out.output c.write_whole-is_any.ensures.writes in
     (gives.0, record { first = c.in-Some.whole; last = c.write_whole-is_any.new.records; lent = c.in-Some.ensures; gives = gives.1; is = c.passed-passed.ensures })
