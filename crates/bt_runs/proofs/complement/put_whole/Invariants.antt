@@ -7,4 +7,4 @@ use Rattle.bt_runs.proofs.complement.put_whole.Given as goal
 
 -- the chromosomes so far were written
 abbrev pub invariant-loop-rank : goal.invariant-loop-rank
-invariant-loop-rank g l = Grown l.fn.out (interval_lines (flat_map whole_of (slice_range (entries l.genome) l.first l.rank))) l.out
+invariant-loop-rank g l = Grown l.fn.out.output (interval_lines (flat_map whole_of (slice_range (entries l.genome) l.first l.rank))) l.out.output

@@ -14,7 +14,7 @@ invariant-loop-position g l = record {
   here : l.held.at ≤ l.position;
   left : All (λ s. l.position ≤ s.stop) l.held.spans;
   open_here : still_open l.position l.held.spans ≡ still_open l.position l.fn.held.spans;
-  puts : Grown l.fn.out (depth_lines (levels_on l.chrom (ended_after (depth_of l.zeros l.fn.held.spans) l.fn.held.at (l.position - l.fn.held.at) (begun_seen l.fn.begun)))) l.out;
+  puts : Grown l.fn.out.output (depth_lines (levels_on l.chrom (ended_after (depth_of l.zeros l.fn.held.spans) l.fn.held.at (l.position - l.fn.held.at) (begun_seen l.fn.begun)))) l.out.output;
   begun : begun_seen l.begun ≡ begun_after (depth_of l.zeros l.fn.held.spans) l.fn.held.at (l.position - l.fn.held.at) (begun_seen l.fn.begun);
 }
 

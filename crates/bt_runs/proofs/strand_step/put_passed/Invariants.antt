@@ -9,7 +9,7 @@ use Rattle.bt_runs.proofs.strand_step.put_passed.Given as goal
 abbrev pub invariant-loop-run : goal.invariant-loop-run
 invariant-loop-run g l = record {
   written : Written l.here l.reach l.fn.runs l.runs;
-  puts : Grown l.fn.out (strand_lines (placed_runs l.chrom written.done)) l.out;
+  puts : Grown l.fn.out.output (strand_lines (placed_runs l.chrom written.done)) l.out.output;
 }
 
 abbrev pub decreases-loop-run : goal.decreases-loop-run

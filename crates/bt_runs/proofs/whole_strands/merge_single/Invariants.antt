@@ -4,7 +4,7 @@ use Rattle.bt_runs.proofs.EachTaken.{bytes_ahead}
 use Rattle.bt_runs.proofs.whole_strands.merge_single.Given as goal
 
 abbrev pub invariant-loop-bed : goal.invariant-loop-bed
-invariant-loop-bed g l = StrandsTaken l.fn.gap (l.fn.first ∷ []) l.fn.records l.fn.out (l.run ∷ []) l.whole l.out
+invariant-loop-bed g l = StrandsTaken l.fn.gap (l.fn.first ∷ []) l.fn.records l.fn.out.output (l.run ∷ []) l.whole l.out.output
 
 abbrev pub decreases-loop-bed : goal.decreases-loop-bed
 decreases-loop-bed g l = bytes_ahead l.whole

@@ -20,7 +20,7 @@ pub returns-then-count-gt0-clause-held : goal.returns-then-count-gt0-clause-held
 returns-then-count-gt0-clause-held g c = λ e texts p.
     let counts : c.passed.result.bytes - c.passed-2.result.bytes ≡ c.args.to.at - c.args.from.at =
     omega (arith, passed_count c.args.from c.passed-2.result c.passed-2.ensures, passed_count c.args.to c.passed.result c.passed.ensures) in
-    subst (λ (l : List ℕ). PutsAll c.args.out.now.output l c.hold_both.new.self)
+    subst (λ (l : List ℕ). PutsAll c.args.out.now.output l c.hold_both.new.self.output)
     (taken_between c.args.from c.args.to texts p (c.passed.result.bytes - c.passed-2.result.bytes) c.rest.result.now counts c.rest.ensures).0
     (c.hold_both.ensures.held e)
 

@@ -9,5 +9,5 @@ use Rattle.bt_sweep.proofs.pieces.put_pieces.Given as goal
 abbrev pub invariant-loop-index : goal.invariant-loop-index
 invariant-loop-index g l = record {
   reached : l.free ≡ free_after l.a.start (hits_among l.rule (feature_lent l.a) (take l.index (take l.count (g.H.Held.records l.held))));
-  put : Grown l.fn.out (lines_before (feature_lent l.a) l.a.start (hits_among l.rule (feature_lent l.a) (take l.index (take l.count (g.H.Held.records l.held))))) l.out;
+  put : Grown l.fn.out.output (lines_before (feature_lent l.a) l.a.start (hits_among l.rule (feature_lent l.a) (take l.index (take l.count (g.H.Held.records l.held))))) l.out.output;
 }

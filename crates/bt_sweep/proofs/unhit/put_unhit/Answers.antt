@@ -14,10 +14,10 @@ returns-in-Nothing-clause-puts g c = λ e records known.
 
 pub returns-in-Itself-clause-puts : goal.returns-in-Itself-clause-puts
 returns-in-Itself-clause-puts g c = λ e records known.
-    subst (λ u. PutsUnhit u records c.args.out.now.output c.hold_both.new.self) (sym c.in-Itself.is)
-    (puts_themselves c.args.lines.now c.args.out.now.output c.hold_both.new.self records (eqb-false (length c.args.lines.now) 0 (sym c.is_empty.ensures ∙ c.if-is_empty.false)) (subst (λ u. AreKnown u c.args.lines.now records) c.in-Itself.is known) (c.hold_both.ensures.held e) c.hold_both.ensures.untaken)
+    subst (λ u. PutsUnhit u records c.args.out.now.output c.hold_both.new.self.output) (sym c.in-Itself.is)
+    (puts_themselves c.args.lines.now c.args.out.now.output c.hold_both.new.self.output records (eqb-false (length c.args.lines.now) 0 (sym c.is_empty.ensures ∙ c.if-is_empty.false)) (subst (λ u. AreKnown u c.args.lines.now records) c.in-Itself.is known) (c.hold_both.ensures.held e) c.hold_both.ensures.untaken)
 
 pub returns-in-Counted-clause-puts : goal.returns-in-Counted-clause-puts
 returns-in-Counted-clause-puts g c = λ e records known.
-    subst (λ u. PutsUnhit u records c.args.out.now.output c.hold_lines.new.self) (sym c.in-Counted.is)
-    (puts_counted c.args.lines.now c.args.out.now.output c.hold_lines.new.self records (eqb-false (length c.args.lines.now) 0 (sym c.is_empty.ensures ∙ c.if-is_empty.false)) (subst (λ u. AreKnown u c.args.lines.now records) c.in-Counted.is known) (c.hold_lines.ensures.held e) c.hold_lines.ensures.untaken)
+    subst (λ u. PutsUnhit u records c.args.out.now.output c.hold_lines.new.self.output) (sym c.in-Counted.is)
+    (puts_counted c.args.lines.now c.args.out.now.output c.hold_lines.new.self.output records (eqb-false (length c.args.lines.now) 0 (sym c.is_empty.ensures ∙ c.if-is_empty.false)) (subst (λ u. AreKnown u c.args.lines.now records) c.in-Counted.is known) (c.hold_lines.ensures.held e) c.hold_lines.ensures.untaken)

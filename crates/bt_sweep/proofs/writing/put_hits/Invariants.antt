@@ -7,4 +7,4 @@ use Rattle.bt_sweep.proofs.writing.put_hits.Given as goal
 
 -- the lines of those so far were put
 abbrev pub invariant-loop-index : goal.invariant-loop-index
-invariant-loop-index g l = Grown l.fn.out (flat_map (hit_line l.shape (feature_lent l.a.bed)) (hits_among l.rule (feature_lent l.a.bed) (take l.index (take l.count (g.H.Held.records l.held))))) l.out
+invariant-loop-index g l = Grown l.fn.out.output (flat_map (hit_line l.shape (feature_lent l.a.bed)) (hits_among l.rule (feature_lent l.a.bed) (take l.index (take l.count (g.H.Held.records l.held))))) l.out.output

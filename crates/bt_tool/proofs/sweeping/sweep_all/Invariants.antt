@@ -10,7 +10,7 @@ use Rattle.bt_tool.proofs.sweeping.sweep_all.Given as goal
 abbrev pub invariant-loop-first_pace : goal.invariant-loop-first_pace
 invariant-loop-first_pace g l =
     Sweeps g.A.Source.left g.A.Source.has_failed g.A.Source.end_told g.B.Source.left g.B.Source.has_failed g.B.Source.end_told (order_in l.initial.first)
-    (state_of l.initial.sweep).shape (state_of l.initial.sweep).rule (state_of l.initial.sweep).limit l.initial.first l.initial.second l.initial.out l.first l.second (state_of l.sweep) l.out
+    (state_of l.initial.sweep).shape (state_of l.initial.sweep).rule (state_of l.initial.sweep).limit l.initial.first l.initial.second l.initial.out.output l.first l.second (state_of l.sweep) l.out.output
     × (order_of l.sweep ≡ order_in l.initial.first) × HasRead g.A.Source.is_read (below l.initial.first) (below l.first) × HasRead g.B.Source.is_read (below l.initial.second) (below l.second)
 
 abbrev pub decreases-loop-first_pace : goal.decreases-loop-first_pace
