@@ -4,8 +4,8 @@
     docs/completions.py            sees that completions/ has what would be made
     docs/completions.py --write    writes it
 
-The commands, their options and what each asks for stand in COMMANDS.md alone: of a text the part before the first
-semicolon or, where that is long, before the first colon is taken. `make install` puts its NAME into the files. Ends
+The commands, their options and what each does are in COMMANDS.md alone. Of the second column of its tables the part
+before the first semicolon is taken or, where that is long, the part before the first colon. `make install` puts its NAME into the files. Ends
 with 1 where a file differs.
 """
 
@@ -42,11 +42,11 @@ def purpose(section):
 
 
 def options(section):
-    """The options of a command: the word, its value or nothing, and what it asks for."""
+    """The options of a command: the word, its value or nothing, and what it does."""
     found = []
     table = section.split("\n| option |", 1)[1].split("\n\n", 1)[0]
     for line in table.splitlines()[2:]:
-        words, text = line.strip("| ").split(" | ", 1)
+        words, text = line.strip("| ").split(" | ")[:2]
         for word in re.findall(r"`([^`]*)`", words):
             option, _, value = word.partition(" ")
             if option not in [known for known, _, _ in found]:
