@@ -5,9 +5,9 @@
 
 A trial is one command line for each program, in a folder with the files below, and what each has to answer:
 standard output and exit status, and for ours standard error too. A row of a table has a trial of its name, and
-each trial has a row. Each option that bedtools names in the help text of a command has a row in RECIPES.md, and the
-program knows it where that row begins with `the same`. Ends with 1 where one differs, and with 0 and a word where
-there is no such bedtools.
+each trial has a row. Each option that bedtools names in the help text of a command has a row in OPTIONS.md, and the
+program takes it if and only if the second column of that row is `yes`. Ends with 1 if one differs, and with 0 and a
+word if there is no such bedtools.
 """
 
 import base64
@@ -359,27 +359,28 @@ def their_options(theirs, command):
 
 
 def rows_of_options(page, command):
-    """What the table of a command says of each option."""
+    """The rows of the table of a command, each as its option and whether it is taken: `yes` or `no`."""
     section = page.split(f"\n## {command}\n", 1)[1].split("\n## ", 1)[0]
-    rows = {}
+    rows = []
     for line in section.splitlines():
         if line.startswith("| `-"):
-            options, what = line.strip("| ").split(" | ", 1)
-            rows.update((option, what) for option in re.findall(r"`(-\w+)`", options))
+            options, taken, _ = line.strip("| ").split(" | ", 2)
+            rows += [(option, taken) for option in re.findall(r"`(-\w+)`", options)]
     return rows
 
 
 def options_differ(theirs, command, folder):
-    """How many options of bedtools have no row, or one that isn't true of the program."""
-    rows = rows_of_options((HERE / "RECIPES.md").read_text(encoding="utf-8"), command)
-    named = their_options(theirs, command)
-    for option in sorted(named - set(rows)):
-        print(f"RECIPES.md: no row for {option} of {command}")
-    wrong = len(named - set(rows))
-    for option, what in rows.items():
+    """How many options of bedtools have no row or two, or one that isn't true of the program."""
+    rows = rows_of_options((HERE / "OPTIONS.md").read_text(encoding="utf-8"), command)
+    rowed = [option for option, _ in rows]
+    amiss = sorted({option for option in their_options(theirs, command) | set(rowed) if rowed.count(option) != 1})
+    for option in amiss:
+        print(f"OPTIONS.md: {rowed.count(option)} rows for {option} of {command}")
+    wrong = len(amiss)
+    for option, taken in rows:
         unknown = ran(OURS, f"{command} {option}", folder)[1] == f"bedtools: unknown option: {option}\n"
-        if unknown == what.startswith("the same"):
-            print(f"RECIPES.md: {option} of {command} is {'unknown' if unknown else 'known'}, and its row says: {what}")
+        if taken != ("no" if unknown else "yes"):
+            print(f"OPTIONS.md: {option} of {command} is {'unknown' if unknown else 'known'}, and its row says: {taken}")
             wrong += 1
     return wrong
 
