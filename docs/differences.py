@@ -5,7 +5,7 @@
 
 A trial is one command line for each program, in a folder with the files below, and what each has to answer:
 standard output and exit status, and for ours standard error too. A row of a table has a trial of its name, and
-each trial has a row. Each option that bedtools names in the help text of a command has a row in OPTIONS.md, and the
+each trial has a row. What other pages say of bedtools is tried with bedtools alone. Each option that bedtools names in the help text of a command has a row in OPTIONS.md, and the
 program takes it if and only if the second column of that row is `yes`. Ends with 1 if one differs, and with 0 and a
 word if there is no such bedtools.
 """
@@ -77,6 +77,11 @@ FILES = {
     "no_header.sam": "r004\t0\tref\t16\t30\t6M14N5M\t*\t0\t0\tATAGCTTCAGC\t*\n",
     "two_skips.sam": "@SQ\tSN:ref\tLN:45\nr1\t0\tref\t13\t30\t2M3N2N3M\t*\t0\t0\tACGTA\t*\n",
     "at_zero.sam": "r1\t0\tref\t0\t30\t4M\t*\t0\t0\tACGT\t*\n",
+    "tagged.sam": "@SQ\tSN:ref\tLN:45\nr004\t0\tref\t16\t30\t6M14N5M\t*\t0\t0\tATAGCTTCAGC\t*\tAS:i:-3\n",
+    "commented.bed": "# by hand\nchr1\t2\t6\n",
+    "numeric.vcf": "##fileformat=VCFv4.2\nchr1\t5\t120\tA\tG\t.\tPASS\t.\n",
+    "odd.bed": "chr1\t0\t33554433\n",
+    "nearly_half.bed": "chr1\t0\t16777216\n",
     "soft.sam": "@SQ\tSN:ref\tLN:45\nr1\t0\tref\t5\t30\t4S\t*\t0\t0\tACGT\t*\n",
 }
 
@@ -307,6 +312,15 @@ TRIALS += [
           "maskfasta -fi two.fa -bed at_five.bed", "", "bedtools maskfasta: at_five.bed:1: start is not below end\n", 1),
 ]
 
+# What other pages say of bedtools: the page and the subject, a command line, its output and status.
+SAID = [
+    ("ERRORS.md: sort -g and an unknown chromosome", "sort -g g.txt -i unknown.bed", "", 1),
+    ("ERRORS.md: sort -g and header lines", "sort -g g.txt -i commented.bed", "chr1\t2\t6\n", 0),
+    ("COMMANDS.md: VCF with a number as ID", "merge -i numeric.vcf", "chr1\t4\t5\n", 0),
+    ("COMMANDS.md: a fraction of many bases", "intersect -a odd.bed -b nearly_half.bed -f 0.5", "chr1\t0\t16777216\n", 0),
+    ("RECIPES.md: a tag below zero", "bamtobed -tag AS -i tagged.sam", "ref\t15\t40\tr004\t4294967293\t+\n", 0),
+]
+
 COMMANDS = ("merge", "complement", "intersect", "subtract", "genomecov", "bamtobed", "maskfasta")
 # An option in a help text: at the begin of a line behind a tab, or behind `[OPTIONS]`.
 NAMED = re.compile(r"^\t(-\w+)", re.MULTILINE)
@@ -339,6 +353,15 @@ def differs(trial, theirs, folder):
         if wanted != got:
             print(f"{trial.row}: {command}\n  wanted {wanted}\n  found  {got}")
     return found != trial.wanted
+
+
+def said_wrongly(said, theirs, folder):
+    """Whether a page says something of bedtools that isn't so."""
+    subject, command, output, status = said
+    found, _, ended = ran(theirs, command, folder)
+    if (found, ended) != (output, status):
+        print(f"{subject}: {command}\n  wanted {(output, status)}\n  found  {(found, ended)}")
+    return (found, ended) != (output, status)
 
 
 def rows_of(page):
@@ -394,12 +417,13 @@ def main():
     with tempfile.TemporaryDirectory() as folder:
         fill(folder)
         wrong += sum(differs(trial, theirs, folder) for trial in TRIALS)
+        wrong += sum(said_wrongly(said, theirs, folder) for said in SAID)
         wrong += sum(options_differ(theirs, command, folder) for command in COMMANDS)
     rows = rows_of((HERE / "DIFFERENCES.md").read_text(encoding="utf-8"))
     untried = sorted(set(rows) ^ {trial.row for trial in TRIALS})
     for row in untried:
         print(f"a row without a trial, or a trial without a row: {row}")
-    print(f"{len(TRIALS)} rows tried, {wrong} of them differ")
+    print(f"{len(TRIALS)} rows and {len(SAID)} sentences tried, {wrong} of them differ")
     return 1 if wrong or untried else 0
 
 

@@ -78,6 +78,8 @@ VARIANTS = [
     ("b.bed c.bed -c", ["-c", "-u"], ["-c", "-u"]),
     ("b.bed c.bed -c", ["-c", "-v"], ["-c", "-v"]),
     ("-names b c -wa -wb", ["-names b c", "-filenames"], ["name=$name", "name=$name.bed"]),
+    ("-names b c -wa -wb", ["-names b c ", ""], ["name=$name", "name=$(tr bc 12 <<< $name)"]),
+    ("-c 4 -o collapse", ["-c 4", "-c 5"], ["NF < 7", "NF < 8", "$7", "$8"]),
     ("-o count,sum", ["-o count", "-delim ';' -prec 6 -o count"], ['","', '";"', "%.10g", "%.6g"]),
     ("-bg -scale", ["-bg", "-bga"], ["-bg", "-bga"]),
     ("genomecov -i a.bed -g genome.txt", ["genome.txt", "genome.txt -max 3"], ["max=0", "max=3"]),
