@@ -55,12 +55,13 @@ mutants:
 	for mutants in crates/*/mutants; do mv $$mutants $$(dirname $$mutants)/must-fail; done && \
 	rt must-fail; status=$$?; rm -rf $$copy; exit $$status
 
-# The shell examples of the pages write what stands below them, the example on each crate's first page is its test,
-# each link leads somewhere, and the completions have the options of the pages.
+# The shell examples of the pages write what is below them, the example on each crate's first page is its test, each
+# link leads somewhere, the completions have the options of the pages, and no page is harder to read than before.
 check-docs: $(PROGRAM)
 	docs/examples.py
 	docs/links.py
 	docs/completions.py
+	docs/prose.py
 
 # Closed standard streams, full disks, directories: what no proof says of real files. Then want of memory, in small address
 # spaces and with each growth refused, what is allocated over many records, and random bytes.
@@ -75,8 +76,8 @@ check-program: $(PROGRAM)
 check-speed: $(PROGRAM)
 	bench/compare.py --check
 
-# The rows of docs/DIFFERENCES.md and the scripts of docs/RECIPES.md, tried with the program and with the bedtools
-# 2.30.0 on PATH.
+# The rows of docs/DIFFERENCES.md and of docs/OPTIONS.md, and the scripts of docs/RECIPES.md, tried with the program and
+# with the bedtools 2.30.0 on PATH.
 check-differences: $(PROGRAM)
 	docs/differences.py
 	docs/recipes.py

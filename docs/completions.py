@@ -4,9 +4,9 @@
     docs/completions.py            sees that completions/ has what would be made
     docs/completions.py --write    writes it
 
-The commands, their options and what each asks for stand in COMMANDS.md alone: of a text the part before the first
-semicolon or, where that is long, before the first colon is taken. `make install` puts its NAME into the files. Ends
-with 1 where a file differs.
+The commands, their options and what each does are in COMMANDS.md alone. Of the second column of its tables the part
+before the first semicolon is taken or, if that is long, the part before the first colon. `make install` puts its NAME
+into the files. Ends with 1 if a file differs, or an option has no example on that page.
 """
 
 import re
@@ -42,16 +42,24 @@ def purpose(section):
 
 
 def options(section):
-    """The options of a command: the word, its value or nothing, and what it asks for."""
+    """The options of a command: the word, its value or nothing, and what it does."""
     found = []
     table = section.split("\n| option |", 1)[1].split("\n\n", 1)[0]
     for line in table.splitlines()[2:]:
-        words, text = line.strip("| ").split(" | ", 1)
+        words, text = line.strip("| ").split(" | ")[:2]
         for word in re.findall(r"`([^`]*)`", words):
             option, _, value = word.partition(" ")
             if option not in [known for known, _, _ in found]:
                 found.append((option, "+ or -" if value in ("+", "-") else value, plain(text)))
     return found
+
+
+def without_example(commands):
+    """The options of COMMANDS.md that no example of the page has, each with its command."""
+    for command, section in commands.items():
+        examples = re.findall(rf"^    [$>] .*\b{command}\b(.*)", section, re.MULTILINE)
+        given = {word for words in examples for word in words.split()}
+        yield from (f"{command} {option}" for option, _, _ in options(section) if option not in given)
 
 
 def bash_file(commands):
@@ -136,6 +144,9 @@ def fish_quoted(text):
 
 def main():
     commands = sections()
+    bare = list(without_example(commands))
+    for option in bare:
+        print(f"docs/COMMANDS.md: no example of {option}")
     wrong = 0
     for shell, made in (("bash", bash_file), ("zsh", zsh_file), ("fish", fish_file)):
         text = "".join(f"{line}\n" for line in made(commands))
@@ -147,7 +158,7 @@ def main():
             wrong += 1
             print(f"{file.relative_to(TOP)} isn't what docs/COMMANDS.md says: docs/completions.py --write")
     print(f"3 files of completions, {wrong} of them differ")
-    return 1 if wrong else 0
+    return 1 if wrong or bare else 0
 
 
 if __name__ == "__main__":

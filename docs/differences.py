@@ -5,9 +5,9 @@
 
 A trial is one command line for each program, in a folder with the files below, and what each has to answer:
 standard output and exit status, and for ours standard error too. A row of a table has a trial of its name, and
-each trial has a row. Each option that bedtools names in the help text of a command has a row in RECIPES.md, and the
-program knows it where that row begins with `the same`. Ends with 1 where one differs, and with 0 and a word where
-there is no such bedtools.
+each trial has a row. What other pages say of bedtools is tried with bedtools alone. Each option that bedtools names in the help text of a command has a row in OPTIONS.md, and the
+program takes it if and only if the second column of that row is `yes`. Ends with 1 if one differs, and with 0 and a
+word if there is no such bedtools.
 """
 
 import base64
@@ -77,6 +77,11 @@ FILES = {
     "no_header.sam": "r004\t0\tref\t16\t30\t6M14N5M\t*\t0\t0\tATAGCTTCAGC\t*\n",
     "two_skips.sam": "@SQ\tSN:ref\tLN:45\nr1\t0\tref\t13\t30\t2M3N2N3M\t*\t0\t0\tACGTA\t*\n",
     "at_zero.sam": "r1\t0\tref\t0\t30\t4M\t*\t0\t0\tACGT\t*\n",
+    "tagged.sam": "@SQ\tSN:ref\tLN:45\nr004\t0\tref\t16\t30\t6M14N5M\t*\t0\t0\tATAGCTTCAGC\t*\tAS:i:-3\n",
+    "commented.bed": "# by hand\nchr1\t2\t6\n",
+    "numeric.vcf": "##fileformat=VCFv4.2\nchr1\t5\t120\tA\tG\t.\tPASS\t.\n",
+    "odd.bed": "chr1\t0\t33554433\n",
+    "nearly_half.bed": "chr1\t0\t16777216\n",
     "soft.sam": "@SQ\tSN:ref\tLN:45\nr1\t0\tref\t5\t30\t4S\t*\t0\t0\tACGT\t*\n",
 }
 
@@ -307,6 +312,15 @@ TRIALS += [
           "maskfasta -fi two.fa -bed at_five.bed", "", "bedtools maskfasta: at_five.bed:1: start is not below end\n", 1),
 ]
 
+# What other pages say of bedtools: the page and the subject, a command line, its output and status.
+SAID = [
+    ("ERRORS.md: sort -g and an unknown chromosome", "sort -g g.txt -i unknown.bed", "", 1),
+    ("ERRORS.md: sort -g and header lines", "sort -g g.txt -i commented.bed", "chr1\t2\t6\n", 0),
+    ("COMMANDS.md: VCF with a number as ID", "merge -i numeric.vcf", "chr1\t4\t5\n", 0),
+    ("COMMANDS.md: a fraction of many bases", "intersect -a odd.bed -b nearly_half.bed -f 0.5", "chr1\t0\t16777216\n", 0),
+    ("RECIPES.md: a tag below zero", "bamtobed -tag AS -i tagged.sam", "ref\t15\t40\tr004\t4294967293\t+\n", 0),
+]
+
 COMMANDS = ("merge", "complement", "intersect", "subtract", "genomecov", "bamtobed", "maskfasta")
 # An option in a help text: at the begin of a line behind a tab, or behind `[OPTIONS]`.
 NAMED = re.compile(r"^\t(-\w+)", re.MULTILINE)
@@ -341,6 +355,15 @@ def differs(trial, theirs, folder):
     return found != trial.wanted
 
 
+def said_wrongly(said, theirs, folder):
+    """Whether a page says something of bedtools that isn't so."""
+    subject, command, output, status = said
+    found, _, ended = ran(theirs, command, folder)
+    if (found, ended) != (output, status):
+        print(f"{subject}: {command}\n  wanted {(output, status)}\n  found  {(found, ended)}")
+    return (found, ended) != (output, status)
+
+
 def rows_of(page):
     """The rows of the tables of differences, by their first column."""
     rows, inside = [], False
@@ -359,27 +382,28 @@ def their_options(theirs, command):
 
 
 def rows_of_options(page, command):
-    """What the table of a command says of each option."""
+    """The rows of the table of a command, each as its option and whether it is taken: `yes` or `no`."""
     section = page.split(f"\n## {command}\n", 1)[1].split("\n## ", 1)[0]
-    rows = {}
+    rows = []
     for line in section.splitlines():
         if line.startswith("| `-"):
-            options, what = line.strip("| ").split(" | ", 1)
-            rows.update((option, what) for option in re.findall(r"`(-\w+)`", options))
+            options, taken, _ = line.strip("| ").split(" | ", 2)
+            rows += [(option, taken) for option in re.findall(r"`(-\w+)`", options)]
     return rows
 
 
 def options_differ(theirs, command, folder):
-    """How many options of bedtools have no row, or one that isn't true of the program."""
-    rows = rows_of_options((HERE / "RECIPES.md").read_text(encoding="utf-8"), command)
-    named = their_options(theirs, command)
-    for option in sorted(named - set(rows)):
-        print(f"RECIPES.md: no row for {option} of {command}")
-    wrong = len(named - set(rows))
-    for option, what in rows.items():
+    """How many options of bedtools have no row or two, or one that isn't true of the program."""
+    rows = rows_of_options((HERE / "OPTIONS.md").read_text(encoding="utf-8"), command)
+    rowed = [option for option, _ in rows]
+    amiss = sorted({option for option in their_options(theirs, command) | set(rowed) if rowed.count(option) != 1})
+    for option in amiss:
+        print(f"OPTIONS.md: {rowed.count(option)} rows for {option} of {command}")
+    wrong = len(amiss)
+    for option, taken in rows:
         unknown = ran(OURS, f"{command} {option}", folder)[1] == f"bedtools: unknown option: {option}\n"
-        if unknown == what.startswith("the same"):
-            print(f"RECIPES.md: {option} of {command} is {'unknown' if unknown else 'known'}, and its row says: {what}")
+        if taken != ("no" if unknown else "yes"):
+            print(f"OPTIONS.md: {option} of {command} is {'unknown' if unknown else 'known'}, and its row says: {taken}")
             wrong += 1
     return wrong
 
@@ -393,12 +417,13 @@ def main():
     with tempfile.TemporaryDirectory() as folder:
         fill(folder)
         wrong += sum(differs(trial, theirs, folder) for trial in TRIALS)
+        wrong += sum(said_wrongly(said, theirs, folder) for said in SAID)
         wrong += sum(options_differ(theirs, command, folder) for command in COMMANDS)
     rows = rows_of((HERE / "DIFFERENCES.md").read_text(encoding="utf-8"))
     untried = sorted(set(rows) ^ {trial.row for trial in TRIALS})
     for row in untried:
         print(f"a row without a trial, or a trial without a row: {row}")
-    print(f"{len(TRIALS)} rows tried, {wrong} of them differ")
+    print(f"{len(TRIALS)} rows and {len(SAID)} sentences tried, {wrong} of them differ")
     return 1 if wrong or untried else 0
 
 

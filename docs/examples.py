@@ -4,9 +4,11 @@ the example on the first page of each crate is its test.
 
     docs/examples.py [PAGE..]
 
-An example is a block, indented by four spaces or more, that begins with `$ `: each command is run by sh, in one
-folder for a page, and what it writes, standard error behind standard output, has to be what stands below it.
-Commands of blocks that begin with anything else aren't run. The first page of a crate is the comment at the head
+An example is a block, indented by four spaces or more, that begins with `$ `. A line that begins with `> ` continues
+the command above it. Each command is run by sh, in one folder for a page. What it writes, standard error after
+standard output, has to be what the page has below it. Commands of blocks that begin with anything else aren't run.
+A page whose examples call `dunekettle-bedtools` has the program under that name alone: there `bedtools` fails. On
+the other pages `bedtools` is the program. The first page of a crate is the comment at the head
 of its src/lib.rt, with the first function of src/example.rt, which is its test or is run by it; or the comment of
 its src/main.rt, with a shell example that is run in the crate's folder. The code of LIBRARY.md is that of the file
 named above it. Ends with 1 where one differs.
@@ -21,6 +23,9 @@ from pathlib import Path
 
 TOP = Path(__file__).resolve().parent.parent
 COMMAND = re.compile(r"( {4,})\$ (.*)")
+CONTINUED = "> "
+# The name under which the program is installed, and that of the original.
+INSTALLED, ORIGINAL = "dunekettle-bedtools", "bedtools"
 # The example on a crate's first page, and the first function of a file.
 FIRST_PAGE = re.compile(r"^//! ```text\n(.*?)^//! ```$", re.MULTILINE | re.DOTALL)
 # A piece of code, with the file that it is from.
@@ -29,7 +34,7 @@ FUNCTION = re.compile(r"^fn .*?^\}\n", re.MULTILINE | re.DOTALL)
 
 
 def examples_of(text):
-    """The commands of a page in order, each with its line and what it shall write."""
+    """The commands of a page in order, each with its line and what it must write."""
     found = []
     margin = None
     for number, line in enumerate(text.splitlines(), 1):
@@ -37,6 +42,8 @@ def examples_of(text):
         if command:
             margin = command[1]
             found.append((number, command[2], []))
+        elif margin is not None and line.startswith(margin + CONTINUED) and not found[-1][2]:
+            found[-1] = (found[-1][0], f"{found[-1][1]}\n{line[len(margin + CONTINUED):]}", [])
         elif margin is not None and line.startswith(margin):
             found[-1][2].append(line[len(margin) :])
         else:
@@ -44,28 +51,39 @@ def examples_of(text):
     return found
 
 
-def wrote(command, folder):
-    """What a command writes in a folder."""
-    path = f"{TOP / 'bin'}:{os.environ['PATH']}"
+def names_for(examples, folder):
+    """A folder of programs for examples: the program under the name that they call it by, and no original beside it."""
+    is_installed = any(INSTALLED in command for _, command, _ in examples)
+    os.symlink(TOP / "bin" / "bedtools", f"{folder}/{INSTALLED if is_installed else ORIGINAL}")
+    if is_installed:
+        os.symlink("/bin/false", f"{folder}/{ORIGINAL}")
+    return folder
+
+
+def wrote(command, folder, names):
+    """What a command writes in a folder, with the programs of another folder first on PATH."""
+    path = f"{names}:{os.environ['PATH']}"
     ran = subprocess.run(["sh", "-c", command], cwd=folder, env={**os.environ, "PATH": path}, stdin=subprocess.DEVNULL,
                          stdout=subprocess.PIPE, stderr=subprocess.PIPE, text=True, check=False)
     return ran.stdout + ran.stderr
 
 
 def differ(page, text, folder):
-    """Runs the examples of a page's text in a folder, and answers how many there are and how many of them differ."""
+    """Runs the examples of a page's text in a folder, and returns how many there are and how many of them differ."""
     examples = examples_of(text)
     wrong = 0
-    for number, command, wanted in examples:
-        found = wrote(command, folder).splitlines()
-        if found != wanted:
-            wrong += 1
-            print(f"{page.relative_to(TOP)}:{number}: {command}", *(f"  {line}" for line in found), sep="\n")
+    with tempfile.TemporaryDirectory() as names:
+        names_for(examples, names)
+        for number, command, wanted in examples:
+            found = wrote(command, folder, names).splitlines()
+            if found != wanted:
+                wrong += 1
+                print(f"{page.relative_to(TOP)}:{number}: {command}", *(f"  {line}" for line in found), sep="\n")
     return len(examples), wrong
 
 
 def check(page):
-    """Runs the examples of a page in a folder of its own, and answers how many there are and how many of them differ."""
+    """Runs the examples of a page in a folder of its own, and returns how many there are and how many of them differ."""
     with tempfile.TemporaryDirectory() as folder:
         os.symlink(TOP / "bin", f"{folder}/bin")
         return differ(page, page.read_text(encoding="utf-8"), folder)

@@ -34,9 +34,10 @@ VERSIONS = {
     "packaging/bioconda/meta.yaml": r"set version = \"(\d+\.\d+\.\d+)\"",
 }
 
-# How a command is called, and the pages that say it of all of them.
-SYNOPSIS = re.compile(r"^    (bedtools \w+ .*\b(?:FILE|FASTA)\b.*)$", re.MULTILINE)
-SYNOPSES = ("docs/COMMANDS.md", "README.md", "docs/ERRORS.md")
+# How a command is called, by either name of the program and on more lines where it is long, and the pages that say it
+# of all commands.
+SYNOPSIS = re.compile(r"^    (?:dunekettle-)?bedtools (\w+ .*\b(?:FILE|FASTA)\b.*(?:\n {5,}\S.*)*)$", re.MULTILINE)
+SYNOPSES = ("docs/COMMANDS.md", "README.md")
 
 # Where README.md says in how many files and lines the report is defined, and the file that names the others.
 DEFINITIONS = re.compile(r"definitions that it names: (\d+) files with some ([\d,]+) lines")
@@ -113,9 +114,14 @@ def versions():
     return found
 
 
+def synopses_of(page):
+    """How a page says that each command is called, each in one line."""
+    return [" ".join(synopsis.split()) for synopsis in SYNOPSIS.findall(page.read_text(encoding="utf-8"))]
+
+
 def synopses_differ():
     """Whether a page says otherwise than COMMANDS.md how the commands are called."""
-    first, *others = ((name, SYNOPSIS.findall((TOP / name).read_text(encoding="utf-8"))) for name in SYNOPSES)
+    first, *others = ((name, synopses_of(TOP / name)) for name in SYNOPSES)
     differ = [name for name, synopses in others if synopses != first[1] or not synopses]
     for name in differ:
         print(f"{name}: calls a command otherwise than {first[0]}")

@@ -3,13 +3,16 @@
 
     docs/recipes.py [WORD..]
 
-A recipe is an indented block of that page whose first line is a comment with a command line of bedtools. The lines
-below it are a script for the program in bin/, and have to write the same bytes. Both are run by bash over files of
-each kind below; a kind over which bedtools itself ends with an error is passed over. Where a line below the block
-begins with `Not the same over`, the kinds that it names have to differ. The recipes with the words exchanged that
-the page names, the options that are left out, and the command lines that stay as they are, are tried in the same way.
-With words, only the recipes are run whose command lines have all of them. Ends with 1 where one differs,
-and with 0 and a word where there is no such bedtools.
+A recipe is an indented block of that page whose first lines are a comment with a command line of bedtools. The lines
+below it are a script that calls the program as `dunekettle-bedtools`, and must write the same bytes. A block that
+begins with a function, or with a variable, is put before each script, as the page says. The original isn't on the
+PATH of a script: there `bedtools` fails. Both are run by bash over files of each kind below, and the scripts that use
+a genome file over files in natural order too; a kind over which bedtools itself ends with an error is skipped. If a
+line below the block begins with `Not the same over`, the kinds that it names must differ. The recipes with the words
+exchanged that the page names, the options that are left out, and the command lines that stay as they are, are tried
+in the same way; so is the block that compares the two programs, with both on PATH. With words, only the recipes are
+run whose command lines have all of them. Ends with 1 if one differs, or a script is longer or wider than a page
+should have it, and with 0 and a word if there is no such bedtools.
 """
 
 import gzip
@@ -24,11 +27,17 @@ from pathlib import Path
 
 HERE = Path(__file__).resolve().parent
 PAGE = HERE / "RECIPES.md"
-LINES = 6  # of a script, at most
+LINES, COLUMNS = 10, 80  # of a script, at most
 LENGTHS = {"chr1": 3000, "chr10": 2000, "chr2": 1500}
 KINDS = ("six columns", "CR LF", "no sign", "three columns", "twelve columns", "header lines")
+# The kind whose chromosomes have another order than that of their bytes, and what a script has that reads it.
+NATURAL = "natural order"
+BY_GENOME = re.compile(r"by_genome|-g header\.txt")
 HEADER = "# made for a trial\nbrowser position chr1:1-3000\ntrack name=trial\n"
-RECIPE = re.compile(r"(?:^    # (bedtools .*|samtools .*)\n)((?:^    .*\n)+)(?:\n*Not the same over ([^:\n]*):)?", re.MULTILINE)
+BLOCK = re.compile(r"((?:^    .*\n)+)(?:\n*Not the same over ([^:\n]*):)?", re.MULTILINE)
+# The first line of a block of functions, and that of the block that compares both programs.
+FUNCTION = re.compile(r"\w+(?:\(\) \{|=')")
+BOTH = "bedtools "
 
 # Command lines that write the same bytes as they stand.
 SAME = [
@@ -57,11 +66,11 @@ SAME_WITH_STRANDS = [
 # Recipes with the words exchanged that the page names: words of the command line, then what is exchanged in it and in
 # the script.
 VARIANTS = [
-    ("-header -i a.bed", ["merge -header -i a.bed", "subtract -header -a a.bed -b b.bed"], ["merge -i a.bed", "subtract -a a.bed -b b.bed"]),
+    ("-header -i a.bed", ["merge -header -i a.bed", "subtract -header -a a.bed -b b.bed"], ["dunekettle-bedtools merge -i a.bed", "dunekettle-bedtools subtract -a a.bed -b b.bed"]),
     ("intersect -sorted -S -c", ["-c", "-u"], ["-c", "-u"]),
     ("intersect -sorted -S -c", ["-c", "-v -f 0.3"], ["-c", "-v -f 0.3"]),
     ("intersect -sorted -S -c", ["-c", "-wa -f 0.2 -r"], ["-c", "-wa -f 0.2 -r"]),
-    ("-f 0.2 -F 0.5 -wo", ["-wo", "-wa"], ["cut -f 7-", "cut -f 7"]),
+    ("-f 0.2 -F 0.5 -wo", ["-wo", "-wa"], ["| lines", "| cut -f 1-7 | lines"]),
     ("-F 0.5 -c", ["-c", "-v"], ['{ print $7 "\\t" hits[$4] + 0 }', "!hits[$4] { print $7 }"]),
     ("-f 0.1 -F 0.5", ["-F 0.5", "-r"], ["-f 0.1 -wo", "-f 0.1 -r -wo", "$NF / ($10 - $9) >= 0.5 {", "{"]),
     ("-f 0.1 -F 0.5", ["-f 0.1 -F 0.5", "-f 0.1 -F 0.5 -e"],
@@ -69,13 +78,17 @@ VARIANTS = [
     ("b.bed c.bed -c", ["-c", "-u"], ["-c", "-u"]),
     ("b.bed c.bed -c", ["-c", "-v"], ["-c", "-v"]),
     ("-names b c -wa -wb", ["-names b c", "-filenames"], ["name=$name", "name=$name.bed"]),
+    ("-names b c -wa -wb", ["-names b c ", ""], ["name=$name", "name=$(tr bc 12 <<< $name)"]),
+    ("-c 4 -o collapse", ["-c 4", "-c 5"], ["NF < 7", "NF < 8", "$7", "$8"]),
     ("-o count,sum", ["-o count", "-delim ';' -prec 6 -o count"], ['","', '";"', "%.10g", "%.6g"]),
     ("-bg -scale", ["-bg", "-bga"], ["-bg", "-bga"]),
-    ("-split -u", ["-u", "-v"], ["(FNR in hit)", "!(FNR in hit)"]),
+    ("genomecov -i a.bed -g genome.txt", ["genome.txt", "genome.txt -max 3"], ["max=0", "max=3"]),
+    ("-split -u", ["-u", "-v"], ["$4 in hit'", "!($4 in hit)'"]),
     ("-abam reads.bam -b b.bed | samtools", ["-abam", "-v -abam"], ["++n in hit", "!(++n in hit)"]),
     ("-abam reads.bam -b b.bed | samtools", ["-abam", "-ubam -abam"], ["samtools view -b", "samtools view -u"]),
-    ("bamtobed -i reads.bam", ["-i", "-split -i"], ["bedtools bamtobed", "bedtools bamtobed -split"]),
-    ("bamtobed -i reads.bam", ["-i", "-cigar -i"], ["bedtools bamtobed", "bedtools bamtobed -cigar"]),
+    ("bamtobed -i reads.bam", ["-i", "-split -i"], ["dunekettle-bedtools bamtobed", "dunekettle-bedtools bamtobed -split"]),
+    ("bamtobed -i reads.bam", ["-i", "-cigar -i"], ["dunekettle-bedtools bamtobed", "dunekettle-bedtools bamtobed -cigar"]),
+    ("bamtobed -ed -i", ["-ed", "-tag AS"], ["tag=NM", "tag=AS"]),
     ("bamtobed -bed12", ["-bed12", "-bed12 -color 1,2,3"], ["255,0,0", "1,2,3"]),
     ("-a genes.gff -b b.bed -u", ["-u", "-v"], ["-u |", "-v |"]),
     ("-a genes.gff -b b.bed -u", ["-u", "-wa"], ["-u |", "-wa |"]),
@@ -111,10 +124,16 @@ def record(dice, kind, chrom, start, name):
     return six
 
 
+def lengths(kind):
+    """The chromosomes with their lengths, in the order of a kind."""
+    names = sorted(LENGTHS, key=lambda name: int(name[3:])) if kind == NATURAL else LENGTHS
+    return {name: LENGTHS[name] for name in names}
+
+
 def records(dice, kind, name, count=40):
     """The lines of a file of a kind: sorted records, some of them twice, on each chromosome."""
     lines = []
-    for chrom, length in LENGTHS.items():
+    for chrom, length in lengths(kind).items():
         starts = sorted(dice.randrange(length - 90) for _ in range(count))
         for number, start in enumerate(starts):
             lines.append(record(dice, kind, chrom, start, f"{name}{number % 7}"))
@@ -130,11 +149,11 @@ def text_of(kind, lines):
     return header + "".join(line + end for line in lines)
 
 
-def alignments(dice, count=60):
+def alignments(dice, kind, count=60):
     """A SAM text, sorted: reads with introns, deletions, clips and tags, and some that aren't mapped."""
     cigars = ["30M", "10M12N8M", "12M5D9M", "4S20M", "9M2I9M", "6M3D6M20N7M1D5M", "10=2X8=", "5H10M"]
-    lines = [f"@SQ\tSN:{chrom}\tLN:{length}" for chrom, length in LENGTHS.items()]
-    for chrom, length in LENGTHS.items():
+    lines = [f"@SQ\tSN:{chrom}\tLN:{length}" for chrom, length in lengths(kind).items()]
+    for chrom, length in lengths(kind).items():
         for number, start in enumerate(sorted(dice.randrange(1, length - 90) for _ in range(count))):
             flag = dice.choice([0, 16, 99, 147, 83, 163, 256, 1040, 73, 512])
             cigar = dice.choice(cigars)
@@ -185,9 +204,9 @@ def fill(folder, kind):
             Path(folder, "genes.gff").write_text(genes(dice, lines), encoding="utf-8")
             Path(folder, "calls.vcf").write_text(calls(dice, lines), encoding="utf-8")
         Path(folder, f"{name}.bed.gz").write_bytes(gzip.compress(Path(folder, f"{name}.bed").read_bytes()))
-    Path(folder, "genome.txt").write_text("".join(f"{name}\t{size}\n" for name, size in LENGTHS.items()), encoding="utf-8")
+    Path(folder, "genome.txt").write_text("".join(f"{name}\t{size}\n" for name, size in lengths(kind).items()), encoding="utf-8")
     Path(folder, "sequences.fa").write_text(sequences(dice), encoding="utf-8")
-    Path(folder, "reads.sam").write_text(alignments(dice), encoding="utf-8")
+    Path(folder, "reads.sam").write_text(alignments(dice, kind), encoding="utf-8")
     if shutil.which("samtools"):
         for name, only in (("reads.bam", []), ("mapped.bam", ["-F", "4"])):
             subprocess.run(["samtools", "view", "-b", *only, "-o", name, "reads.sam"], cwd=folder, check=True)
@@ -201,11 +220,29 @@ def wrote(script, folder, path):
     return done.stdout, done.stderr.decode(), done.returncode
 
 
+def blocks(page):
+    """The indented blocks of the page, each as its lines and the kinds over which it isn't the same."""
+    for block, differ in BLOCK.findall(page):
+        yield [line[4:] for line in block.splitlines()], tuple(kind.strip() for kind in differ.split(",")) if differ else ()
+
+
 def recipes(page):
     """The recipes of the page: the command line, the script, and the kinds over which they differ."""
-    for command, script, differ in RECIPE.findall(page):
-        lines = [line[4:] for line in script.splitlines()]
-        yield command, lines, tuple(kind.strip() for kind in differ.split(",")) if differ else ()
+    for lines, differ in blocks(page):
+        if lines[0].startswith("# bedtools "):
+            comment = [line[2:].rstrip("\\").strip() for line in lines if line.startswith("# ")]
+            yield " ".join(comment), lines[len(comment):], differ
+
+
+def functions(page):
+    """The functions of the page, which its scripts call."""
+    return "\n".join("\n".join(lines) for lines, _ in blocks(page) if FUNCTION.match(lines[0]))
+
+
+def too_large(page):
+    """The first line of each block of the page that has too many lines or columns."""
+    return [lines[0] for lines, _ in blocks(page)
+            if sum(not line.startswith("# ") for line in lines) > LINES or max(map(len, lines)) > COLUMNS]
 
 
 def short(text):
@@ -214,12 +251,12 @@ def short(text):
 
 
 def differs(command, script, kind, wanted_same, folders):
-    """Runs a recipe over a kind of files, and answers 1 where it isn't as it was said to be, 0 where it is, and None
-    where bedtools ends with an error."""
+    """Runs a recipe over a kind of files, and returns 1 if it isn't as it was said to be, 0 if it is, and None if
+    bedtools ends with an error."""
     theirs, _, status = wrote(command, folders[kind], folders["theirs"])
     if status:
         return None
-    ours, error, status = wrote(script, folders[kind], HERE.parent / "bin")
+    ours, error, status = wrote(f"{folders['functions']}\n{script}", folders[kind], folders["ours"])
     is_same = (ours, status) == (theirs, 0)
     if is_same != wanted_same:
         print(f"{command}, over {kind}: {'differs' if wanted_same else 'is the same'}\n  bedtools:\n{short(theirs)}"
@@ -228,9 +265,10 @@ def differs(command, script, kind, wanted_same, folders):
 
 
 def tried(command, script, differ, folders):
-    """Runs a recipe over all kinds, and answers how many are wrong."""
-    answers = [differs(command, script, kind, kind not in differ, folders) for kind in KINDS]
-    if answers.count(None) == len(KINDS):
+    """Runs a recipe over all kinds, and returns how many are wrong."""
+    kinds = (*KINDS, NATURAL) if BY_GENOME.search(script) else KINDS
+    answers = [differs(command, script, kind, kind not in differ, folders) for kind in kinds]
+    if answers.count(None) == len(kinds):
         print(f"{command}: bedtools ends with an error over each kind of files")
         return 1
     return sum(answer or 0 for answer in answers)
@@ -258,15 +296,25 @@ def all_recipes():
     yield from page_recipes
     yield from variants(page_recipes)
     for theirs, ours in LEFT_OUT:
-        yield f"bedtools {theirs}", [f"bedtools {ours}"], ()
+        yield f"bedtools {theirs}", [f"dunekettle-bedtools {ours}"], ()
     for words in SAME:
-        yield f"bedtools {words}", [f"bedtools {words}"], ()
+        yield f"bedtools {words}", [f"dunekettle-bedtools {words}"], ()
     for words in SAME_WITH_STRANDS:
-        yield f"bedtools {words}", [f"bedtools {words}"], ("no sign", "three columns")
+        yield f"bedtools {words}", [f"dunekettle-bedtools {words}"], ("no sign", "three columns")
+
+
+def comparisons_differ(page, folders):
+    """Runs the block that compares both programs over each kind, and returns how many end with another status than 0."""
+    scripts = ["\n".join(lines) for lines, _ in blocks(page) if lines[0].startswith(BOTH)]
+    path = f"{folders['theirs']}:{folders['ours']}"
+    statuses = [wrote(script, folders[kind], path)[2] for script in scripts for kind in KINDS]
+    if not statuses or any(statuses):
+        print(f"the block that compares both programs: statuses {statuses}")
+    return sum(1 for status in statuses if status) or int(not statuses)
 
 
 def their_folder(folder):
-    """A folder with nothing but the bedtools on PATH, or None where it isn't the one of the page."""
+    """A folder with nothing but the bedtools on PATH, or None if it isn't the one of the page."""
     theirs = shutil.which("bedtools")
     if not theirs:
         return None
@@ -276,22 +324,32 @@ def their_folder(folder):
     return folder if "v2.30.0" in said else None
 
 
+def our_folder(folder):
+    """A folder with the program under the name that scripts call, and no original."""
+    Path(folder).mkdir()
+    Path(folder, "dunekettle-bedtools").symlink_to(HERE.parent / "bin" / "bedtools")
+    Path(folder, "bedtools").symlink_to("/bin/false")
+    return folder
+
+
 def main():
+    page = PAGE.read_text(encoding="utf-8")
     with tempfile.TemporaryDirectory() as top:
-        folders = {"theirs": their_folder(f"{top}/theirs")}
+        folders = {"theirs": their_folder(f"{top}/theirs"), "ours": our_folder(f"{top}/ours"), "functions": functions(page)}
         if not folders["theirs"] or not shutil.which("samtools"):
             print("no bedtools 2.30.0 or no samtools on PATH: no recipe was tried")
             return 0
-        for kind in KINDS:
+        for kind in (*KINDS, NATURAL):
             folders[kind] = f"{top}/{kind}"
             Path(folders[kind]).mkdir()
             fill(folders[kind], kind)
         chosen = [recipe for recipe in all_recipes() if all(word in recipe[0] for word in sys.argv[1:])]
         wrong = sum(tried(command, "\n".join(lines), differ, folders) for command, lines, differ in chosen)
-    for command, lines, _ in chosen:
-        if len(lines) > LINES:
-            wrong += 1
-            print(f"{command}: a script of {len(lines)} lines")
+        if not sys.argv[1:]:
+            wrong += comparisons_differ(page, folders)
+    for first in too_large(page):
+        wrong += 1
+        print(f"{first}: more than {LINES} lines, or wider than {COLUMNS} columns")
     print(f"{len(chosen)} recipes and command lines tried over {len(KINDS)} kinds of files, {wrong} of them differ")
     return 1 if wrong else 0
 

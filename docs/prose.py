@@ -1,0 +1,161 @@
+#!/usr/bin/env python3
+"""Counts what makes a page hard to read, and sees that no count rises above the one in prose.txt.
+
+    docs/prose.py [-v] [PAGE..]    compares each page, or these, with prose.txt; with -v it says where each count is
+    docs/prose.py --write          stores the counts that have fallen, and those of new pages
+
+Counted are paragraphs over 80 words, sentences over 30, cells of tables over 30, words of this project's dialect (with
+a plainer one for each), and, in pages that describe today, words that tell history. The pages are the Markdown files
+of the repository and the manual pages. Headings and blocks of code aren't counted, and a piece of code in a sentence
+is one word. Ends with 1 if a count has risen, a page has no row, or a row has no page.
+"""
+
+import re
+import sys
+from pathlib import Path
+
+TOP = Path(__file__).resolve().parent.parent
+STORED = TOP / "docs" / "prose.txt"
+PAGES = ("*.md", "docs/*.md", "bench/*.md", "packaging/*.md", "man/*.1")
+COUNTS = ("paragraphs", "sentences", "cells", "dialect", "history")
+PARAGRAPH, SENTENCE, CELL = 80, 30, 30
+# Pages whose subject is what changed.
+HISTORIES = ("CHANGELOG.md", "HISTORY.md")
+
+# Words of the dialect, each with a plainer one.
+DIALECT = {
+    r"\bbehind\b": "after, past",
+    r"\b(?:stands?|stood)\b(?! for)": "is, is in",
+    r"\bwants? of memory\b": "out of memory",
+    r"\btakes? no memory\b": "doesn't allocate",
+    r"\bin the place of\b": "instead of",
+    r"\b(?:is|are|be|was) told\b": "is reported",
+    r"\b(?:lends?|lent)\b": "borrows, is borrowed",
+    r"\bso many\b": "that many",
+    r"\bby (?:itself|themselves)\b": "individually, separately",
+    r"\bbut for\b": "except",
+    r"\bwithout a word\b": "silently",
+    r"\b(?:isn't|aren't) there\b": "isn't supported, doesn't exist",
+    r"\b(?:seldom|dear|dearer|dearest)\b": "rarely, expensive",
+    r"\bpassed over\b": "skipped",
+    r"\bone (?:behind|on) another\b": "concatenated, overlapping",
+    r"\ba turn\b": "at a time",
+    r"\basks? for\b": "needs, requires, means",
+    r"\bfurther\b": "more, other",
+    r"\bsome (?=\d)": "about",
+    r"\bshall\b": "must, should",
+    r"\b(?:goes over|gone over)\b": "iterates over, read again",
+    r"\blets? go of\b": "drops, clears",
+    r"\bmeans? nothing\b": "is unspecified",
+    r"\banswers whether\b": "returns true if",
+    r"\bit did\b(?=[.,])": "(say what)",
+    r"\bat hand\b": "available",
+    r"\bwholes?\b(?= (?:in|record|line))": "complete, buffered",
+    r"\bgathered\b": "collected, buffered",
+    r"\bthe registers to itself\b": "out of line, so that the hot loop stays small",
+}
+HISTORY = re.compile(r"earlier version|version of today|of today\b|another hour|one hour|[Aa]nd last|[Uu]ntil now|no longer"
+                     r"|any more|stood here|came from \d|[Tt]ried, and not kept|as before\b")
+LINK = re.compile(r"\[([^\]]*)\]\([^)]*\)")
+# A line that begins a paragraph of its own, and the end of a sentence.
+BEGINS = re.compile(r"(?:[-*] |\d+\. |\||> )")
+SENTENCE_END = re.compile(r"(?<=[.!?])\s+")
+CELL_END = re.compile(r"(?<!\\)\|")
+
+
+def pages():
+    """The pages by their names."""
+    return {str(path.relative_to(TOP)): path for pattern in PAGES for path in sorted(TOP.glob(pattern))}
+
+
+def plain(text):
+    """A text without the targets of its links, and with one word for each piece of code."""
+    return re.sub(r"`[^`]*`", "X", LINK.sub(r"\1", text))
+
+
+def paragraphs(path):
+    """The paragraphs of a page and the rows of its tables, each with its first line."""
+    is_code, begun = False, None
+    for number, line in enumerate(path.read_text(encoding="utf-8").splitlines(), 1):
+        is_fence = line.startswith("```")
+        is_code ^= is_fence
+        is_prose = line.strip() and not (is_code or is_fence or line.startswith(("    ", "#", ".", "'")))
+        if begun and (not is_prose or BEGINS.match(line)):
+            yield begun
+            begun = None
+        if is_prose:
+            begun = (begun[0], f"{begun[1]} {line.strip()}") if begun else (number, line)
+    if begun:
+        yield begun
+
+
+def found_in(path):
+    """What is counted in a page: the kind, the line and what it is."""
+    for number, text in paragraphs(path):
+        words = plain(text)
+        if text.startswith("|"):
+            for cell in CELL_END.split(LINK.sub(r"\1", text)):
+                if len(cell.split()) > CELL:
+                    yield "cells", number, f"a cell of {len(cell.split())} words"
+        else:
+            if len(words.split()) > PARAGRAPH:
+                yield "paragraphs", number, f"a paragraph of {len(words.split())} words"
+            for sentence in SENTENCE_END.split(words):
+                if len(sentence.split()) > SENTENCE:
+                    yield "sentences", number, f"a sentence of {len(sentence.split())} words: {sentence[:50]}.."
+        for word, better in DIALECT.items():
+            for match in re.finditer(word, words):
+                yield "dialect", number, f"{match[0]!r}: {better}"
+        if path.name not in HISTORIES:
+            for match in HISTORY.finditer(words):
+                yield "history", number, f"history: {match[0]!r}"
+
+
+def counts_of(path):
+    """The counts of a page, in their order."""
+    kinds = [kind for kind, _, _ in found_in(path)]
+    return tuple(kinds.count(kind) for kind in COUNTS)
+
+
+def stored():
+    """The counts of prose.txt by page."""
+    rows = [line.split() for line in STORED.read_text(encoding="utf-8").splitlines()] if STORED.exists() else []
+    return {row[0]: tuple(map(int, row[1:])) for row in rows if row and row[-1].isdigit()}
+
+
+def as_text(rows):
+    """The text of prose.txt: a row for each page, and what it adds up to."""
+    named = {name: rows[name] for name in sorted(rows)}
+    lines = [("page", *COUNTS), *((name, *counts) for name, counts in named.items())]
+    return "".join(f"{name:24}" + "".join(f"{count:>12}" for count in counts) + "\n" for name, *counts in lines)
+
+
+def risen(name, counts, before):
+    """What has risen in a page."""
+    return [f"{name}: {kind}: {count}, and {was} in prose.txt" for kind, count, was in zip(COUNTS, counts, before) if count > was]
+
+
+def main():
+    is_written = "--write" in sys.argv[1:]
+    chosen = [str(Path(name).resolve().relative_to(TOP)) for name in sys.argv[1:] if not name.startswith("-")]
+    every, before = pages(), stored()
+    now = {name: counts_of(path) for name, path in every.items() if is_written or not chosen or name in chosen}
+    if "-v" in sys.argv[1:]:
+        for name in now:
+            print("".join(f"{name}:{number}: {what}\n" for _, number, what in found_in(every[name])), end="")
+    wrong = [line for name, counts in now.items() if name in before for line in risen(name, counts, before[name])]
+    if is_written:
+        least = {name: tuple(map(min, counts, before.get(name, counts))) for name, counts in now.items()}
+        STORED.write_text(as_text(least), encoding="utf-8")
+    else:
+        wrong += [f"{name}: no row in prose.txt: docs/prose.py --write" for name in now if name not in before]
+        wrong += [f"{name}: a row in prose.txt without a page: docs/prose.py --write" for name in before if name not in every]
+    for line in wrong:
+        print(line)
+    totals = ", ".join(f"{sum(column)} {kind}" for kind, column in zip(COUNTS, zip(*now.values())))
+    print(f"{len(now)} pages: {totals}; {len(wrong)} of the counts have risen")
+    return 1 if wrong else 0
+
+
+if __name__ == "__main__":
+    sys.exit(main())
