@@ -30,5 +30,3 @@ pub mod BedStepLemmas
 pub mod PlainMaskLemmas
 pub mod ColumnEndLemmas
 pub mod ShortNumbers
-pub mod FrontTabLemmas
-pub mod FeedingLemmas

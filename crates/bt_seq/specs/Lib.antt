@@ -5,7 +5,6 @@ pub mod Alignment
 pub mod AlignmentEnd
 pub mod Sam
 pub mod GoodSam
-pub mod FrontTabs
 pub mod ColumnNumbers
 pub mod AlignmentBlocks
 pub mod Between
@@ -14,7 +13,6 @@ pub mod SamBlocks
 pub mod BedLines
 pub mod LineEnds
 pub mod BamToBedState
-pub mod FedTexts
 pub mod SamKind
 pub mod MaskHow
 pub mod Sequences

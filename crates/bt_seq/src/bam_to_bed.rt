@@ -6,14 +6,12 @@ ghost use Rattle.bt_lines.specs.Names.{told};
 ghost use Rattle.bt_lines.specs.Putting.{Adds};
 ghost use Rattle.bt_seq.specs.BedLines.{bed_lines};
 ghost use Rattle.bt_seq.specs.BamToBedState.{bed_lines_by};
-ghost use Rattle.bt_seq.specs.FedTexts.{FeedsTexts};
 ghost use Rattle.bt_seq.specs.Sam.{alignment_lent};
 
 use crate::bed_line::put_line;
-use crate::feeding::feed_all;
 use crate::sam::SamRef;
 use crate::splitting::blocks;
-use bt_lines::{Fault, Out, Sink, WholeLines, write_failed};
+use bt_lines::{Fault, Out, Sink, write_failed};
 use std::marker::Model;
 
 /// Writes alignments as BED lines, each at once: it keeps nothing of them, and takes no memory. Start
@@ -75,36 +73,10 @@ impl BamToBed {
         self.has_failed = put.is_err();
         put
     }
-
-    /// Writes the alignments of whole lines one after another, as [`BamToBed::feed`] does, and passes the lines; it
-    /// stops before a line at fault, which is left. It fails only where a write fails, at the line that was passed
-    /// last then, and answers that fault from then on.
-    pub fn feed_lines<'a, K: Sink>(
-        &mut self,
-        lines: &mut WholeLines<'a>,
-        out: &mut Out<K>,
-    ) -> Result<(), Fault>
-        ensures feeds { self.old.fault ≡ None
-            → FeedsTexts self.old.split self.old.with_cigar lines.old out.old.output result lines.new out.new.output }
-        ensures unchanged { OnOk result (self.new ≡ self.old) }
-        ensures kept { IfErr result (λ fault.
-            self.new ≡ record self.old { fault = Some (told fault) }) }
-        ensures cause { IfErr result (λ fault. told fault ≡ write_failed) }
-        ensures again { (fault : Told) → self.old.fault ≡ Some fault
-            → IsErr result × (self.new ≡ self.old) × (lines.new ≡ lines.old) × (out.new.output ≡ out.old.output) }
-    {
-        if self.has_failed {
-            return Err(write_failed());
-        }
-        let (passed, fed) = feed_all(self.split, self.with_cigar, *lines, out);
-        *lines = passed;
-        self.has_failed = fed.is_err();
-        fed
-    }
 }
 
 // Puts the line of each block of an alignment.
-pub(crate) fn put_lines<K: Sink>(
+fn put_lines<K: Sink>(
     sam: &SamRef<'_>,
     split: bool,
     with_cigar: bool,

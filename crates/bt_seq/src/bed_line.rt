@@ -24,7 +24,7 @@ const NAME_ROOM: usize = 64;
 const CIGAR_ROOM: usize = 64;
 
 // The room for what stands behind the chromosome of such a line.
-pub(crate) const LINE_ROOM: usize = BOUNDS_ROOM + NAME_ROOM + TAIL_ROOM + CIGAR_ROOM + 1;
+const LINE_ROOM: usize = BOUNDS_ROOM + NAME_ROOM + TAIL_ROOM + CIGAR_ROOM + 1;
 
 // Puts the line of the block from `start` up to `stop`: the chromosome, the bounds, the name, and what
 // stands after it.
@@ -64,7 +64,7 @@ fn put_pieces<K: Sink>(
 // Puts the line of a block by one test of the room, if name and CIGAR aren't long and there is room for the line,
 // and answers whether it did; else nothing is put. What the text holds means nothing before and after.
 #[inline(always)]
-pub(crate) fn hold_line<K: Sink>(
+fn hold_line<K: Sink>(
     sam: &SamRef<'_>,
     start: u64,
     stop: u64,

@@ -1,6 +1,6 @@
 //! The columns of an alignment's line that are looked at.
 
-ghost use Rattle.std.specs.Prelude.{◌≡◌, ◌∷◌, ◌≤◌, length, nat_le, option_map, true};
+ghost use Rattle.std.specs.Prelude.{◌≡◌, ◌≤◌, length, nat_le, option_map, true};
 ghost use Rattle.bt_lines.specs.Lines.{pieces};
 ghost use Rattle.bt_seq.specs.Alignment.{fields_of};
 ghost use Rattle.bt_seq.specs.Sam.{IsCut, fields_lent};
@@ -23,17 +23,11 @@ pub(crate) struct Fields<'a> {
 }
 
 // The columns of a text, where it has eleven at least.
+#[inline(always)]
 pub(crate) fn first_fields(text: &[u8]) -> Option<Fields<'_>>
     ensures { option_map fields_lent result ≡ fields_of (pieces 9 text.now) }
 {
     let (name, rest) = cut_short(text)?;
-    fields_behind(name, rest)
-}
-
-// The same for a text of which the name was cut off.
-pub(crate) fn fields_behind<'a>(name: &'a [u8], rest: &'a [u8]) -> Option<Fields<'a>>
-    ensures { option_map fields_lent result ≡ fields_of (name.now ∷ pieces 9 rest.now) }
-{
     let (flag, rest) = cut_short(rest)?;
     let (chrom, rest) = cut_short(rest)?;
     let (position, rest) = cut_short(rest)?;
@@ -89,7 +83,7 @@ fn has_late(text: &[u8]) -> bool
 
 // Whether a text has two columns at least. The last tab is looked for: it is mostly nearer to its end
 // than the first is to the start.
-pub(crate) fn has_tab(text: &[u8]) -> bool
+fn has_tab(text: &[u8]) -> bool
     ensures { result ≡ nat_le 2 (length (pieces 9 text.now)) }
 {
     text.rfind_byte(b'\t').is_some()
@@ -97,7 +91,7 @@ pub(crate) fn has_tab(text: &[u8]) -> bool
 
 // The first column of a text, and what stands after its tab, if it has one.
 #[inline(always)]
-pub(crate) fn cut_short(text: &[u8]) -> Option<(&[u8], &[u8])>
+fn cut_short(text: &[u8]) -> Option<(&[u8], &[u8])>
     ensures { IsCut text.now result }
 {
     let end = first_tab_by_lanes(text)?;

@@ -12,20 +12,20 @@ use crate::sam::SamRef;
 use bt_lines::{Kind, MAX_NUMBER, eight_digits, number};
 
 // The greatest FLAG, POS and MAPQ.
-pub(crate) const MAX_FLAG: u64 = 65_535;
+const MAX_FLAG: u64 = 65_535;
 
-pub(crate) const MAX_POSITION: u64 = 2_147_483_647;
+const MAX_POSITION: u64 = 2_147_483_647;
 
-pub(crate) const MAX_QUALITY: u64 = 255;
+const MAX_QUALITY: u64 = 255;
 
 // The bits of FLAG that are looked at.
 const UNMAPPED: u64 = 4;
 
-pub(crate) const REVERSE: u64 = 16;
+const REVERSE: u64 = 16;
 
-pub(crate) const FIRST: u64 = 64;
+const FIRST: u64 = 64;
 
-pub(crate) const LAST: u64 = 128;
+const LAST: u64 = 128;
 
 /// The alignment of a line's text (SAM specification, sections 1.3 and 1.4). There is none where the
 /// line is blank or a header line, which begins with `@`, and where the read is unmapped, has the
@@ -34,6 +34,7 @@ pub(crate) const LAST: u64 = 128;
 /// position above 2,147,483,647 or no number; a mapping quality above 255 or no number; a malformed
 /// CIGAR; and of an alignment that isn't left out, an end above 999,999,999,999. Leading zeros are
 /// allowed. No memory is taken, and the alignment borrows from the text.
+#[inline(always)]
 pub fn sam_line(text: &[u8]) -> Result<Option<SamRef<'_>>, Kind>
     ensures { alignment_seen result ≡ alignment_of text.now }
 {
@@ -47,13 +48,14 @@ pub fn sam_line(text: &[u8]) -> Result<Option<SamRef<'_>>, Kind>
 }
 
 // Whether a line is blank or a header line.
-pub(crate) fn is_skipped(text: &[u8]) -> bool
+fn is_skipped(text: &[u8]) -> bool
     ensures { result ≡ is_skipped text.now }
 {
     matches!(text, [] | [b'@', ..])
 }
 
 // What the columns say.
+#[inline(always)]
 fn alignment(fields: Fields<'_>) -> Result<Option<SamRef<'_>>, Kind>
     ensures { alignment_seen result ≡ fields_say (Some (fields_lent fields.entry)) }
 {
@@ -181,7 +183,7 @@ fn first_eight(text: &[u8]) -> Option<u64>
 
 // The number that a text denotes, where it is at most the limit. Most have up to three digits.
 #[inline(always)]
-pub(crate) fn number_up_to(text: &[u8], limit: u64) -> Option<u64>
+fn number_up_to(text: &[u8], limit: u64) -> Option<u64>
     ensures { result ≡ value_up_to limit text.now }
 {
     up_to(number_in(text), limit)
@@ -189,7 +191,7 @@ pub(crate) fn number_up_to(text: &[u8], limit: u64) -> Option<u64>
 
 // The number that a text denotes, where it is a position. Most have eight or nine digits.
 #[inline(always)]
-pub(crate) fn position_in(text: &[u8]) -> Option<u64>
+fn position_in(text: &[u8]) -> Option<u64>
     ensures { result ≡ value_up_to 2147483647 text.now }
 {
     up_to(long_number(text), MAX_POSITION)
@@ -205,14 +207,14 @@ fn up_to(number: Option<u64>, limit: u64) -> Option<u64>
 }
 
 // Whether the read is unmapped, has no reference name or no position, or covers no reference base.
-pub(crate) fn gives_nothing(flag: u64, chrom: &[u8], position: u64, span: u64) -> bool
+fn gives_nothing(flag: u64, chrom: &[u8], position: u64, span: u64) -> bool
     ensures { result ≡ gives_nothing flag chrom.now position span }
 {
     has_bit(flag, UNMAPPED) || matches!(chrom, b"*") || position == 0 || span == 0
 }
 
 // Whether a bit of the flag is set.
-pub(crate) fn has_bit(flag: u64, bit: u64) -> bool
+fn has_bit(flag: u64, bit: u64) -> bool
     ensures { result ≡ has_bit flag bit }
 {
     flag & bit != 0

@@ -31,23 +31,6 @@ fn tab_bits(bytes: u8x32) -> u64
     bytes.simd_eq(u8x32::splat(b'\t')).to_bitmask()
 }
 
-// The bits of the tabs among the first sixty-four bytes, the first byte's the lowest.
-#[inline(always)]
-pub(crate) fn wide_tabs(text: &[u8]) -> u64
-    requires { 64 ≤ length text.now }
-    ensures { result ≡ mask_l (map is_tab (take 64 text.now)) }
-{
-    wide_bits(u8x64::from_slice(text))
-}
-
-// The bits of the bytes that are tabs, the first byte's the lowest.
-#[inline(always)]
-fn wide_bits(bytes: u8x64) -> u64
-    ensures { result ≡ mask_l (map is_tab bytes) }
-{
-    bytes.simd_eq(u8x64::splat(b'\t')).to_bitmask()
-}
-
 // Where the first tab of a text stands. Behind the first columns of an alignment stand its bases, so
 // that mostly there are as many bytes as are looked at together, and the tab is one of these.
 #[inline(always)]

@@ -5,7 +5,6 @@ use Rattle.bt_lines.specs.Lines.{TextLine}
 use Rattle.bt_lines.specs.Names.{told}
 use Rattle.bt_lines.specs.Output.{Output}
 use Rattle.bt_lines.specs.Putting.{FailsToAdd, Grown}
-use Rattle.bt_lines.specs.Whole.{GivesPlain, GivesPlains}
 use Rattle.bt_lines.specs.declared.fault.Fault.{Fault}
 use Rattle.bt_lines.specs.declared.fault.Input.{Input}
 use Rattle.bt_lines.specs.declared.fault.Kind.{Kind}
@@ -14,7 +13,6 @@ use Rattle.bt_bed.specs.LineKind.{fault_at_line}
 use Rattle.bt_bed.specs.Reading.{MemberReader}
 use Rattle.bt_seq.specs.Alignment.{Alignment, alignment_of}
 use Rattle.bt_seq.specs.BedLines.{bed_lines, lines_if}
-use Rattle.bt_seq.specs.FedTexts.{SaidUnwritten, WritesTexts}
 use Rattle.bt_seq.specs.BamToBedState.{Converting}
 use Rattle.bt_seq.specs.GoodSam.{sam_format}
 use Rattle.bt_seq.specs.SamKind.{is_sam_kind}
@@ -65,27 +63,3 @@ ConvertsAll {S} left failed end converting old out answer new grown =
     × FeedsMembers (alignment_lines converting.split converting.with_cigar) (IsOneOf is_sam_kind)
     (λ past. ⊤) left failed end (λ past. ⊤) (sam_reader old) out answer members grown
     × IsKeptBelow members new
-
-module _ {S : Type 0} (left : S → Option (List ℕ)) (failed end : S → Bool)
-    (IsRead : S → Option ℕ → S → Type 0) (converting : Converting) (old : LineReader S)
-    (out : Output) where
-  -- lines of these texts were given, and what they say was written, one after another
-  pub record TextsWritten (new : LineReader S) (grown : Output) : Type 0 where
-    pub texts : List (List ℕ)
-    pub gives : GivesPlains left failed end IsRead old texts new
-    pub writes : WritesTexts converting.split converting.with_cigar texts out grown
-
-  -- so it was for some lines, and the alignment of the one behind them couldn't be written
-  pub record TextsUnwritten (fault : Told) (new : LineReader S) (grown : Output) : Type 0 where
-    pub now : LineReader S
-    pub between : Output
-    pub written : TextsWritten now between
-    pub text : List ℕ
-    pub next : GivesPlain left failed end IsRead now text new
-    pub fails : SaidUnwritten converting.split converting.with_cigar (alignment_of text) between
-        fault grown
-
-  -- what writing the alignments of lines that stand whole in what was read ahead does
-  abbrev pub ConvertsTexts : {T : Type 0} → Result T Fault → LineReader S → Output → Type 0
-  ConvertsTexts (Ok done) new grown = TextsWritten new grown
-  ConvertsTexts (Err fault) new grown = TextsUnwritten (told fault) new grown

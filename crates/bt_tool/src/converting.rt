@@ -1,12 +1,12 @@
 //! The loop over the alignments of a SAM input: each is written as soon as its line was read.
 
-ghost use Rattle.std.specs.Prelude.{◌≡◌, None, OnOk, option_map, true};
+ghost use Rattle.std.specs.Prelude.{◌≡◌, None, option_map};
 ghost use Rattle.bt_lines.specs.LentLine.{line_seen};
 ghost use Rattle.bt_lines.specs.Names.{told};
 ghost use Rattle.bt_lines.specs.Output.{HoldsBlock};
 ghost use Rattle.bt_lines.specs.Reader.{HasRead, fault_kept};
 ghost use Rattle.bt_tool.specs.Behaviour.{of_bamtobed};
-ghost use Rattle.bt_tool.specs.ConvertSteps.{ConvertsAll, ConvertsLine, ConvertsTexts, sam_reader};
+ghost use Rattle.bt_tool.specs.ConvertSteps.{ConvertsAll, ConvertsLine, sam_reader};
 ghost use Rattle.bt_tool.specs.Writing.{WritesAlone};
 ghost use Rattle.bt_tool.specs.Feeding.{IsFresh};
 ghost use Rattle.bt_tool.specs.Passed.{IsOwnFault};
@@ -18,6 +18,7 @@ use bt_seq::{BamToBed, sam_line};
 use std::alloc::Global;
 
 // Writes the alignment that a line says, if it says one.
+#[inline(always)]
 fn convert_line<K: Sink>(
     line: Line<'_>,
     input: Input,
@@ -37,44 +38,6 @@ fn convert_line<K: Sink>(
     }
 }
 
-// From this length on a line is read by itself.
-const LONG: usize = 2048;
-
-// Whether the next lines are likely to stand whole in what was read ahead, and to end with a line feed alone: the last
-// one did, and is no long one.
-#[inline(always)]
-fn may_convert_whole<S: Source>(lines: &LineReader<S>) -> bool
-    ensures { result ≡ true → fault_kept lines.now ≡ None }
-{
-    let Some(line) = lines.line() else {
-        return false;
-    };
-    line.text.len() < LONG && lines.may_pass()
-}
-
-// Writes the alignments of those of the next lines that stand whole in what was read ahead, up to a line at fault.
-// The line that it fails at was given too.
-#[inline(always)]
-fn convert_whole<S: Source, K: Sink>(
-    lines: &mut LineReader<S>,
-    converter: &mut BamToBed,
-    out: &mut Out<K>,
-) -> Result<(), Fault>
-    requires { converter.old.fault ≡ None }
-    ensures converts { ConvertsTexts S.left S.has_failed S.end_told S.is_read converter.old lines.old out.old.output result
-        lines.new out.new.output }
-    ensures unchanged { OnOk result (converter.new ≡ converter.old) }
-{
-    if !may_convert_whole(lines) {
-        return Ok(());
-    }
-    let mut whole = lines.whole_lines();
-    let fed = converter.feed_lines(&mut whole, out);
-    let passed = whole.passed();
-    lines.pass(passed);
-    fed
-}
-
 // Writes the alignments of all lines of a reader that has given none.
 fn convert_all<S: Source, K: Sink>(
     lines: &mut LineReader<S>,
@@ -91,7 +54,6 @@ fn convert_all<S: Source, K: Sink>(
 {
     let input = lines.input();
     loop {
-        convert_whole(lines, converter, out)?;
         match lines.next()? {
             Some(line) => convert_line(line, input, converter, out)?,
             None => return Ok(()),

@@ -1,15 +1,13 @@
-use Rattle.std.proofs.Common.{◌∙◌, ap, arith, refl, subst, suc, ⊎_elim}
+use Rattle.std.proofs.Common.{◌∙◌, ap, arith, refl, subst, ⊎_elim}
 use Rattle.bt_lines.proofs.ReadsLemmas.{has_read_then, reads_same}
 use Rattle.bt_lines.specs.LentLine.{line_seen}
 use Rattle.bt_lines.specs.Names.{told}
 use Rattle.bt_lines.specs.declared.fault.Input.{Input}
-use Rattle.bt_lines.specs.Reader.{HasRead, lines_given}
-use Rattle.bt_lines.specs.Whole.{plain_line}
+use Rattle.bt_lines.specs.Reader.{HasRead}
 use Rattle.bt_bed.proofs.ResultLemmas.{passed_on}
 use Rattle.bt_seq.specs.BamToBedState.{Converting}
 use Rattle.bt_tool.specs.ConvertSteps.{ConvertsAll, LineRefused, sam_reader}
 use Rattle.bt_tool.specs.OwnReads.{AnswersNoRead}
-use Rattle.bt_tool.proofs.ConvertedTexts.{goes_texts}
 use Rattle.bt_tool.proofs.ConvertLemmas.{converts_all, going_line, going_start, refused_no_read, stops_at_line, stops_reading, stops_writing}
 use Rattle.bt_tool.proofs.OwnFailureLemmas.{line_told_kept, own_then}
 use Rattle.bt_tool.proofs.converting.convert_all.Goals as goal
@@ -22,49 +20,15 @@ loop-lines-init g c = record {
   read = reads_same g.S.Source.is_read c.args.lines.now c.args.lines.now refl;
 }
 
-pub returns-in_err-convert_whole-clause-converts : goal.returns-in_err-convert_whole-clause-converts
-returns-in_err-convert_whole-clause-converts g c =
-    let now = c.loop-lines.invariant in
-    let first = c.args.converter.now in
-    let went = c.in_err-convert_whole.ensures.converts in
-    let ahead =
-    goes_texts g.S.Source.left g.S.Source.has_failed g.S.Source.end_told g.S.Source.is_read first.split first.with_cigar c.args.lines.now c.args.out.now.output c.loop-lines.converter (ap (λ (m : Converting). m.split) now.same) (ap (λ (m : Converting). m.with_cigar) now.same)
-    went.written.texts c.loop-lines.lines went.now c.loop-lines.out.output went.between now.going went.written.gives went.written.writes in
-    let fault = told c.in_err-convert_whole.field-0.0 in
-    passed_on (λ r. ConvertsAll g.S.Source.left g.S.Source.has_failed g.S.Source.end_told c.args.converter.now c.args.lines.now c.args.out.now.output r c.convert_whole.new.lines c.convert_whole.new.out.output) c.from_residual.result c.in_err-convert_whole.field-0.0
-    c.from_residual.ensures.1 (
-      _,
-      refl,
-      stops_writing first.split first.with_cigar _ _ _ c.args.lines.now c.args.out.now.output went.now went.between ahead.0 c.convert_whole.new.lines (plain_line (suc (lines_given went.now)) went.text) went.next.gives
-          went.next.sound c.loop-lines.converter (ap (λ (m : Converting). m.split) now.same) (ap (λ (m : Converting). m.with_cigar) now.same) fault c.convert_whole.new.out.output
-          (record { said = went.fails.said; says = went.fails.is; fails = went.fails.fails }),
-      λ input at e. e,
-    )
-
-pub returns-in_err-convert_whole-clause-reads : goal.returns-in_err-convert_whole-clause-reads
-returns-in_err-convert_whole-clause-reads g c = λ never.
-    let now = c.loop-lines.invariant in
-    let first = c.args.converter.now in
-    let went = c.in_err-convert_whole.ensures.converts in
-    let ahead =
-    goes_texts g.S.Source.left g.S.Source.has_failed g.S.Source.end_told g.S.Source.is_read first.split first.with_cigar c.args.lines.now c.args.out.now.output c.loop-lines.converter (ap (λ (m : Converting). m.split) now.same) (ap (λ (m : Converting). m.with_cigar) now.same)
-    went.written.texts c.loop-lines.lines went.now c.loop-lines.out.output went.between now.going went.written.gives went.written.writes in
-    has_read_then g.S.Source.is_read c.args.lines.now went.now c.convert_whole.new.lines (has_read_then g.S.Source.is_read c.args.lines.now c.loop-lines.lines went.now now.read ahead.1) went.next.read
-
 pub returns-in_err-line-clause-converts : goal.returns-in_err-line-clause-converts
 returns-in_err-line-clause-converts g c =
     let gives = rw c.in_err-line.was at c.next.follows.holds-at-none in
     let now = c.loop-lines.invariant in
-    let first = c.args.converter.now in
-    let went = c.in_ok-convert_whole.ensures.converts in
-    let ahead =
-    goes_texts g.S.Source.left g.S.Source.has_failed g.S.Source.end_told g.S.Source.is_read first.split first.with_cigar c.args.lines.now c.args.out.now.output c.loop-lines.converter (ap (λ (m : Converting). m.split) now.same) (ap (λ (m : Converting). m.with_cigar) now.same)
-    went.texts c.loop-lines.lines c.convert_whole.new.lines c.loop-lines.out.output c.convert_whole.new.out.output now.going went.gives went.writes in
-    passed_on (λ r. ConvertsAll g.S.Source.left g.S.Source.has_failed g.S.Source.end_told c.args.converter.now c.args.lines.now c.args.out.now.output r c.next.follows.lender-at-none c.convert_whole.new.out.output) c.from_residual-in_err-line.result c.in_err-line.field-0.0
+    passed_on (λ r. ConvertsAll g.S.Source.left g.S.Source.has_failed g.S.Source.end_told c.args.converter.now c.args.lines.now c.args.out.now.output r c.next.follows.lender-at-none c.loop-lines.out.output) c.from_residual-in_err-line.result c.in_err-line.field-0.0
     c.from_residual-in_err-line.ensures.1 (
       sam_reader c.next.follows.lender-at-none,
       refl,
-      stops_reading _ _ _ _ _ c.args.lines.now c.args.out.now.output c.convert_whole.new.lines c.convert_whole.new.out.output ahead.0 c.next.follows.lender-at-none (told c.in_err-line.field-0.0) gives.answers gives.sound,
+      stops_reading _ _ _ _ _ c.args.lines.now c.args.out.now.output c.loop-lines.lines c.loop-lines.out.output now.going c.next.follows.lender-at-none (told c.in_err-line.field-0.0) gives.answers gives.sound,
       λ input line e. e,
     )
 
@@ -72,57 +36,33 @@ pub returns-in_err-line-clause-reads : goal.returns-in_err-line-clause-reads
 returns-in_err-line-clause-reads g c =
     let gives = rw c.in_err-line.was at c.next.follows.holds-at-none in
     let now = c.loop-lines.invariant in
-    let first = c.args.converter.now in
-    let went = c.in_ok-convert_whole.ensures.converts in
-    let ahead =
-    goes_texts g.S.Source.left g.S.Source.has_failed g.S.Source.end_told g.S.Source.is_read first.split first.with_cigar c.args.lines.now c.args.out.now.output c.loop-lines.converter (ap (λ (m : Converting). m.split) now.same) (ap (λ (m : Converting). m.with_cigar) now.same)
-    went.texts c.loop-lines.lines c.convert_whole.new.lines c.loop-lines.out.output c.convert_whole.new.out.output now.going went.gives went.writes in
-    let read = has_read_then g.S.Source.is_read c.args.lines.now c.loop-lines.lines c.convert_whole.new.lines now.read ahead.1 in
     passed_on (λ r. AnswersNoRead r → HasRead g.S.Source.is_read c.args.lines.now c.next.follows.lender-at-none) c.from_residual-in_err-line.result c.in_err-line.field-0.0 c.from_residual-in_err-line.ensures.1
-    (λ never. has_read_then g.S.Source.is_read c.args.lines.now c.convert_whole.new.lines c.next.follows.lender-at-none read ((gives.own_failure (ahead.0.steps.going ahead.0.fed.passes.going)).read never))
+    (λ never. has_read_then g.S.Source.is_read c.args.lines.now c.loop-lines.lines c.next.follows.lender-at-none now.read ((gives.own_failure (now.going.steps.going now.going.fed.passes.going)).read never))
 
 pub returns-in_err-line-clause-own_failure : goal.returns-in_err-line-clause-own_failure
 returns-in_err-line-clause-own_failure g c =
     let gives = rw c.in_err-line.was at c.next.follows.holds-at-none in
     let now = c.loop-lines.invariant in
-    let first = c.args.converter.now in
-    let went = c.in_ok-convert_whole.ensures.converts in
-    let ahead =
-    goes_texts g.S.Source.left g.S.Source.has_failed g.S.Source.end_told g.S.Source.is_read first.split first.with_cigar c.args.lines.now c.args.out.now.output c.loop-lines.converter (ap (λ (m : Converting). m.split) now.same) (ap (λ (m : Converting). m.with_cigar) now.same)
-    went.texts c.loop-lines.lines c.convert_whole.new.lines c.loop-lines.out.output c.convert_whole.new.out.output now.going went.gives went.writes in
-    let read = has_read_then g.S.Source.is_read c.args.lines.now c.loop-lines.lines c.convert_whole.new.lines now.read ahead.1 in
-    own_then g.S.Source.is_read c.args.lines.now c.convert_whole.new.lines _ _ read
-    (line_told_kept g.S.Source.is_read c.convert_whole.new.lines c.next.follows.lender-at-none c.in_err-line.field-0.0 gives.answers.kept (ahead.0.steps.going ahead.0.fed.passes.going) gives.own_failure)
+    own_then g.S.Source.is_read c.args.lines.now c.loop-lines.lines _ _ now.read
+    (line_told_kept g.S.Source.is_read c.loop-lines.lines c.next.follows.lender-at-none c.in_err-line.field-0.0 gives.answers.kept (now.going.steps.going now.going.fed.passes.going) gives.own_failure)
 
 pub loop-lines-smaller : goal.loop-lines-smaller
 loop-lines-smaller g c =
     let gives = rw (c.in_ok-line.was, c.in-Some.is) at c.next.follows.holds-at-none in
-    let now = c.loop-lines.invariant in
-    let first = c.args.converter.now in
-    let went = c.in_ok-convert_whole.ensures.converts in
-    let ahead =
-    goes_texts g.S.Source.left g.S.Source.has_failed g.S.Source.end_told g.S.Source.is_read first.split first.with_cigar c.args.lines.now c.args.out.now.output c.loop-lines.converter (ap (λ (m : Converting). m.split) now.same) (ap (λ (m : Converting). m.with_cigar) now.same)
-    went.texts c.loop-lines.lines c.convert_whole.new.lines c.loop-lines.out.output c.convert_whole.new.out.output now.going went.gives went.writes in
-    omega (arith, gives.answers.shrinks, ahead.2)
+    omega (arith, gives.answers.shrinks)
 
 pub loop-lines-preserved : goal.loop-lines-preserved
 loop-lines-preserved g c =
     let gives = rw (c.in_ok-line.was, c.in-Some.is) at c.next.follows.holds-at-none in
     let now = c.loop-lines.invariant in
     let first = c.args.converter.now in
-    let went = c.in_ok-convert_whole.ensures.converts in
-    let ahead =
-    goes_texts g.S.Source.left g.S.Source.has_failed g.S.Source.end_told g.S.Source.is_read first.split first.with_cigar c.args.lines.now c.args.out.now.output c.loop-lines.converter (ap (λ (m : Converting). m.split) now.same) (ap (λ (m : Converting). m.with_cigar) now.same)
-    went.texts c.loop-lines.lines c.convert_whole.new.lines c.loop-lines.out.output c.convert_whole.new.out.output now.going went.gives went.writes in
-    let read = has_read_then g.S.Source.is_read c.args.lines.now c.loop-lines.lines c.convert_whole.new.lines now.read ahead.1 in
-    let same = c.in_ok-convert_whole.ensures.unchanged ∙ now.same in
     let written = c.in_ok-convert_line-in-Some.ensures in
     record {
-      going = going_line first.split first.with_cigar _ _ _ c.args.lines.now c.args.out.now.output c.convert_whole.new.lines c.convert_whole.new.out.output ahead.0 c.next.follows.lender-at-none (line_seen c.in-Some.line) gives.answers
-          gives.sound c.convert_whole.new.converter c.convert_line.new.converter (ap (λ (m : Converting). m.split) same) (ap (λ (m : Converting). m.with_cigar) same) c.convert_line.new.out.output written;
-      same = written.unchanged ∙ same;
+      going = going_line first.split first.with_cigar _ _ _ c.args.lines.now c.args.out.now.output c.loop-lines.lines c.loop-lines.out.output now.going c.next.follows.lender-at-none (line_seen c.in-Some.line) gives.answers
+          gives.sound c.loop-lines.converter c.convert_line.new.converter (ap (λ (m : Converting). m.split) now.same) (ap (λ (m : Converting). m.with_cigar) now.same) c.convert_line.new.out.output written;
+      same = written.unchanged ∙ now.same;
       input = now.input;
-      read = has_read_then g.S.Source.is_read c.args.lines.now c.convert_whole.new.lines c.next.follows.lender-at-none read gives.own_failure;
+      read = has_read_then g.S.Source.is_read c.args.lines.now c.loop-lines.lines c.next.follows.lender-at-none now.read gives.own_failure;
     }
 
 pub returns-in_err-convert_line-in-Some-clause-converts : goal.returns-in_err-convert_line-in-Some-clause-converts
@@ -130,11 +70,6 @@ returns-in_err-convert_line-in-Some-clause-converts g c =
     let gives = rw (c.in_ok-line.was, c.in-Some.is) at c.next.follows.holds-at-none in
     let now = c.loop-lines.invariant in
     let first = c.args.converter.now in
-    let went = c.in_ok-convert_whole.ensures.converts in
-    let ahead =
-    goes_texts g.S.Source.left g.S.Source.has_failed g.S.Source.end_told g.S.Source.is_read first.split first.with_cigar c.args.lines.now c.args.out.now.output c.loop-lines.converter (ap (λ (m : Converting). m.split) now.same) (ap (λ (m : Converting). m.with_cigar) now.same)
-    went.texts c.loop-lines.lines c.convert_whole.new.lines c.loop-lines.out.output c.convert_whole.new.out.output now.going went.gives went.writes in
-    let same = c.in_ok-convert_whole.ensures.unchanged ∙ now.same in
     let fault = told c.in_err-convert_line-in-Some.field-0.0 in
     let line = line_seen c.in-Some.line in
     passed_on (λ r. ConvertsAll g.S.Source.left g.S.Source.has_failed g.S.Source.end_told c.args.converter.now c.args.lines.now c.args.out.now.output r c.next.follows.lender-at-none c.convert_line.new.out.output) c.from_residual-in_err-convert_line-in-Some.result c.in_err-convert_line-in-Some.field-0.0
@@ -143,15 +78,15 @@ returns-in_err-convert_line-in-Some-clause-converts g c =
     (λ refused. (
       _,
       refl,
-      stops_at_line first.split first.with_cigar _ _ _ c.args.lines.now c.args.out.now.output c.convert_whole.new.lines c.convert_whole.new.out.output ahead.0 c.next.follows.lender-at-none line gives.answers
-          gives.sound fault c.convert_line.new.out.output (subst (λ (i : Input). LineRefused i line c.convert_whole.new.out.output fault c.convert_line.new.out.output) now.input refused),
+      stops_at_line first.split first.with_cigar _ _ _ c.args.lines.now c.args.out.now.output c.loop-lines.lines c.loop-lines.out.output now.going c.next.follows.lender-at-none line gives.answers
+          gives.sound fault c.convert_line.new.out.output (subst (λ (i : Input). LineRefused i line c.loop-lines.out.output fault c.convert_line.new.out.output) now.input refused),
       λ input at e. absurd (refused_no_read _ line _ fault _ refused input at e),
     ))
     (λ unwritten. (
       _,
       refl,
-      stops_writing first.split first.with_cigar _ _ _ c.args.lines.now c.args.out.now.output c.convert_whole.new.lines c.convert_whole.new.out.output ahead.0 c.next.follows.lender-at-none line gives.answers
-          gives.sound c.convert_whole.new.converter (ap (λ (m : Converting). m.split) same) (ap (λ (m : Converting). m.with_cigar) same) fault c.convert_line.new.out.output unwritten,
+      stops_writing first.split first.with_cigar _ _ _ c.args.lines.now c.args.out.now.output c.loop-lines.lines c.loop-lines.out.output now.going c.next.follows.lender-at-none line gives.answers
+          gives.sound c.loop-lines.converter (ap (λ (m : Converting). m.split) now.same) (ap (λ (m : Converting). m.with_cigar) now.same) fault c.convert_line.new.out.output unwritten,
       λ input at e. e,
     ))
     c.in_err-convert_line-in-Some.ensures)
@@ -160,26 +95,16 @@ pub returns-in_err-convert_line-in-Some-clause-reads : goal.returns-in_err-conve
 returns-in_err-convert_line-in-Some-clause-reads g c = λ never.
     let gives = rw (c.in_ok-line.was, c.in-Some.is) at c.next.follows.holds-at-none in
     let now = c.loop-lines.invariant in
-    let first = c.args.converter.now in
-    let went = c.in_ok-convert_whole.ensures.converts in
-    let ahead =
-    goes_texts g.S.Source.left g.S.Source.has_failed g.S.Source.end_told g.S.Source.is_read first.split first.with_cigar c.args.lines.now c.args.out.now.output c.loop-lines.converter (ap (λ (m : Converting). m.split) now.same) (ap (λ (m : Converting). m.with_cigar) now.same)
-    went.texts c.loop-lines.lines c.convert_whole.new.lines c.loop-lines.out.output c.convert_whole.new.out.output now.going went.gives went.writes in
-    let read = has_read_then g.S.Source.is_read c.args.lines.now c.loop-lines.lines c.convert_whole.new.lines now.read ahead.1 in
-    has_read_then g.S.Source.is_read c.args.lines.now c.convert_whole.new.lines c.next.follows.lender-at-none read gives.own_failure
+    has_read_then g.S.Source.is_read c.args.lines.now c.loop-lines.lines c.next.follows.lender-at-none now.read gives.own_failure
 
 pub returns-in-None-clause-converts : goal.returns-in-None-clause-converts
 returns-in-None-clause-converts g c =
     let gives = rw (c.in_ok-line.was, c.in-None.is) at c.next.follows.holds-at-none in
     let now = c.loop-lines.invariant in
-    let first = c.args.converter.now in
-    let went = c.in_ok-convert_whole.ensures.converts in
-    let ahead =
-    goes_texts g.S.Source.left g.S.Source.has_failed g.S.Source.end_told g.S.Source.is_read first.split first.with_cigar c.args.lines.now c.args.out.now.output c.loop-lines.converter (ap (λ (m : Converting). m.split) now.same) (ap (λ (m : Converting). m.with_cigar) now.same)
-    went.texts c.loop-lines.lines c.convert_whole.new.lines c.loop-lines.out.output c.convert_whole.new.out.output now.going went.gives went.writes in (
+    (
       sam_reader c.next.follows.lender-at-none,
       refl,
-      converts_all _ _ _ _ _ c.args.lines.now c.args.out.now.output c.convert_whole.new.lines c.convert_whole.new.out.output ahead.0 c.next.follows.lender-at-none gives.answers gives.sound,
+      converts_all _ _ _ _ _ c.args.lines.now c.args.out.now.output c.loop-lines.lines c.loop-lines.out.output now.going c.next.follows.lender-at-none gives.answers gives.sound,
       λ input line e. e,
     )
 
@@ -187,10 +112,4 @@ pub returns-in-None-clause-reads : goal.returns-in-None-clause-reads
 returns-in-None-clause-reads g c = λ never.
     let gives = rw (c.in_ok-line.was, c.in-None.is) at c.next.follows.holds-at-none in
     let now = c.loop-lines.invariant in
-    let first = c.args.converter.now in
-    let went = c.in_ok-convert_whole.ensures.converts in
-    let ahead =
-    goes_texts g.S.Source.left g.S.Source.has_failed g.S.Source.end_told g.S.Source.is_read first.split first.with_cigar c.args.lines.now c.args.out.now.output c.loop-lines.converter (ap (λ (m : Converting). m.split) now.same) (ap (λ (m : Converting). m.with_cigar) now.same)
-    went.texts c.loop-lines.lines c.convert_whole.new.lines c.loop-lines.out.output c.convert_whole.new.out.output now.going went.gives went.writes in
-    let read = has_read_then g.S.Source.is_read c.args.lines.now c.loop-lines.lines c.convert_whole.new.lines now.read ahead.1 in
-    has_read_then g.S.Source.is_read c.args.lines.now c.convert_whole.new.lines c.next.follows.lender-at-none read gives.own_failure
+    has_read_then g.S.Source.is_read c.args.lines.now c.loop-lines.lines c.next.follows.lender-at-none now.read gives.own_failure
