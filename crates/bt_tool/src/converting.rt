@@ -53,12 +53,10 @@ fn convert_all<S: Source, K: Sink>(
     ensures own_failure { IsOwnFault S.is_read lines.old (fault_kept lines.new) lines.new }
 {
     let input = lines.input();
-    loop {
-        match lines.next()? {
-            Some(line) => convert_line(line, input, converter, out)?,
-            None => return Ok(()),
-        }
+    while let Some(line) = lines.next()? {
+        convert_line(line, input, converter, out)?;
     }
+    Ok(())
 }
 
 /// Writes the alignments of an input as BED lines, with `split` one for each block, and with `cigar` each
