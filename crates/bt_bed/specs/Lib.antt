@@ -33,7 +33,6 @@ pub mod Meeting
 pub mod KeptText
 pub mod KeptForm
 pub mod Rec
-pub mod OrderInUse
 pub mod RecordLine
 pub mod RecordOn
 pub mod WholeInside

@@ -55,7 +55,6 @@ mod name_key;
 mod names;
 mod neighbours;
 mod order;
-mod order_in_use;
 mod parsing;
 mod putting;
 mod rec;

@@ -1,3 +1,4 @@
+pub mod CallLemmas
 pub mod SettlingLemmas
 pub mod Bridging
 pub mod Standing

@@ -1,6 +1,7 @@
 pub mod Failure
 pub mod Settling
 pub mod Engine
+pub mod Calls
 pub mod Merged
 pub mod Counted
 pub mod MergedRuns

@@ -1,6 +1,7 @@
 //! The engine of `bedtools complement`: the place up to which gaps are settled.
 
 ghost use Rattle.std.specs.Prelude.{◌≡◌, ◌⊎◌, ◌<◌, ◌≤◌, ℕ, List, [], length, flat_map, min, slice_range, Bool, true, Option, Some, Ok, Err, None, IfOk, IfErr};
+ghost use Rattle.bt_lines.specs.Output.{Grows};
 ghost use Rattle.bt_bed.specs.Feature.{Feature};
 ghost use Rattle.bt_bed.specs.Bed.{feature_lent};
 ghost use Rattle.bt_bed.specs.GenomeTable.{entries};
@@ -10,8 +11,9 @@ ghost use Rattle.bt_runs.specs.GapStep.{bare_gap, covering, gap_to, gap_walk, la
 ghost use Rattle.bt_bed.specs.WholeRecords.{chrom_in};
 ghost use Rattle.bt_runs.specs.WholeGaps.{CoversWhole};
 ghost use Rattle.bt_runs.specs.Walk.{AreReached, begun, going, is_on, left_before, left_of, walk_step};
-ghost use Rattle.bt_lines.specs.Fault.{write_failed};
+ghost use Rattle.bt_lines.specs.Fault.{Told, write_failed};
 ghost use Rattle.bt_lines.specs.Names.{told};
+ghost use Rattle.bt_runs.specs.Calls.{AnswersAgain, IsFaultless, KeepsFault, TakesQuiet, WritesLeft, WritesLeftPrefix, WritesPrefix, WritesSettled};
 ghost use Rattle.bt_runs.specs.Engine.{Feeds, FeedsWhole, KeepsHeld};
 ghost use Rattle.bt_bed.specs.IntervalLine.{interval_lines};
 ghost use Rattle.bt_lines.specs.Putting.{Adds};
@@ -81,6 +83,51 @@ impl<'g> Complement<'g> {
             current: None,
             failure: None,
         }
+    }
+
+    /// Takes the next record, and writes the gap that it settles. It fails only where a write fails, which is
+    /// answered from then on.
+    pub fn feed<K: Sink>(&mut self, bed: &BedRef<'_>, out: &mut Out<K>) -> Result<(), Fault>
+        ensures going { IsFaultless stands_after kept_fault self.old }
+        ensures written { WritesSettled may_take stands_after kept_fault settled_lines self.old
+            (feature_lent bed.now) out.old.output result self.new out.new.output }
+        ensures fault { KeepsFault kept_fault result self.new }
+        ensures prefix { WritesPrefix may_take stands_after kept_fault settled_lines self.old
+            (feature_lent bed.now) out.old.output result self.new out.new.output }
+        ensures memory { self.old.fault ≡ None → IfErr result (λ fault. told fault ≡ write_failed) }
+        ensures again { AnswersAgain (kept_fault self.old) result }
+        ensures stays { (before : Told) → kept_fault self.old ≡ Some before
+            → (self.new ≡ self.old) × (out.new.output ≡ out.old.output) }
+        ensures quiet { TakesQuiet may_take stands_after kept_fault settled_lines self.old
+            (feature_lent bed.now) out.old.output is_quiet result out.new.output }
+        ensures grows { Grows out.old.output.took out.new.output.took }
+        ensures after_failure { out.old.output.has_failed ≡ true → out.new.output ≡ out.old.output }
+    {
+        Engine::feed(self, bed, out)
+    }
+
+    /// Writes the lines that are still unsettled, after the last record. It fails with `WriteFailed`, or with the
+    /// fault that was answered before.
+    pub fn finish<K: Sink>(self, out: &mut Out<K>) -> Result<(), Fault>
+        ensures going { IsFaultless stands_after kept_fault self.entry }
+        ensures written { WritesLeft may_take stands_after kept_fault settled_lines whole_output self.entry
+            out.old.output result out.new.output }
+        ensures prefix { WritesLeftPrefix may_take stands_after kept_fault settled_lines whole_output
+            self.entry out.old.output result out.new.output }
+        ensures again { AnswersAgain (kept_fault self.entry) result }
+        ensures stays { (before : Told) → kept_fault self.entry ≡ Some before → out.new.output ≡ out.old.output }
+        ensures grows { Grows out.old.output.took out.new.output.took }
+        ensures after_failure { out.old.output.has_failed ≡ true → out.new.output ≡ out.old.output }
+    {
+        Engine::finish(self, out)
+    }
+
+    /// How many places it keeps: 0 or 1.
+    pub fn kept_len(&self) -> usize
+        ensures list { result ≡ length self.now.kept }
+        ensures held { KeepsHeld may_take stands_after self.now held_count result }
+    {
+        Engine::kept_len(self)
     }
 }
 

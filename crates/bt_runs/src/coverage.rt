@@ -1,6 +1,8 @@
 //! The engine of `bedtools genomecov -bg`: the records that are open, and the interval that isn't ended.
 
 ghost use Rattle.std.specs.Prelude.{◌≡◌, false, true, ◌<◌, ◌≤◌, ◌*◌, ℕ, List, [], length, flat_map, min, slice_range, Option, Some, None, Ok, Err, IfOk, OnErr, OnOk};
+ghost use Rattle.bt_lines.specs.Output.{Grows};
+ghost use Rattle.bt_lines.specs.Fault.{Told};
 ghost use Rattle.bt_bed.specs.Bed.{feature_lent};
 ghost use Rattle.bt_bed.specs.GenomeTable.{entries};
 ghost use Rattle.bt_lines.specs.Putting.{Adds};
@@ -8,6 +10,7 @@ ghost use Rattle.bt_runs.specs.CountSeen.{known_seen, place_seen, seen};
 ghost use Rattle.bt_runs.specs.Covering.{AdvanceAnswers, HasToKeep, IsForRecord, IsToKeep, OnWant, StandsAfter, held_count, is_quiet, kept_fault, may_take, settled_known, settled_lines, stands_after, whole_output};
 ghost use Rattle.bt_runs.specs.Depth.{depth_lines, is_counted_by};
 ghost use Rattle.bt_runs.specs.DepthStep.{bare_of, depth_walk, depths_left, levels_by, levels_left, levels_on};
+ghost use Rattle.bt_runs.specs.Calls.{AnswersAgain, IsFaultless, KeepsFault, TakesQuiet, WritesFirst, WritesLeft, WritesLeftPrefix, WritesPrefix, WritesSettled};
 ghost use Rattle.bt_runs.specs.Engine.{FailsWhere, Feeds, FeedsWhole, KeepsHeld};
 ghost use Rattle.bt_runs.specs.OpenRecords.{none_open_at, open_with};
 ghost use Rattle.bt_runs.specs.Walk.{AreReached, IsPlaced, begun, entry_at, is_on, left_before, left_of, taking, walk_step};
@@ -96,6 +99,53 @@ impl<'g> Coverage<'g> {
         ensures few { result ≤ 2 * length self.now.kept }
     {
         self.held.stored()
+    }
+
+    /// Takes the next record, and writes the intervals that it settles. The first fault is answered from then
+    /// on: `WriteFailed`, or `NoMemory`, only where the record has to be kept.
+    pub fn feed<K: Sink>(&mut self, bed: &BedRef<'_>, out: &mut Out<K>) -> Result<(), Fault>
+        ensures going { IsFaultless stands_after kept_fault self.old }
+        ensures written { WritesSettled may_take stands_after kept_fault settled_lines self.old
+            (feature_lent bed.now) out.old.output result self.new out.new.output }
+        ensures fault { KeepsFault kept_fault result self.new }
+        ensures prefix { WritesPrefix may_take stands_after kept_fault settled_lines self.old
+            (feature_lent bed.now) out.old.output result self.new out.new.output }
+        ensures ran_out { WritesFirst may_take stands_after kept_fault settled_lines self.old
+            (feature_lent bed.now) out.old.output result self.new out.new.output }
+        ensures memory { IsForRecord self.old (feature_lent bed.now) result }
+        ensures again { AnswersAgain (kept_fault self.old) result }
+        ensures stays { (before : Told) → kept_fault self.old ≡ Some before
+            → (self.new ≡ self.old) × (out.new.output ≡ out.old.output) }
+        ensures quiet { TakesQuiet may_take stands_after kept_fault settled_lines self.old
+            (feature_lent bed.now) out.old.output is_quiet result out.new.output }
+        ensures grows { Grows out.old.output.took out.new.output.took }
+        ensures after_failure { out.old.output.has_failed ≡ true → out.new.output ≡ out.old.output }
+    {
+        Engine::feed(self, bed, out)
+    }
+
+    /// Writes the lines that are still unsettled, after the last record. It fails with `WriteFailed`, or with the
+    /// fault that was answered before.
+    pub fn finish<K: Sink>(self, out: &mut Out<K>) -> Result<(), Fault>
+        ensures going { IsFaultless stands_after kept_fault self.entry }
+        ensures written { WritesLeft may_take stands_after kept_fault settled_lines whole_output self.entry
+            out.old.output result out.new.output }
+        ensures prefix { WritesLeftPrefix may_take stands_after kept_fault settled_lines whole_output
+            self.entry out.old.output result out.new.output }
+        ensures again { AnswersAgain (kept_fault self.entry) result }
+        ensures stays { (before : Told) → kept_fault self.entry ≡ Some before → out.new.output ≡ out.old.output }
+        ensures grows { Grows out.old.output.took out.new.output.took }
+        ensures after_failure { out.old.output.has_failed ≡ true → out.new.output ≡ out.old.output }
+    {
+        Engine::finish(self, out)
+    }
+
+    /// How many counted records end at the last start or past it.
+    pub fn kept_len(&self) -> usize
+        ensures list { result ≡ length self.now.kept }
+        ensures held { KeepsHeld may_take stands_after self.now held_count result }
+    {
+        Engine::kept_len(self)
     }
 }
 

@@ -1,7 +1,7 @@
 //! The engines that take the records of one sorted input: merge, complement and coverage.
 //!
-//! Each is an [`Engine`]: it is fed one record after another, and writes each line of its output as
-//! soon as no later record can change it.
+//! Each is fed one record after another, and writes each line of its output as soon as no later record
+//! can change it. What takes any of them goes by the trait [`Engine`], whose calls are the same.
 //!
 //! An example, which is the test in `example.rt`: two records, merged.
 //!
@@ -22,6 +22,8 @@
 //! ```
 #![tactic(auto)]
 
+#[cfg(test)]
+mod calls_tests;
 mod complement;
 pub mod complement_laws;
 mod coverage;

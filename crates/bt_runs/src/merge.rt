@@ -1,9 +1,12 @@
 //! The engine of `bedtools merge`: the runs of all records, of those of one strand, or of each strand by
 //! itself.
 
-ghost use Rattle.std.specs.Prelude.{◌≡◌, ◌≤◌, length};
+ghost use Rattle.std.specs.Prelude.{◌≡◌, ◌≤◌, length, true, Some};
+ghost use Rattle.bt_lines.specs.Output.{Grows};
+ghost use Rattle.bt_lines.specs.Fault.{Told};
 ghost use Rattle.bt_bed.specs.Bed.{feature_lent};
 ghost use Rattle.bt_lines.specs.Number.{max_number};
+ghost use Rattle.bt_runs.specs.Calls.{AnswersAgain, IsFaultless, KeepsFault, TakesQuiet, WritesFirst, WritesLeft, WritesLeftPrefix, WritesPrefix, WritesSettled};
 ghost use Rattle.bt_runs.specs.Engine.{FailsWhere, Feeds, FeedsWhole, KeepsHeld};
 ghost use Rattle.bt_runs.specs.Merging.{IsForRun, StandsNew, held_count, is_quiet, kept_fault, kept_places, may_take, merge_begun, settled_lines, stands_after, whole_output};
 
@@ -58,6 +61,54 @@ impl Merge {
             MergeStrand::One(_) => Kept::Pooled(Pooled::new(alloc, d, strand)),
         };
         Merge { kept }
+    }
+
+    /// Takes the next record, and writes the lines that it settles. A record that joins a run that is kept, or
+    /// that isn't merged, and that passes none that could be written, is taken without a fault. The first
+    /// fault is answered from then on: `WriteFailed`, or `NoMemory`, only where a run has to be opened.
+    pub fn feed<K: Sink>(&mut self, bed: &BedRef<'_>, out: &mut Out<K>) -> Result<(), Fault>
+        ensures going { IsFaultless stands_after kept_fault self.old }
+        ensures written { WritesSettled may_take stands_after kept_fault settled_lines self.old
+            (feature_lent bed.now) out.old.output result self.new out.new.output }
+        ensures fault { KeepsFault kept_fault result self.new }
+        ensures prefix { WritesPrefix may_take stands_after kept_fault settled_lines self.old
+            (feature_lent bed.now) out.old.output result self.new out.new.output }
+        ensures ran_out { WritesFirst may_take stands_after kept_fault settled_lines self.old
+            (feature_lent bed.now) out.old.output result self.new out.new.output }
+        ensures memory { IsForRun self.old (feature_lent bed.now) result }
+        ensures again { AnswersAgain (kept_fault self.old) result }
+        ensures stays { (before : Told) → kept_fault self.old ≡ Some before
+            → (self.new ≡ self.old) × (out.new.output ≡ out.old.output) }
+        ensures quiet { TakesQuiet may_take stands_after kept_fault settled_lines self.old
+            (feature_lent bed.now) out.old.output is_quiet result out.new.output }
+        ensures grows { Grows out.old.output.took out.new.output.took }
+        ensures after_failure { out.old.output.has_failed ≡ true → out.new.output ≡ out.old.output }
+    {
+        Engine::feed(self, bed, out)
+    }
+
+    /// Writes the lines that are still unsettled, after the last record. It fails with `WriteFailed`, or with the
+    /// fault that was answered before.
+    pub fn finish<K: Sink>(self, out: &mut Out<K>) -> Result<(), Fault>
+        ensures going { IsFaultless stands_after kept_fault self }
+        ensures written { WritesLeft may_take stands_after kept_fault settled_lines whole_output self
+            out.old.output result out.new.output }
+        ensures prefix { WritesLeftPrefix may_take stands_after kept_fault settled_lines whole_output
+            self out.old.output result out.new.output }
+        ensures again { AnswersAgain (kept_fault self) result }
+        ensures stays { (before : Told) → kept_fault self ≡ Some before → out.new.output ≡ out.old.output }
+        ensures grows { Grows out.old.output.took out.new.output.took }
+        ensures after_failure { out.old.output.has_failed ≡ true → out.new.output ≡ out.old.output }
+    {
+        Engine::finish(self, out)
+    }
+
+    /// How many runs it keeps: 0 or 1, and with each strand by itself as many as wait to be written.
+    pub fn kept_len(&self) -> usize
+        ensures list { result ≡ length (kept_places self.now) }
+        ensures held { KeepsHeld may_take stands_after self.now held_count result }
+    {
+        Engine::kept_len(self)
     }
 }
 

@@ -15,10 +15,8 @@ use Rattle.bt_lines.specs.declared.line_reader.LineReader.{LineReader}
 use Rattle.bt_lines.proofs.TextLemmas.{whole_count, whole_front}
 use Rattle.bt_bed.specs.Genome.{Entry, genome_handed, genome_of}
 use Rattle.bt_bed.specs.GenomeTable.{EntryIsWrong, EntryUnread, ReadsAll, ReadingStops, StopCause, entries}
-use Rattle.bt_bed.specs.OrderInUse.{order_by}
 use Rattle.bt_bed.specs.LineKind.{fault_at_line, is_genome_kind}
 use Rattle.bt_bed.specs.declared.genome.Genome.{Genome}
-use Rattle.bt_tool.specs.Behaviour.{order_of}
 use Rattle.bt_tool.specs.Kinds.{IsOneOf}
 use Rattle.bt_tool.specs.Chromosomes.{KnowsChromosomes, LacksChromosomes}
 use Rattle.bt_tool.specs.Telling.{IsOfInput, TellsInput}
@@ -28,11 +26,6 @@ use Rattle.bt_tool.specs.OwnReads.{IsOwnFailure, TellsOwnReads}
 use Rattle.bt_tool.proofs.FaultLemmas.{memory_no_write, placed_no_write}
 use Rattle.bt_tool.proofs.OwnFailureLemmas.{own_failure_of, same_input}
 use Rattle.bt_tool.proofs.HandedReader.{cut_text, handed_all, handed_part, passes_by}
-
--- the order in use, by the genome file's entries
-pub order_is : (genome : Option Genome) → order_by genome ≡ order_of (option_map entries genome)
-order_is None = refl
-order_is (Some genome) = refl
 
 -- what is said of the whole text is said of what the device holds
 held_as : {G : Type 0} (left : G → Option (List ℕ)) (genome : G) (P : Option Handed → Type 0) → ((text : List ℕ) → left genome ≡ Some text → P (Some (whole_text text)))

@@ -24,7 +24,7 @@ use crate::masking::mask;
 use crate::outcome::Outcome;
 use crate::plan_type::{Command, Plan};
 use crate::sweeping::sweep;
-use bt_bed::{Genome, Strand};
+use bt_bed::{ByteOrder, Genome, Strand};
 use bt_lines::{Fault, Input, LineReader, Out, Sink, Source};
 use bt_runs::{Complement, Coverage, Merge, MergeStrand};
 use bt_seq::MaskHow;
@@ -217,7 +217,10 @@ fn merge<A: Source, K: Sink>(
         (option_map told result.0) }
 {
     let engine = Merge::new(alloc, d, strand);
-    drive(alloc, genome, engine, first, out)
+    match genome {
+        Some(genome) => drive(alloc, genome, engine, first, out),
+        None => drive(alloc, &ByteOrder, engine, first, out),
+    }
 }
 
 // Writes the gaps between the records of an input.
@@ -298,7 +301,10 @@ fn sweep_both<A: Source, B: Source, K: Sink>(
         (IsOwnFailureIf B.is_read second result.2) (option_map told result.0) }
 {
     let Some(second) = second else { unreachable!() };
-    let (fault, first, second) = sweep(alloc, genome, shape, rule, limit, first, second, out);
+    let (fault, first, second) = match genome {
+        Some(genome) => sweep(alloc, genome, shape, rule, limit, first, second, out),
+        None => sweep(alloc, &ByteOrder, shape, rule, limit, first, second, out),
+    };
     (fault, first, Some(second))
 }
 

@@ -1,9 +1,11 @@
 use Rattle.std.specs.Prelude.{option_map}
 use Rattle.bt_lines.specs.Names.{told}
+use Rattle.bt_bed.specs.ByteOrder.{byte_order, bytes_total}
 use Rattle.bt_bed.specs.Feature.{intervals_of}
-use Rattle.bt_bed.specs.OrderInUse.{order_by, orders_total}
+use Rattle.bt_bed.specs.GenomeTable.{names_of}
+use Rattle.bt_bed.specs.Rank.{rank_order}
+use Rattle.bt_bed.specs.RankTotal.{ranks_total}
 use Rattle.bt_bed.proofs.TogetherLemmas.{placed_together}
-use Rattle.bt_tool.proofs.ChromosomeLemmas.{order_is}
 use Rattle.bt_tool.proofs.WriteLemmas.{merge_begins, merge_begins_whole, merge_stays, merge_writes}
 use Rattle.bt_tool.proofs.running.merge.Goals as goal
 
@@ -12,7 +14,8 @@ drive-requires-clause-nothing g c = merge_begins c.new-engine.result
 
 pub drive-requires-clause-takes : goal.drive-requires-clause-takes
 drive-requires-clause-takes g c = λ past placed full.
-    record { together = placed_together (order_by c.args.genome.now) (intervals_of past) (orders_total c.args.genome.now) placed; full = full }
+    let names = names_of c.in-Some.genome in
+    record { together = placed_together (rank_order names) (intervals_of past) (ranks_total names) placed; full = full }
 
 pub drive-requires-clause-stays : goal.drive-requires-clause-stays
 drive-requires-clause-stays g c = merge_stays c.new-engine.result
@@ -20,8 +23,28 @@ drive-requires-clause-stays g c = merge_stays c.new-engine.result
 pub drive-requires-clause-begins : goal.drive-requires-clause-begins
 drive-requires-clause-begins g c = merge_begins_whole c.new-engine.result
 
-pub returns-clause-written : goal.returns-clause-written
-returns-clause-written g c =
-    rw (← order_is c.args.genome.now)
-    (merge_writes (order_by c.args.genome.now) (orders_total c.args.genome.now) g.A.Source.left g.A.Source.has_failed c.args.d c.args.strand c.new-engine.result c.new-engine.ensures.begun
+pub drive-requires-in-None-clause-nothing : goal.drive-requires-in-None-clause-nothing
+drive-requires-in-None-clause-nothing g c = merge_begins c.new-engine.result
+
+pub drive-requires-in-None-clause-takes : goal.drive-requires-in-None-clause-takes
+drive-requires-in-None-clause-takes g c = λ past placed full.
+    record { together = placed_together byte_order (intervals_of past) bytes_total placed; full = full }
+
+pub drive-requires-in-None-clause-stays : goal.drive-requires-in-None-clause-stays
+drive-requires-in-None-clause-stays g c = merge_stays c.new-engine.result
+
+pub drive-requires-in-None-clause-begins : goal.drive-requires-in-None-clause-begins
+drive-requires-in-None-clause-begins g c = merge_begins_whole c.new-engine.result
+
+pub returns-in-Some-clause-written : goal.returns-in-Some-clause-written
+returns-in-Some-clause-written g c =
+    let names = names_of c.in-Some.genome in
+    rw c.in-Some.is
+    (merge_writes (rank_order names) (ranks_total names) g.A.Source.left g.A.Source.has_failed c.args.d c.args.strand c.new-engine.result c.new-engine.ensures.begun
     c.args.first c.args.out.now.output (option_map told c.drive.result.0) c.drive.result.1 c.drive.new.out.output c.drive.ensures.written)
+
+pub returns-in-None-clause-written : goal.returns-in-None-clause-written
+returns-in-None-clause-written g c =
+    rw c.in-None.is
+    (merge_writes byte_order bytes_total g.A.Source.left g.A.Source.has_failed c.args.d c.args.strand c.new-engine.result c.new-engine.ensures.begun
+    c.args.first c.args.out.now.output (option_map told c.drive-in-None.result.0) c.drive-in-None.result.1 c.drive-in-None.new.out.output c.drive-in-None.ensures.written)
