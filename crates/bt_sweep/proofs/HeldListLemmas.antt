@@ -1,23 +1,19 @@
 -- Lemmas on a queue of held records.
-use Rattle.std.proofs.Common.{◌≡◌, cond, subst, nat_lt, ℕ, ◌+◌, ◌-◌, ◌<◌, ◌≤◌, Bool, true, false, List, [], ◌∷◌, ◌++◌, zero, suc, Some, refl, sym, ap, ◌∙◌, add-one, append_assoc, arith, drop, filter, length, length-append, nat_le, option_to_list, slice_index_or, take}
+use Rattle.std.proofs.Common.{◌≡◌, cond, subst, nat_lt, ℕ, ◌+◌, ◌-◌, ◌<◌, ◌≤◌, Bool, true, false, List, [], ◌∷◌, ◌++◌, zero, suc, refl, sym, ap, ◌∙◌, add-one, append_assoc, arith, drop, filter, length, length-append, nat_le, option_to_list, slice_index_or, take}
 use Rattle.std.proofs.Math.Bool.{or-false}
 use Rattle.std.proofs.lemmas.Bool.{le-ltb, leb-false, lt-ltb, ltb-false, ltb-true, or_parts}
 use Rattle.std.specs.Prelude.{All}
-use Rattle.std.specs.List.{AllByRecursion, HoldsAt, list_any, slice_get}
+use Rattle.std.specs.List.{AllByRecursion, list_any, slice_get}
 use Rattle.std.specs.List.Sorted.{IsNonDecreasingBy, IsPartitionPoint}
 use Rattle.std.proofs.lemmas.List.{get_or-drop, get_or_default, length-drop, take-append-drop}
 use Rattle.std.proofs.lemmas.List.Elements.{All-filter, filter-append, recursion_from_All}
-use Rattle.std.proofs.lemmas.Option.{get_or_from_slice_get, slice_get_within}
 use Rattle.std.proofs.lemmas.List.Kept.{IsNonDecreasingBy-filter}
 use Rattle.std.proofs.lemmas.List.Sorted.{IsNonDecreasingBy-push}
 use Rattle.bt_bed.specs.Feature.{Feature}
-use Rattle.bt_sweep.specs.Held.{EndAfter, EndFrom, HaveBases}
+use Rattle.bt_sweep.specs.Held.{HaveBases}
 
-abbrev pub start_of : Feature → ℕ
+abbrev start_of : Feature → ℕ
 start_of r = r.start
-
-abbrev pub stop_of : Feature → ℕ
-stop_of r = r.stop
 
 -- with one more that starts where the last does or behind it
 pub rises_push : (xs : List Feature) (last y : Feature) (n : ℕ) → n ≡ length xs → last ≡ slice_index_or xs (n - 1) last → last.start ≤ y.start
@@ -112,49 +108,25 @@ module _ (place : ℕ) where
       let parts = or_parts (nat_le x.stop place) (list_any (λ r. nat_le r.stop place) xs) e in
       (lt-ltb place x.stop (leb-false x.stop place parts.0), none_rec xs parts.1)
 
-  module _ (xs : List Feature) (n : ℕ) (within : n ≤ length xs) (after : EndAfter place xs n) where
+  module _ (xs : List Feature) (n : ℕ) (within : n ≤ length xs) (bases : HaveBases xs)
+      (at : IsPartitionPoint (λ (r : Feature). nat_lt r.start place ≡ true) (λ (r : Feature). nat_lt r.start place ≡ false) xs n) where
     rest_stays : All (λ r. stays r ≡ true) (drop n xs)
     rest_stays k d h =
         let high : n + k < length xs = omega (arith, h, length-drop n xs, within) in
-        let here : stays (slice_index_or xs (n + k) d) ≡ true = lt-ltb place _ (after (n + k) d (omega arith) high) in
+        let from = ltb-false _ place (at.1 (n + k) d (omega arith) high) in
+        let here : stays (slice_index_or xs (n + k) d) ≡ true = lt-ltb place _ (omega (arith, from, bases (n + k) d high)) in
         subst (λ (r : Feature). stays r ≡ true) (sym (get_or-drop n xs k d)) here
 
-    -- those that have ended are dropped: all of them stand before those that end after the place
-    pub dropped_among : filter stays (take n xs) ++ drop n xs ≡ filter stays xs
-    dropped_among =
+    -- those that have ended are dropped: all of them start before the place
+    pub dropped : filter stays (take n xs) ++ drop n xs ≡ filter stays xs
+    dropped =
         ap (λ l. filter stays (take n xs) ++ l) (sym (all_pass stays (drop n xs) rest_stays))
         ∙ sym (filter-append stays (take n xs) (drop n xs)) ∙ ap (filter stays) (take-append-drop n xs)
-
-  module _ (xs : List Feature) (n : ℕ) (within : n ≤ length xs) (bases : HaveBases xs)
-      (at : IsPartitionPoint (λ (r : Feature). nat_lt r.start place ≡ true) (λ (r : Feature). nat_lt r.start place ≡ false) xs n) where
-    -- so it is where they start there or behind it
-    pub dropped : filter stays (take n xs) ++ drop n xs ≡ filter stays xs
-    dropped = dropped_among xs n within (λ k d low high. omega (arith, ltb-false _ place (at.1 k d low high), bases k d high))
 
     -- where none of those that start before has ended, there is none
     pub none_dropped : list_any (λ r. nat_le r.stop place) (take n xs) ≡ false → xs ≡ filter stays xs
     none_dropped none =
         sym (take-append-drop n xs) ∙ ap (λ l. l ++ drop n xs) (sym (pass_rec stays (take n xs) (none_rec (take n xs) none))) ∙ dropped
-
-module _ (xs : List Feature) (i : ℕ) (r : Feature) (found : slice_get xs i ≡ Some r) where
-  -- the record that is found at an index stands there
-  pub ends_there : (i < length xs) × HoldsAt (λ (b : Feature). b.stop ≡ r.stop) xs i
-  ends_there = (slice_get_within xs i r found, λ d. ap stop_of (get_or_from_slice_get xs i r d found))
-
-  -- where it starts at the place or behind it, it and those behind it end behind the place
-  pub end_after : (place : ℕ) → IsNonDecreasingBy (λ r. r.start) xs → HaveBases xs → place ≤ r.start → EndAfter place xs i
-  end_after place rises bases h k d low high =
-      let here = ap start_of (get_or_from_slice_get xs i r d found) in
-      omega (arith, h, here, rises i k d low high, bases k d high)
-
-module _ (place least : ℕ) (xs : List Feature) (n : ℕ) (first : EndFrom least xs n) (rest : EndAfter place xs n) (h : place < least) where
-  stay_by : (k : ℕ) (d : Feature) → k < length xs → (c : Bool) → nat_lt k n ≡ c → nat_lt place (slice_index_or xs k d).stop ≡ true
-  stay_by k d within true e = lt-ltb place _ (omega (arith, h, first k d (omega arith) (ltb-true k n e)))
-  stay_by k d within false e = lt-ltb place _ (rest k d (ltb-false k n e) within)
-
-  -- where the first ones end behind the place, and the rest do, none has ended
-  pub none_ended : xs ≡ filter (λ r. nat_lt place r.stop) xs
-  none_ended = sym (all_pass (λ r. nat_lt place r.stop) xs (λ k d within. stay_by k d within (nat_lt k n) refl))
 
 -- they rise and have bases where others did of which they are some
 pub rises_on : (p : Feature → Bool) (xs items : List Feature) → items ≡ filter p xs → IsNonDecreasingBy (λ r. r.start) xs → IsNonDecreasingBy (λ r. r.start) items

@@ -24,5 +24,6 @@ pub mod WalkLemmas
 pub mod PlainPieceLemmas
 pub mod StartedLemmas
 pub mod HeldListLemmas
+pub mod EndLemmas
 pub mod OpenLemmas
 pub mod LimitLemmas

@@ -1,6 +1,5 @@
 -- Held records.
-use Rattle.std.specs.Prelude.{◌≡◌, ℕ, ◌<◌, ◌≤◌, ⊤, List, [], ◌∷◌, All, Option, length}
-use Rattle.std.specs.List.{AllWithin}
+use Rattle.std.specs.Prelude.{◌≡◌, ℕ, ◌<◌, ◌≤◌, ⊤, List, [], ◌∷◌, All, Option}
 use Rattle.std.specs.Option.{ForSome}
 use Rattle.bt_bed.specs.Feature.{Feature}
 
@@ -37,11 +36,3 @@ StartBefore place held = All (λ b. b.start < place) held
 -- each has a base
 abbrev pub HaveBases : List Feature → Type 0
 HaveBases held = All (λ b. b.start < b.stop) held
-
--- so many from the first one on end at this position or after it
-abbrev pub EndFrom : ℕ → List Feature → ℕ → Type 0
-EndFrom place held count = AllWithin (λ b. place ≤ b.stop) held 0 count
-
--- those from this index on end after this position
-abbrev pub EndAfter : ℕ → List Feature → ℕ → Type 0
-EndAfter place held index = AllWithin (λ b. place < b.stop) held index (length held)

@@ -20,5 +20,6 @@ pub mod StateEnding
 pub mod PlainPieces
 pub mod Held
 pub mod HeldList
+pub mod Ends
 pub mod HeldIndex
 pub mod SweepView

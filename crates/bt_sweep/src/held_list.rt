@@ -24,10 +24,8 @@ pub struct HeldList {
 }
 
 impl HeldList {
-    ghost use Rattle.std.specs.Prelude.{◌≡◌, [], ◌<◌, ◌≤◌, IfSome, IsNone, filter, length, nat_lt};
-    ghost use Rattle.std.specs.List.{HoldsAt};
-    ghost use Rattle.bt_sweep.specs.Held.{EndAfter};
-    ghost use Rattle.bt_sweep.specs.HeldList.{records_in};
+    ghost use Rattle.std.specs.Prelude.{◌≡◌, [], IsTrue, false, filter, nat_lt};
+    ghost use Rattle.bt_sweep.specs.HeldList.{HasRoom, records_in};
 
     /// No record. It takes no memory.
     pub fn new(alloc: Global) -> HeldList
@@ -49,27 +47,39 @@ impl HeldList {
         }
     }
 
-    // The end of the record with so many before it, if there is one that may have ended at the place. Where
-    // records come by their starts, one that starts there or after it can't have ended, nor can those
-    // after it.
-    pub(crate) fn end_of(&self, index: usize, place: u64) -> Option<u64>
-        ensures end { IfSome result (λ stop. (index < length (records_in self.now)) × HoldsAt (λ r. r.stop ≡ stop) (records_in self.now) index) }
-        ensures none { IsNone result → EndAfter place (records_in self.now) index }
+    // Makes room for one more. It returns false if memory is refused.
+    pub(crate) fn reserve_one(&mut self) -> bool
+        ensures same { records_in self.new ≡ records_in self.old }
+        ensures room { IsTrue result → HasRoom self.new }
     {
-        let bed = record_at(&self.records, index)?.as_bed();
-        if self.rising && place <= bed.start {
-            return None;
-        }
-        Some(bed.stop)
+        self.records.try_reserve(1).is_ok()
     }
 
-    // Drops those that end at or before the place, which are all among so many from the first one on.
-    #[inline(always)]
-    pub(crate) fn drop_ended_among(&mut self, count: usize, place: u64)
-        requires within { count ≤ length (records_in self.old) }
-        requires rest { EndAfter place (records_in self.old) count }
+    // Adds a record after the others, for which there is room.
+    pub(crate) fn push_reserved(&mut self, rec: Rec)
+        requires { HasRoom self.old }
+        ensures { records_in self.new ≡ records_in self.old ++ rec ∷ [] }
+    {
+        self.rising = self.rises_to(&rec);
+        self.records.push_back_reserved(rec);
+    }
+
+    // Returns true if a record may have ended at the place.
+    fn may_have_ended(&self, place: u64) -> bool
+        ensures { result ≡ false → records_in self.now ≡ filter (λ r. nat_lt place r.stop) (records_in self.now) }
+    {
+        !self.rising || has_ended(&self.records, started_in(&self.records, place), place)
+    }
+
+    // Drops those that end at or before the place, in one pass.
+    pub(crate) fn remove_ended(&mut self, place: u64)
         ensures { records_in self.new ≡ filter (λ r. nat_lt place r.stop) (records_in self.old) }
     {
+        if !self.rising {
+            self.records.retain(|record| place < record.as_bed().stop);
+            return;
+        }
+        let count = started_in(&self.records, place);
         drop_ended_of(&mut self.records, count, place);
     }
 }
@@ -80,24 +90,16 @@ impl Held for HeldList {
     ghost records = { records_in };
 
     fn push(&mut self, rec: Rec) -> Result<(), Rec> {
-        let rising = self.rises_to(&rec);
-        match self.records.push_back(rec) {
-            Ok(()) => {
-                self.rising = rising;
-                Ok(())
-            }
-            Err(failed) => Err(failed.value),
+        if !self.reserve_one() {
+            return Err(rec);
         }
+        self.push_reserved(rec);
+        Ok(())
     }
 
     fn drop_ended(&mut self, place: u64) {
-        if !self.rising {
-            self.records.retain(|record| place < record.as_bed().stop);
-            return;
-        }
-        let count = started_in(&self.records, place);
-        if has_ended(&self.records, count, place) {
-            drop_ended_of(&mut self.records, count, place);
+        if self.may_have_ended(place) {
+            self.remove_ended(place);
         }
     }
 

@@ -1,6 +1,6 @@
 //! What a sweep keeps, and its steps.
 
-ghost use Rattle.std.specs.Prelude.{◌≡◌, ◌∷◌, ◌++◌, [], IfSome, IsTrue, None, Some, false, true, OnOk, OnErr};
+ghost use Rattle.std.specs.Prelude.{◌≡◌, ◌∷◌, ◌++◌, ◌<◌, ◌≤◌, [], IfSome, IsTrue, None, Some, false, filter, nat_lt, true, OnOk, OnErr};
 ghost use Rattle.bt_lines.specs.Putting.{Adds};
 ghost use Rattle.bt_bed.specs.Bed.{feature_lent};
 ghost use Rattle.bt_bed.specs.Feature.{Feature};
@@ -687,12 +687,21 @@ fn is_one_more_held<H: Held>(
     let Some(b) = behind.next() else {
         return false;
     };
-    if stop <= b.start {
-        return false;
-    }
-    if start < b.stop && hold_copy(alloc, held, &b).is_err() {
+    if !try_take(alloc, start, stop, held, &b) {
         return false;
     }
     *records = behind;
     true
+}
+
+// Takes a record that starts before `stop`: it is held where it ends after `start`. Returns true if it did. Only a record
+// that is to be held can be refused for want of memory.
+#[inline(always)]
+fn try_take<H: Held>(alloc: Global, start: u64, stop: u64, held: &mut H, b: &BedRef<'_>) -> bool
+    ensures taken { result ≡ true → (b.now.start < stop) × (H.records held.new
+        ≡ H.records held.old ++ filter (λ r. nat_lt start r.stop) (feature_lent b.now ∷ [])) }
+    ensures none { result ≡ false → H.records held.new ≡ H.records held.old }
+    ensures quiet { b.now.start < stop → b.now.stop ≤ start → result ≡ true }
+{
+    b.start < stop && (b.stop <= start || hold_copy(alloc, held, b).is_ok())
 }
