@@ -98,7 +98,7 @@ completions:
 # The manual page and the completions get the program's name there.
 install: $(PROGRAM)
 	install -D $(PROGRAM) "$(DESTDIR)$(PREFIX)/bin/$(NAME)"
-	packaging/install.sh "$(DESTDIR)$(PREFIX)/share" "$(PREFIX)/share" "$(NAME)" $(DOCS)
+	packaging/install.sh "$(DESTDIR)$(PREFIX)" "$(PREFIX)" "$(NAME)" $(DOCS)
 
 dist: $(PROGRAM)
 	rm -rf bin/$(DIST)
