@@ -25,7 +25,7 @@ OWN = {"help": "shows the options of a command", "check": "says whether the comm
 CHECK = [("-g", "GENOME", "", "the order of the chromosomes"), ("--json", "", "", "writes JSON")]
 VARIABLES = {
     "DUNEKETTLE_HINTS=0": "dunekettle gives no hints, and becomes the program",
-    "DUNEKETTLE_TELL=1": "the drop-in says which program takes a command line, and why",
+    "DUNEKETTLE_TELL=1": "the drop-in says which program takes a command line, and why; a path instead of 1 is a file for it",
     "DUNEKETTLE_ALWAYS=1": "the drop-in never asks the original",
     "DUNEKETTLE_STREAMS=1": "the drop-in takes standard input and pipes as sorted",
 }

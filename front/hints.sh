@@ -58,8 +58,8 @@ hint() {
 }
 
 hint_usage() {
-    synopsis=$(LC_ALL=C awk -v part="$command" '$1 == "%" { found = $2 == part; next } found { print; exit }' "$files/help.txt")
-    say "${synopsis:-the commands are in dunekettle --help}"
+    synopsis=$(LC_ALL=C awk -v part="$command" '$1 == "%" { found = $2 == part; next } found && !NF { exit } found' "$files/help.txt")
+    if [ -n "$synopsis" ]; then say "usage: $(printf '%s' "$synopsis" | tr -s '\n ' ' ')"; else say 'the commands: see dunekettle --help'; fi
 }
 
 hint_unopened() {
@@ -86,32 +86,47 @@ hint_kind() {
     fi
     kind=$(kind_of "$file")
     pipe=$(pipe_for "$kind" "$file")
-    [ -z "$pipe" ] || say "it is $kind: $pipe | dunekettle $command .."
+    [ -z "$pipe" ] || say "$(in_words "$kind"): $pipe | dunekettle $command .."
 }
 
-# How to sort a file by the order in use
+# in_words KIND
+in_words() {
+    case $1 in
+    gzip | bzip2 | xz | zstd) echo "it is compressed by $1" ;;
+    'byte order mark') echo 'it begins with a byte order mark' ;;
+    CR) echo 'its lines end with CR alone' ;;
+    spaces) echo 'its columns are separated by spaces' ;;
+    'names of columns') echo 'its first line names the columns' ;;
+    *) echo "it is $1" ;;
+    esac
+}
+
+# sort_line FILE: how to sort it by the order in use
 sort_line() {
-    if [ "$command" = maskfasta ]; then
-        printf '%s\n' "samtools faidx $fi, and then as for -g $fi.fai: dunekettle help"
-    elif [ -n "$g" ]; then
-        printf '%s' "awk -F'\t' 'NR == FNR { rank[\$1] = NR; next } { print rank[\$1] + 0 \"\t\" \$0 }' $g $1 | "
+    genome=$g
+    if [ "$command" = maskfasta ]; then genome=$fi.fai; printf 'samtools faidx %s; ' "$fi"; fi
+    if [ -n "$genome" ]; then
+        printf '%s' "awk -F'\t' 'NR == FNR { rank[\$1] = NR; next } { print rank[\$1] + 0 \"\t\" \$0 }' $genome $1 | "
         printf '%s\n' "sort -s -t \"\$(printf '\t')\" -k1,1n -k3,3n | cut -f 2-"
     else
         printf '%s\n' "LC_ALL=C sort -k1,1 -k2,2n $1"
     fi
 }
 
+# The record, the one before it, the order in use and how to sort by it
 hint_order() {
-    order="the bytes of the names"
-    [ -z "$g" ] || order=$g
-    [ "$command" != maskfasta ] || order="the sequences"
+    case $command in maskfasta) order='the sequences' ;; *) order=${g:-"the names' bytes"} ;; esac
     if is_stream "$file"; then
         say "the order in use is that of $order: $(sort_line -)"
         return
     fi
-    pair=$(LC_ALL=C awk -F '\t' -v at="$number" '{ now = $1 " " $2 " " $3 } NR == at { print now " comes after " before; exit }
-        NF && !/^(#|(track|browser)([ \t\r]|$))/ { before = now }' < "$file")
-    say "$pair; the order in use is that of $order: $(sort_line "$file")"
+    say "$(order=$order how=$(sort_line "$file") LC_ALL=C awk -F '\t' -v at="$number" '
+        NR == at {
+            print $1, $2, $3, "comes after", before "; the order in use is that of " ENVIRON["order"] ": " ENVIRON["how"] \
+                (ENVIRON["order"] ~ /bytes$/ && $1 != name ? ", or give the chromosomes in their order by -g" : "")
+            exit
+        }
+        NF && !/^(#|(track|browser)([ \t\r]|$))/ { before = $1 " " $2 " " $3; name = $1 }' < "$file")"
 }
 
 # The names of the genome file that differ from one by chr, zeros, letters' case, or MT for M
@@ -133,7 +148,7 @@ check() {
         -g) [ "$count" -gt 1 ] && [ -f "$2" ] || { say 'check: -g needs a genome file'; exit 2; }
             g=$2; shift; count=$((count - 1)) ;;
         --json) json=1 ;;
-        -?*) say "check: unknown option: $1"; exit 2 ;;
+        -*) say "check: unknown option: $1"; exit 2 ;;
         *) set -- "$@" "$1" ;;
         esac
         shift
@@ -167,7 +182,7 @@ check_file() {
         SAM) input=$1 pipe=''; fault=$("$program" bamtobed -i "$1" 2>&1 > /dev/null) ;;
         FASTA) input=$1; fault=$("$program" maskfasta -fi "$1" -bed /dev/null 2>&1 > /dev/null) ;;
         'genome file') input=$1; fault=$("$program" merge -i /dev/null -g "$1" 2>&1) ;;
-        *) fault="it is $kind" ;;
+        *) fault=$(in_words "$kind") ;;
         esac
     fi
     [ -z "$fault" ] || status=1

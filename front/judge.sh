@@ -79,8 +79,11 @@ is_stream() { case $1 in - | stdin | /dev/* | /proc/*) ;; *) [ -e "$1" ] && [ ! 
 # look_at FILE: sets `why` if merge doesn't take it, or if bedtools passes over lines of it or cuts them; else `lines`,
 # and `spans`: for each chromosome its first start and its last end
 look_at() {
-    spans=$(printf '%s\n' "${sequences-}" | "$program" merge -d "$FAR" -i "$1" ${g:+-g "$g"} 2>&1) ||
-        { why=${spans##*"$NL"}; return; }
+    if [ "$command" = maskfasta ]; then
+        spans=$(printf '%s\n' "$sequences" | "$program" merge -d "$FAR" -i "$1" -g - 2>&1)
+    else
+        spans=$("$program" merge -d "$FAR" -i "$1" ${g:+-g "$g"} 2>&1 < /dev/null)
+    fi || { why=${spans##*"$NL"}; return; }
     lines=$(LC_ALL=C awk 'NR == 1 && /^(##fileformat=VCF|\357\273\277)/ || length < 2 || length > 1023 { exit 1 }
         END { print NR }' < "$1" 2> /dev/null) || why="$1 is VCF, or has a byte order mark, a blank line, or one of over 1,023 bytes"
     case $NL$spans in *"$NL"[Tt][Rr][Aa][Cc][Kk]* | *"$NL"[Bb][Rr][Oo][Ww][Ss][Ee][Rr]* | *"$NL!"* | *"$NL>"* | \
@@ -117,7 +120,7 @@ lacks_strands() {
 
 # fits RULE: goes over the genome file by a rule of awk, in which `end` has the last end of each chromosome
 fits() {
-    { printf '%s\n\n' "$spans"; [ -z "${sequences-}" ] && cat -- "$g" || printf '%s\n' "$sequences"; } |
+    { printf '%s\n\n' "$spans"; if [ -n "$g" ]; then cat -- "$g"; else printf '%s\n' "$sequences"; fi; } |
         LC_ALL=C awk -F '\t' '!NF { is_genome = 1; next } !is_genome { end[$1] = $3 + 0; next } /^#/ { next } '"$1"
 }
 
@@ -196,7 +199,7 @@ look_at_sequences() {
         { is_bad(name == "" || short || !length || width && length > width); size += length
           if (!width) width = length; short = length < width }
         END { if (!bad && NR && size) print name "\t" size; exit bad || !size }' < "$fi") || return
-    why='' g=-
+    why=''
     look_at "$bed"
     [ -n "$why" ] || fits 'end[$1] > $2 + 0 { exit 1 }' || why="$bed goes past the end of a sequence"
 }
