@@ -179,9 +179,9 @@ def try_streams(place, folder, count):
             count.expect(f"dunekettle {line} {streams}", wanted, (found[0], hints, found[2]))
             always = shell(f"bedtools {line} {streams}", folder, {**env, "DUNEKETTLE_ALWAYS": "1"}, input=FILES["f.bed"])
             count.expect(f"bedtools {line} {streams}", wanted, always)
-    ours = "intersect -sorted -a - -b f.bed -u", "complement -i - -g g.txt", "intersect -sorted -a f.bed -b /dev/stdin -g g.txt"
-    for line in (*ours, "merge -i -", "merge", "intersect -a - -b f.bed -u", "intersect -sorted -a - -b /dev/stdin", "bamtobed", "genomecov -bg -i - -g g.txt",
-                 "intersect -sorted -s -a - -b f.bed", "maskfasta -fi s.fa -bed -"):
+    ours = "intersect -sorted -a - -b f.bed -u -g g.txt", "complement -i - -g g.txt", "intersect -g g.txt -sorted -u -a f.bed -b /dev/stdin"
+    for line in (*ours, "merge -i -", "merge", "intersect -a - -b f.bed -u", "intersect -sorted -a - -b f.bed -u", "intersect -sorted -a - -b /dev/stdin", "bamtobed", "genomecov -bg -i - -g g.txt",
+                 "intersect -sorted -g g.txt -s -a - -b f.bed", "maskfasta -fi s.fa -bed -"):
         status = call(["bedtools", *line.split()], folder, alone, input=FILES["f.bed"])[2]
         count.expect(f"a stream: {line}", 0 if line in ours else 7, status)
     found = call(["bedtools", "merge"], folder, {**alone, "DUNEKETTLE_STREAMS": "1"}, input=FILES["f.bed"])

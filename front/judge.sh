@@ -161,16 +161,26 @@ look_at_features() {
         fi
         [ -z "$why" ] || return
     done
-    case $streams$command$words in
-    0intersect*' -u '* | 0intersect*' -v '* | 0intersect*' -c '* | 0intersect*' -sorted '*) ;;
-    0intersect*' -wb '* | 0intersect*' -wo '*) ! has_several_hits || why='bedtools orders the hits of a record otherwise' ;;
-    0intersect*' -wa '*) ;;
-    0intersect*) ! has_several_hits || why='bedtools orders the hits of a record otherwise' ;;
-    0*) ;;
-    1*' -s '* | 1*' -f '* | 1*' -bga '* | 1*' -strand '*) why='what a stream has is unknown' ;;
-    1complement* | 1intersect*' -sorted '*) ;;
-    *) [ "$streams${DUNEKETTLE_STREAMS-}" = 11 ] || why='the order of a stream is unknown' ;;
-    esac
+    if [ "$streams" != 0 ]; then
+        streams_are_known || why='what a stream has, or its order, is unknown'
+    elif lists_hits && has_several_hits; then
+        why='bedtools orders the hits of a record otherwise'
+    fi
+}
+
+# Whether one input is a stream, and bedtools ends with an error unless it is in the order of -g
+streams_are_known() {
+    [ "$streams" = 1 ] || return
+    if has_word -s || has_word -f || has_word -bga || has_word -strand; then return 1; fi
+    case $command in complement) return 0 ;; intersect) ! has_word -sorted || ! has_word -g || return 0 ;; esac
+    [ "${DUNEKETTLE_STREAMS-}" = 1 ]
+}
+
+# Whether intersect lists the hits of a record, and not by the order of -sorted
+lists_hits() {
+    [ "$command" = intersect ] || return
+    for word in -sorted -u -v -c; do ! has_word "$word" || return; done
+    ! has_word -wa || has_word -wb
 }
 
 # Sets `why` for bamtobed
