@@ -159,6 +159,19 @@ def try_originals(place, folder, count):
     told = call(["bedtools", "merge", "-i", "f.bed"], folder, {**env, "DUNEKETTLE_TELL": "1"})
     count.expect("TELL", (MERGED, True, 0), (told[0], told[1].startswith("dunekettle: Dunekettle takes merge: "), told[2]))
     call(["bedtools", "merge", "-c"], folder, {**env, "DUNEKETTLE_TELL": str(top / "told.txt")})
+    long = "x" * 100_000
+    count.expect("a long word", 2, call([place / "bin" / "dunekettle", "merge", long], folder, environment())[2])
+    count.expect("a long name", (7, f"merge\0-i\0{long}\0".encode()), call(["bedtools", "merge", "-i", long], folder, env)[2::-2])
+    # What the caller exports goes through as it is, whatever names the scripts use.
+    (top / "shows").mkdir()
+    (top / "shows" / "bedtools").write_text("#!/bin/sh\nenv | grep -v -e '^PWD=' -e '^OLDPWD=' -e '^_=' -e '^SHLVL='\n", encoding="utf-8")
+    (top / "shows" / "bedtools").chmod(0o755)
+    names = {name: "mine" for name in ("a", "b", "i", "g", "f", "d", "fi", "fo", "bed", "why", "words", "word", "file", "files", "folder", "line", "count", "program",
+                                       "command", "spans", "lines", "original", "version", "status", "streams", "sequences", "fault", "target", "self")}
+    shown = {**env, **names, "PATH": os.pathsep.join(map(str, [drop_in(place), top / "shows", tools]))}
+    for line in ("sort", "intersect -a f.bed -b f.bed", "merge -i none.bed"):
+        output = call(["bedtools", *line.split()], folder, shown)[0].decode()
+        count.expect(f"the environment of {line}", [], [name for name in names if f"{name}=mine\n" not in output])
     count.expect("TELL in a file", True, " takes merge: " in (top / "told.txt").read_text(encoding="utf-8"))
 
 
@@ -178,7 +191,10 @@ def try_streams(place, folder, count):
             hints = "".join(said + "\n" for said in found[1].splitlines() if not said.startswith("dunekettle: "))
             count.expect(f"dunekettle {line} {streams}", wanted, (found[0], hints, found[2]))
             always = shell(f"bedtools {line} {streams}", folder, {**env, "DUNEKETTLE_ALWAYS": "1"}, input=FILES["f.bed"])
-            count.expect(f"bedtools {line} {streams}", wanted, always)
+            count.expect(f"bedtools {line} {streams}, always", wanted, always)
+            if line in ("merge -i f.bed", "complement -g g.txt"):
+                judged = shell(f"bedtools {line} {streams}", folder, alone, input=FILES["f.bed"])
+                count.expect(f"bedtools {line} {streams}", wanted, judged)
     ours = "intersect -sorted -a - -b f.bed -u -g g.txt", "complement -i - -g g.txt", "intersect -g g.txt -sorted -u -a f.bed -b /dev/stdin"
     for line in (*ours, "merge -i -", "merge", "intersect -a - -b f.bed -u", "intersect -sorted -a - -b f.bed -u", "intersect -sorted -a - -b /dev/stdin", "bamtobed", "genomecov -bg -i - -g g.txt",
                  "intersect -sorted -g g.txt -s -a - -b f.bed", "maskfasta -fi s.fa -bed -"):

@@ -1,11 +1,11 @@
 # shellcheck shell=sh
-# Which program takes a command line: read by the drop-in of `dunekettle`, which has set `program`, NL and TAB.
+# Which program takes a command line: read by the drop-in of `dunekettle` in a shell of its own, with `program`, NL and TAB.
 # Whatever is uncertain goes to the original.
 
 # Larger than any end
 FAR=999999999999
 
-# judge COMMAND WORD..: sets `why` if the original has to take them. Writes nothing, and reads no standard input.
+# judge COMMAND WORD..: sets `why` if the original has to take them. Reads no standard input.
 judge() {
     [ -x "$program" ] || { why="there is no $program"; return; }
     command=${1-}
@@ -106,9 +106,6 @@ look_closer() {
         ;;
     esac
     [ "$command" != genomecov ] || ! is_deep "$1" || why='bedtools rounds a depth of 1,000,000'
-    [ -n "$f" ] || return
-    [ "$1" = "$a" ] || has_word -r || return
-    has_short_records "$1" || why="bedtools compares -f by seven digits, too few for $1"
 }
 
 # lacks_strands FILE: whether a record of it hits no whole chromosome of either strand
@@ -165,8 +162,13 @@ look_at_features() {
         streams_are_known || why='what a stream has, or its order, is unknown'
     elif lists_hits && has_several_hits; then
         why='bedtools orders the hits of a record otherwise'
+    elif [ -n "$f" ] && ! fraction_is_exact; then
+        why='bedtools compares -f by seven digits, too few for the longest records'
     fi
 }
+
+# Whether the records are short enough for -f, also those of -b with -r
+fraction_is_exact() { has_short_records "$a" && { ! has_word -r || has_short_records "$b"; }; }
 
 # Whether one input is a stream, and bedtools ends with an error unless it is in the order of -g
 streams_are_known() {
