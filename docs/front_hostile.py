@@ -19,7 +19,8 @@ import tempfile
 import time
 from pathlib import Path
 
-from front_tools import Count, PROGRAM, call, drop_in, environment, install, original, shell, tools_alone
+from examples import examples_of
+from front_tools import TOP, Count, PROGRAM, call, drop_in, environment, install, original, shell, tools_alone
 
 MERGED = b"chr1\t2\t9\n"
 FILES = {
@@ -29,7 +30,8 @@ FILES = {
     "utf16.bed": "\ufeffchr1\t2\t6\n".encode("utf-16-le"), "mark.bed": "\ufeff#chrom\tstart\tend\nchr1\t2\t6\n".encode(),
     "cr.bed": b"chr1\t2\t6\rchr1\t4\t9\r", "spaces.bed": b"chr1 2 6\n", "names.bed": b"name\tstart\tend\nchr1\t2\t6\n",
     "bare.bed": b"1\t2\t6\n", "natural.bed": b"chr2\t2\t6\nchr10\t2\t6\n", "cram.cram": b"CRAM\3\0", "a\nb.bed": b"chr1\t2\t6\n",
-    "dot.bed": b"chr1\t2\t6\ta\t0\t.\n", "crlf.bed": b"chr1\t2\t6\r\n\r\n", "s.fa": b">chr1\nACGT\n", "-x": b"chr1\t2\t6\n",
+    "dot.bed": b"chr1\t2\t6\ta\t0\t.\n", "short.bed": b"chr1\t2\t6\nchr1\t5\n", "no_base.bed": b"chr1\t5\t5\n",
+    "crlf.bed": b"chr1\t2\t6\r\n\r\n", "s.fa": b">chr1\nACGT\n", "-x": b"chr1\t2\t6\n",
 }
 # The words after `dunekettle`, the fault that the program reports, and a part of the hint.
 HINTS = [
@@ -48,6 +50,10 @@ HINTS = [
     ("merge -i mark.bed", "mark.bed:1: start is not a number", "it begins with a byte order mark: tail -c +4 mark.bed"),
     ("merge -i cr.bed", "cr.bed:1: end is not a number", "its lines end with CR alone: tr"),
     ("merge -i spaces.bed", "spaces.bed:1: too few columns", "its columns are separated by spaces: tr"),
+    ("merge -i short.bed", "short.bed:2: too few columns", "line 2 is: chr1 5"),
+    ("merge -i no_base.bed", "no_base.bed:1: start is not below end", "left out by awk -F'\\t' '$2 + 0 < $3 + 0' no_base.bed"),
+    ("maskfasta -fi s.fa -bed unsorted.bed", "unsorted.bed:2: record is out of order", "is that of the sequences: samtools faidx s.fa; awk"),
+    ("bamtobed -i f.bed", "f.bed:1: too few columns", "line 1 is: chr1 2 6"),
     ("merge -i names.bed", "names.bed:1: start is not a number", "its first line names the columns: tail -n +2"),
     ("merge -i bare.bed -g g.txt", "bare.bed:1: chromosome is not in the genome file", "in g.txt 1 is there as chr1"),
     ("merge -i none.bed", "none.bed: cannot be opened", "none.bed isn't there"),
@@ -308,6 +314,16 @@ def try_awks(place, folder, count):
         count.expect(f"{name}: check", True, len(reports[name]) > 1000 and len(set(reports.values())) == 1)
 
 
+def try_page(place, folder, count):
+    """The examples of DROPIN.md, in a folder of their own, with the front and the drop-in on PATH."""
+    made = folder.parent / "page"
+    made.mkdir()
+    env = environment(drop_in(place), place / "bin")
+    for number, command, wanted in examples_of((TOP / "docs" / "DROPIN.md").read_text(encoding="utf-8")):
+        output, said, _ = shell(command, made, env)
+        count.expect(f"DROPIN.md:{number}: {command}", wanted, (output.decode() + said).splitlines())
+
+
 def show_costs(place, folder):
     """The milliseconds of a call, the middle of several on a small file."""
     env, rows = environment(drop_in(place)), []
@@ -342,6 +358,7 @@ def main():
         try_signals(place, folder, count)
         try_rest(place, folder, count)
         try_awks(place, folder, count)
+        try_page(place, folder, count)
         show_costs(place, folder)
     return 1 if count.close() else 0
 

@@ -86,18 +86,21 @@ function order_in_words() {
 
 function add(text) { line = line (line == "" ? "" : "; ") text }
 
+# A number with its noun, and what comes after it
+function counted(number, noun, rest) { return number " " noun (number == 1 ? "" : "s") rest }
+
 function report_words() {
     add(kind)
     if (kind == "BED" && records) {
-        add(records " record" (records == 1 ? "" : "s") " on " count " chromosome" (count == 1 ? "" : "s"))
+        add(counted(records, "record", " on " counted(count, "chromosome")))
         add(least == most ? least " columns" : least " to " most " columns")
         add(order_in_words())
-    } else if (records) add(records " records")
-    if (headers) add(headers " header lines")
-    if (blank) add(blank " blank lines")
-    if (crlf) add(crlf " lines end with CR LF")
-    if (strandless && kind == "BED") add(strandless " records without a strand")
-    if (empty && kind == "BED") add(empty " records without a base")
+    } else if (records) add(counted(records, kind == "FASTA" ? "sequence" : "record"))
+    if (headers) add(counted(headers, "header line"))
+    if (blank) add(counted(blank, "blank line"))
+    if (crlf) add(counted(crlf, "line", " with CR LF"))
+    if (strandless && kind == "BED") add(counted(strandless, "record", " without a strand"))
+    if (empty && kind == "BED") add(counted(empty, "record", " without a base"))
     print ENVIRON["file"] ": " line
     if (ENVIRON["fault"] != "") print "  can't be taken: " ENVIRON["fault"]
     if (ENVIRON["pipe"] != "") print "  " ENVIRON["pipe"]

@@ -86,7 +86,11 @@ hint_kind() {
     fi
     kind=$(kind_of "$file")
     pipe=$(pipe_for "$kind" "$file")
-    [ -z "$pipe" ] || say "$(in_words "$kind"): $pipe | dunekettle $command .."
+    case $pipe$text in
+    'start is not below end') say "records without a base are left out by awk -F'\\t' '\$2 + 0 < \$3 + 0' $file" ;;
+    ?*"$text") say "$(in_words "$kind"): $pipe | dunekettle $command .." ;;
+    *) say "line $number is: $(sed -n "${number}p" < "$file" | LC_ALL=C tr -c '[:print:]\n' ' ' | cut -c 1-60)" ;;
+    esac
 }
 
 # in_words KIND
