@@ -11,6 +11,7 @@ shells. Needs no bedtools 2.30.0, but tries more where there is one. Ends with 1
 import concurrent.futures
 import json
 import os
+import resource
 import shutil
 import signal
 import subprocess
@@ -342,6 +343,27 @@ def show_costs(place, folder):
             took.append(time.monotonic() - begun)
         rows.append(f"{name} {sorted(took)[30] * 1000:.1f}")
     print("milliseconds a call of merge: " + "; ".join(rows))
+    if theirs:
+        show_large_costs(place, folder, env, theirs)
+
+
+def show_large_costs(place, folder, env, theirs):
+    """The seconds of processor over a million records, without the drop-in, with it, and of the program alone."""
+    with (folder / "million.bed").open("w", encoding="utf-8") as file:
+        file.writelines(f"chr1\t{50 * n}\t{50 * n + 150}\tread{n}\t60\t{'+-'[n % 2]}\n" for n in range(1_000_000))
+    with (folder / "exons.bed").open("w", encoding="utf-8") as file:
+        file.writelines(f"chr1\t{250 * n}\t{250 * n + 100}\texon{n}\t0\t{'+-'[n % 2]}\n" for n in range(200_000))
+    rows = []
+    for line in ("merge -i million.bed", "intersect -u -a million.bed -b exons.bed", "intersect -s -u -a million.bed -b exons.bed",
+                 "intersect -f 0.5 -u -a million.bed -b exons.bed", "subtract -a million.bed -b exons.bed"):
+        used = []
+        for program in (theirs, drop_in(place) / "bedtools", place / "bin" / "dunekettle-bedtools"):
+            before = resource.getrusage(resource.RUSAGE_CHILDREN)
+            call([program, *line.split()], folder, env)
+            after = resource.getrusage(resource.RUSAGE_CHILDREN)
+            used.append(after.ru_utime + after.ru_stime - before.ru_utime - before.ru_stime)
+        rows.append(f"{line}: {used[0]:.2f} {used[1]:.2f} {used[2]:.2f}")
+    print("seconds of processor of bedtools, with the drop-in, of the program alone:", *rows, sep="\n  ")
 
 
 def main():

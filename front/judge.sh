@@ -148,6 +148,10 @@ has_several_hits() {
 # Sets `why` for merge, complement, intersect, subtract and genomecov
 look_at_features() {
     case $command in intersect | subtract) set -- "$a" "$b" ;; *) set -- "$i" ;; esac
+    if lists_hits && ! is_stream "$a" && ! is_stream "$b" && has_several_hits; then
+        why='bedtools orders the hits of a record otherwise; -sorted orders them'
+        return
+    fi
     streams=0
     for input; do
         if is_stream "$input"; then
@@ -160,8 +164,6 @@ look_at_features() {
     done
     if [ "$streams" != 0 ]; then
         streams_are_known || why='what a stream has, or its order, is unknown'
-    elif lists_hits && has_several_hits; then
-        why='bedtools orders the hits of a record otherwise'
     elif [ -n "$f" ] && ! fraction_is_exact; then
         why='bedtools compares -f by seven digits, too few for the longest records'
     fi
