@@ -32,7 +32,7 @@ FILES = {
     "cr.bed": b"chr1\t2\t6\rchr1\t4\t9\r", "spaces.bed": b"chr1 2 6\n", "names.bed": b"name\tstart\tend\nchr1\t2\t6\n",
     "bare.bed": b"1\t2\t6\n", "natural.bed": b"chr2\t2\t6\nchr10\t2\t6\n", "cram.cram": b"CRAM\3\0", "a\nb.bed": b"chr1\t2\t6\n",
     "dot.bed": b"chr1\t2\t6\ta\t0\t.\n", "short.bed": b"chr1\t2\t6\nchr1\t5\n", "no_base.bed": b"chr1\t5\t5\n",
-    "crlf.bed": b"chr1\t2\t6\r\n\r\n", "s.fa": b">chr1\nACGT\n", "-x": b"chr1\t2\t6\n",
+    "crlf.bed": b"chr1\t2\t6\r\n\r\n", "s.fa": b">chr1\nACGT\n", "s.fa.fai": b"chr1\t4\t6\t4\t5\n", "stdin": b"chr1\t2\t6\n", "-x": b"chr1\t2\t6\n",
 }
 # The words after `dunekettle`, the fault that the program reports, and a part of the hint.
 HINTS = [
@@ -112,9 +112,9 @@ def try_help(place, folder, count):
     count.expect("check: status", 1, status)
     for name, kind, order in (("f.bed", "BED", "bytes"), ("unsorted.bed", "BED", "none"), ("natural.bed", "BED", "numbers"), ("vcf.vcf", "VCF", None),
                               ("numbers.vcf", "VCF", None), ("gff.gff", "GFF", None), ("sam.sam", "SAM", None), ("utf16.bed", "UTF-16", None),
-                              ("mark.bed", "byte order mark", None), ("cr.bed", "CR", None), ("s.fa", "FASTA", None), ("g.txt", "genome file", None)):
+                              ("mark.bed", "byte order mark", None), ("cr.bed", "CR", None), ("s.fa", "FASTA", None), ("g.txt", "genome file", None), ("s.fa.fai", "genome file", None), ("./stdin", "BED", "bytes")):
         count.expect(f"check: {name}", (kind, order), (reports[name]["kind"], reports[name]["order"]))
-    count.expect("check: what is taken", ["a\nb.bed", "bare.bed", "crlf.bed", "dot.bed", "f.bed", "g.txt", "s.fa", "sam.sam"],
+    count.expect("check: what is taken", ["./stdin", "a\nb.bed", "bare.bed", "crlf.bed", "dot.bed", "f.bed", "g.txt", "s.fa", "s.fa.fai", "sam.sam"],
                  sorted(name for name, report in reports.items() if report["taken"]))
     count.expect("check: strands and lines", (1, 1, 2), (reports["dot.bed"]["without_strand"], reports["crlf.bed"]["blank_lines"], reports["crlf.bed"]["cr_lf"]))
     output, _, status = call([front, "check", "natural.bed", "-g", "g.txt"], folder, environment())
@@ -143,7 +143,9 @@ def try_originals(place, folder, count):
         count.expect(f"original {name}: -c", (b"", "bedtools: unknown option: -c\n", 2), call(["mergeBed", "-i", "f.bed", "-c", "1"], folder, env))
         output, _, status = call(["bedtools", "--version"], folder, env)
         count.expect(f"original {name}: --version", (True, 0), (output.startswith(b"bedtools v2.30.0 (Dunekettle ") and b"without bedtools" in output, status))
-        count.expect(f"original {name}: --help", 0, call(["bedtools", "--help"], folder, env)[2])
+        for words in (["--help"], ["merge", "-h"], []):
+            output, _, status = call(["bedtools", *words], folder, env)
+            count.expect(f"original {name}: {words}", (True, 0), (output.startswith(b"dunekettle "), status))
     # An original that says what it was given, and two that call bedtools on PATH again: one in its place, one as a child.
     for name, script in (("says", "printf '%s\\0' \"$@\"\nexit 7"), ("again", 'exec bedtools "$@"'), ("child", 'bedtools "$@"')):
         (top / name).mkdir()

@@ -46,6 +46,7 @@ function name_kind() {
     else if (/^#/ || /^(track|browser)([ \t\r]|$)/ || /^[ \t\r]*$/) return
     else if (NF >= 11 && is_number($2) && is_number($4) && $6 ~ /^(\*|([0-9]+[MIDNSHPX=])+)$/) known = "SAM"
     else if (NF >= 8 && is_number($4) && is_number($5) && !(is_number($2) && is_number($3))) known = "GFF"
+    else if (NF == 5 && is_number($2) && is_number($3) && is_number($4) && ($5 - $4 == 1 || $5 - $4 == 2)) known = "genome file"
     else if (NF >= 3 && is_number($2)) known = "BED"
     else if (NF == 2 && is_number($2)) known = "genome file"
     else if (NF < 3 && /^[^ ]+ +[0-9]+ +[0-9]+/) known = "spaces"

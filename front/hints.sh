@@ -175,6 +175,7 @@ check() {
 # check_file FILE: writes what it is
 check_file() {
     fault='' kind='' pipe='' input=/dev/null
+    [ "$1" != stdin ] || set -- ./stdin
     if [ ! -e "$1" ]; then fault="it isn't there"
     elif [ ! -f "$1" ]; then fault='it is no file that can be read twice'
     elif [ ! -r "$1" ]; then fault='it may not be read'
