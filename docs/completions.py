@@ -129,9 +129,16 @@ def man_options(commands):
         lines += [f".Ss Options of {command}", ".Bl -tag -width Ds"]
         for option, value, default, text in options:
             word = {"": "", "+ or -": " Cm + Ns | Ns Cm -"}.get(value, f" Ar {value.lower()}")
-            lines += [f".It Fl {option[1:]}{word}", f"{text[0].upper()}{text[1:]}.", f"Default: {default}."]
+            lines += [f".It Fl {option[1:]}{word}", f"{text[0].upper()}{text[1:]}.", default_in_words(default)]
         lines.append(".El")
     return lines
+
+
+def default_in_words(default):
+    """The sentence of a manual page on what holds without an option."""
+    if default == "required":
+        return "Required."
+    return f"Required: {default}." if default.startswith("this or ") else f"Default: {default}."
 
 
 def with_options(page, commands):
