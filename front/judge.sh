@@ -74,9 +74,9 @@ try_words() {
 }
 
 # is_stream FILE: whether it can't be looked at and then read again
-is_stream() { case $1 in - | stdin | /dev/* | /proc/*) ;; *) [ -e "$1" ] && [ ! -f "$1" ] && [ ! -d "$1" ] ;; esac; }
+is_stream() { case $1 in - | stdin | /dev/fd/* | /dev/std* | /proc/*) ;; *) [ -e "$1" ] && [ ! -f "$1" ] && [ ! -d "$1" ] ;; esac; }
 
-# look_at FILE: sets `why` if merge doesn't take it, or if bedtools passes over lines of it or cuts them; else `lines`,
+# look_at FILE: sets `why` if merge doesn't take it, or if bedtools passes over lines of it or cuts them; else `millions` of lines,
 # and `spans`: for each chromosome its first start and its last end
 look_at() {
     if [ "$command" = maskfasta ]; then
@@ -84,8 +84,8 @@ look_at() {
     else
         spans=$("$program" merge -d "$FAR" -i "$1" ${g:+-g "$g"} 2>&1 < /dev/null)
     fi || { why=${spans##*"$NL"}; return; }
-    lines=$(LC_ALL=C awk 'NR == 1 && /^(##fileformat=VCF|\357\273\277)/ || length < 2 || length > 1023 { exit 1 }
-        END { print NR }' < "$1" 2> /dev/null) || why="$1 is VCF, or has a byte order mark, a blank line, or one of over 1,023 bytes"
+    millions=$(LC_ALL=C awk 'NR == 1 && /^(##fileformat=VCF|\357\273\277)/ || length < 2 || length > 1023 { exit 1 }
+        END { print int(NR / 1000000) }' < "$1" 2> /dev/null) || why="$1 is VCF, or has a byte order mark, a blank line, or one of over 1,023 bytes"
     case $NL$spans in *"$NL"[Tt][Rr][Aa][Cc][Kk]* | *"$NL"[Bb][Rr][Oo][Ww][Ss][Ee][Rr]* | *"$NL!"* | *"$NL>"* | \
         *"$NL"[Vv][Ii][Ss][Ii][Bb][Ii][Ll][Ii][Tt][Yy]* | *"$NL"[Cc][Hh][Rr]' '* | *"$NL"[Cc][Hh][Rr][Oo][Mm]["$TAB "]*)
         why="$1 has lines that bedtools passes over" ;;
@@ -123,7 +123,7 @@ fits() {
 
 # is_deep FILE: whether a depth of it has seven digits
 is_deep() {
-    [ "$lines" -ge 1000000 ] && "$program" genomecov -bg -i "$1" -g "$g" < /dev/null | LC_ALL=C grep -q "${TAB}[0-9]\{7,\}\$"
+    [ "$millions" -gt 0 ] && "$program" genomecov -bg -i "$1" -g "$g" < /dev/null | LC_ALL=C grep -q "${TAB}[0-9]\{7,\}\$"
 }
 
 # has_short_records FILE: whether 32-bit numbers compare the fraction of -f as exactly as billionths
