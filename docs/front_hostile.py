@@ -11,6 +11,7 @@ shells. Needs no bedtools 2.30.0, but tries more where there is one. Ends with 1
 import concurrent.futures
 import json
 import os
+import re
 import resource
 import shutil
 import signal
@@ -28,7 +29,8 @@ FILES = {
     "f.bed": b"chr1\t2\t6\ta\t0\t+\nchr1\t4\t9\tb\t0\t-\n", "unsorted.bed": b"chr1\t9\t12\nchr1\t2\t6\n", "g.txt": b"chr1\t20\nchr2\t8\n",
     "vcf.vcf": b"##fileformat=VCFv4.2\n#CHROM\tPOS\tID\nchr1\t5\trs1\tA\tG\n", "numbers.vcf": b"##fileformat=VCFv4.2\nchr1\t5\t120\tA\tG\n",
     "gff.gff": b"chr1\tx\texon\t3\t6\t.\t+\t.\tid\n", "sam.sam": b"@SQ\tSN:chr1\tLN:20\nr\t0\tchr1\t3\t9\t4M\t*\t0\t0\t*\t*\n",
-    "utf16.bed": "\ufeffchr1\t2\t6\n".encode("utf-16-le"), "mark.bed": "\ufeff#chrom\tstart\tend\nchr1\t2\t6\n".encode(),
+    "utf16.bed": "\ufeffchr1\t2\t6\n".encode("utf-16-le"), "little.bed": "chr1\t2\t6\n".encode("utf-16-le"), "big.bed": "chr1\t2\t6\n".encode("utf-16-be"),
+    "mark.bed": "\ufeff#chrom\tstart\tend\nchr1\t2\t6\n".encode(),
     "cr.bed": b"chr1\t2\t6\rchr1\t4\t9\r", "spaces.bed": b"chr1 2 6\n", "names.bed": b"name\tstart\tend\nchr1\t2\t6\n",
     "bare.bed": b"1\t2\t6\n", "natural.bed": b"chr2\t2\t6\nchr10\t2\t6\n", "cram.cram": b"CRAM\3\0", "a\nb.bed": b"chr1\t2\t6\n",
     "dot.bed": b"chr1\t2\t6\ta\t0\t.\n", "short.bed": b"chr1\t2\t6\nchr1\t5\n", "no_base.bed": b"chr1\t5\t5\n",
@@ -40,15 +42,18 @@ HINTS = [
      "names' bytes: LC_ALL=C sort -k1,1 -k2,2n unsorted.bed"),
     ("merge -i natural.bed", "natural.bed:2: record is out of order", "or give the chromosomes in their order by -g"),
     ("merge -g g.txt -i unsorted.bed", "unsorted.bed:2: record is out of order", "is that of g.txt: awk"),
-    ("merge -i zip.gz", "zip.gz:1: too few columns", "it is compressed by gzip: zcat zip.gz | dunekettle merge"),
-    ("merge -i bam.bam", "bam.bam:1: too few columns", "it is BAM: samtools view -h bam.bam | dunekettle bamtobed | dunekettle merge"),
-    ("bamtobed -i bam.bam", "bam.bam:1: too few columns", "it is BAM: samtools view -h bam.bam | dunekettle bamtobed .."),
+    ("merge -i zip.gz", "zip.gz:1: too few columns", "it is compressed by gzip: zcat zip.gz | dunekettle merge -i - .."),
+    ("merge -i bam.bam", "bam.bam:1: too few columns", "it is BAM: samtools view -h bam.bam | dunekettle bamtobed | dunekettle merge -i - .."),
+    ("bamtobed -i bam.bam", "bam.bam:1: too few columns", "it is BAM: samtools view -h bam.bam | dunekettle bamtobed -i - .."),
     ("merge -i cram.cram", "cram.cram:1: too few columns", "it is CRAM: samtools view"),
     ("merge -i vcf.vcf", "vcf.vcf:3: end is not a number", "it is VCF: awk"),
     ("merge -i gff.gff", "gff.gff:1: start is not a number", "it is GFF: awk"),
     ("merge -i sam.sam", "sam.sam:1: start is not a number", "it is SAM: dunekettle bamtobed -i sam.sam | dunekettle merge"),
     ("merge -i utf16.bed", "utf16.bed:1: start is not a number", "it is UTF-16: iconv"),
     ("merge -i mark.bed", "mark.bed:1: start is not a number", "it begins with a byte order mark: tail -c +4 mark.bed"),
+    ("merge -i little.bed", "little.bed:1: start is not a number", "it is UTF-16LE: iconv"),
+    ("merge -i big.bed", "big.bed:1: start is not a number", "it is UTF-16BE: iconv"),
+    ("intersect -a f.bed -b zip.gz", "zip.gz:1: too few columns", "zcat zip.gz | dunekettle intersect -b - .."),
     ("merge -i cr.bed", "cr.bed:1: end is not a number", "its lines end with CR alone: tr"),
     ("merge -i spaces.bed", "spaces.bed:1: too few columns", "its columns are separated by spaces: tr"),
     ("merge -i short.bed", "short.bed:2: too few columns", "line 2 is: chr1 5"),
@@ -84,6 +89,13 @@ def try_hints(place, folder, count):
         if fault:
             count.expect(f"the line of {line}", f"bedtools {line.split()[0]}: {fault}", lines[0])
         count.expect(f"the hint of {line}", (2, True), (len(lines), lines[-1].startswith("dunekettle: ") and part in lines[-1]))
+        # What a hint says to run is run, if it is for a file that is more than its first bytes.
+        advice = re.search(r"(?:bytes|g\.txt|[a-zA-Z\d]|mark|alone|spaces|columns): ((?:zcat|awk|dunekettle bamtobed|iconv|tail|tr|LC_ALL).*?)(?:, or .*)?$", lines[-1])
+        if advice and line.startswith("merge"):
+            again = " -g g.txt" if "-g" in line else ""
+            script = advice[1][: -len("..")] if advice[1].endswith("..") else f"{advice[1]} | dunekettle merge -i -{again}"
+            run = shell(script, folder, environment(place / "bin"))
+            count.expect(f"the advice for {line}: {script}", (True, "", 0), (run[0].startswith(b"chr1"), run[1], run[2]))
         quiet = call([front, *line.split()], folder, environment(DUNEKETTLE_HINTS="0"))
         count.expect(f"no hint of {line}", plain, quiet)
     output, said, status = call([front, "merge"], folder, environment(), input=FILES["unsorted.bed"])

@@ -11,13 +11,16 @@ kind_of() {
     fd377a58*) echo xz ;;
     28b52ffd*) echo zstd ;;
     efbbbf*) echo 'byte order mark' ;;
-    fffe* | feff* | ??00* | 00*) echo UTF-16 ;;
+    fffe* | feff*) echo UTF-16 ;;
+    ??00*) echo UTF-16LE ;;
+    00??*) echo UTF-16BE ;;
     *) LC_ALL=C awk -v only=kind -f "$files/check.awk" < "$1" ;;
     esac
 }
 
 # pipe_for KIND FILE: the command that makes BED (or text) of it, or nothing
 pipe_for() {
+    case $2 in -*) set -- "$1" "./$2" ;; esac
     case $2 in *[!A-Za-z0-9._/+-]*) set -- "$1" "'$(printf '%s' "$2" | sed "s/'/'\\\\''/g")'" ;; esac
     case $1$command in
     BAMbamtobed | CRAMbamtobed) printf '%s\n' "samtools view -h $2" ;;
@@ -32,7 +35,7 @@ pipe_for() {
     GFF*) printf '%s\n' "awk -F'\\t' -v OFS='\\t' '!/^#/ { print \$1, \$4 - 1, \$5, \".\", 0, \$7 }' $2" ;;
     CR*) printf '%s\n' "tr '\\r' '\\n' < $2" ;;
     'byte order mark'*) printf '%s\n' "tail -c +4 $2" ;;
-    UTF-16*) printf '%s\n' "iconv -f UTF-16 -t UTF-8 $2" ;;
+    UTF-16*) printf '%s\n' "iconv -f $1 -t UTF-8 $2" ;;
     spaces*) printf '%s\n' "tr -s ' ' '\\t' < $2" ;;
     'names of columns'*) printf '%s\n' "tail -n +2 $2" ;;
     esac
@@ -88,9 +91,14 @@ hint_kind() {
     pipe=$(pipe_for "$kind" "$file")
     case $pipe$text in
     'start is not below end') say "records without a base are left out by awk -F'\\t' '\$2 + 0 < \$3 + 0' $file" ;;
-    ?*"$text") say "$(in_words "$kind"): $pipe | dunekettle $command .." ;;
+    ?*"$text") say "$(in_words "$kind"): $pipe | dunekettle $command $(option_of "$file") - .." ;;
     *) say "line $number is: $(sed -n "${number}p" < "$file" | LC_ALL=C tr -c '[:print:]\n' ' ' | cut -c 1-60)" ;;
     esac
+}
+
+# option_of FILE: the option that names it
+option_of() {
+    case $1 in "$a") printf '%s\n' -a ;; "$b") printf '%s\n' -b ;; "$fi") printf '%s\n' -fi ;; "$bed") printf '%s\n' -bed ;; *) printf '%s\n' -i ;; esac
 }
 
 # in_words KIND
