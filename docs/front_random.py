@@ -6,7 +6,8 @@
 The files are sorted in several ways or not at all, with blank lines, header lines, lines that only look like them,
 long lines, CR LF, no strand, no base, columns that vary. Where bedtools ends with status 0 the drop-in has to write the
 same bytes with status 0. Where bedtools ends with another one, the drop-in may do so too or write what Dunekettle
-writes. Shows how many went to which program. Ends with 1 where one differs, and with 0 and a word where there is no
+writes. Then fractions of -f that a pair reaches by a base, or misses by one, in records of any length that the drop-in
+gives to Dunekettle. Shows how many went to which program. Ends with 1 where one differs, and with 0 and a word where there is no
 bedtools 2.30.0.
 """
 
@@ -119,6 +120,23 @@ def ran(program, line, folder, env):
     return output, status, said
 
 
+def try_fractions(draw, theirs, ours, folder, count):
+    """Pairs that are a base from the fraction, in records up to the length at which 32-bit numbers aren't exact any longer."""
+    for fraction in ("0.1", "0.2", "0.25", "0.3", "0.5", "0.7", "0.9", "0.99", "0.33", "0.333", "0.001", "0.999", "1.0"):
+        decimals = len(fraction.split(".")[1].rstrip("0"))
+        limit, pairs = 16_777_216 // 10**decimals, []
+        for _ in range(400):
+            length = draw.choice([draw.randrange(1, limit), limit - 1 - draw.randrange(50), draw.randrange(1, 200)])
+            least = -(-int(fraction.replace(".", "")) * length // 10 ** len(fraction.split(".")[1]))
+            pairs.append((length, max(1, min(length, least + draw.choice([-1, -1, 0, 0, 1])))))
+        (folder / "a.bed").write_text("".join(f"c{n:03}\t0\t{length}\n" for n, (length, _) in enumerate(pairs)), encoding="utf-8")
+        (folder / "b.bed").write_text("".join(f"c{n:03}\t0\t{shared}\n" for n, (_, shared) in enumerate(pairs)), encoding="utf-8")
+        for line in (["intersect", "-u"], ["intersect", "-u", "-r"], ["subtract"]):
+            line = [*line, "-f", fraction, "-a", "a.bed", "-b", "b.bed"]
+            wanted, found = ran(theirs, line, folder, environment()), ran(ours / "bedtools", line, folder, environment(ours, DUNEKETTLE_TELL="1"))
+            count.expect(" ".join(line), (wanted[:2], "Dunekettle"), (found[:2], TOLD.findall(found[2])[0][0]))
+
+
 def main():
     theirs = original()
     if not theirs:
@@ -141,6 +159,7 @@ def main():
                 count.expect(f"case {number} of seed {seed}: bedtools {' '.join(line)}, taken by {taker}", wanted[:2], found[:2])
                 if count.wrong > before:
                     print("".join(f"  {name}: {(folder / name).read_bytes()!r:.500}\n" for name in ("a.bed", "b.bed", "g.txt")), end="")
+        try_fractions(draw, theirs, ours, folder, count)
     print(f"seed {seed}: " + ", ".join(f"{taker} took {n}" for taker, n in sorted(takers.items())))
     return 1 if count.close() else 0
 
