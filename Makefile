@@ -1,8 +1,9 @@
 # make builds bin/bedtools, make example runs it, make test is the gate, make mutants tries further wrong bodies.
 # make check-docs checks the docs, make check-program the program at its edges, make check-speed its instructions,
-# make check-differences compares it with bedtools 2.30.0, make check-shards runs it in shards. make install PREFIX=.. NAME=.. copies the program, its docs,
-# its manual page and completions, make dist packs them into a tarball, make deb into a Debian package, and
-# make check-packages tries all three.
+# make check-differences compares it with bedtools 2.30.0, make check-front runs pipelines through its front, make check-shards
+# runs it in shards. make install PREFIX=.. NAME=.. copies the program, its front, their docs, manual pages and completions,
+# make uninstall removes them, make dist packs them into a tarball, make deb into a Debian package, and make check-packages
+# tries all of these.
 PREFIX ?= /usr/local
 # The name of the installed program: not `bedtools`, which it would hide.
 NAME ?= dunekettle-bedtools
@@ -25,8 +26,8 @@ SOURCES := crates.txt $(shell find crates -name out -prune -o -type f \( -name '
 DOCS := README.md CHANGELOG.md LICENSE $(wildcard docs/*.md docs/*.svg) bench/README.md bench/chart.svg \
 	$(shell find examples/shards -type f)
 
-.PHONY: all example test mutants check-docs check-program check-speed check-differences check-shards check-packages pictures completions \
-	install dist deb clean
+.PHONY: all example test mutants check-docs check-program check-speed check-differences check-front check-shards check-packages \
+	pictures completions install uninstall dist deb clean
 
 all: $(PROGRAM)
 
@@ -82,6 +83,13 @@ check-differences: $(PROGRAM)
 	docs/differences.py
 	docs/recipes.py
 
+# The front and the drop-in: hostile cases, random command lines, and pipelines, unchanged, with the drop-in first on PATH.
+check-front: $(PROGRAM)
+	! command -v shellcheck > /dev/null || shellcheck -x front/dunekettle packaging/*.sh docs/front/*.sh
+	docs/front_hostile.py
+	docs/front_random.py
+	docs/front.py
+
 # The recipes of docs/SHARDS.md, whose bytes have to be those of the whole, and times with 1, 2 and 4 jobs.
 check-shards: $(PROGRAM)
 	docs/shards.py
@@ -96,10 +104,13 @@ pictures:
 completions:
 	docs/completions.py --write
 
-# The manual page and the completions get the program's name there.
+# The manual pages and the completions get the program's name there.
 install: $(PROGRAM)
 	install -D $(PROGRAM) "$(DESTDIR)$(PREFIX)/bin/$(NAME)"
-	packaging/install.sh "$(DESTDIR)$(PREFIX)/share" "$(PREFIX)/share" "$(NAME)" $(DOCS)
+	packaging/install.sh "$(DESTDIR)$(PREFIX)" "$(PREFIX)" "$(NAME)" $(DOCS)
+
+uninstall:
+	packaging/uninstall.sh "$(DESTDIR)$(PREFIX)" "$(NAME)"
 
 dist: $(PROGRAM)
 	rm -rf bin/$(DIST)

@@ -4,13 +4,13 @@ _dunekettle_bedtools() {
     COMPREPLY=()
     if ((COMP_CWORD == 1)); then
         lines=(
-            'merge  (Joins features that overlap or touch into one, and writes chromosome, start and end of each)'
-            'complement  (Writes the parts of each chromosome that no feature covers, in the order of the genome file)'
-            'intersect  (Compares each feature A of -a with all features B of -b)'
-            'subtract  (Writes what is left of each feature A of -a without the bases of the features B of -b that hit it)'
-            'genomecov  (Writes how many features cover each base)'
-            'bamtobed  (Writes each alignment of SAM text as a BED line)'
-            'maskfasta  (Writes the lines of a FASTA file, with N in the place of each base that a record of the BED file covers)'
+            'merge  (joins features that overlap or touch, and writes chromosome, start and end of each)'
+            'complement  (writes the parts of each chromosome that no feature covers)'
+            'intersect  (compares each feature A of -a with all features B of -b)'
+            'subtract  (writes what is left of each feature A of -a without the bases of the features B of -b that hit it)'
+            'genomecov  (writes how many features cover each base, as intervals of one depth)'
+            'bamtobed  (writes each alignment of SAM text as a BED line)'
+            'maskfasta  (writes the lines of a FASTA file, with N instead of each base that a record of the BED file covers)'
         )
     else
         case $command:${COMP_WORDS[COMP_CWORD - 1]} in
@@ -18,61 +18,61 @@ _dunekettle_bedtools() {
         merge:-S | genomecov:-strand) lines=(+ -) ;;
         merge:-d | intersect:-f | intersect:-held | subtract:-f | subtract:-held | maskfasta:-mc) return ;;
         merge:*) lines=(
-            '-i  (the features, from standard input where it is missing, - or stdin)'
-            '-g  (the chromosomes in their order)'
+            '-i  (the features; - or stdin is standard input)'
+            '-g  (the chromosomes in their order: a genome file or a .fai index)'
             '-d  (joins features up to N bases apart too)'
             '-S  (merges the features of this strand alone, by the sixth column)'
-            '-s  (merges the features of each strand by themselves)'
+            '-s  (merges the features of each strand separately; not beside -S)'
         ) ;;
         complement:*) lines=(
-            '-i  (the features, from standard input where it is missing, - or stdin)'
-            '-g  (the chromosomes, their lengths and their order)'
+            '-i  (the features; - or stdin is standard input)'
+            '-g  (the chromosomes, their lengths and their order: a genome file or a .fai index)'
             '-L  (leaves out the chromosomes that have no feature)'
         ) ;;
         intersect:*) lines=(
-            '-a  (the features A and B)'
-            '-b  (the features A and B)'
-            '-g  (the chromosomes in their order)'
-            '-wa  (for each hit A as it is, in place of the shared part)'
-            '-wb  (for each hit the shared part of A, and behind it B)'
+            '-a  (the features A; - or stdin is standard input)'
+            '-b  (the features B; - or stdin is standard input)'
+            '-g  (the chromosomes in their order: a genome file or a .fai index)'
+            '-wa  (for each hit A as it is, instead of the shared part)'
+            '-wb  (for each hit the shared part of A, then B; with -wa A as it is, then B)'
             '-wo  (for each hit A, B and the number of bases that they share)'
-            '-u  (A once, where anything hits it)'
-            '-v  (A, where nothing hits it)'
+            '-u  (A once, if anything hits it)'
+            '-v  (A, if nothing hits it)'
             '-c  (A and the number of its hits, which may be 0)'
             '-f  (a hit shares at least the fraction F of the bases of A)'
-            '-r  (the same fraction is asked of the bases of B)'
-            '-s  (a hit has the strand of A)'
-            '-sorted  (nothing: all input has to be sorted)'
-            '-held  (at most N features B are kept in memory)'
+            '-r  (requires the fraction of -f of the bases of B too)'
+            '-s  (a hit has the strand of A; no strand equals no strand)'
+            '-sorted  (accepted; all input has to be sorted anyway)'
+            '-held  (ends the run where more than N features B would be kept in memory)'
         ) ;;
         subtract:*) lines=(
-            '-a  (the features A and B)'
-            '-b  (the features A and B)'
-            '-g  (the chromosomes in their order)'
-            '-A  (A as it is where nothing hits it, and nothing of it where anything does)'
-            '-f  (a hit shares at least the fraction F of the bases of A, as in intersect)'
-            '-s  (a hit has the strand of A)'
-            '-held  (at most N features B are kept in memory, as in intersect)'
+            '-a  (the features A; - or stdin is standard input)'
+            '-b  (the features B; - or stdin is standard input)'
+            '-g  (the chromosomes in their order: a genome file or a .fai index)'
+            '-A  (leaves out each A that anything hits, whole)'
+            '-f  (a hit shares at least the fraction F of the bases of A)'
+            '-s  (a hit has the strand of A; no strand equals no strand)'
+            '-held  (ends the run where more than N features B would be kept in memory)'
         ) ;;
         genomecov:*) lines=(
-            '-i  (the features, from standard input where it is missing, - or stdin)'
-            '-g  (the chromosomes, their lengths and their order)'
+            '-i  (the features; - or stdin is standard input)'
+            '-g  (the chromosomes, their lengths and their order: a genome file or a .fai index)'
             '-bg  (the intervals of a depth above 0)'
-            '-bga  (those of depth 0 too, so that every base of every chromosome lies in one)'
+            '-bga  (all intervals, those of depth 0 too)'
             '-strand  (counts the features of this strand alone, by the sixth column)'
         ) ;;
         bamtobed:*) lines=(
-            '-i  (the SAM text, from standard input where it is missing, - or stdin)'
-            '-split  (cuts each alignment at the N operations of its CIGAR (introns), and writes a line for each block that has a base of the reference)'
+            '-i  (the SAM text; - or stdin is standard input)'
+            '-split  (cuts each alignment at the N operations of its CIGAR, one line for each block)'
             '-cigar  (writes the CIGAR as a seventh column)'
         ) ;;
         maskfasta:*) lines=(
-            '-fi  (the sequences)'
-            '-bed  (the records that mask them)'
+            '-fi  (the sequences; - or stdin is standard input)'
+            '-bed  (the records that mask them, in the order of the sequences)'
             '-fo  (the file to write to, which is made or emptied)'
-            '-soft  (lower case in the place of N: a to z for A to Z, and any other byte as it was)'
-            '-mc  (the character C in the place of N)'
-            '-fullHeader  (takes the whole header behind > as the name, with its spaces)'
+            '-soft  (lower case instead of N)'
+            '-mc  (the character C instead of N; not beside -soft)'
+            '-fullHeader  (takes the whole header after > as the sequence'\''s name, with its spaces)'
         ) ;;
         esac
     fi

@@ -1,12 +1,14 @@
 #!/usr/bin/env python3
-"""Makes the completions for bash, zsh and fish from the tables of options in COMMANDS.md.
+"""Makes of front/options.txt the help of `dunekettle`, the options in the manual pages, and the completions for bash,
+zsh and fish of the program and of its front.
 
-    docs/completions.py            sees that completions/ has what would be made
-    docs/completions.py --write    writes it
+    docs/completions.py            sees that these files have what would be made
+    docs/completions.py --write    writes them
 
-The commands, their options and what each does are in COMMANDS.md alone. Of the second column of its tables the part
-before the first semicolon is taken or, if that is long, the part before the first colon. `make install` puts its NAME
-into the files. Ends with 1 if a file differs, or an option has no example on that page.
+Each line of front/options.txt is a command, or an option of one: its word, its value, its default and a line of
+help. COMMANDS.md has to have a table with the same options and values for each command, and an example of each
+option; how a command is called is taken from there, and the version from CHANGELOG.md. `make install` puts its NAME
+into the files. Ends with 1 if one differs, or an option has no example.
 """
 
 import re
@@ -15,93 +17,207 @@ from pathlib import Path
 
 TOP = Path(__file__).resolve().parent.parent
 NAME = "dunekettle-bedtools"
-COMMANDS = ("merge", "complement", "intersect", "subtract", "genomecov", "bamtobed", "maskfasta")
+FRONT = "dunekettle"
 FILES = ("FILE", "GENOME", "FASTA", "BED")
-LONG = 80
+# What the front has beside the commands: its word, and what it does.
+OWN = {"help": "shows the options of a command", "check": "says whether the commands can take a file, and why not"}
+# The options of `check`, as those of the commands.
+CHECK = [("-g", "GENOME", "", "the order of the chromosomes"), ("--json", "", "", "writes JSON")]
+VARIABLES = {
+    "DUNEKETTLE_HINTS=0": "dunekettle gives no hints, and becomes the program",
+    "DUNEKETTLE_TELL=1": "the drop-in says which program takes a command line, and why; a path instead of 1 is a file for it",
+    "DUNEKETTLE_ALWAYS=1": "the drop-in never asks the original",
+    "DUNEKETTLE_STREAMS=1": "the drop-in takes standard input and pipes as sorted",
+}
+WIDTH = 80
+# Where a manual page has the options.
+MAN = re.compile(r'(\.\\" docs/completions.py --write writes from here\n).*?(\.\\" to here\n)', re.DOTALL)
 
 
-def plain(text):
-    """A text of a table without Markdown, up to its first semicolon, or where it is long its first colon."""
-    text = re.sub(r"\[([^\]]*)\]\([^)]*\)", r"\1", text).replace("`", "").replace("\\|", "|")
-    text = text.split(";")[0]
-    if len(text) > LONG:
-        text = text.split(":")[0]
-    return text.split(". ")[0].rstrip(".").strip()
+def read_options():
+    """The kit, and the commands: each with what it does, and its options as word, value, default and text."""
+    kit, commands = "", {}
+    for line in (TOP / "front" / "options.txt").read_text(encoding="utf-8").splitlines():
+        if line.startswith("#"):
+            continue
+        command, option, value, default, text = line.split("\t")
+        if command == "kit":
+            kit = text
+        elif option:
+            commands[command][1].append((option, value, default, text))
+        else:
+            commands[command] = (text, [])
+    return kit, commands
 
 
-def sections():
+def sections(commands):
     """The part of COMMANDS.md of each command."""
     page = (TOP / "docs" / "COMMANDS.md").read_text(encoding="utf-8")
-    return {command: page.split(f"\n## {command}\n", 1)[1].split("\n## ", 1)[0] for command in COMMANDS}
+    return {command: page.split(f"\n## {command}\n", 1)[1].split("\n## ", 1)[0] for command in commands}
 
 
-def purpose(section):
-    """What a command does: the first sentence below its synopsis."""
-    line = next(line for line in section.splitlines() if line and not line.startswith(" "))
-    return plain(line.split(". ")[0])
+def synopsis(command, section):
+    """How a command is called, in one line without the program's name: the first block of its part of COMMANDS.md."""
+    lines = re.search(rf"^    {NAME} ({command} .*(?:\n {{5,}}\S.*)*)$", section, re.MULTILINE)[1]
+    return " ".join(lines.split())
 
 
-def options(section):
-    """The options of a command: the word, its value or nothing, and what it does."""
-    found = []
-    table = section.split("\n| option |", 1)[1].split("\n\n", 1)[0]
-    for line in table.splitlines()[2:]:
-        words, text = line.strip("| ").split(" | ")[:2]
-        for word in re.findall(r"`([^`]*)`", words):
-            option, _, value = word.partition(" ")
-            if option not in [known for known, _, _ in found]:
-                found.append((option, "+ or -" if value in ("+", "-") else value, plain(text)))
-    return found
+def version():
+    """The version, from CHANGELOG.md."""
+    return re.search(r"^## (\S+)", (TOP / "CHANGELOG.md").read_text(encoding="utf-8"), re.MULTILINE)[1]
 
 
 def without_example(commands):
-    """The options of COMMANDS.md that no example of the page has, each with its command."""
-    for command, section in commands.items():
+    """The options that no example of COMMANDS.md has, each with its command."""
+    for command, section in sections(commands).items():
         examples = re.findall(rf"^    [$>] .*\b{command}\b(.*)", section, re.MULTILINE)
         given = {word for words in examples for word in words.split()}
-        yield from (f"{command} {option}" for option, _, _ in options(section) if option not in given)
+        yield from (f"{command} {option}" for option, _, _, _ in commands[command][1] if option not in given)
 
 
-def bash_file(commands):
+def tables_differ(commands):
+    """Whether a table of COMMANDS.md has other options than front/options.txt, or other values."""
+    parts, differ = sections(commands), False
+    for command, (_, options) in commands.items():
+        words = set()
+        for line in parts[command].splitlines():
+            if line.startswith("| `-"):
+                words.update(re.findall(r"`(-[^`]*)`", line.split(" | ")[0]))
+        # A strand's option stands with each of its values.
+        wanted = set()
+        for option, value, _, _ in options:
+            wanted.update([f"{option} {sign}" for sign in "+-"] if value == "+ or -" else [f"{option} {value}".rstrip()])
+        for word in sorted(words ^ wanted):
+            print(f"{command}: {word} stands in {'COMMANDS.md' if word in words else 'front/options.txt'} alone")
+            differ = True
+    return differ
+
+
+def help_text(kit, commands):
+    """The help of the front: a part for each command, behind a line that begins with a percent sign."""
+    lines = [f"Dunekettle {version()}", "% version", f"Dunekettle {version()}, proved with {kit}", f"commands: {' '.join(commands)}",
+             "% dunekettle",
+             "dunekettle COMMAND [OPTION..]            runs a command; a hint may follow its fault",
+             "dunekettle help COMMAND                  the options of a command, also COMMAND --help",
+             "dunekettle check FILE.. [-g GENOME] [--json]",
+             "                                         whether the commands can take these files",
+             "dunekettle --version                     the version, the kit and the commands", "",
+             "Input is sorted by chromosome and start: LC_ALL=C sort -k1,1 -k2,2n", ""]
+    calls = {command: f"{FRONT} {synopsis(command, section)}" for command, section in sections(commands).items()}
+    for command, (purpose, _) in commands.items():
+        lines += wrapped(f"{command:<12}", purpose)
+    lines += ["", "Environment:"]
+    for variable, text in VARIABLES.items():
+        lines += wrapped(f"  {variable:<22}", text)
+    lines += ["", "Pages: man dunekettle, and the folder doc/ of the installation."]
+    for command, (purpose, options) in commands.items():
+        lines += [f"% {command}", *wrapped("", calls[command], "    "), "", *wrapped("", purpose[0].upper() + purpose[1:] + "."), ""]
+        for option, value, default, text in options:
+            lines += wrapped(f"  {(option + ' ' + value).rstrip():<15}", f"{text} [{default}]")
+    lines += ["% check", "dunekettle check FILE.. [-g GENOME] [--json]", "",
+              *wrapped("", "Says of each file of what kind it is, by which order it is sorted, and what it has: header lines, blank "
+                       "lines, CR LF, records without a strand; then which names the files don't share. Status 0 if the seven "
+                       "commands can take them all, else 1."), ""]
+    for option, value, _, text in CHECK:
+        lines += wrapped(f"  {(option + ' ' + value).rstrip():<15}", text)
+    return lines
+
+
+def wrapped(lead, text, indent=None):
+    """Text in lines of at most WIDTH, the first behind a lead, the others as far in."""
+    lines, indent = [lead], " " * len(lead) if indent is None else indent
+    for word in text.split(" "):
+        if len(lines[-1]) + 1 + len(word) > WIDTH and lines[-1].strip() and lines[-1] != lead:
+            lines.append(indent + word)
+        else:
+            lines[-1] += word if lines[-1] == lead else " " + word
+    return lines
+
+
+def man_options(commands):
+    """The options of all commands as a manual page has them."""
+    lines = []
+    for command, (_, options) in commands.items():
+        lines += [f".Ss Options of {command}", ".Bl -tag -width Ds"]
+        for option, value, default, text in options:
+            word = {"": "", "+ or -": " Cm + Ns | Ns Cm -"}.get(value, f" Ar {value.lower()}")
+            lines += [f".It Fl {option[1:]}{word}", f"{text[0].upper()}{text[1:]}.", default_in_words(default)]
+        lines.append(".El")
+    return lines
+
+
+def default_in_words(default):
+    """The sentence of a manual page on what holds without an option."""
+    if default == "required":
+        return "Required."
+    return f"Required: {default}." if default.startswith("this or ") else f"Default: {default}."
+
+
+def with_options(page, commands):
+    """A manual page whose options are written anew."""
+    text = (TOP / page).read_text(encoding="utf-8")
+    return MAN.sub(lambda found: found[1] + "".join(f"{line}\n" for line in man_options(commands)) + found[2], text)
+
+
+def all_words(name, commands):
+    """The first words of a program, each with what it does, and their options."""
+    words = {command: (purpose, options) for command, (purpose, options) in commands.items()}
+    if name == FRONT:
+        words["help"] = (OWN["help"], [])
+        words["check"] = (OWN["check"], CHECK)
+    return words
+
+
+def bash_file(name, commands):
     """Where several words are left, bash lists each with its text; a single one is put in without it."""
-    lines = [f"# Completions of {NAME} for bash, made by docs/completions.py.",
-             "_dunekettle_bedtools() {",
+    function = "_" + name.replace("-", "_")
+    lines = [f"# Completions of {name} for bash, made by docs/completions.py.",
+             f"{function}() {{",
              "    local word=${COMP_WORDS[COMP_CWORD]} command=${COMP_WORDS[1]-} line lines=()",
              "    COMPREPLY=()",
              "    if ((COMP_CWORD == 1)); then",
              "        lines=("]
-    lines += [f"            {quoted(f'{command}  ({purpose(section)})')}" for command, section in commands.items()]
+    words = all_words(name, commands)
+    lines += [f"            {quoted(f'{command}  ({purpose})')}" for command, (purpose, _) in words.items()]
     lines += ["        )", "    else", '        case $command:${COMP_WORDS[COMP_CWORD - 1]} in']
     for kind, action in (("file", "compopt -o default; return"), ("strand", "lines=(+ -)"), ("other", "return")):
-        words = [f"{command}:{option}" for command, section in commands.items()
-                 for option, value, _ in options(section) if kind_of(value) == kind]
-        lines.append(f"        {' | '.join(words)}) {action} ;;")
-    for command, section in commands.items():
-        lines.append(f"        {command}:*) lines=(")
-        lines += [f"            {quoted(f'{option}  ({text})')}" for option, _, text in options(section)]
-        lines.append("        ) ;;")
+        places = [f"{command}:{option}" for command, (_, options) in words.items()
+                  for option, value, _, _ in options if kind_of(value) == kind]
+        lines.append(f"        {' | '.join(places)}) {action} ;;")
+    if name == FRONT:
+        lines += [f"        help:*) lines=({' '.join(commands)}) ;;", "        check:*) [[ $word == -* ]] || { compopt -o default; return; } ;;&"]
+    for command, (_, options) in words.items():
+        if options:
+            lines.append(f"        {command}:*) lines=(")
+            lines += [f"            {quoted(f'{option}  ({text})')}" for option, _, _, text in options]
+            lines.append("        ) ;;")
     lines += ["        esac", "    fi",
               '    for line in "${lines[@]}"; do',
               '        [[ $line == "$word"* ]] && COMPREPLY+=("$line")',
               "    done",
               "    ((${#COMPREPLY[@]} != 1)) || COMPREPLY=(\"${COMPREPLY[0]%%  (*}\")",
               "}",
-              f"complete -F _dunekettle_bedtools {NAME}"]
+              f"complete -F {function} {name}"]
     return lines
 
 
-def zsh_file(commands):
+def zsh_file(name, commands):
     """The words behind the command are taken as those of a program of its own."""
-    lines = [f"#compdef {NAME}", f"# Completions of {NAME} for zsh, made by docs/completions.py.",
+    words = all_words(name, commands)
+    lines = [f"#compdef {name}", f"# Completions of {name} for zsh, made by docs/completions.py.",
              "local -a commands", "commands=("]
-    lines += [f"    {quoted(f'{command}:{purpose(section)}')}" for command, section in commands.items()]
+    lines += [f"    {quoted(f'{command}:{purpose}')}" for command, (purpose, _) in words.items()]
     lines += [")", "if ((CURRENT == 2)); then", "    _describe command commands", "    return", "fi",
               "local command=$words[2]", "shift words", "((CURRENT--))", "case $command in"]
-    for command, section in commands.items():
-        lines.append(f"{command})")
-        lines.append("    _arguments \\")
-        lines += [f"        {zsh_option(*option)} \\" for option in options(section)]
-        lines[-1] = lines[-1][:-2] + " ;;"
+    if name == FRONT:
+        lines += ["help)", "    _describe command commands ;;"]
+    for command, (_, options) in words.items():
+        if options:
+            lines += [f"{command})", "    _arguments \\"]
+            lines += [f"        {zsh_option(option, value, text)} \\" for option, value, _, text in options]
+            if command == "check":
+                lines.append("        '*:file:_files' \\")
+            lines[-1] = lines[-1][:-2] + " ;;"
     return [*lines, "esac"]
 
 
@@ -112,16 +228,20 @@ def zsh_option(option, value, text):
     return quoted(f"{option}[{text}]" + (f":{value}{action}" if value else ""))
 
 
-def fish_file(commands):
+def fish_file(name, commands):
     """fish knows options of one hyphen and several letters as old ones."""
-    lines = [f"# Completions of {NAME} for fish, made by docs/completions.py.", f"complete -c {NAME} -f"]
-    for command, section in commands.items():
-        lines.append(f"complete -c {NAME} -n __fish_use_subcommand -a {command} -d {fish_quoted(purpose(section))}")
-    for command, section in commands.items():
-        for option, value, text in options(section):
+    words = all_words(name, commands)
+    lines = [f"# Completions of {name} for fish, made by docs/completions.py.", f"complete -c {name} -f"]
+    for command, (purpose, _) in words.items():
+        lines.append(f"complete -c {name} -n __fish_use_subcommand -a {command} -d {fish_quoted(purpose)}")
+    if name == FRONT:
+        lines += [f"complete -c {name} -n '__fish_seen_subcommand_from help' -a '{' '.join(commands)}'",
+                  f"complete -c {name} -n '__fish_seen_subcommand_from check' -F"]
+    for command, (_, options) in words.items():
+        for option, value, _, text in options:
             how = {"file": " -r -F", "strand": " -x -a '+ -'", "other": " -x", "none": ""}[kind_of(value)]
-            lines.append(f"complete -c {NAME} -n '__fish_seen_subcommand_from {command}' -o {option[1:]}{how} "
-                         f"-d {fish_quoted(text)}")
+            word = f"-l {option[2:]}" if option.startswith("--") else f"-o {option[1:]}"
+            lines.append(f"complete -c {name} -n '__fish_seen_subcommand_from {command}' {word}{how} -d {fish_quoted(text)}")
     return lines
 
 
@@ -142,23 +262,38 @@ def fish_quoted(text):
     return "'" + text.replace("\\", "\\\\").replace("'", "\\'") + "'"
 
 
+def made(kit, commands):
+    """Each file and its text."""
+    files = {"front/help.txt": help_text(kit, commands)}
+    for name in (NAME, FRONT):
+        for shell, lines in (("bash", bash_file), ("zsh", zsh_file), ("fish", fish_file)):
+            files[f"completions/{name}.{shell}"] = lines(name, commands)
+    texts = {name: "".join(f"{line}\n" for line in lines) for name, lines in files.items()}
+    texts.update((page, with_options(page, commands)) for page in ("man/bedtools.1", "man/dunekettle.1"))
+    return texts
+
+
 def main():
-    commands = sections()
-    bare = list(without_example(commands))
-    for option in bare:
-        print(f"docs/COMMANDS.md: no example of {option}")
+    kit, commands = read_options()
     wrong = 0
-    for shell, made in (("bash", bash_file), ("zsh", zsh_file), ("fish", fish_file)):
-        text = "".join(f"{line}\n" for line in made(commands))
-        file = TOP / "completions" / f"{NAME}.{shell}"
+    files = made(kit, commands)
+    for name, text in files.items():
+        file = TOP / name
         if "--write" in sys.argv[1:]:
             file.parent.mkdir(exist_ok=True)
             file.write_text(text, encoding="utf-8")
         elif not file.exists() or file.read_text(encoding="utf-8") != text:
             wrong += 1
-            print(f"{file.relative_to(TOP)} isn't what docs/COMMANDS.md says: docs/completions.py --write")
-    print(f"3 files of completions, {wrong} of them differ")
-    return 1 if wrong or bare else 0
+            print(f"{name} isn't what front/options.txt says: docs/completions.py --write")
+    kits = set(re.findall(r"rattle-kit-\w+", (TOP / "README.md").read_text(encoding="utf-8"))) - {kit}
+    for other in sorted(kits):
+        print(f"README.md names {other}, and front/options.txt {kit}")
+    bare = list(without_example(commands))
+    for option in bare:
+        print(f"docs/COMMANDS.md: no example of {option}")
+    differ = tables_differ(commands)
+    print(f"{len(files)} files of help and completions, {wrong} of them differ")
+    return 1 if wrong or kits or bare or differ else 0
 
 
 if __name__ == "__main__":

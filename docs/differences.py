@@ -1,23 +1,28 @@
 #!/usr/bin/env python3
-"""Tries each row of DIFFERENCES.md with the program in bin/ and with the bedtools 2.30.0 on PATH.
+"""Tries each row of DIFFERENCES.md with the program in bin/, with the bedtools 2.30.0 on PATH, and with the drop-in.
 
     docs/differences.py
 
 A trial is one command line for each program, in a folder with the files below, and what each has to answer:
 standard output and exit status, and for ours standard error too. A row of a table has a trial of its name, and
-each trial has a row. What other pages say of bedtools is tried with bedtools alone. Each option that bedtools names in the help text of a command has a row in OPTIONS.md, and the
-program takes it if and only if the second column of that row is `yes`. Ends with 1 if one differs, and with 0 and a
-word if there is no such bedtools.
+each trial has a row, whose kind is that of the answers. The drop-in gets the command line of bedtools, has to give it
+to the program that the row names, and to answer as that one does. What other pages say of bedtools is tried with
+bedtools alone. Each option that bedtools names in the help text of a command has a row in OPTIONS.md, and the program
+takes it if and only if the second column of that row is `yes`. Ends with 1 if one differs, and with 0 and a word if
+there is no such bedtools.
 """
 
 import base64
 import gzip
+import os
 import re
 import shutil
 import subprocess
 import sys
 import tempfile
 from pathlib import Path
+
+from front_tools import TOLD, drop_in, install
 
 HERE = Path(__file__).resolve().parent
 OURS = HERE.parent / "bin" / "bedtools"
@@ -50,6 +55,10 @@ FILES = {
     "bare.fa": ">r\n>s\nACGT\n",
     "blank.fa": ">chr1\nACGT\n\nAC\n",
     "past.bed": "chr1\t25\t30\n",
+    "numbers.vcf": "##fileformat=VCFv4.2\n#CHROM\tPOS\tID\tREF\tALT\tQUAL\tFILTER\tINFO\nchr1\t5\t120\tA\tG\t.\t.\t.\n",
+    "calls.vcf": "##fileformat=VCFv4.2\n#CHROM\tPOS\tID\tREF\tALT\tQUAL\tFILTER\tINFO\nchr1\t5\trs12\tA\tG\t.\t.\t.\n",
+    "mark.bed": "\ufeffchr1\t2\t6\n",
+    "second.bed": "chr2\t2\t6\n",
     "gff.gff": "chr1\tx\texon\t3\t6\t.\t+\t.\tid\n",
     "three.bed": "chr1\t0\t3\n",
     "one.bed": "chr1\t0\t1\n",
@@ -107,6 +116,10 @@ class Trial:
 
 # The row, their command, its output and status; our command, its output, error and status.
 TRIALS = [
+    Trial("VCF with numeric IDs", "merge -i numbers.vcf", "chr1\t4\t5\n", 0, "merge -i numbers.vcf", "chr1\t5\t120\n", "", 0),
+    Trial("other VCF", "merge -i calls.vcf", "chr1\t4\t5\n", 0,
+          "merge -i calls.vcf", "", "bedtools merge: calls.vcf:3: end is not a number\n", 1),
+    Trial("byte order mark", "merge -i mark.bed", "", 1, "merge -i mark.bed", "\ufeffchr1\t2\t6\n", "", 0),
     Trial("full disk", "merge -i f.bed > /dev/full", "", 0,
           "merge -i f.bed > /dev/full", "", "bedtools merge: writing failed\n", 1),
     Trial("reader goes away", "intersect -a many.bed -b f.bed -u | head -n 1; exit ${PIPESTATUS[0]}", "chr1\t2\t6\n", 141,
@@ -120,6 +133,8 @@ TRIALS = [
           "intersect -a - -b - < f.bed", "", "bedtools: standard input named twice\n", 2),
     Trial("standard input under a second name, as `-a - -b /dev/stdin`", "intersect -a - -b /dev/stdin -c < <(cat one.bed)", "chr1\t0\t1\t0\n", 0,
           "intersect -a - -b /dev/stdin -c < <(cat one.bed)", "chr1\t0\t1\t0\n", "", 0),
+    Trial("standard input under a second name, as `-a - -b /dev/stdin`", "intersect -a - -b /dev/stdin -c < <(cat even.bed) | awk 'END { print NR < 8000 }'", "1\n", 0,
+          "intersect -a - -b /dev/stdin -c < <(cat even.bed) | wc -l", "4096\n", "", 0),
     Trial("order of chromosomes", "merge -i swapped.bed", "chr2\t0\t6\nchr1\t2\t6\n", 0,
           "merge -i swapped.bed", "", "bedtools merge: swapped.bed:2: record is out of order\n", 1),
     Trial("order of chromosomes with `-sorted`", "intersect -sorted -a natural.bed -b natural.bed", FILES["natural.bed"], 0,
@@ -145,7 +160,7 @@ TRIALS = [
           "bedtools intersect: nameless.bed:1: empty chromosome name\n", 1),
     Trial("compressed input", "merge -i f.bed.gz", MERGED, 0,
           "merge -i f.bed.gz", "", "bedtools merge: f.bed.gz:1: too few columns\n", 1),
-    Trial("GFF, VCF and BAM as input", "merge -i gff.gff", "chr1\t2\t6\n", 0,
+    Trial("GFF and BAM as input", "merge -i gff.gff", "chr1\t2\t6\n", 0,
           "merge -i gff.gff", "", "bedtools merge: gff.gff:1: start is not a number\n", 1),
     Trial("other lines that look like header lines", "merge -i like_headers.bed", "chr1\t2\t6\n", 0,
           "merge -i like_headers.bed", FILES["like_headers.bed"], "", 0),
@@ -173,7 +188,7 @@ TRIALS = [
     Trial("help", "--help > /dev/null", "", 0, "--help", "", "bedtools: no or unknown command\n", 2),
     Trial("`-s` without a strand in merge", "merge -i no_strand.bed -s", "", 0,
           "merge -i no_strand.bed -s", "chr1\t2\t6\n", "", 0),
-    Trial("`-s` behind a change of chromosome", "merge -i strands.bed -s",
+    Trial("`-s` after a change of chromosome", "merge -i strands.bed -s",
           "chr9\t0\t50\nchr10\t0\t6\nchr9\t20\t30\nchr10\t5\t8\n", 0,
           "merge -i strands.bed -g natural.txt -s", "chr9\t0\t50\nchr9\t20\t30\nchr10\t0\t8\n", "", 0),
     Trial("`-s` with equal starts", "merge -i ties.bed -s", "chr1\t4\t6\nchr1\t6\t8\nchr1\t12\t14\nchr1\t12\t15\n", 0,
@@ -234,6 +249,9 @@ TRIALS = [
           "genomecov -bg -i unsorted.bed -g g.txt", "", "bedtools genomecov: unsorted.bed:2: record is out of order\n", 1),
     Trial("order of chromosomes in genomecov", "genomecov -bg -i swapped.bed -g g.txt", "chr2\t0\t6\t1\nchr1\t2\t6\t1\n", 0,
           "genomecov -bg -i swapped.bed -g g.txt", "", "bedtools genomecov: swapped.bed:2: record is out of order\n", 1),
+    Trial("chromosomes without features, with `-bga`", "genomecov -bga -i second.bed -g g.txt",
+          "chr2\t0\t2\t0\nchr2\t2\t6\t1\nchr2\t6\t8\t0\nchr1\t0\t20\t0\n", 0,
+          "genomecov -bga -i second.bed -g g.txt", "chr1\t0\t20\t0\nchr2\t0\t2\t0\nchr2\t2\t6\t1\nchr2\t6\t8\t0\n", "", 0),
     Trial("chromosome that comes back", "genomecov -bg -i back.bed -g g.txt",
           "chr1\t2\t6\t1\nchr2\t2\t6\t1\nchr1\t3\t9\t1\n", 0,
           "genomecov -bg -i back.bed -g g.txt", "chr1\t2\t6\t1\n",
@@ -254,6 +272,8 @@ TRIALS = [
           "chr1\t2\t4\t1\nchr1\t4\t6\t2\nchr1\t6\t9\t1\nchr1\t14\t17\t1\n", "", 0),
     Trial("BAM", "bamtobed -i reads.sam", "ref\t15\t40\tr004\t30\t+\n", 0,
           "bamtobed -i reads.sam", "ref\t15\t40\tr004\t30\t+\n", "", 0),
+    Trial("BAM", "bamtobed -i at_zero.bam | wc -l", "3\n", 0,
+          "bamtobed -i at_zero.bam", "", "bedtools bamtobed: at_zero.bam:1: too few columns\n", 1),
     Trial("SAM without header lines", "bamtobed -i no_header.sam", "", 1,
           "bamtobed -i no_header.sam", "ref\t15\t40\tr004\t30\t+\n", "", 0),
     Trial("`-cigar` with `-split`", "bamtobed -i reads.sam -cigar -split", "".join(f"{line}\n" for line in SPLIT), 0,
@@ -339,6 +359,8 @@ def fill(folder):
     """Writes the files of the trials."""
     for name, text in FILES.items():
         Path(folder, name).write_bytes(text.encode())
+    # Lines of 16 bytes, so that a block ends between two of them.
+    Path(folder, "even.bed").write_text("".join(f"c\t{n}0\t{n}5\n".replace("\t", "\t0", 2) for n in range(1001, 9001)), encoding="utf-8")
     Path(folder, "f.bed.gz").write_bytes(gzip.compress(FILES["f.bed"].encode()))
     Path(folder, "at_zero.bam").write_bytes(base64.b64decode(AT_ZERO))
     Path(folder, "many.bed").write_text("chr1\t2\t6\n" * 100_000, encoding="utf-8")
@@ -365,13 +387,43 @@ def said_wrongly(said, theirs, folder):
 
 
 def rows_of(page):
-    """The rows of the tables of differences, by their first column."""
-    rows, inside = [], False
+    """The rows of the tables of differences: of each first column its kind, and who takes it of the drop-in."""
+    rows, inside = {}, False
     for line in page.splitlines():
         inside = line.startswith("| difference |") or (inside and line.startswith("|"))
         if inside and not line.startswith(("| difference |", "|---")):
-            rows.append(line.split("|")[1].strip())
+            cells = [cell.strip() for cell in re.split(r"(?<!\\)\|", line)]
+            rows[cells[1]] = tuple(cells[4:6])
     return rows
+
+
+def kinds_differ(trials, rows):
+    """How many rows are of another kind than their trials say: silent where both programs end with 0 and write other bytes."""
+    wrong = 0
+    for row, (kind, _) in rows.items():
+        answers = [trial.wanted for trial in trials if trial.row == row]
+        is_silent = any(theirs[1] == ours[2] == 0 and theirs[0] != ours[0] for theirs, ours in answers)
+        is_error = any(theirs[1] or ours[2] for theirs, ours in answers)
+        if answers and not {"silent": is_silent, "error": is_error, "cosmetic": True}.get(kind, False):
+            wrong += 1
+            print(f"{row}: isn't {kind}")
+    return wrong
+
+
+def drop_in_differs(trial, rows, bedtools, folder):
+    """Whether the drop-in gives the command line of bedtools to another program than the row says, or answers otherwise."""
+    told = Path(folder, "told.txt")
+    told.write_text("", encoding="utf-8")
+    output, error, status = ran(bedtools, trial.commands[0], folder)
+    takers = {"Dunekettle" if who == "Dunekettle" else "bedtools" for who, _ in TOLD.findall(told.read_text(encoding="utf-8"))}
+    wanted = rows.get(trial.row, ("", ""))[1]
+    is_theirs = takers == {"bedtools"} and (output, status) == trial.wanted[0]
+    # Where the command lines are others, ours isn't what Dunekettle answers to theirs.
+    is_ours = takers == {"Dunekettle"} and (trial.commands[0] != trial.commands[1] or (output, error, status) == trial.wanted[1])
+    if not {"bedtools": is_theirs, "Dunekettle": is_ours, "either": is_theirs or is_ours}.get(wanted, False):
+        print(f"{trial.row}: of the drop-in {takers} take {trial.commands[0]}, which gives {output, error, status}")
+        return True
+    return False
 
 
 def their_options(theirs, command):
@@ -414,12 +466,18 @@ def main():
         print("no bedtools 2.30.0 on PATH: nothing was tried")
         return 0
     wrong = 0
+    rows = rows_of((HERE / "DIFFERENCES.md").read_text(encoding="utf-8"))
     with tempfile.TemporaryDirectory() as folder:
         fill(folder)
         wrong += sum(differs(trial, theirs, folder) for trial in TRIALS)
         wrong += sum(said_wrongly(said, theirs, folder) for said in SAID)
         wrong += sum(options_differ(theirs, command, folder) for command in COMMANDS)
-    rows = rows_of((HERE / "DIFFERENCES.md").read_text(encoding="utf-8"))
+        os.environ["DUNEKETTLE_TELL"] = str(Path(folder, "told.txt"))
+        bedtools = drop_in(install(Path(folder, "there"))) / "bedtools"
+        others = sum(drop_in_differs(trial, rows, bedtools, folder) for trial in TRIALS)
+    wrong += kinds_differ(TRIALS, rows)
+    print(f"{len(TRIALS)} rows given to the drop-in, {others} of them taken otherwise")
+    wrong += others
     untried = sorted(set(rows) ^ {trial.row for trial in TRIALS})
     for row in untried:
         print(f"a row without a trial, or a trial without a row: {row}")

@@ -11,7 +11,7 @@ A page whose examples call `dunekettle-bedtools` has the program under that name
 the other pages `bedtools` is the program. The first page of a crate is the comment at the head
 of its src/lib.rt, with the first function of src/example.rt, which is its test or is run by it; or the comment of
 its src/main.rt, with a shell example that is run in the crate's folder. The code of LIBRARY.md is that of the file
-named above it. Ends with 1 where one differs.
+named above it. Those of DROPIN.md need an installation: docs/front_hostile.py runs them. Ends with 1 where one differs.
 """
 
 import os
@@ -123,7 +123,7 @@ def check_code():
 
 def main():
     pages = [Path(name).resolve() for name in sys.argv[1:]]
-    counts = [check(page) for page in pages or [TOP / "README.md", *sorted((TOP / "docs").glob("*.md"))]]
+    counts = [check(page) for page in pages or [TOP / "README.md", *sorted(set((TOP / "docs").glob("*.md")) - {TOP / "docs" / "DROPIN.md"})]]
     if not pages:
         counts += [check_program(page) for page in sorted(TOP.glob("crates/*/src/main.rt"))]
         counts += [check_library(page) for page in sorted(TOP.glob("crates/*/src/lib.rt"))]

@@ -31,6 +31,7 @@ VERSIONS = {
     "README.md": r"version (\d+\.\d+\.\d+)",
     "CHANGELOG.md": r"^## (\d+\.\d+\.\d+)",
     "man/bedtools.1": r"Dunekettle (\d+\.\d+\.\d+)",
+    "man/dunekettle.1": r"Dunekettle (\d+\.\d+\.\d+)",
     "packaging/bioconda/meta.yaml": r"set version = \"(\d+\.\d+\.\d+)\"",
 }
 

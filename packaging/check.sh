@@ -1,7 +1,7 @@
 #!/bin/bash
-# Tries what `make install`, `make dist` and `make deb` make, in a folder of its own: the program runs from there, its
-# manual page and completions have its name, the checksums are right, and the Debian package installs beside another
-# bedtools and goes without a trace. What needs a shell or a program that isn't here is passed over with a word.
+# Tries what `make install`, `make dist` and `make deb` make, in a folder of its own: the program, its front and the drop-in
+# run from there, the manual pages and completions have its name, each link of the pages leads somewhere, the checksums are
+# right, and the Debian package installs beside another bedtools and goes without a trace. What needs a shell or a program that isn't here is passed over with a word.
 #
 #     packaging/check.sh
 set -euo pipefail
@@ -19,19 +19,43 @@ expect() {
 has() { command -v "$1" > /dev/null || { echo "no $1: passed over"; return 1; }; }
 records() { printf 'chr1\t2\t6\nchr1\t4\t9\n'; }
 
+# The links of the pages below a folder that lead nowhere there. A heading that one names isn't looked at.
+lost_links() {
+    find "$1" -name '*.md' | while IFS= read -r page; do
+        { grep -v '^    ' "$page" || true; } | { grep -o '\][(][^) ]*[)]' || true; } | sed 's/^](//; s/)$//; s/#.*//' |
+            while IFS= read -r target; do
+                case $target in '' | *://*) ;; *) [ -e "$(dirname "$page")/$target" ] || echo "$page: $target" ;; esac
+            done
+    done
+}
+
+# The front and the drop-in in a folder of an installation, with nothing but them and usual tools on PATH.
+expect_front() {
+    expect "$2: the front" "chr1	2	9" "$(records | "$1/bin/dunekettle" merge)"
+    expect "$2: its help" "dunekettle merge [-i FILE] [-g GENOME] [-d N] [-s | -S + | -S -]" "$("$1/bin/dunekettle" help merge | head -n 1)"
+    expect "$2: its hint" "dunekettle: none isn't there" "$("$1/bin/dunekettle" merge -i none 2>&1 | tail -n 1 || true)"
+    expect "$2: its check" "$folder/sorted.bed: BED; 2 records on 1 chromosome; 3 columns; sorted, by the bytes of the names" \
+        "$("$1/bin/dunekettle" check "$folder/sorted.bed")"
+    expect "$2: its version" "Dunekettle $(sed -n 's/^## //p' CHANGELOG.md | head -n 1)" "$("$1/bin/dunekettle" --version | sed -n '1s/,.*//p')"
+    expect "$2: the drop-in" "chr1	2	9" "$("$1/lib/dunekettle/bin/mergeBed" -i "$folder/sorted.bed")"
+    expect "$2: who took it" "dunekettle: Dunekettle takes merge" "$(DUNEKETTLE_TELL=1 "$1/lib/dunekettle/bin/bedtools" merge -i "$folder/sorted.bed" 2>&1 > /dev/null | cut -d : -f 1,2)"
+    expect "$2: its links" "8" "$(find "$1/lib/dunekettle/bin" -type l -exec test -x {} \; -print | wc -l)"
+}
+
 # Words that a shell offers for a begun command line, in one line.
 in_bash() {
-    bash -c "source '$share/bash-completion/completions/trial-tools'
-        COMP_WORDS=($1); COMP_CWORD=\$((\${#COMP_WORDS[@]} - 1)); _dunekettle_bedtools 2> /dev/null
+    bash -c "source '$share/bash-completion/completions/${1%% *}'
+        COMP_WORDS=($1); COMP_CWORD=\$((\${#COMP_WORDS[@]} - 1)); _$(tr - _ <<< "${2:-dunekettle-bedtools}") 2> /dev/null
         printf '%s\n' \"\${COMPREPLY[@]%%  (*}\"" | sort | paste -s -d ' '
 }
-in_fish() { fish -c "source '$share/fish/vendor_completions.d/trial-tools.fish'; complete -C '$1'" | cut -f 1 | sort | paste -s -d ' '; }
+in_fish() { fish -c "source '$share/fish/vendor_completions.d/${1%% *}.fish'; complete -C '$1'" | cut -f 1 | sort | paste -s -d ' '; }
 in_zsh() { # what zsh shows behind a tab
     zsh -f -c "zmodload zsh/zpty; zpty shell zsh -f -i; zpty -w shell 'fpath=($share/zsh/site-functions \$fpath)
         autoload -Uz compinit; compinit -u -d $folder/dump; PS1=; unsetopt beep; LISTMAX=999; COLUMNS=300'
         zpty -w -n shell '$1'\$'\t'; sleep 3; zpty -r -t shell text; while zpty -r -t shell more; do text+=\$more; done; print -r -- \$text; zpty -d shell"
 }
 
+records > "$folder/sorted.bed"
 share=$folder/there/share
 make --silent install DESTDIR= PREFIX="$folder/there" NAME=trial-tools
 expect "the installed program" "chr1	2	9" "$(records | "$folder/there/bin/trial-tools" merge)"
@@ -39,24 +63,36 @@ if has objcopy && has strings; then
     version=$(sed -n 's/^## //p' CHANGELOG.md | head -n 1)
     expect "its version" "Dunekettle $version" "$(strings -a "$folder/there/bin/trial-tools" | grep '^Dunekettle ')"
 fi
+expect_front "$folder/there" "the installation"
 expect "the docs of an installation" "yes" "$([ -f "$share/doc/trial-tools/docs/ERRORS.md" ] && echo yes)"
+expect "links of its pages that lead nowhere" "" "$(lost_links "$share/doc/trial-tools")"
+expect "links of its pages" "yes" "$([ "$(grep -o '\](' -r "$share/doc/trial-tools" --include='*.md' | wc -l)" -gt 100 ] && echo yes)"
 if has man; then
     page=$(MANWIDTH=80 man -l "$share/man/man1/trial-tools.1" | col -b)
     expect "the examples of its manual page" "yes" "$(grep -q 'trial-tools merge -i' <<< "$page" && echo yes)"
     expect "no example of another name" "" "$(grep -E 'bedtools (merge|intersect|bamtobed) ' <<< "$page" || true)"
+    expect "the page of its front" "yes" "$(MANWIDTH=80 man -l "$share/man/man1/dunekettle.1" | col -b | grep -c 'trial-tools(1)' > /dev/null && echo yes)"
     expect "its title" "yes" "$(grep -q '^TRIAL-TOOLS(1)' <<< "$page" && echo yes)"
 fi
 expect "a command in bash" "merge" "$(in_bash 'trial-tools me')"
 expect "options in bash" "-wa -wb -wo" "$(in_bash 'trial-tools intersect -w')"
 expect "strands in bash" "+ -" "$(in_bash "trial-tools merge -S ''")"
+expect "a command of the front in bash" "check" "$(in_bash 'dunekettle ch' dunekettle)"
+expect "options of the front in bash" "-wa -wb -wo" "$(in_bash 'dunekettle intersect -w' dunekettle)"
+expect "options of its check in bash" "--json" "$(in_bash 'dunekettle check --' dunekettle)"
+expect "commands behind help in bash" "merge" "$(in_bash 'dunekettle help me' dunekettle)"
 if has fish; then
     expect "a command in fish" "merge" "$(in_fish 'trial-tools me')"
     expect "options in fish" "-wa -wb -wo" "$(in_fish 'trial-tools intersect -w')"
+    expect "a command of the front in fish" "check" "$(in_fish 'dunekettle ch')"
 fi
 if has zsh; then
     shown=$(in_zsh 'trial-tools intersect -w')
     expect "options in zsh" "yes" "$(grep -q -- '-wo .*number of bases' <<< "$shown" && echo yes)"
 fi
+
+make --silent uninstall DESTDIR= PREFIX="$folder/there" NAME=trial-tools
+expect "what is left of an installation" "$folder/there" "$(find "$folder/there")"
 
 make --silent dist > "$folder/said.txt"
 tarball=$(sed -n 's/^Made \([^,]*\),.*/\1/p' "$folder/said.txt")
@@ -66,6 +102,8 @@ unpacked=$folder/$(basename "$tarball" .tar.gz)
 expect "the checksums in the tarball" "yes" "$(cd "$unpacked" && sha256sum --quiet -c SHA256SUMS && echo yes)"
 expect "each file has one" "$(cd "$unpacked" && find . -type f | wc -l)" "$(($(wc -l < "$unpacked/SHA256SUMS") + 1))"
 expect "the program in the tarball" "chr1	2	9" "$(records | "$unpacked/bin/dunekettle-bedtools" merge)"
+expect_front "$unpacked" "the tarball"
+expect "links of the tarball's pages that lead nowhere" "" "$(lost_links "$unpacked")"
 sum=$(cat "$tarball.sha256")
 make --silent dist > /dev/null
 expect "the same tarball once more" "$sum" "$(cat "$tarball.sha256")"
@@ -80,6 +118,8 @@ if has dpkg-deb; then
     debian() { dpkg --root="$root" --force-not-root --force-depends --log=/dev/null "$@" > "$folder/said.txt" 2>&1; }
     debian --install "$package"
     expect "the package's program" "chr1	2	9" "$(records | "$root/usr/bin/dunekettle-bedtools" merge)"
+    expect_front "$root/usr" "the package"
+    expect "links of the package's pages that lead nowhere" "" "$(lost_links "$root/usr")"
     expect "bedtools beside it" "other" "$(cat "$root/usr/bin/bedtools")"
     expect "its files are whole" "" "$(cd "$root" && md5sum --quiet -c var/lib/dpkg/info/dunekettle-bedtools.md5sums)"
     debian --purge dunekettle-bedtools

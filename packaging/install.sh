@@ -1,20 +1,60 @@
 #!/bin/sh
-# Copies the pages, the manual page and the completions of the program into the folder `share` of an installation.
+# Installs the front, the drop-in, the pages, the manual pages and the completions beside the program.
 #
-#     packaging/install.sh SHARE AT NAME DOC..
+#     packaging/install.sh ROOT AT NAME DOC..
 #
-# SHARE is where they are copied to, AT where that folder will be, NAME the program's name there.
+# ROOT is the folder of the installation now, AT where it will be, NAME the program's name in ROOT/bin.
 set -eu
 
-share=$1 at=$2 name=$3
+root=$1 at=$2 name=$3
 shift 3
 top=$(dirname "$0")/..
+share=$root/share
 commands='merge|complement|intersect|subtract|genomecov|bamtobed|maskfasta'
 
-for doc; do
+case $name in dunekettle | */*) echo "NAME=$name is taken, or no name"; exit 1 ;; esac
+
+# The front, and the names of bedtools that lead to it: relative links, so that a folder may be moved.
+install -D "$top/front/dunekettle" "$root/bin/dunekettle"
+sed "s|/dunekettle-bedtools\$|/$name|" "$top/front/dunekettle" > "$root/bin/dunekettle"
+mkdir -p "$root/lib/dunekettle/bin"
+for file in judge.sh hints.sh check.awk help.txt; do
+    install -m 644 "$top/front/$file" "$root/lib/dunekettle/$file"
+done
+for link in bedtools mergeBed complementBed intersectBed subtractBed genomeCoverageBed maskFastaFromBed bamToBed; do
+    ln -sf ../../../bin/dunekettle "$root/lib/dunekettle/bin/$link"
+done
+
+doc=$share/doc/$name
+for page; do
     mode=644
-    [ ! -x "$top/$doc" ] || mode=755
-    install -D -m "$mode" "$top/$doc" "$share/doc/$name/$doc"
+    [ ! -x "$top/$page" ] || mode=755
+    install -D -m "$mode" "$top/$page" "$doc/$page"
+done
+
+# Of a page's links those that lead to no installed file become their text: it is in the repository alone.
+# A heading that such a link names isn't looked at: docs/links.py does that.
+for page; do
+    case $page in *.md) ;; *) continue ;; esac
+    folder=$doc/$page
+    LC_ALL=C awk -v folder="${folder%/*}" '
+        function is_there(target) {
+            sub(/#.*/, "", target)
+            return target == "" || target ~ /:\/\// || !system("[ -e \"" folder "/" target "\" ]")
+        }
+        /^    / { print; next }
+        {
+            rest = $0
+            made = ""
+            while (match(rest, /\[[^]]*\]\([^) ]+\)/)) {
+                link = substr(rest, RSTART, RLENGTH)
+                text = substr(link, 2, index(link, "](") - 2)
+                target = substr(link, length(text) + 4, length(link) - length(text) - 4)
+                made = made substr(rest, 1, RSTART - 1) (is_there(target) ? link : text)
+                rest = substr(rest, RSTART + RLENGTH)
+            }
+            print made rest
+        }' "$top/$page" > "$doc/$page"
 done
 
 # In the examples `bedtools` followed by a command becomes the name; fault lines, as `bedtools merge: ..`, stay.
@@ -22,16 +62,24 @@ mkdir -p "$share/man/man1"
 sed -E -e "s|^\.Nm bedtools\$|.Nm $name|" \
     -e "s|^\.Dt BEDTOOLS |.Dt $(printf '%s' "$name" | tr '[:lower:]' '[:upper:]') |" \
     -e "s/bedtools ($commands)( |\$)/$name \1\2/g" \
-    -e "s|docs/([A-Z]+\.md)|$at/doc/$name/docs/\1|" \
+    -e "s|docs/([A-Z]+\.md)|$at/share/doc/$name/docs/\1|" \
     "$top/man/bedtools.1" > "$share/man/man1/$name.1"
-chmod 644 "$share/man/man1/$name.1"
+sed -E -e "s|dunekettle-bedtools|$name|g" -e "s|docs/([A-Z]+\.md)|$at/share/doc/$name/docs/\1|" \
+    -e "s|^\.Pa lib/dunekettle/bin\$|.Pa $at/lib/dunekettle/bin|" "$top/man/dunekettle.1" > "$share/man/man1/dunekettle.1"
+chmod 644 "$share/man/man1/$name.1" "$share/man/man1/dunekettle.1"
 
-# COMPLETION FILE: the completion of a shell, where that shell looks for it.
-completion() {
-    mkdir -p "$(dirname "$share/$2")"
-    sed "s/dunekettle-bedtools/$name/g" "$top/completions/dunekettle-bedtools.$1" > "$share/$2"
-    chmod 644 "$share/$2"
+# completions WORD INSTALLED: those of a program, where each shell looks for them
+completions() {
+    for shell in bash zsh fish; do
+        case $shell in
+        bash) file=bash-completion/completions/$2 ;;
+        zsh) file=zsh/site-functions/_$2 ;;
+        fish) file=fish/vendor_completions.d/$2.fish ;;
+        esac
+        mkdir -p "$(dirname "$share/$file")"
+        sed "s/$1/$2/g" "$top/completions/$1.$shell" > "$share/$file"
+        chmod 644 "$share/$file"
+    done
 }
-completion bash "bash-completion/completions/$name"
-completion zsh "zsh/site-functions/_$name"
-completion fish "fish/vendor_completions.d/$name.fish"
+completions dunekettle-bedtools "$name"
+completions dunekettle dunekettle

@@ -1,0 +1,405 @@
+#!/usr/bin/env python3
+"""Tries what may go wrong with the front and the drop-in, and shows what a call costs.
+
+    docs/front_hostile.py
+
+Hints and the check of files; no bedtools behind the drop-in, or one that is ourselves; folders and words with spaces,
+stars and line feeds; a file that changes; closed streams, signals and full temporary folders; 200 calls at once; other
+shells. Needs no bedtools 2.30.0, but tries more where there is one. Ends with 1 where something differs.
+"""
+
+import concurrent.futures
+import json
+import os
+import re
+import resource
+import shutil
+import signal
+import subprocess
+import sys
+import tempfile
+import time
+from pathlib import Path
+
+from examples import examples_of
+from front_tools import TOP, Count, PROGRAM, call, drop_in, environment, install, original, shell, tools_alone
+
+MERGED = b"chr1\t2\t9\n"
+FILES = {
+    "f.bed": b"chr1\t2\t6\ta\t0\t+\nchr1\t4\t9\tb\t0\t-\n", "unsorted.bed": b"chr1\t9\t12\nchr1\t2\t6\n", "g.txt": b"chr1\t20\nchr2\t8\n",
+    "vcf.vcf": b"##fileformat=VCFv4.2\n#CHROM\tPOS\tID\nchr1\t5\trs1\tA\tG\n", "numbers.vcf": b"##fileformat=VCFv4.2\nchr1\t5\t120\tA\tG\n",
+    "gff.gff": b"chr1\tx\texon\t3\t6\t.\t+\t.\tid\n", "sam.sam": b"@SQ\tSN:chr1\tLN:20\nr\t0\tchr1\t3\t9\t4M\t*\t0\t0\t*\t*\n",
+    "utf16.bed": "\ufeffchr1\t2\t6\n".encode("utf-16-le"), "little.bed": "chr1\t2\t6\n".encode("utf-16-le"), "big.bed": "chr1\t2\t6\n".encode("utf-16-be"),
+    "mark.bed": "\ufeff#chrom\tstart\tend\nchr1\t2\t6\n".encode(),
+    "cr.bed": b"chr1\t2\t6\rchr1\t4\t9\r", "spaces.bed": b"chr1 2 6\n", "names.bed": b"name\tstart\tend\nchr1\t2\t6\n",
+    "bare.bed": b"1\t2\t6\n", "natural.bed": b"chr2\t2\t6\nchr10\t2\t6\n", "cram.cram": b"CRAM\3\0", "a\nb.bed": b"chr1\t2\t6\n",
+    "dot.bed": b"chr1\t2\t6\ta\t0\t.\n", "short.bed": b"chr1\t2\t6\nchr1\t5\n", "no_base.bed": b"chr1\t5\t5\n",
+    "crlf.bed": b"chr1\t2\t6\r\n\r\n", "s.fa": b">chr1\nACGT\n", "s.fa.fai": b"chr1\t4\t6\t4\t5\n", "stdin": b"chr1\t2\t6\n", "-x": b"chr1\t2\t6\n",
+}
+# The words after `dunekettle`, the fault that the program reports, and a part of the hint.
+HINTS = [
+    ("merge -i unsorted.bed", "unsorted.bed:2: record is out of order", "chr1 2 6 comes after chr1 9 12; the order in use is that of the "
+     "names' bytes: LC_ALL=C sort -k1,1 -k2,2n unsorted.bed"),
+    ("merge -i natural.bed", "natural.bed:2: record is out of order", "or give the chromosomes in their order by -g"),
+    ("merge -g g.txt -i unsorted.bed", "unsorted.bed:2: record is out of order", "is that of g.txt: awk"),
+    ("merge -i zip.gz", "zip.gz:1: too few columns", "it is compressed by gzip: zcat zip.gz | dunekettle merge -i - .."),
+    ("merge -i bam.bam", "bam.bam:1: too few columns", "it is BAM: samtools view -h bam.bam | dunekettle bamtobed | dunekettle merge -i - .."),
+    ("bamtobed -i bam.bam", "bam.bam:1: too few columns", "it is BAM: samtools view -h bam.bam | dunekettle bamtobed -i - .."),
+    ("merge -i cram.cram", "cram.cram:1: too few columns", "it is CRAM: samtools view"),
+    ("merge -i vcf.vcf", "vcf.vcf:3: end is not a number", "it is VCF: awk"),
+    ("merge -i gff.gff", "gff.gff:1: start is not a number", "it is GFF: awk"),
+    ("merge -i sam.sam", "sam.sam:1: start is not a number", "it is SAM: dunekettle bamtobed -i sam.sam | dunekettle merge"),
+    ("merge -i utf16.bed", "utf16.bed:1: start is not a number", "it is UTF-16: iconv"),
+    ("merge -i mark.bed", "mark.bed:1: start is not a number", "it begins with a byte order mark: tail -c +4 mark.bed"),
+    ("merge -i little.bed", "little.bed:1: start is not a number", "it is UTF-16LE: iconv"),
+    ("merge -i big.bed", "big.bed:1: start is not a number", "it is UTF-16BE: iconv"),
+    ("intersect -a f.bed -b zip.gz", "zip.gz:1: too few columns", "zcat zip.gz | dunekettle intersect -b - .."),
+    ("merge -i cr.bed", "cr.bed:1: end is not a number", "its lines end with CR alone: tr"),
+    ("merge -i spaces.bed", "spaces.bed:1: too few columns", "its columns are separated by spaces: tr"),
+    ("merge -i short.bed", "short.bed:2: too few columns", "line 2 is: chr1 5"),
+    ("merge -i no_base.bed", "no_base.bed:1: start is not below end", "left out by awk -F'\\t' '$2 + 0 < $3 + 0' no_base.bed"),
+    ("maskfasta -fi s.fa -bed unsorted.bed", "unsorted.bed:2: record is out of order", "is that of the sequences: samtools faidx s.fa; awk"),
+    ("bamtobed -i f.bed", "f.bed:1: too few columns", "line 1 is: chr1 2 6"),
+    ("merge -i names.bed", "names.bed:1: start is not a number", "its first line names the columns: tail -n +2"),
+    ("merge -i bare.bed -g g.txt", "bare.bed:1: chromosome is not in the genome file", "in g.txt 1 is there as chr1"),
+    ("merge -i none.bed", "none.bed: cannot be opened", "none.bed isn't there"),
+    ("merge -i .", ".:1: reading failed", ". is a directory"),
+    ("intersect -a f.bed", None, "usage: dunekettle intersect -a FILE -b FILE"),
+    ("marge", None, "see dunekettle --help"),
+]
+
+
+def fill(folder):
+    """Writes the files."""
+    for name, text in FILES.items():
+        (folder / name).write_bytes(text)
+    (folder / "zip.gz").write_bytes(subprocess.run(["gzip", "-c", folder / "f.bed"], stdout=subprocess.PIPE, check=True).stdout)
+    # A BAM file begins so, unpacked.
+    (folder / "bam.bam").write_bytes(subprocess.run(["gzip", "-c"], input=b"BAM\1rest", stdout=subprocess.PIPE, check=True).stdout)
+
+
+def try_hints(place, folder, count):
+    """Each fault has its hint behind it, on one line, and none where they are left out."""
+    front = place / "bin" / "dunekettle"
+    for line, fault, part in HINTS:
+        output, said, status = call([front, *line.split()], folder, environment())
+        plain = call([place / "bin" / "dunekettle-bedtools", *line.split()], folder, environment())
+        lines = said.splitlines()
+        count.expect(f"the fault of {line}", plain, (output, lines[0] + "\n", status))
+        if fault:
+            count.expect(f"the line of {line}", f"bedtools {line.split()[0]}: {fault}", lines[0])
+        count.expect(f"the hint of {line}", (2, True), (len(lines), lines[-1].startswith("dunekettle: ") and part in lines[-1]))
+        # What a hint says to run is run, if it is for a file that is more than its first bytes.
+        advice = re.search(r"(?:bytes|g\.txt|[a-zA-Z\d]|mark|alone|spaces|columns): ((?:zcat|awk|dunekettle bamtobed|iconv|tail|tr|LC_ALL).*?)(?:, or .*)?$", lines[-1])
+        if advice and line.startswith("merge"):
+            again = " -g g.txt" if "-g" in line else ""
+            script = advice[1][: -len("..")] if advice[1].endswith("..") else f"{advice[1]} | dunekettle merge -i -{again}"
+            run = shell(script, folder, environment(place / "bin"))
+            count.expect(f"the advice for {line}: {script}", (True, "", 0), (run[0].startswith(b"chr1"), run[1], run[2]))
+        quiet = call([front, *line.split()], folder, environment(DUNEKETTLE_HINTS="0"))
+        count.expect(f"no hint of {line}", plain, quiet)
+    output, said, status = call([front, "merge"], folder, environment(), input=FILES["unsorted.bed"])
+    count.expect("the hint of a stream", (1, True), (status, "LC_ALL=C sort -k1,1 -k2,2n" in said))
+    if os.getuid():
+        (folder / "closed.bed").touch(0o200)
+        count.expect("no permission", True, "may not read" in call([front, "merge", "-i", "closed.bed"], folder, environment())[1])
+
+
+def try_help(place, folder, count):
+    """Help, versions and the check of files."""
+    front = place / "bin" / "dunekettle"
+    program = place / "bin" / "dunekettle-bedtools"
+    for command in ("merge", "complement", "intersect", "subtract", "genomecov", "bamtobed", "maskfasta"):
+        gave = [call([front, *words], folder, environment()) for words in (["help", command], [command, "--help"], [command, "-h"])]
+        count.expect(f"help of {command}", (True, True, 0), (gave[0] == gave[1] == gave[2], gave[0][0].startswith(f"dunekettle {command} ".encode()), gave[0][2]))
+        # Each option that the help names is one of the program.
+        for line in gave[0][0].decode().splitlines():
+            if line.startswith("  -"):
+                unknown = b"" if "unknown option" not in call([program, command, line.split()[0]], folder, environment())[1] else line
+                count.expect(f"an option of {command}", b"", unknown)
+    count.expect("version", True, call([front, "--version"], folder, environment())[0].startswith(b"Dunekettle "))
+    count.expect("help of nothing", 2, call([front, "help", "nothing"], folder, environment())[2])
+    output, _, status = call([front, "check", "--json", *(name for name in FILES if name != "-x"), "none.bed"], folder, environment())
+    reports = {report["file"]: report for report in json.loads(output)}
+    count.expect("check: status", 1, status)
+    for name, kind, order in (("f.bed", "BED", "bytes"), ("unsorted.bed", "BED", "none"), ("natural.bed", "BED", "numbers"), ("vcf.vcf", "VCF", None),
+                              ("numbers.vcf", "VCF", None), ("gff.gff", "GFF", None), ("sam.sam", "SAM", None), ("utf16.bed", "UTF-16", None),
+                              ("mark.bed", "byte order mark", None), ("cr.bed", "CR", None), ("s.fa", "FASTA", None), ("g.txt", "genome file", None), ("s.fa.fai", "genome file", None), ("./stdin", "BED", "bytes")):
+        count.expect(f"check: {name}", (kind, order), (reports[name]["kind"], reports[name]["order"]))
+    count.expect("check: what is taken", ["./stdin", "a\nb.bed", "bare.bed", "crlf.bed", "dot.bed", "f.bed", "g.txt", "s.fa", "s.fa.fai", "sam.sam"],
+                 sorted(name for name, report in reports.items() if report["taken"]))
+    count.expect("check: strands and lines", (1, 1, 2), (reports["dot.bed"]["without_strand"], reports["crlf.bed"]["blank_lines"], reports["crlf.bed"]["cr_lf"]))
+    output, _, status = call([front, "check", "natural.bed", "-g", "g.txt"], folder, environment())
+    count.expect("check -g", (1, True), (status, b"chromosome is not in the genome file" in output))
+    output, _, status = call([front, "check", "f.bed", "bare.bed"], folder, environment())
+    count.expect("check of two", (0, True), (status, b"chr1: in 1 of 2 files" in output))
+
+
+def try_originals(place, folder, count):
+    """No original, or what looks like one and is ourselves: the program takes the words, and nothing loops."""
+    top = folder.parent
+    tools = tools_alone(top / "tools")
+    links, copies, programs, other = (top / name for name in ("links", "copies", "programs", "other place"))
+    for made in (links, copies, programs):
+        made.mkdir()
+    (links / "bedtools").symlink_to(drop_in(place) / "bedtools")
+    shutil.copy(place / "bin" / "dunekettle", copies / "bedtools")
+    shutil.copy(PROGRAM, programs / "bedtools")
+    install(other)
+    paths = {"none": [], "links": [links], "copies": [copies], "programs": [programs], "another place": [drop_in(other)],
+             "all": [drop_in(place), links, copies, programs, drop_in(other), links]}
+    for name, folders in paths.items():
+        env = {**environment(), "PATH": os.pathsep.join(map(str, [drop_in(place), *folders, tools]))}
+        count.expect(f"original {name}: merge", (MERGED, "", 0), call(["bedtools", "merge", "-i", "f.bed"], folder, env))
+        count.expect(f"original {name}: sort", (b"", "bedtools: no or unknown command\n", 2), call(["bedtools", "sort", "-i", "f.bed"], folder, env))
+        count.expect(f"original {name}: -c", (b"", "bedtools: unknown option: -c\n", 2), call(["mergeBed", "-i", "f.bed", "-c", "1"], folder, env))
+        output, _, status = call(["bedtools", "--version"], folder, env)
+        count.expect(f"original {name}: --version", (True, 0), (output.startswith(b"bedtools v2.30.0 (Dunekettle ") and b"without bedtools" in output, status))
+        for words in (["--help"], ["merge", "-h"], []):
+            output, _, status = call(["bedtools", *words], folder, env)
+            count.expect(f"original {name}: {words}", (True, 0), (output.startswith(b"dunekettle "), status))
+    # An original that says what it was given, and two that call bedtools on PATH again: one in its place, one as a child.
+    for name, script in (("says", "printf '%s\\0' \"$@\"\nexit 7"), ("again", 'exec bedtools "$@"'), ("child", 'bedtools "$@"')):
+        (top / name).mkdir()
+        (top / name / "bedtools").write_text(f"#!/bin/sh\n{script}\n", encoding="utf-8")
+        (top / name / "bedtools").chmod(0o755)
+    for name, folders in (("again", ["again"]), ("child", ["child"]), ("both", ["again", "child"]), ("both, changed", ["child", "again"])):
+        env = {**environment(), "PATH": os.pathsep.join(map(str, [drop_in(place), *(top / f for f in folders), tools]))}
+        count.expect(f"wrapper {name}", (b"", "bedtools: no or unknown command\n", 2), call(["bedtools", "sort"], folder, env))
+        env["PATH"] += os.pathsep + str(top / "says")
+        count.expect(f"wrapper {name}, then an original", (b"sort\0", "", 7), call(["bedtools", "sort"], folder, env))
+    env = {**environment(), "PATH": os.pathsep.join(map(str, [drop_in(place), top / "says", tools]))}
+    for words in (["sort", "a b", "", "line\nfeed", "*", "-i", "\\", "'\"$(x)"], ["merge", "-i", "a\nnone.bed"], ["merge", "--", "-i", "f.bed"], ["--", "merge"],
+                  ["", "merge"], [], ["merge", "-i", "f.bed", ""], ["merge", "-i"], ["merge", "-i", "f.bed", "-i", "f.bed"], ["merge", "-"],
+                  ["intersect", "-a", "f.bed", "-b", "f.bed", "f.bed"], ["merge", "-i", "numbers.vcf"], ["merge", "-i", "."], ["merge", "-i", ""]):
+        wanted = "".join(f"{word}\0" for word in words or [""]).encode()
+        count.expect(f"words {words}", (wanted, "", 7), call(["bedtools", *words], folder, env))
+    count.expect("a name with a line feed", (b"chr1\t2\t6\n", "", 0), call(["bedtools", "merge", "-i", "a\nb.bed"], folder, env))
+    count.expect("a name with a hyphen", (b"chr1\t2\t6\n", "", 0), call(["bedtools", "merge", "-i", "-x"], folder, env))
+    count.expect("ALWAYS", (b"", "bedtools: unknown option: -c\n", 2), call(["bedtools", "merge", "-c", "1"], folder, {**env, "DUNEKETTLE_ALWAYS": "1"}))
+    told = call(["bedtools", "merge", "-i", "f.bed"], folder, {**env, "DUNEKETTLE_TELL": "1"})
+    count.expect("TELL", (MERGED, True, 0), (told[0], told[1].startswith("dunekettle: Dunekettle takes merge: "), told[2]))
+    call(["bedtools", "merge", "-c"], folder, {**env, "DUNEKETTLE_TELL": str(top / "told.txt")})
+    long = "x" * 100_000
+    count.expect("a long word", 2, call([place / "bin" / "dunekettle", "merge", long], folder, environment())[2])
+    count.expect("a long name", (7, f"merge\0-i\0{long}\0".encode()), call(["bedtools", "merge", "-i", long], folder, env)[2::-2])
+    # What the caller exports goes through as it is, whatever names the scripts use.
+    (top / "shows").mkdir()
+    (top / "shows" / "bedtools").write_text("#!/bin/sh\nenv | grep -v -e '^PWD=' -e '^OLDPWD=' -e '^_=' -e '^SHLVL='\n", encoding="utf-8")
+    (top / "shows" / "bedtools").chmod(0o755)
+    names = {name: "mine" for name in ("a", "b", "i", "g", "f", "d", "fi", "fo", "bed", "why", "words", "word", "file", "files", "folder", "line", "count", "program",
+                                       "command", "spans", "lines", "original", "version", "status", "streams", "sequences", "fault", "target", "self")}
+    shown = {**env, **names, "PATH": os.pathsep.join(map(str, [drop_in(place), top / "shows", tools]))}
+    for line in ("sort", "intersect -a f.bed -b f.bed", "merge -i none.bed"):
+        output = call(["bedtools", *line.split()], folder, shown)[0].decode()
+        count.expect(f"the environment of {line}", [], [name for name in names if f"{name}=mine\n" not in output])
+    count.expect("TELL in a file", True, " takes merge: " in (top / "told.txt").read_text(encoding="utf-8"))
+
+
+def try_streams(place, folder, count):
+    """Standard input is left as it is; closed streams are as for the program alone; a stream goes by its order."""
+    front, program = place / "bin" / "dunekettle", place / "bin" / "dunekettle-bedtools"
+    env = environment(drop_in(place))
+    alone = {**environment(), "PATH": os.pathsep.join(map(str, [drop_in(place), folder.parent / "says", folder.parent / "tools"]))}
+    for name in ("bedtools", str(front)):
+        for line in ("merge -i f.bed", "merge -x", "merge -i none.bed"):
+            output = shell(f"{name} {line} > /dev/null 2>&1; cat", folder, alone, input=b"left as it is")[0]
+            count.expect(f"standard input after {name} {line}", b"left as it is", output)
+    for line in ("merge -i f.bed", "merge -i unsorted.bed", "merge", "merge -x", "complement -g g.txt"):
+        for streams in ("<&-", ">&-", "2>&-", "<&- >&-", ">&- 2>&-", "<&- >&- 2>&-", "> /dev/full"):
+            wanted = shell(f"{program} {line} {streams}", folder, environment(), input=FILES["f.bed"])
+            found = shell(f"{front} {line} {streams}", folder, environment(), input=FILES["f.bed"])
+            hints = "".join(said + "\n" for said in found[1].splitlines() if not said.startswith("dunekettle: "))
+            count.expect(f"dunekettle {line} {streams}", wanted, (found[0], hints, found[2]))
+            always = shell(f"bedtools {line} {streams}", folder, {**env, "DUNEKETTLE_ALWAYS": "1"}, input=FILES["f.bed"])
+            count.expect(f"bedtools {line} {streams}, always", wanted, always)
+            if line in ("merge -i f.bed", "complement -g g.txt"):
+                judged = shell(f"bedtools {line} {streams}", folder, alone, input=FILES["f.bed"])
+                count.expect(f"bedtools {line} {streams}", wanted, judged)
+    ours = "intersect -sorted -a - -b f.bed -u -g g.txt", "complement -i - -g g.txt", "intersect -g g.txt -sorted -u -a f.bed -b /dev/stdin"
+    for line in (*ours, "merge -i -", "merge", "intersect -a - -b f.bed -u", "intersect -sorted -a - -b f.bed -u", "intersect -sorted -a - -b /dev/stdin", "bamtobed", "genomecov -bg -i - -g g.txt",
+                 "intersect -sorted -g g.txt -s -a - -b f.bed", "maskfasta -fi s.fa -bed -"):
+        status = call(["bedtools", *line.split()], folder, alone, input=FILES["f.bed"])[2]
+        count.expect(f"a stream: {line}", 0 if line in ours else 7, status)
+    found = call(["bedtools", "merge"], folder, {**alone, "DUNEKETTLE_STREAMS": "1"}, input=FILES["f.bed"])
+    count.expect("STREAMS", (MERGED, "", 0), found)
+    count.expect("a pipe of a shell", 7, call(["bash", "-c", "bedtools merge -i <(cat f.bed)"], folder, alone)[2])
+
+
+def try_signals(place, folder, count):
+    """A signal ends a call as it ends the program, and nothing of it goes on."""
+    for name, words, env in (("program", [place / "bin" / "dunekettle-bedtools"], environment()), ("dunekettle", [place / "bin" / "dunekettle"], environment()),
+                             ("no hints", [place / "bin" / "dunekettle"], environment(DUNEKETTLE_HINTS="0")),
+                             ("bedtools", [drop_in(place) / "bedtools"], environment(drop_in(place), DUNEKETTLE_ALWAYS="1"))):
+        for sent in (signal.SIGTERM, signal.SIGHUP, signal.SIGINT, signal.SIGQUIT):
+            child = subprocess.Popen([*words, "merge"], cwd=folder, env=env, stdin=subprocess.PIPE, stdout=subprocess.PIPE, stderr=subprocess.DEVNULL)
+            child.stdin.write(b"chr1\t2\t6\n")
+            child.stdin.flush()
+            time.sleep(0.4)
+            child.send_signal(sent)
+            status = child.wait(timeout=20)
+            # Standard output has ended only once no process has it any longer.
+            begun = time.monotonic()
+            rest = child.stdout.read()
+            count.expect(f"{name} after {sent.name}", (-sent, b"", True), (status, rest, time.monotonic() - begun < 5))
+            child.stdin.close()
+        # A file that grows too large ends it by SIGXFSZ, whose status a shell gives as 153.
+        (folder / "many.bed").write_bytes(9999 * b"chr1\t2\t6\n")
+        limited = shell(f"ulimit -c 0; (ulimit -f 1; exec {words[0]} intersect -sorted -u -a many.bed -b f.bed > out.bed); echo $?", folder, env)[0]
+        count.expect(f"{name} after a file that is too large", b"153\n", limited)
+
+
+def try_rest(place, folder, count):
+    """A file that changes, folders with odd names, a temporary folder that can't be used, 200 calls at once, shells."""
+    top = folder.parent
+    odd = install(top / "odd * place").rename(top / "odd *\nplace")
+    env = environment(drop_in(odd))
+    count.expect("an odd place", (MERGED, "", 0), call(["bedtools", "merge", "-i", "f.bed"], folder, env))
+    count.expect("dunekettle there", (MERGED, "", 0), call([odd / "bin" / "dunekettle", "merge", "-i", "f.bed"], folder, environment()))
+    moved = odd.rename(top / "moved")
+    count.expect("a place that was moved", (MERGED, "", 0), call([drop_in(moved) / "mergeBed", "-i", "f.bed"], folder, environment()))
+    (top / "home").mkdir()
+    (top / "home" / "dk").symlink_to(place / "bin" / "dunekettle")
+    (top / "home" / "bedtools").symlink_to("../there/lib/dunekettle/bin/bedtools")
+    count.expect("a link to the front", (MERGED, "", 0), call([top / "home" / "dk", "merge", "-i", "f.bed"], folder, environment()))
+    count.expect("a link to the drop-in", (MERGED, "", 0), call([top / "home" / "bedtools", "merge", "-i", "f.bed"], folder, environment()))
+    # An awk that spoils the file after it was looked at.
+    (top / "spoils").mkdir()
+    (top / "spoils" / "awk").write_text(f'#!/bin/sh\n{shutil.which("awk")} "$@"\nstatus=$?\nprintf "chr1\\t9\\t12\\nchr1\\t2\\t6\\n" > changes.bed\nexit $status\n', encoding="utf-8")
+    (top / "spoils" / "awk").chmod(0o755)
+    (folder / "changes.bed").write_bytes(FILES["f.bed"])
+    found = call(["bedtools", "merge", "-i", "changes.bed"], folder, environment(drop_in(place), top / "spoils"))
+    count.expect("a file that changes", (b"", "bedtools merge: changes.bed:2: record is out of order\n", 1), found)
+    for name, there in (("missing", top / "nowhere"), ("a file", folder / "f.bed")):
+        found = call([place / "bin" / "dunekettle", "merge", "-i", "unsorted.bed"], folder, environment(TMPDIR=str(there)))
+        count.expect(f"temporary folder {name}", (b"", "bedtools merge: unsorted.bed:2: record is out of order\n", 1), found)
+    temporary = top / "temporary"
+    temporary.mkdir()
+    env = environment(drop_in(place), TMPDIR=str(temporary))
+    calls = [["bedtools", "merge", "-i", "f.bed"], [place / "bin" / "dunekettle", "merge", "-i", "f.bed"]] * 100
+    with concurrent.futures.ThreadPoolExecutor(200) as pool:
+        found = list(pool.map(lambda words: call(words, folder, env), calls))
+    count.expect("200 calls at once", [(MERGED, "", 0)] * 200, found)
+    count.expect("what they left", [], list(temporary.iterdir()))
+    for words in (["dash"], ["bash", "--posix"], ["busybox", "sh"], ["zsh", "--emulate", "sh"], ["ksh"], ["mksh"], ["yash"]):
+        if not shutil.which(words[0]):
+            print(f"no {words[0]}: passed over")
+            continue
+        name = " ".join(words)
+        words[0] = shutil.which(words[0])
+        for script, line in (("bin/dunekettle", "merge -i f.bed"), ("lib/dunekettle/bin/bedtools", "merge -i f.bed"), ("lib/dunekettle/bin/mergeBed", "-i f.bed")):
+            found = call([*words, place / script, *line.split()], folder, environment(drop_in(place)))
+            count.expect(f"{name} {script}", (MERGED, "", 0), found)
+        found = call([*words, place / "bin" / "dunekettle", "merge", "-i", "unsorted.bed"], folder, environment())
+        count.expect(f"{name}: a hint", (2, 1), (len(found[1].splitlines()), found[2]))
+        found = call([*words, drop_in(place) / "bedtools", "intersect", "-s", "-u", "-a", "f.bed", "-b", "dot.bed"], folder,
+                     {**environment(), "DUNEKETTLE_TELL": "1", "PATH": os.pathsep.join(map(str, [top / "says", top / "tools"]))})
+        count.expect(f"{name}: strands", (7, True), (found[2], "records without a strand" in found[1]))
+
+
+def try_awks(place, folder, count):
+    """The same decisions and the same checks by each awk that is installed."""
+    top = folder.parent
+    (folder / "d.bed").write_bytes(b"chr1\t2\t6\ta\t0\t+\nchr2\t4\t8\tb\t0\t-\n")
+    (folder / "late.bed").write_bytes(b"chr2\t4\t8\tb\t0\t-\n")
+    (folder / "two.fa").write_bytes(b">chr1\nACGTA\nACGTA\nAC\n>chr2\nACGTA\nACGT\n")
+    (folder / "uneven.fa").write_bytes(b">chr1\nACG\nACGTA\n")
+    ours = ("complement -i d.bed -g g.txt", "genomecov -bga -i d.bed -g g.txt", "intersect -s -u -a d.bed -b f.bed", "intersect -a d.bed -b d.bed",
+            "intersect -f 0.25 -u -a d.bed -b f.bed", "maskfasta -fi two.fa -bed d.bed -fo masked.fa", "bamtobed -i sam.sam", "merge -i a\nb.bed", "merge -i crlf2.bed")
+    theirs = ("complement -i past.bed -g g.txt", "genomecov -bga -i late.bed -g g.txt", "intersect -s -u -a d.bed -b dot.bed", "intersect -a f.bed -b f.bed",
+              "intersect -f 0.25000001 -u -a long.bed -b f.bed", "maskfasta -fi uneven.fa -bed late.bed -fo masked.fa", "bamtobed -i zero.sam", "merge -i crlf.bed",
+              "merge -i numbers.vcf", "merge -i wide.bed")
+    (folder / "past.bed").write_bytes(b"chr1\t25\t30\n")
+    (folder / "long.bed").write_bytes(b"chr1\t0\t70\n")
+    (folder / "crlf2.bed").write_bytes(b"chr1\t2\t6\r\n")
+    (folder / "zero.sam").write_bytes(FILES["sam.sam"].replace(b"chr1\t3\t", b"chr1\t0\t"))
+    (folder / "wide.bed").write_bytes(b"chr1\t2\t6\t" + 1020 * b"n" + b"\n")
+    reports = {}
+    for name in ("mawk", "gawk", "busybox", "original-awk", "nawk"):
+        if not shutil.which(name):
+            print(f"no {name}: passed over")
+            continue
+        made = top / f"awk by {name}"
+        made.mkdir()
+        (made / "awk").write_text(f"#!/bin/sh\nexec {shutil.which(name)} {'awk ' if name == 'busybox' else ''}\"$@\"\n", encoding="utf-8")
+        (made / "awk").chmod(0o755)
+        env = {**environment(), "PATH": os.pathsep.join(map(str, [drop_in(place), made, top / "says", top / "tools"]))}
+        for line in (*ours, *theirs):
+            words = ["bedtools", *line.split(" ")]
+            count.expect(f"{name}: {line}", 0 if line in ours else 7, call(words, folder, env)[2])
+        reports[name] = call([place / "bin" / "dunekettle", "check", "--json", *sorted(file.name for file in folder.iterdir() if file.name != "-x")], folder, env)[0]
+        count.expect(f"{name}: check", True, len(reports[name]) > 1000 and len(set(reports.values())) == 1)
+
+
+def try_page(place, folder, count):
+    """The examples of DROPIN.md, in a folder of their own, with the front and the drop-in on PATH."""
+    made = folder.parent / "page"
+    made.mkdir()
+    env = environment(drop_in(place), place / "bin")
+    for number, command, wanted in examples_of((TOP / "docs" / "DROPIN.md").read_text(encoding="utf-8")):
+        output, said, _ = shell(command, made, env)
+        count.expect(f"DROPIN.md:{number}: {command}", wanted, (output.decode() + said).splitlines())
+
+
+def show_costs(place, folder):
+    """The milliseconds of a call, the middle of several on a small file."""
+    env, rows = environment(drop_in(place)), []
+    theirs = original()
+    for name, words, more in (("the program", [place / "bin" / "dunekettle-bedtools"], {}), ("dunekettle", [place / "bin" / "dunekettle"], {}),
+                              ("dunekettle, no hints", [place / "bin" / "dunekettle"], {"DUNEKETTLE_HINTS": "0"}),
+                              ("drop-in, taken by us", [drop_in(place) / "bedtools"], {}), ("drop-in, ALWAYS", [drop_in(place) / "bedtools"], {"DUNEKETTLE_ALWAYS": "1"}),
+                              ("bedtools", [theirs], {}), ("drop-in, taken by bedtools", [drop_in(place) / "bedtools"], {"-c": "1"})):
+        if not theirs and ("bedtools" in name):
+            continue
+        further = ["-c", "1", "-o", "count"] if "-c" in more else []
+        took = []
+        for _ in range(60):
+            begun = time.monotonic()
+            call([*words, "merge", "-i", "f.bed", *further], folder, {**env, **{key: value for key, value in more.items() if key != "-c"}})
+            took.append(time.monotonic() - begun)
+        rows.append(f"{name} {sorted(took)[30] * 1000:.1f}")
+    print("milliseconds a call of merge: " + "; ".join(rows))
+    if theirs:
+        show_large_costs(place, folder, env, theirs)
+
+
+def show_large_costs(place, folder, env, theirs):
+    """The seconds of processor over a million records, without the drop-in, with it, and of the program alone."""
+    with (folder / "million.bed").open("w", encoding="utf-8") as file:
+        file.writelines(f"chr1\t{50 * n}\t{50 * n + 150}\tread{n}\t60\t{'+-'[n % 2]}\n" for n in range(1_000_000))
+    with (folder / "exons.bed").open("w", encoding="utf-8") as file:
+        file.writelines(f"chr1\t{250 * n}\t{250 * n + 100}\texon{n}\t0\t{'+-'[n % 2]}\n" for n in range(200_000))
+    rows = []
+    for line in ("merge -i million.bed", "intersect -u -a million.bed -b exons.bed", "intersect -s -u -a million.bed -b exons.bed",
+                 "intersect -f 0.5 -u -a million.bed -b exons.bed", "subtract -a million.bed -b exons.bed"):
+        used = []
+        for program in (theirs, drop_in(place) / "bedtools", place / "bin" / "dunekettle-bedtools"):
+            before = resource.getrusage(resource.RUSAGE_CHILDREN)
+            call([program, *line.split()], folder, env)
+            after = resource.getrusage(resource.RUSAGE_CHILDREN)
+            used.append(after.ru_utime + after.ru_stime - before.ru_utime - before.ru_stime)
+        rows.append(f"{line}: {used[0]:.2f} {used[1]:.2f} {used[2]:.2f}")
+    print("seconds of processor of bedtools, with the drop-in, of the program alone:", *rows, sep="\n  ")
+
+
+def main():
+    count = Count("hostile cases")
+    with tempfile.TemporaryDirectory() as made:
+        top = Path(made)
+        place, folder = install(top / "there"), top / "data"
+        folder.mkdir()
+        fill(folder)
+        try_hints(place, folder, count)
+        try_help(place, folder, count)
+        try_originals(place, folder, count)
+        try_streams(place, folder, count)
+        try_signals(place, folder, count)
+        try_rest(place, folder, count)
+        try_awks(place, folder, count)
+        try_page(place, folder, count)
+        show_costs(place, folder)
+    return 1 if count.close() else 0
+
+
+if __name__ == "__main__":
+    sys.exit(main())

@@ -1,0 +1,89 @@
+"""What the trials of the front share: an installation in a folder of its own, calls with and without the drop-in first
+on PATH, and a count of what differs."""
+
+import os
+import re
+import shutil
+import subprocess
+from pathlib import Path
+
+TOP = Path(__file__).resolve().parent.parent
+PROGRAM = TOP / "bin" / "bedtools"
+# Who took a command line, as DUNEKETTLE_TELL says it.
+TOLD = re.compile(r"^dunekettle: (.*?) takes (\w*)", re.MULTILINE)
+# The tools that the front calls, and those of the trials.
+TOOLS = ("sh", "bash", "awk", "cat", "cut", "dash", "env", "grep", "gzip", "head", "mkfifo", "mktemp", "od", "printf", "readlink",
+         "rm", "sed", "sleep", "sort", "tail", "tr", "wc")
+
+
+def original():
+    """The bedtools 2.30.0 on PATH, or None and a word."""
+    found = shutil.which("bedtools")
+    said = subprocess.run([found, "--version"], stdout=subprocess.PIPE, text=True, check=False).stdout if found else ""
+    if said.strip() != "bedtools v2.30.0":
+        print("no bedtools 2.30.0 on PATH: what needs it wasn't tried")
+        return None
+    return found
+
+
+def install(prefix):
+    """Installs the program and its front into a folder, as `make install` does, without the pages."""
+    subprocess.run([TOP / "packaging" / "install.sh", prefix, prefix, "dunekettle-bedtools"], check=True)
+    shutil.copy(PROGRAM, prefix / "bin" / "dunekettle-bedtools")
+    return prefix
+
+
+def drop_in(prefix):
+    """The folder that goes first on PATH."""
+    return prefix / "lib" / "dunekettle" / "bin"
+
+
+def tools_alone(folder):
+    """A folder with the usual tools, and without bedtools."""
+    folder.mkdir()
+    for tool in TOOLS:
+        found = shutil.which(tool)
+        if found:
+            (folder / tool).symlink_to(found)
+    return folder
+
+
+def environment(*first, **more):
+    """The environment of a call: folders that come first on PATH, and further variables."""
+    path = os.pathsep.join([*map(str, first), os.environ["PATH"]])
+    plain = {name: value for name, value in os.environ.items() if not name.startswith("DUNEKETTLE_")}
+    return {**plain, "PATH": path, **more}
+
+
+def call(words, folder, env, **how):
+    """Runs a command, and gives its output, what it said, and its status."""
+    how = {"stdin": subprocess.DEVNULL, **how}
+    if "input" in how:
+        del how["stdin"]
+    done = subprocess.run([*map(os.fspath, words)], cwd=folder, env=env, stdout=subprocess.PIPE, stderr=subprocess.PIPE,
+                          check=False, timeout=120, **how)
+    return done.stdout, done.stderr.decode(errors="replace"), done.returncode
+
+
+def shell(script, folder, env, **how):
+    """The same of a script of sh."""
+    return call(["sh", "-c", script], folder, env, **how)
+
+
+class Count:
+    """Counts cases, and shows those that differ."""
+
+    def __init__(self, what):
+        self.what, self.cases, self.wrong = what, 0, 0
+
+    def expect(self, name, wanted, found):
+        """One case."""
+        self.cases += 1
+        if wanted != found:
+            self.wrong += 1
+            print(f"{self.what}: {name}\n  wanted {wanted!r:.600}\n  found  {found!r:.600}")
+
+    def close(self):
+        """Says how many there were, and gives how many differ."""
+        print(f"{self.what}: {self.cases} cases, {self.wrong} of them differ")
+        return self.wrong

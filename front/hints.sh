@@ -1,0 +1,213 @@
+# shellcheck shell=sh
+# Hints, and the check of files: read by `dunekettle`, which has set `program`, `files` and NL.
+
+# kind_of FILE: what its first bytes say, and if it is text its first lines
+kind_of() {
+    case $(od -A n -t x1 -N 16 < "$1" | tr -d ' \n') in
+    1f8b*) case $(gzip -dc < "$1" 2> /dev/null | od -A n -t x1 -N 4) in *'42 41 4d 01'*) echo BAM ;; *) echo gzip ;; esac ;;
+    42414d01*) echo BAM ;;
+    4352414d*) echo CRAM ;;
+    425a68*) echo bzip2 ;;
+    fd377a58*) echo xz ;;
+    28b52ffd*) echo zstd ;;
+    efbbbf*) echo 'byte order mark' ;;
+    fffe* | feff*) echo UTF-16 ;;
+    ??00*) echo UTF-16LE ;;
+    00??*) echo UTF-16BE ;;
+    *) LC_ALL=C awk -v only=kind -f "$files/check.awk" < "$1" ;;
+    esac
+}
+
+# pipe_for KIND FILE: the command that makes BED (or text) of it, or nothing
+pipe_for() {
+    case $2 in -*) set -- "$1" "./$2" ;; esac
+    case $2 in *[!A-Za-z0-9._/+-]*) set -- "$1" "'$(printf '%s' "$2" | sed "s/'/'\\\\''/g")'" ;; esac
+    case $1$command in
+    BAMbamtobed | CRAMbamtobed) printf '%s\n' "samtools view -h $2" ;;
+    BAM* | CRAM*) printf '%s\n' "samtools view -h $2 | dunekettle bamtobed" ;;
+    gzip*) printf '%s\n' "zcat $2" ;;
+    bzip2*) printf '%s\n' "bzcat $2" ;;
+    xz*) printf '%s\n' "xzcat $2" ;;
+    zstd*) printf '%s\n' "zstdcat $2" ;;
+    SAMbamtobed) ;;
+    SAM*) printf '%s\n' "dunekettle bamtobed -i $2" ;;
+    VCF*) printf '%s\n' "awk -F'\\t' -v OFS='\\t' '!/^#/ { print \$1, \$2 - 1, \$2 - 1 + length(\$4) }' $2" ;;
+    GFF*) printf '%s\n' "awk -F'\\t' -v OFS='\\t' '!/^#/ { print \$1, \$4 - 1, \$5, \".\", 0, \$7 }' $2" ;;
+    CR*) printf '%s\n' "tr '\\r' '\\n' < $2" ;;
+    'byte order mark'*) printf '%s\n' "tail -c +4 $2" ;;
+    UTF-16*) printf '%s\n' "iconv -f $1 -t UTF-8 $2" ;;
+    spaces*) printf '%s\n' "tr -s ' ' '\\t' < $2" ;;
+    'names of columns'*) printf '%s\n' "tail -n +2 $2" ;;
+    esac
+}
+
+# hint FAULT COMMAND WORD..: what to do about a fault, in one line
+hint() {
+    fault=$1 command=$2
+    shift 2
+    # shellcheck source=judge.sh source-path=SCRIPTDIR
+    . "$files/judge.sh"
+    why=''
+    read_words "$@"
+    text=${fault##*: }
+    file=${fault#"bedtools $command: "}
+    file=${file%": $text"}
+    case $fault in
+    "bedtools $command: "*': cannot be opened') hint_unopened ;;
+    "bedtools $command: "*:[0-9]*': '*) number=${file##*:} file=${file%:*}; hint_place ;;
+    "bedtools: argument is not UTF-8") ;;
+    "bedtools: "*) hint_usage ;;
+    esac
+}
+
+hint_usage() {
+    synopsis=$(LC_ALL=C awk -v part="$command" '$1 == "%" { found = $2 == part; next } found && !NF { exit } found' "$files/help.txt")
+    if [ -n "$synopsis" ]; then say "usage: $(printf '%s' "$synopsis" | tr -s '\n ' ' ')"; else say 'the commands: see dunekettle --help'; fi
+}
+
+hint_unopened() {
+    if [ "$file" = "$fo" ]; then say "$file can't be made, or it is an input under another name"
+    elif [ ! -e "$file" ]; then say "$file isn't there"
+    elif [ -d "$file" ]; then say "$file is a directory"
+    elif [ ! -r "$file" ]; then say "you may not read $file: ls -l shows who may"
+    fi
+}
+
+hint_place() {
+    case $text in
+    'too few columns' | 'start is not a number' | 'end is not a number' | 'start is not below end' | 'text before'*) hint_kind ;;
+    'reading failed') [ ! -d "$file" ] || say "$file is a directory" ;;
+    'record is out of order') hint_order ;;
+    'chromosome is not in the genome file') hint_name ;;
+    esac
+}
+
+hint_kind() {
+    if is_stream "$file"; then
+        [ "$number" != 1 ] || say 'standard input may be of another kind: zcat, or samtools view -h, makes text of it'
+        return
+    fi
+    kind=$(kind_of "$file")
+    pipe=$(pipe_for "$kind" "$file")
+    case $pipe$text in
+    'start is not below end') say "records without a base are left out by awk -F'\\t' '\$2 + 0 < \$3 + 0' $file" ;;
+    ?*"$text") say "$(in_words "$kind"): $pipe | dunekettle $command $(option_of "$file") - .." ;;
+    *) say "line $number is: $(sed -n "${number}p" < "$file" | LC_ALL=C tr -c '[:print:]\n' ' ' | cut -c 1-60)" ;;
+    esac
+}
+
+# option_of FILE: the option that names it
+option_of() {
+    case $1 in "$a") printf '%s\n' -a ;; "$b") printf '%s\n' -b ;; "$fi") printf '%s\n' -fi ;; "$bed") printf '%s\n' -bed ;; *) printf '%s\n' -i ;; esac
+}
+
+# in_words KIND
+in_words() {
+    case $1 in
+    gzip | bzip2 | xz | zstd) echo "it is compressed by $1" ;;
+    'byte order mark') echo 'it begins with a byte order mark' ;;
+    CR) echo 'its lines end with CR alone' ;;
+    spaces) echo 'its columns are separated by spaces' ;;
+    'names of columns') echo 'its first line names the columns' ;;
+    *) echo "it is $1" ;;
+    esac
+}
+
+# sort_line FILE: how to sort it by the order in use
+sort_line() {
+    genome=$g
+    if [ "$command" = maskfasta ]; then genome=$fi.fai; printf 'samtools faidx %s; ' "$fi"; fi
+    if [ -n "$genome" ]; then
+        printf '%s' "awk -F'\t' 'NR == FNR { rank[\$1] = NR; next } { print rank[\$1] + 0 \"\t\" \$0 }' $genome $1 | "
+        printf '%s\n' "sort -s -t \"\$(printf '\t')\" -k1,1n -k3,3n | cut -f 2-"
+    else
+        printf '%s\n' "LC_ALL=C sort -k1,1 -k2,2n $1"
+    fi
+}
+
+# The record, the one before it, the order in use and how to sort by it
+hint_order() {
+    case $command in maskfasta) order='the sequences' ;; *) order=${g:-"the names' bytes"} ;; esac
+    if is_stream "$file"; then
+        say "the order in use is that of $order: $(sort_line -)"
+        return
+    fi
+    say "$(order=$order how=$(sort_line "$file") LC_ALL=C awk -F '\t' -v at="$number" '
+        NR == at {
+            print $1, $2, $3, "comes after", before "; the order in use is that of " ENVIRON["order"] ": " ENVIRON["how"] \
+                (ENVIRON["order"] ~ /bytes$/ && $1 != name ? ", or give the chromosomes in their order by -g" : "")
+            exit
+        }
+        NF && !/^(#|(track|browser)([ \t\r]|$))/ { before = $1 " " $2 " " $3; name = $1 }' < "$file")"
+}
+
+# The names of the genome file that differ from one by chr, zeros, letters' case, or MT for M
+hint_name() {
+    is_stream "$file" && { say "dunekettle help lists the options; the names of $g are in its first column"; return; }
+    near=$(sed -n "${number}p" < "$file" | cat - "$g" | LC_ALL=C awk -F '\t' '
+        function plain(name) { name = tolower(name); sub(/^chr_?/, "", name); sub(/^0+/, "", name); return name == "mt" ? "m" : name }
+        NR == 1 { wanted = $1; next } /^#/ { next } plain($1) == plain(wanted) { found = found " " $1 }
+        NR < 5 { first = first " " $1 } END { print wanted (found != "" ? " is there as" found : " is not there, but" first " ..") }')
+    say "in $g $near"
+}
+
+# check FILE.. [-g GENOME] [--json]: status 0 if the seven commands can take each file
+check() {
+    g='' json='' status=0 command=merge names='' several=''
+    count=$#
+    while [ "$count" -gt 0 ]; do
+        case $1 in
+        -g) [ "$count" -gt 1 ] && [ -f "$2" ] || { say 'check: -g needs a genome file'; exit 2; }
+            g=$2; shift; count=$((count - 1)) ;;
+        --json) json=1 ;;
+        -*) say "check: unknown option: $1"; exit 2 ;;
+        *) set -- "$@" "$1" ;;
+        esac
+        shift
+        count=$((count - 1))
+    done
+    [ $# -gt 0 ] || { say 'check FILE.. [-g GENOME] [--json]'; exit 2; }
+    [ $# -eq 1 ] || several=1
+    export g json
+    separator='['
+    for file; do
+        [ -z "$json" ] || printf '%s' "$separator"
+        separator=', '
+        check_file "$file"
+    done
+    [ -z "$json" ] || printf ']\n'
+    [ -n "$json" ] || [ -z "$several" ] || unshared "$@"
+    exit "$status"
+}
+
+# check_file FILE: writes what it is
+check_file() {
+    fault='' kind='' pipe='' input=/dev/null
+    [ "$1" != stdin ] || set -- ./stdin
+    if [ ! -e "$1" ]; then fault="it isn't there"
+    elif [ ! -f "$1" ]; then fault='it is no file that can be read twice'
+    elif [ ! -r "$1" ]; then fault='it may not be read'
+    else
+        kind=$(kind_of "$1")
+        pipe=$(pipe_for "$kind" "$1")
+        case $kind in
+        BED | text | empty | spaces | 'names of columns') input=$1; fault=$("$program" merge -i "$1" ${g:+-g "$g"} 2>&1 > /dev/null) ;;
+        SAM) input=$1 pipe=''; fault=$("$program" bamtobed -i "$1" 2>&1 > /dev/null) ;;
+        FASTA) input=$1; fault=$("$program" maskfasta -fi "$1" -bed /dev/null 2>&1 > /dev/null) ;;
+        'genome file') input=$1; fault=$("$program" merge -i /dev/null -g "$1" 2>&1) ;;
+        *) fault=$(in_words "$kind") ;;
+        esac
+    fi
+    [ -z "$fault" ] || status=1
+    case $fault in *'out of order') pipe=$(sort_line "$1") ;; esac
+    file=$1 kind=$kind fault=$fault pipe=$pipe LC_ALL=C awk -f "$files/check.awk" < "$input"
+}
+
+# unshared FILE..: the names that some of the files lack
+unshared() {
+    for file; do
+        [ ! -f "$file" ] || case $(kind_of "$file") in BED) printf '\t%s\n' "$file"; cat -- "$file" ;; esac
+    done | LC_ALL=C awk -F '\t' '/^\t/ { files++; name = $2; next } /^#/ || /^(track|browser)([ \t\r]|$)/ || NF < 3 { next }
+        !(($1, files) in seen) { seen[$1, files]; if (!in_files[$1]++) names[++count] = $1; last[$1] = name }
+        END { for (i = 1; i <= count; i++) if (in_files[names[i]] < files && shown++ < 9) print names[i] ": in " in_files[names[i]] " of " files " files, as " last[names[i]] }'
+}
