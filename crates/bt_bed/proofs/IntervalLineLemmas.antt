@@ -1,7 +1,11 @@
 -- The line of an interval, put column by column, and the lines of intervals one after another.
-use Rattle.std.proofs.Common.{◌≡◌, [], ◌∷◌, ◌++◌, Result, sym, ap, ◌∙◌, append_assoc, codes, decimal, arith, length, length-append}
+use Rattle.std.proofs.Common.{◌≡◌, ℕ, [], ◌∷◌, ◌++◌, Err, List, Ok, Result, false, sym, ap, subst, true, ◌∙◌, append_assoc, codes, decimal, arith, drop, length, length-append, take, ◌-◌}
+use Rattle.std.proofs.lemmas.Bool.{false≢true}
+use Rattle.std.proofs.lemmas.List.{length-drop, take_all}
+use Rattle.std.specs.Result.{is_ok}
+use Rattle.bt_lines.specs.Fault.{write_failed}
 use Rattle.bt_lines.specs.Output.{Output}
-use Rattle.bt_lines.specs.Putting.{Adds, Puts}
+use Rattle.bt_lines.specs.Putting.{Adds, FailsToPut, Puts, PutsAll}
 use Rattle.bt_lines.specs.declared.fault.Fault.{Fault}
 use Rattle.bt_lines.proofs.PuttingLemmas.{line_alone}
 use Rattle.bt_bed.specs.Interval.{Interval}
@@ -29,3 +33,19 @@ line_has_bytes r e =
 -- the line of an interval alone
 pub adds_line : {A : Type 0} (r : Interval) (old new : Output) (result : Result A Fault) → Puts old (interval_line r) result new → Adds old (interval_lines (r ∷ [])) result new
 adds_line r old new result p = line_alone interval_line r old new result (line_has_bytes r) p
+
+-- by whether a call could put the bytes
+pub was_put : {A : Type 0} (old new : Output) (bytes : List ℕ) (result : Result A Fault) → Puts old bytes result new → is_ok result ≡ true → PutsAll old bytes new
+was_put old new bytes (Ok done) p e = p
+was_put old new bytes (Err fault) p e = absurd (false≢true e)
+
+pub was_cut : {A : Type 0} (old new : Output) (bytes : List ℕ) (result : Result A Fault) → Puts old bytes result new → is_ok result ≡ false → FailsToPut old bytes write_failed new
+was_cut old new bytes (Ok done) p e = absurd (false≢true (sym e))
+was_cut old new bytes (Err fault) p e = subst (λ t. FailsToPut old bytes t new) p.is p
+
+-- what stands from an offset on in a text of 43 bytes is put
+pub puts_text : {A : Type 0} (old new : Output) (name text behind : List ℕ) (first : ℕ) (result : Result A Fault) → length text ≡ 43 → drop first text ≡ behind
+    → Puts old (name ++ take (43 - first) (drop first text)) result new → Puts old (name ++ behind) result new
+puts_text old new name text behind first result size is p =
+    let all = take_all (43 - first) (drop first text) (omega (arith, size, length-drop first text)) in
+    subst (λ (l : List ℕ). Puts old (name ++ l) result new) (all ∙ is) p

@@ -1,11 +1,12 @@
 //! The line of an interval in BED output.
 
 ghost use Rattle.std.specs.Prelude.{◌≡◌, ◌+◌, ◌≤◌, ◌++◌, codes, decimal, drop, false, true};
-ghost use Rattle.bt_lines.specs.Putting.{Puts, PutsAll};
+ghost use Rattle.bt_lines.specs.Fault.{write_failed};
+ghost use Rattle.bt_lines.specs.Putting.{FailsToPut, Puts, PutsAll};
 ghost use Rattle.bt_lines.specs.Span.{span_text};
 ghost use Rattle.bt_bed.specs.IntervalLine.{bounds_text, interval_line};
 
-use bt_lines::{COLUMN, Fault, Out, Sink, put_both, put_column, write_position};
+use bt_lines::{COLUMN, Fault, Out, Sink, put_both, put_column, write_column, write_failed};
 
 // The room for what follows the name: two columns and what ends the second, a byte.
 const ROOM: usize = 2 * COLUMN + 1;
@@ -35,10 +36,10 @@ pub(crate) fn put_ended<K: Sink>(
 ) -> Result<(), Fault>
     ensures { Puts out.old (chrom.now ++ span_text start stop end) result out.new }
 {
-    if hold_ended(chrom, start, stop, end, out) {
+    if hold_ended(chrom, start, stop, end, out) || put_slowly(chrom, start, stop, end, out) {
         return Ok(());
     }
-    put_slowly(chrom, start, stop, end, out)
+    Err(write_failed())
 }
 
 // Puts what `put_ended` puts where `Out::hold_span` does, and answers whether it did. It stands apart, so that the loops
@@ -51,21 +52,18 @@ fn hold_ended<K: Sink>(chrom: &[u8], start: u64, stop: u64, end: u8, out: &mut O
     out.hold_span(chrom, start, stop, end)
 }
 
-// Puts what `put_ended` puts by way of a text that is written beside the output.
+// Puts what `put_ended` puts by way of a text that is written beside the output, and returns true if it could: a
+// `Result` with a fault would take room in the loops that this is called from.
 #[cold]
 #[inline(never)]
-fn put_slowly<K: Sink>(
-    chrom: &[u8],
-    start: u64,
-    stop: u64,
-    end: u8,
-    out: &mut Out<K>,
-) -> Result<(), Fault>
-    ensures { Puts out.old (chrom.now ++ span_text start stop end) result out.new }
+fn put_slowly<K: Sink>(chrom: &[u8], start: u64, stop: u64, end: u8, out: &mut Out<K>) -> bool
+    ensures put { result ≡ true → PutsAll out.old (chrom.now ++ span_text start stop end) out.new }
+    ensures cut { result ≡ false
+        → FailsToPut out.old (chrom.now ++ span_text start stop end) write_failed out.new }
 {
     let mut text = [0; ROOM];
     let first = write_span(start, stop, end, &mut text);
-    put_column(chrom, &text[first..], out)
+    put_column(chrom, &text[first..], out).is_ok()
 }
 
 // Puts the name and the bounds of an interval, without a line feed.
@@ -91,8 +89,8 @@ fn write_span(start: u64, stop: u64, end: u8, text: &mut [u8; ROOM]) -> usize
     ensures written { drop result text.new ≡ span_text start stop end }
 {
     text[ROOM - 1] = end;
-    let before_stop = write_position(stop, text, ROOM - 1);
-    write_position(start, text, before_stop)
+    let before_stop = write_column(stop, text, ROOM - 1);
+    write_column(start, text, before_stop)
 }
 
 #[cfg(test)]

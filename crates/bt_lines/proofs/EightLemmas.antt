@@ -57,7 +57,7 @@ raised_within : (bytes : List ℕ) (low high more : ℕ) → AreWithin low high 
 raised_within [] low high more all = tt
 raised_within (byte ∷ bytes) low high more all = (omega arith, omega arith, raised_within bytes low high more all.2)
 
-pub looser : (bytes : List ℕ) (low high lower higher : ℕ) → lower ≤ low → high ≤ higher → AreWithin low high bytes → AreWithin lower higher bytes
+looser : (bytes : List ℕ) (low high lower higher : ℕ) → lower ≤ low → high ≤ higher → AreWithin low high bytes → AreWithin lower higher bytes
 looser [] low high lower higher l h all = tt
 looser (byte ∷ bytes) low high lower higher l h all = (omega arith, omega arith, looser bytes low high lower higher l h all.2)
 
@@ -146,32 +146,19 @@ digit_within byte digit = (grind (arith, nat_tests), grind (arith, nat_tests))
 within_digit : (byte : ℕ) → 48 ≤ byte → byte ≤ 57 → is_ascii_digit byte ≡ true
 within_digit byte low high = grind (arith, nat_tests)
 
-pub digits_within : (bytes : List ℕ) → list_all is_ascii_digit bytes ≡ true → AreWithin 48 57 bytes
+digits_within : (bytes : List ℕ) → list_all is_ascii_digit bytes ≡ true → AreWithin 48 57 bytes
 digits_within [] all = tt
 digits_within (byte ∷ bytes) all =
     let parts = and_parts (is_ascii_digit byte) (list_all is_ascii_digit bytes) all in
     let here = digit_within byte parts.0 in
     (here.0, here.1, digits_within bytes parts.1)
 
-pub within_digits : (bytes : List ℕ) → AreWithin 48 57 bytes → list_all is_ascii_digit bytes ≡ true
+within_digits : (bytes : List ℕ) → AreWithin 48 57 bytes → list_all is_ascii_digit bytes ≡ true
 within_digits [] all = refl
 within_digits (byte ∷ bytes) all = rw (within_digit byte all.0 all.1, within_digits bytes all.2) refl
 
--- the bits of so many bytes
-abbrev pub bits_of : List ℕ → ℕ
-bits_of [] = 0
-bits_of (byte ∷ bytes) = suc (suc (suc (suc (suc (suc (suc (suc (bits_of bytes))))))))
-
--- as many bytes, of which the last is a one and the others are zeros
-abbrev pub last_one : List ℕ → List ℕ
-last_one [] = []
-last_one (byte ∷ []) = 1 ∷ []
-last_one (byte ∷ next ∷ bytes) = 0 ∷ last_one (next ∷ bytes)
-
 -- what is read of eight bytes, and the masks of so many
 pub record Eight (bytes : List ℕ) : Type 0 where
-  pub bits : bits_of bytes ≡ 64
-  pub last : worth (last_one bytes) ≡ 72057594037927936
   pub word : from_le_bytes w64 bytes ≡ worth bytes
   uppers : worth (all_of 240 bytes) ≡ 17361641481138401520
   zeros : worth (all_of 48 bytes) ≡ 3472328296227680304
@@ -179,8 +166,8 @@ pub record Eight (bytes : List ℕ) : Type 0 where
   nines : worth (all_of 9 bytes) ≡ 651061555542690057
   fifteens : worth (all_of 15 bytes) ≡ 1085102592571150095
 
-pub eight : (bytes : List ℕ) → length bytes ≡ 8 → Eight bytes
-eight (a ∷ b ∷ c ∷ d ∷ e ∷ f ∷ g ∷ h ∷ []) n = record { bits = refl; last = refl; word = (let sum : from_le_bytes w64 (a ∷ b ∷ c ∷ d ∷ e ∷ f ∷ g ∷ h ∷ []) ≡ a + b * 256 + c * 65536 + d * 16777216 + e * 4294967296 + f * 1099511627776 + g * 281474976710656 + h * 72057594037927936 = refl in omega arith); uppers = refl; zeros = refl; sixes = refl; nines = refl; fifteens = refl }
+eight : (bytes : List ℕ) → length bytes ≡ 8 → Eight bytes
+eight (a ∷ b ∷ c ∷ d ∷ e ∷ f ∷ g ∷ h ∷ []) n = record { word = (let sum : from_le_bytes w64 (a ∷ b ∷ c ∷ d ∷ e ∷ f ∷ g ∷ h ∷ []) ≡ a + b * 256 + c * 65536 + d * 16777216 + e * 4294967296 + f * 1099511627776 + g * 281474976710656 + h * 72057594037927936 = refl in omega arith); uppers = refl; zeros = refl; sixes = refl; nines = refl; fifteens = refl }
 eight [] n = absurd (omega arith)
 eight (a ∷ []) n = absurd (omega arith)
 eight (a ∷ b ∷ []) n = absurd (omega arith)
@@ -327,7 +314,7 @@ value_eight a b c d e f g h ones i j k l m n o p is =
     )
     (value_fours (10 * a + b) (10 * c + d) (10 * e + f) (10 * g + h) (omega arith) (omega arith) (omega arith) (omega arith) ∙ omega arith)
 
-pub digit_at : (byte : ℕ) → 48 ≤ byte → byte ≤ 57 → digit_value byte ≡ byte - 48
+digit_at : (byte : ℕ) → 48 ≤ byte → byte ≤ 57 → digit_value byte ≡ byte - 48
 digit_at byte low high = digit_is byte (within_digit byte low high)
 
 -- each with 48 taken off
@@ -339,13 +326,13 @@ flipped_lowered : (bytes : List ℕ) → AreWithin 48 57 bytes → flipped bytes
 flipped_lowered [] all = refl
 flipped_lowered (byte ∷ bytes) all = rw (flipped_digit byte all.0 all.1, flipped_lowered bytes all.2) refl
 
-pub ones_lowered : (bytes : List ℕ) → length bytes ≡ 8 → AreWithin 48 57 bytes → ones_in bytes ≡ worth (lowered bytes)
+ones_lowered : (bytes : List ℕ) → length bytes ≡ 8 → AreWithin 48 57 bytes → ones_in bytes ≡ worth (lowered bytes)
 ones_lowered bytes n all = ones_are bytes n (looser bytes 48 57 0 255 (omega arith) (omega arith) all) ∙ ap worth (flipped_lowered bytes all)
 
 place_values : (a b c d e f g h : ℕ) → a * 10000000 + b * 1000000 + c * 100000 + d * 10000 + e * 1000 + f * 100 + g * 10 + h ≡ (((((((0 * 10 + a) * 10 + b) * 10 + c) * 10 + d) * 10 + e) * 10 + f) * 10 + g) * 10 + h
 place_values a b c d e f g h = omega arith
 
-pub digits_of : (a b c d e f g h : ℕ) → digits_value 10 (a ∷ b ∷ c ∷ d ∷ e ∷ f ∷ g ∷ h ∷ []) ≡ (((((((0 * 10 + digit_value a) * 10 + digit_value b) * 10 + digit_value c) * 10 + digit_value d) * 10 + digit_value e) * 10 + digit_value f) * 10 + digit_value g) * 10 + digit_value h
+digits_of : (a b c d e f g h : ℕ) → digits_value 10 (a ∷ b ∷ c ∷ d ∷ e ∷ f ∷ g ∷ h ∷ []) ≡ (((((((0 * 10 + digit_value a) * 10 + digit_value b) * 10 + digit_value c) * 10 + digit_value d) * 10 + digit_value e) * 10 + digit_value f) * 10 + digit_value g) * 10 + digit_value h
 digits_of a b c d e f g h = refl
 
 small_digit : (byte : ℕ) → 48 ≤ byte → byte ≤ 57 → byte - 48 ≤ 9
@@ -360,7 +347,7 @@ value_of_eight a b c d e f g h (a1, a2, (b1, b2, (c1, c2, (d1, d2, (e1, e2, (f1,
     ∙ rw (digits_of a b c d e f g h, digit_at a a1 a2, digit_at b b1 b2, digit_at c c1 c2, digit_at d d1 d2, digit_at e e1 e2, digit_at f f1 f2, digit_at g g1 g2, digit_at h h1 h2)
     (place_values (a - 48) (b - 48) (c - 48) (d - 48) (e - 48) (f - 48) (g - 48) (h - 48))
 
-pub eight_small : (bytes : List ℕ) → length bytes ≡ 8 → AreWithin 48 57 bytes → (value_in (pairs_in (ones_in bytes)) ≡ digits_value 10 bytes) × (digits_value 10 bytes ≤ 999999999999)
+eight_small : (bytes : List ℕ) → length bytes ≡ 8 → AreWithin 48 57 bytes → (value_in (pairs_in (ones_in bytes)) ≡ digits_value 10 bytes) × (digits_value 10 bytes ≤ 999999999999)
 eight_small (a ∷ b ∷ c ∷ d ∷ e ∷ f ∷ g ∷ h ∷ []) n all =
     let is = value_of_eight a b c d e f g h all in
     (is, rw (← is) (value_small (pairs_in (ones_in (a ∷ b ∷ c ∷ d ∷ e ∷ f ∷ g ∷ h ∷ [])))))

@@ -1,6 +1,5 @@
 pub mod PiecesLemmas
-pub mod PrintLemmas
-pub mod LeftLemmas
+pub mod SpanLemmas
 pub mod BlockLemmas
 pub mod ColumnLemmas
 pub mod CopyLemmas

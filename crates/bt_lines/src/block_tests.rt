@@ -423,9 +423,9 @@ fn span_behind(
 // Bytes before it, a name, a start and a stop, and the line that is held, which is empty where none is.
 type SpanRow = (usize, &'static [u8], u64, u64, &'static [u8]);
 
-// The numbers at which a digit more is written or the way changes, names of each length that is copied otherwise, also
-// the longest that is held, and the last places of a block where there is room.
-const SPANS: [SpanRow; 15] = [
+// Numbers of few digits and of many, names of each length that is copied otherwise, also the longest that is held, and
+// the last places of a block where there is room.
+const SPANS: [SpanRow; 14] = [
     (0, b"c", 0, 7, b"c\t0\t7\n"),
     (0, b"22", 9, 10, b"22\t9\t10\n"),
     (
@@ -470,8 +470,13 @@ const SPANS: [SpanRow; 15] = [
         999_999_999_999,
         b"c\t1000000000\t999999999999\n",
     ),
-    (0, b"c", 5, 1_000_000_000_000, b""),
-    (0, b"c", 1_000_000_000_000, 5, b""),
+    (
+        0,
+        b"c",
+        u64::MAX,
+        u64::MAX,
+        b"c\t18446744073709551615\t18446744073709551615\n",
+    ),
     (0, b"", 5, 9, b""),
     (
         0,
@@ -481,14 +486,14 @@ const SPANS: [SpanRow; 15] = [
         b"",
     ),
     (
-        8161,
+        8082,
         b"chr1",
         100_000_000_000,
         999_999_999_999,
         b"chr1\t100000000000\t999999999999\n",
     ),
-    (8162, b"chr1", 100_000_000_000, 999_999_999_999, b""),
-    (8162, b"chr1", 5, 9, b""),
+    (8083, b"chr1", 100_000_000_000, 999_999_999_999, b""),
+    (8083, b"chr1", 5, 9, b""),
 ];
 
 // The first row whose span is held otherwise.

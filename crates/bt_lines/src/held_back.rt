@@ -2,7 +2,6 @@
 
 ghost use Rattle.std.specs.Prelude.{◌≡◌, ◌+◌, ◌-◌, ◌≤◌, ◌<◌, ◌++◌, ℕ, List, [], ◌∷◌, false, length, take, true};
 ghost use Rattle.bt_lines.specs.Copying.{IsShort};
-ghost use Rattle.bt_lines.specs.Number.{max_number};
 ghost use Rattle.bt_lines.specs.Output.{block_size};
 ghost use Rattle.bt_lines.specs.Span.{span_text};
 ghost use Rattle.bt_lines.specs.Whole.{AreLines, ended_by};
@@ -10,11 +9,18 @@ ghost use Rattle.bt_lines.specs.Whole.{AreLines, ended_by};
 use crate::block::BLOCK;
 use crate::copying::{copy_end, copy_piece, copy_short, copy_wide, is_end, is_wide};
 use crate::feeds::first_feed;
-use crate::from_left::{BOUND, write_bound};
+use crate::number_column::{COLUMN, write_column};
 use std::marker::Model;
+use std::simd::prelude::*;
 
-// The room for what stands behind a name: a start, a stop and a byte that ends them.
-pub(crate) const SPAN: usize = 2 * BOUND + 1;
+// Where the byte that ends a start and a stop is first written: there is room for both before it.
+const LAST: usize = 2 * COLUMN;
+
+// How many bytes are moved at once: a start and a stop of any length, and the byte that ends them.
+const MOVED: usize = 64;
+
+// The room for what is written after a name.
+pub(crate) const SPAN_ROOM: usize = LAST + MOVED;
 
 // Its first `len` bytes are held back.
 #[derive(Drop)]
@@ -176,18 +182,14 @@ impl HeldBack {
     #[inline(always)]
     pub(crate) fn append_span(&mut self, name: &[u8], start: u64, stop: u64, end: u8)
         requires name { IsShort (length name.now) }
-        requires start { start ≤ max_number }
-        requires stop { stop ≤ max_number }
-        requires room { length self.old + (length name.now + SPAN) ≤ block_size }
+        requires room { length self.old + (length name.now + SPAN_ROOM) ≤ block_size }
         ensures { self.new ≡ self.old ++ (name.now ++ span_text start stop end) }
     {
         let len = self.len;
         let middle = len + name.len();
         copy_short(&mut self.bytes[len..middle], name);
-        let before_stop = write_bound(start, &mut self.bytes, middle);
-        let last = write_bound(stop, &mut self.bytes, before_stop);
-        self.bytes[last] = end;
-        self.len = last + 1;
+        let size = write_span(start, stop, end, &mut self.bytes[middle..]);
+        self.len = middle + size;
     }
 
     // Holds back two pieces too, of any length.
@@ -206,4 +208,20 @@ impl HeldBack {
     {
         self.len = 0;
     }
+}
+
+// Writes a start, a stop and a byte that ends them to the beginning of a text, and returns how many bytes they have. They
+// are first written to the right of where they belong, from the last to the first, and moved by one vector. Bytes after
+// them may change too.
+#[inline(always)]
+fn write_span(start: u64, stop: u64, end: u8, text: &mut [u8]) -> usize
+    requires { SPAN_ROOM ≤ length text.old }
+    ensures within { result ≤ length text.new }
+    ensures written { take result text.new ≡ span_text start stop end }
+{
+    text[LAST] = end;
+    let before_stop = write_column(stop, text, LAST);
+    let first = write_column(start, text, before_stop);
+    u8x64::from_slice(&text[first..]).copy_to_slice(text);
+    LAST + 1 - first
 }

@@ -41,7 +41,7 @@ pub fn number(text: &[u8]) -> Option<u64>
 // taken off by exclusive or they are at most 9, so that their upper halves are 0, and stay 0 when 6 is added.
 const UPPER_HALVES: u64 = 0xf0f0_f0f0_f0f0_f0f0;
 
-pub(crate) const ZEROS: u64 = 0x3030_3030_3030_3030;
+const ZEROS: u64 = 0x3030_3030_3030_3030;
 
 const SIXES: u64 = 0x0606_0606_0606_0606;
 

@@ -14,8 +14,7 @@ use crate::copying::is_short;
 use crate::device::{DeviceFailed, Sink};
 use crate::fault::Fault;
 use crate::faults::write_failed;
-use crate::held_back::{HeldBack, SPAN};
-use crate::numbers::MAX_NUMBER;
+use crate::held_back::{HeldBack, SPAN_ROOM};
 use std::marker::Model;
 
 /// Puts bytes to a sink in order, a block at a time: at most [`BLOCK`] bytes are held back until a
@@ -149,19 +148,16 @@ impl<K: Sink> Out<K> {
         true
     }
 
-    /// Puts a name, a start and a stop in the columns behind it, and a byte that ends them, if no write has failed, the
-    /// name has 1 to 64 bytes, there is room for any start and stop behind it, and neither is above
-    /// [`MAX_NUMBER`]; and answers whether it did; else nothing changes. It writes nothing to the sink.
+    /// Puts a name, a start and a stop in the columns after it, and a byte that ends them, if no write has failed, the
+    /// name has 1 to 64 bytes, and there is room for it and 106 bytes more; returns true if it did, else nothing changes.
+    /// It writes nothing to the sink.
     #[inline(always)]
     pub fn hold_span(&mut self, name: &[u8], start: u64, stop: u64, end: u8) -> bool
         ensures held { result ≡ true → PutsAll self.old (name.now ++ span_text start stop end) self.new }
         ensures untaken { self.new.took ≡ self.old.took }
         ensures unchanged { result ≡ false → self.new ≡ self.old }
     {
-        if !is_short(name.len()) || start > MAX_NUMBER || stop > MAX_NUMBER {
-            return false;
-        }
-        if self.has_failed || self.held.room() < name.len() + SPAN {
+        if self.has_failed || !is_short(name.len()) || self.held.room() < name.len() + SPAN_ROOM {
             return false;
         }
         self.held.append_span(name, start, stop, end);

@@ -1,11 +1,13 @@
 //! Columns put to an output.
 
 ghost use Rattle.std.specs.Prelude.{◌≡◌, ◌++◌, decimal, false, true};
-ghost use Rattle.bt_lines.specs.Putting.{Puts, PutsAll};
+ghost use Rattle.bt_lines.specs.Fault.{write_failed};
+ghost use Rattle.bt_lines.specs.Putting.{FailsToPut, Puts, PutsAll};
 
 use crate::copying::is_wide;
 use crate::device::Sink;
 use crate::fault::Fault;
+use crate::faults::write_failed;
 use crate::output::Out;
 use itoa::Buffer;
 
@@ -22,10 +24,10 @@ pub fn put_column<K: Sink>(column: &[u8], end: &[u8], out: &mut Out<K>) -> Resul
 pub fn put_line<K: Sink>(text: &[u8], end: &[u8], out: &mut Out<K>) -> Result<(), Fault>
     ensures { Puts out.old (text.now ++ end.now) result out.new }
 {
-    if out.hold_both(text, end) {
+    if out.hold_both(text, end) || put_across(text, end, out) {
         return Ok(());
     }
-    put_across(text, end, out)
+    Err(write_failed())
 }
 
 /// Puts two pieces of a line as [`put_line`] does, by a call that they share. It is fast where both have 1 to 64 bytes.
@@ -33,10 +35,10 @@ pub fn put_line<K: Sink>(text: &[u8], end: &[u8], out: &mut Out<K>) -> Result<()
 pub fn put_both<K: Sink>(piece: &[u8], next: &[u8], out: &mut Out<K>) -> Result<(), Fault>
     ensures { Puts out.old (piece.now ++ next.now) result out.new }
 {
-    if hold_pieces(piece, next, out) {
+    if hold_pieces(piece, next, out) || put_across(piece, next, out) {
         return Ok(());
     }
-    put_across(piece, next, out)
+    Err(write_failed())
 }
 
 // Puts both where they are short and there is room for them, and answers whether it did.
@@ -48,13 +50,15 @@ fn hold_pieces<K: Sink>(piece: &[u8], next: &[u8], out: &mut Out<K>) -> bool
     out.hold_short(piece, next)
 }
 
-// Puts both where there is no room for them, or one is long.
+// Puts both if there is no room for them, or one is long, and returns true if it could: a `Result` with a fault would
+// take room in the loops that this is called from.
 #[cold]
 #[inline(never)]
-fn put_across<K: Sink>(text: &[u8], end: &[u8], out: &mut Out<K>) -> Result<(), Fault>
-    ensures { Puts out.old (text.now ++ end.now) result out.new }
+fn put_across<K: Sink>(text: &[u8], end: &[u8], out: &mut Out<K>) -> bool
+    ensures put { result ≡ true → PutsAll out.old (text.now ++ end.now) out.new }
+    ensures cut { result ≡ false → FailsToPut out.old (text.now ++ end.now) write_failed out.new }
 {
-    put_column(text, end, out)
+    put_column(text, end, out).is_ok()
 }
 
 /// Puts a number in decimal, without leading zeros, and what ends it. It takes no memory. One of up to three digits, as

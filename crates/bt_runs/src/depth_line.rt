@@ -5,7 +5,7 @@ ghost use Rattle.bt_lines.specs.Putting.{Puts};
 ghost use Rattle.bt_runs.specs.Depth.{depth_line};
 ghost use Rattle.bt_runs.specs.DepthText.{depth_text};
 
-use bt_lines::{COLUMN, Fault, Out, Sink, put_both, write_column, write_position};
+use bt_lines::{COLUMN, Fault, Out, Sink, put_both, write_column};
 
 // The room for what follows the name: three columns and a line feed.
 const ROOM: usize = 3 * COLUMN + 1;
@@ -35,6 +35,6 @@ fn write_depth(start: u64, stop: u64, depth: u64, text: &mut [u8; ROOM]) -> usiz
 {
     text[ROOM - 1] = b'\n';
     let before_depth = write_column(depth, text, ROOM - 1);
-    let before_stop = write_position(stop, text, before_depth);
-    write_position(start, text, before_stop)
+    let before_stop = write_column(stop, text, before_depth);
+    write_column(start, text, before_stop)
 }

@@ -7,9 +7,7 @@ ghost use Rattle.bt_seq.specs.LineEnds.{bounds_text, end_sign, line_tail, marks,
 ghost use Rattle.bt_seq.specs.Sam.{alignment_lent};
 
 use crate::sam::SamRef;
-use bt_lines::{
-    COLUMN, Fault, Out, Sink, copy_piece, put_both, put_column, write_column, write_position,
-};
+use bt_lines::{COLUMN, Fault, Out, Sink, copy_piece, put_both, put_column, write_column};
 
 // The room for what stands between chromosome and name: two columns and a tab.
 const BOUNDS_ROOM: usize = 2 * COLUMN + 1;
@@ -175,8 +173,8 @@ fn write_bounds(start: u64, stop: u64, text: &mut [u8], end: usize) -> usize
     ensures written { drop result text.new ≡ bounds_text start stop ++ drop end text.old }
 {
     text[end - 1] = b'\t';
-    let before_stop = write_position(stop, text, end - 1);
-    write_position(start, text, before_stop)
+    let before_stop = write_column(stop, text, end - 1);
+    write_column(start, text, before_stop)
 }
 
 // Writes what stands behind the marks up to an index, but for the CIGAR, and gives where it begins.

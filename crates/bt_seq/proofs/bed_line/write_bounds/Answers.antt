@@ -9,4 +9,4 @@ returns-clause-written c =
     let end = c.args.end in
     let size = length-set text (end - 1) 9 in
     let last : drop (end - 1) (set text (end - 1) 9) ≡ 9 ∷ drop end text = drop-set text (end - 1) 9 (omega arith) ∙ ap (λ n. 9 ∷ drop n text) (omega arith) in
-    rw (c.write_position.ensures.written, c.write_position-before_stop.ensures.written, last) (simp append_assoc)
+    rw (c.write_column.ensures.written, c.write_column-before_stop.ensures.written, last) (simp append_assoc)

@@ -1,7 +1,7 @@
 use Rattle.std.proofs.Common.{◌++◌, ◌≤◌, ◌∙◌, ap, append_assoc, arith, length, length-append, refl, sym}
 use Rattle.bt_lines.specs.Output.{block_size}
 use Rattle.bt_lines.specs.Span.{span_text}
-use Rattle.bt_lines.proofs.LeftLemmas.{span_short}
+use Rattle.bt_lines.proofs.SpanLemmas.{span_short}
 use Rattle.bt_lines.proofs.PuttingLemmas.{puts_held}
 use Rattle.bt_lines.proofs.output.Out.hold_span.Goals as goal
 
@@ -11,7 +11,7 @@ returns-clause-held g c = λ e.
     let name = c.args.name.now in
     let span = span_text c.args.start c.args.stop c.args.end in
     let both = c.append_span.ensures in
-    let short = span_short c.args.start c.args.stop c.args.end (omega (arith, c.if-start-gt-MAX_NUMBER.false)) (omega (arith, c.if-stop-gt-MAX_NUMBER.false)) in
+    let short = span_short c.args.start c.args.stop c.args.end c.ranges.start.fits c.ranges.stop.fits in
     let fits : length c.append_span.new.self ≤ block_size = omega (
       arith,
       ap length both,

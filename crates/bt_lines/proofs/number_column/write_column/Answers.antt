@@ -1,7 +1,7 @@
 use Rattle.std.proofs.Common.{◌≡◌, ◌+◌, ◌-◌, arith}
 use Rattle.std.proofs.lemmas.List.{drop-set}
-use Rattle.bt_lines.proofs.PrintLemmas.{twenty_digits}
-use Rattle.bt_lines.proofs.from_right.write_column.Goals as goal
+use Rattle.bt_lines.proofs.SpanLemmas.{twenty_digits}
+use Rattle.bt_lines.proofs.number_column.write_column.Goals as goal
 
 pub write_digits-first-requires : goal.write_digits-first-requires
 write_digits-first-requires c =
