@@ -7,9 +7,7 @@ ghost use Rattle.bt_seq.specs.LineEnds.{bounds_text, end_sign, line_tail, marks,
 ghost use Rattle.bt_seq.specs.Sam.{alignment_lent};
 
 use crate::sam::SamRef;
-use bt_lines::{
-    COLUMN, Fault, Out, Sink, copy_piece, put_both, put_column, write_column,
-};
+use bt_lines::{COLUMN, Fault, Out, Sink, copy_piece, put_both, put_column, write_column};
 
 // The room for what stands between chromosome and name: two columns and a tab.
 const BOUNDS_ROOM: usize = 2 * COLUMN + 1;

@@ -1,6 +1,6 @@
 //! Held records, and how many of them end at each position.
 
-ghost use Rattle.std.specs.Prelude.{◌≡◌, ℕ, ◌+◌, ◌^◌, ◌<◌, ◌≤◌, IfSome, IsNone, IsSome, IsTrue, None, Some, cond, false, nat_lt, true, unwrap_or};
+ghost use Rattle.std.specs.Prelude.{◌≡◌, ℕ, ◌+◌, ◌^◌, ◌<◌, ◌≤◌, IsSome, IsTrue, None, Some, cond, false, nat_lt, true, unwrap_or};
 ghost use Rattle.std.specs.BTreeMap.{IsUnchanged, get, is_at};
 ghost use Rattle.std.specs.Ordering.{nat_cmp};
 ghost use Rattle.bt_sweep.specs.Ends.{CountsEnds};

@@ -100,8 +100,7 @@ returns-in_err-convert_line-clause-reads g c = λ never.
 pub returns-clause-converts : goal.returns-clause-converts
 returns-clause-converts g c =
     let gives = rw (c.in_ok-line.was, c.in_default.is) at c.next.follows.holds-at-none in
-    let now = c.loop-line.invariant in
-    (
+    let now = c.loop-line.invariant in (
       sam_reader c.next.follows.lender-at-none,
       refl,
       converts_all _ _ _ _ _ c.args.lines.now c.args.out.now.output c.loop-line.lines c.loop-line.out.output now.going c.next.follows.lender-at-none gives.answers gives.sound,
