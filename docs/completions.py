@@ -27,7 +27,7 @@ VARIABLES = {
     "DUNEKETTLE_HINTS=0": "dunekettle gives no hints, and becomes the program",
     "DUNEKETTLE_TELL=1": "the drop-in says which program takes a command line, and why; a path instead of 1 is a file for it",
     "DUNEKETTLE_ALWAYS=1": "the drop-in never asks the original",
-    "DUNEKETTLE_STREAMS=1": "the drop-in takes standard input and pipes as sorted",
+    "DUNEKETTLE_STREAMS=1": "the drop-in takes standard input and pipes as sorted BED without odd lines",
 }
 WIDTH = 80
 # Where a manual page has the options.

@@ -34,7 +34,8 @@ FILES = {
     "cr.bed": b"chr1\t2\t6\rchr1\t4\t9\r", "spaces.bed": b"chr1 2 6\n", "names.bed": b"name\tstart\tend\nchr1\t2\t6\n",
     "bare.bed": b"1\t2\t6\n", "natural.bed": b"chr2\t2\t6\nchr10\t2\t6\n", "cram.cram": b"CRAM\3\0", "a\nb.bed": b"chr1\t2\t6\n",
     "dot.bed": b"chr1\t2\t6\ta\t0\t.\n", "short.bed": b"chr1\t2\t6\nchr1\t5\n", "no_base.bed": b"chr1\t5\t5\n",
-    "crlf.bed": b"chr1\t2\t6\r\n\r\n", "s.fa": b">chr1\nACGT\n", "s.fa.fai": b"chr1\t4\t6\t4\t5\n", "stdin": b"chr1\t2\t6\n", "-x": b"chr1\t2\t6\n",
+    "crlf.bed": b"chr1\t2\t6\r\n\r\n", "s.fa": b">chr1\nACGT\n", "past_end.bed": b"chr1\t25\t30\n",
+    "cut.fa": b">chr1\nACGT", "cut.bed": b"chr1\t1\t2\n", "zero_pos.sam": b"@SQ\tSN:chr1\tLN:20\nr\t0\tchr1\t0\t9\t4M\t*\t0\t0\t*\t*\n", "s.fa.fai": b"chr1\t4\t6\t4\t5\n", "stdin": b"chr1\t2\t6\n", "-x": b"chr1\t2\t6\n",
 }
 # The words after `dunekettle`, the fault that the program reports, and a part of the hint.
 HINTS = [
@@ -42,9 +43,9 @@ HINTS = [
      "names' bytes: LC_ALL=C sort -k1,1 -k2,2n unsorted.bed"),
     ("merge -i natural.bed", "natural.bed:2: record is out of order", "or give the chromosomes in their order by -g"),
     ("merge -g g.txt -i unsorted.bed", "unsorted.bed:2: record is out of order", "is that of g.txt: awk"),
-    ("merge -i zip.gz", "zip.gz:1: too few columns", "it is compressed by gzip: zcat zip.gz | dunekettle merge -i - .."),
-    ("merge -i bam.bam", "bam.bam:1: too few columns", "it is BAM: samtools view -h bam.bam | dunekettle bamtobed | dunekettle merge -i - .."),
-    ("bamtobed -i bam.bam", "bam.bam:1: too few columns", "it is BAM: samtools view -h bam.bam | dunekettle bamtobed -i - .."),
+    ("merge -i zip.gz", "zip.gz:1: too few columns", "it is compressed by gzip: zcat zip.gz | dunekettle merge -i -"),
+    ("merge -i bam.bam", "bam.bam:1: too few columns", "it is BAM: samtools view -h bam.bam | dunekettle bamtobed | dunekettle merge -i -"),
+    ("bamtobed -i bam.bam", "bam.bam:1: too few columns", "it is BAM: samtools view -h bam.bam | dunekettle bamtobed -i -"),
     ("merge -i cram.cram", "cram.cram:1: too few columns", "it is CRAM: samtools view"),
     ("merge -i vcf.vcf", "vcf.vcf:3: end is not a number", "it is VCF: awk"),
     ("merge -i gff.gff", "gff.gff:1: start is not a number", "it is GFF: awk"),
@@ -53,7 +54,7 @@ HINTS = [
     ("merge -i mark.bed", "mark.bed:1: start is not a number", "it begins with a byte order mark: tail -c +4 mark.bed"),
     ("merge -i little.bed", "little.bed:1: start is not a number", "it is UTF-16LE: iconv"),
     ("merge -i big.bed", "big.bed:1: start is not a number", "it is UTF-16BE: iconv"),
-    ("intersect -a f.bed -b zip.gz", "zip.gz:1: too few columns", "zcat zip.gz | dunekettle intersect -b - .."),
+    ("intersect -a f.bed -b zip.gz", "zip.gz:1: too few columns", "zcat zip.gz | dunekettle intersect -a f.bed -b -"),
     ("merge -i cr.bed", "cr.bed:1: end is not a number", "its lines end with CR alone: tr"),
     ("merge -i spaces.bed", "spaces.bed:1: too few columns", "its columns are separated by spaces: tr"),
     ("merge -i short.bed", "short.bed:2: too few columns", "line 2 is: chr1 5"),
@@ -93,7 +94,7 @@ def try_hints(place, folder, count):
         advice = re.search(r"(?:bytes|g\.txt|[a-zA-Z\d]|mark|alone|spaces|columns): ((?:zcat|awk|dunekettle bamtobed|iconv|tail|tr|LC_ALL).*?)(?:, or .*)?$", lines[-1])
         if advice and line.startswith("merge"):
             again = " -g g.txt" if "-g" in line else ""
-            script = advice[1][: -len("..")] if advice[1].endswith("..") else f"{advice[1]} | dunekettle merge -i -{again}"
+            script = advice[1] if "| dunekettle merge" in advice[1] else f"{advice[1]} | dunekettle merge -i -{again}"
             run = shell(script, folder, environment(place / "bin"))
             count.expect(f"the advice for {line}: {script}", (True, "", 0), (run[0].startswith(b"chr1"), run[1], run[2]))
         quiet = call([front, *line.split()], folder, environment(DUNEKETTLE_HINTS="0"))
@@ -126,7 +127,8 @@ def try_help(place, folder, count):
                               ("numbers.vcf", "VCF", None), ("gff.gff", "GFF", None), ("sam.sam", "SAM", None), ("utf16.bed", "UTF-16", None),
                               ("mark.bed", "byte order mark", None), ("cr.bed", "CR", None), ("s.fa", "FASTA", None), ("g.txt", "genome file", None), ("s.fa.fai", "genome file", None), ("./stdin", "BED", "bytes")):
         count.expect(f"check: {name}", (kind, order), (reports[name]["kind"], reports[name]["order"]))
-    count.expect("check: what is taken", ["./stdin", "a\nb.bed", "bare.bed", "crlf.bed", "dot.bed", "f.bed", "g.txt", "s.fa", "s.fa.fai", "sam.sam"],
+    count.expect("check: what is taken", ["./stdin", "a\nb.bed", "bare.bed", "crlf.bed", "cut.bed", "cut.fa", "dot.bed", "f.bed", "g.txt", "past_end.bed", "s.fa", "s.fa.fai",
+                                             "sam.sam", "zero_pos.sam"],
                  sorted(name for name, report in reports.items() if report["taken"]))
     count.expect("check: strands and lines", (1, 1, 2), (reports["dot.bed"]["without_strand"], reports["crlf.bed"]["blank_lines"], reports["crlf.bed"]["cr_lf"]))
     output, _, status = call([front, "check", "natural.bed", "-g", "g.txt"], folder, environment())
@@ -196,6 +198,118 @@ def try_originals(place, folder, count):
     count.expect("TELL in a file", True, " takes merge: " in (top / "told.txt").read_text(encoding="utf-8"))
 
 
+def try_paths(place, folder, count):
+    """Empty entries of PATH, tools that are missing, and installations that were copied in part or broken."""
+    top = folder.parent
+    says, tools, bare = top / "says", top / "tools", top / "bare"
+    bare.mkdir()
+    for entry in ("", ":", "::", f":{top / 'nowhere'}", f"{top / 'nowhere'}:", f"{top / 'nowhere'}::{top / 'nowhere'}"):
+        env = {**environment(), "PATH": f"{drop_in(place)}:{tools}:{entry}"}
+        # The original is in the folder in which it is called.
+        count.expect(f"PATH with {entry!r}", 7, call(["bedtools", "sort"], says, env)[2])
+    for shell_name in (["dash"], ["bash", "--posix"], ["busybox", "sh"], ["mksh"], ["yash"]):
+        if shutil.which(shell_name[0]):
+            words = [shutil.which(shell_name[0]), *shell_name[1:], drop_in(place) / "bedtools", "sort"]
+            count.expect(f"PATH with an empty end, {shell_name[0]}", 7, call(words, says, {**environment(), "PATH": f"{tools}:"})[2])
+    for missing in ("grep", "awk", "cat", "tail", "readlink"):
+        few = top / f"no {missing}"
+        few.mkdir()
+        for tool in tools.iterdir():
+            if tool.name != missing:
+                (few / tool.name).symlink_to(os.readlink(tool))
+        for line in ("sort", "merge -i unsorted.bed", "intersect -s -u -a f.bed -b dot.bed", "intersect -a f.bed -b f.bed", "complement -i past_end.bed -g g.txt",
+                     "maskfasta -fi cut.fa -bed cut.bed -fo masked.fa", "bamtobed -i zero_pos.sam"):
+            env = {**environment(), "PATH": f"{drop_in(place)}:{few}:{says}"}
+            count.expect(f"no {missing}: {line}", 7, call(["bedtools", *line.split()], folder, env)[2])
+    for part in ("lib/dunekettle/judge.sh", "bin/dunekettle-bedtools", "lib/dunekettle/help.txt", "lib/dunekettle/hints.sh"):
+        for how in ("missing", "empty", "half", "a folder"):
+            broken = install(top / f"{Path(part).name} {how}")
+            text = (broken / part).read_bytes()
+            (broken / part).unlink()
+            if how == "a folder":
+                (broken / part).mkdir()
+            elif how != "missing":
+                (broken / part).write_bytes(text[: len(text) // 2 if how == "half" else 0])
+                (broken / part).chmod(0o755)
+            env = {**environment(), "PATH": f"{drop_in(broken)}:{tools}:{says}"}
+            is_needed = "help" not in part and "hints" not in part
+            output, said, status = call(["bedtools", "merge", "-i", "f.bed"], folder, env)
+            count.expect(f"{part} {how}", (b"merge\0-i\0f.bed\0", "", 7) if is_needed else (MERGED, "", 0), (output, said, status))
+            count.expect(f"{part} {how}: --version", 0, call(["bedtools", "--version"], folder, env)[2])
+            if "bedtools" not in part and how != "half":
+                status = call([broken / "bin" / "dunekettle", "merge", "-i", "unsorted.bed"], folder, env)[2]
+                count.expect(f"{part} {how}: a fault", 1, status)
+    shutil.copy(place / "bin" / "dunekettle", bare / "bedtools")
+    (bare / "mergeBed").symlink_to("bedtools")
+    env = {**environment(), "PATH": f"{bare}:{tools}:{says}"}
+    count.expect("the script alone", (b"merge\0-i\0f.bed\0", "", 7), call(["bedtools", "merge", "-i", "f.bed"], folder, env))
+    count.expect("the script alone, mergeBed", (b"merge\0-i\0f.bed\0", "", 7), call(["mergeBed", "-i", "f.bed"], folder, env))
+    shown = {**environment(), "line": "mine", "version": "mine", "PATH": os.pathsep.join(map(str, [drop_in(place), top / "shows", tools]))}
+    output = call(["bedtools", "--version"], folder, shown)[0]
+    count.expect("the environment of --version", (True, True), (b"\nline=mine\n" in b"\n" + output, b"\nversion=mine\n" in b"\n" + output))
+
+
+def try_names(place, folder, count):
+    """Names of files that a shell would run, or a terminal obey: a hint is one line, and what it says to run is safe."""
+    odd = folder.parent / "odd names"
+    odd.mkdir()
+    (odd / "g.txt").write_bytes(FILES["g.txt"])
+    front, env = place / "bin" / "dunekettle", environment(place / "bin")
+    packed = (folder / "zip.gz").read_bytes()
+    parts = "x;touch PWNED;", "$(touch PWNED)", "`touch PWNED`", "a b", "it's", "-x", "x=1", "a&touch PWNED&", "a|touch PWNED", "*", "\\", '"', "~", "#", "\u00e9"
+    for name in parts:
+        for text, end, words in ((FILES["unsorted.bed"], ".bed", []), (FILES["unsorted.bed"], ".bed", ["-g", "g.txt"]), (packed, ".gz", ["-d", "5"]),
+                                 (FILES["no_base.bed"] + b"chr1\t7\t9\n", ".bed", [])):
+            file = odd / (name + end)
+            file.write_bytes(text)
+            _, said, status = call([front, "merge", "-i", file.name, *words], odd, env)
+            lines = said.splitlines()
+            count.expect(f"a hint of {file.name}", (1, 2), (status, len(lines)))
+            advice = re.search(r"((?:zcat|awk|LC_ALL).*?)(?:, or .*)?$", lines[-1])
+            script = advice[1] if "| dunekettle" in advice[1] else advice[1] + " | dunekettle merge -i - " + " ".join(words)
+            output, said, status = shell(script, odd, env)
+            count.expect(f"what it says to run: {script}", (True, "", 0, False), (output.startswith(b"chr1"), said, status, (odd / "PWNED").exists()))
+            output, _, _ = call([front, "check", *(words if "-g" in words else []), "--", file.name], odd, env)
+            lines = output.decode().splitlines()
+            if len(lines) > 2:
+                output, said, status = shell(f"{lines[2]} > /dev/null", odd, env)
+                count.expect(f"what check says to run: {lines[2]}", ("", 0, False), (said, status, (odd / "PWNED").exists()))
+            file.unlink()
+    for name in ("a\nb", "a\x1b[31m", "a\x07"):
+        (odd / name).write_bytes(FILES["unsorted.bed"])
+        said = call([front, "merge", "-i", name], odd, env)[1].rpartition("dunekettle: ")[2]
+        count.expect(f"unprintable: {name!r}", ("\n", [], True), (said[-1], [letter for letter in said[:-1] if letter < " "], said.endswith(" FILE\n")))
+        output = call([front, "check", name], odd, env)[0].decode()
+        count.expect(f"check, unprintable: {name!r}", [], [letter for letter in output if letter < " " and letter != "\n"])
+    (odd / "escape.bed").write_bytes(b"c\x1b[31m\t9\t12\nc\x1b[31m\t2\t6\n")
+    (odd / "escape.txt").write_bytes(b"\x1b[31m\t9\n")
+    for line in ("merge -i escape.bed", "merge -i g.bed -g escape.txt", "merge -i escape.bed -g g.txt"):
+        (odd / "g.bed").write_bytes(b"chr1\t9\t12\n")
+        count.expect(f"names in a file: {line}", False, "\x1b" in call([front, *line.split()], odd, env)[1].splitlines()[-1])
+    (odd / "b.bed").write_bytes(b"chr1\t2\t6\n")
+    count.expect("check: names in a file", False, b"\x1b" in call([front, "check", "escape.bed", "b.bed"], odd, env)[0])
+    shutil.copy(folder / "zip.gz", odd / "zip.gz")
+    said = call([front, "intersect", "-a", "-", "-b", "zip.gz"], odd, env, input=b"chr1\t2\t6\n")[1].splitlines()[-1]
+    count.expect("a pipe beside another", "dunekettle: it is compressed by gzip: zcat zip.gz", said)
+    for name, wanted in ((b"\xff.bed", "\xff.bed"), (b"a\xe9\xc3\xa9\xed\xa0\x80", "a\xe9\xe9\xed\xa0\x80"), (b"\x01\x7f\"\\", "\x01\x7f\"\\"),
+                         ("\u20ac\U0001f600.bed".encode(), "\u20ac\U0001f600.bed")):
+        (odd / os.fsdecode(name)).write_bytes(b"chr1\t2\t6\n")
+        output = call([front, "check", "--json", os.fsdecode(name)], odd, env)[0]
+        try:
+            found = json.loads(output.decode())[0]["file"]
+        except ValueError as fault:
+            found = str(fault)
+        count.expect(f"check --json of {name}", wanted, found)
+    (odd / "-x").write_bytes(b"chr1\t2\t6\n")
+    count.expect("check -- -x", (0, True), (lambda gave: (gave[2], gave[0].startswith(b"-x: BED")))(call([front, "check", "--", "-x"], odd, env)))
+    report = json.loads(call([front, "check", "--json", "."], odd, env)[0])[0]
+    count.expect("check of a folder", (None, "it is a directory"), (report["kind"], report["fault"]))
+    for file in sorted((TOP / "front").glob("*")):
+        if file.suffix != ".txt":
+            wide = [number for number, text in enumerate(file.read_text(encoding="utf-8").splitlines(), 1) if len(text) > 120]
+            count.expect(f"lines of {file.name} over 120 columns", [], wide)
+
+
 def try_streams(place, folder, count):
     """Standard input is left as it is; closed streams are as for the program alone; a stream goes by its order."""
     front, program = place / "bin" / "dunekettle", place / "bin" / "dunekettle-bedtools"
@@ -213,17 +327,34 @@ def try_streams(place, folder, count):
             count.expect(f"dunekettle {line} {streams}", wanted, (found[0], hints, found[2]))
             always = shell(f"bedtools {line} {streams}", folder, {**env, "DUNEKETTLE_ALWAYS": "1"}, input=FILES["f.bed"])
             count.expect(f"bedtools {line} {streams}, always", wanted, always)
-            if line in ("merge -i f.bed", "complement -g g.txt"):
+            if line == "merge -i f.bed":
                 judged = shell(f"bedtools {line} {streams}", folder, alone, input=FILES["f.bed"])
                 count.expect(f"bedtools {line} {streams}", wanted, judged)
-    ours = "intersect -sorted -a - -b f.bed -u -g g.txt", "complement -i - -g g.txt", "intersect -g g.txt -sorted -u -a f.bed -b /dev/stdin"
-    for line in (*ours, "merge -i -", "merge", "intersect -a - -b f.bed -u", "intersect -sorted -a - -b f.bed -u", "intersect -sorted -a - -b /dev/stdin", "bamtobed", "genomecov -bg -i - -g g.txt",
-                 "intersect -sorted -g g.txt -s -a - -b f.bed", "maskfasta -fi s.fa -bed -"):
-        status = call(["bedtools", *line.split()], folder, alone, input=FILES["f.bed"])[2]
-        count.expect(f"a stream: {line}", 0 if line in ours else 7, status)
+    # A stream goes to bedtools, unless DUNEKETTLE_STREAMS says that it is sorted BED.
+    ours = ("intersect -sorted -a - -b f.bed -u -g g.txt", "complement -i - -g g.txt", "intersect -g g.txt -sorted -u -a f.bed -b /dev/stdin", "merge -i -", "merge",
+            "complement -i stdin -g g.txt", "intersect -a - -b f.bed -u", "intersect -sorted -a - -b f.bed -u", "genomecov -bg -i - -g g.txt", "subtract -a f.bed -b /dev/fd/0",
+            "merge -i link.bed", "merge -i /dev/./stdin")
+    theirs = ("intersect -sorted -a - -b /dev/stdin", "bamtobed", "bamtobed -i -", "intersect -sorted -g g.txt -s -a - -b f.bed", "maskfasta -fi s.fa -bed -",
+              "maskfasta -fi - -bed f.bed", "merge -S + -i -", "intersect -f 0.5 -u -a - -b f.bed", "genomecov -bga -i - -g g.txt", "complement -g g.txt", "genomecov -bg -g g.txt",
+              "merge -i f.bed.gz -", "intersect -sorted -u -a - -b unsorted.bed")
+    (folder / "link.bed").symlink_to("/dev/stdin")
+    for line in (*ours, *theirs):
+        for asked in ("0", "1"):
+            for source in ("", "< f.bed", "cat f.bed |"):
+                script = f"bedtools {line} {source}" if "|" not in source else f"{source} bedtools {line}"
+                status = shell(script, folder, {**alone, "DUNEKETTLE_STREAMS": asked})[2]
+                count.expect(f"a stream: {script}, STREAMS={asked}", 0 if line in ours and asked == "1" else 7, status)
+    (folder / "link.bed").unlink()
     found = call(["bedtools", "merge"], folder, {**alone, "DUNEKETTLE_STREAMS": "1"}, input=FILES["f.bed"])
     count.expect("STREAMS", (MERGED, "", 0), found)
-    count.expect("a pipe of a shell", 7, call(["bash", "-c", "bedtools merge -i <(cat f.bed)"], folder, alone)[2])
+    # What only Dunekettle takes it takes of a stream too.
+    found = call(["bedtools", "merge", "-i", "-", "-g", "g.txt"], folder, alone, input=FILES["f.bed"])
+    count.expect("merge -g of a stream", (MERGED, "", 0), found)
+    for line in ("merge -i <(cat f.bed)", "complement -i <(cat f.bed) -g g.txt", "complement -i f.bed -g <(cat g.txt)", "intersect -sorted -g g.txt -u -a f.bed -b <(cat f.bed)"):
+        count.expect(f"a pipe of a shell: {line}", 7, call(["bash", "-c", f"bedtools {line}"], folder, alone)[2])
+    os.mkfifo(folder / "pipe")
+    count.expect("a named pipe", 7, call(["bedtools", "complement", "-i", "pipe", "-g", "g.txt"], folder, alone)[2])
+    (folder / "pipe").unlink()
 
 
 def try_signals(place, folder, count):
@@ -392,6 +523,8 @@ def main():
         try_hints(place, folder, count)
         try_help(place, folder, count)
         try_originals(place, folder, count)
+        try_paths(place, folder, count)
+        try_names(place, folder, count)
         try_streams(place, folder, count)
         try_signals(place, folder, count)
         try_rest(place, folder, count)

@@ -8,7 +8,10 @@
 BEGIN {
     FS = "\t"
     kind = ENVIRON["kind"]
-    for (code = 1; code < 32; code++) controls = controls sprintf("%c", code)
+    for (code = 1; code < 256; code++) if (code < 32 || code > 126) code_of[sprintf("%c", code)] = code
+    # A letter of UTF-8 that isn't one of ASCII
+    UTF8 = "^([\302-\337]|\340[\240-\277]|[\341-\354\356\357][\200-\277]|\355[\200-\237]" \
+        "|(\360[\220-\277]|[\361-\363][\200-\277]|\364[\200-\217])[\200-\277])[\200-\277]"
 }
 
 only == "kind" { name_kind(); next }
@@ -46,7 +49,8 @@ function name_kind() {
     else if (/^#/ || /^(track|browser)([ \t\r]|$)/ || /^[ \t\r]*$/) return
     else if (NF >= 11 && is_number($2) && is_number($4) && $6 ~ /^(\*|([0-9]+[MIDNSHPX=])+)$/) known = "SAM"
     else if (NF >= 8 && is_number($4) && is_number($5) && !(is_number($2) && is_number($3))) known = "GFF"
-    else if (NF == 5 && is_number($2) && is_number($3) && is_number($4) && ($5 - $4 == 1 || $5 - $4 == 2)) known = "genome file"
+    else if (NF == 5 && is_number($2) && is_number($3) && is_number($4) && ($5 - $4 == 1 || $5 - $4 == 2))
+        known = "genome file"
     else if (NF >= 3 && is_number($2)) known = "BED"
     else if (NF == 2 && is_number($2)) known = "genome file"
     else if (NF < 3 && /^[^ ]+ +[0-9]+ +[0-9]+/) known = "spaces"
@@ -102,27 +106,34 @@ function report_words() {
     if (crlf) add(counted(crlf, "line", " with CR LF"))
     if (strandless && kind == "BED") add(counted(strandless, "record", " without a strand"))
     if (empty && kind == "BED") add(counted(empty, "record", " without a base"))
-    print ENVIRON["file"] ": " line
-    if (ENVIRON["fault"] != "") print "  can't be taken: " ENVIRON["fault"]
-    if (ENVIRON["pipe"] != "") print "  " ENVIRON["pipe"]
+    print clean(ENVIRON["file"]) (line == "" ? ":" : ": " line)
+    if (ENVIRON["fault"] != "") print "  can't be taken: " clean(ENVIRON["fault"])
+    if (ENVIRON["pipe"] != "") print "  " clean(ENVIRON["pipe"])
 }
 
+# A text in one line, without bytes that change a terminal
+function clean(text) { gsub(/[\001-\037\177]/, "?", text); return text }
+
 function report_json() {
-    printf "{\"file\": %s, \"kind\": %s, \"taken\": %s, \"fault\": %s, \"pipe\": %s", quoted(ENVIRON["file"]), quoted(kind),
-        ENVIRON["fault"] == "" ? "true" : "false", or_null(ENVIRON["fault"]), or_null(ENVIRON["pipe"])
+    printf "{\"file\": %s, \"kind\": %s, \"taken\": %s", quoted(ENVIRON["file"]), or_null(kind),
+        ENVIRON["fault"] == "" ? "true" : "false"
+    printf ", \"fault\": %s, \"pipe\": %s", or_null(ENVIRON["fault"]), or_null(ENVIRON["pipe"])
     printf ", \"order\": %s, \"records\": %d", kind == "BED" && records ? quoted(order) : "null", records
-    printf ", \"chromosomes\": %d, \"columns\": [%d, %d], \"header_lines\": %d, \"blank_lines\": %d", count, least, most, headers, blank
-    printf ", \"cr_lf\": %d, \"without_strand\": %d, \"without_base\": %d}", crlf, strandless, empty
+    printf ", \"chromosomes\": %d, \"columns\": [%d, %d]", count, least, most
+    printf ", \"header_lines\": %d, \"blank_lines\": %d, \"cr_lf\": %d", headers, blank, crlf
+    printf ", \"without_strand\": %d, \"without_base\": %d}", strandless, empty
 }
 
 function or_null(text) { return text == "" ? "null" : quoted(text) }
 
-# A text of JSON: bytes above 127 stay as they are
-function quoted(text,  at, letter, made) {
-    for (at = 1; at <= length(text); at++) {
-        letter = substr(text, at, 1)
+# A text of JSON: what is UTF-8 stays as it is, and another byte becomes the letter of its number
+function quoted(text,  letter, made) {
+    while (text != "") {
+        letter = substr(text, 1, 1)
+        if (letter in code_of && match(text, UTF8)) letter = substr(text, 1, RLENGTH)
+        text = substr(text, length(letter) + 1)
         if (letter == "\"" || letter == "\\") letter = "\\" letter
-        else if (letter < " ") letter = sprintf("\\u%04x", index(controls, letter))
+        else if (letter in code_of) letter = sprintf("\\u%04x", code_of[letter])
         made = made letter
     }
     return "\"" made "\""

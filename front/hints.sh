@@ -1,10 +1,35 @@
 # shellcheck shell=sh
 # Hints, and the check of files: read by `dunekettle`, which has set `program`, `files` and NL.
 
+# clean: standard input without bytes that change a terminal
+clean() { LC_ALL=C tr '\001-\011\013-\037\177' '?'; }
+
+# printable: standard input with nothing but what ASCII prints
+printable() { LC_ALL=C tr -c '[:print:]\n' '?'; }
+
+# advise TEXT: a hint, in one line
+advise() { say "$(printf '%s' "$1" | clean | tr '\n' '?')"; }
+
+# quoted WORD: as a word of a shell; FILE if it has bytes that a terminal doesn't show
+quoted() {
+    case $1 in
+    '' | *[!A-Za-z0-9._/+-]*)
+        if [ "$(printf '%s.' "$1" | clean)" != "$1." ] || [ "${1#*"$NL"}" != "$1" ]; then echo FILE; return; fi
+        printf "'%s'\n" "$(printf '%s' "$1" | sed "s/'/'\\\\''/g")"
+        ;;
+    *) printf '%s\n' "$1" ;;
+    esac
+}
+
+# quoted_name FILE: the same of a name, which no tool takes for an option or, as awk does, for an assignment
+quoted_name() { case $1 in /*) quoted "$1" ;; -* | *=*) quoted "./$1" ;; *) quoted "$1" ;; esac; }
+
 # kind_of FILE: what its first bytes say, and if it is text its first lines
 kind_of() {
     case $(od -A n -t x1 -N 16 < "$1" | tr -d ' \n') in
-    1f8b*) case $(gzip -dc < "$1" 2> /dev/null | od -A n -t x1 -N 4) in *'42 41 4d 01'*) echo BAM ;; *) echo gzip ;; esac ;;
+    1f8b*)
+        case $(gzip -dc < "$1" 2> /dev/null | od -A n -t x1 -N 4) in *'42 41 4d 01'*) echo BAM ;; *) echo gzip ;; esac
+        ;;
     42414d01*) echo BAM ;;
     4352414d*) echo CRAM ;;
     425a68*) echo bzip2 ;;
@@ -20,8 +45,7 @@ kind_of() {
 
 # pipe_for KIND FILE: the command that makes BED (or text) of it, or nothing
 pipe_for() {
-    case $2 in -*) set -- "$1" "./$2" ;; esac
-    case $2 in *[!A-Za-z0-9._/+-]*) set -- "$1" "'$(printf '%s' "$2" | sed "s/'/'\\\\''/g")'" ;; esac
+    set -- "$1" "$(quoted_name "$2")"
     case $1$command in
     BAMbamtobed | CRAMbamtobed) printf '%s\n' "samtools view -h $2" ;;
     BAM* | CRAM*) printf '%s\n' "samtools view -h $2 | dunekettle bamtobed" ;;
@@ -54,29 +78,34 @@ hint() {
     file=${file%": $text"}
     case $fault in
     "bedtools $command: "*': cannot be opened') hint_unopened ;;
-    "bedtools $command: "*:[0-9]*': '*) number=${file##*:} file=${file%:*}; hint_place ;;
+    "bedtools $command: "*:[0-9]*': '*) number=${file##*:} file=${file%:*}; hint_place "$@" ;;
     "bedtools: argument is not UTF-8") ;;
     "bedtools: "*) hint_usage ;;
     esac
 }
 
 hint_usage() {
-    synopsis=$(LC_ALL=C awk -v part="$command" '$1 == "%" { found = $2 == part; next } found && !NF { exit } found' "$files/help.txt")
-    if [ -n "$synopsis" ]; then say "usage: $(printf '%s' "$synopsis" | tr -s '\n ' ' ')"; else say 'the commands: see dunekettle --help'; fi
+    synopsis=$(LC_ALL=C part=$command awk '
+        $1 == "%" { found = $2 == ENVIRON["part"]; next }
+        found && !NF { exit }
+        found' "$files/help.txt" | tr -s '\n ' ' ')
+    if [ -n "$synopsis" ]; then say "usage: ${synopsis% }"; else say 'the commands: see dunekettle --help'; fi
 }
 
 hint_unopened() {
-    if [ "$file" = "$fo" ]; then say "$file can't be made, or it is an input under another name"
-    elif [ ! -e "$file" ]; then say "$file isn't there"
-    elif [ -d "$file" ]; then say "$file is a directory"
-    elif [ ! -r "$file" ]; then say "you may not read $file: ls -l shows who may"
+    if [ "$file" = "$fo" ]; then advise "$file can't be made, or it is an input under another name"
+    elif [ ! -e "$file" ]; then advise "$file isn't there"
+    elif [ -d "$file" ]; then advise "$file is a directory"
+    elif [ ! -r "$file" ]; then advise "you may not read $file: ls -l shows who may"
     fi
 }
 
 hint_place() {
     case $text in
-    'too few columns' | 'start is not a number' | 'end is not a number' | 'start is not below end' | 'text before'*) hint_kind ;;
-    'reading failed') [ ! -d "$file" ] || say "$file is a directory" ;;
+    'too few columns' | 'start is not a number' | 'end is not a number' | 'start is not below end' | 'text before'*)
+        hint_kind "$@"
+        ;;
+    'reading failed') [ ! -d "$file" ] || advise "$file is a directory" ;;
     'record is out of order') hint_order ;;
     'chromosome is not in the genome file') hint_name ;;
     esac
@@ -90,15 +119,36 @@ hint_kind() {
     kind=$(kind_of "$file")
     pipe=$(pipe_for "$kind" "$file")
     case $pipe$text in
-    'start is not below end') say "records without a base are left out by awk -F'\\t' '\$2 + 0 < \$3 + 0' $file" ;;
-    ?*"$text") say "$(in_words "$kind"): $pipe | dunekettle $command $(option_of "$file") - .." ;;
-    *) say "line $number is: $(sed -n "${number}p" < "$file" | LC_ALL=C tr -c '[:print:]\n' ' ' | cut -c 1-60)" ;;
+    'start is not below end')
+        advise "records without a base are left out by awk -F'\\t' '\$2 + 0 < \$3 + 0' $(quoted_name "$file")"
+        ;;
+    ?*"$text") advise "$(in_words "$kind"): $pipe$(piped_words "$@")" ;;
+    *) say "line $number is: $(sed -n "${number}p" < "$file" | cut -c 1-60 | LC_ALL=C tr -c '[:print:]\n' ' ')" ;;
     esac
 }
 
-# option_of FILE: the option that names it
-option_of() {
-    case $1 in "$a") printf '%s\n' -a ;; "$b") printf '%s\n' -b ;; "$fi") printf '%s\n' -fi ;; "$bed") printf '%s\n' -bed ;; *) printf '%s\n' -i ;; esac
+# piped_words WORD..: the rest of a pipe, in which standard input is read instead of the file, if nothing else reads it
+piped_words() {
+    piped=''
+    while [ $# -gt 0 ]; do
+        if takes_value "$1" && [ $# -gt 1 ]; then
+            case $1 in
+            -i | -a | -b | -fi | -bed)
+                case $2 in
+                "$file") piped="$piped $1 -" ;;
+                - | stdin | /dev/*) return ;;
+                *) piped="$piped $1 $(quoted "$2")" ;;
+                esac
+                ;;
+            *) piped="$piped $1 $(quoted "$2")" ;;
+            esac
+            shift
+        else
+            piped="$piped $(quoted "$1")"
+        fi
+        shift
+    done
+    printf '%s\n' " | dunekettle $command$piped"
 }
 
 # in_words KIND
@@ -116,10 +166,11 @@ in_words() {
 # sort_line FILE: how to sort it by the order in use
 sort_line() {
     genome=$g
-    if [ "$command" = maskfasta ]; then genome=$fi.fai; printf 'samtools faidx %s; ' "$fi"; fi
+    case $1 in -) ;; *) set -- "$(quoted_name "$1")" ;; esac
+    if [ "$command" = maskfasta ]; then genome=$fi.fai; printf 'samtools faidx %s; ' "$(quoted_name "$fi")"; fi
     if [ -n "$genome" ]; then
-        printf '%s' "awk -F'\t' 'NR == FNR { rank[\$1] = NR; next } { print rank[\$1] + 0 \"\t\" \$0 }' $genome $1 | "
-        printf '%s\n' "sort -s -t \"\$(printf '\t')\" -k1,1n -k3,3n | cut -f 2-"
+        printf '%s' "awk -F'\\t' 'NR == FNR { rank[\$1] = NR; next } { print rank[\$1] + 0 \"\\t\" \$0 }' "
+        printf '%s\n' "$(quoted_name "$genome") $1 | sort -s -t \"\$(printf '\\t')\" -k1,1n -k3,3n | cut -f 2-"
     else
         printf '%s\n' "LC_ALL=C sort -k1,1 -k2,2n $1"
     fi
@@ -129,38 +180,53 @@ sort_line() {
 hint_order() {
     case $command in maskfasta) order='the sequences' ;; *) order=${g:-"the names' bytes"} ;; esac
     if is_stream "$file"; then
-        say "the order in use is that of $order: $(sort_line -)"
+        advise "the order in use is that of $order: $(sort_line -)"
         return
     fi
-    say "$(order=$order how=$(sort_line "$file") LC_ALL=C awk -F '\t' -v at="$number" '
-        NR == at {
-            print $1, $2, $3, "comes after", before "; the order in use is that of " ENVIRON["order"] ": " ENVIRON["how"] \
-                (ENVIRON["order"] ~ /bytes$/ && $1 != name ? ", or give the chromosomes in their order by -g" : "")
-            exit
-        }
-        NF && !/^(#|(track|browser)([ \t\r]|$))/ { before = $1 " " $2 " " $3; name = $1 }' < "$file")"
+    places=$(LC_ALL=C awk -F '\t' -v at="$number" '
+        NR == at { print $1, $2, $3, "comes after", before; print $1 == name; exit }
+        NF && !/^(#|(track|browser)([ \t\r]|$))/ { before = $1 " " $2 " " $3; name = $1 }' < "$file" | printable)
+    more=', or give the chromosomes in their order by -g'
+    if [ "$order" != "the names' bytes" ] || [ "${places##*"$NL"}" = 1 ]; then more=''; fi
+    advise "${places%"$NL"?}; the order in use is that of $order: $(sort_line "$file")$more"
 }
 
 # The names of the genome file that differ from one by chr, zeros, letters' case, or MT for M
 hint_name() {
-    is_stream "$file" && { say "dunekettle help lists the options; the names of $g are in its first column"; return; }
+    if is_stream "$file"; then
+        advise "dunekettle help lists the options; the names of $g are in its first column"
+        return
+    fi
     near=$(sed -n "${number}p" < "$file" | cat - "$g" | LC_ALL=C awk -F '\t' '
-        function plain(name) { name = tolower(name); sub(/^chr_?/, "", name); sub(/^0+/, "", name); return name == "mt" ? "m" : name }
-        NR == 1 { wanted = $1; next } /^#/ { next } plain($1) == plain(wanted) { found = found " " $1 }
-        NR < 5 { first = first " " $1 } END { print wanted (found != "" ? " is there as" found : " is not there, but" first " ..") }')
-    say "in $g $near"
+        function plain(name) {
+            name = tolower(name)
+            sub(/^chr_?/, "", name)
+            sub(/^0+/, "", name)
+            return name == "mt" ? "m" : name
+        }
+        NR == 1 { wanted = $1; next }
+        /^#/ { next }
+        plain($1) == plain(wanted) { found = found " " $1 }
+        NR < 5 { first = first " " $1 }
+        END { print wanted (found != "" ? " is there as" found : " is not there, but" first " ..") }' | printable)
+    advise "in $g $near"
 }
 
 # check FILE.. [-g GENOME] [--json]: status 0 if the seven commands can take each file
 check() {
-    g='' json='' status=0 command=merge names='' several=''
+    g='' json='' status=0 command=merge names='' several='' ended=''
     count=$#
     while [ "$count" -gt 0 ]; do
-        case $1 in
-        -g) [ "$count" -gt 1 ] && [ -f "$2" ] || { say 'check: -g needs a genome file'; exit 2; }
-            g=$2; shift; count=$((count - 1)) ;;
+        case $ended$1 in
+        -g)
+            if [ "$count" = 1 ] || [ ! -f "$2" ]; then say 'check: -g needs a genome file'; exit 2; fi
+            g=$2
+            shift
+            count=$((count - 1))
+            ;;
         --json) json=1 ;;
-        -*) say "check: unknown option: $1"; exit 2 ;;
+        --) ended=/ ;;
+        -*) advise "check: unknown option: $1"; exit 2 ;;
         *) set -- "$@" "$1" ;;
         esac
         shift
@@ -183,15 +249,19 @@ check() {
 # check_file FILE: writes what it is
 check_file() {
     fault='' kind='' pipe='' input=/dev/null
-    [ "$1" != stdin ] || set -- ./stdin
+    case $1 in - | stdin) set -- "./$1" ;; esac
     if [ ! -e "$1" ]; then fault="it isn't there"
+    elif [ -d "$1" ]; then fault='it is a directory'
     elif [ ! -f "$1" ]; then fault='it is no file that can be read twice'
     elif [ ! -r "$1" ]; then fault='it may not be read'
     else
         kind=$(kind_of "$1")
         pipe=$(pipe_for "$kind" "$1")
         case $kind in
-        BED | text | empty | spaces | 'names of columns') input=$1; fault=$("$program" merge -i "$1" ${g:+-g "$g"} 2>&1 > /dev/null) ;;
+        BED | text | empty | spaces | 'names of columns')
+            input=$1
+            fault=$("$program" merge -i "$1" ${g:+-g "$g"} 2>&1 > /dev/null)
+            ;;
         SAM) input=$1 pipe=''; fault=$("$program" bamtobed -i "$1" 2>&1 > /dev/null) ;;
         FASTA) input=$1; fault=$("$program" maskfasta -fi "$1" -bed /dev/null 2>&1 > /dev/null) ;;
         'genome file') input=$1; fault=$("$program" merge -i /dev/null -g "$1" 2>&1) ;;
@@ -206,8 +276,19 @@ check_file() {
 # unshared FILE..: the names that some of the files lack
 unshared() {
     for file; do
-        [ ! -f "$file" ] || case $(kind_of "$file") in BED) printf '\t%s\n' "$file"; cat -- "$file" ;; esac
-    done | LC_ALL=C awk -F '\t' '/^\t/ { files++; name = $2; next } /^#/ || /^(track|browser)([ \t\r]|$)/ || NF < 3 { next }
+        [ ! -f "$file" ] || case $(kind_of "$file") in
+        BED) printf '\t%s\n' "$(printf '%s' "$file" | clean | tr '\n' '?')"; cat -- "$file" ;;
+        esac
+    done | LC_ALL=C awk -F '\t' '
+        /^\t/ { files++; name = $2; next }
+        /^#/ || /^(track|browser)([ \t\r]|$)/ || NF < 3 { next }
         !(($1, files) in seen) { seen[$1, files]; if (!in_files[$1]++) names[++count] = $1; last[$1] = name }
-        END { for (i = 1; i <= count; i++) if (in_files[names[i]] < files && shown++ < 9) print names[i] ": in " in_files[names[i]] " of " files " files, as " last[names[i]] }'
+        END {
+            for (i = 1; i <= count && shown < 9; i++) {
+                times = in_files[names[i]]
+                if (times == files) continue
+                shown++
+                print names[i] ": in " times " of " files " files, as " last[names[i]]
+            }
+        }' | clean
 }
