@@ -10,7 +10,7 @@ use Rattle.bt_bed.proofs.RecordsLemmas.{passed_placed}
 use Rattle.bt_bed.proofs.SaidLemmas.{said_features}
 use Rattle.bt_bed.specs.Bed.{feature_lent}
 use Rattle.bt_bed.specs.Blocks.{Answers, GivesRecord, PassesBlocks, StepAnswers, StepsBlocks, StepsTo as BlocksStepsTo, view_of}
-use Rattle.bt_bed.specs.Cursor.{IsPlaced, view_in, view_with}
+use Rattle.bt_bed.specs.SortedReader.{IsPlaced, view_in, view_with}
 use Rattle.bt_bed.specs.Feature.{Feature}
 use Rattle.bt_bed.specs.Good.{Member}
 use Rattle.bt_bed.specs.GoodBed.{locus_at}
@@ -19,7 +19,7 @@ use Rattle.bt_bed.specs.Reading.{Advances, GivesMember, StepAnswers as MembersAn
 use Rattle.bt_bed.specs.Sorting.{block_sorting}
 use Rattle.bt_bed.specs.declared.bed.BedRef.{BedRef}
 use Rattle.bt_bed.specs.declared.blocks.Blocks.{Blocks}
-use Rattle.bt_bed.specs.declared.cursor.Cursor.{Cursor}
+use Rattle.bt_bed.specs.declared.sorted_reader.SortedReader.{SortedReader}
 use Rattle.bt_bed.specs.declared.sorted.InBlocks.{InBlocks}
 
 ahead_place : (ahead : Option (Member Feature)) (state : Option Locus) → IsSome (option_map (λ m. m.line) ahead) → ((m : Member Feature) → ahead ≡ Some m → state ≡ Some (locus_at m.item)) → state ≡ option_map locus_at (option_map (λ m. m.item) ahead)
@@ -47,7 +47,7 @@ module _ {S : Type 0} (left : S → Option (List ℕ)) (failed end : S → Bool)
   stepped old new (Err fault) answers = answers
 
   -- a step of the reader below
-  pub steps_blocks : {T : Type 0} (IsRead : S → Option ℕ → S → Type 0) (old new : Blocks S) (result : Result T Fault) → Stepped left failed end (view_in block_sorting old.cursor) result (view_in block_sorting new.cursor) → TellsOwnFailure IsRead (view_in block_sorting old.cursor).fault old.cursor.reader result new.cursor.reader → StepsBlocks left failed end IsRead old result new
+  pub steps_blocks : {T : Type 0} (IsRead : S → Option ℕ → S → Type 0) (old new : Blocks S) (result : Result T Fault) → Stepped left failed end (view_in block_sorting old.sorted) result (view_in block_sorting new.sorted) → TellsOwnFailure IsRead (view_in block_sorting old.sorted).fault old.sorted.reader result new.sorted.reader → StepsBlocks left failed end IsRead old result new
   unfolding view_of view_with
   steps_blocks IsRead old new result there own = record { answers = stepped old new result there.answers; own_failure = own; sound = there.sound }
 
@@ -61,7 +61,7 @@ module _ {S : Type 0} (left : S → Option (List ℕ)) (failed end : S → Bool)
   pub answered : (old new : Blocks S) (lent : Option BedRef) → option_map feature_lent lent ≡ option_map (λ m. m.item) (view_of new).ahead → BlocksStepsTo left failed old (view_of new).ahead new → Answers left failed end old (Ok lent) new
   answered old new lent e steps = answers_with old new (view_of new).ahead lent e steps
 
-module _ {S : Type 0} (left : S → Option (List ℕ)) (old new : Cursor S InBlocks) where
+module _ {S : Type 0} (left : S → Option (List ℕ)) (old new : SortedReader S InBlocks) where
   -- the record ahead is passed
   pub passed_in_blocks : IsPlaced block_sorting (view_in block_sorting old) → IsSome (line_of_ahead (view_in block_sorting old)) → Advances left (view_in block_sorting old) (view_in block_sorting new) → IsPlaced block_sorting (view_in block_sorting new)
   unfolding view_with
@@ -70,7 +70,7 @@ module _ {S : Type 0} (left : S → Option (List ℕ)) (old new : Cursor S InBlo
       passed_placed block_sorting (view_in block_sorting old) (view_in block_sorting new) there.0 placed there.1 (passes.state there.0 there.1) passes.none_ahead
 
 module _ {S : Type 0} (left : S → Option (List ℕ)) (old new : Blocks S) where
-  pub passes_blocks : IsSome (line_of_ahead (view_of old)) → Advances left (view_in block_sorting old.cursor) (view_in block_sorting new.cursor) → PassesBlocks left old new
+  pub passes_blocks : IsSome (line_of_ahead (view_of old)) → Advances left (view_in block_sorting old.sorted) (view_in block_sorting new.sorted) → PassesBlocks left old new
   unfolding view_of view_with
   passes_blocks some passes = record {
     last = ahead_place (view_of old).ahead (view_of new).state some passes.state;

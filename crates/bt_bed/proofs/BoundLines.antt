@@ -12,7 +12,7 @@ use Rattle.bt_lines.proofs.NumberLemmas.{all_digits_in, digits_denoting}
 use Rattle.bt_bed.specs.Feature.{Feature}
 use Rattle.bt_bed.specs.FirstColumns.{Leads}
 use Rattle.bt_bed.specs.Record.{bed_text, columns_in, record_of, strand_of}
-use Rattle.bt_bed.specs.RecordLine.{IsLineOf, Says, text_in}
+use Rattle.bt_bed.specs.RecordLine.{IsLineOf, Says, kept_in, record_in, text_in}
 use Rattle.bt_bed.specs.WholeRecords.{GivesWhole, GivesWholes, GivesWritten, lines_in}
 use Rattle.bt_bed.specs.declared.leading.Leading.{Leading}
 use Rattle.bt_bed.specs.declared.record_line.RecordLine.{RecordLine}
@@ -20,29 +20,15 @@ use Rattle.bt_bed.specs.declared.whole_records.WholeRecords.{WholeRecords}
 use Rattle.bt_bed.proofs.FeatureLemmas.{columns_say_feature, record_said, said_is_feature}
 use Rattle.bt_bed.proofs.FirstColumnLemmas.{bounds_say, rest_stands}
 
--- what stands behind the three columns
-abbrev pub kept_in : RecordLine → List ℕ
-kept_in line = drop (line.name + line.start.end + line.stop.end + 2) line.text.now
-
--- the record that the line says
-abbrev pub record_in : RecordLine → Feature
-record_in line = record {
-  chrom = take line.name line.text.now;
-  start = line.start.value;
-  stop = line.stop.value;
-  strand = strand_of (columns_in (kept_in line));
-  rest = kept_in line;
-}
-
 pub says_its_record : (line : RecordLine) → Says line (record_in line)
-unfolding text_in
+unfolding text_in record_in kept_in
 says_its_record line = record {
   is = sym (columns_say_feature line.text.now (record_in line) line.no_header (bounds_say line.text.now (kept_in line) line.name line.start line.stop (strand_of (columns_in (kept_in line))) line.named line.bounds refl refl));
 }
 
 -- it is the line of its text
 pub line_of : (line : RecordLine) (name : List ℕ) → take line.name line.text.now ≡ name → IsLineOf line.text.now name line
-unfolding text_in
+unfolding text_in record_in
 line_of line name is = record { same_text = refl; item = record_in line; says = says_its_record line; chrom = is }
 
 -- it says no other
@@ -89,7 +75,7 @@ column_begins line =
 
 -- where no number begins with a zero, the record is written as the line stands
 pub written_so : (line : RecordLine) (r : Feature) → record_of line.text.now ≡ Ok (Some r) → (get_or line.text.now (line.name + 1) 0 ≡ 48 → ⊥) → (get_or line.text.now (line.name + 1 + line.start.end + 1) 0 ≡ 48 → ⊥) → bed_text r ≡ line.text.now
-unfolding text_in
+unfolding text_in record_in kept_in
 written_so line r said start stop =
     let text = line.text.now in
     let first = drop (line.name + 1) text in

@@ -24,7 +24,7 @@ pub mod NeighbourLemmas
 pub mod NameKeyLemmas
 pub mod ColumnsLemmas
 pub mod ShownLines
-pub mod CursorLemmas
+pub mod SortedReaderLemmas
 pub mod RecordsLemmas
 pub mod GoodBlocksLemmas
 pub mod BlocksLemmas
@@ -36,4 +36,4 @@ pub mod OwnFailureLemmas
 pub mod WholeRecordLemmas
 pub mod WholesGiven
 pub mod BoundLines
-pub mod GivenAgain
+pub mod CursorLemmas

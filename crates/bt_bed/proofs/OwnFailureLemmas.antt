@@ -16,7 +16,7 @@ use Rattle.bt_lines.specs.declared.line_reader.LineReader.{LineReader}
 use Rattle.bt_bed.proofs.NeighbourLemmas.{says_of_line}
 use Rattle.bt_bed.proofs.SaidLemmas.{bed_of_line, genome_of_line}
 use Rattle.bt_bed.proofs.TableLemmas.{refused_at_place}
-use Rattle.bt_bed.specs.Cursor.{answer_of}
+use Rattle.bt_bed.specs.SortedReader.{answer_of}
 use Rattle.bt_bed.specs.GenomeTable.{LineRefused, LineUnkept as EntryUnkept, names_of}
 use Rattle.bt_bed.specs.LineKind.{fault_at_line, is_of_line}
 use Rattle.bt_bed.specs.Neighbours.{LineUnkept, LineWrong, last_in}

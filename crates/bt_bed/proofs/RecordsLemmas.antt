@@ -7,14 +7,14 @@ use Rattle.bt_lines.specs.Names.{told}
 use Rattle.bt_lines.specs.Reader.{line_at, input_of, lines_left, fault_kept as line_fault}
 use Rattle.bt_lines.specs.declared.fault.Fault.{Fault}
 use Rattle.bt_lines.specs.declared.line_reader.LineReader.{LineReader}
-use Rattle.bt_bed.proofs.CursorLemmas.{for_if, none_in, of_some, placed_none, said_ahead}
+use Rattle.bt_bed.proofs.SortedReaderLemmas.{for_if, none_in, of_some, placed_none, said_ahead}
 use Rattle.bt_bed.proofs.GoodBedLemmas.{line_said}
 use Rattle.bt_bed.proofs.ReadingLemmas.{good_at_first, is_some_line, steps_again}
 use Rattle.bt_bed.proofs.SaidLemmas.{said_features}
 use Rattle.bt_bed.proofs.SortingLemmas.{sorted_up_to}
 use Rattle.bt_bed.specs.Ahead.{text_at}
 use Rattle.bt_bed.specs.Bed.{feature_lent}
-use Rattle.bt_bed.specs.Cursor.{IsPlaced, view_in, view_with}
+use Rattle.bt_bed.specs.SortedReader.{IsPlaced, view_in, view_with}
 use Rattle.bt_bed.specs.Feature.{Feature}
 use Rattle.bt_bed.specs.Good.{Member, good}
 use Rattle.bt_bed.specs.GoodBed.{bed_format, line_says, locus_at}
@@ -26,7 +26,7 @@ use Rattle.bt_bed.specs.Record.{IsFeature}
 use Rattle.bt_bed.specs.Records.{Answers, GivesRecord, PassesRecord, StepAnswers, StepsRecord, StepsTo as RecordStepsTo, order_in, view_of}
 use Rattle.bt_bed.specs.Sorting.{Sorting, sorting_of}
 use Rattle.bt_bed.specs.declared.bed.BedRef.{BedRef}
-use Rattle.bt_bed.specs.declared.cursor.Cursor.{Cursor}
+use Rattle.bt_bed.specs.declared.sorted_reader.SortedReader.{SortedReader}
 use Rattle.bt_bed.specs.declared.sorted.ByOrder.{ByOrder}
 use Rattle.bt_bed.specs.declared.order.ChromOrder.{Ghosts}
 use Rattle.bt_bed.specs.declared.records.Records.{Records}
@@ -97,21 +97,21 @@ module _ {S O : Type 0} {g : Ghosts O} (left : S → Option (List ℕ)) (failed 
       let steps = steps_again left failed end view (of_some view.ahead (view.fault ≡ None) there records.placed.going) there (said_ahead _ view view.ahead records.placed.ahead) in
       subst (λ (ahead : Option (Member Feature)). RecordStepsTo left failed records ahead records) e (steps_to records records view.ahead total steps)
 
-module _ {S Q : Type 0} (left : S → Option (List ℕ)) (failed end : S → Bool) (sorting : Sorting) (cursor : Cursor S Q) where
+module _ {S Q : Type 0} (left : S → Option (List ℕ)) (failed end : S → Bool) (sorting : Sorting) (sorted : SortedReader S Q) where
   -- a reader that has given no record has all of the good ones left
-  pub good_at_start : (reader : LineReader S) → cursor.reader ≡ reader → cursor.fault ≡ None → has_ahead cursor.neighbours ≡ false → last_in cursor.neighbours ≡ None → line_fault reader ≡ None
-      → good_coming left (view_in sorting cursor) ≡ option_map (good (bed_format sorting) (input_of reader)) (lines_left left reader)
+  pub good_at_start : (reader : LineReader S) → sorted.reader ≡ reader → sorted.fault ≡ None → has_ahead sorted.neighbours ≡ false → last_in sorted.neighbours ≡ None → line_fault reader ≡ None
+      → good_coming left (view_in sorting sorted) ≡ option_map (good (bed_format sorting) (input_of reader)) (lines_left left reader)
   unfolding view_with
   good_at_start reader same own none last going =
-      let fault : (view_in sorting cursor).fault ≡ None = rw (own, same) going in
-      good_at_first left failed end (view_in sorting cursor) (none_in left failed end sorting (option_map told cursor.fault) cursor.reader cursor.neighbours none) fault last
+      let fault : (view_in sorting sorted).fault ≡ None = rw (own, same) going in
+      good_at_first left failed end (view_in sorting sorted) (none_in left failed end sorting (option_map told sorted.fault) sorted.reader sorted.neighbours none) fault last
       ∙ ap (λ r. option_map (good (bed_format sorting) (input_of r)) (lines_left left r)) same
 
-  pub placed_at_start : has_ahead cursor.neighbours ≡ false → last_in cursor.neighbours ≡ None → IsPlaced sorting (view_in sorting cursor)
-  placed_at_start none last = placed_none left failed end sorting (option_map told cursor.fault) cursor.reader cursor.neighbours (rw last tt) none
+  pub placed_at_start : has_ahead sorted.neighbours ≡ false → last_in sorted.neighbours ≡ None → IsPlaced sorting (view_in sorting sorted)
+  placed_at_start none last = placed_none left failed end sorting (option_map told sorted.fault) sorted.reader sorted.neighbours (rw last tt) none
 
-  pub no_line_at_start : has_ahead cursor.neighbours ≡ false → line_of_ahead (view_in sorting cursor) ≡ None
-  no_line_at_start none = ap (option_map (λ (m : Member Feature). m.line)) (none_in left failed end sorting (option_map told cursor.fault) cursor.reader cursor.neighbours none)
+  pub no_line_at_start : has_ahead sorted.neighbours ≡ false → line_of_ahead (view_in sorting sorted) ≡ None
+  no_line_at_start none = ap (option_map (λ (m : Member Feature). m.line)) (none_in left failed end sorting (option_map told sorted.fault) sorted.reader sorted.neighbours none)
 
 -- a record that was passed has a known chromosome
 pub passed_placed : {S : Type 0} (sorting : Sorting) (old new : MemberReader S Feature (Option Locus)) (m : Member Feature) → IsPlaced sorting old → old.ahead ≡ Some m → new.state ≡ Some (locus_at m.item) → new.ahead ≡ None
@@ -126,10 +126,10 @@ passed_placed sorting old new m placed e state none =
 
 module _ {S O : Type 0} (g : Ghosts O) where
   -- how the records of a reader are sorted
-  abbrev pub sorting_at : Cursor S (ByOrder O) → Sorting
-  sorting_at cursor = sorting_of (g.order cursor.neighbours.rule.order.now)
+  abbrev pub sorting_at : SortedReader S (ByOrder O) → Sorting
+  sorting_at sorted = sorting_of (g.order sorted.neighbours.rule.order.now)
 
-module _ {S O : Type 0} (g : Ghosts O) (old new : Cursor S (ByOrder O)) (rule : new.neighbours.rule ≡ old.neighbours.rule) where
+module _ {S O : Type 0} (g : Ghosts O) (old new : SortedReader S (ByOrder O)) (rule : new.neighbours.rule ≡ old.neighbours.rule) where
   -- the order stays with the rule
   pub placed_by : IsPlaced (sorting_at g old) (view_in (sorting_at g old) new) → IsPlaced (sorting_at g new) (view_in (sorting_at g new) new)
   placed_by placed = subst (λ (by : ByOrder O). IsPlaced (sorting_of (g.order by.order.now)) (view_in (sorting_of (g.order by.order.now)) new)) (sym rule) placed
@@ -141,21 +141,21 @@ module _ {S O : Type 0} (g : Ghosts O) (old new : Cursor S (ByOrder O)) (rule : 
       let there = is_some_line (λ (m : Member Feature). m.line) (view_in (sorting_at g old) old).ahead some in
       placed_by (passed_placed (sorting_at g old) (view_in (sorting_at g old) old) (view_in (sorting_at g old) new) there.0 placed there.1 (passes.state there.0 there.1) passes.none_ahead)
 
-module _ {S O : Type 0} {g : Ghosts O} (left : S → Option (List ℕ)) (failed end : S → Bool) (old new : Records S O g) (rule : new.cursor.neighbours.rule ≡ old.cursor.neighbours.rule) where
+module _ {S O : Type 0} {g : Ghosts O} (left : S → Option (List ℕ)) (failed end : S → Bool) (old new : Records S O g) (rule : new.sorted.neighbours.rule ≡ old.sorted.neighbours.rule) where
   same_order : order_in new ≡ order_in old
   unfolding order_in
   same_order = ap (λ (by : ByOrder O). g.order by.order.now) rule
 
-  same_view : view_of new ≡ view_in (sorting_at g old.cursor) new.cursor
+  same_view : view_of new ≡ view_in (sorting_at g old.sorted) new.sorted
   unfolding view_of
-  same_view = ap (λ (by : ByOrder O). view_in (sorting_of (g.order by.order.now)) new.cursor) rule
+  same_view = ap (λ (by : ByOrder O). view_in (sorting_of (g.order by.order.now)) new.sorted) rule
 
-  was_view : view_in (sorting_at g old.cursor) old.cursor ≡ view_of old
+  was_view : view_in (sorting_at g old.sorted) old.sorted ≡ view_of old
   unfolding view_of
   was_view = refl
 
   -- a step of the reader below
-  pub steps_record : {T : Type 0} (IsRead : S → Option ℕ → S → Type 0) (result : Result T Fault) → IsTotal (order_in old) → Stepped left failed end (view_in (sorting_at g old.cursor) old.cursor) result (view_in (sorting_at g old.cursor) new.cursor) → TellsOwnFailure IsRead (view_in (sorting_at g old.cursor) old.cursor).fault old.cursor.reader result new.cursor.reader → StepsRecord left failed end IsRead old result new
+  pub steps_record : {T : Type 0} (IsRead : S → Option ℕ → S → Type 0) (result : Result T Fault) → IsTotal (order_in old) → Stepped left failed end (view_in (sorting_at g old.sorted) old.sorted) result (view_in (sorting_at g old.sorted) new.sorted) → TellsOwnFailure IsRead (view_in (sorting_at g old.sorted) old.sorted).fault old.sorted.reader result new.sorted.reader → StepsRecord left failed end IsRead old result new
   unfolding view_of view_with
   steps_record IsRead result total steps own =
       let there : Stepped left failed end (view_of old) result (view_of new) = rw (same_view, ← was_view) steps in
@@ -170,7 +170,7 @@ module _ {S O : Type 0} {g : Ghosts O} (left : S → Option (List ℕ)) (failed 
   ahead_place None state some h = absurd (false≢true some)
   ahead_place (Some m) state some h = h m refl
 
-  pub passes_record : IsSome (line_of_ahead (view_of old)) → Advances left (view_in (sorting_at g old.cursor) old.cursor) (view_in (sorting_at g old.cursor) new.cursor) → PassesRecord left old new
+  pub passes_record : IsSome (line_of_ahead (view_of old)) → Advances left (view_in (sorting_at g old.sorted) old.sorted) (view_in (sorting_at g old.sorted) new.sorted) → PassesRecord left old new
   unfolding view_of view_with
   passes_record some passes =
       let at_new = rw (← same_view) at passes in

@@ -9,12 +9,12 @@ use Rattle.bt_lines.proofs.WholeLemmas.{no_fewer}
 use Rattle.bt_lines.specs.Lines.{TextLine}
 use Rattle.bt_lines.specs.Whole.{ArePassed as AreLinesPassed, Begins, GivesPlain, GivesPlains, PassesLines, passed_by, plain_line}
 use Rattle.bt_lines.specs.declared.line_reader.LineReader.{LineReader}
-use Rattle.bt_bed.proofs.CursorLemmas.{cursor_passed, cursor_record, cursor_start, known_last, placed_none, placed_taken}
+use Rattle.bt_bed.proofs.SortedReaderLemmas.{sorted_passed, sorted_record, sorted_start, known_last, placed_none, placed_taken}
 use Rattle.bt_bed.proofs.FeatureLemmas.{record_said, said_ends}
 use Rattle.bt_bed.proofs.NeighbourLemmas.{continued, found_is, none_has, said_by_none}
 use Rattle.bt_bed.proofs.RecordsLemmas.{passes_record, steps_record, ahead_again}
 use Rattle.bt_bed.specs.Ahead.{StandsIn, feature_at, member_at, spot_of, start_at, text_at}
-use Rattle.bt_bed.specs.Cursor.{IsPlaced, view_in, view_with}
+use Rattle.bt_bed.specs.SortedReader.{IsPlaced, view_in, view_with}
 use Rattle.bt_bed.specs.Feature.{Feature}
 use Rattle.bt_bed.specs.FirstColumns.{IsRecordName}
 use Rattle.bt_bed.specs.Good.{Member, or_else}
@@ -28,7 +28,7 @@ use Rattle.bt_bed.specs.Records.{GivesRecord, StepsRecord, StepsTo, order_in, vi
 use Rattle.bt_bed.specs.Sorting.{Sorting, sorting_of}
 use Rattle.bt_bed.specs.WholeInside.{LendsFrom, StartsAt}
 use Rattle.bt_bed.specs.WholeRecords.{ArePassed, GivesWhole, GivesWholes, LendsWhole, PassesEach, PassesNext, chrom_in, lines_in, records_passed, start_in}
-use Rattle.bt_bed.specs.declared.cursor.Cursor.{Cursor}
+use Rattle.bt_bed.specs.declared.sorted_reader.SortedReader.{SortedReader}
 use Rattle.bt_bed.specs.declared.neighbours.Neighbours.{Neighbours}
 use Rattle.bt_bed.specs.declared.order.ChromOrder.{Ghosts}
 use Rattle.bt_bed.specs.declared.records.Records.{Records}
@@ -102,26 +102,26 @@ module _ {Q : Type 0} (old : Neighbours Q) (start : ℕ) (was : old.last ≡ Som
 
 -- a reader that has passed a record here, and has none ahead
 pub record IsAt {S O : Type 0} {g : Ghosts O} (records : Records S O g) (whole : WholeRecords) : Type 0 where
-  pub none_own : records.cursor.fault ≡ None
-  pub none_ahead : has_ahead records.cursor.neighbours ≡ false
-  pub last : records.cursor.neighbours.last ≡ Some (start_in whole)
-  pub name : records.cursor.neighbours.last_name.items ≡ chrom_in whole
+  pub none_own : records.sorted.fault ≡ None
+  pub none_ahead : has_ahead records.sorted.neighbours ≡ false
+  pub last : records.sorted.neighbours.last ≡ Some (start_in whole)
+  pub name : records.sorted.neighbours.last_name.items ≡ chrom_in whole
 
 module _ {S O : Type 0} {g : Ghosts O} (left : S → Option (List ℕ)) (failed end : S → Bool) (IsRead : S → Option ℕ → S → Type 0) where
   module _ (old : Records S O g) (whole : WholeRecords) (r : Feature) (after : WholeRecords) (reader : LineReader S) (total : IsTotal (order_in old)) (at : IsAt old whole) (gives : GivesWhole whole r after)
-      (plain : GivesPlain left failed end IsRead old.cursor.reader gives.text reader) where
+      (plain : GivesPlain left failed end IsRead old.sorted.reader gives.text reader) where
     abbrev neighbours : Neighbours (ByOrder O)
-    neighbours = old.cursor.neighbours
+    neighbours = old.sorted.neighbours
 
     abbrev sorting : Sorting
     sorting = sorting_of (g.order neighbours.rule.order.now)
 
     abbrev line : TextLine
-    line = plain_line (suc (lines_given old.cursor.reader)) gives.text
+    line = plain_line (suc (lines_given old.sorted.reader)) gives.text
 
     known : IsKnownLast sorting (last_in neighbours)
     unfolding view_with
-    known = known_last left failed end sorting (option_map told old.cursor.fault) old.cursor.reader neighbours old.placed
+    known = known_last left failed end sorting (option_map told old.sorted.fault) old.sorted.reader neighbours old.placed
 
     abbrev ahead : Neighbours (ByOrder O)
     ahead = with_ahead neighbours (start_in whole) at.last (spot_of line.number gives.text r)
@@ -129,8 +129,8 @@ module _ {S O : Type 0} {g : Ghosts O} (left : S → Option (List ℕ)) (failed 
     ahead_taken : LineTaken sorting line.number gives.text neighbours true ahead
     ahead_taken = taken neighbours (start_in whole) at.last sorting line.number gives.text r known gives.says (gives.chrom ∙ sym at.name) gives.rises
 
-    cursor_ahead : Cursor S (ByOrder O)
-    cursor_ahead = record old.cursor {
+    sorted_ahead : SortedReader S (ByOrder O)
+    sorted_ahead = record old.sorted {
       reader = reader;
       neighbours = ahead;
       fault = None;
@@ -140,27 +140,27 @@ module _ {S O : Type 0} {g : Ghosts O} (left : S → Option (List ℕ)) (failed 
       at_line = λ some. subst IsSome (sym plain.gives.at) refl;
     }
 
-    view_was : view_in sorting old.cursor ≡ view_with sorting None old.cursor.reader neighbours
-    view_was = ap (λ own. view_with sorting (option_map told own) old.cursor.reader neighbours) at.none_own
+    view_was : view_in sorting old.sorted ≡ view_with sorting None old.sorted.reader neighbours
+    view_was = ap (λ own. view_with sorting (option_map told own) old.sorted.reader neighbours) at.none_own
 
-    stepped : Stepped {T = Unit {0}} left failed end (view_in sorting old.cursor) (Ok (tt {0})) (view_with sorting None reader ahead)
+    stepped : Stepped {T = Unit {0}} left failed end (view_in sorting old.sorted) (Ok (tt {0})) (view_with sorting None reader ahead)
     stepped = rw view_was
-        (cursor_record left failed end sorting (view_with sorting None old.cursor.reader neighbours) old.cursor.reader reader neighbours ahead line
-        (cursor_start left failed end sorting old.cursor.reader neighbours at.none_ahead) plain.gives plain.sound ahead_taken)
+        (sorted_record left failed end sorting (view_with sorting None old.sorted.reader neighbours) old.sorted.reader reader neighbours ahead line
+        (sorted_start left failed end sorting old.sorted.reader neighbours at.none_ahead) plain.gives plain.sound ahead_taken)
 
     placed_ahead : IsPlaced sorting (view_with sorting None reader ahead)
     placed_ahead = placed_taken left failed end sorting (record { input = input_of reader; line = line.number }) line reader neighbours ahead true plain.gives.goes known plain.gives.at ahead_taken
 
     peeked : Records S O g
-    unfolding cursor_ahead with_ahead
-    peeked = record old { cursor = cursor_ahead; placed = placed_ahead }
+    unfolding sorted_ahead with_ahead
+    peeked = record old { sorted = sorted_ahead; placed = placed_ahead }
 
     steps : StepsRecord {A = Unit {0}} left failed end IsRead old (Ok (tt {0})) peeked
-    unfolding peeked cursor_ahead with_ahead
+    unfolding peeked sorted_ahead with_ahead
     steps = steps_record left failed end old peeked refl IsRead (Ok (tt {0})) total stepped plain.read
 
     member_is : (view_of peeked).ahead ≡ Some (record { line = line.number; item = r })
-    unfolding peeked cursor_ahead view_of view_with
+    unfolding peeked sorted_ahead view_of view_with
     member_is =
         ap (λ l. ahead_in (text_at l) ahead) plain.gives.at ∙ ahead_is neighbours (start_in whole) at.last line.number gives.text r gives.says (gives.chrom ∙ sym at.name)
 
@@ -171,15 +171,15 @@ module _ {S O : Type 0} {g : Ghosts O} (left : S → Option (List ℕ)) (failed 
     gives_again = ahead_again left failed end peeked (record { line = line.number; item = r }) (subst IsTotal (sym steps.order) total) member_is
 
     -- it was given, and another reader stands behind it
-    next_passed : (new : Records S O g) → new.cursor.reader ≡ reader → new.cursor.fault ≡ None → StartsAt neighbours r.start new.cursor.neighbours → PassesNext left failed end IsRead old r new
-    unfolding peeked cursor_ahead with_ahead view_of view_with
+    next_passed : (new : Records S O g) → new.sorted.reader ≡ reader → new.sorted.fault ≡ None → StartsAt neighbours r.start new.sorted.neighbours → PassesNext left failed end IsRead old r new
+    unfolding peeked sorted_ahead with_ahead view_of view_with
     next_passed new same none_own starts =
         let some : IsSome (option_map (λ (m : Member Feature). m.line) (view_of peeked).ahead) = subst (λ o. IsSome (option_map (λ (m : Member Feature). m.line) o)) (sym member_is) refl in
-        let advances : Advances left (view_with sorting None reader ahead) (view_with sorting None reader new.cursor.neighbours) =
-        cursor_passed left failed end sorting None reader ahead new.cursor.neighbours some starts.none_ahead
-        (passed_over neighbours (start_in whole) at.last (spot_of line.number gives.text r) r.start new.cursor.neighbours refl starts) in
-        let view_is : view_in sorting new.cursor ≡ view_with sorting None reader new.cursor.neighbours =
-        ap (λ own. view_with sorting (option_map told own) new.cursor.reader new.cursor.neighbours) none_own ∙ ap (λ l. view_with sorting None l new.cursor.neighbours) same in
+        let advances : Advances left (view_with sorting None reader ahead) (view_with sorting None reader new.sorted.neighbours) =
+        sorted_passed left failed end sorting None reader ahead new.sorted.neighbours some starts.none_ahead
+        (passed_over neighbours (start_in whole) at.last (spot_of line.number gives.text r) r.start new.sorted.neighbours refl starts) in
+        let view_is : view_in sorting new.sorted ≡ view_with sorting None reader new.sorted.neighbours =
+        ap (λ own. view_with sorting (option_map told own) new.sorted.reader new.sorted.neighbours) none_own ∙ ap (λ l. view_with sorting None l new.sorted.neighbours) same in
         record {
           peeked = peeked;
           gives = gives_record;
@@ -191,8 +191,8 @@ module _ {S O : Type 0} {g : Ghosts O} (left : S → Option (List ℕ)) (failed 
         }
 
     -- the reader that has passed it
-    cursor_passed_over : Cursor S (ByOrder O)
-    cursor_passed_over = record old.cursor {
+    sorted_passed_over : SortedReader S (ByOrder O)
+    sorted_passed_over = record old.sorted {
       reader = reader;
       neighbours = with_start neighbours (start_in whole) at.last r.start;
       fault = None;
@@ -206,49 +206,49 @@ module _ {S O : Type 0} {g : Ghosts O} (left : S → Option (List ℕ)) (failed 
         subst (λ l. IfSome (start_at neighbours.last_name.items l) (λ place. IsTrue (sorting.knows place.chrom))) at.last (unfold last_in in known)
 
     passed_records : Records S O g
-    unfolding cursor_passed_over with_start
+    unfolding sorted_passed_over with_start
     passed_records = record old {
-      cursor = cursor_passed_over;
+      sorted = sorted_passed_over;
       placed = placed_none left failed end sorting None reader (with_start neighbours (start_in whole) at.last r.start) known_over
           (with_start_is neighbours (start_in whole) at.last r.start).none_ahead;
     }
 
     over_passed : PassesNext left failed end IsRead old r passed_records
-    unfolding passed_records cursor_passed_over with_start
+    unfolding passed_records sorted_passed_over with_start
     over_passed = next_passed passed_records refl refl (with_start_is neighbours (start_in whole) at.last r.start)
 
-    over_reader : passed_records.cursor.reader ≡ reader
-    unfolding passed_records cursor_passed_over
+    over_reader : passed_records.sorted.reader ≡ reader
+    unfolding passed_records sorted_passed_over
     over_reader = refl
 
-    over_rule : passed_records.cursor.neighbours.rule ≡ neighbours.rule
-    unfolding passed_records cursor_passed_over with_start
+    over_rule : passed_records.sorted.neighbours.rule ≡ neighbours.rule
+    unfolding passed_records sorted_passed_over with_start
     over_rule = refl
 
-    over_name : passed_records.cursor.neighbours.last_name ≡ neighbours.last_name
-    unfolding passed_records cursor_passed_over with_start
+    over_name : passed_records.sorted.neighbours.last_name ≡ neighbours.last_name
+    unfolding passed_records sorted_passed_over with_start
     over_name = refl
 
     over_order : order_in passed_records ≡ order_in old
-    unfolding passed_records cursor_passed_over with_start order_in
+    unfolding passed_records sorted_passed_over with_start order_in
     over_order = refl
 
     over_at : IsAt passed_records after
-    unfolding passed_records cursor_passed_over with_start has_ahead
+    unfolding passed_records sorted_passed_over with_start has_ahead
     over_at = record { none_own = refl; none_ahead = refl; last = ap Some (sym gives.start); name = at.name ∙ sym gives.same_chrom }
 
   -- ---- records, which were passed
 
   -- a reader that was passed on to where these end
   pub record IsPassedTo (old : Records S O g) (whole : WholeRecords) (new : Records S O g) : Type 0 where
-    pub none_own : new.cursor.fault ≡ None
-    pub none_ahead : has_ahead new.cursor.neighbours ≡ false
-    pub last : new.cursor.neighbours.last ≡ Some (start_in whole)
-    pub name : new.cursor.neighbours.last_name ≡ old.cursor.neighbours.last_name
-    pub rule : new.cursor.neighbours.rule ≡ old.cursor.neighbours.rule
+    pub none_own : new.sorted.fault ≡ None
+    pub none_ahead : has_ahead new.sorted.neighbours ≡ false
+    pub last : new.sorted.neighbours.last ≡ Some (start_in whole)
+    pub name : new.sorted.neighbours.last_name ≡ old.sorted.neighbours.last_name
+    pub rule : new.sorted.neighbours.rule ≡ old.sorted.neighbours.rule
 
   pub each_passed : (old new : Records S O g) (first last : WholeRecords) (r : Feature) (records : List Feature) → IsTotal (order_in old) → IsAt old first → (p : GivesWholes first (r ∷ records) last)
-      → GivesPlains left failed end IsRead old.cursor.reader (texts_of first (r ∷ records) last p) new.cursor.reader → IsPassedTo old last new → PassesEach left failed end IsRead old (r ∷ records) new
+      → GivesPlains left failed end IsRead old.sorted.reader (texts_of first (r ∷ records) last p) new.sorted.reader → IsPassedTo old last new → PassesEach left failed end IsRead old (r ∷ records) new
   unfolding texts_of
   each_passed old new first last r [] total at p plains to =
       let start : start_in last ≡ r.start = ap start_in p.2 ∙ p.1.start in (
@@ -259,7 +259,7 @@ module _ {S O : Type 0} {g : Ghosts O} (left : S → Option (List ℕ)) (failed 
       )
   each_passed old new first last r (next ∷ records) total at p plains to =
       let mid = passed_records old first r p.0 plains.0 total at p.1 plains.1 in
-      let rest = subst (λ l. GivesPlains left failed end IsRead l (texts_of p.0 (next ∷ records) last p.2) new.cursor.reader) (sym (over_reader old first r p.0 plains.0 total at p.1 plains.1)) plains.2 in (
+      let rest = subst (λ l. GivesPlains left failed end IsRead l (texts_of p.0 (next ∷ records) last p.2) new.sorted.reader) (sym (over_reader old first r p.0 plains.0 total at p.1 plains.1)) plains.2 in (
         mid,
         over_passed old first r p.0 plains.0 total at p.1 plains.1,
         each_passed mid new p.0 last next records (subst IsTotal (sym (over_order old first r p.0 plains.0 total at p.1 plains.1)) total) (over_at old first r p.0 plains.0 total at p.1 plains.1) p.2 rest
@@ -299,20 +299,20 @@ module _ {S O : Type 0} {g : Ghosts O} (old : Records S O g) (whole : WholeRecor
   pub lent_at : IsAt old whole
   unfolding view_of view_with last_in ahead_in has_ahead
   lent_at =
-      let there = start_is old.cursor.neighbours.last_name.items (chrom_in whole) old.cursor.neighbours.last (start_in whole) lent.last in
+      let there = start_is old.sorted.neighbours.last_name.items (chrom_in whole) old.sorted.neighbours.last (start_in whole) lent.last in
       record {
-        none_own = own_none old.cursor.fault _ lent.going;
-        none_ahead = none_there _ old.cursor.neighbours.ahead (none_item _ lent.none_ahead);
+        none_own = own_none old.sorted.fault _ lent.going;
+        none_ahead = none_there _ old.sorted.neighbours.ahead (none_item _ lent.none_ahead);
         last = there.0;
         name = there.1;
       }
 
-  pub lent_bytes : Begins (held old.cursor.reader) (lines_in whole)
+  pub lent_bytes : Begins (held old.sorted.reader) (lines_in whole)
   unfolding view_of view_with
   lent_bytes = lent.bytes
 
 module _ {S O : Type 0} {g : Ghosts O} (old : Records S O g) (records : List Feature) (passed : PassedRecords) (p : ArePassed old records passed) where
-  pub lines_passed : AreLinesPassed (held old.cursor.reader) (texts_of p.first records p.last p.gives) passed.lines
+  pub lines_passed : AreLinesPassed (held old.sorted.reader) (texts_of p.first records p.last p.gives) passed.lines
   unfolding records_passed lines_in
   lines_passed = record {
     first = lines_in p.first;
@@ -349,8 +349,8 @@ known_still sorting old new start next was known starts =
 module _ {S O : Type 0} {g : Ghosts O} (left : S → Option (List ℕ)) (failed end : S → Bool) (IsRead : S → Option ℕ → S → Type 0) (old new : Records S O g) (passed : PassedRecords) where
   -- what was passed was given
   pub passed_given : (records : List Feature) → IsTotal (order_in old) → (p : ArePassed old records passed) → (passed.lines.lines ≡ 0 → ⊥)
-      → ((texts : List (List ℕ)) → AreLinesPassed (held old.cursor.reader) texts passed.lines → GivesPlains left failed end IsRead old.cursor.reader texts new.cursor.reader)
-      → StartsAt old.cursor.neighbours passed.start new.cursor.neighbours → new.cursor.fault ≡ old.cursor.fault → PassesEach left failed end IsRead old records new
+      → ((texts : List (List ℕ)) → AreLinesPassed (held old.sorted.reader) texts passed.lines → GivesPlains left failed end IsRead old.sorted.reader texts new.sorted.reader)
+      → StartsAt old.sorted.neighbours passed.start new.sorted.neighbours → new.sorted.fault ≡ old.sorted.fault → PassesEach left failed end IsRead old records new
   unfolding passed_by texts_of
   passed_given [] total p some plains starts fault =
       let lines = lines_passed old [] passed p in
@@ -367,13 +367,13 @@ module _ {S O : Type 0} {g : Ghosts O} (left : S → Option (List ℕ)) (failed 
       })
 
 -- what a reader lends by its fields
-pub lends : {S O : Type 0} {g : Ghosts O} (records : Records S O g) (whole : WholeRecords) → LendsFrom records.cursor.fault records.cursor.reader records.cursor.neighbours whole → LendsWhole records whole
+pub lends : {S O : Type 0} {g : Ghosts O} (records : Records S O g) (whole : WholeRecords) → LendsFrom records.sorted.fault records.sorted.reader records.sorted.neighbours whole → LendsWhole records whole
 unfolding view_of view_with last_in ahead_in has_ahead
 lends records whole from = record {
   bytes = from.bytes;
   last = rw (from.last, from.name) refl;
   going = rw (from.none_own, from.going) refl;
-  none_ahead = ap (λ (o : Option (Member Feature)). option_map (λ m. m.item) o) (none_of_spot _ records.cursor.neighbours.ahead from.none_ahead);
+  none_ahead = ap (λ (o : Option (Member Feature)). option_map (λ m. m.item) o) (none_of_spot _ records.sorted.neighbours.ahead from.none_ahead);
 }
   where
     none_of_spot : {A B : Type 0} (f : A → B) (o : Option A) → is_some o ≡ false → option_map f o ≡ None

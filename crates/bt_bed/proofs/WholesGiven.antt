@@ -1,9 +1,12 @@
 -- Lemmas on records that stand whole in what a reader took ahead, given one after another.
-use Rattle.std.proofs.Common.{◌≡◌, ℕ, ◌+◌, ◌<◌, suc, List, [], ◌∷◌, ◌++◌, length, drop, refl, sym, ap, subst, ◌∙◌, arith, length-append, length-drop}
+use Rattle.std.proofs.Common.{◌≡◌, ℕ, ◌+◌, ◌<◌, suc, List, [], ◌∷◌, ◌++◌, Ok, Some, length, drop, refl, sym, ap, subst, ◌∙◌, arith, length-append, length-drop}
 use Rattle.bt_lines.specs.Whole.{PassesLine, rest_of}
+use Rattle.bt_lines.proofs.LineLemmas.{same_text}
 use Rattle.bt_lines.specs.declared.whole.WholeLines.{WholeLines}
+use Rattle.bt_bed.specs.CursorLaws.{wholes_give_more}
 use Rattle.bt_bed.specs.Feature.{Feature}
-use Rattle.bt_bed.specs.WholeRecords.{GivesWhole, GivesWholes, lines_in}
+use Rattle.bt_bed.specs.Record.{record_of}
+use Rattle.bt_bed.specs.WholeRecords.{GivesWhole, GivesWholes, bytes_ahead, lines_in}
 use Rattle.bt_bed.specs.declared.whole_records.WholeRecords.{WholeRecords}
 
 -- one more record was given
@@ -13,8 +16,7 @@ gives_more old (x ∷ records) r mid new more next = (more.0, more.1, gives_more
 
 -- records were given, and then others
 pub gives_append : (old : WholeRecords) (xs ys : List Feature) (mid new : WholeRecords) → GivesWholes old xs mid → GivesWholes mid ys new → GivesWholes old (xs ++ ys) new
-gives_append old [] ys mid new is more = subst (λ (w : WholeRecords). GivesWholes w ys new) is more
-gives_append old (x ∷ xs) ys mid new p more = (p.0, p.1, gives_append p.0 xs ys mid new p.2 more)
+gives_append old xs ys mid new first more = wholes_give_more old mid new xs ys first more
 
 -- what was given is split
 pub gives_split : (old : WholeRecords) (xs ys : List Feature) (new : WholeRecords) → GivesWholes old (xs ++ ys) new → (mid : WholeRecords) × GivesWholes old xs mid × GivesWholes mid ys new
@@ -23,15 +25,18 @@ gives_split old (x ∷ xs) ys new p =
     let more = gives_split p.0 xs ys new p.2 in
     (more.0, (p.0, p.1, more.1), more.2)
 
+-- one record comes next
+pub same_record : (old mid new : WholeRecords) (r other : Feature) → GivesWhole old r mid → GivesWhole old other new → r ≡ other
+same_record old mid new r other gives again =
+    let text = same_text (rest_of (lines_in old)) gives.text again.text gives.line.begins again.line.begins in
+    let both : Ok (Some r) ≡ Ok (Some other) = sym gives.says ∙ ap record_of text ∙ again.says in
+    cc
+
 -- the last of some was given by itself
 pub gives_last : (old : WholeRecords) (records : List Feature) (r : Feature) (new : WholeRecords) → GivesWholes old (records ++ r ∷ []) new → (mid : WholeRecords) × GivesWholes old records mid × GivesWhole mid r new
 gives_last old records r new p =
     let split = gives_split old records (r ∷ []) new p in
     (split.0, split.1, subst (λ (w : WholeRecords). GivesWhole split.0 r w) (sym split.2.2) split.2.1)
-
--- how many bytes weren't passed
-unfoldable pub bytes_ahead : WholeRecords → ℕ
-bytes_ahead whole = length (rest_of (lines_in whole))
 
 -- a line that is passed makes the rest shorter
 line_shrinks : (old new : WholeLines) (text : List ℕ) → PassesLine old text new → length (rest_of new) < length (rest_of old)

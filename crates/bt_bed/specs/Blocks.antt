@@ -7,7 +7,7 @@ use Rattle.bt_lines.specs.Reader.{IsSound}
 use Rattle.bt_lines.specs.declared.fault.Fault.{Fault}
 use Rattle.bt_lines.specs.declared.line_reader.LineReader.{LineReader}
 use Rattle.bt_bed.specs.Bed.{feature_lent}
-use Rattle.bt_bed.specs.Cursor.{view_in}
+use Rattle.bt_bed.specs.SortedReader.{view_in}
 use Rattle.bt_bed.specs.Feature.{Feature}
 use Rattle.bt_bed.specs.Good.{Good, Member}
 use Rattle.bt_bed.specs.GoodBed.{locus_at}
@@ -23,7 +23,7 @@ use Rattle.bt_bed.specs.declared.blocks.Blocks.{Blocks}
 module _ {S : Type 0} where
   -- what it holds, as a reader of members
   unfoldable pub view_of : Blocks S → MemberReader S Feature (Option Locus)
-  view_of blocks = view_in block_sorting blocks.cursor
+  view_of blocks = view_in block_sorting blocks.sorted
 
   -- the reader of lines below
   abbrev pub below : Blocks S → LineReader S

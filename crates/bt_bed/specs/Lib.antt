@@ -26,7 +26,7 @@ pub mod Genome
 pub mod GenomeTable
 pub mod Ahead
 pub mod Neighbours
-pub mod Cursor
+pub mod SortedReader
 pub mod Records
 pub mod Blocks
 pub mod Meeting
@@ -34,6 +34,7 @@ pub mod KeptText
 pub mod KeptForm
 pub mod Rec
 pub mod RecordLine
-pub mod RecordOn
 pub mod WholeInside
 pub mod WholeRecords
+pub mod Single
+pub mod CursorLaws

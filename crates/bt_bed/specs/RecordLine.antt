@@ -1,12 +1,27 @@
 -- What a line says of which a record's bounds were read.
-use Rattle.std.specs.Prelude.{◌≡◌, ℕ, List, Some, Ok}
+use Rattle.std.specs.Prelude.{◌≡◌, ◌+◌, ℕ, List, Some, Ok, drop, take}
 use Rattle.bt_bed.specs.Feature.{Feature}
-use Rattle.bt_bed.specs.Record.{bed_text, record_of}
+use Rattle.bt_bed.specs.Record.{bed_text, columns_in, record_of, strand_of}
 use Rattle.bt_bed.specs.declared.record_line.RecordLine.{RecordLine}
 
 -- the text of the line
 unfoldable pub text_in : RecordLine → List ℕ
 text_in line = line.text.now
+
+-- what stands behind its third column
+unfoldable pub kept_in : RecordLine → List ℕ
+kept_in line = drop (line.name + line.start.end + line.stop.end + 2) line.text.now
+
+-- the record of the columns as they were read
+unfoldable pub record_in : RecordLine → Feature
+record_in line =
+    record {
+      chrom = take line.name line.text.now;
+      start = line.start.value;
+      stop = line.stop.value;
+      strand = strand_of (columns_in (kept_in line));
+      rest = kept_in line;
+    }
 
 -- the line says the record
 pub record Says (line : RecordLine) (r : Feature) : Type 0 where

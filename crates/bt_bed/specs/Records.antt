@@ -7,7 +7,7 @@ use Rattle.bt_lines.specs.Reader.{IsSound}
 use Rattle.bt_lines.specs.declared.fault.Fault.{Fault}
 use Rattle.bt_lines.specs.declared.line_reader.LineReader.{LineReader}
 use Rattle.bt_bed.specs.Bed.{feature_lent}
-use Rattle.bt_bed.specs.Cursor.{view_in}
+use Rattle.bt_bed.specs.SortedReader.{view_in}
 use Rattle.bt_bed.specs.Feature.{Feature}
 use Rattle.bt_bed.specs.Good.{Good, Member}
 use Rattle.bt_bed.specs.GoodBed.{locus_at}
@@ -24,12 +24,12 @@ use Rattle.bt_bed.specs.declared.records.Records.{Records}
 module _ {S O : Type 0} {g : Ghosts O} where
   -- the order of the chromosomes
   unfoldable pub order_in : Records S O g → Order
-  order_in records = g.order records.cursor.neighbours.rule.order.now
+  order_in records = g.order records.sorted.neighbours.rule.order.now
 
   -- what it holds, as a reader of members
   unfoldable pub view_of : Records S O g → MemberReader S Feature (Option Locus)
   view_of records = view_in
-      (sorting_of (g.order records.cursor.neighbours.rule.order.now)) records.cursor
+      (sorting_of (g.order records.sorted.neighbours.rule.order.now)) records.sorted
 
   -- the reader of lines below
   abbrev pub below : Records S O g → LineReader S

@@ -1,8 +1,8 @@
 -- Records that stand whole in what a reader took ahead, on the chromosome of the record that it passed
 -- last.
-use Rattle.std.specs.Prelude.{◌≡◌, ℕ, ◌≤◌, Bool, List, [], ◌∷◌, Option, Some, None, Ok}
+use Rattle.std.specs.Prelude.{◌≡◌, ℕ, ◌≤◌, Bool, List, [], ◌∷◌, Option, Some, None, Ok, length}
 use Rattle.bt_lines.specs.Reader.{HasRead, IsSound, held}
-use Rattle.bt_lines.specs.Whole.{Begins, PassesLine, passed_by}
+use Rattle.bt_lines.specs.Whole.{Begins, PassesLine, passed_by, rest_of}
 use Rattle.bt_lines.specs.declared.whole.WholeLines.{WholeLines}
 use Rattle.bt_bed.specs.Feature.{Feature}
 use Rattle.bt_bed.specs.Record.{IsFeature, bed_text, record_of}
@@ -25,6 +25,10 @@ chrom_in whole = whole.name.now
 -- the start of the record that was passed last
 unfoldable pub start_in : WholeRecords → ℕ
 start_in whole = whole.start
+
+-- how many bytes weren't passed
+unfoldable pub bytes_ahead : WholeRecords → ℕ
+bytes_ahead whole = length (rest_of (lines_in whole))
 
 -- the record was given and passed: it is what the next line says
 pub record GivesWhole (old : WholeRecords) (r : Feature) (new : WholeRecords) : Type 0 where

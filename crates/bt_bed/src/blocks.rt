@@ -1,11 +1,11 @@
 //! The records of a BED input whose chromosomes come in any order.
 
-ghost use Rattle.bt_bed.specs.Cursor.{IsPlaced, view_in};
+ghost use Rattle.bt_bed.specs.SortedReader.{IsPlaced, view_in};
 ghost use Rattle.bt_bed.specs.Sorting.{block_sorting};
 
 use crate::bed::BedRef;
-use crate::cursor::Cursor;
 use crate::sorted::InBlocks;
+use crate::sorted_reader::SortedReader;
 use bt_lines::{Fault, LineReader, Source};
 use std::alloc::Global;
 
@@ -16,11 +16,11 @@ use std::alloc::Global;
 #[derive(Drop)]
 pub struct Blocks<S> {
     // Always valid: `placed` says that it goes by the order of blocks.
-    cursor: Cursor<S, InBlocks>,
-    ghost placed: { IsPlaced block_sorting (view_in block_sorting cursor) },
+    sorted: SortedReader<S, InBlocks>,
+    ghost placed: { IsPlaced block_sorting (view_in block_sorting sorted) },
 }
 
-#[tactic(auto, unfolding(crate::specs::Cursor::view_with, crate::specs::Blocks::view_of))]
+#[tactic(auto, unfolding(crate::specs::SortedReader::view_with, crate::specs::Blocks::view_of))]
 impl<S: Source> Blocks<S> {
     ghost use Rattle.std.specs.Prelude.{◌≡◌, [], Some, None, IsSome, option_map};
     ghost use Rattle.std.specs.Borrow.{sem};
@@ -41,7 +41,7 @@ impl<S: Source> Blocks<S> {
         ensures none_ahead { line_ahead result ≡ None }
     {
         Blocks {
-            cursor: Cursor::new(alloc, reader, InBlocks),
+            sorted: SortedReader::new(alloc, reader, InBlocks),
         }
     }
 
@@ -55,7 +55,7 @@ impl<S: Source> Blocks<S> {
             (λ new. PeeksBlocks S.left S.has_failed S.end_told S.is_read self.old result new)) }
     {
         self.step()?;
-        Ok(self.cursor.record())
+        Ok(self.sorted.record())
     }
 
     /// Passes the record ahead, which the last `peek` gave. It reads nothing and takes no memory.
@@ -63,7 +63,7 @@ impl<S: Source> Blocks<S> {
         requires { IsSome (line_ahead self.old) }
         ensures { PassesBlocks S.left self.old self.new }
     {
-        self.cursor.advance();
+        self.sorted.advance();
     }
 
     /// The line of the record ahead, which the last `peek` gave.
@@ -71,22 +71,22 @@ impl<S: Source> Blocks<S> {
         requires { IsSome (line_ahead self.now) }
         ensures { line_ahead self.now ≡ Some result }
     {
-        self.cursor.line()
+        self.sorted.line()
     }
 
     /// Gives back the reader of lines.
     pub fn into_reader(self) -> LineReader<S>
         ensures { result ≡ below self }
     {
-        let Blocks { cursor } = self;
-        cursor.into_reader()
+        let Blocks { sorted } = self;
+        sorted.into_reader()
     }
 
     // Reads on to the next record, if none is ahead and there is one.
     fn step(&mut self) -> Result<(), Fault>
         ensures { StepsBlocks S.left S.has_failed S.end_told S.is_read self.old result self.new }
     {
-        self.cursor.step()
+        self.sorted.step()
     }
 }
 

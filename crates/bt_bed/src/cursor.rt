@@ -1,215 +1,134 @@
-//! A reader of sorted records, whatever the rule by which they are sorted.
+//! Records that come one after another, on one chromosome.
 
-ghost use Rattle.std.specs.Prelude.{◌≡◌, IsSome, true};
-ghost use Rattle.bt_lines.specs.Reader.{line_at};
-ghost use Rattle.bt_bed.specs.Ahead.{text_at};
-ghost use Rattle.bt_bed.specs.Neighbours.{IsSaidBy, has_ahead};
+ghost use Rattle.std.specs.Prelude.{◌≡◌, ◌∷◌, ◌++◌, ◌<◌, ℕ, ⊤, [], List, Some, IfSome, IfNone, refl};
+ghost use Rattle.bt_bed.specs.Feature.{Feature};
+ghost use Rattle.bt_bed.specs.declared.bed.BedRef.{BedRef};
 
 use crate::bed::BedRef;
-use crate::neighbours::Neighbours;
-use crate::sorted::Sorted;
-use crate::whole_records::{PassedRecords, WholeRecords};
-use bt_lines::{Fault, LineReader, Place, Source};
-use std::alloc::Global;
+use crate::record::Record;
+use crate::record_line::RecordLine;
+use crate::whole_records::WholeRecords;
 
-// The line that the reader is at says the record ahead, if there is one: it has the kept columns, so
-// that they aren't copied. The fault is that of a line or of a name that had no room, and the reader
-// keeps its own.
-#[derive(Drop)]
-pub(crate) struct Cursor<S, Q> {
-    // At the line of the record ahead, where there is one, else after the last line read.
-    reader: LineReader<S>,
-    pub(crate) neighbours: Neighbours<Q>,
-    // `None` until a line is at fault; then it stays.
-    fault: Option<Fault>,
-    ghost said: { IsSaidBy (text_at (line_at reader)) neighbours },
-    ghost at_line: { has_ahead neighbours ≡ true → IsSome (line_at reader) },
+/// Records of one chromosome in order, of which the first are consumed: those that a reader has buffered
+/// ([`WholeRecords`](crate::WholeRecords)), or one ([`Single`]).
+pub trait Cursor: Copy {
+    type Record: Record;
+
+    // The chromosome of the records.
+    ghost name: { Self → List ℕ };
+
+    // These records were given, one after another, and are consumed.
+    ghost gives: { Self → List Feature → Self → Type 0 };
+
+    // It gives no record.
+    ghost has_ended: { Self → Type 0 };
+
+    // It falls with each record.
+    ghost room: { Self → ℕ };
+
+    /// The chromosome of the records.
+    fn chrom(&self) -> &[u8]
+        ensures { result.now ≡ name self.now };
+
+    /// The next record, which is consumed.
+    fn next(&mut self) -> Option<Self::Record>
+        ensures some { IfSome result (λ r. gives self.old (Self.Record.feature r ∷ []) self.new) }
+        ensures on { IfSome result (λ r. (Self.Record.feature r).chrom ≡ name self.old) }
+        ensures same { name self.new ≡ name self.old }
+        ensures shrinks { IfSome result (λ r. room self.new < room self.old) }
+        ensures none { IfNone result (has_ended self.old) }
+        ensures unchanged { IfNone result (self.new ≡ self.old) };
+
+    // None was given at first.
+    ghost gives_none: { (cursor : Self) → gives cursor [] cursor };
+
+    // What is given after others is given after these.
+    ghost gives_more: { (old mid new : Self) (xs ys : List Feature) → gives old xs mid → gives mid ys new → gives old (xs ++ ys) new };
 }
 
-#[tactic(auto, unfolding(crate::specs::Cursor::view_with))]
-impl<S: Source, Q: Sorted + Drop> Cursor<S, Q> {
-    ghost use Rattle.std.specs.Prelude.{◌≡◌, ℕ, List, None, Some, false, true, IfSome, IsSome, option_map};
-    ghost use Rattle.bt_lines.specs.Names.{told};
-    ghost use Rattle.bt_lines.specs.Reader.{fault_kept as line_fault, held, lines_given};
-    ghost use Rattle.bt_lines.specs.Whole.{ArePassed as AreLinesPassed, GivesPlains};
-    ghost use Rattle.bt_bed.specs.WholeInside.{LendsFrom, StartsAt};
+/// One record that a caller gives, or none.
+#[derive(Clone, Copy, Debug)]
+pub struct Single<'a> {
+    chrom: &'a [u8],
+    bed: Option<BedRef<'a>>,
+    ghost on: { (r : BedRef) → bed ≡ Some r → r.chrom.now ≡ chrom.now },
+}
+
+#[tactic(auto, unfolding(crate::specs::Single::single_left, crate::specs::Single::single_name))]
+impl<'a> Single<'a> {
     ghost use Rattle.bt_bed.specs.Bed.{feature_lent};
-    ghost use Rattle.bt_bed.specs.Cursor.{IsPlaced, answer_of, fault_in, view_in, view_with};
-    ghost use Rattle.bt_bed.specs.Neighbours.{has_ahead, last_in};
-    ghost use Rattle.bt_bed.specs.Reading.{Advances, Stepped, TellsOwnFailure, line_of_ahead};
+    ghost use Rattle.bt_bed.specs.Single.{single_left, single_name};
 
-    // No record yet.
-    pub(crate) fn new(alloc: Global, reader: LineReader<S>, rule: Q) -> Cursor<S, Q>
-        ensures rule { result.neighbours.rule ≡ rule }
-        ensures reader { result.reader ≡ reader }
-        ensures fault { result.fault ≡ None }
-        ensures last { last_in result.neighbours ≡ None }
-        ensures ahead { has_ahead result.neighbours ≡ false }
+    /// This record.
+    pub fn new(bed: BedRef<'a>) -> Single<'a>
+        ensures left { single_left result ≡ feature_lent bed.entry ∷ [] }
+        ensures chrom { single_name result ≡ bed.entry.chrom.now }
     {
-        Cursor {
-            reader,
-            neighbours: Neighbours::new(alloc, rule),
-            fault: None,
+        Single {
+            chrom: bed.chrom,
+            bed: Some(bed),
         }
-    }
-
-    // The line of the record ahead.
-    pub(crate) fn line(&self) -> u64
-        requires { IsSome (line_of_ahead (view_in (Q.sorting self.now.neighbours.rule) self.now)) }
-        ensures { line_of_ahead (view_in (Q.sorting self.now.neighbours.rule) self.now) ≡ Some result }
-    {
-        self.neighbours.line()
-    }
-
-    // Makes the record ahead the last one.
-    pub(crate) fn advance(&mut self)
-        requires { IsSome (line_of_ahead (view_in (Q.sorting self.old.neighbours.rule) self.old)) }
-        ensures rule { self.new.neighbours.rule ≡ self.old.neighbours.rule }
-        ensures passed { Advances S.left (view_in (Q.sorting self.old.neighbours.rule) self.old)
-            (view_in (Q.sorting self.old.neighbours.rule) self.new) }
-    {
-        self.neighbours.advance();
-    }
-
-    // The records that stand whole in what was taken ahead, on the chromosome of the last one.
-    #[inline(always)]
-    pub(crate) fn whole(&self) -> Option<WholeRecords<'_>>
-        ensures { IfSome result (LendsFrom self.now.fault self.now.reader self.now.neighbours) }
-    {
-        if self.fault.is_some() || !self.reader.may_pass() {
-            return None;
-        }
-        self.neighbours.whole(self.reader.whole_lines())
-    }
-
-    // Passes the records that were passed there.
-    pub(crate) fn pass(&mut self, passed: PassedRecords)
-        requires going { line_fault self.old.reader ≡ None }
-        requires none_ahead { has_ahead self.old.neighbours ≡ false }
-        requires some { IsSome self.old.neighbours.last }
-        requires whole { (texts : List (List ℕ)) × AreLinesPassed (held self.old.reader) texts passed.lines }
-        ensures lines { (texts : List (List ℕ)) → AreLinesPassed (held self.old.reader) texts passed.lines
-            → GivesPlains S.left S.has_failed S.end_told S.is_read self.old.reader texts self.new.reader }
-        ensures start { StartsAt self.old.neighbours passed.start self.new.neighbours }
-        ensures fault { self.new.fault ≡ self.old.fault }
-    {
-        self.reader.pass(passed.lines);
-        self.neighbours.pass(passed.start);
-    }
-
-    // How many lines were read.
-    #[inline(always)]
-    pub(crate) fn lines(&self) -> u64
-        ensures { result ≡ lines_given self.now.reader }
-    {
-        self.reader.lines()
-    }
-
-    // Reads on to the next record, if none is ahead and there is one.
-    pub(crate) fn step(&mut self) -> Result<(), Fault>
-        requires { IsPlaced (Q.sorting self.old.neighbours.rule)
-            (view_in (Q.sorting self.old.neighbours.rule) self.old) }
-        ensures rule { self.new.neighbours.rule ≡ self.old.neighbours.rule }
-        ensures step { Stepped S.left S.has_failed S.end_told
-            (view_in (Q.sorting self.old.neighbours.rule) self.old) result
-            (view_in (Q.sorting self.old.neighbours.rule) self.new) }
-        ensures own_failure { TellsOwnFailure S.is_read
-            (view_in (Q.sorting self.old.neighbours.rule) self.old).fault self.old.reader result self.new.reader }
-        ensures placed { IsPlaced (Q.sorting self.old.neighbours.rule)
-            (view_in (Q.sorting self.old.neighbours.rule) self.new) }
-    {
-        if self.neighbours.has_record() {
-            return Ok(());
-        }
-        if let Some(fault) = self.fault {
-            return Err(fault);
-        }
-        self.read_ahead();
-        match self.fault {
-            Some(fault) => Err(fault),
-            None => Ok(()),
-        }
-    }
-
-    // The record ahead, if there is one.
-    pub(crate) fn record(&self) -> Option<BedRef<'_>>
-        ensures { option_map feature_lent result
-            ≡ option_map (λ m. m.item) (view_in (Q.sorting self.now.neighbours.rule) self.now).ahead }
-    {
-        if !self.neighbours.has_record() {
-            return None;
-        }
-        self.neighbours.record(self.text())
-    }
-
-    // Gives back the reader of lines.
-    pub(crate) fn into_reader(self) -> LineReader<S>
-        ensures { result ≡ self.reader }
-    {
-        let Cursor {
-            reader,
-            neighbours: _,
-            fault: _,
-        } = self;
-        reader
-    }
-
-    // Reads on to the next record, if there is one, and keeps the fault. It stands apart, so that a record
-    // that is ahead already is lent without a call.
-    #[inline(never)]
-    fn read_ahead(&mut self)
-        requires none_ahead { has_ahead self.old.neighbours ≡ false }
-        requires no_fault { self.old.fault ≡ None }
-        requires placed { IsPlaced (Q.sorting self.old.neighbours.rule)
-            (view_in (Q.sorting self.old.neighbours.rule) self.old) }
-        ensures rule { self.new.neighbours.rule ≡ self.old.neighbours.rule }
-        ensures step { Stepped S.left S.has_failed S.end_told
-            (view_in (Q.sorting self.old.neighbours.rule) self.old) (answer_of self.new.fault)
-            (view_in (Q.sorting self.old.neighbours.rule) self.new) }
-        ensures own_failure { TellsOwnFailure S.is_read (line_fault self.old.reader) self.old.reader
-            (answer_of self.new.fault) self.new.reader }
-        ensures placed { IsPlaced (Q.sorting self.old.neighbours.rule)
-            (view_in (Q.sorting self.old.neighbours.rule) self.new) }
-    {
-        if let Err(fault) = self.read_record() {
-            self.fault = Some(fault);
-        }
-    }
-
-    // Reads on to the next record, if there is one. No record is ahead.
-    #[inline(always)]
-    fn read_record(&mut self) -> Result<(), Fault>
-        requires none_ahead { has_ahead self.old.neighbours ≡ false }
-        requires placed { IsPlaced (Q.sorting self.old.neighbours.rule)
-            (view_in (Q.sorting self.old.neighbours.rule) self.old) }
-        ensures rule { self.new.neighbours.rule ≡ self.old.neighbours.rule }
-        ensures fault { self.new.fault ≡ self.old.fault }
-        ensures step { Stepped S.left S.has_failed S.end_told
-            (view_with (Q.sorting self.old.neighbours.rule) None self.old.reader self.old.neighbours) result
-            (view_with (Q.sorting self.old.neighbours.rule) (fault_in result) self.new.reader self.new.neighbours) }
-        ensures own_failure { TellsOwnFailure S.is_read (line_fault self.old.reader) self.old.reader result
-            self.new.reader }
-        ensures placed { IsPlaced (Q.sorting self.old.neighbours.rule)
-            (view_with (Q.sorting self.old.neighbours.rule) (fault_in result) self.new.reader self.new.neighbours) }
-    {
-        let input = self.reader.input();
-        while let Some(line) = self.reader.next()? {
-            let place = Place {
-                input,
-                line: line.number,
-            };
-            if self.neighbours.take_line(place, line.text)? {
-                return Ok(());
-            }
-        }
-        Ok(())
-    }
-
-    // The text of the line that says the record ahead.
-    fn text(&self) -> &[u8]
-        requires { has_ahead self.now.neighbours ≡ true }
-        ensures { result.now ≡ text_at (line_at self.now.reader) }
-    {
-        self.reader.text()
     }
 }
+
+#[tactic(auto, unfolding(crate::specs::Single::single_left, crate::specs::Single::single_name))]
+impl<'a> Cursor for Single<'a> {
+    ghost use Rattle.bt_bed.specs.CursorLaws.{single_gives_more, single_gives_none};
+    ghost use Rattle.bt_bed.specs.Single.{GivesSingle, HasNone, single_name, single_room};
+
+    type Record = BedRef<'a>;
+
+    ghost name = { single_name };
+
+    ghost gives = { GivesSingle };
+
+    ghost has_ended = { HasNone };
+
+    ghost room = { single_room };
+
+    fn chrom(&self) -> &[u8] {
+        self.chrom
+    }
+
+    #[inline(always)]
+    fn next(&mut self) -> Option<BedRef<'a>> {
+        let bed = self.bed?;
+        self.bed = None;
+        Some(bed)
+    }
+
+    ghost gives_none = { single_gives_none };
+
+    ghost gives_more = { single_gives_more };
+}
+
+impl<'a> Cursor for WholeRecords<'a> {
+    ghost use Rattle.bt_bed.specs.CursorLaws.{wholes_give_more};
+    ghost use Rattle.bt_bed.specs.WholeRecords.{GivesWholes, bytes_ahead, chrom_in};
+
+    type Record = RecordLine<'a>;
+
+    ghost name = { chrom_in };
+
+    ghost gives = { GivesWholes };
+
+    ghost has_ended = { λ whole. ⊤ };
+
+    ghost room = { bytes_ahead };
+
+    fn chrom(&self) -> &[u8] {
+        self.chrom()
+    }
+
+    #[inline(always)]
+    fn next(&mut self) -> Option<RecordLine<'a>> {
+        self.next_line()
+    }
+
+    ghost gives_none = { λ whole. refl };
+
+    ghost gives_more = { wholes_give_more };
+}
+
+#[cfg(test)]
+mod tests;

@@ -1,12 +1,12 @@
 //! The records of a BED input, one after another.
 
-ghost use Rattle.bt_bed.specs.Cursor.{IsPlaced, view_in};
+ghost use Rattle.bt_bed.specs.SortedReader.{IsPlaced, view_in};
 ghost use Rattle.bt_bed.specs.Sorting.{sorting_of};
 
 use crate::bed::BedRef;
-use crate::cursor::Cursor;
 use crate::order::ChromOrder;
 use crate::sorted::ByOrder;
+use crate::sorted_reader::SortedReader;
 use crate::whole_records::{PassedRecords, WholeRecords};
 use bt_lines::{Fault, LineReader, Source};
 use std::alloc::Global;
@@ -18,12 +18,12 @@ use std::alloc::Global;
 #[derive(Drop)]
 pub struct Records<'o, S, O: ChromOrder> {
     // Always valid: `placed` says that it goes by the order.
-    cursor: Cursor<S, ByOrder<'o, O>>,
-    ghost placed: { IsPlaced (sorting_of (O.order cursor.neighbours.rule.order.now))
-        (view_in (sorting_of (O.order cursor.neighbours.rule.order.now)) cursor) },
+    sorted: SortedReader<S, ByOrder<'o, O>>,
+    ghost placed: { IsPlaced (sorting_of (O.order sorted.neighbours.rule.order.now))
+        (view_in (sorting_of (O.order sorted.neighbours.rule.order.now)) sorted) },
 }
 
-#[tactic(auto, unfolding(crate::specs::Cursor::view_with, crate::specs::Records::view_of, crate::specs::Records::order_in))]
+#[tactic(auto, unfolding(crate::specs::SortedReader::view_with, crate::specs::Records::view_of, crate::specs::Records::order_in))]
 impl<'o, S: Source, O: ChromOrder> Records<'o, S, O> {
     ghost use Rattle.std.specs.Prelude.{◌≡◌, ℕ, Bool, [], List, Option, Some, None, IfSome, IsSome, option_map};
     ghost use Rattle.std.specs.Borrow.{sem};
@@ -52,7 +52,7 @@ impl<'o, S: Source, O: ChromOrder> Records<'o, S, O> {
         ensures none_ahead { line_ahead result ≡ None }
     {
         Records {
-            cursor: Cursor::new(alloc, reader, ByOrder { order }),
+            sorted: SortedReader::new(alloc, reader, ByOrder { order }),
         }
     }
 
@@ -67,7 +67,7 @@ impl<'o, S: Source, O: ChromOrder> Records<'o, S, O> {
             (λ new. PeeksRecord S.left S.has_failed S.end_told S.is_read self.old result new)) }
     {
         self.step()?;
-        Ok(self.cursor.record())
+        Ok(self.sorted.record())
     }
 
     /// Passes the record ahead, which the last `peek` gave. It reads nothing and takes no memory.
@@ -75,7 +75,7 @@ impl<'o, S: Source, O: ChromOrder> Records<'o, S, O> {
         requires { IsSome (line_ahead self.old) }
         ensures { PassesRecord S.left self.old self.new }
     {
-        self.cursor.advance();
+        self.sorted.advance();
     }
 
     /// The records that stand whole in what was taken ahead, on the chromosome of the record that was passed
@@ -84,7 +84,7 @@ impl<'o, S: Source, O: ChromOrder> Records<'o, S, O> {
     pub fn whole(&self) -> Option<WholeRecords<'_>>
         ensures { IfSome result (LendsWhole self.now) }
     {
-        self.cursor.whole()
+        self.sorted.whole()
     }
 
     /// Gives the records that were passed in what [`Records::whole`] lent, as `peek` does one after another, and
@@ -98,7 +98,7 @@ impl<'o, S: Source, O: ChromOrder> Records<'o, S, O> {
         if passed.lines.lines == 0 {
             return;
         }
-        self.cursor.pass(passed);
+        self.sorted.pass(passed);
     }
 
     /// The line of the record ahead, which the last `peek` gave.
@@ -106,7 +106,7 @@ impl<'o, S: Source, O: ChromOrder> Records<'o, S, O> {
         requires { IsSome (line_ahead self.now) }
         ensures { line_ahead self.now ≡ Some result }
     {
-        self.cursor.line()
+        self.sorted.line()
     }
 
     /// How many lines were read, that of a record ahead too.
@@ -114,15 +114,15 @@ impl<'o, S: Source, O: ChromOrder> Records<'o, S, O> {
     pub fn lines(&self) -> u64
         ensures { result ≡ lines_given (below self.now) }
     {
-        self.cursor.lines()
+        self.sorted.lines()
     }
 
     /// Gives back the reader of lines.
     pub fn into_reader(self) -> LineReader<S>
         ensures { result ≡ below self.entry }
     {
-        let Records { cursor } = self;
-        cursor.into_reader()
+        let Records { sorted } = self;
+        sorted.into_reader()
     }
 
     /// Reads on to the next record, if none is ahead and there is one, as `peek` does, but doesn't lend
@@ -131,7 +131,7 @@ impl<'o, S: Source, O: ChromOrder> Records<'o, S, O> {
     pub fn step(&mut self) -> Result<(), Fault>
         ensures { StepsRecord S.left S.has_failed S.end_told S.is_read self.old result self.new }
     {
-        self.cursor.step()
+        self.sorted.step()
     }
 
     /// The record ahead, if `step` or `peek` found one, which those give again as it is.
@@ -141,7 +141,7 @@ impl<'o, S: Source, O: ChromOrder> Records<'o, S, O> {
         ensures again { (left : S → Option (List ℕ)) (failed : S → Bool)
             → IfSome result (λ bed. GivesRecord left failed self.now (feature_lent bed) self.now) }
     {
-        self.cursor.record()
+        self.sorted.record()
     }
 }
 

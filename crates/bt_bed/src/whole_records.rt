@@ -6,14 +6,12 @@ ghost use Rattle.bt_bed.specs.Bed.{feature_lent};
 ghost use Rattle.bt_bed.specs.Feature.{Feature};
 ghost use Rattle.bt_bed.specs.FirstColumns.{IsRecordName};
 ghost use Rattle.bt_bed.specs.NameKey.{HasKey};
-ghost use Rattle.bt_bed.specs.RecordOn.{IsRecordOn};
 
 use crate::bed::BedRef;
 use crate::bounds::Bounds;
 use crate::columns::columns_on;
 use crate::direct::direct_line_on;
 use crate::name_key::NameKey;
-use crate::parsing::parse_bed;
 use crate::record_line::RecordLine;
 use bt_lines::{PassedLines, WholeLines};
 
@@ -127,38 +125,6 @@ impl<'a> WholeRecords<'a> {
         self.lines.before_last(&later.lines)
     }
 
-    /// These, gone on to where so many bytes of lines were passed: as many as [`WholeRecords::bytes_passed`] gave behind a
-    /// record that a copy of these was given. For another number nothing is said of where they stand. The records are gone
-    /// over once more, so that one who may have to go back to one of them keeps nothing but that number.
-    #[cold]
-    #[inline(never)]
-    pub fn up_to(&self, bytes: usize) -> WholeRecords<'a>
-        ensures { (records : List Feature) (later : WholeRecords) → GivesWholes self.now records later
-            → (passed_by (lines_in later)).bytes ≡ bytes → GivesWholes self.now records result }
-    {
-        let mut whole = *self;
-        while whole.bytes_passed() < bytes {
-            let Some(_) = whole.next_again() else {
-                break;
-            };
-        }
-        whole
-    }
-
-    // The next record, which is passed. It is given wherever the line of one stands whole, while `next` may give none at any
-    // record: so what was given before is given again.
-    fn next_again(&mut self) -> Option<BedRef<'a>>
-        ensures given { IfSome result (λ bed. GivesWhole self.old (feature_lent bed) self.new) }
-        ensures none { result ≡ None → (r : Feature) (new : WholeRecords) → GivesWhole self.old r new → ⊥ }
-        ensures unchanged { result ≡ None → self.new ≡ self.old }
-    {
-        let text = self.lines.text()?;
-        let bed = record_on(self.name, self.start, text)?;
-        self.lines.pass(text.len());
-        self.start = bed.start;
-        Some(bed)
-    }
-
     /// How many bytes of lines were passed since the reader lent them.
     #[inline(always)]
     pub fn bytes_passed(&self) -> usize
@@ -184,20 +150,6 @@ impl<'a> WholeRecords<'a> {
             start: self.start,
         }
     }
-}
-
-// The record that a line says, if it lies on the chromosome of this name and doesn't start before this.
-fn record_on<'a>(name: &[u8], start: u64, text: &'a [u8]) -> Option<BedRef<'a>>
-    ensures said { IfSome result (λ bed. IsRecordOn name.now start text.now (feature_lent bed)) }
-    ensures none { result ≡ None → (r : Feature) → IsRecordOn name.now start text.now r → ⊥ }
-{
-    let Ok(Some(bed)) = parse_bed(text) else {
-        return None;
-    };
-    if bed.chrom != name || bed.start < start {
-        return None;
-    }
-    Some(bed)
 }
 
 #[cfg(test)]

@@ -1,12 +1,12 @@
 -- What a call of an engine does, taken apart: from `Feeds` and `Finishes` to a fact for each clause, and back.
-use Rattle.std.proofs.Common.{◌≡◌, ℕ, List, Option, None, Some, Result, Ok, Err, refl, sym, ap, ◌∙◌, inl, inr}
+use Rattle.std.proofs.Common.{◌≡◌, ℕ, List, Option, None, Some, Result, Ok, Err, IfErr, sym, ap, ◌∙◌, inl, inr}
 use Rattle.bt_lines.specs.Fault.{Told, no_memory, write_failed}
 use Rattle.bt_lines.specs.Names.{told}
-use Rattle.bt_lines.specs.Output.{Grows, Output}
+use Rattle.bt_lines.specs.Output.{Output}
 use Rattle.bt_lines.specs.declared.fault.Fault.{Fault}
 use Rattle.bt_bed.specs.Feature.{Feature}
 use Rattle.bt_runs.specs.Calls.{AnswersAgain, KeepsFault, WritesFirst, WritesLeft, WritesLeftPrefix, WritesPrefix, WritesSettled}
-use Rattle.bt_runs.specs.Engine.{Feeds, Finishes}
+use Rattle.bt_runs.specs.Engine.{Feeds, Finishes, IsWanted}
 
 other_fault : {answer : Told} → answer ≡ no_memory → answer ≡ write_failed → ⊥
 other_fault memory write = let apart : no_memory.kind ≡ write_failed.kind = ap (λ (t : Told). t.kind) (sym memory ∙ write) in cc
@@ -85,4 +85,16 @@ module _ {E A : Type 0} {MayTake : E → List Feature → Type 0} {Stands : E �
   finishes_failed (Err answer) ends = λ before some. elim ends.answers [
     | inl repeats ↦ repeats.same_output
     | inr fails ↦ absurd (none_before fails.was_going some)
+  ]
+
+-- an engine that wants no memory fails only where a write fails
+module _ {E A : Type 0} {MayTake : E → List Feature → Type 0} {Stands : E → List Feature → E → Type 0} {fault : E → Option Told} {settled : E → List Feature → List ℕ}
+    {old : E} {r : Feature} {out : Output} {Quiet : E → List Feature → Feature → Type 0} {new : E} {grown : Output} where
+  pub only_writes : (result : Result A Fault) → fault old ≡ None → Feeds MayTake Stands fault settled old r out Quiet result new grown → IsWanted (λ old r. ⊥) fault old r result
+      → IfErr result (λ answer. told answer ≡ write_failed)
+  only_writes (Ok done) going fed wanted = tt
+  only_writes (Err answer) going fed wanted = elim fed.answers [
+    | inl repeats ↦ absurd (none_before going repeats.is)
+    | inr (inl fails) ↦ fails.is
+    | inr (inr ran) ↦ absurd (wanted ran.is going)
   ]

@@ -1,40 +1,36 @@
 -- A coverage walks as any engine that goes through a genome file. What it holds is what the definitions keep of the records of the past, and so its exact step writes what they settle.
-use Rattle.std.proofs.Common.{◌≡◌, List, [], ◌∷◌, ◌++◌, length, Bool, Option, ℕ, inl, inr, refl, sym, ap, ap₂, ◌∙◌, subst, arith, min, Some, None, Result, Ok, Err}
+use Rattle.std.proofs.Common.{◌≡◌, List, [], ◌∷◌, ◌++◌, length, Bool, true, false, Option, ℕ, inl, inr, refl, sym, ap, ap₂, ◌∙◌, subst, arith, min, Some, None, Result, Ok, Err}
 use Rattle.bt_bed.specs.Feature.{Feature, intervals_of}
 use Rattle.bt_bed.specs.Genome.{Entry, genome_names}
-use Rattle.bt_bed.specs.Rank.{AreDistinct}
+use Rattle.bt_bed.specs.Rank.{AreDistinct, rank_of}
 use Rattle.bt_bed.specs.declared.strand.Strand.{Strand}
 use Rattle.bt_runs.specs.Depth.{coverage, settled_depths, DepthInterval, begun_across, counted_on, depth_lines, depth_of, kept_by, kept_records, known_place, open_at, unfinished, unfinished_by, depth_line}
-use Rattle.bt_runs.specs.DepthStep.{Known, bare_of, depths_left, depth_walk}
+use Rattle.bt_runs.specs.DepthStep.{Known, bare_of, depths_left, depth_walk, unknown}
 use Rattle.bt_runs.specs.Gaps.{AreTaken, length_in}
 use Rattle.bt_runs.specs.Settling.{Settles}
-use Rattle.bt_runs.specs.Walk.{AreReached, Place, left_before, places, walk_step}
+use Rattle.bt_runs.specs.Walk.{AreReached, Place, entry_at, is_on, left_before, step_from, taking}
 use Rattle.bt_runs.proofs.CoverageForm.{Own, depths, owes, written}
-use Rattle.bt_runs.proofs.Walks.{Held, Steps, ends, reaches, settles_items, steps, rank_entry, same_place, taken_front}
+use Rattle.bt_runs.proofs.Walks.{Held, Steps, ends, going_on, going_to, reaches, settles_items, step_goes, steps, rank_entry, same_place, taken_front}
+use Rattle.bt_lines.proofs.PuttingLemmas.{adds_lines, cut_lines, grown_none}
 use Rattle.std.proofs.lemmas.Bool.{cases_lt, lt-ltb, le-ltb}
 use Rattle.std.proofs.lemmas.Grind.{flat_map-append}
-use Rattle.bt_lines.specs.Fault.{Told, no_memory}
-use Rattle.bt_lines.specs.Names.{told}
 use Rattle.bt_lines.specs.Output.{Output}
-use Rattle.bt_lines.specs.Putting.{Adds}
+use Rattle.bt_lines.specs.Putting.{Adds, FailsToAdd, Grown}
+use Rattle.bt_lines.specs.Names.{told}
 use Rattle.bt_lines.specs.declared.fault.Fault.{Fault}
 use Rattle.bt_lines.specs.declared.fault.Kind.TheVariants.{NoMemory, WriteFailed}
 use Rattle.bt_bed.specs.Interval.{Span, last_of}
-use Rattle.bt_bed.specs.Locus.{Locus}
-use Rattle.bt_runs.specs.CountSeen.{seen}
-use Rattle.bt_runs.specs.Covering.{AdvanceAnswers, Covering, OnWant, begun_of, held_of, is_quiet, kept_fault, may_take, settled_lines, stands_after, whole_output}
-use Rattle.bt_runs.specs.Engine.{AfterEach, AtEnd, Feeds, Finishes}
-use Rattle.bt_runs.specs.Failure.{fault_of}
+use Rattle.bt_runs.specs.Covering.{CountsDepths, CountsRecord, Covering, IsOnBy, begun_of, depth_step, held_of, is_quiet, may_take, place_of, settled_lines, stands_after, wants_memory, whole_output}
+use Rattle.bt_runs.specs.Engine.{AfterEach, AtEnd}
+use Rattle.bt_runs.specs.Rule.{EnterAnswers, RuleFeeds, RuleFinishes, Taken, WantsMemory}
 use Rattle.bt_runs.specs.Levels.{Begun, levels_of}
-use Rattle.bt_runs.specs.OpenRecords.{OpenAt}
-use Rattle.bt_runs.specs.declared.depths.DepthPlace.{DepthPlace}
-use Rattle.bt_runs.specs.declared.failure.Failure.{Failure}
-use Rattle.bt_runs.specs.declared.failure.Failure.TheVariants.{Write, Memory}
 use Rattle.bt_runs.proofs.OneDepth.{across_known, known_at}
 use Rattle.bt_runs.proofs.DepthLemmas.{none_open}
-use Rattle.bt_runs.proofs.EngineLemmas.{feeds_cut, feeds_short, feeds_taken, finishes_by}
-use Rattle.bt_runs.proofs.GenomeRanks.{name_at, size_there}
-use Rattle.bt_runs.proofs.Standing.{apart}
+use Rattle.bt_runs.proofs.RuleSteps.{rule_cut, rule_finishes, rule_short, rule_taken}
+use Rattle.bt_runs.proofs.GenomeRanks.{found_at, found_entry, name_at, size_there}
+use Rattle.bt_runs.proofs.DepthLines.{count_begins}
+use Rattle.bt_bed.proofs.NameLemmas.{name_eq}
+use Rattle.bt_runs.proofs.Standing.{apart, found}
 
 module _ (zeros : Bool) (strand : Option Strand) (entries : List Entry) where
   abbrev pub Reaches : List Feature → Option (Place Known) → Type 0
@@ -54,10 +50,6 @@ module _ (zeros : Bool) (strand : Option Strand) (entries : List Entry) where
   pub settles_depths : Settles (settled_depths zeros strand entries) (coverage zeros strand entries) (AreTaken entries)
   settles_depths = settles_items (depths zeros strand entries) (Own zeros strand) entries (owes zeros strand entries) (written zeros strand entries)
 
--- the place that a coverage shows
-abbrev shown_place : List Entry → Option (Place Known) → List Locus
-shown_place entries current = places (λ known. known.to) entries current
-
 known_to_is : (zeros : Bool) (size : ℕ) (spans : List Span) (start : ℕ) → (known_at zeros size spans start).to ≡ min start size
 known_to_is zeros size spans start = elim (cases_lt size start) [
   | inl past ↦ rw (lt-ltb size start past) (omega arith)
@@ -73,7 +65,7 @@ known_held zeros size spans start = elim (cases_lt size start) [
 module _ (zeros : Bool) (strand : Option Strand) (entries : List Entry) where
   -- what is kept of the records
   pub record Keeps (past : List Feature) (current : Option (Place Known)) : Type 0 where
-    pub place : shown_place entries current ≡ known_place entries past
+    pub place : place_of entries current ≡ known_place entries past
     pub begun : begun_of current ≡ unfinished zeros strand entries past
     pub held : held_of current ≡ kept_records strand entries past
 
@@ -89,7 +81,7 @@ module _ (zeros : Bool) (strand : Option Strand) (entries : List Entry) where
       let known : place.known ≡ known_at zeros key.length spans last.start = s.at.known_is in
       record {
         place =
-            let here : shown_place entries (Some place) ≡ record { chrom = last.chrom; start = min last.start key.length } ∷ [] = rw (is, s.stand.is, known, known_to_is zeros key.length spans last.start) refl in
+            let here : place_of entries (Some place) ≡ record { chrom = last.chrom; start = min last.start key.length } ∷ [] = rw (is, s.stand.is, known, known_to_is zeros key.length spans last.start) refl in
             here ∙ sym (rw (s.stand.last_is, size) refl);
         begun =
             let wanted : unfinished_by zeros strand entries past (last_of (intervals_of past)) ≡ begun_across last.start (levels_of (depth_of zeros spans) key.length) = rw (s.stand.last_is, size, ← s.stand.is) refl in
@@ -105,7 +97,7 @@ same_known a b t g h =
     let make : ℕ → Option Begun → List Span → Known = λ t g h. record { to = t; begun = g; held = h } in
     ap₂ (λ t g. make t g a.held) t g ∙ ap (make b.to b.begun) h
 
-same_seen : (entries : List Entry) (current other : Option (Place Known)) → AreReached entries current → AreReached entries other → shown_place entries current ≡ shown_place entries other → begun_of current ≡ begun_of other → held_of current ≡ held_of other → current ≡ other
+same_seen : (entries : List Entry) (current other : Option (Place Known)) → AreReached entries current → AreReached entries other → place_of entries current ≡ place_of entries other → begun_of current ≡ begun_of other → held_of current ≡ held_of other → current ≡ other
 same_seen entries None None a b e f h = refl
 same_seen entries None (Some other) a b e f h = cc
 same_seen entries (Some place) None a b e f h = cc
@@ -115,125 +107,174 @@ same_seen entries (Some place) (Some other) a b e f h =
     ap₂ make same.0 (same_known place.known other.known same.1 f h)
 
 module _ (zeros : Bool) (strand : Option Strand) (entries : List Entry) where
-  -- nothing is held where nothing was reached
-  held_seen : (past : List Feature) (current : Option DepthPlace) (held : OpenAt) (other : Option (Place Known)) → Keeps zeros strand entries past other → shown_place entries (seen current held) ≡ known_place entries past → held.spans ≡ kept_records strand entries past → held_of (seen current held) ≡ held_of other
-  held_seen past None held None k p h = refl
-  held_seen past None held (Some other) k p h = let e = p ∙ sym k.place in cc
-  held_seen past (Some r) held other k p h = h ∙ sym k.held
-
   -- a coverage that keeps what is to be kept has reached the last record's chromosome
-  held_is : (past : List Feature) (current : Option DepthPlace) (held : OpenAt) → AreTaken entries past → AreReached entries (seen current held) → shown_place entries (seen current held) ≡ known_place entries past → begun_of (seen current held) ≡ unfinished zeros strand entries past → held.spans ≡ kept_records strand entries past
-      → Reaches zeros strand entries past (seen current held)
-  held_is past current held t at p g h =
+  held_is : (past : List Feature) (current : Option (Place Known)) → AreTaken entries past → AreReached entries current → place_of entries current ≡ known_place entries past → begun_of current ≡ unfinished zeros strand entries past → held_of current ≡ kept_records strand entries past
+      → Reaches zeros strand entries past current
+  held_is past current t at p g h =
       let other = reached zeros strand entries past t in
       let k = keeps zeros strand entries past other.0 t.distinct other.1 in
-      let one = same_seen entries (seen current held) other.0 at other.2 (p ∙ sym k.place) (g ∙ sym k.begun) (held_seen past current held other.0 k p h) in
+      let one = same_seen entries current other.0 at other.2 (p ∙ sym k.place) (g ∙ sym k.begun) (h ∙ sym k.held) in
       subst (λ (o : Option (Place Known)). Reaches zeros strand entries past o) (sym one) other.1
 
--- with a record, something was reached
-pushed_some : (past : List Feature) (r : Feature) → past ++ r ∷ [] ≡ [] → ⊥
-pushed_some [] r e = cc
-pushed_some (q ∷ qs) r e = cc
+-- entering a chromosome
+abbrev pub Enters : Covering → List ℕ → Output → Result (Unit {0}) Fault → Covering → Output → Type 0
+Enters = EnterAnswers CountsDepths (Taken may_take stands_after settled_lines is_quiet wants_memory CountsDepths)
 
-open_held : (zeros : Bool) (strand : Option Strand) (entries : List Entry) (past : List Feature) (r : Feature) (next : Option DepthPlace) (held : OpenAt) (o : Option (Place Known)) → seen next held ≡ o → Reaches zeros strand entries (past ++ r ∷ []) o → held.spans ≡ held_of o
-open_held zeros strand entries past r None held o is h = absurd (pushed_some past r (subst (λ (o : Option (Place Known)). Reaches zeros strand entries (past ++ r ∷ []) o) (sym is) h))
-open_held zeros strand entries past r (Some next) held o is h = ap held_of is
-
--- a coverage as its fields show it
-abbrev pub shown : List Entry → Bool → Option Strand → Option DepthPlace → OpenAt → Option Told → Covering
-shown table zeros strand current held fault = record {
-  entries = table;
-  zeros = zeros;
-  strand = strand;
-  place = shown_place table (seen current held);
-  begun = begun_of (seen current held);
-  kept = held.spans;
-  fault = fault;
-}
-
-module _ (table : List Entry) (zeros : Bool) (strand : Option Strand) (current : Option DepthPlace) (held : OpenAt) (at : AreReached table (seen current held)) (fault : Option Told) (old : Covering) (is : shown table zeros strand current held fault ≡ old) (was_going : kept_fault old ≡ None) (out : Output) where
+module _ (old : Covering) where
   -- whatever coverage took the records of the past, it has this table and these rules, and keeps what is to be kept
   record Same (first : Covering) (past : List Feature) : Type 0 where
-    same_entries : first.entries ≡ table
-    same_zeros : first.zeros ≡ zeros
-    same_strand : first.strand ≡ strand
-    reached : AreTaken table past → Reaches zeros strand table past (seen current held)
+    same_entries : first.entries ≡ old.entries
+    same_zeros : first.zeros ≡ old.zeros
+    same_strand : first.strand ≡ old.strand
+    reached : AreTaken old.entries past → Reaches old.zeros old.strand old.entries past old.current
 
   same : (first : Covering) (past : List Feature) → stands_after first past old → Same first past
   same first past stands =
-      let entries : first.entries ≡ table = sym (ap (λ c. c.entries) is ∙ stands.same_entries) in
-      let rules : first.zeros ≡ zeros = sym (ap (λ c. c.zeros) is ∙ stands.same_zeros) in
-      let wanted : first.strand ≡ strand = sym (ap (λ c. c.strand) is ∙ stands.same_strand) in
-      let place = ap (λ c. c.place) is ∙ stands.place ∙ ap (λ e. known_place e past) entries in
-      let begun = ap (λ c. c.begun) is ∙ stands.begun ∙ ap (λ z. unfinished z first.strand first.entries past) rules ∙ ap₂ (λ s e. unfinished zeros s e past) wanted entries in
-      let kept = ap (λ c. c.kept) is ∙ stands.kept ∙ ap₂ (λ s e. kept_records s e past) wanted entries in
-      record { same_entries = entries; same_zeros = rules; same_strand = wanted; reached = λ t. held_is zeros strand table past current held t at place begun kept }
+      let entries : first.entries ≡ old.entries = sym stands.same_entries in
+      let rules : first.zeros ≡ old.zeros = sym stands.same_zeros in
+      let wanted : first.strand ≡ old.strand = sym stands.same_strand in
+      let place = stands.place ∙ ap (λ e. known_place e past) entries in
+      let begun = stands.begun ∙ ap (λ z. unfinished z first.strand first.entries past) rules ∙ ap₂ (λ s e. unfinished old.zeros s e past) wanted entries in
+      let kept = stands.kept ∙ ap₂ (λ s e. kept_records s e past) wanted entries in
+      record { same_entries = entries; same_zeros = rules; same_strand = wanted; reached = λ t. held_is old.zeros old.strand old.entries past old.current t stands.reached place begun kept }
 
   -- one more record
-  module _ (r : Feature) where
-    abbrev step_lines : List ℕ
-    step_lines = depth_lines (walk_step (depth_walk zeros strand) table (seen current held) r).1
+  module _ (r : Feature) (out : Output) where
+    abbrev step : Option (Place Known) × List DepthInterval
+    step = depth_step old r out
 
     -- the lines of the step are those that the record settles
-    next_lines : AfterEach may_take stands_after old r (λ first past. settled_lines first (past ++ r ∷ []) ≡ settled_lines first past ++ step_lines)
+    next_lines : AfterEach may_take stands_after old r (λ first past. settled_lines first (past ++ r ∷ []) ≡ settled_lines first past ++ depth_lines step.1)
     next_lines first past stands taken =
         let s = same first past stands in
         let more = rw s.same_entries at taken in
-        rw (s.same_entries, s.same_zeros, s.same_strand) (ap depth_lines (moves zeros strand table past r (seen current held) more (s.reached (taken_front table past (r ∷ []) more))).settles
-        ∙ flat_map-append depth_line (settled_depths zeros strand table past) (walk_step (depth_walk zeros strand) table (seen current held) r).1)
+        rw (s.same_entries, s.same_zeros, s.same_strand) (ap depth_lines (moves old.zeros old.strand old.entries past r old.current more (s.reached (taken_front old.entries past (r ∷ []) more))).settles
+        ∙ flat_map-append depth_line (settled_depths old.zeros old.strand old.entries past) step.1)
 
-    none : AfterEach may_take stands_after old r (λ first past. is_quiet first past r → step_lines ≡ [])
+    none : AfterEach may_take stands_after old r (λ first past. is_quiet first past r → depth_lines step.1 ≡ [])
     none first past stands taken q = absurd q
 
     -- the coverage stands after the record too
-    stands_next : (next : Option DepthPlace) (now_held : OpenAt) → seen next now_held ≡ (walk_step (depth_walk zeros strand) table (seen current held) r).0
-        → AfterEach may_take stands_after old r (λ first past. stands_after first (past ++ r ∷ []) (shown table zeros strand next now_held fault))
-    stands_next next now_held step first past stands taken =
+    stands_next : (new : Covering) (grown : Output) → CountsRecord old r out new grown → AfterEach may_take stands_after old r (λ first past. stands_after first (past ++ r ∷ []) new)
+    stands_next new grown c first past stands taken =
         let s = same first past stands in
         let more = rw s.same_entries at taken in
-        let m = moves zeros strand table past r (seen current held) more (s.reached (taken_front table past (r ∷ []) more)) in
-        let reached = (walk_step (depth_walk zeros strand) table (seen current held) r).0 in
-        let k = keeps zeros strand table (past ++ r ∷ []) reached more.distinct m.held in
+        let m = moves old.zeros old.strand old.entries past r old.current more (s.reached (taken_front old.entries past (r ∷ []) more)) in
+        let k = keeps old.zeros old.strand old.entries (past ++ r ∷ []) step.0 more.distinct m.held in
         record {
-          same_entries = sym s.same_entries;
-          same_zeros = sym s.same_zeros;
-          same_strand = sym s.same_strand;
-          place = rw s.same_entries (ap (shown_place table) step ∙ k.place);
-          begun = rw (s.same_entries, s.same_zeros, s.same_strand) (ap begun_of step ∙ k.begun);
-          kept = rw (s.same_entries, s.same_strand) (open_held zeros strand table past r next now_held reached step m.held ∙ k.held);
-          going = ap (λ c. c.fault) is ∙ stands.going;
+          same_entries = c.same_entries ∙ sym s.same_entries;
+          same_zeros = c.same_zeros ∙ sym s.same_zeros;
+          same_strand = c.same_strand ∙ sym s.same_strand;
+          place = rw s.same_entries (ap₂ place_of c.same_entries c.current ∙ k.place);
+          begun = rw (s.same_entries, s.same_zeros, s.same_strand) (ap begun_of c.current ∙ k.begun);
+          kept = rw (s.same_entries, s.same_strand) (ap held_of c.current ∙ k.held);
+          reached = subst (λ (e : List Entry). AreReached e new.current) (sym c.same_entries) (c.at stands.reached);
         }
 
-    pub feeds_ok : {A : Type 0} (done : A) (next : Option DepthPlace) (now_held : OpenAt) (grown : Output) → AdvanceAnswers (walk_step (depth_walk zeros strand) table (seen current held) r) table (Ok next) now_held out grown
-        → Feeds may_take stands_after kept_fault settled_lines old r out is_quiet (Ok done) (shown table zeros strand next now_held fault) grown
-    feeds_ok done next now_held grown p =
-        feeds_taken may_take stands_after kept_fault settled_lines old (λ first past stands. stands.going) was_going out step_lines is_quiet r next_lines none done (shown table zeros strand next now_held fault) grown (ap (λ c. c.fault) is) (stands_next next now_held p.reached) p.puts
+    pub feeds_by : (result : Result (Unit {0}) Fault) (new : Covering) (grown : Output) → CountsDepths old r out result new grown → RuleFeeds may_take stands_after settled_lines old r out is_quiet result new grown
+    feeds_by (Ok done) new grown c = rule_taken may_take stands_after settled_lines old out (depth_lines step.1) is_quiet r next_lines none done new grown (stands_next new grown c) c.puts
+    feeds_by (Err e) new grown (inl cut) = rule_cut may_take stands_after settled_lines old out (depth_lines step.1) is_quiet r next_lines none {A = Unit {0}} e new grown cut
+    feeds_by (Err e) new grown (inr short) = rule_short may_take stands_after settled_lines old out (depth_lines step.1) is_quiet r next_lines none {A = Unit {0}} e new grown short.is (λ first past s taken q. q) short.puts
 
-    pub feeds_err : {A : Type 0} (failure : Failure) (e : Fault) (now_held : OpenAt) (new : Covering) (grown : Output) → told e ≡ fault_of failure → kept_fault new ≡ Some (fault_of failure) → AdvanceAnswers (walk_step (depth_walk zeros strand) table (seen current held) r) table (Err failure) now_held out grown
-        → Feeds may_take stands_after kept_fault settled_lines old r out {A = A} is_quiet (Err e) new grown
-    feeds_err Write e now_held new grown is_write kept p =
-        feeds_cut may_take stands_after kept_fault settled_lines old (λ first past stands. stands.going) was_going out step_lines is_quiet r next_lines none e new grown is_write kept p.some p.puts
-    feeds_err Memory e now_held new grown is_memory kept p =
-        feeds_short may_take stands_after kept_fault settled_lines old (λ first past stands. stands.going) was_going out step_lines is_quiet r next_lines none e new grown is_memory kept (λ first past stands taken q. q) p
+    -- and memory was wanted for a record that has to be kept
+    pub memory_by : (result : Result (Unit {0}) Fault) (new : Covering) (grown : Output) → CountsDepths old r out result new grown → WantsMemory {A = Unit {0}} wants_memory old r result
+    memory_by (Ok done) new grown c = tt
+    memory_by (Err e) new grown (inl cut) = λ is. let kind : WriteFailed ≡ NoMemory = ap (λ t. t.kind) (sym cut.puts.is ∙ is) in absurd (cc)
+    memory_by (Err e) new grown (inr short) = λ is. short.to_keep
+
+    taken_by : (result : Result (Unit {0}) Fault) (new : Covering) (grown : Output) → CountsDepths old r out result new grown → Taken may_take stands_after settled_lines is_quiet wants_memory CountsDepths old r out result new grown
+    taken_by result new grown c = record { exact = c; feeds = feeds_by result new grown c; memory = memory_by result new grown c }
+
+    -- a record of a chromosome that the genome file doesn't have changes nothing
+    pub counts_none : IsOnBy false old.entries old.current old.name old.length r.chrom → CountsDepths old r out (Ok tt) old out
+    counts_none off =
+        let here : step ≡ (old.current, []) = ap (step_from (depth_walk old.zeros old.strand) old.entries old.current r) (going_to (depth_walk old.zeros old.strand) old.entries old.current r.chrom None off.0 (sym off.1)) in
+        record {
+          same_entries = refl;
+          same_zeros = refl;
+          same_strand = refl;
+          current = sym (ap (λ s. s.0) here);
+          at = λ at. at;
+          puts = rw here (grown_none out);
+        }
+
+    -- one of the chromosome that was reached
+    pub step_here : (place : Place Known) → old.current ≡ Some place → is_on old.entries old.current r.chrom ≡ true
+        → step ≡ (Some (taking (depth_walk old.zeros old.strand) old.entries place r).0, (taking (depth_walk old.zeros old.strand) old.entries place r).1)
+    step_here place is on =
+        step_goes (depth_walk old.zeros old.strand) old.entries old.current r place [] (going_on (depth_walk old.zeros old.strand) old.entries old.current r.chrom on ∙ ap (λ o. (o, [])) is)
+
+  -- on which chromosome the last record lies changes nothing
+  module _ (is_here : Bool) (name : List ℕ) (size : ℕ) where
+    abbrev pub moved : Covering
+    moved = record { entries = old.entries; zeros = old.zeros; strand = old.strand; current = old.current; is_here = is_here; name = name; length = size }
+
+    answers_moved : (r : Feature) (out : Output) (result : Result (Unit {0}) Fault) (new : Covering) (grown : Output) → CountsDepths moved r out result new grown → CountsDepths old r out result new grown
+    answers_moved r out (Ok done) new grown c = record { same_entries = c.same_entries; same_zeros = c.same_zeros; same_strand = c.same_strand; current = c.current; at = c.at; puts = c.puts }
+    answers_moved r out (Err fault) new grown (inl cut) = inl cut
+    answers_moved r out (Err fault) new grown (inr short) = inr (record { is = short.is; puts = short.puts; to_keep = short.to_keep })
+
+    pub enters_moved : (chrom : List ℕ) (out : Output) → Enters old chrom out (Ok tt) moved out
+    enters_moved chrom out r same result new grown c = taken_by r out result new grown (answers_moved r out result new grown c)
+
+  -- another chromosome of the genome file
+  module _ (name : List ℕ) (size : ℕ) (chrom : List ℕ) (rank : ℕ) (off : is_on old.entries old.current chrom ≡ false) (is : Some rank ≡ rank_of (genome_names old.entries) chrom) where
+    abbrev pub place_first : Place Known
+    place_first = record { rank = rank; known = unknown }
+
+    abbrev pub begun_there : Covering
+    begun_there = record { entries = old.entries; zeros = old.zeros; strand = old.strand; current = Some place_first; is_here = true; name = name; length = size }
+
+    abbrev before : List DepthInterval
+    before = left_before (depths_left old.zeros) (bare_of old.zeros) old.entries old.current rank
+
+    pub is_there : is_on old.entries (Some place_first) chrom ≡ true
+    is_there =
+        let f = found name_at old.entries chrom rank (sym is) in
+        name_eq (entry_at old.entries rank).name chrom (ap (λ (e : Entry). e.name) (found_entry old.entries chrom rank f) ∙ f.is)
+
+    module _ (r : Feature) (same : r.chrom ≡ chrom) where
+      abbrev taken : Place Known × List DepthInterval
+      taken = taking (depth_walk old.zeros old.strand) old.entries place_first r
+
+      steps_old : (out : Output) → depth_step old r out ≡ (Some taken.0, before ++ taken.1)
+      steps_old out = count_begins old.zeros old.strand old.entries old.current r rank (ap (is_on old.entries old.current) same ∙ off) (is ∙ ap (rank_of (genome_names old.entries)) (sym same))
+
+      steps_new : (out : Output) → depth_step begun_there r out ≡ (Some taken.0, taken.1)
+      steps_new out =
+          step_goes (depth_walk old.zeros old.strand) old.entries (Some place_first) r place_first [] (going_on (depth_walk old.zeros old.strand) old.entries (Some place_first) r.chrom (ap (is_on old.entries (Some place_first)) same ∙ is_there))
+
+      answers_there : (out mid : Output) (result : Result (Unit {0}) Fault) (new : Covering) (grown : Output) → Grown out (depth_lines before) mid → CountsDepths begun_there r mid result new grown → CountsDepths old r out result new grown
+      answers_there out mid (Ok done) new grown p c = record {
+        same_entries = c.same_entries;
+        same_zeros = c.same_zeros;
+        same_strand = c.same_strand;
+        current = c.current ∙ ap (λ s. s.0) (steps_new mid) ∙ sym (ap (λ s. s.0) (steps_old out));
+        at = λ at. c.at (found_at old.entries chrom rank (sym is));
+        puts = rw (steps_old out) (adds_lines depth_line out mid grown before taken.1 {A = Unit {0}} (Ok tt) p (rw (steps_new mid) at c.puts));
+      }
+      answers_there out mid (Err fault) new grown p (inl cut) =
+          inl (rw (steps_old out) (adds_lines depth_line out mid grown before taken.1 {A = Unit {0}} (Err fault) p (rw (steps_new mid) at cut)))
+      answers_there out mid (Err fault) new grown p (inr short) =
+          inr (record { is = short.is; puts = rw (steps_old out) (adds_lines depth_line out mid grown before taken.1 {A = Unit {0}} (Ok tt) p (rw (steps_new mid) at short.puts)); to_keep = short.to_keep })
+
+    pub enters_there : (out mid : Output) → Grown out (depth_lines before) mid → Enters old chrom out (Ok tt) begun_there mid
+    enters_there out mid p r same result new grown c = taken_by r out result new grown (answers_there r same out mid result new grown p c)
+
+    -- or what is left before it couldn't be written
+    pub enters_cut : (out : Output) (fault : Fault) (new : Covering) (grown : Output) → FailsToAdd out (depth_lines before) (told fault) grown → Enters old chrom out (Err fault) new grown
+    enters_cut out fault new grown cut r same =
+        taken_by r out (Err fault) new grown (inl (rw (steps_old r same out) (cut_lines depth_line out grown before (taken r same).1 (told fault) cut)))
 
   -- the lines that are left
-  abbrev left : ℕ → List DepthInterval
-  left stop = left_before (depths_left zeros) (bare_of zeros) table (seen current held) stop
-
-  lines_left : (stop : ℕ) → stop ≡ length table → AtEnd may_take stands_after old (λ first past. whole_output first past ≡ settled_lines first past ++ depth_lines (left stop))
-  lines_left stop all first past stands taken =
+  lines_left : (out : Output) (stop : ℕ) → stop ≡ length old.entries → AtEnd may_take stands_after old (λ first past. whole_output first past ≡ settled_lines first past ++ depth_lines (left_before (depths_left old.zeros) (bare_of old.zeros) old.entries old.current stop))
+  lines_left out stop all first past stands taken =
       let s = same first past stands in
       let t = rw s.same_entries at taken in
-      rw (s.same_entries, s.same_zeros, s.same_strand, all) (ap depth_lines (leaves zeros strand table past (seen current held) t.distinct (s.reached t))
-      ∙ flat_map-append depth_line (settled_depths zeros strand table past) (left (length table)))
+      rw (s.same_entries, s.same_zeros, s.same_strand, all) (ap depth_lines (leaves old.zeros old.strand old.entries past old.current t.distinct (s.reached t))
+      ∙ flat_map-append depth_line (settled_depths old.zeros old.strand old.entries past) (left_before (depths_left old.zeros) (bare_of old.zeros) old.entries old.current (length old.entries)))
 
-  pub finishes_left : {A : Type 0} (stop : ℕ) (result : Result A Fault) (grown : Output) → stop ≡ length table → Adds out (depth_lines (left stop)) result grown
-      → Finishes may_take stands_after kept_fault settled_lines whole_output old out result grown
-  finishes_left stop result grown all p =
-      finishes_by may_take stands_after kept_fault settled_lines old (λ first past stands. stands.going) was_going out (depth_lines (left stop)) whole_output (lines_left stop all) result grown p
-
--- where memory ran out, what is said of that holds
-pub ends_for_record : (A : Type 0) {P : Type 0} (failure : Failure)
-    → OnWant {A = A} P (Err failure) → fault_of failure ≡ no_memory → P
-ends_for_record A Write holds e = let kind : WriteFailed ≡ NoMemory = ap (λ t. t.kind) e in absurd (cc)
-ends_for_record A Memory holds e = holds
+  pub finishes_left : (out : Output) {A : Type 0} (stop : ℕ) (result : Result A Fault) (grown : Output) → stop ≡ length old.entries → Adds out (depth_lines (left_before (depths_left old.zeros) (bare_of old.zeros) old.entries old.current stop)) result grown
+      → RuleFinishes may_take stands_after settled_lines old whole_output out result grown
+  finishes_left out stop result grown all p =
+      rule_finishes may_take stands_after settled_lines old out (depth_lines (left_before (depths_left old.zeros) (bare_of old.zeros) old.entries old.current stop)) whole_output (lines_left out stop all) result grown p

@@ -7,11 +7,15 @@ use Rattle.bt_lines.specs.Output.{Output}
 use Rattle.bt_lines.specs.Putting.{CutsRest, PutsRest}
 use Rattle.bt_lines.specs.declared.fault.Fault.{Fault}
 use Rattle.bt_bed.specs.Feature.{Feature}
-use Rattle.bt_bed.specs.declared.whole_records.WholeRecords.{WholeRecords}
-use Rattle.bt_runs.specs.Engine.{AfterEach, AtEnd, FailsAtGiven, FailsWhere, FeedAnswers, Feeds, FeedsWhole, FinishAnswers, Finishes, NotTaken, TakesEach, TakesGiven}
-use Rattle.bt_runs.specs.Merging.{Merging, Together, Apart, is_quiet, kept_fault, may_take, settled_lines, stands_after, whole_output}
-use Rattle.bt_runs.specs.Pooling as pool
+use Rattle.bt_runs.specs.Engine.{AfterEach, AtEnd, FeedAnswers, Feeds, FeedsBatch, FinishAnswers, Finishes, NotTaken, TakesEach, TakesGiven}
+use Rattle.bt_runs.specs.Merging.{Merging, StandsNew, Together, Apart, merge_begun, is_quiet, kept_fault, may_take, settled_lines, stands_after, wants_memory, whole_output}
+use Rattle.bt_runs.specs.Unstranded as pool
+use Rattle.bt_runs.specs.declared.merge_strand.MergeStrand.{MergeStrand}
+use Rattle.bt_runs.specs.declared.merge_strand.MergeStrand.TheVariants.{All, Each, One}
+use Rattle.bt_runs.proofs.SettledRuns.{none_kept}
+use Rattle.bt_runs.proofs.StrandSettling.{no_strand_runs}
 use Rattle.bt_runs.specs.Stranding as strands
+use Rattle.bt_runs.specs.declared.rule.Ruled.{Ruled}
 
 -- a merge of one kind: it stands after records only where it began as one of that kind, and all that is said of the engine inside it is what is said of the merge
 module _ {E : Type 0} (merge : E → Merging) (only : (first : Merging) (past : List Feature) (old : E) → stands_after first past (merge old) → (inner : E) × (merge inner ≡ first)) (old : E) where
@@ -124,44 +128,58 @@ module _ {E : Type 0} (merge : E → Merging) (only : (first : Merging) (past : 
   abbrev QuietIn : E → List Feature → Feature → Type 0
   QuietIn first past r = is_quiet (merge first) past r
 
+  abbrev wants_in : E → Feature → Type 0
+  wants_in inner r = wants_memory (merge inner) r
+
   each_inside : (records : List Feature) (old : E) (out : Output) (new : E) (grown : Output) → TakesEach MayTakeIn StandsIn fault_in settled_in QuietIn old out records new grown
       → TakesEach may_take stands_after kept_fault settled_lines is_quiet (merge old) out records (merge new) grown
   each_inside [] old out new grown is = (ap merge is.0, is.1)
   each_inside (r ∷ records) old out new grown more =
       (merge more.0, more.1, feeds_inside merge only old r out more.0 more.1 (Ok tt) more.2, each_inside records more.0 more.1 new grown more.3)
 
-  given_inside : (old : E) (lines : WholeRecords) (out : Output) (new : E) (passed : WholeRecords) (grown : Output) → TakesGiven MayTakeIn StandsIn fault_in settled_in QuietIn old lines out new passed grown
-      → TakesGiven may_take stands_after kept_fault settled_lines is_quiet (merge old) lines out (merge new) passed grown
-  given_inside old lines out new passed grown p = record { records = p.records; given = p.given; taken = each_inside p.records old out new grown p.taken }
+  module _ {C : Type 0} (gives : C → List Feature → C → Type 0) (has_ended : C → Type 0) where
+    given_inside : (old : E) (cursor : C) (out : Output) (new : E) (passed : C) (grown : Output) → TakesGiven MayTakeIn StandsIn fault_in settled_in QuietIn wants_in gives has_ended old cursor out new passed grown
+        → TakesGiven may_take stands_after kept_fault settled_lines is_quiet wants_memory gives has_ended (merge old) cursor out (merge new) passed grown
+    given_inside old cursor out new passed grown p = record { records = p.records; given = p.given; taken = each_inside p.records old out new grown p.taken }
 
-  abbrev fails_inside : (old : E) (lines : WholeRecords) (out : Output) (answer : Fault) (new : E) (passed : WholeRecords) (grown : Output) → FailsAtGiven MayTakeIn StandsIn fault_in settled_in QuietIn old lines out answer new passed grown
-      → FailsAtGiven may_take stands_after kept_fault settled_lines is_quiet (merge old) lines out answer (merge new) passed grown
-  fails_inside old lines out answer new passed grown p = record {
-    mid = merge p.mid;
-    before = p.before;
-    through = p.through;
-    takes = given_inside old lines out p.mid p.before p.through p.takes;
-    r = p.r;
-    given = p.given;
-    fails = feeds_inside merge only p.mid p.r p.through new grown (Err answer) p.fails;
-  }
-
-  pub whole_inside : {A : Type 0} (old : E) (lines : WholeRecords) (out : Output) (new : E) (passed : WholeRecords) (grown : Output) (result : Result A Fault) → FeedsWhole MayTakeIn StandsIn fault_in settled_in QuietIn old lines out result new passed grown
-      → FeedsWhole may_take stands_after kept_fault settled_lines is_quiet (merge old) lines out result (merge new) passed grown
-  whole_inside old lines out new passed grown (Ok done) p = given_inside old lines out new passed grown p
-  whole_inside old lines out new passed grown (Err answer) p = fails_inside old lines out answer new passed grown p
-
-  pub where_inside : {A : Type 0} (P : Merging → Feature → Result (Unit {0}) Fault → Type 0) (old : E) (lines : WholeRecords) (out : Output) (new : E) (passed : WholeRecords) (grown : Output) (result : Result A Fault)
-      → FailsWhere MayTakeIn StandsIn fault_in settled_in QuietIn old lines out (λ mid r answer. P (merge mid) r answer) result new passed grown
-      → FailsWhere may_take stands_after kept_fault settled_lines is_quiet (merge old) lines out P result (merge new) passed grown
-  where_inside P old lines out new passed grown (Ok done) p = p
-  where_inside P old lines out new passed grown (Err answer) p = (fails_inside old lines out answer new passed grown p.0, p.1)
+    pub batch_inside : {A : Type 0} (old : E) (cursor : C) (out : Output) (new : E) (passed : C) (grown : Output) (result : Result A Fault) → FeedsBatch MayTakeIn StandsIn fault_in settled_in QuietIn wants_in gives has_ended old cursor out result new passed grown
+        → FeedsBatch may_take stands_after kept_fault settled_lines is_quiet wants_memory gives has_ended (merge old) cursor out result (merge new) passed grown
+    batch_inside old cursor out new passed grown (Ok done) p = (given_inside old cursor out new passed grown p.0, p.1)
+    batch_inside old cursor out new passed grown (Err answer) (inl p) = inl (record {
+      going = going merge only old p.going;
+      is = p.is;
+      kind = p.kind;
+      same = ap merge p.same;
+      same_cursor = p.same_cursor;
+      same_output = p.same_output;
+    })
+    batch_inside old cursor out new passed grown (Err answer) (inr p) = inr (record {
+      mid = merge p.mid;
+      before = p.before;
+      through = p.through;
+      takes = given_inside old cursor out p.mid p.before p.through p.takes;
+      r = p.r;
+      given = p.given;
+      fails = feeds_inside merge only p.mid p.r p.through new grown (Err answer) p.fails;
+      memory = p.memory;
+    })
 
 -- one that merges all records together, and one that keeps the strands apart
-pub only_together : (first : Merging) (past : List Feature) (old : pool.Pooling) → stands_after first past (Together old) → (inner : pool.Pooling) × (Together inner ≡ first)
+pub only_together : (first : Merging) (past : List Feature) (old : Ruled pool.Unstranded) → stands_after first past (Together old) → (inner : Ruled pool.Unstranded) × (Together inner ≡ first)
 only_together (Together first) past old s = (first, refl)
 only_together (Apart first) past old s = absurd s
 
-pub only_apart : (first : Merging) (past : List Feature) (old : strands.Stranding) → stands_after first past (Apart old) → (inner : strands.Stranding) × (Apart inner ≡ first)
+pub only_apart : (first : Merging) (past : List Feature) (old : Ruled strands.Stranding) → stands_after first past (Apart old) → (inner : Ruled strands.Stranding) × (Apart inner ≡ first)
 only_apart (Apart first) past old s = (first, refl)
 only_apart (Together first) past old s = absurd s
+
+-- no list ends with an element and is empty
+none_last : {A : Type 0} (xs : List A) (x : A) → [] ≡ xs ++ x ∷ [] → ⊥
+none_last [] x e = cc
+none_last (y ∷ xs) x e = cc
+
+-- a merge that has taken no record stands after none
+pub begun_stands : (gap : ℕ) (strand : MergeStrand) → StandsNew gap strand (merge_begun gap strand)
+begun_stands gap All = (record { same_gap = refl; same_strand = refl; kept = sym (none_kept gap All); on = λ front last e. absurd (none_last front last e) }, refl)
+begun_stands gap (One strand) = (record { same_gap = refl; same_strand = refl; kept = sym (none_kept gap (One strand)); on = λ front last e. absurd (none_last front last e) }, refl)
+begun_stands gap Each = (record { same_gap = refl; chrom = λ front last e. absurd (none_last front last e); kept = sym (no_strand_runs gap) }, refl)

@@ -1,15 +1,16 @@
 -- The records that are open at a position and at later ones, how many of them cover a position, and their ends, counted by every test of an end.
-use Rattle.std.proofs.Common.{◌≡◌, ℕ, ◌+◌, ◌<◌, ◌≤◌, inl, inr, List, [], ◌∷◌, ◌++◌, refl, sym, ap, ◌∙◌, arith, All, filter, length, nat_le, not, false, suc, cond, ◌&&◌, length-append, nat_lt, slice_index_or, subst, Bool, MatchBool, true, IfSome, IsSome, Option, Some, None}
+use Rattle.std.proofs.Common.{◌≡◌, ℕ, ◌+◌, ◌<◌, ◌≤◌, inl, inr, List, [], ◌∷◌, refl, sym, ap, ◌∙◌, arith, All, filter, length, nat_le, not, false, suc, cond, ◌&&◌, nat_lt, slice_index_or, subst, zero, drop, Bool, MatchBool, true, IfSome, IsSome, Option, Some, None}
 use Rattle.std.proofs.lemmas.Bool.{cases_Bool, cases_lt, lt-ltb, le-ltb, lt-leb, le-leb}
 use Rattle.std.proofs.lemmas.List.{length-map}
 use Rattle.std.proofs.lemmas.List.Filters.{length-filter_both}
-use Rattle.std.proofs.lemmas.List.Elements.{All-cons, All-head, All-nil, All-tail, filter-append, All-weaker}
+use Rattle.std.proofs.lemmas.List.Elements.{All-cons, All-filter, All-head, All-nil, All-tail, All-weaker}
 use Rattle.bt_bed.specs.Interval.{Span}
 use Rattle.bt_runs.specs.Depth.{covers, depth_at}
 use Rattle.bt_runs.specs.DepthStep.{still_open}
-use Rattle.bt_runs.specs.OpenEnds.{CountsFrom, CountsSame, IsLeastFirst, StartsBelow, ends_of}
-use Rattle.bt_runs.specs.OpenRecords.{span_open, spans_open, CountsEnds}
+use Rattle.bt_runs.specs.OpenEnds.{CountsFrom, IsLeastFirst, StartsBelow, ends_of}
+use Rattle.bt_runs.specs.OpenRecords.{CountsEnds, KeepsOpen, span_open, spans_open}
 use Rattle.bt_runs.specs.declared.open_records.OpenSpan.{OpenSpan}
+use Rattle.std.specs.List.{remove}
 use Rattle.std.specs.BinaryHeap.{IsUpperBound, PopsGreatest}
 use Rattle.std.specs.List.Sorted.{IsPermutation}
 use Rattle.std.specs.Ordering.{is_lt, nat_cmp}
@@ -99,29 +100,59 @@ module _ (at position : ℕ) (first now : List Span) (low : at ≤ position) (sa
       ∙ ap (still_open next) same
       ∙ open_after position next first (omega arith)
 
--- the code's list of them
-still : (start : ℕ) (spans : List OpenSpan) → spans_open (filter (λ s. nat_le start s.stop) spans) ≡ still_open start (spans_open spans)
-still start [] = refl
-still start (s ∷ ss) = elim (cases_Bool (nat_le start s.stop)) [
-  | inl t ↦ rw t (ap (λ l. span_open s ∷ l) (still start ss))
-  | inr f ↦ rw f (still start ss)
+-- where there are no more than are still open, all of them are
+open_few : (position : ℕ) (spans : List Span) → length (still_open position spans) ≤ length spans
+open_few position spans =
+    let test = λ (s : Span). nat_le position s.stop in
+    let all = length-filter_both test (λ s. not (test s)) (λ s. refl) spans in
+    omega arith
+
+pub all_stay : (position : ℕ) (spans : List Span) → length spans ≤ length (still_open position spans) → still_open position spans ≡ spans
+all_stay position [] many = refl
+all_stay position (s ∷ ss) many = elim (cases_lt s.stop position) [
+  | inl ended ↦
+      let few = open_few position ss in
+      let many : length (s ∷ ss) ≤ length (still_open position ss) = rw (lt-leb position s.stop ended) at many in
+      absurd (omega arith)
+  | inr left ↦
+      let many : length (s ∷ ss) ≤ length (s ∷ still_open position ss) = rw (le-leb position s.stop left) at many in
+      rw (le-leb position s.stop left) (ap (λ l. s ∷ l) (all_stay position ss (omega arith)))
 ]
 
-pub kept_open : (start : ℕ) (old new : List OpenSpan) → new ≡ filter (λ s. nat_le start s.stop) old → spans_open new ≡ still_open start (spans_open old)
-kept_open start old new is = ap spans_open is ∙ still start old
+-- one that has ended leaves it, wherever it stands
+pub one_dropped : (position i : ℕ) (items : List OpenSpan) (x : OpenSpan) → i < length items → x ≡ slice_index_or items i x → x.stop < position → still_open position (spans_open (remove items i)) ≡ still_open position (spans_open items)
+one_dropped position i [] x below is ended = absurd (omega arith)
+one_dropped position zero (s ∷ ss) x below is ended = rw (← is, lt-leb position x.stop ended) refl
+one_dropped position (suc i) (s ∷ ss) x below is ended =
+    let rest = one_dropped position i ss x (omega arith) is ended in
+    elim (cases_Bool (nat_le position s.stop)) [
+      | inl t ↦ rw t (ap (λ l. span_open s ∷ l) rest)
+      | inr f ↦ rw f rest
+    ]
 
--- with one more that is open
-pub open_more : (position : ℕ) (spans : List Span) (s : Span) → position ≤ s.stop → still_open position (spans ++ s ∷ []) ≡ still_open position spans ++ s ∷ []
-open_more position spans s left = filter-append (λ s. nat_le position s.stop) spans (s ∷ []) ∙ ap (λ l. still_open position spans ++ l) (rw (le-leb position s.stop left) refl)
+-- all behind an index are open: where it is 0, all are
+behind_all : (position : ℕ) (items : List OpenSpan) → All (λ s. position ≤ s.stop) items → still_open position (spans_open items) ≡ spans_open items
+behind_all position [] all = refl
+behind_all position (s ∷ ss) all =
+    let mine : position ≤ s.stop = All-head (λ s. position ≤ s.stop) s ss all in
+    rw (le-leb position s.stop mine) (ap (λ l. span_open s ∷ l) (behind_all position ss (All-tail (λ s. position ≤ s.stop) s ss all)))
 
--- of the code's list no more are open than there are
-pub open_few : (position : ℕ) (spans : List OpenSpan)
-    → length (still_open position (spans_open spans)) ≤ length spans
-open_few position spans =
-    let test = λ (s : OpenSpan). nat_le position s.stop in
-    let all = length-filter_both test (λ s. not (test s)) (λ s. refl) spans in
-    let same = length-map (filter test spans) span_open in
-    rw (← still position spans) (omega arith)
+pub behind_one : (position i : ℕ) (items : List OpenSpan) (x : OpenSpan) → i < length items → x ≡ slice_index_or items i x → position ≤ x.stop → All (λ s. position ≤ s.stop) (drop (suc i) items) → All (λ s. position ≤ s.stop) (drop i items)
+behind_one position i [] x below is left all = absurd (omega arith)
+behind_one position zero (s ∷ ss) x below is left all = All-cons (λ s. position ≤ s.stop) s ss (subst (λ (s : OpenSpan). position ≤ s.stop) is left) all
+behind_one position (suc i) (s ∷ ss) x below is left all = behind_one position i ss x (omega arith) is left all
+
+pub behind_dropped : (position i : ℕ) (items : List OpenSpan) → i < length items → All (λ s. position ≤ s.stop) (drop (suc i) items) → All (λ s. position ≤ s.stop) (drop i (remove items i))
+behind_dropped position i [] below all = absurd (omega arith)
+behind_dropped position zero (s ∷ ss) below all = all
+behind_dropped position (suc i) (s ∷ ss) below all = behind_dropped position i ss (omega arith) all
+
+pub some_before_index : (position left index : ℕ) (items : List OpenSpan) → left ≡ length (still_open position (spans_open items)) → left < length items → All (λ s. position ≤ s.stop) (drop index items) → 1 ≤ index
+some_before_index position left zero items is more all =
+    let same = ap length (behind_all position items all) in
+    let long = length-map items span_open in
+    absurd (omega arith)
+some_before_index position left (suc index) items is more all = omega arith
 
 -- all pass, or none
 all_pass : {X : Type 0} (xs : List X) → filter (λ x. true) xs ≡ xs
@@ -168,16 +199,6 @@ same_count test xs ys moved = length-filter test ys ∙ sum_by-IsPermutation (λ
 pub ends_permuted : (xs ys : List (Reverse ℕ)) → IsPermutation xs ys → IsPermutation (ends_of xs) (ends_of ys)
 ends_permuted xs ys moved = IsPermutation-map (λ (e : Reverse ℕ). e.0) xs ys moved
 
--- one more record
-pub ends_more : (ends : List ℕ) (spans : List Span) (s : Span) (new : List ℕ) → CountsEnds ends spans → CountsSame (s.stop ∷ ends) new → CountsEnds new (spans ++ s ∷ [])
-ends_more ends spans s new counts more test =
-    let count : length (filter test (s.stop ∷ ends)) ≡ length (filter (λ s. test s.stop) spans) + length (filter (λ s. test s.stop) (s ∷ [])) = elim (cases_Bool (test s.stop)) [
-      | inl t ↦ rw t (let rest = counts test in omega arith)
-      | inr f ↦ rw f (let rest = counts test in omega arith)
-    ] in
-    more test ∙ count
-    ∙ sym (ap length (filter-append (λ s. test s.stop) spans (s ∷ [])) ∙ length-append (filter (λ s. test s.stop) spans) (filter (λ s. test s.stop) (s ∷ [])))
-
 -- an end before the position is taken out
 pub counts_less : (position e : ℕ) (old ends new : List ℕ) → e < position → CountsFrom position old ends → IsPermutation ends (e ∷ new) → CountsFrom position old new
 counts_less position e old ends new ended counts moved test =
@@ -196,28 +217,33 @@ all_from position test (e ∷ es) all =
       | inr f ↦ rw (le-leb position e mine, f) rest
     ]
 
-open_tested : (first position : ℕ) (test : ℕ → Bool) (spans : List Span) → first ≤ position → filter (λ s. nat_le position s.stop && test s.stop) (still_open first spans) ≡ filter (λ s. test s.stop) (still_open position spans)
-open_tested first position test [] up = refl
-open_tested first position test (s ∷ ss) up =
-    let rest = open_tested first position test ss up in
-    elim (cases_lt s.stop first) [
-      | inl ended ↦ rw (lt-leb first s.stop ended, lt-leb position s.stop (omega arith)) rest
-      | inr left ↦ elim (cases_lt s.stop position) [
-        | inl now ↦ rw (le-leb first s.stop left, lt-leb position s.stop now) rest
-        | inr still ↦ elim (cases_Bool (test s.stop)) [
-          | inl t ↦ rw (le-leb first s.stop left, le-leb position s.stop still, t) (ap (λ l. s ∷ l) rest)
-          | inr f ↦ rw (le-leb first s.stop left, le-leb position s.stop still, f) rest
-        ]
+open_tested : (position : ℕ) (test : ℕ → Bool) (spans : List Span) → filter (λ s. nat_le position s.stop && test s.stop) spans ≡ filter (λ s. test s.stop) (still_open position spans)
+open_tested position test [] = refl
+open_tested position test (s ∷ ss) =
+    let rest = open_tested position test ss in
+    elim (cases_Bool (nat_le position s.stop)) [
+      | inl left ↦ elim (cases_Bool (test s.stop)) [
+        | inl t ↦ rw (left, t) (ap (λ l. s ∷ l) rest)
+        | inr f ↦ rw (left, f) rest
       ]
+      | inr ended ↦ rw ended rest
     ]
 
--- once those before the position are out, the ends are those of the records that are open there
-pub ends_later : (first position : ℕ) (spans : List Span) (ends new : List ℕ) → first ≤ position → CountsEnds ends (still_open first spans) → CountsFrom position ends new → All (λ e. position ≤ e) new → CountsEnds new (still_open position spans)
-ends_later first position spans ends new up counts from all test =
-    sym (ap length (all_from position test new all))
-    ∙ from test
-    ∙ counts (λ e. nat_le position e && test e)
-    ∙ ap length (open_tested first position test spans up)
+-- what is kept at a later position, once the ends before it are out
+module _ (first position : ℕ) (spans : List Span) (ends new : List ℕ) (up : first ≤ position) (kept : KeepsOpen first spans ends) (from : CountsFrom position ends new) (all : All (λ e. position ≤ e) new) where
+  pub ends_later : CountsEnds new (still_open position spans)
+  ends_later test =
+      sym (ap length (all_from position test new all))
+      ∙ from test
+      ∙ kept.counts (λ e. nat_le position e && test e)
+      ∙ ap length (open_tested position test spans)
+
+  pub keeps_later : KeepsOpen position (still_open position spans) new
+  keeps_later = record {
+    started = All-filter (λ s. nat_le position s.stop) (λ s. s.start ≤ position) spans (All-weaker (λ s. s.start ≤ first) (λ s. s.start ≤ position) (λ s low. omega arith) spans kept.started);
+    left = all_open position spans;
+    counts = ends_later;
+  }
 
 -- the top of a heap whose least is the first
 pub top_least : (xs : List (Reverse ℕ)) (x : Reverse ℕ) → IsUpperBound (λ x y. nat_cmp y.0 x.0) x xs → All (λ e. x.0 ≤ e) (ends_of xs)

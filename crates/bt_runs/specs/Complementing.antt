@@ -1,28 +1,31 @@
--- A complement as its callers see it.
-use Rattle.std.specs.Prelude.{◌≡◌, ℕ, Bool, List, length, Option, None}
-use Rattle.bt_lines.specs.Fault.{Told}
+-- The rule of a complement as its callers see it.
+use Rattle.std.specs.Prelude.{◌≡◌, ℕ, Bool, List, length, Option}
 use Rattle.bt_bed.specs.Feature.{Feature}
 use Rattle.bt_bed.specs.Genome.{Entry}
 use Rattle.bt_bed.specs.IntervalLine.{interval_lines}
 use Rattle.bt_bed.specs.Locus.{Locus}
 use Rattle.bt_runs.specs.Engine.{IsQuiet}
 use Rattle.bt_runs.specs.Gaps.{AreTaken, complement, kept_place, settled_gaps}
+use Rattle.bt_runs.specs.Walk.{Place, places}
 
--- the chromosomes, whether those without records are left out, the place that is kept, and the
--- fault that was answered
+-- the chromosomes, whether those without records are left out, the one that was reached and how far its
+-- gaps are settled, and how many bases the chromosome has that the records are on, of those that are known
 pub record Complementing : Type 0 where
   pub entries : List Entry
   pub limit : Bool
-  pub kept : List Locus
-  pub fault : Option Told
+  pub current : Option (Place ℕ)
+  pub bases : ℕ
 
--- the complement has taken the records of the past, and answered no fault
+-- the place that is kept
+abbrev pub kept_in : Complementing → List Locus
+kept_in complement = places (λ end. end) complement.entries complement.current
+
+-- the complement has taken the records of the past
 pub record StandsAfter (entries : List Entry) (limit : Bool) (past : List Feature)
     (complement : Complementing) : Type 0 where
   pub same_entries : complement.entries ≡ entries
   pub same_limit : complement.limit ≡ limit
-  pub kept : complement.kept ≡ kept_place entries past
-  pub going : complement.fault ≡ None
+  pub kept : kept_in complement ≡ kept_place entries past
 
 -- the records that may be taken
 abbrev pub may_take : Complementing → List Feature → Type 0
@@ -31,10 +34,6 @@ may_take first past = AreTaken first.entries past
 -- what the complement has become after the records
 abbrev pub stands_after : Complementing → List Feature → Complementing → Type 0
 stands_after first past now = StandsAfter first.entries first.limit past now
-
--- the fault that it answered, if one
-abbrev pub kept_fault : Complementing → Option Told
-kept_fault complement = complement.fault
 
 -- the lines of the settled gaps
 abbrev pub settled_lines : Complementing → List Feature → List ℕ

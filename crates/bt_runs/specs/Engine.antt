@@ -8,8 +8,11 @@ use Rattle.bt_lines.specs.Output.{Output, Grows}
 use Rattle.bt_lines.specs.Putting.{WorksAsBefore, PutsRest, CutsRest}
 use Rattle.bt_lines.specs.declared.fault.Fault.{Fault}
 use Rattle.bt_bed.specs.Feature.{Feature}
-use Rattle.bt_bed.specs.WholeRecords.{GivesWhole, GivesWholes}
-use Rattle.bt_bed.specs.declared.whole_records.WholeRecords.{WholeRecords}
+
+-- where memory runs out for the first time, this holds of the engine and the record
+abbrev pub IsWanted : {E A : Type 0} → (E → Feature → Type 0) → (E → Option Told) → E → Feature → Result A Fault → Type 0
+IsWanted wants fault old r (Ok done) = ⊤
+IsWanted wants fault old r (Err answer) = told answer ≡ no_memory → fault old ≡ None → wants old r
 
 -- a record that settles nothing more, with which no more is kept
 pub record IsQuiet (settled : List Feature → List ℕ) (held : List Feature → ℕ)
@@ -111,36 +114,39 @@ module _ {E : Type 0} (MayTake : E → List Feature → Type 0)
         (mid : E) × (through : Output) × Feeds old r out {A = Unit {0}} Quiet (Ok tt) mid through
         × TakesEach mid through records new grown
 
-    module _ (old : E) (lines : WholeRecords) (out : Output) where
-      -- records that stood whole were given and passed, and the engine took each of them
-      pub record TakesGiven (new : E) (passed : WholeRecords) (grown : Output) : Type 0 where
+    module _ (wants : E → Feature → Type 0) {C : Type 0} (gives : C → List Feature → C → Type 0)
+        (has_ended : C → Type 0) (old : E) (cursor : C) (out : Output) where
+      -- records were given, and the engine took each of them
+      pub record TakesGiven (new : E) (passed : C) (grown : Output) : Type 0 where
         pub records : List Feature
-        pub given : GivesWholes lines records passed
+        pub given : gives cursor records passed
         pub taken : TakesEach old out records new grown
 
-      -- it took those before the last one that was given and passed, and that one it didn't take
-      pub record FailsAtGiven (answer : Fault) (new : E) (passed : WholeRecords) (grown : Output)
-          : Type 0 where
+      -- it took those before the last one that was given, and that one it didn't take
+      pub record FailsAtGiven (answer : Fault) (new : E) (passed : C) (grown : Output) : Type 0 where
         pub mid : E
-        pub before : WholeRecords
+        pub before : C
         pub through : Output
         pub takes : TakesGiven mid before through
         pub r : Feature
-        pub given : GivesWhole before r passed
+        pub given : gives before (r ∷ []) passed
         pub fails : Feeds mid r through {A = Unit {0}} Quiet (Err answer) new grown
+        pub memory : told answer ≡ no_memory → wants mid r
 
-      -- what `feed_whole` does
-      abbrev pub FeedsWhole : {A : Type 0} → Result A Fault → E → WholeRecords → Output → Type 0
-      FeedsWhole (Ok done) new passed grown = TakesGiven new passed grown
-      FeedsWhole (Err answer) new passed grown = FailsAtGiven answer new passed grown
+      -- the fault that was answered before is answered again, and nothing happens
+      pub record RepeatsBatch (answer : Told) (new : E) (passed : C) (grown : Output) : Type 0 where
+        pub going : (first : E) (past : List Feature) → Stands first past old → fault old ≡ None
+        pub is : fault old ≡ Some answer
+        pub kind : (answer ≡ write_failed) ⊎ (answer ≡ no_memory)
+        pub same : new ≡ old
+        pub same_cursor : passed ≡ cursor
+        pub same_output : grown ≡ out
 
-      -- where it failed, this holds of what the engine had become before the record that it failed
-      -- at, of that record, and of the answer
-      abbrev pub FailsWhere : {A : Type 0} → (E → Feature → Result (Unit {0}) Fault → Type 0)
-          → Result A Fault → E → WholeRecords → Output → Type 0
-      FailsWhere P (Ok done) new passed grown = ⊤
-      FailsWhere P (Err answer) new passed grown =
-          (at : FailsAtGiven answer new passed grown) × P at.mid at.r (Err answer)
+      -- what `feed_batch` does: it takes all records that the cursor gives
+      abbrev pub FeedsBatch : {A : Type 0} → Result A Fault → E → C → Output → Type 0
+      FeedsBatch (Ok done) new passed grown = TakesGiven new passed grown × has_ended passed
+      FeedsBatch (Err answer) new passed grown =
+          RepeatsBatch (told answer) new passed grown ⊎ FailsAtGiven answer new passed grown
 
   -- the end of the input
   module _ (whole : E → List Feature → List ℕ) (last : E) (out : Output) where

@@ -1,23 +1,13 @@
--- What a complement keeps and writes as records come, exactly.
-use Rattle.std.specs.Prelude.{ℕ, Bool, cond, List, [], ◌∷◌, max, min, nat_lt, Option, Some, None}
+-- The gaps that a complement writes as records come, exactly.
+use Rattle.std.specs.Prelude.{ℕ, Bool, cond, List, [], ◌∷◌, max, min, nat_lt}
 use Rattle.bt_bed.specs.Genome.{Entry}
 use Rattle.bt_bed.specs.Interval.{Interval}
-use Rattle.bt_runs.specs.Walk.{Place, Walk, entry_at}
-use Rattle.bt_runs.specs.declared.complement.GapPlace.{GapPlace}
-
--- the chromosome that was reached, if one was, and the position up to which its gaps are settled
-abbrev pub seen : Option GapPlace → Option (Place ℕ)
-seen None = None
-seen (Some reached) = Some (record { rank = reached.rank; known = reached.end })
+use Rattle.bt_runs.specs.Walk.{Walk}
 
 -- a gap of a chromosome, if it has a base
 abbrev pub gap_between : List ℕ → ℕ → ℕ → List Interval
 gap_between name start stop =
     cond (nat_lt start stop) (record { chrom = name; start = start; stop = stop } ∷ []) []
-
--- the gap from where a chromosome was reached
-abbrev pub gap_to : List Entry → GapPlace → ℕ → List Interval
-gap_to entries reached stop = gap_between (entry_at entries reached.rank).name reached.end stop
 
 -- the last gap of a chromosome
 abbrev pub last_gap : Entry → ℕ → List Interval
@@ -30,16 +20,6 @@ whole_of entry = last_gap entry 0
 -- one without records, which isn't asked for with -L
 abbrev pub bare_gap : Bool → Entry → List Interval
 bare_gap limit entry = cond limit [] (whole_of entry)
-
--- what is reached with a record, and the gap that it settles
-abbrev pub covering : List Entry → GapPlace → ℕ → ℕ → GapPlace × List Interval
-covering entries reached start stop = (
-  record {
-    rank = reached.rank;
-    end = max reached.end (min stop (entry_at entries reached.rank).length);
-  },
-  gap_to entries reached (min start (entry_at entries reached.rank).length),
-)
 
 -- a record settles the gap before it, and is taken out of the last one
 abbrev pub gap_walk : Bool → Walk Interval ℕ

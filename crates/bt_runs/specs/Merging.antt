@@ -1,30 +1,35 @@
 -- What a merge holds after the records of the past: with one set of records one open run, and with
 -- each strand by itself the runs that wait.
-use Rattle.std.specs.Prelude.{ℕ, List, [], Option, None, Result}
+use Rattle.std.specs.Prelude.{ℕ, List, [], Option, None}
 use Rattle.bt_lines.specs.Fault.{Told}
-use Rattle.bt_lines.specs.declared.fault.Fault.{Fault}
 use Rattle.bt_bed.specs.Feature.{Feature}
 use Rattle.bt_bed.specs.Interval.{Interval}
 use Rattle.bt_runs.specs.MergedRuns.{AreTaken}
-use Rattle.bt_runs.specs.Pooling as pool
+use Rattle.bt_runs.specs.Ruled.{ruled_fault, ruled_stands}
 use Rattle.bt_runs.specs.Stranding as strands
 use Rattle.bt_runs.specs.StrandRuns.{places_of}
-use Rattle.bt_runs.specs.StrandTaking as taking
-use Rattle.bt_runs.specs.Taking as pooled_taking
+use Rattle.bt_runs.specs.StrandTaking as strand_step
+use Rattle.bt_runs.specs.Unstranded as pool
+use Rattle.bt_runs.specs.UnstrandedStep as pool_step
 use Rattle.bt_runs.specs.declared.merge_strand.MergeStrand.{MergeStrand}
 use Rattle.bt_runs.specs.declared.merge_strand.MergeStrand.TheVariants.{All, Each, One}
+use Rattle.bt_runs.specs.declared.rule.Ruled.{Ruled}
 
 -- a merge as its callers see it: of all counted records together, or of each strand apart
 pub data Merging : Type 0 where
-  Together : pool.Pooling → Merging
-  Apart : strands.Stranding → Merging
+  Together : Ruled pool.Unstranded → Merging
+  Apart : Ruled strands.Stranding → Merging
 
 -- one that has taken no record
+abbrev pub together_begun : ℕ → MergeStrand → Merging
+together_begun gap strand =
+    Together (record { rule = record { gap = gap; strand = strand; chrom = []; kept = [] }; failure = None })
+
 abbrev pub merge_begun : ℕ → MergeStrand → Merging
-merge_begun gap Each = Apart (record { gap = gap; kept = []; fault = None })
-merge_begun gap All = Together (record { gap = gap; strand = All; kept = []; fault = None })
-merge_begun gap (One strand) =
-    Together (record { gap = gap; strand = One strand; kept = []; fault = None })
+merge_begun gap Each =
+    Apart (record { rule = record { gap = gap; chrom = []; kept = []; listed = [] }; failure = None })
+merge_begun gap All = together_begun gap All
+merge_begun gap (One strand) = together_begun gap (One strand)
 
 -- the records that may be taken
 abbrev pub may_take : Merging → List Feature → Type 0
@@ -32,8 +37,8 @@ may_take first past = AreTaken past
 
 -- what the merge has become after the records
 abbrev pub stands_after : Merging → List Feature → Merging → Type 0
-stands_after (Together first) past (Together now) = pool.stands_after first past now
-stands_after (Apart first) past (Apart now) = strands.stands_after first past now
+stands_after (Together first) past (Together now) = ruled_stands pool.stands_after first past now
+stands_after (Apart first) past (Apart now) = ruled_stands strands.stands_after first past now
 stands_after (Together first) past (Apart now) = ⊥
 stands_after (Apart first) past (Together now) = ⊥
 
@@ -43,35 +48,35 @@ StandsNew gap strand merge = stands_after (merge_begun gap strand) [] merge
 
 -- the fault that it answered, if one
 abbrev pub kept_fault : Merging → Option Told
-kept_fault (Together merge) = pool.kept_fault merge
-kept_fault (Apart merge) = strands.kept_fault merge
+kept_fault (Together merge) = ruled_fault merge
+kept_fault (Apart merge) = ruled_fault merge
 
 -- the lines of the settled runs
 abbrev pub settled_lines : Merging → List Feature → List ℕ
-settled_lines (Together first) past = pool.settled_lines first past
-settled_lines (Apart first) past = strands.settled_lines first past
+settled_lines (Together first) past = pool.settled_lines first.rule past
+settled_lines (Apart first) past = strands.settled_lines first.rule past
 
 -- the lines of all runs
 abbrev pub whole_output : Merging → List Feature → List ℕ
-whole_output (Together first) past = pool.whole_output first past
-whole_output (Apart first) past = strands.whole_output first past
+whole_output (Together first) past = pool.whole_output first.rule past
+whole_output (Apart first) past = strands.whole_output first.rule past
 
 -- how many runs are kept
 abbrev pub held_count : Merging → List Feature → ℕ
-held_count (Together first) past = pool.held_count first past
-held_count (Apart first) past = strands.held_count first past
+held_count (Together first) past = pool.held_count first.rule past
+held_count (Apart first) past = strands.held_count first.rule past
 
--- a record that settles no run, with which no more are kept
+-- a record on the last chromosome that settles no run, with which no more are kept
 abbrev pub is_quiet : Merging → List Feature → Feature → Type 0
-is_quiet (Together first) past r = pool.is_quiet first past r
-is_quiet (Apart first) past r = strands.is_quiet first past r
+is_quiet (Together first) past r = pool.is_quiet first.rule past r
+is_quiet (Apart first) past r = strands.is_quiet first.rule past r
 
 -- the runs that are kept
 abbrev pub kept_places : Merging → List Interval
-kept_places (Together merge) = merge.kept
-kept_places (Apart merge) = places_of merge.kept
+kept_places (Together merge) = merge.rule.kept
+kept_places (Apart merge) = places_of merge.rule.kept
 
--- where memory ran out for the first time, a run had to be opened
-abbrev pub IsForRun : {A : Type 0} → Merging → Feature → Result A Fault → Type 0
-IsForRun (Together old) r result = pooled_taking.IsForRun old r result
-IsForRun (Apart old) r result = taking.IsForRun old r result
+-- for what memory is wanted: the name of another chromosome, and with each strand by itself a run that has to be opened
+abbrev pub wants_memory : Merging → Feature → Type 0
+wants_memory (Together old) r = pool_step.IsElsewhere old.rule r
+wants_memory (Apart old) r = strand_step.wants_memory old.rule r

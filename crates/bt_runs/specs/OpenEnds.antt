@@ -1,13 +1,8 @@
--- The ends of the records that are open: lists in ascending order, and what holds of lists in any order.
-use Rattle.std.specs.Prelude.{◌≡◌, ℕ, ◌<◌, ◌≤◌, ◌&&◌, ⊤, Bool, nat_le, List, [], ◌∷◌, All, filter, length, map}
+-- The ends of the records that are open, in any order.
+use Rattle.std.specs.Prelude.{◌≡◌, ℕ, ◌<◌, ◌&&◌, Bool, nat_le, List, [], ◌∷◌, filter, length, map}
 use Rattle.std.specs.BinaryHeap.{IsHeap}
 use Rattle.std.specs.Ordering.{nat_cmp}
 use Rattle.std.specs.declared.cmp.Reverse.{Reverse}
-
--- each is at most those behind it
-abbrev pub IsAscending : List ℕ → Type 0
-IsAscending [] = ⊤
-IsAscending (e ∷ es) = All (λ later. e ≤ later) es × IsAscending es
 
 -- the ends that a heap has, and that the least of them is the first
 abbrev pub ends_of : List (Reverse ℕ) → List ℕ

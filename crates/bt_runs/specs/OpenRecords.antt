@@ -1,6 +1,6 @@
 -- The records that are open at a position of a chromosome, and how the code keeps them.
-use Rattle.std.specs.Prelude.{◌≡◌, ℕ, ◌*◌, ◌≤◌, Bool}
-use Rattle.std.specs.Prelude.{List, [], ◌++◌, All, filter, length, map}
+use Rattle.std.specs.Prelude.{◌≡◌, ℕ, ◌<◌, ◌≤◌, Bool}
+use Rattle.std.specs.Prelude.{List, [], ◌∷◌, ◌++◌, All, filter, length, map}
 use Rattle.bt_bed.specs.Interval.{Span}
 use Rattle.bt_runs.specs.DepthStep.{opened, still_open}
 use Rattle.bt_runs.specs.declared.open_records.OpenSpan.{OpenSpan}
@@ -36,9 +36,13 @@ abbrev pub CountsEnds : List ℕ → List Span → Type 0
 CountsEnds ends spans =
     (test : ℕ → Bool) → length (filter test ends) ≡ length (filter (λ s. test s.stop) spans)
 
--- what is kept at a position: spans that start there or before, of which at most half have ended,
--- and the ends of the others
+-- what is kept at a position: spans that start there or before and end there or past it, and their ends
 pub record KeepsOpen (at : ℕ) (spans : List Span) (ends : List ℕ) : Type 0 where
   pub started : All (λ s. s.start ≤ at) spans
-  pub counts : CountsEnds ends (still_open at spans)
-  pub few : length spans ≤ 2 * length ends
+  pub left : All (λ s. at ≤ s.stop) spans
+  pub counts : CountsEnds ends spans
+
+-- the first ended before a position
+abbrev pub StartsEnded : ℕ → List Span → Type 0
+StartsEnded position [] = ⊥
+StartsEnded position (s ∷ ss) = s.stop < position

@@ -1,17 +1,17 @@
 -- What a merge that keeps the strands apart does with one more record, exactly.
-use Rattle.std.specs.Prelude.{◌≡◌, ℕ, ◌-◌, Bool, List, [], ◌∷◌, ◌++◌, None, Result, Ok, Err, ⊤}
+use Rattle.std.specs.Prelude.{◌≡◌, ℕ, ◌⊎◌, Bool, true, false, cond, List, [], ◌∷◌, ◌++◌, Result, Ok, Err}
 use Rattle.bt_lines.specs.Fault.{no_memory, write_failed}
 use Rattle.bt_lines.specs.Names.{told}
 use Rattle.bt_lines.specs.Output.{Output}
-use Rattle.bt_lines.specs.Putting.{FailsToAdd, FailsToPut, Grown}
+use Rattle.bt_lines.specs.Putting.{FailsToAdd, Grown}
 use Rattle.bt_lines.specs.declared.fault.Fault.{Fault}
 use Rattle.bt_bed.specs.Feature.{Feature}
+use Rattle.bt_runs.specs.PendingRuns.{left_runs, passed_runs, place_of, placed_runs, with_joined}
 use Rattle.bt_runs.specs.StrandStep.{behind_settled, front_settled, kept_with, run_from, with_added}
 use Rattle.bt_runs.specs.Stranding.{Stranding, strand_lines}
-use Rattle.bt_runs.specs.Waiting.{left_waiting, passed_waiting, place_of, placed_runs, with_joined}
 use Rattle.bt_runs.specs.declared.failure.Failure.{Failure}
 use Rattle.bt_runs.specs.declared.failure.Failure.TheVariants.{Write, Memory}
-use Rattle.bt_runs.specs.declared.waiting.Waiting.{Waiting}
+use Rattle.bt_runs.specs.declared.pending_runs.PendingRun.{PendingRun}
 
 -- the line of each run that the record settles
 abbrev pub lines_by : Stranding → Feature → List ℕ
@@ -23,48 +23,66 @@ OpensRun old r =
     with_added old.gap (behind_settled old.gap old.kept r) r
     ≡ behind_settled old.gap old.kept r ++ run_from r ∷ []
 
--- where memory ran out for the first time, a run had to be opened
-abbrev pub IsForRun : {A : Type 0} → Stranding → Feature → Result A Fault → Type 0
-IsForRun old r (Ok done) = ⊤
-IsForRun old r (Err fault) = told fault ≡ no_memory → old.fault ≡ None → OpensRun old r
+-- the record lies on another chromosome
+abbrev pub IsElsewhere : Stranding → Feature → Type 0
+IsElsewhere old r = old.chrom ≡ r.chrom → ⊥
+
+-- for what memory is wanted: a run that has to be opened, or the name of another chromosome
+abbrev pub wants_memory : Stranding → Feature → Type 0
+wants_memory old r = OpensRun old r ⊎ IsElsewhere old r
 
 module _ (old : Stranding) (r : Feature) (out : Output) where
-  -- one more record was taken, as the step says
+  -- the record was taken
   pub record Takes (new : Stranding) (grown : Output) : Type 0 where
     pub gap : new.gap ≡ old.gap
-    pub fault : new.fault ≡ old.fault
+    pub chrom : new.chrom ≡ r.chrom
     pub kept : new.kept ≡ kept_with old.gap old.kept r
     pub puts : Grown out (lines_by old r) grown
 
-  -- the runs that the record settles couldn't be written
-  pub record FailsToSettle (grown : Output) : Type 0 where
-    pub settles : front_settled old.gap old.kept r ≡ [] → ⊥
-    pub puts : FailsToPut out (lines_by old r) write_failed grown
-
-  -- a run that has to be opened couldn't be kept
+  -- it wasn't, for want of memory
   pub record FailsToKeep (grown : Output) : Type 0 where
-    pub opens : OpensRun old r
+    pub wanted : wants_memory old r
     pub puts : Grown out (lines_by old r) grown
 
--- what one more record does
-abbrev pub TakesNext : {A : Type 0} → Stranding → Feature → Output → Result A Failure → Stranding
-    → Output → Type 0
+-- what is done with a record
+abbrev pub TakesNext : Stranding → Feature → Output → Result (Unit {0}) Fault → Stranding → Output → Type 0
 TakesNext old r out (Ok done) new grown = Takes old r out new grown
-TakesNext old r out (Err Write) new grown = FailsToSettle old r out grown
-TakesNext old r out (Err Memory) new grown = FailsToKeep old r out grown
+TakesNext old r out (Err fault) new grown =
+    FailsToAdd out (lines_by old r) (told fault) grown
+    ⊎ ((told fault ≡ no_memory) × FailsToKeep old r out grown)
 
--- the runs on a chromosome that a record has passed were written, and it was joined to the last one
--- of its strand that is left, or couldn't be
-module _ (gap : ℕ) (chrom : List ℕ) (runs : List Waiting) (r : Feature) (out : Output) where
-  pub record Joins (joined : Bool) (new : List Waiting) (grown : Output) : Type 0 where
-    pub puts : Grown out (strand_lines (placed_runs chrom (passed_waiting gap chrom runs r))) grown
-    pub joins : (joined, new)
-        ≡ with_joined (r.start - gap) r.stop (left_waiting gap chrom runs r)
-        (place_of r.strand (left_waiting gap chrom runs r))
+-- a record whose start less the gap is `reach`, as a run, among runs on its chromosome
+module _ (chrom : List ℕ) (reach : ℕ) (runs : List PendingRun) (run : PendingRun) (out : Output) where
+  -- whether it is joined to one of the runs that it hasn't passed, and those with it if it is
+  abbrev pub joined_among : Bool × List PendingRun
+  joined_among =
+      with_joined reach run.stop (left_runs true reach runs)
+      (place_of run.strand (left_runs true reach runs))
 
-  -- what passing and joining does
-  abbrev pub JoinsPassing : Result Bool Failure → List Waiting → Output → Type 0
-  JoinsPassing (Ok joined) new grown = Joins joined new grown
-  JoinsPassing (Err Write) new grown =
-      FailsToAdd out (strand_lines (placed_runs chrom (passed_waiting gap chrom runs r))) write_failed grown
-  JoinsPassing (Err Memory) new grown = ⊥
+  -- those that it has passed were written, and nothing more
+  abbrev pub PutsPassed : Output → Type 0
+  PutsPassed grown = Grown out (strand_lines (placed_runs chrom (passed_runs true reach runs))) grown
+
+  -- none is left
+  pub record LeavesNone (new : List PendingRun) (grown : Output) : Type 0 where
+    pub none : left_runs true reach runs ≡ []
+    pub now : new ≡ []
+    pub puts : PutsPassed grown
+
+  -- it was joined to one of those that are left, or is one more
+  pub record JoinsLeft (new : List PendingRun) (grown : Output) : Type 0 where
+    pub now : new ≡ cond joined_among.0 joined_among.1 (left_runs true reach runs ++ run ∷ [])
+    pub puts : PutsPassed grown
+
+  -- it had to be one more, and couldn't be kept
+  pub record KeepsNone (grown : Output) : Type 0 where
+    pub joins : joined_among.0 ≡ false
+    pub puts : PutsPassed grown
+
+  -- it answers whether none is left
+  abbrev pub JoinsAmong : Result Bool Failure → List PendingRun → Output → Type 0
+  JoinsAmong (Ok true) new grown = LeavesNone new grown
+  JoinsAmong (Ok false) new grown = JoinsLeft new grown
+  JoinsAmong (Err Write) new grown =
+      FailsToAdd out (strand_lines (placed_runs chrom (passed_runs true reach runs))) write_failed grown
+  JoinsAmong (Err Memory) new grown = KeepsNone grown

@@ -1,24 +1,28 @@
 -- What a merge that keeps the strands apart holds after the records of the past.
-use Rattle.std.specs.Prelude.{◌≡◌, ℕ, List, length, Option, None}
-use Rattle.bt_lines.specs.Fault.{Told}
+use Rattle.std.specs.Prelude.{◌≡◌, ℕ, List, [], ◌∷◌, ◌++◌, length}
 use Rattle.bt_bed.specs.Feature.{Feature}
 use Rattle.bt_bed.specs.IntervalLine.{interval_lines}
 use Rattle.bt_runs.specs.Engine.{IsQuiet}
 use Rattle.bt_runs.specs.MergedRuns.{AreTaken}
+use Rattle.bt_runs.specs.OnLast.{IsOnLast}
 use Rattle.bt_runs.specs.StrandRuns.{StrandRun, kept_strand_runs, places_of, settled_strand_runs}
 use Rattle.bt_runs.specs.StrandRuns.{strand_runs}
 
--- the gap that it bridges, the runs that it keeps, and the fault that it answered
+-- the gap that it bridges, the chromosome that it is on, and the runs that it keeps
 pub record Stranding : Type 0 where
   pub gap : ℕ
+  pub chrom : List ℕ
   pub kept : List StrandRun
-  pub fault : Option Told
+  -- what its list holds: those runs, but where one alone is at hand
+  pub listed : List StrandRun
 
--- it has taken the records of the past, and answered no fault
+-- it has taken the records of the past
 pub record StandsAfter (gap : ℕ) (past : List Feature) (merge : Stranding) : Type 0 where
   pub same_gap : merge.gap ≡ gap
+  -- it is on the chromosome of the last one
+  pub chrom : (front : List Feature) (last : Feature) → past ≡ front ++ last ∷ []
+      → merge.chrom ≡ last.chrom
   pub kept : merge.kept ≡ kept_strand_runs gap past
-  pub going : merge.fault ≡ None
 
 -- the lines of runs
 abbrev pub strand_lines : List StrandRun → List ℕ
@@ -32,10 +36,6 @@ may_take first past = AreTaken past
 abbrev pub stands_after : Stranding → List Feature → Stranding → Type 0
 stands_after first past now = StandsAfter first.gap past now
 
--- the fault that it answered, if one
-abbrev pub kept_fault : Stranding → Option Told
-kept_fault merge = merge.fault
-
 -- the lines of the settled runs
 abbrev pub settled_lines : Stranding → List Feature → List ℕ
 settled_lines first past = strand_lines (settled_strand_runs first.gap past)
@@ -48,6 +48,7 @@ whole_output first past = strand_lines (strand_runs first.gap past)
 abbrev pub held_count : Stranding → List Feature → ℕ
 held_count first past = length (kept_strand_runs first.gap past)
 
--- a record that settles no run, with which no more are kept
+-- a record on the chromosome of the one before it that settles no run, with which no more are kept
 abbrev pub is_quiet : Stranding → List Feature → Feature → Type 0
-is_quiet first past r = IsQuiet (settled_lines first) (held_count first) past r
+is_quiet first past r =
+    IsQuiet (settled_lines first) (held_count first) past r × IsOnLast past r

@@ -38,6 +38,11 @@ abbrev pub AreReached : {S : Type 0} → List Entry → Option (Place S) → Typ
 AreReached entries None = ⊤
 AreReached entries (Some place) = IsPlaced entries place.rank
 
+-- and it has this name
+pub record IsNamed (entries : List Entry) (rank : ℕ) (name : List ℕ) : Type 0 where
+  pub placed : IsPlaced entries rank
+  pub is : (entry_at entries rank).name ≡ name
+
 -- how many chromosomes have begun
 abbrev pub begun : {S : Type 0} → Option (Place S) → ℕ
 begun None = 0

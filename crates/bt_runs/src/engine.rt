@@ -4,9 +4,9 @@ ghost use Rattle.std.specs.Prelude.{ℕ, List, Option};
 ghost use Rattle.bt_lines.specs.Fault.{Told};
 ghost use Rattle.bt_bed.specs.Bed.{feature_lent};
 ghost use Rattle.bt_bed.specs.Feature.{Feature};
-ghost use Rattle.bt_runs.specs.Engine.{Feeds, FeedsWhole, Finishes, KeepsHeld};
+ghost use Rattle.bt_runs.specs.Engine.{Feeds, FeedsBatch, Finishes, IsWanted, KeepsHeld};
 
-use bt_bed::{BedRef, WholeRecords};
+use bt_bed::{BedRef, Cursor, Single};
 use bt_lines::{Fault, Out, Sink};
 
 /// An engine takes the records of sorted input one after another, and writes each line of its output
@@ -35,27 +35,28 @@ pub trait Engine {
     // output stays as it is. An engine that can't promise it gives ⊥.
     ghost quiet: { Self → List Feature → Feature → Type 0 };
 
-    /// Takes the next record, and writes the lines that it settles. It fails with `WriteFailed` where
-    /// they can't be written, and with `NoMemory` where what is kept can't grow. The first fault is
-    /// answered from then on.
-    fn feed<K: Sink>(&mut self, bed: &BedRef<'_>, out: &mut Out<K>) -> Result<(), Fault>
-        ensures { Feeds takes stands fault settled self.old (feature_lent bed.now) out.old.output quiet
-            result self.new out.new.output };
+    // For what memory is wanted: where it runs out for the first time, this holds of the engine and the record.
+    ghost wants: { Self → Feature → Type 0 };
 
-    /// Takes records that stand whole, as [`Engine::feed`] does one after another: as many of them as it can,
-    /// which may be none. What it took was passed. Where it fails, the record that it failed at was passed too.
-    fn feed_whole<K: Sink>(
+    /// Takes the records that a cursor gives, one after another, and writes the lines that they settle. It fails with
+    /// `WriteFailed` where they can't be written, and with `NoMemory` where what is kept can't grow; the record at which it
+    /// fails was given too. The first fault is answered from then on.
+    fn feed_batch<C: Cursor, K: Sink>(
         &mut self,
-        records: &mut WholeRecords<'_>,
+        records: &mut C,
         out: &mut Out<K>,
     ) -> Result<(), Fault>
-        ensures { FeedsWhole takes stands fault settled quiet self.old records.old out.old.output
-            result self.new records.new out.new.output }
+        ensures { FeedsBatch takes stands fault settled quiet wants C.gives C.has_ended self.old records.old out.old.output
+            result self.new records.new out.new.output };
+
+    /// Takes the next record, and writes the lines that it settles. It fails as [`Engine::feed_batch`] does.
+    fn feed<K: Sink>(&mut self, bed: &BedRef<'_>, out: &mut Out<K>) -> Result<(), Fault>
+        ensures feeds { Feeds takes stands fault settled self.old (feature_lent bed.now) out.old.output quiet
+            result self.new out.new.output }
+        ensures memory { IsWanted wants fault self.old (feature_lent bed.now) result }
     {
-        while let Some(bed) = records.next() {
-            self.feed(&bed, out)?;
-        }
-        Ok(())
+        let mut one = Single::new(*bed);
+        self.feed_batch(&mut one, out)
     }
 
     /// Writes the lines that are still unsettled, after the last record. It fails with `WriteFailed`

@@ -1,6 +1,7 @@
 //! What ends an engine.
 
-ghost use Rattle.std.specs.Prelude.{◌≡◌};
+ghost use Rattle.std.specs.Prelude.{◌≡◌, ◌⊎◌};
+ghost use Rattle.bt_lines.specs.Fault.{no_memory, write_failed};
 ghost use Rattle.bt_lines.specs.Names.{told};
 ghost use Rattle.bt_runs.specs.Failure.{fault_of};
 
@@ -23,5 +24,16 @@ impl Failure {
             Failure::Memory => Kind::NoMemory,
         };
         Fault { kind, place: None }
+    }
+
+    // What a fault of a write or of memory reports.
+    pub(crate) fn of(fault: &Fault) -> Failure
+        requires { (told fault.now ≡ write_failed) ⊎ (told fault.now ≡ no_memory) }
+        ensures { told fault.now ≡ fault_of result }
+    {
+        match fault.kind {
+            Kind::WriteFailed => Failure::Write,
+            _ => Failure::Memory,
+        }
     }
 }

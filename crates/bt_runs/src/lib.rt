@@ -23,19 +23,22 @@
 #![tactic(auto)]
 
 #[cfg(test)]
+mod batch_tests;
+#[cfg(test)]
 mod calls_tests;
 mod complement;
 pub mod complement_laws;
 mod coverage;
 pub mod depth_laws;
 mod depth_line;
+mod depth_rule;
 mod depths;
-mod end_queue;
 mod engine;
 #[cfg(test)]
 mod example;
 mod failure;
-mod gathered;
+mod gap_cursor;
+mod gap_rule;
 #[cfg(test)]
 mod growth_tests;
 pub mod laws;
@@ -44,24 +47,17 @@ mod merge;
 mod merge_strand;
 mod open_ends;
 mod open_records;
-mod open_span;
-mod placed;
+mod pending_runs;
+mod per_strand_merge;
 pub mod plain;
 pub mod plain_depths;
 pub mod plain_gaps;
 pub mod plain_strands;
-mod pooled;
+mod rule;
 pub mod strand_laws;
-mod strand_step;
-mod stranded;
 #[cfg(test)]
 mod testing;
-mod waiting;
-mod whole_depths;
-mod whole_runs;
-mod whole_strands;
-#[cfg(test)]
-mod whole_tests;
+mod unstranded_merge;
 
 pub use complement::Complement;
 pub use coverage::Coverage;

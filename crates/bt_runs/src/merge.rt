@@ -7,22 +7,23 @@ ghost use Rattle.bt_lines.specs.Fault.{Told};
 ghost use Rattle.bt_bed.specs.Bed.{feature_lent};
 ghost use Rattle.bt_lines.specs.Number.{max_number};
 ghost use Rattle.bt_runs.specs.Calls.{AnswersAgain, IsFaultless, KeepsFault, TakesQuiet, WritesFirst, WritesLeft, WritesLeftPrefix, WritesPrefix, WritesSettled};
-ghost use Rattle.bt_runs.specs.Engine.{FailsWhere, Feeds, FeedsWhole, KeepsHeld};
-ghost use Rattle.bt_runs.specs.Merging.{IsForRun, StandsNew, held_count, is_quiet, kept_fault, kept_places, may_take, merge_begun, settled_lines, stands_after, whole_output};
+ghost use Rattle.bt_runs.specs.Engine.{IsWanted, KeepsHeld};
+ghost use Rattle.bt_runs.specs.Merging.{StandsNew, held_count, is_quiet, kept_fault, kept_places, may_take, merge_begun, settled_lines, stands_after, wants_memory, whole_output};
 
 use crate::engine::Engine;
 use crate::merge_strand::MergeStrand;
-use crate::pooled::Pooled;
-use crate::stranded::Stranded;
-use bt_bed::{BedRef, WholeRecords};
+use crate::per_strand_merge::PerStrandMerge;
+use crate::rule::{Rule, Ruled};
+use crate::unstranded_merge::UnstrandedMerge;
+use bt_bed::{BedRef, Cursor};
 use bt_lines::{Fault, Out, Sink};
 use std::alloc::Global;
 use std::marker::Model;
 
 #[derive(Drop, Debug)]
-enum Kept {
-    Pooled(Pooled),
-    Stranded(Stranded),
+enum Kind {
+    Unstranded(Ruled<UnstrandedMerge>),
+    PerStrand(Ruled<PerStrandMerge>),
 }
 
 /// Merges records that come in order, and writes each run once a record has passed it, which may be one
@@ -33,8 +34,8 @@ enum Kept {
 /// keeps the runs from the first open one on.
 #[derive(Drop, Debug)]
 pub struct Merge {
-    // By what the engine was made for; it stays of that kind.
-    kept: Kept,
+    // It stays of that kind.
+    kind: Kind,
 }
 
 impl Model for Merge {
@@ -42,9 +43,9 @@ impl Model for Merge {
 
     ghost Value = { Merging };
 
-    ghost use Rattle.bt_runs.specs.KeptRuns.{merging_seen};
+    ghost use Rattle.bt_runs.specs.MergeKind.{merging_seen};
 
-    ghost view = { λ m. merging_seen m.kept };
+    ghost view = { λ m. merging_seen m.kind };
 }
 
 impl Merge {
@@ -55,17 +56,22 @@ impl Merge {
         ensures stands { StandsNew d strand result }
         ensures begun { result ≡ merge_begun d strand }
     {
-        let kept = match strand {
-            MergeStrand::Each => Kept::Stranded(Stranded::new(alloc, d)),
-            MergeStrand::All => Kept::Pooled(Pooled::new(alloc, d, strand)),
-            MergeStrand::One(_) => Kept::Pooled(Pooled::new(alloc, d, strand)),
+        let kind = match strand {
+            MergeStrand::Each => Kind::PerStrand(Ruled::new(PerStrandMerge::new(alloc, d))),
+            MergeStrand::All => Kind::Unstranded(Ruled::new(UnstrandedMerge::new(
+                alloc, d, strand,
+            ))),
+            MergeStrand::One(_) => Kind::Unstranded(Ruled::new(UnstrandedMerge::new(
+                alloc, d, strand,
+            ))),
         };
-        Merge { kept }
+        Merge { kind }
     }
 
-    /// Takes the next record, and writes the lines that it settles. A record that joins a run that is kept, or
-    /// that isn't merged, and that passes none that could be written, is taken without a fault. The first
-    /// fault is answered from then on: `WriteFailed`, or `NoMemory`, only where a run has to be opened.
+    /// Takes the next record, and writes the lines that it settles. A record on the chromosome of the one before it that
+    /// joins a run that is kept, or that isn't merged, and that passes none that could be written, is taken without a
+    /// fault. The first fault is answered from then on: `WriteFailed`, or `NoMemory`, only where the chromosome is
+    /// another than that of the record before, and with [`MergeStrand::Each`] where a run has to be opened too.
     pub fn feed<K: Sink>(&mut self, bed: &BedRef<'_>, out: &mut Out<K>) -> Result<(), Fault>
         ensures going { IsFaultless stands_after kept_fault self.old }
         ensures written { WritesSettled may_take stands_after kept_fault settled_lines self.old
@@ -75,7 +81,7 @@ impl Merge {
             (feature_lent bed.now) out.old.output result self.new out.new.output }
         ensures ran_out { WritesFirst may_take stands_after kept_fault settled_lines self.old
             (feature_lent bed.now) out.old.output result self.new out.new.output }
-        ensures memory { IsForRun self.old (feature_lent bed.now) result }
+        ensures memory { IsWanted wants_memory kept_fault self.old (feature_lent bed.now) result }
         ensures again { AnswersAgain (kept_fault self.old) result }
         ensures stays { (before : Told) → kept_fault self.old ≡ Some before
             → (self.new ≡ self.old) × (out.new.output ≡ out.old.output) }
@@ -127,41 +133,23 @@ impl Engine for Merge {
 
     ghost quiet = { is_quiet };
 
-    /// A record that joins a run that is kept, or that isn't merged, and that passes none that could be
-    /// written, is taken without a fault. What no longer can be joined is written first. `NoMemory` is
-    /// answered only where a run has to be opened.
-    fn feed<K: Sink>(&mut self, bed: &BedRef<'_>, out: &mut Out<K>) -> Result<(), Fault>
-        ensures feeds { Feeds may_take stands_after kept_fault settled_lines self.old
-            (feature_lent bed.now) out.old.output is_quiet result self.new out.new.output }
-        ensures memory { IsForRun self.old (feature_lent bed.now) result }
-    {
-        match &mut self.kept {
-            Kept::Pooled(merge) => merge.feed(bed, out),
-            Kept::Stranded(merge) => merge.feed(bed, out),
-        }
-    }
+    ghost wants = { wants_memory };
 
-    /// `NoMemory` is answered only where a run has to be opened.
-    fn feed_whole<K: Sink>(
+    fn feed_batch<C: Cursor, K: Sink>(
         &mut self,
-        records: &mut WholeRecords<'_>,
+        records: &mut C,
         out: &mut Out<K>,
-    ) -> Result<(), Fault>
-        ensures feeds { FeedsWhole may_take stands_after kept_fault settled_lines is_quiet self.old
-            records.old out.old.output result self.new records.new out.new.output }
-        ensures memory { FailsWhere may_take stands_after kept_fault settled_lines is_quiet self.old
-            records.old out.old.output IsForRun result self.new records.new out.new.output }
-    {
-        match &mut self.kept {
-            Kept::Pooled(merge) => merge.feed_whole(records, out),
-            Kept::Stranded(merge) => merge.feed_whole(records, out),
+    ) -> Result<(), Fault> {
+        match &mut self.kind {
+            Kind::Unstranded(merge) => merge.feed_batch(records, out),
+            Kind::PerStrand(merge) => merge.feed_batch(records, out),
         }
     }
 
     fn finish<K: Sink>(self, out: &mut Out<K>) -> Result<(), Fault> {
-        match self.kept {
-            Kept::Pooled(merge) => merge.finish(out),
-            Kept::Stranded(merge) => merge.finish(out),
+        match self.kind {
+            Kind::Unstranded(merge) => merge.finish(out),
+            Kind::PerStrand(merge) => merge.finish(out),
         }
     }
 
@@ -170,9 +158,9 @@ impl Engine for Merge {
         ensures list { result ≡ length (kept_places self.now) }
         ensures held { KeepsHeld may_take stands_after self.now held_count result }
     {
-        match &self.kept {
-            Kept::Pooled(merge) => merge.kept_len(),
-            Kept::Stranded(merge) => merge.kept_len(),
+        match &self.kind {
+            Kind::Unstranded(merge) => merge.rule.kept_len(),
+            Kind::PerStrand(merge) => merge.rule.kept_len(),
         }
     }
 }

@@ -1,11 +1,12 @@
 //! The counted records that are open at a position of a chromosome.
 
-ghost use Rattle.std.specs.Prelude.{◌≡◌, ◌≤◌, ◌<◌, ◌*◌, ℕ, List, [], ◌∷◌, ◌++◌, All, MatchBool, OnErr, OnOk, length, max};
+ghost use Rattle.std.specs.Prelude.{◌≡◌, ◌≤◌, [], ◌∷◌, ◌++◌, All, IsTrue, OnOk, length, max};
 ghost use Rattle.bt_runs.specs.DepthStep.{still_open};
-ghost use Rattle.bt_runs.specs.OpenRecords.{none_open_at, open_from, spans_open};
+ghost use Rattle.bt_runs.specs.OpenRecords.{StartsEnded, none_open_at, open_from, spans_open};
 
 use crate::open_ends::OpenEnds;
 use std::alloc::{AllocError, Global};
+use std::collections::VecDeque;
 use std::marker::Model;
 
 // A counted record that was open at its start: it may cover positions to come, until it has ended.
@@ -13,30 +14,28 @@ use std::marker::Model;
 pub(crate) struct OpenSpan {
     // At most the position of the records.
     pub(crate) start: u64,
-    // Past the position, or at it; below it only in a record that has ended and isn't taken out yet.
+    // The position, or past it.
     pub(crate) stop: u64,
 }
 
 // The counted records of a chromosome that end at a position or past it, in file order. Their ends are
-// kept beside them, so that the least of these is at hand. The records that have ended leave the list in
-// one pass, once they are more than those that are open: so at most half of the list has ended.
+// kept beside them, so that the least of these is at hand.
 #[derive(Drop, Debug)]
 pub(crate) struct OpenRecords {
     // The position, on a chromosome that its owner knows. It never falls but where `clear` sets it.
     at: u64,
-    // In file order, with some that ended before the position.
-    spans: Vec<OpenSpan>,
-    // The ends of those that didn't, each once.
+    // In file order.
+    spans: VecDeque<OpenSpan>,
+    // The end of each.
     ends: OpenEnds,
 }
 
 impl Model for OpenRecords {
-    ghost use Rattle.bt_runs.specs.DepthStep.{still_open};
     ghost use Rattle.bt_runs.specs.OpenRecords.{KeepsOpen, OpenAt, spans_open};
 
     ghost Value = { OpenAt };
 
-    ghost view = { λ m. record { at = m.at; spans = still_open m.at (spans_open m.spans.items) } };
+    ghost view = { λ m. record { at = m.at; spans = spans_open m.spans.items } };
 
     ghost invariant = { λ m. KeepsOpen m.at (spans_open m.spans.items) m.ends };
 }
@@ -48,7 +47,7 @@ impl OpenRecords {
     {
         OpenRecords {
             at: 0,
-            spans: Vec::new(alloc),
+            spans: VecDeque::new(alloc),
             ends: OpenEnds::new(alloc),
         }
     }
@@ -65,14 +64,6 @@ impl OpenRecords {
     #[inline(always)]
     pub(crate) fn len(&self) -> usize
         ensures { result ≡ length self.now.spans }
-    {
-        self.ends.len()
-    }
-
-    // How many are in memory: those that are open, and some that have ended.
-    pub(crate) fn stored(&self) -> usize
-        ensures all { length self.now.spans ≤ result }
-        ensures few { result ≤ 2 * length self.now.spans }
     {
         self.spans.len()
     }
@@ -94,9 +85,9 @@ impl OpenRecords {
     {
         self.at = self.at.max(position);
         self.ends.pass(self.at);
-        let count = self.ends.len();
-        if self.spans.len() - count > count {
-            forget_ended(&mut self.spans, self.at);
+        let left = self.ends.len();
+        if left < self.spans.len() {
+            drop_ended(&mut self.spans, self.at, left);
         }
     }
 
@@ -120,8 +111,9 @@ impl OpenRecords {
         self.ends.first(stop)
     }
 
-    // Adds a record that starts at the position, if it is open there.
-    #[inline(always)]
+    // Adds a record that starts at the position, if it is open there. It is out of line, so that the loop over records
+    // has the registers to itself.
+    #[inline(never)]
     pub(crate) fn push(&mut self, stop: u64) -> Result<(), AllocError>
         ensures added { OnOk result (self.new ≡ record { at = self.old.at; spans = self.old.spans ++ still_open self.old.at (record { start = self.old.at; stop = stop } ∷ []) }) }
     {
@@ -130,7 +122,7 @@ impl OpenRecords {
         }
         self.spans.reserve(1)?;
         self.ends.push(stop)?;
-        self.spans.push(OpenSpan {
+        self.spans.push_back(OpenSpan {
             start: self.at,
             stop,
         })?;
@@ -138,10 +130,32 @@ impl OpenRecords {
     }
 }
 
-// Takes the records that ended before a position out of the list.
+// Drops the records that ended before a position, where this many are still open there. Most stand at the front; the
+// others are looked for from the back, where short records stand behind long ones.
 #[inline(never)]
-fn forget_ended(spans: &mut Vec<OpenSpan>, position: u64)
+fn drop_ended(spans: &mut VecDeque<OpenSpan>, position: u64, left: usize)
+    requires { left ≡ length (still_open position (spans_open spans.old.items)) }
     ensures { spans_open spans.new.items ≡ still_open position (spans_open spans.old.items) }
 {
-    spans.retain(|span| position <= span.stop);
+    while left < spans.len() && begins_with_ended(spans, position) {
+        spans.pop_front();
+    }
+    let mut index = spans.len();
+    while left < spans.len() {
+        index -= 1;
+        if spans[index].stop < position {
+            spans.remove(index);
+        }
+    }
+}
+
+// Whether the first record ended before a position.
+#[inline(always)]
+fn begins_with_ended(spans: &VecDeque<OpenSpan>, position: u64) -> bool
+    ensures { IsTrue result → StartsEnded position (spans_open spans.now.items) }
+{
+    match spans.front() {
+        Some(span) => span.stop < position,
+        None => false,
+    }
 }

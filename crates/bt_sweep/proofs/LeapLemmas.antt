@@ -13,7 +13,8 @@ use Rattle.bt_bed.specs.Order.{Order, IsTotal}
 use Rattle.bt_lines.specs.Whole.{passed_by}
 use Rattle.bt_bed.specs.WholeRecords.{GivesWhole, GivesWholes, chrom_in, lines_in}
 use Rattle.bt_bed.specs.declared.whole_records.WholeRecords.{WholeRecords}
-use Rattle.bt_bed.proofs.WholesGiven.{bytes_ahead, gives_append, gives_more, gives_split, record_shrinks}
+use Rattle.bt_bed.specs.WholeRecords.{bytes_ahead}
+use Rattle.bt_bed.proofs.WholesGiven.{gives_append, gives_more, gives_split, record_shrinks}
 use Rattle.bt_sweep.specs.Deciding.{decides}
 use Rattle.bt_sweep.specs.IntersectLines.{lines_for}
 use Rattle.bt_sweep.specs.Passing.{PassesRound, PassesRounds, PassesSecond, PassesSeconds, PassesSkipped, Round, Skipped, firsts_of, next_after, seconds_of, skipped_records}

@@ -11,9 +11,8 @@ use Rattle.bt_bed.specs.Locus.{is_below_at}
 use Rattle.bt_bed.specs.Order.{Order, IsTotal}
 use Rattle.bt_bed.specs.WholeRecords.{GivesWhole, GivesWholes, chrom_in}
 use Rattle.bt_bed.specs.declared.whole_records.WholeRecords.{WholeRecords}
-use Rattle.bt_bed.proofs.GivenAgain.{same_record}
 use Rattle.bt_bed.proofs.NameLemmas.{name_eq}
-use Rattle.bt_bed.proofs.WholesGiven.{gives_append, gives_more, gives_split}
+use Rattle.bt_bed.proofs.WholesGiven.{gives_append, gives_more, gives_split, same_record}
 use Rattle.bt_sweep.specs.Deciding.{decides}
 use Rattle.bt_sweep.specs.Held.{AreWith, CanHit}
 use Rattle.bt_sweep.specs.Passing.{PassesRounds, Round, Skipped, TakesBoth, GivesSecond, firsts_of, next_after, seconds_of, skipped_records}

@@ -7,6 +7,7 @@ use Rattle.bt_lines.specs.Reader.{HasRead}
 use Rattle.bt_lines.specs.declared.fault.Fault.{Fault}
 use Rattle.bt_lines.specs.declared.fault.Kind.{Kind}
 use Rattle.bt_lines.proofs.ReadsLemmas.{has_read_then, reads_same}
+use Rattle.bt_bed.specs.CursorLaws.{wholes_give_more}
 use Rattle.bt_bed.specs.Feature.{Feature, intervals_of}
 use Rattle.bt_bed.specs.Good.{Member}
 use Rattle.bt_bed.specs.GoodBed.{bed_format}
@@ -16,13 +17,12 @@ use Rattle.bt_bed.specs.Locus.{ArePlaced}
 use Rattle.bt_bed.specs.Reading.{MemberReader}
 use Rattle.bt_bed.specs.Records.{below, fault_kept, order_in, room, view_of}
 use Rattle.bt_bed.specs.Sorting.{sorting_of}
-use Rattle.bt_bed.specs.WholeRecords.{ArePassed, LendsWhole, PassesEach, PassesNext, records_passed}
+use Rattle.bt_bed.specs.WholeRecords.{ArePassed, GivesWholes, LendsWhole, PassesEach, PassesNext, records_passed}
 use Rattle.bt_bed.specs.declared.order.ChromOrder.{Ghosts}
 use Rattle.bt_bed.specs.declared.records.Records.{Records}
 use Rattle.bt_bed.specs.declared.whole_records.WholeRecords.{WholeRecords}
-use Rattle.bt_runs.proofs.EachTaken.{gives_more}
-use Rattle.bt_runs.specs.Engine.{Feeds as EngineFeeds, FeedsWhole, TakesEach}
-use Rattle.bt_tool.specs.Ahead.{FeedsAhead}
+use Rattle.bt_runs.specs.Engine.{Feeds as EngineFeeds, FeedsBatch, TakesEach}
+use Rattle.bt_tool.specs.Ahead.{FailsAhead, FeedsAhead}
 use Rattle.bt_tool.specs.Feeding.{AreInOrder, FeedsUpTo, StopCause, Took}
 use Rattle.bt_tool.specs.Passed.{HasFaultBehind, member_items}
 use Rattle.bt_tool.specs.Turns.{HasAhead}
@@ -74,26 +74,28 @@ module _ {S O : Type 0} {g : Ghosts O} (left : S → Option (List ℕ)) (failed 
 -- ---- the engine's call
 
 module _ {S O E : Type 0} {g : Ghosts O} (left : S → Option (List ℕ)) (failed end : S → Bool) (IsRead : S → Option ℕ → S → Type 0) (MayTake : E → List Feature → Type 0) (Stands : E → List Feature → E → Type 0)
-    (engine_fault : E → Option Told) (settled : E → List Feature → List ℕ) (Quiet : E → List Feature → Feature → Type 0) (old : Records S O g) (engine : E) (out : Output) (whole : WholeRecords) (lent : LendsWhole old whole) where
+    (engine_fault : E → Option Told) (settled : E → List Feature → List ℕ) (Quiet : E → List Feature → Feature → Type 0) (wants : E → Feature → Type 0) (has_ended : WholeRecords → Type 0) (old : Records S O g) (engine : E) (out : Output) (whole : WholeRecords) (lent : LendsWhole old whole) where
   -- the records that were given
-  pub given_by : {A : Type 0} (result : Result A Fault) (fed : E) (passed : WholeRecords) (grown : Output) → FeedsWhole MayTake Stands engine_fault settled Quiet engine whole out result fed passed grown
+  pub given_by : {A : Type 0} (result : Result A Fault) (fed : E) (passed : WholeRecords) (grown : Output) → FeedsBatch MayTake Stands engine_fault settled Quiet wants GivesWholes has_ended engine whole out result fed passed grown
       → (records : List Feature) × ArePassed old records (records_passed passed)
-  given_by (Ok done) fed passed grown f = (f.records, record { first = whole; last = passed; lent = lent; gives = f.given; is = refl })
-  given_by (Err fault) fed passed grown f = (
+  given_by (Ok done) fed passed grown f = (f.0.records, record { first = whole; last = passed; lent = lent; gives = f.0.given; is = refl })
+  given_by (Err fault) fed passed grown (inl f) = ([], record { first = whole; last = passed; lent = lent; gives = f.same_cursor; is = refl })
+  given_by (Err fault) fed passed grown (inr f) = (
     f.takes.records ++ f.r ∷ [],
-    record { first = whole; last = passed; lent = lent; gives = gives_more whole f.takes.records f.r f.before passed f.takes.given f.given; is = refl },
+    record { first = whole; last = passed; lent = lent; gives = wholes_give_more whole f.before passed f.takes.records (f.r ∷ []) f.takes.given f.given; is = refl },
   )
 
   -- they were passed
-  pub fed_ahead : {A : Type 0} (result : Result A Fault) (fed : E) (passed : WholeRecords) (grown : Output) (new : Records S O g) → FeedsWhole MayTake Stands engine_fault settled Quiet engine whole out result fed passed grown
+  pub fed_ahead : {A : Type 0} (result : Result A Fault) (fed : E) (passed : WholeRecords) (grown : Output) (new : Records S O g) → FeedsBatch MayTake Stands engine_fault settled Quiet wants GivesWholes has_ended engine whole out result fed passed grown
       → ((records : List Feature) → ArePassed old records (records_passed passed) → PassesEach left failed end IsRead old records new)
       → FeedsAhead left failed end IsRead MayTake Stands engine_fault settled Quiet old engine out result new fed grown
   unfolding given_by
   fed_ahead {A} (Ok done) fed passed grown new f passes =
-      record { records = f.records; passes = passes f.records (given_by {A = A} (Ok done) fed passed grown f).1; takes = f.taken }
-  fed_ahead {A} (Err fault) fed passed grown new f passes =
-      let split = passes_split left failed end IsRead old new f.takes.records f.r (passes (f.takes.records ++ f.r ∷ []) (given_by {A = A} (Err fault) fed passed grown f).1) in
-      record {
+      record { records = f.0.records; passes = passes f.0.records (given_by {A = A} (Ok done) fed passed grown f).1; takes = f.0.taken }
+  fed_ahead {A} (Err fault) fed passed grown new (inl f) passes = inr (λ first past stands. let none = f.going first past stands in let some = f.is in absurd (cc))
+  fed_ahead {A} (Err fault) fed passed grown new (inr f) passes =
+      let split = passes_split left failed end IsRead old new f.takes.records f.r (passes (f.takes.records ++ f.r ∷ []) (given_by {A = A} (Err fault) fed passed grown (inr f)).1) in
+      inl (record {
         now = split.0;
         mid = f.mid;
         through = f.through;
@@ -101,7 +103,15 @@ module _ {S O E : Type 0} {g : Ghosts O} (left : S → Option (List ℕ)) (faile
         r = f.r;
         next = split.2;
         fails = f.fails;
-      }
+      })
+
+-- an engine that stands after records has failed at one
+pub failed_ahead : {S O E : Type 0} {g : Ghosts O} {left : S → Option (List ℕ)} {failed end : S → Bool} {IsRead : S → Option ℕ → S → Type 0} {MayTake : E → List Feature → Type 0} {Stands : E → List Feature → E → Type 0}
+    {engine_fault : E → Option Told} {settled : E → List Feature → List ℕ} {Quiet : E → List Feature → Feature → Type 0} {old : Records S O g} {engine : E} {out : Output} {fault : Fault} {new : Records S O g} {fed : E} {grown : Output}
+    → FeedsAhead left failed end IsRead MayTake Stands engine_fault settled Quiet old engine out {A = Unit {0}} (Err fault) new fed grown → (first : E) (past : List Feature) → Stands first past engine
+    → FailsAhead left failed end IsRead MayTake Stands engine_fault settled Quiet old engine out fault new fed grown
+failed_ahead (inl f) first past stands = f
+failed_ahead (inr spent) first past stands = absurd (spent first past stands)
 
 -- ---- the run
 

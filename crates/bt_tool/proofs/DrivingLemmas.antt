@@ -24,7 +24,7 @@ use Rattle.bt_bed.specs.Interval.{AreNonEmpty}
 use Rattle.bt_bed.specs.Order.{Order, IsTotal}
 use Rattle.bt_bed.specs.Locus.{ArePlaced}
 use Rattle.bt_bed.specs.Reading.{MemberReader, good_coming}
-use Rattle.bt_bed.specs.Cursor.{view_with}
+use Rattle.bt_bed.specs.SortedReader.{view_with}
 use Rattle.bt_bed.specs.Records.{below, fault_kept, line_ahead, order_in, view_of}
 use Rattle.bt_lines.specs.Names.{told}
 use Rattle.bt_lines.specs.Putting.{CutsRest, PutsRest}

@@ -15,7 +15,7 @@ use Rattle.bt_lines.specs.declared.line_reader.LineReader.{LineReader}
 use Rattle.bt_bed.specs.Bed.{feature_lent}
 use Rattle.bt_bed.specs.Blocks.{GivesRecord, PeeksBlocks, below, fault_kept, line_ahead as line_at_next, view_of}
 use Rattle.bt_bed.specs.declared.bed.BedRef.{BedRef}
-use Rattle.bt_bed.specs.Cursor.{view_with}
+use Rattle.bt_bed.specs.SortedReader.{view_with}
 use Rattle.bt_bed.specs.Feature.{Feature}
 use Rattle.bt_bed.specs.Good.{Member}
 use Rattle.bt_bed.specs.LineKind.{fault_at_line, is_of_line}
@@ -98,7 +98,7 @@ module _ {S : Type 0} (left : S → Option (List ℕ)) (failed end : S → Bool)
 -- a reader of records without a fault has a reader of lines without one
 pub blocks_going : {S : Type 0} (records : Blocks S) → fault_kept records ≡ None → line_fault (below records) ≡ None
 unfolding view_of view_with
-blocks_going records e = or_none (option_map told records.cursor.fault) (line_fault records.cursor.reader) e
+blocks_going records e = or_none (option_map told records.sorted.fault) (line_fault records.sorted.reader) e
 
 module _ {S : Type 0} (left : S → Option (List ℕ)) (failed end : S → Bool) (old new : Blocks S) (sound : IsSound left end (below old) → IsSound left end (below new)) where
   pub block_ahead : (r : Feature) (gives : GivesRecord left failed old r new) → IsAhead left failed end (view_of old) (record { line = gives.line; item = r }) (view_of new)

@@ -8,7 +8,7 @@ use Rattle.bt_lines.specs.Reader.{IsSound, bytes_taken, fault_kept as line_fault
 use Rattle.bt_lines.specs.declared.fault.Input.{Input}
 use Rattle.bt_lines.specs.declared.line_reader.LineReader.{LineReader}
 use Rattle.bt_bed.specs.Blocks.{below, fault_kept, good_left, line_ahead, view_of}
-use Rattle.bt_bed.specs.Cursor.{view_with}
+use Rattle.bt_bed.specs.SortedReader.{view_with}
 use Rattle.bt_bed.specs.Feature.{Feature}
 use Rattle.bt_bed.specs.Good.{good}
 use Rattle.bt_bed.specs.GoodBlocks.{block_format}

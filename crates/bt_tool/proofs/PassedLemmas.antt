@@ -6,7 +6,7 @@ use Rattle.bt_lines.specs.Fault.{Told}
 use Rattle.bt_lines.specs.Names.{told}
 use Rattle.bt_lines.specs.Reader.{fault_kept as line_fault}
 use Rattle.bt_bed.specs.Feature.{Feature, interval_of, intervals_of}
-use Rattle.bt_bed.specs.Cursor.{view_with}
+use Rattle.bt_bed.specs.SortedReader.{view_with}
 use Rattle.bt_bed.specs.Good.{Member, or_else}
 use Rattle.bt_bed.specs.GoodBed.{locus_at}
 use Rattle.bt_bed.specs.Interval.{Interval, last_of}
@@ -28,7 +28,7 @@ or_none (Some a) b e = cc
 -- a reader of records without a fault has a reader of lines without one
 pub line_going : {S O : Type 0} {ghosts : Ghosts O} (records : Records S O ghosts) → fault_kept records ≡ None → line_fault (below records) ≡ None
 unfolding view_of view_with
-line_going records e = or_none (option_map told records.cursor.fault) (line_fault records.cursor.reader) e
+line_going records e = or_none (option_map told records.sorted.fault) (line_fault records.sorted.reader) e
 
 -- what is asked of the last place is asked of the last record's
 last_up_to : (last : Option Interval) (P : Locus → Type 0) → IfSome (option_map locus_of last) P → IfSome last (λ r. P (locus_of r))

@@ -53,7 +53,7 @@ merge_as_they_come merge = record { whole = whole_output merge; settled = settle
 pub merge_begins : (merge : Merging) → settled_lines merge [] ≡ []
 unfolding settled_runs
 merge_begins (Together merge) = refl
-merge_begins (Apart merge) = ap (λ items. interval_lines (places_of items)) (no_strand_settled merge.gap)
+merge_begins (Apart merge) = ap (λ items. interval_lines (places_of items)) (no_strand_settled merge.rule.gap)
 
 -- nor does it write any of no records
 pub merge_settles_none : (order : Order) (d : ℕ) (strand : MergeStrand) → (merge_written order d strand).settled [] ≡ []
@@ -63,16 +63,16 @@ merge_settles_none order d (One strand) = refl
 
 -- what it has settled stays, and begins the whole
 pub merge_stays : (merge : Merging) → SettledStays (settled_lines merge) AreTaken
-merge_stays (Together merge) = lines_stay (settled_runs merge.gap merge.strand) AreTaken (runs_stay merge.gap merge.strand)
-merge_stays (Apart merge) = lines_stay (λ records. places_of (settled_strand_runs merge.gap records)) AreTaken (λ past more taken.
-    let s = stay merge.gap past more taken in
-    (places_of s.0, ap places_of s.1 ∙ map-append (λ item. item.run) (settled_strand_runs merge.gap past) s.0))
+merge_stays (Together merge) = lines_stay (settled_runs merge.rule.gap merge.rule.strand) AreTaken (runs_stay merge.rule.gap merge.rule.strand)
+merge_stays (Apart merge) = lines_stay (λ records. places_of (settled_strand_runs merge.rule.gap records)) AreTaken (λ past more taken.
+    let s = stay merge.rule.gap past more taken in
+    (places_of s.0, ap places_of s.1 ∙ map-append (λ item. item.run) (settled_strand_runs merge.rule.gap past) s.0))
 
 pub merge_begins_whole : (merge : Merging) → SettledBegins (settled_lines merge) (whole_output merge) AreTaken
-merge_begins_whole (Together merge) = lines_begin (settled_runs merge.gap merge.strand) (merged_runs merge.gap merge.strand) AreTaken (runs_begin merge.gap merge.strand)
-merge_begins_whole (Apart merge) = lines_begin (λ records. places_of (settled_strand_runs merge.gap records)) (λ records. places_of (strand_runs merge.gap records)) AreTaken (λ past more taken.
-    let s = begin merge.gap past more taken in
-    (places_of s.0, ap places_of s.1 ∙ map-append (λ item. item.run) (settled_strand_runs merge.gap past) s.0))
+merge_begins_whole (Together merge) = lines_begin (settled_runs merge.rule.gap merge.rule.strand) (merged_runs merge.rule.gap merge.rule.strand) AreTaken (runs_begin merge.rule.gap merge.rule.strand)
+merge_begins_whole (Apart merge) = lines_begin (λ records. places_of (settled_strand_runs merge.rule.gap records)) (λ records. places_of (strand_runs merge.rule.gap records)) AreTaken (λ past more taken.
+    let s = begin merge.rule.gap past more taken in
+    (places_of s.0, ap places_of s.1 ∙ map-append (λ item. item.run) (settled_strand_runs merge.rule.gap past) s.0))
 
 -- a complement that has taken no record has settled nothing
 pub complement_begins : (limit : Bool) (entries : List Entry) → interval_lines (settled_gaps limit entries []) ≡ []

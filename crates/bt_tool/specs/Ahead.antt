@@ -1,5 +1,5 @@
 -- What feeding an engine with records that stand whole in what a reader took ahead does.
-use Rattle.std.specs.Prelude.{ℕ, Bool, List, Option, Result, Ok, Err}
+use Rattle.std.specs.Prelude.{◌⊎◌, ℕ, Bool, List, Option, Result, Ok, Err}
 use Rattle.bt_lines.specs.Fault.{Told}
 use Rattle.bt_lines.specs.Output.{Output}
 use Rattle.bt_lines.specs.declared.fault.Fault.{Fault}
@@ -30,6 +30,10 @@ module _ {S O E : Type 0} {g : Ghosts O} (left : S → Option (List ℕ)) (faile
     pub next : PassesNext left failed end IsRead now r new
     pub fails : Feeds MayTake Stands engine_fault settled mid r through {A = Unit {0}} Quiet (Err fault) fed grown
 
+  -- or the engine has failed before, and stands after no records
+  abbrev pub IsSpent : Type 0
+  IsSpent = (first : E) (past : List Feature) → Stands first past engine → ⊥
+
   abbrev pub FeedsAhead : {A : Type 0} → Result A Fault → Records S O g → E → Output → Type 0
   FeedsAhead (Ok done) new fed grown = TakesAhead new fed grown
-  FeedsAhead (Err fault) new fed grown = FailsAhead fault new fed grown
+  FeedsAhead (Err fault) new fed grown = FailsAhead fault new fed grown ⊎ IsSpent

@@ -77,7 +77,7 @@ fn feed_whole<S: Source, O: ChromOrder, E: Engine, K: Sink>(
         pace.note(before, before);
         return Ok(());
     };
-    let fed = engine.feed_whole(&mut whole, out);
+    let fed = engine.feed_batch(&mut whole, out);
     let passed = whole.passed();
     records.pass(passed);
     pace.note(before, records.lines());

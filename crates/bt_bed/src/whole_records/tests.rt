@@ -30,13 +30,10 @@ fn passes_two(records: &mut Records<'_, ScriptSource<'_>, Genome>) -> bool {
     let Some(mut whole) = records.whole() else {
         return false;
     };
-    let mut copy = whole;
-    let bounds = copy.next_bounds();
     let (Some(first), Some(second)) = (whole.next(), whole.next()) else {
         return false;
     };
-    let are_given = bounds == Some(Bounds { start: 2, stop: 4 })
-        && (first.start, first.stop) == (2, 4)
+    let are_given = (first.start, first.stop) == (2, 4)
         && first.rest == b"\tn\t0\t-".as_slice()
         && (second.start, second.stop) == (2, 6)
         && whole.chrom() == b"chr1".as_slice();
@@ -109,33 +106,6 @@ fn records_are_passed_up_to_a_line_with_a_carriage_return(rt: HostRuntime) -> Re
     let _ = records.into_reader().into_source();
     assert!(rt; are_passed);
     assert_eq!(rt; (lines, next, lines_ahead), (3, (2, 9), 4));
-    Ok(())
-}
-
-// A copy passes three records, and the first of them is gone over again: how many bytes were passed there, and the bounds
-// of the record that comes next.
-fn stands_again(records: &Records<'_, ScriptSource<'_>, Genome>) -> Option<(usize, Bounds)> {
-    let whole = records.whole()?;
-    let mut ahead = whole;
-    let _ = ahead.next_bounds()?;
-    let bytes = ahead.bytes_passed();
-    let _ = ahead.next_bounds()?;
-    let _ = ahead.next_bounds()?;
-    let mut again = whole.up_to(bytes);
-    Some((again.bytes_passed(), again.next_bounds()?))
-}
-
-#[test]
-fn records_that_were_given_are_gone_over_again(rt: HostRuntime) -> Result<(), Fail> {
-    let alloc = rt.alloc();
-    let lengths = ScriptSource::new(b"chr1\t90\n", 7, None);
-    let mut lengths = LineReader::new(alloc, lengths, Input::Genome);
-    let genome = Genome::read(alloc, &mut lengths)?;
-    let text = b"chr1\t1\t5\nchr1\t2\t4\tn\t0\t-\nchr1\t02\t6\nchr1\t3\t06\n";
-    let records = behind_first(alloc, text, &genome)?;
-    let again = stands_again(&records);
-    let _ = records.into_reader().into_source();
-    assert_eq!(rt; again, Some((15, Bounds { start: 2, stop: 6 })));
     Ok(())
 }
 

@@ -22,7 +22,7 @@ type Case = (
     &'static [u8],
 );
 
-const CASES: [Case; 15] = [
+const CASES: [Case; 16] = [
     (
         "no record",
         &[],
@@ -111,6 +111,18 @@ const CASES: [Case; 15] = [
     (
         "from one chromosome to the next",
         &[(b"chr1\t5\t10", 1), (b"chr2\t5\t10", 1)],
+        true,
+        b"chr1\t0\t5\nchr1\t10\t1000\nchr2\t0\t5\n",
+        b"chr2\t10\t50\n",
+    ),
+    (
+        "a chromosome that the genome file lacks",
+        &[
+            (b"chr0\t0\t40", 0),
+            (b"chr1\t5\t10", 1),
+            (b"chr3\t0\t40", 1),
+            (b"chr2\t5\t10", 1),
+        ],
         true,
         b"chr1\t0\t5\nchr1\t10\t1000\nchr2\t0\t5\n",
         b"chr2\t10\t50\n",

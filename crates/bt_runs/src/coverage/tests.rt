@@ -190,7 +190,6 @@ fn records_are_kept_until_one_starts_past_their_end(rt: HostRuntime) -> Result<(
         left: b"",
     };
     feed_row(&rt, &mut coverage, &row, &mut out);
-    holds(&rt, coverage.stored_len() <= 2 * 3, "three are kept");
     let wanted: &[u8] = b"chr1\t0\t1\t2\nchr1\t1\t2\t3\nchr1\t2\t3\t4\nchr1\t3\t4\t3\n\
         chr1\t4\t6\t4\nchr1\t6\t12\t3\nchr1\t12\t14\t2\nchr1\t14\t20\t1\n";
     expect_end(&rt, coverage, out, wanted, row.name);

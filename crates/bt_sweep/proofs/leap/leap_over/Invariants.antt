@@ -1,6 +1,6 @@
 use Rattle.std.specs.Prelude.{◌≡◌, false}
 use Rattle.bt_bed.specs.Bed.{feature_lent}
-use Rattle.bt_bed.proofs.WholesGiven.{bytes_ahead}
+use Rattle.bt_bed.specs.WholeRecords.{bytes_ahead}
 use Rattle.bt_sweep.specs.StateLeaping.{IsLeap}
 use Rattle.bt_sweep.proofs.leap.leap_over.Given as goal
 

@@ -1,5 +1,5 @@
 use Rattle.bt_bed.specs.Feature.{Feature}
-use Rattle.bt_bed.proofs.WholesGiven.{bytes_ahead}
+use Rattle.bt_bed.specs.WholeRecords.{bytes_ahead}
 use Rattle.bt_sweep.specs.StateLeaping.{SkipsTo, StandsOn}
 use Rattle.bt_sweep.proofs.leap.skip_to.Given as goal
 

@@ -1,4 +1,4 @@
-use Rattle.bt_bed.proofs.WholesGiven.{bytes_ahead}
+use Rattle.bt_bed.specs.WholeRecords.{bytes_ahead}
 use Rattle.bt_sweep.specs.StatePassing.{AreUpTo}
 use Rattle.bt_sweep.proofs.whole_front.behind_up_to.Given as goal
 

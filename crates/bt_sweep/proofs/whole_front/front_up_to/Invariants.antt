@@ -1,4 +1,4 @@
-use Rattle.bt_bed.proofs.WholesGiven.{bytes_ahead}
+use Rattle.bt_bed.specs.WholeRecords.{bytes_ahead}
 use Rattle.bt_sweep.specs.StatePassing.{IsFront}
 use Rattle.bt_sweep.proofs.whole_front.front_up_to.Given as goal
 

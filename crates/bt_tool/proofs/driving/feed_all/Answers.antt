@@ -8,7 +8,7 @@ use Rattle.bt_bed.proofs.ResultLemmas.{passed_on}
 use Rattle.bt_tool.specs.Feeding.{FeedsRecords, member_items}
 use Rattle.bt_tool.specs.Turns.{HasAhead}
 use Rattle.bt_tool.specs.OwnReads.{AnswersNoRead}
-use Rattle.bt_tool.proofs.AheadLemmas.{each_reads, each_room, fails_ahead, going_each, next_faultless, next_reads}
+use Rattle.bt_tool.proofs.AheadLemmas.{each_reads, each_room, failed_ahead, fails_ahead, going_each, next_faultless, next_reads}
 use Rattle.bt_tool.proofs.FeedLemmas.{going_start, goes_feeding, sorted_items, feeds_all, stops_reading, stops_feeding}
 use Rattle.bt_tool.proofs.OwnFailureLemmas.{none_kept, own_then, told_kept}
 use Rattle.bt_tool.proofs.driving.feed_all.Goals as goal
@@ -21,7 +21,7 @@ loop-records-init g c = (
 
 pub returns-in_err-feed_whole-clause-feeds : goal.returns-in_err-feed_whole-clause-feeds
 returns-in_err-feed_whole-clause-feeds g c =
-    let went = c.in_err-feed_whole.ensures in
+    let went = failed_ahead c.in_err-feed_whole.ensures c.args.engine.now _ c.loop-records.invariant.0.stands in
     let now = going_each g.S.Source.left g.S.Source.has_failed g.S.Source.end_told g.S.Source.is_read g.E.Engine.takes g.E.Engine.stands g.E.Engine.fault g.E.Engine.settled g.E.Engine.quiet c.args.engine.now c.args.records.now c.args.out.now.output c.requires.sorted c.requires.takes
     c.loop-records.records went.now c.loop-records.engine went.mid c.loop-records.out.output went.through went.took.records c.loop-records.invariant.0 went.took.passes went.took.takes in
     passed_on (λ r. FeedsRecords (g.E.Engine.settled c.args.engine.now) g.S.Source.left g.S.Source.has_failed g.S.Source.end_told (λ past. g.E.Engine.stands c.args.engine.now past c.feed_whole.new.engine) c.args.records.now c.args.out.now.output r c.feed_whole.new.records c.feed_whole.new.out.output) c.from_residual.result c.in_err-feed_whole.field-0.0
@@ -31,13 +31,13 @@ returns-in_err-feed_whole-clause-feeds g c =
 
 pub returns-in_err-feed_whole-clause-reads : goal.returns-in_err-feed_whole-clause-reads
 returns-in_err-feed_whole-clause-reads g c = λ never.
-    let went = c.in_err-feed_whole.ensures in
+    let went = failed_ahead c.in_err-feed_whole.ensures c.args.engine.now _ c.loop-records.invariant.0.stands in
     has_read_then g.S.Source.is_read (below c.args.records.now) (below c.loop-records.records) (below c.feed_whole.new.records) c.loop-records.invariant.1
     (has_read_then g.S.Source.is_read (below c.loop-records.records) (below went.now) (below c.feed_whole.new.records) (each_reads g.S.Source.left g.S.Source.has_failed g.S.Source.end_told g.S.Source.is_read c.loop-records.records went.now went.took.records went.took.passes) (next_reads g.S.Source.left g.S.Source.has_failed g.S.Source.end_told g.S.Source.is_read went.now c.feed_whole.new.records went.r went.next))
 
 pub returns-in_err-feed_whole-clause-own_failure : goal.returns-in_err-feed_whole-clause-own_failure
 returns-in_err-feed_whole-clause-own_failure g c =
-    let went = c.in_err-feed_whole.ensures in
+    let went = failed_ahead c.in_err-feed_whole.ensures c.args.engine.now _ c.loop-records.invariant.0.stands in
     let now = going_each g.S.Source.left g.S.Source.has_failed g.S.Source.end_told g.S.Source.is_read g.E.Engine.takes g.E.Engine.stands g.E.Engine.fault g.E.Engine.settled g.E.Engine.quiet c.args.engine.now c.args.records.now c.args.out.now.output c.requires.sorted c.requires.takes
     c.loop-records.records went.now c.loop-records.engine went.mid c.loop-records.out.output went.through went.took.records c.loop-records.invariant.0 went.took.passes went.took.takes in
     none_kept g.S.Source.is_read _ _ _ (next_faultless g.S.Source.left g.S.Source.has_failed g.S.Source.end_told g.S.Source.is_read went.now c.feed_whole.new.records went.r went.next now.fed.passes.going)
@@ -66,7 +66,7 @@ returns-in_err-feed-in-Some-clause-feeds g c =
     c.from_residual-in_err-feed-in-Some.ensures.1
     (stops_feeding g.E.Engine.takes g.E.Engine.stands g.E.Engine.fault g.E.Engine.settled c.args.engine.now c.feed_whole.new.engine _ _ _ c.args.records.now c.args.out.now.output c.feed_whole.new.records c.feed_whole.new.out.output
     c.requires.sorted now c.peek.follows.lender-at-none r ahead
-    g.E.Engine.quiet c.in_err-feed-in-Some.field-0.0 c.feed.new.self c.feed.new.out.output (c.requires.takes (member_items now.past ++ r ∷ []) sorted.0 sorted.1) c.in_err-feed-in-Some.ensures)
+    g.E.Engine.quiet c.in_err-feed-in-Some.field-0.0 c.feed.new.self c.feed.new.out.output (c.requires.takes (member_items now.past ++ r ∷ []) sorted.0 sorted.1) c.in_err-feed-in-Some.ensures.feeds)
 
 pub loop-records-preserved : goal.loop-records-preserved
 loop-records-preserved g c =
@@ -80,7 +80,7 @@ loop-records-preserved g c =
     let sorted = sorted_items _ _ _ _ _ c.args.records.now c.args.out.now.output c.feed_whole.new.records c.feed_whole.new.out.output c.requires.sorted now c.peek.follows.lender-at-none r ahead in (
       goes_feeding g.E.Engine.takes g.E.Engine.stands g.E.Engine.fault g.E.Engine.settled c.args.engine.now c.feed_whole.new.engine _ _ _ c.args.records.now c.args.out.now.output c.feed_whole.new.records c.feed_whole.new.out.output
           c.requires.sorted now c.peek.follows.lender-at-none r ahead
-          g.E.Engine.quiet _ c.feed.new.self c.feed.new.out.output c.advance.new.self (c.requires.takes (member_items now.past ++ r ∷ []) sorted.0 sorted.1) c.in_ok-feed-in-Some.ensures c.advance.ensures,
+          g.E.Engine.quiet _ c.feed.new.self c.feed.new.out.output c.advance.new.self (c.requires.takes (member_items now.past ++ r ∷ []) sorted.0 sorted.1) c.in_ok-feed-in-Some.ensures.feeds c.advance.ensures,
       has_read_then g.S.Source.is_read (below c.args.records.now) (below c.feed_whole.new.records) (below c.advance.new.self) reads
           (subst (HasRead g.S.Source.is_read (below c.feed_whole.new.records)) (sym c.advance.ensures.passes.reads_nothing) gives.own_failure),
     )

@@ -5,17 +5,17 @@ use Rattle.bt_tool.proofs.WriteLemmas.{complement_begins, lines_begin, lines_sta
 use Rattle.bt_tool.proofs.running.complement.Goals as goal
 
 pub drive-requires-clause-nothing : goal.drive-requires-clause-nothing
-drive-requires-clause-nothing g c = complement_begins c.new-engine.result.limit c.new-engine.result.entries
+drive-requires-clause-nothing g c = complement_begins c.new-engine.result.rule.limit c.new-engine.result.rule.entries
 
 pub drive-requires-clause-stays : goal.drive-requires-clause-stays
 drive-requires-clause-stays g c =
-    let complement = c.new-engine.result in
+    let complement = c.new-engine.result.rule in
     let settled = settled_gaps complement.limit complement.entries in
     lines_stay settled (AreTaken complement.entries) (stays settled (whole_gaps complement.limit complement.entries) (AreTaken complement.entries) (settles_gaps complement.limit complement.entries))
 
 pub drive-requires-clause-begins : goal.drive-requires-clause-begins
 drive-requires-clause-begins g c =
-    let complement = c.new-engine.result in
+    let complement = c.new-engine.result.rule in
     let settled = settled_gaps complement.limit complement.entries in
     let whole = whole_gaps complement.limit complement.entries in
     lines_begin settled whole (AreTaken complement.entries) (begins settled whole (AreTaken complement.entries) (settles_gaps complement.limit complement.entries))

@@ -3,17 +3,17 @@ use Rattle.bt_tool.proofs.running.cover.Goals as goal
 
 pub drive-requires-clause-nothing : goal.drive-requires-clause-nothing
 drive-requires-clause-nothing g c =
-    let engine = c.new-engine.result in
+    let engine = c.new-engine.result.rule in
     coverage_begins engine.entries engine.zeros engine.strand
 
 pub drive-requires-clause-stays : goal.drive-requires-clause-stays
 drive-requires-clause-stays g c =
-    let engine = c.new-engine.result in
+    let engine = c.new-engine.result.rule in
     depths_stay engine.entries engine.zeros engine.strand
 
 pub drive-requires-clause-begins : goal.drive-requires-clause-begins
 drive-requires-clause-begins g c =
-    let engine = c.new-engine.result in
+    let engine = c.new-engine.result.rule in
     depths_begin engine.entries engine.zeros engine.strand
 
 pub returns-clause-written : goal.returns-clause-written

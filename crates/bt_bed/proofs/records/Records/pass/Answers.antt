@@ -1,4 +1,4 @@
-use Rattle.bt_bed.proofs.CursorLemmas.{known_last, placed_none}
+use Rattle.bt_bed.proofs.SortedReaderLemmas.{known_last, placed_none}
 use Rattle.bt_bed.proofs.RecordsLemmas.{placed_by}
 use Rattle.bt_bed.proofs.WholeRecordLemmas.{known_still, lent_at, lines_passed, none_given, passed_given, some_start, texts_of}
 use Rattle.bt_bed.specs.Records.{order_in}
@@ -20,7 +20,7 @@ pass-requires-clause-whole g c = (texts_of _ _ _ c.requires.1.gives, lines_passe
 
 pub invariant_of-self : goal.invariant_of-self
 invariant_of-self g c =
-    let old = c.args.self.now.cursor in
+    let old = c.args.self.now.sorted in
     let sorting = sorting_of (g.O.ChromOrder.order old.neighbours.rule.order.now) in
     record {
       placed = placed_by g.O.ChromOrder old c.pass.new.self c.pass.ensures.start.rule
@@ -34,4 +34,4 @@ pub returns : goal.returns
 unfolding order_in
 returns g c = λ records p.
     passed_given g.S.Source.left g.S.Source.has_failed g.S.Source.end_told g.S.Source.is_read c.args.self.now _ c.args.passed records
-    (g.met.O.ChromOrder.total c.args.self.now.cursor.neighbours.rule.order.now) p c.if-passed-eq0.false c.pass.ensures.lines c.pass.ensures.start c.pass.ensures.fault
+    (g.met.O.ChromOrder.total c.args.self.now.sorted.neighbours.rule.order.now) p c.if-passed-eq0.false c.pass.ensures.lines c.pass.ensures.start c.pass.ensures.fault

@@ -1,4 +1,4 @@
-use Rattle.bt_runs.proofs.CallLemmas.{feeds_again, feeds_failed, feeds_fault, feeds_prefix, feeds_settled}
+use Rattle.bt_runs.proofs.CallLemmas.{feeds_again, feeds_failed, feeds_fault, feeds_prefix, feeds_settled, only_writes}
 use Rattle.bt_runs.proofs.complement.Complement.feed.Goals as goal
 
 pub returns-clause-going : goal.returns-clause-going
@@ -27,3 +27,6 @@ returns-clause-grows g c = c.feed.ensures.feeds.grows
 
 pub returns-clause-after_failure : goal.returns-clause-after_failure
 returns-clause-after_failure g c = c.feed.ensures.feeds.after_failure
+
+pub returns-clause-memory : goal.returns-clause-memory
+returns-clause-memory g c = λ going. only_writes _ going c.feed.ensures.feeds c.feed.ensures.memory

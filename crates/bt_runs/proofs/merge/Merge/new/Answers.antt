@@ -1,12 +1,22 @@
-use Rattle.std.proofs.Common.{[], None, ap, sym, ◌∙◌}
-use Rattle.bt_runs.specs.KeptRuns.{merging_seen}
-use Rattle.bt_runs.specs.Merging.{Apart, Together, merge_begun}
+use Rattle.std.proofs.Common.{[], None, ap, subst, sym, ◌∙◌}
+use Rattle.bt_runs.specs.MergeKind.{merging_seen}
+use Rattle.bt_runs.specs.Merging.{Apart, StandsNew, Together}
+use Rattle.bt_runs.specs.Stranding.{Stranding}
+use Rattle.bt_runs.specs.Unstranded.{Unstranded}
+use Rattle.bt_runs.specs.declared.rule.Ruled.{Ruled}
+use Rattle.bt_runs.proofs.MergeLemmas.{begun_stands}
 use Rattle.bt_runs.proofs.merge.Merge.new.Goals as goal
 use Rattle.bt_runs.proofs.merge.Merge.new.Goals.{in-Each, in-All, in-One}
 
 pub returns-clause-begun : goal.returns-clause-begun
-returns-clause-begun c = elim c.match-strand.branch [
-  | in-Each w ↦ ap merging_seen w.kept-is ∙ ap Apart w.new.ensures.is ∙ ap (merge_begun c.args.d) (sym w.in-Each.is)
-  | in-All w ↦ rw (w.in-All.is) (ap merging_seen w.kept-is ∙ ap Together (w.new-in-All.ensures.is ∙ ap (λ s. record { gap = c.args.d; strand = s; kept = []; fault = None }) w.in-All.is))
-  | in-One w ↦ rw (w.in-One.is) (ap merging_seen w.kept-is ∙ ap Together (w.new-in-One.ensures.is ∙ ap (λ s. record { gap = c.args.d; strand = s; kept = []; fault = None }) w.in-One.is))
-]
+returns-clause-begun c =
+    let pool : Unstranded → Ruled Unstranded = λ rule. record { rule = rule; failure = None } in
+    let strands : Stranding → Ruled Stranding = λ rule. record { rule = rule; failure = None } in
+    elim c.match-strand.branch [
+      | in-Each w ↦ rw (w.in-Each.is) (ap merging_seen w.kind-is ∙ ap Apart (w.new-in-Each.ensures ∙ ap strands w.new.ensures.is))
+      | in-All w ↦ rw (w.in-All.is) (ap merging_seen w.kind-is ∙ ap Together (w.new-in-All-2.ensures ∙ ap pool (w.new-in-All.ensures ∙ ap (λ s. record { gap = c.args.d; strand = s; chrom = []; kept = [] }) w.in-All.is)))
+      | in-One w ↦ rw (w.in-One.is) (ap merging_seen w.kind-is ∙ ap Together (w.new-in-One-2.ensures ∙ ap pool (w.new-in-One.ensures ∙ ap (λ s. record { gap = c.args.d; strand = s; chrom = []; kept = [] }) w.in-One.is)))
+    ]
+
+pub returns-clause-stands : goal.returns-clause-stands
+returns-clause-stands c = subst (StandsNew c.args.d c.args.strand) (sym (returns-clause-begun c)) (begun_stands c.args.d c.args.strand)

@@ -2,8 +2,8 @@ use Rattle.bt_runs.specs.Merging.{Apart, Together}
 use Rattle.bt_runs.proofs.MergeLemmas.{finishes_inside, only_apart, only_together}
 use Rattle.bt_runs.proofs.merge.MergeEngine.finish.Goals as goal
 
-pub returns-in-Pooled : goal.returns-in-Pooled
-returns-in-Pooled g c = rw (← c.self.view_is, c.in-Pooled.is) (finishes_inside Together only_together c.in-Pooled.merge c.args.out.now.output c.finish.new.out.output c.finish.result (rw (c.in-Pooled.merge-is) at c.finish.ensures))
+pub returns-in-Unstranded : goal.returns-in-Unstranded
+returns-in-Unstranded g c = rw (← c.self.view_is, c.in-Unstranded.is) (finishes_inside Together only_together c.in-Unstranded.merge c.args.out.now.output c.finish.new.out.output c.finish.result (rw (c.in-Unstranded.merge-is) at c.finish.ensures))
 
-pub returns-in-Stranded : goal.returns-in-Stranded
-returns-in-Stranded g c = rw (← c.self.view_is, c.in-Stranded.is) (finishes_inside Apart only_apart c.in-Stranded.merge c.args.out.now.output c.finish-in-Stranded.new.out.output c.finish-in-Stranded.result (rw (c.in-Stranded.merge-is) at c.finish-in-Stranded.ensures))
+pub returns-in-PerStrand : goal.returns-in-PerStrand
+returns-in-PerStrand g c = rw (← c.self.view_is, c.in-PerStrand.is) (finishes_inside Apart only_apart c.in-PerStrand.merge c.args.out.now.output c.finish-in-PerStrand.new.out.output c.finish-in-PerStrand.result (rw (c.in-PerStrand.merge-is) at c.finish-in-PerStrand.ensures))

@@ -1,4 +1,4 @@
-use Rattle.bt_bed.proofs.WholesGiven.{bytes_ahead}
+use Rattle.bt_bed.specs.WholeRecords.{bytes_ahead}
 use Rattle.bt_sweep.specs.StateEnding.{WritesUpTo}
 use Rattle.bt_sweep.proofs.state.State.write_each.Given as goal
 

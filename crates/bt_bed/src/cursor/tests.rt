@@ -1,0 +1,59 @@
+//! One cursor is as good as another.
+
+use super::*;
+use crate::byte_order::ByteOrder;
+use crate::records::Records;
+use crate::strand::Strand;
+use bt_lines::{Input, LineReader, ScriptSource};
+use std::test::Fail;
+
+// Whether the next record lies on chromosome `chr1` and has these bounds and this strand, and is written with this name.
+fn is_next<C: Cursor>(records: &mut C, bounds: (u64, u64), strand: Strand, rest: &[u8]) -> bool {
+    let on = records.chrom() == b"chr1".as_slice();
+    match records.next() {
+        None => false,
+        Some(record) => {
+            on && (record.start(), record.stop()) == bounds
+                && record.strand() == strand
+                && record.bed().rest == rest
+        }
+    }
+}
+
+#[test]
+fn a_single_record_is_given_once(rt: HostRuntime) -> Result<(), Fail> {
+    let text = b"chr1\t2\t4\tn\t0\t-";
+    let Ok(Some(bed)) = crate::parsing::parse_bed(text) else {
+        return Err("a record".into());
+    };
+    let mut one = Single::new(bed);
+    assert!(rt; is_next(&mut one, (2, 4), Strand::Minus, b"\tn\t0\t-"));
+    assert!(rt; one.next().is_none());
+    Ok(())
+}
+
+#[test]
+fn buffered_records_are_given_in_order(rt: HostRuntime) -> Result<(), Fail> {
+    let text = b"chr1\t1\t5\nchr1\t2\t4\tn\t0\t-\nchr1\t3\t9\nchr2\t1\t2\n";
+    let lines = LineReader::new(
+        rt.alloc(),
+        ScriptSource::new(text, 8192, None),
+        Input::First,
+    );
+    let order = ByteOrder;
+    let mut records = Records::new(rt.alloc(), lines, &order);
+    if records.peek()?.is_some() {
+        records.advance();
+    }
+    let are_given = match records.whole() {
+        None => false,
+        Some(mut whole) => {
+            is_next(&mut whole, (2, 4), Strand::Minus, b"\tn\t0\t-")
+                && is_next(&mut whole, (3, 9), Strand::Dot, b"")
+                && Cursor::next(&mut whole).is_none()
+        }
+    };
+    let _ = records.into_reader().into_source();
+    assert!(rt; are_given);
+    Ok(())
+}

@@ -1,0 +1,84 @@
+//! What a record is to those that take records.
+
+ghost use Rattle.std.specs.Prelude.{◌≡◌, IfSome};
+ghost use Rattle.bt_bed.specs.Bed.{feature_lent};
+ghost use Rattle.bt_bed.specs.Feature.{Feature};
+ghost use Rattle.bt_bed.specs.Record.{IsFeature, bed_text};
+ghost use Rattle.bt_bed.specs.RecordLine.{record_in};
+
+use crate::bed::BedRef;
+use crate::direct::kept_strand;
+use crate::record_line::RecordLine;
+use crate::strand::Strand;
+
+/// A record: a line that a reader has buffered ([`RecordLine`]), or a [`BedRef`] that a caller gives.
+pub trait Record: Copy {
+    // The record.
+    ghost feature: { Self → Feature };
+
+    /// The record with its columns.
+    fn bed(&self) -> BedRef<'_>
+        ensures { feature_lent result ≡ feature self.now };
+
+    /// Where it starts, zero-based.
+    fn start(&self) -> u64
+        ensures { result ≡ (feature self.now).start };
+
+    /// Where it ends, which isn't included.
+    fn stop(&self) -> u64
+        ensures is { result ≡ (feature self.now).stop }
+        ensures said { IsFeature (feature self.now) };
+
+    /// Its strand.
+    fn strand(&self) -> Strand
+        ensures { result ≡ (feature self.now).strand };
+}
+
+impl<'a> Record for BedRef<'a> {
+    ghost feature = { feature_lent };
+
+    #[inline(always)]
+    fn bed(&self) -> BedRef<'_> {
+        *self
+    }
+
+    #[inline(always)]
+    fn start(&self) -> u64 {
+        self.start
+    }
+
+    #[inline(always)]
+    fn stop(&self) -> u64 {
+        self.stop
+    }
+
+    #[inline(always)]
+    fn strand(&self) -> Strand {
+        self.strand
+    }
+}
+
+#[tactic(auto, unfolding(crate::specs::RecordLine::record_in, crate::specs::RecordLine::kept_in))]
+impl<'a> Record for RecordLine<'a> {
+    ghost feature = { record_in };
+
+    #[inline(always)]
+    fn bed(&self) -> BedRef<'_> {
+        self.bed()
+    }
+
+    #[inline(always)]
+    fn start(&self) -> u64 {
+        self.start.value
+    }
+
+    #[inline(always)]
+    fn stop(&self) -> u64 {
+        self.stop.value
+    }
+
+    #[inline(always)]
+    fn strand(&self) -> Strand {
+        kept_strand(self.text, self.name + self.start.end + self.stop.end + 2)
+    }
+}
