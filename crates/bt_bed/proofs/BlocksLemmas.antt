@@ -1,30 +1,23 @@
--- Lemmas on a step of the reader of records in blocks.
-use Rattle.std.proofs.Common.{◌≡◌, ℕ, Bool, List, Option, Some, None, Ok, Err, refl}
-use Rattle.std.specs.Prelude.{IsSome, Result, option_map}
-use Rattle.std.proofs.lemmas.Bool.{false≢true}
+-- Lemmas on the reader of records in blocks.
+use Rattle.std.proofs.Common.{◌≡◌, ℕ, suc, Bool, true, false, List, [], ◌∷◌, Option, Some, None, Ok, Err, take, refl, sym, ap, ◌∙◌, subst}
+use Rattle.std.specs.Prelude.{IfSome, IfNone, IsSome, Result, option_map}
+use Rattle.bt_lines.specs.Reader.{lines_given}
 use Rattle.bt_lines.specs.declared.fault.Fault.{Fault}
 use Rattle.bt_bed.proofs.GoodBedLemmas.{line_said}
 use Rattle.bt_bed.proofs.GoodBlocksLemmas.{block_up_to}
-use Rattle.bt_bed.proofs.ReadingLemmas.{is_some_line}
-use Rattle.bt_bed.proofs.RecordsLemmas.{passed_placed}
+use Rattle.bt_bed.proofs.RecordsLemmas.{ahead_is, none_is}
 use Rattle.bt_bed.proofs.SaidLemmas.{said_features}
 use Rattle.bt_bed.specs.Bed.{feature_lent}
-use Rattle.bt_bed.specs.Blocks.{Answers, GivesRecord, PassesBlocks, StepAnswers, StepsBlocks, StepsTo as BlocksStepsTo, view_of}
-use Rattle.bt_bed.specs.SortedReader.{IsPlaced, view_in, view_with}
+use Rattle.bt_bed.specs.Blocks.{Answers, FillAnswers, FillsBlocks, GivesRecord, PassesBlocks, TakesBlocks, buffered_in, view_of}
+use Rattle.bt_bed.specs.SortedReader.{buffered_in as records_in, view_in, view_with}
 use Rattle.bt_bed.specs.Feature.{Feature}
 use Rattle.bt_bed.specs.Good.{Member}
 use Rattle.bt_bed.specs.GoodBed.{locus_at}
 use Rattle.bt_bed.specs.Locus.{Locus}
-use Rattle.bt_bed.specs.Reading.{Advances, GivesMember, StepAnswers as MembersAnswers, StepsTo, Stepped, TellsOwnFailure, line_of_ahead}
+use Rattle.bt_bed.specs.Reading.{Fills, FillAnswers as MembersAnswers, GivesMember, Takes, TellsOwnFailure, first_from}
 use Rattle.bt_bed.specs.Sorting.{block_sorting}
 use Rattle.bt_bed.specs.declared.bed.BedRef.{BedRef}
 use Rattle.bt_bed.specs.declared.blocks.Blocks.{Blocks}
-use Rattle.bt_bed.specs.declared.sorted_reader.SortedReader.{SortedReader}
-use Rattle.bt_bed.specs.declared.sorted.InBlocks.{InBlocks}
-
-ahead_place : (ahead : Option (Member Feature)) (state : Option Locus) → IsSome (option_map (λ m. m.line) ahead) → ((m : Member Feature) → ahead ≡ Some m → state ≡ Some (locus_at m.item)) → state ≡ option_map locus_at (option_map (λ m. m.item) ahead)
-ahead_place None state some h = absurd (false≢true some)
-ahead_place (Some m) state some h = h m refl
 
 module _ {S : Type 0} (left : S → Option (List ℕ)) (failed end : S → Bool) where
   given : (old new : Blocks S) (m : Member Feature) → GivesMember left failed (view_of old) m (view_of new) → GivesRecord left failed old m.item new
@@ -38,41 +31,43 @@ module _ {S : Type 0} (left : S → Option (List ℕ)) (failed end : S → Bool)
         in_order = block_up_to (view_of old).state (locus_at m.item) said.stays;
       }
 
-  steps_to : (old new : Blocks S) (ahead : Option (Member Feature)) → StepsTo left failed (view_of old) ahead (view_of new) → BlocksStepsTo left failed old ahead new
-  steps_to old new None ends = ends
-  steps_to old new (Some m) gives = given old new m gives
+  filled : (old new : Blocks S) (result : Result Bool Fault) → MembersAnswers left failed end (view_of old) result (view_of new) → FillAnswers left failed end old result new
+  filled old new (Ok true) makes = (makes.m.item, given old new makes.m makes.gives)
+  filled old new (Ok false) ends = ends
+  filled old new (Err fault) answers = answers
 
-  stepped : {T : Type 0} (old new : Blocks S) (result : Result T Fault) → MembersAnswers left failed end (view_of old) result (view_of new) → StepAnswers left failed end old result new
-  stepped old new (Ok done) steps = steps_to old new (view_of new).ahead steps
-  stepped old new (Err fault) answers = answers
-
-  -- a step of the reader below
-  pub steps_blocks : {T : Type 0} (IsRead : S → Option ℕ → S → Type 0) (old new : Blocks S) (result : Result T Fault) → Stepped left failed end (view_in block_sorting old.sorted) result (view_in block_sorting new.sorted) → TellsOwnFailure IsRead (view_in block_sorting old.sorted).fault old.sorted.reader result new.sorted.reader → StepsBlocks left failed end IsRead old result new
+  -- `fill` of the reader below
+  pub fills_blocks : (IsRead : S → Option ℕ → S → Type 0) (old new : Blocks S) (result : Result Bool Fault) → Fills left failed end (view_in block_sorting old.sorted) result (view_in block_sorting new.sorted)
+      → TellsOwnFailure IsRead (view_in block_sorting old.sorted).fault old.sorted.reader result new.sorted.reader → FillsBlocks left failed end IsRead old result new
   unfolding view_of view_with
-  steps_blocks IsRead old new result there own = record { answers = stepped old new result there.answers; own_failure = own; sound = there.sound }
+  fills_blocks IsRead old new result there own = record { answers = filled old new result there.answers; own_failure = own; kept = there.kept }
 
-  answers_with : (old new : Blocks S) (ahead : Option (Member Feature)) (lent : Option BedRef) → option_map feature_lent lent ≡ option_map (λ m. m.item) ahead → BlocksStepsTo left failed old ahead new → Answers left failed end old (Ok lent) new
-  answers_with old new None None e ends = ends
-  answers_with old new None (Some bed) e ends = cc
-  answers_with old new (Some m) None e gives = cc
-  answers_with old new (Some m) (Some bed) e gives = let same : feature_lent bed ≡ m.item = cc in rw same gives
+  -- the first record that is buffered is lent
+  pub peeked : (old new : Blocks S) (done : Bool) (lent : Option BedRef) → FillAnswers left failed end old (Ok done) new
+      → IfSome lent (λ bed. (more : List Feature) × (buffered_in new ≡ feature_lent bed ∷ more)) → IfNone lent (buffered_in new ≡ []) → Answers left failed end old (Ok lent) new
+  peeked old new true None answers some none = absurd (none_is (suc (lines_given (view_of new).below)) (buffered_in new) _ none answers.1.read.ahead)
+  peeked old new true (Some bed) answers some none =
+      let same = ahead_is (suc (lines_given (view_of new).below)) (buffered_in new) (feature_lent bed) some.0 _ some.1 answers.1.read.ahead in
+      subst (λ (r : Feature). GivesRecord left failed old r new) (sym same) answers.1
+  peeked old new false None answers some none = answers
+  peeked old new false (Some bed) answers some none = absurd (no_both (buffered_in new) (feature_lent bed) some.0 some.1 answers.none_buffered)
+    where
+      no_both : (items : List Feature) (r : Feature) (more : List Feature) → items ≡ r ∷ more → items ≡ [] → ⊥
+      no_both items r more e h = cc
 
-  -- the record that a step held is lent
-  pub answered : (old new : Blocks S) (lent : Option BedRef) → option_map feature_lent lent ≡ option_map (λ m. m.item) (view_of new).ahead → BlocksStepsTo left failed old (view_of new).ahead new → Answers left failed end old (Ok lent) new
-  answered old new lent e steps = answers_with old new (view_of new).ahead lent e steps
-
-module _ {S : Type 0} (left : S → Option (List ℕ)) (old new : SortedReader S InBlocks) where
-  -- the record ahead is passed
-  pub passed_in_blocks : IsPlaced block_sorting (view_in block_sorting old) → IsSome (line_of_ahead (view_in block_sorting old)) → Advances left (view_in block_sorting old) (view_in block_sorting new) → IsPlaced block_sorting (view_in block_sorting new)
-  unfolding view_with
-  passed_in_blocks placed some passes =
-      let there = is_some_line (λ (m : Member Feature). m.line) (view_in block_sorting old).ahead some in
-      passed_placed block_sorting (view_in block_sorting old) (view_in block_sorting new) there.0 placed there.1 (passes.state there.0 there.1) passes.none_ahead
-
-module _ {S : Type 0} (left : S → Option (List ℕ)) (old new : Blocks S) where
-  pub passes_blocks : IsSome (line_of_ahead (view_of old)) → Advances left (view_in block_sorting old.sorted) (view_in block_sorting new.sorted) → PassesBlocks left old new
+module _ {S : Type 0} (left : S → Option (List ℕ)) (end : S → Bool) (old new : Blocks S) where
+  -- `consume` of the reader below
+  pub takes_blocks : (count : ℕ) → Takes left end (view_in block_sorting old.sorted) (take count (records_in old.sorted)) (view_in block_sorting new.sorted) → TakesBlocks left end old count new
   unfolding view_of view_with
-  passes_blocks some passes = record {
-    last = ahead_place (view_of old).ahead (view_of new).state some passes.state;
-    passes = passes;
+  takes_blocks count takes = record { takes = takes }
+
+  last_one : (items : List Feature) (line : ℕ) (item : Feature) (more : List Feature) (state : Option Locus) → items ≡ item ∷ more → state ≡ Some (locus_at item) → state ≡ option_map locus_at (option_map (λ m. m.item) (first_from line items))
+  last_one [] line item more state e s = cc
+  last_one (x ∷ xs) line item more state e s = let same : x ≡ item = cc in s ∙ ap (λ (f : Feature). Some (locus_at f)) (sym same)
+
+  pub passes_blocks : (item : Feature) (more : List Feature) → records_in old.sorted ≡ item ∷ more → Takes left end (view_in block_sorting old.sorted) (take 1 (records_in old.sorted)) (view_in block_sorting new.sorted) → PassesBlocks left end old new
+  unfolding view_of view_with
+  passes_blocks item more is takes = record {
+    last = last_one (records_in old.sorted) _ item more (view_of new).state is (takes.state ∙ rw is refl);
+    takes = takes;
   }

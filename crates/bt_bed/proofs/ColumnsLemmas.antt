@@ -1,4 +1,4 @@
--- Lemmas on the first columns of a line that are looked at before its end is known.
+-- Lemmas on the first columns of a line that are scanned where they stand.
 use Rattle.std.proofs.Common.{◌≡◌, ℕ, ◌+◌, ◌-◌, ◌*◌, ◌<◌, ◌≤◌, Bool, true, false, List, [], ◌∷◌, ◌++◌, length, take, drop, get_or, Some, inl, inr, refl, sym, ap, ◌∙◌, subst, arith, eqb, eq-eqb, length-drop}
 use Rattle.std.proofs.lemmas.Bool.{cases_lt, false≢true}
 use Rattle.std.proofs.lemmas.Bool.Decides.{nat_tests}
@@ -10,8 +10,6 @@ use Rattle.std.specs.Char.{is_ascii_digit}
 use Rattle.std.specs.List.{list_all}
 use Rattle.std.specs.Str.Parse.{digits_value}
 use Rattle.bt_lines.proofs.NumberLemmas.{digits_denoting, digits_more, value_more, value_short}
-use Rattle.bt_lines.specs.Early.{NoneFrom}
-use Rattle.bt_lines.specs.LentLine.{NoLineFeed}
 use Rattle.bt_lines.specs.Number.{value_of}
 use Rattle.bt_bed.specs.FirstColumns.{AreBounds, BeginsWith, BeginsWithName, HasColumns, Leads}
 use Rattle.bt_bed.specs.declared.leading.Leading.{Leading}
@@ -52,76 +50,16 @@ eight_small text value room denotes =
     let begins = eight_begin text value room denotes in
     value_short 8 value (begins_below text (record { value = value; end = 8 }) begins) (omega arith)
 
--- a digit among digits
-digit_in : (xs : List ℕ) (i : ℕ) → list_all is_ascii_digit xs ≡ true → i < length xs → is_ascii_digit (get_or xs i 0) ≡ true
-digit_in xs i all inside = by (is_ascii_digit (get_or xs i 0)) refl
-  where
-    by : (b : Bool) → is_ascii_digit (get_or xs i 0) ≡ b → is_ascii_digit (get_or xs i 0) ≡ true
-    by true e = e
-    by false e = absurd (false≢true (sym (list_all_at is_ascii_digit xs i 0 inside e) ∙ all))
-
--- a digit is no line feed
-digit_no_feed : (byte : ℕ) → is_ascii_digit byte ≡ true → eqb byte 10 ≡ false
-digit_no_feed byte digit = grind (arith, nat_tests)
-
--- no digit that stands behind a place is a line feed
-number_clear : (bytes : List ℕ) (at k : ℕ) (lead : Leading) → BeginsWith (drop at bytes) lead → at ≤ k → k < at + lead.end → eqb (get_or bytes k 0) 10 ≡ false
-number_clear bytes at k lead begins low high =
-    let text = drop at bytes in
-    let place : at + (k - at) ≡ k = omega arith in
-    let size : length (take lead.end text) ≡ lead.end = length-take-le lead.end text begins.within in
-    let there : get_or (take lead.end text) (k - at) 0 ≡ get_or bytes k 0 =
-    get_or-take lead.end text (k - at) 0 (omega arith) ∙ get_or-drop at bytes (k - at) 0 ∙ ap (λ (i : ℕ). get_or bytes i 0) place in
-    digit_no_feed (get_or bytes k 0) (ap is_ascii_digit (sym there) ∙ digit_in (take lead.end text) (k - at) begins.digits (omega arith))
-
 module _ (bytes name : List ℕ) (start stop : Leading) (has : HasColumns bytes name start stop) where
   name_tab : get_or bytes (length name) 0 ≡ 9
   name_tab = ap (λ l. get_or l (length name) 0) has.named ∙ get_or-append_seam name 9 (drop (length name + 1) bytes) 0
 
-  -- the columns have no line feed, if the name has none
-  pub columns_clear : NoLineFeed name → NoneFrom 10 bytes 0 (length name + start.end + stop.end + 2)
-  columns_clear clear = λ k d low high. by k d high
-    where
-      name_byte : (k d : ℕ) → k < length name → eqb (get_or bytes k d) 10 ≡ false
-      name_byte k d inside =
-          rw (ap (λ l. get_or l k d) has.named ∙ get_or_append_left name (9 ∷ drop (length name + 1) bytes) d k inside) (clear k d inside)
-
-      room : length name + start.end + stop.end + 2 ≤ length bytes
-      room = omega (arith, has.second.within, length-drop (length name + start.end + 2) bytes)
-
-      zero_byte : (k d : ℕ) → k < length bytes → eqb (get_or bytes k 0) 10 ≡ false → eqb (get_or bytes k d) 10 ≡ false
-      zero_byte k d inside is = rw (get_or_default bytes k d 0 inside) is
-
-      by : (k d : ℕ) → k < length name + start.end + stop.end + 2 → eqb (get_or bytes k d) 10 ≡ false
-      by k d high = elim (cases_lt k (length name)) [
-        | inl inside ↦ name_byte k d inside
-        | inr past ↦ zero_byte k d (omega (arith, room)) (behind k past high)
-      ]
-        where
-          tab_byte : (k : ℕ) → get_or bytes k 0 ≡ 9 → eqb (get_or bytes k 0) 10 ≡ false
-          tab_byte k is = ap (λ (b : ℕ). eqb b 10) is
-
-          behind : (k : ℕ) → length name ≤ k → k < length name + start.end + stop.end + 2 → eqb (get_or bytes k 0) 10 ≡ false
-          behind k past high = elim (cases_lt (length name) k) [
-            | inr at ↦ tab_byte k (ap (λ (i : ℕ). get_or bytes i 0) (omega arith) ∙ name_tab)
-            | inl further ↦ elim (cases_lt k (length name + start.end + 1)) [
-              | inl first ↦ number_clear bytes (length name + 1) k start has.first (omega arith) (omega arith)
-              | inr second ↦ elim (cases_lt (length name + start.end + 1) k) [
-                | inr at ↦ tab_byte k (ap (λ (i : ℕ). get_or bytes i 0) (omega arith) ∙ has.tab)
-                | inl third ↦ number_clear bytes (length name + start.end + 2) k stop has.second (omega arith) (omega arith)
-              ]
-            ]
-          ]
-
   -- the text of a line that stands there
-  module _ (text : List ℕ) (clear : NoLineFeed text) (past : length name + start.end + stop.end + 2 ≤ length text)
-      (front : take (length name + start.end + stop.end + 2 + 1) (text ++ 10 ∷ []) ≡ take (length name + start.end + stop.end + 2 + 1) bytes) where
+  module _ (text : List ℕ) (past : length name + start.end + stop.end + 2 ≤ length text) (front : take (length text) bytes ≡ text)
+      (last_tab : length name + start.end + stop.end + 2 < length text → get_or text (length name + start.end + stop.end + 2) 0 ≡ 9) where
     -- a front of it
     front_is : (n : ℕ) → n ≤ length name + start.end + stop.end + 2 → take n text ≡ take n bytes
-    front_is n small =
-        sym (take-append-le n text (10 ∷ []) (omega arith))
-        ∙ sym (take-take n (length name + start.end + stop.end + 2 + 1) (text ++ 10 ∷ []) (omega arith)) ∙ ap (take n) front
-        ∙ take-take n (length name + start.end + stop.end + 2 + 1) bytes (omega arith)
+    front_is n small = ap (take n) (sym front) ∙ take-take n (length text) bytes (omega arith)
 
     -- a byte of it
     byte_is : (k : ℕ) → k < length name + start.end + stop.end + 2 → get_or text k 0 ≡ get_or bytes k 0
@@ -147,20 +85,6 @@ module _ (bytes name : List ℕ) (start stop : Leading) (has : HasColumns bytes 
         leads_by (drop at text) lead.value lead.end some (omega arith) (λ inside. get_or-drop at text lead.end 0 ∙ tab (omega arith))
         (begins.value ∙ ap (digits_value 10) (sym same)) (ap (list_all is_ascii_digit) same ∙ begins.digits)
         (value_short lead.end lead.value (begins_below (drop at bytes) lead begins) begins.short)
-
-    -- what ends the third column is no line feed inside the text
-    last_tab : length name + start.end + stop.end + 2 < length text → get_or text (length name + start.end + stop.end + 2) 0 ≡ 9
-    last_tab inside = elim has.ended [
-      | inl tab ↦ there ∙ tab
-      | inr feed ↦ absurd (false≢true (sym (clear (length name + start.end + stop.end + 2) 0 inside) ∙ eq-eqb (get_or text (length name + start.end + stop.end + 2) 0) 10 (there ∙ feed)))
-    ]
-      where
-        there : get_or text (length name + start.end + stop.end + 2) 0 ≡ get_or bytes (length name + start.end + stop.end + 2) 0
-        there =
-            sym (get_or_append_left text (10 ∷ []) 0 (length name + start.end + stop.end + 2) inside)
-            ∙ sym (get_or-take (length name + start.end + stop.end + 2 + 1) (text ++ 10 ∷ []) (length name + start.end + stop.end + 2) 0 (omega arith))
-            ∙ ap (λ l. get_or l (length name + start.end + stop.end + 2) 0) front
-            ∙ get_or-take (length name + start.end + stop.end + 2 + 1) bytes (length name + start.end + stop.end + 2) 0 (omega arith)
 
     pub line_bounds : AreBounds text (length name) start stop
     line_bounds =

@@ -43,11 +43,11 @@ whole chrom start stop rest = record { chrom = chrom; start = start; stop = stop
 
 -- what was found in three columns, where they say a feature
 pub record IsWhole (chrom : List ℕ) (start stop : Option ℕ) (rest : List (List ℕ)) (f : Feature) : Type 0 where
-  some : 0 < length chrom
-  start_is : start ≡ Some f.start
-  stop_is : stop ≡ Some f.stop
-  below : f.start < f.stop
-  same : whole chrom f.start f.stop rest ≡ f
+  pub some : 0 < length chrom
+  pub start_is : start ≡ Some f.start
+  pub stop_is : stop ≡ Some f.stop
+  pub below : f.start < f.stop
+  pub same : whole chrom f.start f.stop rest ≡ f
 
 chosen_whole : (test : Bool) (chrom : List ℕ) (start stop : ℕ) (rest : List (List ℕ)) (f : Feature) → 0 < length chrom → ltb start stop ≡ test
     → cond test (Ok (whole chrom start stop rest)) (Err EmptyFeature) ≡ Ok f → IsWhole chrom (Some start) (Some stop) rest f
@@ -56,7 +56,7 @@ chosen_whole true chrom start stop rest f some below e =
     subst (λ g. IsWhole chrom (Some start) (Some stop) rest g) same (record { some = some; start_is = refl; stop_is = refl; below = ltb-true start stop below; same = refl })
 chosen_whole false chrom start stop rest f some below e = cc
 
-of_whole : (chrom : List ℕ) (start stop : Option ℕ) (rest : List (List ℕ)) (f : Feature) → feature_of chrom start stop rest ≡ Ok f → IsWhole chrom start stop rest f
+pub of_whole : (chrom : List ℕ) (start stop : Option ℕ) (rest : List (List ℕ)) (f : Feature) → feature_of chrom start stop rest ≡ Ok f → IsWhole chrom start stop rest f
 of_whole [] start stop rest f e = cc
 of_whole (byte ∷ bytes) None stop rest f e = cc
 of_whole (byte ∷ bytes) (Some start) None rest f e = cc

@@ -26,7 +26,7 @@ use Rattle.bt_bed.specs.Record.{IsFeature, IsName, columns_in, columns_say, feat
 use Rattle.bt_bed.specs.declared.leading.Leading.{Leading}
 use Rattle.bt_bed.specs.declared.strand.Strand.{Strand}
 
-cut_by : (text : List ℕ) (n : ℕ) → n ≤ length text → (n < length text → get_or text n 0 ≡ 9) → IsColumn (take n text) → (b : Bool) → ltb n (length text) ≡ b → pieces 9 text ≡ take n text ∷ columns_in (drop n text)
+pub cut_by : (text : List ℕ) (n : ℕ) → n ≤ length text → (n < length text → get_or text n 0 ≡ 9) → IsColumn (take n text) → (b : Bool) → ltb n (length text) ≡ b → pieces 9 text ≡ take n text ∷ columns_in (drop n text)
 cut_by text n within tab column true e =
     let inside : n < length text = grind (arith, nat_tests) in
     let there : drop n text ≡ 9 ∷ drop (n + 1) text = drop_more text n 0 inside ∙ ap (λ b. b ∷ drop (n + 1) text) (tab inside) in
@@ -48,7 +48,7 @@ kept_again (byte ∷ bytes) e =
     kept_by bytes (pieces 9 bytes) refl (omega (arith, length-slice_split (λ byte. eqb byte 9) bytes)) ∙ ap (λ b. b ∷ bytes) (sym (eqb-true byte 9 e))
 
 -- what follows a column begins with a tab
-kept_behind : (text : List ℕ) (n : ℕ) → n ≤ length text → (n < length text → get_or text n 0 ≡ 9) → is_kept (drop n text) ≡ true
+pub kept_behind : (text : List ℕ) (n : ℕ) → n ≤ length text → (n < length text → get_or text n 0 ≡ 9) → is_kept (drop n text) ≡ true
 kept_behind text n within tab = by (ltb n (length text)) refl
   where
     by : (b : Bool) → ltb n (length text) ≡ b → is_kept (drop n text) ≡ true

@@ -6,7 +6,6 @@ use Rattle.std.proofs.lemmas.Nat.{one_shl, pow-add}
 use Rattle.std.proofs.lemmas.List.{length-append, take-append-drop, take-take}
 use Rattle.std.proofs.Math.Seq.{take-append_seam, take-length}
 use Rattle.std.specs.Int.{from_le_bytes, w64}
-use Rattle.bt_lines.specs.Sight.{Shows}
 use Rattle.bt_bed.specs.FirstColumns.{BeginsWithName}
 use Rattle.bt_bed.specs.NameKey.{IsKey}
 use Rattle.bt_bed.specs.declared.name_key.NameKey.{NameKey}
@@ -134,9 +133,3 @@ front_of_name text name begins =
     ap (take (length name + 1)) (begins ∙ sym (append_assoc name (9 ∷ []) (drop (length name + 1) text)))
     ∙ ap (λ (n : ℕ). take n ((name ++ 9 ∷ []) ++ drop (length name + 1) text)) (sym (length-append name (9 ∷ [])))
     ∙ take-append_seam (name ++ 9 ∷ []) (drop (length name + 1) text)
-
--- the first eight bytes in sight at a text that begins with a name and a tab
-pub word_of_name : (text sight name : List ℕ) → Shows text sight → length name ≤ 7 → BeginsWithName text name → take (length name + 1) (take 8 sight) ≡ name ++ 9 ∷ []
-word_of_name text sight name shows short begins =
-    let room : length name + 1 ≤ length text = omega (arith, ap length begins, length-append name (9 ∷ drop (length name + 1) text)) in
-    take-take (length name + 1) 8 sight (omega arith) ∙ shows.front (length name + 1) room (omega arith) ∙ front_of_name text name begins

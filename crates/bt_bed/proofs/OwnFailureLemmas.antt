@@ -16,7 +16,6 @@ use Rattle.bt_lines.specs.declared.line_reader.LineReader.{LineReader}
 use Rattle.bt_bed.proofs.NeighbourLemmas.{says_of_line}
 use Rattle.bt_bed.proofs.SaidLemmas.{bed_of_line, genome_of_line}
 use Rattle.bt_bed.proofs.TableLemmas.{refused_at_place}
-use Rattle.bt_bed.specs.SortedReader.{answer_of}
 use Rattle.bt_bed.specs.GenomeTable.{LineRefused, LineUnkept as EntryUnkept, names_of}
 use Rattle.bt_bed.specs.LineKind.{fault_at_line, is_of_line}
 use Rattle.bt_bed.specs.Neighbours.{LineUnkept, LineWrong, last_in}
@@ -51,13 +50,6 @@ module _ (T : Type 0) {S : Type 0} (IsRead : S → Option ℕ → S → Type 0) 
     pub refused_is_own : (place : Place) (text : List ℕ) (table : Genome) → LineRefused place text table (told fault) ⊎ EntryUnkept text table (told fault) → TellsOwnFailure {T = T} IsRead before old (Err fault) new
     refused_is_own place text table (inl refused) = line_is_own place refused.kind (genome_of_line refused.kind (refused_at_place (names_of table) text refused.kind refused.says)) refused.is
     refused_is_own place text table (inr unkept) = memory_is_own unkept.is
-
-  -- a fault that is kept is told on
-  pub kept_is_own : (was : Option Told) (kept : Option Fault) → kept ≡ Some fault → (before ≡ None → was ≡ None) → TellsOwnFailure IsRead was old (answer_of kept) new → TellsOwnFailure {T = T} IsRead before old (Err fault) new
-  kept_is_own was None is going own none = cc
-  kept_is_own was (Some other) is going own none =
-      let same : other ≡ fault = cc in
-      subst (λ (f : Fault). TellsReads IsRead old (Some (told f)) new) same (own (going none))
 
   -- what the reader of lines tells is told on
   pub read_is_own : (now : LineReader S) → HasRead IsRead old now → (before ≡ None → line_fault now ≡ None) → LineTellsOwnFailure {A = Option Line} IsRead now (Err fault) new → TellsOwnFailure {T = T} IsRead before old (Err fault) new

@@ -1,22 +1,23 @@
 -- Lemmas on a step of a reader of members, whatever the lines say.
-use Rattle.std.proofs.Common.{◌≡◌, ℕ, suc, ◌-◌, ◌≤◌, Bool, true, false, List, [], ◌∷◌, ◌++◌, drop, length, Option, Some, None, Ok, Err, refl, sym, ap, ◌∙◌, subst, arith, inl, inr}
+use Rattle.std.proofs.Common.{◌≡◌, ℕ, suc, ◌+◌, ◌-◌, ◌^◌, ◌<◌, ◌≤◌, Bool, true, false, List, [], ◌∷◌, ◌++◌, drop, take, length, Option, Some, None, Ok, Err, refl, sym, ap, ◌∙◌, subst, arith, inl, inr}
 use Rattle.std.specs.Prelude.{◌⊎◌, IsSome, IfSome, is_some, option_map}
-use Rattle.std.specs.Option.{option_to_list}
 use Rattle.std.proofs.lemmas.Bool.{false≢true}
 use Rattle.bt_lines.proofs.ReaderLemmas.{not_told}
 use Rattle.bt_lines.specs.Fault.{Told, read_failed, no_memory}
 use Rattle.bt_lines.specs.LentLine.{GivesFirst}
 use Rattle.bt_lines.specs.Lines.{TextLine, AreNumbered}
-use Rattle.bt_lines.specs.Reader.{Hands, IsSound, GivesLine, FailsToRead, GivesEnd, GivesFault, source_of, input_of, lines_given, end_told, has_ended, lines_left, room as line_room, fault_kept as line_fault}
+use Rattle.bt_lines.specs.Reader.{Hands, IsKept, MakesLine, SameLines, FailsToRead, GivesEnd, GivesFault, buffered_bytes, buffered_in, source_of, input_of, lines_given, end_told, has_ended, lines_left, room as line_room, fault_kept as line_fault}
 use Rattle.bt_lines.specs.declared.fault.Input.{Input}
 use Rattle.bt_lines.specs.declared.fault.Kind.{Kind}
 use Rattle.bt_lines.specs.declared.line_reader.LineReader.{LineReader}
 use Rattle.bt_bed.proofs.GoodLemmas.{beyond_from}
-use Rattle.bt_bed.proofs.HandsLemmas.{Passed, cut_fault, hands_none, hands_both, left_numbered, near_fault, near_line, passed_line, passed_none}
-use Rattle.bt_bed.specs.Good.{Format, Good, Member, ends_with, good, good_from, with_member}
+use Rattle.bt_lines.proofs.ReaderLemmas.{hands_none, hands_both}
+use Rattle.bt_bed.proofs.CameLemmas.{Came, LineCame, came_line, came_made, came_none, cut_fault, front_line, left_numbered, near_came, near_fault, same_room}
+use Rattle.bt_lines.proofs.TakingLemmas.{given_below, is_prefix, next_below}
+use Rattle.bt_bed.specs.Good.{with_member, Format, Good, Member, ends_with, good, good_from}
 use Rattle.bt_bed.specs.GoodLines.{IsBeyond}
 use Rattle.bt_bed.specs.LineKind.{fault_at_line, is_of_line}
-use Rattle.bt_bed.specs.Reading.{MemberReader, Remains, IsSaidBehind, good_behind, good_at, good_coming, Stays, GivesMember, EndsMembers, LineIsWrong, RunsOut, Cause, AnswersFault, StepsTo, Advances}
+use Rattle.bt_bed.specs.Reading.{AreSaid, MemberReader, Remains, IsSaidBehind, ahead_in, first_from, good_behind, good_coming, with_members, Stays, Takes, GivesMember, EndsMembers, LineIsWrong, RunsOut, Cause, AnswersFault}
 
 pub remains_same : {A : Type 0} (a : Option (Good A)) → Remains a a
 remains_same None = tt
@@ -33,23 +34,29 @@ remains_if None b P r h = tt
 remains_if (Some good) None P r h = absurd r
 remains_if (Some good) (Some new) P r h = subst P r h
 
--- the member that a line says, if it says one
-abbrev pub on_line : {A : Type 0} → ℕ → Option A → Option (Member A)
-on_line line said = option_map (λ item. record { line = line; item = item }) said
-
 module _ {A State : Type 0} (format : Format A State) (input : Input) (state : State) where
-  said_good : (line : TextLine) (lines : List TextLine) (said : Option A) → format.says state line ≡ Ok said
-      → good_at format input None state (on_line line.number said) lines ≡ good_from format input state (line ∷ lines)
+  said_none : (line : TextLine) (lines : List TextLine) → format.says state line ≡ Ok None → good_from format input state lines ≡ good_from format input state (line ∷ lines)
   unfolding good_from
-  said_good line lines None e = rw e refl
-  said_good line lines (Some item) e = rw e refl
+  said_none line lines e = rw e refl
 
-  -- after a line what was to come still comes, with what the line says at its front
-  good_line : (line : TextLine) (a b : Option (List TextLine)) (said : Option A) → GivesFirst a line b → format.says state line ≡ Ok said
-      → Remains (option_map (good_at format input None state None) a) (option_map (good_at format input None state (on_line line.number said)) b)
-  good_line line None b said g e = tt
-  good_line line (Some xs) None said g e = absurd g
-  good_line line (Some xs) (Some ys) said g e = said_good line ys said e ∙ ap (good_from format input state) (sym g)
+  said_some : (line : TextLine) (lines : List TextLine) (item : A) → format.says state line ≡ Ok (Some item)
+      → good_from format input state (line ∷ lines) ≡ with_member (record { line = line.number; item = item }) (good_from format input (format.after state item) lines)
+  unfolding good_from
+  said_some line lines item e = rw e refl
+
+  -- after a line that says nothing what was to come still comes
+  good_line : (line : TextLine) (a b : Option (List TextLine)) → GivesFirst a line b → format.says state line ≡ Ok None
+      → Remains (option_map (good_behind format input None state) a) (option_map (good_behind format input None state) b)
+  good_line line None b g e = tt
+  good_line line (Some xs) None g e = absurd g
+  good_line line (Some xs) (Some ys) g e = said_none line ys e ∙ ap (good_from format input state) (sym g)
+
+  -- the member that a line says comes first
+  good_first : (line : TextLine) (item : A) (a : Option (List TextLine)) → IfSome a (λ lines. (rest : List TextLine) × (lines ≡ line ∷ rest)) → format.says state line ≡ Ok (Some item)
+      → IfSome (option_map (good_behind format input None state) a) (λ good. (rest : List (Member A)) × (good.members ≡ record { line = line.number; item = item } ∷ rest))
+  good_first line item None h e = tt
+  good_first line item (Some lines) h e =
+      ((good_from format input (format.after state item) h.0).members, ap (λ l. (good_from format input state l).members) h.1 ∙ ap (λ g. g.members) (said_some line h.0 item e))
 
   wrong_good : (line : TextLine) (lines : List TextLine) (kind : Kind) → format.says state line ≡ Err kind
       → good_from format input state (line ∷ lines) ≡ ends_with (Some (fault_at_line input line.number kind))
@@ -58,31 +65,31 @@ module _ {A State : Type 0} (format : Format A State) (input : Input) (state : S
 
   -- a line at fault is all that was to come
   good_fault : (line : TextLine) (a b : Option (List TextLine)) (kind : Kind) → GivesFirst a line b → format.says state line ≡ Err kind
-      → IfSome (option_map (good_at format input None state None) a) (λ good. good ≡ ends_with (Some (fault_at_line input line.number kind)))
+      → IfSome (option_map (good_behind format input None state) a) (λ good. good ≡ ends_with (Some (fault_at_line input line.number kind)))
   good_fault line None b kind g e = tt
   good_fault line (Some xs) None kind g e = absurd g
   good_fault line (Some xs) (Some ys) kind g e = ap (good_from format input state) g ∙ wrong_good line ys kind e
 
   -- where no line is left, no member is
   good_end : (a : Option (List TextLine)) → IfSome a (λ lines. lines ≡ [])
-      → IfSome (option_map (good_at format input None state None) a) (λ good. good ≡ ends_with None)
+      → IfSome (option_map (good_behind format input None state) a) (λ good. good ≡ ends_with None)
   unfolding good_from
   good_end None h = tt
   good_end (Some xs) h = ap (good_from format input state) h
 
-  first_of_lines : (m : Member A) (fault : Option Told) (lines : Option (List TextLine)) → IfSome (option_map (good_at format input fault state (Some m)) lines) (λ good. (rest : List (Member A)) × (good.members ≡ m ∷ rest))
-  first_of_lines m fault None = tt
-  first_of_lines m fault (Some lines) = ((good_behind format input fault (format.after state m.item) lines).members, refl)
+remains_lines : {A State : Type 0} (format : Format A State) (input : Input) (state : State) (a b : Option (List TextLine)) → SameLines a b
+    → Remains (option_map (good_behind format input None state) a) (option_map (good_behind format input None state) b)
+remains_lines format input state None b s = tt
+remains_lines format input state (Some xs) None s = cc
+remains_lines format input state (Some xs) (Some ys) s = let same : ys ≡ xs = cc in ap (good_from format input state) same
 
-  passed_good : (fault : Option Told) (m : Member A) (lines : Option (List TextLine)) → option_map (with_member m) (option_map (good_at format input fault (format.after state m.item) None) lines) ≡ option_map (good_at format input fault state (Some m)) lines
-  passed_good fault m None = refl
-  passed_good fault m (Some lines) = refl
+buffered_below : {S : Type 0} (reader : LineReader S) → 0 < length (buffered_bytes reader) → suc (lines_given reader) < 2 ^ 63
+unfolding buffered_bytes
+buffered_below reader some = next_below reader some
 
-one_of : {T : Type 0} (o : Option T) (x : T) → o ≡ Some x → length (option_to_list o) ≡ 1
-one_of o x e = rw e refl
-
-none_of : {T : Type 0} (o : Option T) → o ≡ None → length (option_to_list o) ≡ 0
-none_of o e = rw e refl
+none_ahead : {A : Type 0} (line : ℕ) (items : List A) → items ≡ [] → IsSome (first_from line items) → ⊥
+none_ahead line [] e some = false≢true some
+none_ahead line (x ∷ xs) e some = cc
 
 pub is_some_line : {T U : Type 0} (f : T → U) (o : Option T) → IsSome (option_map f o) → (x : T) × (o ≡ Some x)
 is_some_line f None h = absurd (false≢true h)
@@ -93,65 +100,31 @@ all_given None b i k p q e = tt
 all_given (Some all) None i k p q e = cc
 all_given (Some all) (Some some) i k p q e = let same : some ≡ drop i all = cc in ap (λ n. drop n all) e ∙ sym same ∙ q
 
-beyond_lines : {A State : Type 0} (format : Format A State) (input : Input) (state : State) (count : ℕ) (lines : Option (List TextLine)) → IfSome lines (AreNumbered (suc count)) → IfSome (option_map (good_at format input None state None) lines) (IsBeyond count)
+beyond_lines : {A State : Type 0} (format : Format A State) (input : Input) (state : State) (count : ℕ) (lines : Option (List TextLine)) → IfSome lines (AreNumbered (suc count)) → IfSome (option_map (good_behind format input None state) lines) (IsBeyond count)
 beyond_lines format input state count None n = tt
 beyond_lines format input state count (Some lines) n = beyond_from format input count state lines n
 
 module _ {S A State : Type 0} (left : S → Option (List ℕ)) (failed end : S → Bool) where
-  -- where a member is ahead, it is the first of what is to come
-  pub first_of : (reader : MemberReader S A State) (m : Member A) → reader.ahead ≡ Some m → IfSome (good_coming left reader) (λ good. (rest : List (Member A)) × (good.members ≡ m ∷ rest))
-  unfolding good_coming
-  first_of reader m e = rw e (first_of_lines reader.format (input_of reader.below) reader.state m reader.fault (lines_left left reader.below))
-
   -- what is still to come, without a fault
-  good_is : (reader : MemberReader S A State) (ahead : Option (Member A)) → reader.fault ≡ None → reader.ahead ≡ ahead
-      → good_coming left reader ≡ option_map (good_at reader.format (input_of reader.below) None reader.state ahead) (lines_left left reader.below)
+  pub good_is : (reader : MemberReader S A State) → reader.fault ≡ None
+      → good_coming left reader ≡ option_map (good_behind reader.format (input_of reader.below) None reader.state) (lines_left left reader.below)
   unfolding good_coming
-  good_is reader ahead going is = rw (going, is) refl
+  good_is reader going = rw going refl
 
   stays_same : (reader : MemberReader S A State) → Stays left reader reader
   stays_same reader = record { bytes = ([], hands_none left reader.below); format = refl }
 
-  -- the member ahead is given again
-  pub gives_again : (old : MemberReader S A State) (m : Member A) → old.fault ≡ None → old.ahead ≡ Some m → IsSaidBehind old.format old.state m.item → GivesMember left failed old m old
-  gives_again old m going e said =
-      let no_none : old.ahead ≡ None → ⊥ = λ none. cc in
-      record {
-        ahead = e;
-        state = refl;
-        good = remains_same (good_coming left old);
-        first = first_of old m e;
-        said = said;
-        again = λ some. refl;
-        at = λ none. absurd (no_none none);
-        rises = λ none. absurd (no_none none);
-        served = refl;
-        was_going = going;
-        goes = refl;
-        stays = stays_same old;
-        lines = (passed_none left end old.below).lines;
-        shrinks = omega arith;
-      }
-
-  again_ahead : (old : MemberReader S A State) (ahead : Option (Member A)) → old.fault ≡ None → old.ahead ≡ ahead → is_some ahead ≡ true → IfSome ahead (λ m. IsSaidBehind old.format old.state m.item) → StepsTo left failed old ahead old
-  again_ahead old None going e some said = absurd (false≢true some)
-  again_ahead old (Some m) going e some said = gives_again old m going e said
-
-  -- a member that is ahead is the answer
-  pub steps_again : (old : MemberReader S A State) → old.fault ≡ None → IsSome old.ahead → IfSome old.ahead (λ m. IsSaidBehind old.format old.state m.item) → StepsTo left failed old old.ahead old
-  steps_again old going some said = again_ahead old old.ahead going refl some said
-
   -- a fault that is kept is the answer
-  pub fault_again : (old : MemberReader S A State) (fault : Told) → old.fault ≡ Some fault → old.ahead ≡ None → AnswersFault left failed end old fault old
+  pub fault_again : (old : MemberReader S A State) (fault : Told) → old.fault ≡ Some fault → old.buffered ≡ [] → AnswersFault left failed end old fault old
   fault_again old fault kept none = record {
     kept = kept;
-    none_ahead = none;
+    none_buffered = none;
     state = refl;
     again = λ before was. (let both : Some fault ≡ Some before = sym kept ∙ was in cc, refl);
     first = λ was. absurd (let apart : None ≡ Some fault = sym was ∙ kept in cc);
     stays = stays_same old;
     rises = omega arith;
-    lines = λ none. (passed_none left end old.below).lines;
+    lines = λ none. (came_none left end old.below).lines;
     near = λ going. cc;
   }
 
@@ -163,14 +136,14 @@ module _ {S A State : Type 0} (left : S → Option (List ℕ)) (failed end : S �
   -- how far a step is: no member has come yet, and no fault but one of the reader of lines
   pub record Going (old now : MemberReader S A State) : Type 0 where
     pub good : Remains (good_coming left old) (good_coming left now)
-    pub was_none : old.ahead ≡ None
-    pub none_ahead : now.ahead ≡ None
+    pub was_none : old.buffered ≡ []
+    pub none_buffered : now.buffered ≡ []
     pub begun : (now ≡ old) ⊎ Begun old
     pub rest : now.fault ≡ line_fault now.below
     pub going : old.fault ≡ None → now.fault ≡ None
     pub state : now.state ≡ old.state
     pub format : now.format ≡ old.format
-    pub passed : Passed left end old.below now.below
+    pub passed : Came left end old.below now.below
     pub served : failed (source_of now.below) ≡ failed (source_of old.below)
     pub shrinks : line_room now.below ≤ line_room old.below
 
@@ -180,22 +153,22 @@ module _ {S A State : Type 0} (left : S → Option (List ℕ)) (failed end : S �
     pub format : new.format ≡ now.format
 
   module _ (old : MemberReader S A State) where
-    pub going_start : old.ahead ≡ None → old.fault ≡ line_fault old.below → Going old old
+    pub going_start : old.buffered ≡ [] → old.fault ≡ line_fault old.below → Going old old
     going_start none rest = record {
       good = remains_same (good_coming left old);
       was_none = none;
-      none_ahead = none;
+      none_buffered = none;
       begun = inl refl;
       rest = rest;
       going = λ going. going;
       state = refl;
       format = refl;
-      passed = passed_none left end old.below;
+      passed = came_none left end old.below;
       served = refl;
       shrinks = omega arith;
     }
 
-    begun_by : (now : MemberReader S A State) (line : TextLine) (reader : LineReader S) → (now ≡ old) ⊎ Begun old → now.fault ≡ line_fault now.below → GivesLine left failed now.below line reader → Begun old
+    begun_by : (now : MemberReader S A State) (line : TextLine) (reader : LineReader S) → (now ≡ old) ⊎ Begun old → now.fault ≡ line_fault now.below → LineCame left failed now.below line reader → Begun old
     begun_by now line reader (inl same) rest gives = record { was_going = ap (λ r. r.fault) (sym same) ∙ rest ∙ gives.was_going.0; not_told = ap (λ r. has_ended r.below) (sym same) ∙ gives.was_going.1 }
     begun_by now line reader (inr begun) rest gives = record { was_going = begun.was_going; not_told = begun.not_told }
 
@@ -213,36 +186,34 @@ module _ {S A State : Type 0} (left : S → Option (List ℕ)) (failed end : S �
     stays_more now new g more follows = record { bytes = more_bytes now new.below g more; format = follows.format ∙ g.format }
 
     -- the lines passed and the one given
-    passed_more : (now new : MemberReader S A State) (line : TextLine) → Going old now → GivesLine left failed now.below line new.below → (IsSound left end now.below → IsSound left end new.below) → Passed left end old.below new.below
-    passed_more now new line g gives sound = passed_line left end failed old.below now.below new.below g.passed line gives sound
+    passed_more : (now new : MemberReader S A State) (line : TextLine) → Going old now → LineCame left failed now.below line new.below → (IsKept left end now.below → IsKept left end new.below) → Came left end old.below new.below
+    passed_more now new line g gives sound = came_line left end failed old.below now.below new.below g.passed line gives sound
 
     -- what is still to come lies behind the lines given
     beyond : (now : MemberReader S A State) → Going old now → line_fault now.below ≡ None → IfSome (good_coming left old) (IsBeyond (lines_given now.below))
     beyond now g going =
         remains_if (good_coming left old) (good_coming left now) (IsBeyond (lines_given now.below)) g.good
-        (rw (good_is now None (g.rest ∙ going) g.none_ahead) (beyond_lines now.format (input_of now.below) now.state (lines_given now.below) (lines_left left now.below) (left_numbered left end now.below)))
+        (rw (good_is now (g.rest ∙ going)) (beyond_lines now.format (input_of now.below) now.state (lines_given now.below) (lines_left left now.below) (left_numbered left end now.below)))
 
     same_input : (now : MemberReader S A State) → Going old now → input_of now.below ≡ input_of old.below
     same_input now g = g.passed.bytes.1.same_input
 
-    -- what is to come, once a line was given and taken
-    good_taken : (now new : MemberReader S A State) (line : TextLine) (said : Option A) → Going old now → GivesLine left failed now.below line new.below
-        → now.format.says now.state line ≡ Ok said → new.ahead ≡ on_line line.number said → new.fault ≡ None → Follows now new → Remains (good_coming left old) (good_coming left new)
-    good_taken now new line said g gives says ahead none follows =
+    -- what is to come, once a line said nothing
+    good_taken : (now new : MemberReader S A State) (line : TextLine) → Going old now → LineCame left failed now.below line new.below
+        → now.format.says now.state line ≡ Ok None → new.fault ≡ None → Follows now new → Remains (good_coming left old) (good_coming left new)
+    good_taken now new line g gives says none follows =
         let going : now.fault ≡ None = g.rest ∙ gives.was_going.0 in
-        let before = good_is now None going g.none_ahead in
-        let after = good_is new (on_line line.number said) none ahead in
-        let step = good_line now.format (input_of now.below) now.state line (lines_left left now.below) (lines_left left new.below) said gives.first says in
-        let further : Remains (good_coming left now) (good_coming left new) = rw (before, after, gives.bytes.1.same_input, follows.state, follows.format) step in
+        let step = good_line now.format (input_of now.below) now.state line (lines_left left now.below) (lines_left left new.below) gives.first says in
+        let further : Remains (good_coming left now) (good_coming left new) = rw (good_is now going, good_is new none, gives.bytes.1.same_input, follows.state, follows.format) step in
         remains_further (good_coming left old) (good_coming left now) (good_coming left new) g.good further
 
     -- a line said nothing
-    pub going_more : (now new : MemberReader S A State) (line : TextLine) → Going old now → GivesLine left failed now.below line new.below
-        → (IsSound left end now.below → IsSound left end new.below) → now.format.says now.state line ≡ Ok None → new.ahead ≡ None → new.fault ≡ line_fault new.below → Follows now new → Going old new
+    pub going_more : (now new : MemberReader S A State) (line : TextLine) → Going old now → LineCame left failed now.below line new.below
+        → (IsKept left end now.below → IsKept left end new.below) → now.format.says now.state line ≡ Ok None → new.buffered ≡ [] → new.fault ≡ line_fault new.below → Follows now new → Going old new
     going_more now new line g gives sound says ahead rest follows = record {
-      good = good_taken now new line None g gives says ahead (rest ∙ gives.goes) follows;
+      good = good_taken now new line g gives says (rest ∙ gives.goes) follows;
       was_none = g.was_none;
-      none_ahead = ahead;
+      none_buffered = ahead;
       begun = inr (begun_by now line new.below g.begun g.rest gives);
       rest = rest;
       going = λ none. rest ∙ gives.goes;
@@ -253,38 +224,56 @@ module _ {S A State : Type 0} (left : S → Option (List ℕ)) (failed end : S �
       shrinks = omega (arith, gives.shrinks, g.shrinks);
     }
 
-    -- a line said a member
-    pub going_member : (now new : MemberReader S A State) (line : TextLine) (item : A) → Going old now → GivesLine left failed now.below line new.below
-        → (IsSound left end now.below → IsSound left end new.below) → now.format.says now.state line ≡ Ok (Some item) → new.ahead ≡ on_line line.number (Some item) → new.fault ≡ line_fault new.below → Follows now new
+    lines_first : (a b : Option (List TextLine)) (line : TextLine) (more buffered : List TextLine) → IfSome b (λ all. take (length buffered) all ≡ buffered) → buffered ≡ line ∷ more → IfSome b (λ lines. (rest : List TextLine) × (lines ≡ line ∷ rest))
+    lines_first a None line more buffered p is = tt
+    lines_first a (Some all) line more buffered p is =
+        (drop 1 all, front_line all line more (subst (λ (l : List TextLine). take (length l) all ≡ l) is p))
+
+    good_same : (now new : MemberReader S A State) → now.fault ≡ None → new.fault ≡ None → MakesLine left failed now.below new.below → Follows now new → Remains (good_coming left now) (good_coming left new)
+    good_same now new going goes makes follows =
+        rw (good_is now going, good_is new goes, makes.bytes.1.same_input, follows.state, follows.format)
+        (remains_lines now.format (input_of now.below) now.state (lines_left left now.below) (lines_left left new.below) makes.same)
+
+    -- a line was made buffered that says a member
+    pub going_member : (now new : MemberReader S A State) (line : TextLine) (more : List TextLine) (item : A) (items : List A) → Going old now → MakesLine left failed now.below new.below
+        → (IsKept left end now.below → IsKept left end new.below) → buffered_in new.below ≡ line ∷ more → line.number ≡ suc (lines_given new.below)
+        → now.format.says now.state line ≡ Ok (Some item) → new.buffered ≡ item ∷ items → new.fault ≡ line_fault new.below → Follows now new
         → GivesMember left failed old (record { line = line.number; item = item }) new
-    going_member now new line item g gives sound says ahead rest follows =
+    going_member now new line more item items g makes kept first number says buffered rest follows =
         let m : Member A = record { line = line.number; item = item } in
-        let good = good_taken now new line (Some item) g gives says ahead (rest ∙ gives.goes) follows in
-        let one = one_of new.ahead m ahead in
-        let no_room = none_of old.ahead g.was_none in
+        let goes : new.fault ≡ None = rest ∙ makes.goes in
+        let went : now.fault ≡ None = g.rest ∙ makes.was_going.0 in
+        let good = remains_further (good_coming left old) (good_coming left now) (good_coming left new) g.good (good_same now new went goes makes follows) in
+        let came = came_made left end failed old.below now.below new.below g.passed makes kept in
+        let input : input_of new.below ≡ input_of now.below = makes.bytes.1.same_input in
+        let there : IfSome (good_coming left new) (λ good. (rest : List (Member A)) × (good.members ≡ m ∷ rest)) =
+        rw (good_is new goes, follows.state, follows.format)
+        (good_first now.format (input_of new.below) now.state line item (lines_left left new.below) (lines_first (lines_left left now.below) (lines_left left new.below) line more (buffered_in new.below) (is_prefix left new.below) first) says) in
         record {
-          ahead = ahead;
+          ahead = ap (first_from (suc (lines_given new.below))) buffered ∙ ap (λ n. Some (record { line = n; item = item })) (sym number);
           state = follows.state ∙ g.state;
           good = good;
-          first = remains_if (good_coming left old) (good_coming left new) (λ good. (rest : List (Member A)) × (good.members ≡ m ∷ rest)) good (first_of new m ahead);
+          first = remains_if (good_coming left old) (good_coming left new) (λ good. (rest : List (Member A)) × (good.members ≡ m ∷ rest)) good there;
           said = (line, rw (g.format, g.state) at says);
-          again = λ some. absurd (let apart : true ≡ false = sym some ∙ ap is_some g.was_none in cc);
-          at = λ none. gives.number ∙ sym gives.counted;
-          rises = λ none. (omega (arith, g.passed.least, gives.counted), omega (arith, gives.below));
-          served = gives.served ∙ g.served;
-          was_going = was_faultless now g gives.was_going.0;
-          goes = rest ∙ gives.goes ∙ sym (was_faultless now g gives.was_going.0);
-          stays = stays_more now new g (gives.bytes.0, gives.bytes.1) follows;
-          lines = (passed_more now new line g gives sound).lines;
-          shrinks = omega (arith, one, no_room, gives.shrinks, g.shrinks);
+          again = λ some. absurd (none_ahead (suc (lines_given old.below)) old.buffered g.was_none some);
+          at = number;
+          rises = came.least;
+          below = omega (arith, number, buffered_below new.below makes.some);
+          served = makes.served ∙ g.served;
+          was_going = was_faultless now g makes.was_going.0;
+          goes = goes ∙ sym (was_faultless now g makes.was_going.0);
+          stays = stays_more now new g (makes.bytes.0, makes.bytes.1) follows;
+          lines = came.lines;
+          near = near_came left end old.below new.below came;
+          shrinks = omega (arith, same_room left failed end now.below new.below new.below makes, g.shrinks);
         }
 
     -- a line is at fault
-    wrong_cause : (now new : MemberReader S A State) (line : TextLine) (fault : Told) (kind : Kind) → Going old now → GivesLine left failed now.below line new.below
+    wrong_cause : (now new : MemberReader S A State) (line : TextLine) (fault : Told) (kind : Kind) → Going old now → LineCame left failed now.below line new.below
         → now.format.says now.state line ≡ Err kind → is_of_line kind ≡ true → fault ≡ fault_at_line (input_of old.below) line.number kind → LineIsWrong left failed old fault new
     wrong_cause now new line fault kind g gives says of_line is =
         let counted : line.number ≡ lines_given new.below = gives.number ∙ sym gives.counted in
-        let before = good_is now None (g.rest ∙ gives.was_going.0) g.none_ahead in
+        let before = good_is now (g.rest ∙ gives.was_going.0) in
         let none : IfSome (good_coming left now) (λ good. good ≡ ends_with (Some (fault_at_line (input_of now.below) line.number kind))) =
         rw before (good_fault now.format (input_of now.below) now.state line (lines_left left now.below) (lines_left left new.below) kind gives.first says) in
         let none_at : IfSome (good_coming left now) (λ good. good ≡ ends_with (Some fault)) = rw is (rw (same_input now g) at none) in
@@ -300,44 +289,48 @@ module _ {S A State : Type 0} (left : S → Option (List ℕ)) (failed end : S �
           served = gives.served ∙ g.served;
         }
 
-    first_given : (format : Format A State) (input : Input) (state : State) (line : ℕ) (item : A) (lines : Option (List TextLine)) → IfSome (option_map (good_at format input None state (Some (record { line = line; item = item }))) lines) (λ good. (first : A) × (rest : List (Member A)) × (good.members ≡ record { line = line; item = first } ∷ rest))
-    first_given format input state line item None = tt
-    first_given format input state line item (Some lines) = (item, (good_behind format input None (format.after state item) lines).members, refl)
+    first_came : (a b : Option (List TextLine)) (line : TextLine) → GivesFirst a line b → IfSome a (λ lines. (rest : List TextLine) × (lines ≡ line ∷ rest))
+    first_came None b line g = tt
+    first_came (Some xs) None line g = absurd g
+    first_came (Some xs) (Some ys) line g = (ys, g)
+
+    told_first : (good : Option (Good A)) (n line : ℕ) (item : A) → line ≡ n → IfSome good (λ good. (rest : List (Member A)) × (good.members ≡ record { line = line; item = item } ∷ rest))
+        → IfSome good (λ good. (first : A) × (rest : List (Member A)) × (good.members ≡ record { line = n; item = first } ∷ rest))
+    told_first None n line item e h = tt
+    told_first (Some good) n line item e h = (item, h.0, h.1 ∙ ap (λ (k : ℕ). record { line = k; item = item } ∷ h.0) e)
 
     -- a member that couldn't be kept was good
-    unkept_cause : (now new : MemberReader S A State) (line : TextLine) (fault : Told) (item : A) → Going old now → GivesLine left failed now.below line new.below
+    unkept_cause : (now new : MemberReader S A State) (line : TextLine) (fault : Told) (item : A) → Going old now → LineCame left failed now.below line new.below
         → now.format.says now.state line ≡ Ok (Some item) → fault ≡ no_memory → RunsOut left failed old fault new
     unkept_cause now new line fault item g gives says is =
-        let before = good_is now None (g.rest ∙ gives.was_going.0) g.none_ahead in
-        let step = good_line now.format (input_of now.below) now.state line (lines_left left now.below) (lines_left left new.below) (Some item) gives.first says in
         let IsGood : Good A → Type 0 = λ good. (item : A) × (rest : List (Member A)) × (good.members ≡ record { line = lines_given new.below; item = item } ∷ rest) in
         let counted : line.number ≡ lines_given new.below = gives.number ∙ sym gives.counted in
-        let first = rw counted at (first_given now.format (input_of now.below) now.state line.number item (lines_left left new.below)) in
-        let here : IfSome (good_coming left now) IsGood = rw before (remains_if _ _ IsGood (rw counted at step) first) in
+        let first = good_first now.format (input_of now.below) now.state line item (lines_left left now.below) (first_came (lines_left left now.below) (lines_left left new.below) line gives.first) says in
+        let here : IfSome (good_coming left now) IsGood = rw (good_is now (g.rest ∙ gives.was_going.0)) (told_first _ (lines_given new.below) line.number item counted first) in
         record { is = is; checked = inr (record { first = remains_if (good_coming left old) (good_coming left now) IsGood g.good here; rises = omega (arith, g.passed.least, gives.counted); going = gives.goes }); served = gives.served ∙ g.served }
 
-    lost_by : (now new : MemberReader S A State) (line : TextLine) (fault : Told) → Going old now → GivesLine left failed now.below line new.below → new.fault ≡ Some fault → new.ahead ≡ None → Follows now new → (IsSound left end now.below → IsSound left end new.below)
+    lost_by : (now new : MemberReader S A State) (line : TextLine) (fault : Told) → Going old now → LineCame left failed now.below line new.below → new.fault ≡ Some fault → new.buffered ≡ [] → Follows now new → (IsKept left end now.below → IsKept left end new.below)
         → Cause left failed end old fault new → AnswersFault left failed end old fault new
     lost_by now new line fault g gives kept ahead follows sound cause = record {
       kept = kept;
-      none_ahead = ahead;
+      none_buffered = ahead;
       state = follows.state ∙ g.state;
       again = λ before was. absurd (let apart : None ≡ Some before = sym (was_faultless now g gives.was_going.0) ∙ was in cc);
       first = λ none. cause;
       stays = stays_more now new g (gives.bytes.0, gives.bytes.1) follows;
       rises = omega (arith, g.passed.least, gives.counted);
       lines = λ none. (passed_more now new line g gives sound).lines;
-      near = λ none was. near_line left end old.below new.below (passed_more now new line g gives sound) gives.goes was;
+      near = λ none was. near_came left end old.below new.below (passed_more now new line g gives sound);
     }
 
     -- a line was wrong
-    pub going_wrong : (now new : MemberReader S A State) (line : TextLine) (fault : Told) (kind : Kind) → Going old now → GivesLine left failed now.below line new.below → new.fault ≡ Some fault → new.ahead ≡ None → Follows now new → (IsSound left end now.below → IsSound left end new.below)
+    pub going_wrong : (now new : MemberReader S A State) (line : TextLine) (fault : Told) (kind : Kind) → Going old now → LineCame left failed now.below line new.below → new.fault ≡ Some fault → new.buffered ≡ [] → Follows now new → (IsKept left end now.below → IsKept left end new.below)
         → now.format.says now.state line ≡ Err kind → is_of_line kind ≡ true → fault ≡ fault_at_line (input_of old.below) line.number kind → AnswersFault left failed end old fault new
     going_wrong now new line fault kind g gives kept ahead follows sound says of_line is =
         lost_by now new line fault g gives kept ahead follows sound (inl (wrong_cause now new line fault kind g gives says of_line is))
 
     -- a member had no room
-    pub going_unkept : (now new : MemberReader S A State) (line : TextLine) (fault : Told) (item : A) → Going old now → GivesLine left failed now.below line new.below → new.fault ≡ Some fault → new.ahead ≡ None → Follows now new → (IsSound left end now.below → IsSound left end new.below)
+    pub going_unkept : (now new : MemberReader S A State) (line : TextLine) (fault : Told) (item : A) → Going old now → LineCame left failed now.below line new.below → new.fault ≡ Some fault → new.buffered ≡ [] → Follows now new → (IsKept left end now.below → IsKept left end new.below)
         → now.format.says now.state line ≡ Ok (Some item) → fault ≡ no_memory → AnswersFault left failed end old fault new
     going_unkept now new line fault item g gives kept ahead follows sound says is =
         lost_by now new line fault g gives kept ahead follows sound (inr (inr (unkept_cause now new line fault item g gives says is)))
@@ -368,11 +361,11 @@ module _ {S A State : Type 0} (left : S → Option (List ℕ)) (failed end : S �
     again_by now new fault g gives is track (inr begun) before kept =
         absurd (let apart : None ≡ Some before = sym begun.was_going ∙ kept in cc)
 
-    pub going_unread : (now new : MemberReader S A State) (fault : Told) → Going old now → GivesFault left failed now.below fault new.below → new.fault ≡ Some fault → new.ahead ≡ None → Follows now new → (new.below ≡ now.below → new.fault ≡ now.fault → new ≡ now)
+    pub going_unread : (now new : MemberReader S A State) (fault : Told) → Going old now → GivesFault left failed now.below fault new.below → new.fault ≡ Some fault → new.buffered ≡ [] → Follows now new → (new.below ≡ now.below → new.fault ≡ now.fault → new ≡ now)
         → AnswersFault left failed end old fault new
     going_unread now new fault g gives kept ahead follows track = record {
       kept = kept;
-      none_ahead = ahead;
+      none_buffered = ahead;
       state = follows.state ∙ g.state;
       again = again_by now new fault g gives kept track g.begun;
       first = λ none. let going = sym g.rest ∙ g.going none in read_cause now new fault g gives going (gives.first going);
@@ -392,17 +385,16 @@ module _ {S A State : Type 0} (left : S → Option (List ℕ)) (failed end : S �
     room_at_end : (now : LineReader S) (reader : LineReader S) → GivesEnd left failed now reader → line_room reader ≤ line_room now
     room_at_end now reader gives = let counted = gives.bytes.1.counted in rw gives.nothing_held (omega arith)
 
-    pub going_end : (now new : MemberReader S A State) → Going old now → GivesEnd left failed now.below new.below → new.ahead ≡ None → new.fault ≡ line_fault new.below → Follows now new → (new.below ≡ now.below → new.fault ≡ now.fault → new ≡ now)
+    pub going_end : (now new : MemberReader S A State) → Going old now → GivesEnd left failed now.below new.below → new.buffered ≡ [] → new.fault ≡ line_fault new.below → Follows now new → (new.below ≡ now.below → new.fault ≡ now.fault → new ≡ now)
         → EndsMembers left failed old new
     going_end now new g gives ahead rest follows track =
         let none : IfSome (good_coming left now) (λ good. good ≡ ends_with None) =
-        rw (good_is now None (g.rest ∙ gives.was_going) g.none_ahead) (good_end now.format (input_of now.below) now.state (lines_left left now.below) gives.none_left) in
+        rw (good_is now (g.rest ∙ gives.was_going)) (good_end now.format (input_of now.below) now.state (lines_left left now.below) gives.none_left) in
         let falls = room_at_end now.below new.below gives in
-        let no_room = none_of new.ahead ahead in
         record {
           none_left = remains_if (good_coming left old) (good_coming left now) (λ good. good ≡ ends_with None) g.good none;
-          none_comes = rw (good_is new None (rest ∙ gives.goes) ahead) (good_end new.format (input_of new.below) new.state (lines_left left new.below) gives.none_comes);
-          none_ahead = ahead;
+          none_comes = rw (good_is new (rest ∙ gives.goes)) (good_end new.format (input_of new.below) new.state (lines_left left new.below) gives.none_comes);
+          none_buffered = ahead;
           state = follows.state ∙ g.state;
           ends = gives.ends;
           told = gives.told;
@@ -413,32 +405,56 @@ module _ {S A State : Type 0} (left : S → Option (List ℕ)) (failed end : S �
           was_going = was_faultless now g gives.was_going;
           goes = rest ∙ gives.goes;
           stays = stays_more now new g (gives.bytes.0, gives.bytes.1) follows;
-          shrinks = omega (arith, no_room, falls, g.shrinks);
+          shrinks = omega (arith, falls, g.shrinks);
         }
 
   -- a reader that has given no member has all of the good ones left
-  pub good_at_first : (reader : MemberReader S A State) → reader.ahead ≡ None → reader.fault ≡ None → reader.state ≡ reader.format.begin
+  pub good_at_first : (reader : MemberReader S A State) → reader.fault ≡ None → reader.state ≡ reader.format.begin
       → good_coming left reader ≡ option_map (good reader.format (input_of reader.below)) (lines_left left reader.below)
-  good_at_first reader none going begin = good_is reader None going none ∙ (rw begin refl)
+  good_at_first reader going begin = good_is reader going ∙ (rw begin refl)
 
-  -- the member ahead is passed
-  pub advanced : (old new : MemberReader S A State) (m : Member A) → old.ahead ≡ Some m → new.ahead ≡ None → new.below ≡ old.below → new.fault ≡ old.fault → new.format ≡ old.format → new.state ≡ old.format.after old.state m.item
-      → Advances left old new
-  unfolding good_coming
-  advanced old new m was none below fault format state =
-      let one = one_of old.ahead m was in
-      let no_room = none_of new.ahead none in
-      let same : line_room new.below ≡ line_room old.below = ap line_room below in
-      let is : (other : Member A) → old.ahead ≡ Some other → m ≡ other = λ other also. let both : Some m ≡ Some other = sym was ∙ also in cc in
-      record {
-        state = λ other also. state ∙ ap (λ (it : Member A). old.format.after old.state it.item) (is other also);
-        none_ahead = none;
-        good = λ other also.
-            let passed = passed_good old.format (input_of old.below) old.state old.fault other (lines_left left old.below) in
-            let there = state ∙ ap (λ (it : Member A). old.format.after old.state it.item) (is other also) in
-            rw (fault, below, format, there, none, also) passed;
-        reads_nothing = below;
-        goes = fault;
-        format = format;
-        shrinks = omega (arith, one, no_room, same);
-      }
+  -- the member ahead is given again
+  pub gives_again : (old : MemberReader S A State) (line : TextLine) (more : List TextLine) (item : A) (items : List A) → old.fault ≡ None → 0 < length (buffered_bytes old.below) → buffered_in old.below ≡ line ∷ more
+      → line.number ≡ suc (lines_given old.below) → old.format.says old.state line ≡ Ok (Some item) → old.buffered ≡ item ∷ items → GivesMember left failed old (record { line = line.number; item = item }) old
+  gives_again old line more item items going some first number says buffered = record {
+    ahead = ap (first_from (suc (lines_given old.below))) buffered ∙ ap (λ n. Some (record { line = n; item = item })) (sym number);
+    state = refl;
+    good = remains_same (good_coming left old);
+    first = rw (good_is old going)
+        (good_first old.format (input_of old.below) old.state line item (lines_left left old.below) (lines_first old (lines_left left old.below) (lines_left left old.below) line more (buffered_in old.below) (is_prefix left old.below) first) says);
+    said = (line, says);
+    again = λ some. refl;
+    at = number;
+    rises = omega arith;
+    below = omega (arith, number, buffered_below old.below some);
+    served = refl;
+    was_going = going;
+    goes = refl;
+    stays = stays_same old;
+    lines = (came_none left end old.below).lines;
+    near = near_came left end old.below old.below (came_none left end old.below);
+    shrinks = omega arith;
+  }
+
+with_none : {A : Type 0} (good : Option (Good A)) → option_map (with_members []) good ≡ good
+with_none None = refl
+with_none (Some good) = refl
+
+-- no member was taken
+pub takes_none : {S A State : Type 0} (left : S → Option (List ℕ)) (end : S → Bool) (reader : MemberReader S A State) → Takes left end reader [] reader
+takes_none left end reader = record {
+  buffered = refl;
+  said = tt;
+  state = refl;
+  good = with_none (good_coming left reader);
+  goes = refl;
+  format = refl;
+  given = omega arith;
+  below = given_below reader.below;
+  hands = hands_none left reader.below;
+  source = refl;
+  lines = (came_none left end reader.below).lines;
+  kept = λ was. was;
+  near = λ some. absurd (omega (arith, some));
+  shrinks = omega arith;
+}

@@ -1,225 +1,272 @@
--- Lemmas on a step of a reader of sorted records.
-use Rattle.std.proofs.Common.{◌≡◌, ℕ, Bool, true, false, List, Option, Some, None, Ok, Err, refl, sym, ap, ◌∙◌, subst, inl, inr}
-use Rattle.std.specs.Prelude.{◌⊎◌, IfSome, IsSome, IsTrue, is_some, option_map}
+-- Lemmas on a reader of sorted records.
+use Rattle.std.proofs.Common.{◌≡◌, ℕ, zero, suc, ◌+◌, ◌-◌, ◌<◌, ◌≤◌, Bool, true, false, List, [], ◌∷◌, ◌++◌, length, take, drop, Option, Some, None, Ok, Err, refl, sym, ap, ◌∙◌, subst, arith, inl, inr, length-take, take-append-drop}
+use Rattle.std.specs.Prelude.{◌⊎◌, if◌then◌else◌, IfSome, IsSome, IsTrue, is_some, option_map}
 use Rattle.std.specs.Option.{ForSome}
 use Rattle.std.proofs.lemmas.Bool.{false≢true}
+use Rattle.bt_lines.proofs.TakingLemmas.{is_prefix}
+use Rattle.bt_lines.specs.Buffered.{buffered_lines}
 use Rattle.bt_lines.specs.Fault.{Told}
-use Rattle.bt_lines.specs.Lines.{TextLine}
+use Rattle.bt_lines.specs.Lines.{AreNumbered, TextLine, line_feeds, lines_from}
 use Rattle.bt_lines.specs.Names.{told}
-use Rattle.bt_lines.specs.Reader.{GivesLine, GivesEnd, GivesFault, IsSound, input_of, line_at, fault_kept as line_fault}
-use Rattle.bt_lines.specs.declared.fault.Fault.{Fault}
-use Rattle.bt_lines.specs.declared.fault.Place.{Place}
-use Rattle.bt_lines.specs.declared.line.LineEnd.TheVariants.{Lf}
+use Rattle.bt_lines.specs.Reader.{DropsLines, TakenLines, TakesLines, bytes_left, buffered_bytes, buffered_in as lines_buffered, end_told, fault_kept as line_fault, held, input_of, is_open, left_at, lines_given, lines_left, source_of}
+use Rattle.bt_lines.specs.declared.fault.Input.{Input}
 use Rattle.bt_lines.specs.declared.line_reader.LineReader.{LineReader}
-use Rattle.bt_bed.proofs.SaidLemmas.{bed_of_line}
-use Rattle.bt_bed.proofs.NeighbourLemmas.{line_is, no_record, says_of_line, some_record}
-use Rattle.bt_bed.proofs.ReadingLemmas.{Going, Follows, going_start, going_more, going_member, going_wrong, going_unkept, going_unread, going_end, on_line, steps_again, fault_again, advanced, is_some_line}
-use Rattle.bt_bed.specs.Ahead.{text_at}
-use Rattle.bt_bed.specs.SortedReader.{IsPlaced, view_with}
+use Rattle.bt_bed.proofs.CameLemmas.{drops_pass, left_numbered}
+use Rattle.bt_bed.proofs.GoodBedLemmas.{line_said}
+use Rattle.bt_bed.proofs.NeighbourLemmas.{fits_above}
+use Rattle.bt_bed.proofs.RunLemmas.{placed_there, run_some}
+use Rattle.bt_bed.proofs.SaidRuns.{LinesSay, good_said, order_behind, order_is_said, place_behind, run_behind, run_is_said, run_says, said_fewer, say_fewer, say_front}
 use Rattle.bt_bed.specs.Feature.{Feature}
-use Rattle.bt_bed.specs.Good.{Member}
+use Rattle.bt_bed.specs.Good.{Format, Good, good_from, or_else}
 use Rattle.bt_bed.specs.GoodBed.{bed_format, line_says, locus_at}
-use Rattle.bt_bed.specs.LineKind.{fault_at_line}
-use Rattle.bt_bed.specs.Neighbours.{LineLost, LineTaken, LineUnkept, LineWrong, KeepsLast, IsKnownLast, ahead_in, has_ahead, last_in, line_in}
 use Rattle.bt_bed.specs.Locus.{Locus}
-use Rattle.bt_bed.specs.Reading.{Advances, AnswersFault, IsSaidBehind, MemberReader, Stepped, StepsTo, line_of_ahead}
+use Rattle.bt_bed.specs.Neighbours.{HoldsChrom, LineTaken, MakesLast, last_in, name_in, start_in}
+use Rattle.bt_bed.specs.Reading.{AreSaid, MemberReader, Takes, good_behind, good_coming, members_from, state_behind, with_members}
+use Rattle.bt_bed.specs.Run.{is_some_left, last_start, run_of}
 use Rattle.bt_bed.specs.Sorting.{Sorting}
+use Rattle.bt_bed.specs.Ahead.{ahead_of}
+use Rattle.bt_bed.specs.SortedReader.{IsPlaced, IsTaken, are_in_order, buffered_in, count_in, view_in, view_with}
+use Rattle.bt_bed.specs.declared.batch.Consumed.{Consumed}
 use Rattle.bt_bed.specs.declared.neighbours.Neighbours.{Neighbours}
+use Rattle.bt_bed.specs.declared.sorted_reader.SortedReader.{SortedReader}
 
-not_said : {A : Type 0} (said : Option A) → false ≡ is_some said → said ≡ None
-not_said None e = refl
-not_said (Some r) e = absurd (false≢true e)
+none_by : (told : Bool) (held : List ℕ) (number : ℕ) → option_map (lines_from number) (left_at told held None) ≡ None
+none_by true held number = refl
+none_by false held number = refl
 
-was_said : {A : Type 0} (said : Option A) → true ≡ is_some said → (r : A) × (said ≡ Some r)
-was_said None e = absurd (false≢true (sym e))
-was_said (Some r) e = (r, refl)
+some_by : (told : Bool) (held : List ℕ) (number : ℕ) (rest : List ℕ) → option_map (lines_from number) (left_at told held (Some rest)) ≡ None → ⊥
+some_by true held number rest e = cc
+some_by false held number rest e = cc
 
-module _ {S Q : Type 0} (left : S → Option (List ℕ)) (failed end : S → Bool) (sorting : Sorting) where
-  -- where no record is ahead, none is in the view
-  pub none_in : (own : Option Told) (reader : LineReader S) (neighbours : Neighbours Q) → has_ahead neighbours ≡ false → (view_with sorting own reader neighbours).ahead ≡ None
+unknown_by : (a b : Option (List ℕ)) (t u : Bool) (h k : List ℕ) (n m : ℕ) → b ≡ a → option_map (lines_from n) (left_at t h a) ≡ None → option_map (lines_from m) (left_at u k b) ≡ None
+unknown_by None b t u h k n m e none = ap (λ o. option_map (lines_from m) (left_at u k o)) e ∙ none_by u k m
+unknown_by (Some rest) b t u h k n m e none = absurd (some_by t h n rest none)
+
+-- where no bytes are known, none are once lines were taken
+still_unknown : {S : Type 0} (left : S → Option (List ℕ)) (old new : LineReader S) → source_of new ≡ source_of old → lines_left left old ≡ None → lines_left left new ≡ None
+unfolding bytes_left
+still_unknown left old new same none =
+    unknown_by (left (source_of old)) (left (source_of new)) (end_told old) (end_told new) (held old) (held new) (suc (lines_given old)) (suc (lines_given new)) (ap left same) none
+
+-- what is good behind items that were taken
+taken_good : {A State : Type 0} (format : Format A State) (input : Input) (state : State) (number : ℕ) (items : List A) (a b : Option (List TextLine)) → IfSome a (AreNumbered number) → IfSome a (λ all. LinesSay format state all items)
+    → (a ≡ None → b ≡ None) → DropsLines a (length items) b
+    → option_map (with_members (members_from number items)) (option_map (good_behind format input None (state_behind format state items)) b) ≡ option_map (good_behind format input None state) a
+taken_good {A} {State} format input state number items None b n say none drops =
+    ap (λ o. option_map (with_members (members_from number items)) (option_map (good_behind format input None (state_behind format state items)) o)) (none refl)
+taken_good {A} {State} format input state number items (Some all) b n say none drops =
+    ap (λ o. option_map (with_members (members_from number items)) (option_map (good_behind format input None (state_behind format state items)) o)) drops
+    ∙ ap Some (good_said format input number state all items n say)
+
+say_all : {A State : Type 0} (format : Format A State) (state : State) (front : List TextLine) (items : List A) (all : Option (List TextLine)) → IfSome all (λ lines. take (length front) lines ≡ front) → LinesSay format state front items
+    → IfSome all (λ lines. LinesSay format state lines items)
+say_all format state front items None e say = tt
+say_all format state front items (Some all) e say = say_front format state front all items e say
+
+cond_left : (b : Bool) (run more : List Feature) → b ≡ is_some_left more → run ≡ more → (if b then run else []) ≡ more
+cond_left true run more e same = same
+cond_left false run [] e same = refl
+cond_left false run (r ∷ more) e same = cc
+
+pub is_ahead_by : (b : Bool) (run : List Feature) (r : Feature) (more : List Feature) → (if b then run else []) ≡ r ∷ more → (b ≡ true) × (run ≡ r ∷ more)
+is_ahead_by true run r more e = (refl, e)
+is_ahead_by false run r more e = cc
+
+some_taken : (n : ℕ) (records : List Feature) → 0 < n → n ≤ length records → (r : Feature) × (taken : List Feature) × (take n records ≡ r ∷ taken) × (records ≡ r ∷ (taken ++ drop n records)) × (n ≡ length (r ∷ taken))
+some_taken n [] some within = absurd (omega (arith, some, within))
+some_taken n (r ∷ records) some within =
+    let less : n ≡ suc (n - 1) = omega (arith, some) in (
+      r,
+      take (n - 1) records,
+      ap (λ k. take k (r ∷ records)) less,
+      ap (λ l. r ∷ l) (sym (take-append-drop (n - 1) records)) ∙ ap (λ k. r ∷ (take (n - 1) records ++ drop k (r ∷ records))) (sym less),
+      omega (arith, less, length-take (n - 1) records, within),
+    )
+
+some_bytes : (n : ℕ) (bytes : List ℕ) → 0 < line_feeds (take n bytes) → 0 < n
+some_bytes zero bytes some = absurd (omega (arith, some))
+some_bytes (suc n) bytes some = omega arith
+
+-- a record that is said lies on a known chromosome
+knows_said : (sorting : Sorting) (state : Option Locus) (text : List ℕ) (r : Feature) → line_says sorting state text ≡ Ok (Some r) → IsTrue (sorting.knows r.chrom)
+knows_said sorting state text r e = (line_said sorting state text r e).known
+
+known_last : (sorting : Sorting) (state : Option Locus) (r : Feature) (records more : List Feature) (last : Option Locus) → AreSaid (bed_format sorting) state ((r ∷ records) ++ more) → last ≡ state_behind (bed_format sorting) state (r ∷ records)
+    → ForSome last (λ place. IsTrue (sorting.knows place.chrom))
+known_last sorting state r [] more last said e place is =
+    let same : locus_at r ≡ place = let both : Some (locus_at r) ≡ Some place = sym e ∙ is in cc in
+    subst (λ (p : Locus). IsTrue (sorting.knows p.chrom)) same (knows_said sorting state said.0.0.text r said.0.1)
+known_last sorting state r (x ∷ records) more last said e place is = known_last sorting (Some (locus_at r)) x records more last said.1 e place is
+
+module _ {S Q : Type 0} (left : S → Option (List ℕ)) (end : S → Bool) (sorting : Sorting) (old : SortedReader S Q) (reader : LineReader S) (neighbours : Neighbours Q) (is_ahead : Bool) (consumed : Consumed) (is : IsTaken old consumed) (some : 0 < count_in old consumed)
+    (placed : IsPlaced sorting (view_in sorting old)) (takes : TakesLines left end old.reader consumed.lines reader) (makes : MakesLast old.neighbours consumed.start neighbours)
+    (ahead : is_ahead ≡ consumed.is_ahead) where
+  abbrev pub now : MemberReader S Feature (Option Locus)
+  now = view_with sorting (option_map told old.fault) reader neighbours (ahead_of is_ahead reader neighbours)
+
+  abbrev pub n : ℕ
+  n = count_in old consumed
+
+  abbrev pub taken : List Feature
+  taken = take n (buffered_in old)
+
+  abbrev pub rest : List Feature
+  rest = drop n (buffered_in old)
+
+  split : buffered_in old ≡ taken ++ rest
+  split = sym (take-append-drop n (buffered_in old))
+
+  -- the lines that are buffered then
+  lines_then : lines_buffered reader ≡ drop n (lines_buffered old.reader)
+  lines_then =
+      ap (λ o. buffered_lines o (lines_given reader) (buffered_bytes reader)) takes.open_is
+      ∙ ap (λ k. buffered_lines (is_open old.reader) k (buffered_bytes reader)) takes.given
+      ∙ ap (buffered_lines (is_open old.reader) consumed.lines.lines) takes.bytes
+      ∙ is.lines.left_is
+
+  parts : (r : Feature) × (more : List Feature) × (take n (buffered_in old) ≡ r ∷ more) × (buffered_in old ≡ r ∷ (more ++ drop n (buffered_in old))) × (n ≡ length (r ∷ more))
+  parts = some_taken n (buffered_in old) some is.within
+
+  was : (old.is_ahead ≡ true) × (run_of (name_in old.neighbours) (start_in old.neighbours) (lines_buffered old.reader) ≡ parts.0 ∷ (parts.1 ++ rest))
+  unfolding buffered_in
+  was = is_ahead_by old.is_ahead (run_of (name_in old.neighbours) (start_in old.neighbours) (lines_buffered old.reader)) parts.0 (parts.1 ++ rest) parts.3
+
+  run_then : run_of (name_in neighbours) (start_in neighbours) (lines_buffered reader) ≡ rest
+  run_then =
+      let start : start_in neighbours ≡ last_start (start_in old.neighbours) (parts.0 ∷ parts.1) =
+      makes.start_is ∙ is.start ∙ ap (last_start (start_in old.neighbours)) parts.2 in
+      let lines : lines_buffered reader ≡ drop (length (parts.0 ∷ parts.1)) (lines_buffered old.reader) = lines_then ∙ ap (λ k. drop k (lines_buffered old.reader)) parts.4 in
+      ap (λ m. run_of m (start_in neighbours) (lines_buffered reader)) makes.name_is
+      ∙ ap (λ s. run_of (name_in old.neighbours) s (lines_buffered reader)) start
+      ∙ ap (run_of (name_in old.neighbours) (last_start (start_in old.neighbours) (parts.0 ∷ parts.1))) lines
+      ∙ run_behind (name_in old.neighbours) (start_in old.neighbours) (lines_buffered old.reader) (parts.0 ∷ parts.1) rest was.1
+
+  buffered_then : ahead_of is_ahead reader neighbours ≡ rest
+  buffered_then = cond_left is_ahead (run_of (name_in neighbours) (start_in neighbours) (lines_buffered reader)) rest (ahead ∙ is.ahead) run_then
+
+  going : (view_in sorting old).fault ≡ None
   unfolding view_with
-  none_in own reader neighbours none = no_record (text_at (line_at reader)) neighbours none
+  going = placed.going (ap is_some_left parts.3)
 
-  pub some_in : (own : Option Told) (reader : LineReader S) (neighbours : Neighbours Q) → has_ahead neighbours ≡ true → IsSome (view_with sorting own reader neighbours).ahead
+  none_kept : or_else (option_map told old.fault) (line_fault old.reader) ≡ None
   unfolding view_with
-  some_in own reader neighbours some = some_record (text_at (line_at reader)) neighbours some
+  none_kept = going
 
-  pub below_is : (reader : LineReader S) (neighbours : Neighbours Q) (place : Place) (line : ℕ) → place ≡ record { input = input_of reader; line = line } → place ≡ record { input = input_of (view_with sorting None reader neighbours).below; line = line }
+  order_all : are_in_order sorting (last_in old.neighbours) (buffered_in old) ≡ true
   unfolding view_with
-  below_is reader neighbours place line at = at
+  order_all = placed.in_order
 
-  rests : (reader : LineReader S) (neighbours : Neighbours Q) → (view_with sorting None reader neighbours).fault ≡ line_fault (view_with sorting None reader neighbours).below
+  said_all : AreSaid (bed_format sorting) (last_in old.neighbours) (buffered_in old)
+  said_all = order_is_said sorting (last_in old.neighbours) (name_in old.neighbours) (start_in old.neighbours) (lines_buffered old.reader) (buffered_in old) (was.1 ∙ sym parts.3) order_all
+
+  say_those : LinesSay (bed_format sorting) (last_in old.neighbours) (lines_buffered old.reader) taken
+  say_those =
+      say_fewer (bed_format sorting) (last_in old.neighbours) (lines_buffered old.reader) taken rest
+      (run_says sorting (last_in old.neighbours) (name_in old.neighbours) (start_in old.neighbours) (lines_buffered old.reader) (taken ++ rest)
+      (was.1 ∙ sym parts.3 ∙ split) (subst (AreSaid (bed_format sorting) (last_in old.neighbours)) split said_all))
+
+  count_is : n ≡ length taken
+  count_is = parts.4 ∙ ap length (sym parts.2)
+
+  state_then : last_in neighbours ≡ state_behind (bed_format sorting) (last_in old.neighbours) taken
+  state_then =
+      makes.last ∙ ap (λ s. Some (record { chrom = name_in old.neighbours; start = s })) (is.start ∙ ap (last_start (start_in old.neighbours)) parts.2)
+      ∙ sym (ap (state_behind (bed_format sorting) (last_in old.neighbours)) parts.2
+      ∙ place_behind sorting (last_in old.neighbours) (name_in old.neighbours) (start_in old.neighbours) (lines_buffered old.reader) parts.0 parts.1 rest was.1)
+
+  fault_then : now.fault ≡ (view_in sorting old).fault
   unfolding view_with
-  rests reader neighbours = refl
+  fault_then = ap (or_else (option_map told old.fault)) takes.fault_is
 
-  pub sorted_start : (reader : LineReader S) (neighbours : Neighbours Q) → has_ahead neighbours ≡ false → Going left failed end (view_with sorting None reader neighbours) (view_with sorting None reader neighbours)
-  sorted_start reader neighbours none = going_start left failed end (view_with sorting None reader neighbours) (none_in None reader neighbours none) (rests reader neighbours)
+  good_then : option_map (with_members (members_from (suc (lines_given old.reader)) taken)) (good_coming left now) ≡ good_coming left (view_in sorting old)
+  unfolding good_coming view_with
+  good_then =
+      let format = bed_format sorting in
+      let state = last_in old.neighbours in
+      let drops : DropsLines (lines_left left old.reader) (length taken) (lines_left left reader) = subst (λ k. DropsLines (lines_left left old.reader) k (lines_left left reader)) (is.lines.feeds ∙ count_is) takes.left_is in
+      rw (ap (or_else (option_map told old.fault)) takes.fault_is ∙ none_kept, none_kept, state_then, takes.input_is)
+      (taken_good format (input_of old.reader) state (suc (lines_given old.reader)) taken (lines_left left old.reader) (lines_left left reader) (left_numbered left end old.reader)
+      (say_all format state (lines_buffered old.reader) taken (lines_left left old.reader) (is_prefix left old.reader) say_those) (still_unknown left old.reader reader takes.source_is) drops)
 
-  -- where no fault is kept, the reader of lines has none
-  pub none_below : (own : Option Told) (reader : LineReader S) (neighbours : Neighbours Q) → (view_with sorting own reader neighbours).fault ≡ None → line_fault reader ≡ None
+  pub sorted_takes : Takes left end (view_in sorting old) taken now
   unfolding view_with
-  none_below None reader neighbours none = none
-  none_below (Some fault) reader neighbours none = cc
-
-  -- a reader of lines without a fault is still without one
-  pub still_going : (old now : LineReader S) (first neighbours : Neighbours Q) → Going left failed end (view_with sorting None old first) (view_with sorting None now neighbours) → line_fault old ≡ None → line_fault now ≡ None
-  unfolding view_with
-  still_going old now first neighbours g none = g.going none
-
-  module _ (old : MemberReader S Feature (Option Locus)) (now new : LineReader S) (before after : Neighbours Q) where
-    kept_by : (own : Option Told) → KeepsLast before after → Follows left failed end (view_with sorting None now before) (view_with sorting own new after)
-    unfolding view_with
-    kept_by own keeps = record { state = keeps.last; format = refl }
-
-    ahead_of : (line : TextLine) (said : Option Feature) → line_at new ≡ Some line → ahead_in line.text after ≡ on_line line.number said → (view_with sorting None new after).ahead ≡ on_line line.number said
-    unfolding view_with
-    ahead_of line said at is = ap (λ l. ahead_in (text_at l) after) at ∙ is
-
-    -- a line said nothing
-    pub sorted_more : (line : TextLine) → Going left failed end old (view_with sorting None now before) → GivesLine left failed now line new → (IsSound left end now → IsSound left end new) → LineTaken sorting line.number line.text before false after → Going left failed end old (view_with sorting None new after)
-    unfolding view_with
-    sorted_more line g gives sound taken =
-        let none = not_said taken.said taken.is in
-        going_more left failed end old (view_with sorting None now before) (view_with sorting None new after) line g gives sound (taken.says ∙ ap Ok none)
-        (none_in None new after (taken.has ∙ sym taken.is)) refl (kept_by None taken.keeps)
-
-    sound_more : (own : Option Told) → Going left failed end old (view_with sorting None now before) → (IsSound left end now → IsSound left end new) → IsSound left end old.below → IsSound left end (view_with sorting own new after).below
-    unfolding view_with
-    sound_more own g sound was = sound (g.passed.sound was)
-
-    -- a line said a record
-    pub sorted_record : (line : TextLine) → Going left failed end old (view_with sorting None now before) → GivesLine left failed now line new → (IsSound left end now → IsSound left end new) → LineTaken sorting line.number line.text before true after
-        → Stepped {T = Unit {0}} left failed end old (Ok (tt {0})) (view_with sorting None new after)
-    unfolding view_with
-    sorted_record line g gives sound taken =
-        let given = was_said taken.said taken.is in
-        let ahead : (view_with sorting None new after).ahead ≡ on_line line.number (Some given.0) = ahead_of line (Some given.0) gives.at (taken.ahead ∙ ap (on_line line.number) given.1) in
-        let member = going_member left failed end old (view_with sorting None now before) (view_with sorting None new after) line given.0 g gives sound (taken.says ∙ ap Ok given.1) ahead refl (kept_by None taken.keeps) in
-        record { answers = subst (λ o. StepsTo left failed old o (view_with sorting None new after)) (sym ahead) member; sound = sound_more None g sound }
-
-    lost_by : (line : TextLine) (fault : Told) (place : Place) → Going left failed end old (view_with sorting None now before) → GivesLine left failed now line new
-        → place ≡ record { input = input_of old.below; line = line.number } → has_ahead after ≡ false → KeepsLast before after → (IsSound left end now → IsSound left end new)
-        → LineWrong sorting place line.text before fault ⊎ LineUnkept sorting line.text before fault → AnswersFault left failed end old fault (view_with sorting (Some fault) new after)
-    unfolding view_with
-    lost_by line fault place g gives at none keeps sound (inl wrong) =
-        going_wrong left failed end old (view_with sorting None now before) (view_with sorting (Some fault) new after) line fault wrong.kind g gives refl (none_in (Some fault) new after none) (kept_by (Some fault) keeps) sound wrong.says (bed_of_line wrong.kind (says_of_line sorting (last_in before) line.text wrong.kind wrong.says))
-        (wrong.is ∙ ap (λ (p : Place). fault_at_line p.input p.line wrong.kind) at)
-    lost_by line fault place g gives at none keeps sound (inr unkept) =
-        going_unkept left failed end old (view_with sorting None now before) (view_with sorting (Some fault) new after) line fault unkept.r g gives refl (none_in (Some fault) new after none) (kept_by (Some fault) keeps) sound unkept.says unkept.is
-
-    -- a line wasn't taken
-    pub sorted_lost : (line : TextLine) (fault : Fault) (place : Place) → Going left failed end old (view_with sorting None now before) → GivesLine left failed now line new → (IsSound left end now → IsSound left end new)
-        → place ≡ record { input = input_of old.below; line = line.number } → LineLost sorting place line.text before (told fault) after → Stepped {T = Unit {0}} left failed end old (Err fault) (view_with sorting (Some (told fault)) new after)
-    sorted_lost line fault place g gives sound at lost = record {
-      answers = lost_by line (told fault) place g gives at lost.none_ahead lost.keeps sound lost.cause;
-      sound = sound_more (Some (told fault)) g sound;
-    }
-
-  module _ (old : MemberReader S Feature (Option Locus)) (now new : LineReader S) (neighbours : Neighbours Q) (none : has_ahead neighbours ≡ false) where
-    alike : (own : Option Told) → (view_with sorting own new neighbours).below ≡ (view_with sorting None now neighbours).below → (view_with sorting own new neighbours).fault ≡ (view_with sorting None now neighbours).fault
-        → view_with sorting own new neighbours ≡ view_with sorting None now neighbours
-    unfolding view_with
-    alike own reader fault = let both : new ≡ now = reader in rw (fault, both) refl
-
-    sound_on : (own : Option Told) → Going left failed end old (view_with sorting None now neighbours) → (IsSound left end now → IsSound left end new) → IsSound left end old.below → IsSound left end (view_with sorting own new neighbours).below
-    unfolding view_with
-    sound_on own g sound was = sound (g.passed.sound was)
-
-    -- the line couldn't be read
-    pub sorted_unread : (fault : Fault) → Going left failed end old (view_with sorting None now neighbours) → GivesFault left failed now (told fault) new → (IsSound left end now → IsSound left end new)
-        → Stepped {T = Unit {0}} left failed end old (Err fault) (view_with sorting (Some (told fault)) new neighbours)
-    unfolding view_with
-    sorted_unread fault g gives sound = record {
-      answers = going_unread left failed end old (view_with sorting None now neighbours) (view_with sorting (Some (told fault)) new neighbours) (told fault) g gives refl (none_in (Some (told fault)) new neighbours none) (record { state = refl; format = refl }) (alike (Some (told fault)));
-      sound = sound_on (Some (told fault)) g sound;
-    }
-
-    -- no line was left
-    pub sorted_end : Going left failed end old (view_with sorting None now neighbours) → GivesEnd left failed now new → (IsSound left end now → IsSound left end new) → Stepped {T = Unit {0}} left failed end old (Ok (tt {0})) (view_with sorting None new neighbours)
-    unfolding view_with
-    sorted_end g gives sound =
-        let ahead = none_in None new neighbours none in
-        let ended = going_end left failed end old (view_with sorting None now neighbours) (view_with sorting None new neighbours) g gives ahead refl (record { state = refl; format = refl }) (alike None) in
-        record { answers = subst (λ o. StepsTo left failed old o (view_with sorting None new neighbours)) (sym ahead) ended; sound = sound_on None g sound }
-
-pub for_if : {A : Type 0} (o : Option A) (P : A → Type 0) → ForSome o P → IfSome o P
-for_if None P h = tt
-for_if (Some x) P h = h x refl
-
-if_for : {A : Type 0} (o : Option A) (P : A → Type 0) → IfSome o P → ForSome o P
-if_for None P h x e = cc
-if_for (Some y) P h x e = let same : y ≡ x = cc in subst P same h
-
-pub of_some : {A : Type 0} (o : Option A) (P : Type 0) → IsSome o → ForSome o (λ x. P) → P
-of_some None P some h = absurd (false≢true some)
-of_some (Some x) P some h = h x refl
-
-said_item : {A : Type 0} (line : ℕ) (said : Option A) (m : Member A) → on_line line said ≡ Some m → said ≡ Some m.item
-said_item line None m e = cc
-said_item line (Some item) m e = let same : record { line = line; item = item } ≡ m = cc in ap (λ (m : Member _). Some m.item) same
-
-pub said_ahead : {S : Type 0} (sorting : Sorting) (reader : MemberReader S Feature (Option Locus)) (ahead : Option (Member Feature)) → ForSome ahead (λ m. line_says sorting reader.state (text_at (line_at reader.below)) ≡ Ok (Some m.item))
-    → IfSome ahead (λ m. IsSaidBehind (bed_format sorting) reader.state m.item)
-said_ahead sorting reader None h = tt
-said_ahead sorting reader (Some m) h = (record { number = 0; text = text_at (line_at reader.below); ending = Lf }, h m refl)
-
-module _ {S Q : Type 0} (left : S → Option (List ℕ)) (failed end : S → Bool) (sorting : Sorting) where
-  -- the line of the record ahead
-  pub line_in_view : (own : Option Told) (reader : LineReader S) (neighbours : Neighbours Q) → line_of_ahead (view_with sorting own reader neighbours) ≡ line_in neighbours
-  unfolding view_with
-  line_in_view own reader neighbours = line_is (text_at (line_at reader)) neighbours
-
-  -- the record ahead is given again
-  pub sorted_again : (own : Option Told) (reader : LineReader S) (neighbours : Neighbours Q) → IsPlaced sorting (view_with sorting own reader neighbours) → has_ahead neighbours ≡ true
-      → Stepped {T = Unit {0}} left failed end (view_with sorting own reader neighbours) (Ok (tt {0})) (view_with sorting own reader neighbours)
-  unfolding view_with
-  sorted_again own reader neighbours placed some =
-      let view = view_with sorting own reader neighbours in
-      let there : IsSome view.ahead = some_in left failed end sorting own reader neighbours some in
-      record { answers = steps_again left failed end view (of_some view.ahead (view.fault ≡ None) there placed.going) there (said_ahead sorting view view.ahead placed.ahead); sound = λ was. was }
-
-  -- a fault that is kept is the answer
-  pub sorted_fault_again : (fault : Fault) (reader : LineReader S) (neighbours : Neighbours Q) → has_ahead neighbours ≡ false
-      → Stepped {T = Unit {0}} left failed end (view_with sorting (Some (told fault)) reader neighbours) (Err fault) (view_with sorting (Some (told fault)) reader neighbours)
-  unfolding view_with
-  sorted_fault_again fault reader neighbours none = record {
-    answers = fault_again left failed end (view_with sorting (Some (told fault)) reader neighbours) (told fault) refl (none_in left failed end sorting (Some (told fault)) reader neighbours none);
-    sound = λ was. was;
+  sorted_takes = record {
+    buffered = split ∙ ap (λ l. taken ++ l) (sym buffered_then);
+    said = said_fewer (bed_format sorting) (last_in old.neighbours) taken rest (subst (AreSaid (bed_format sorting) (last_in old.neighbours)) split said_all);
+    state = state_then;
+    good = good_then;
+    goes = fault_then;
+    format = refl;
+    given = takes.given ∙ is.lines.given ∙ ap (λ k. lines_given old.reader + k) count_is;
+    below = takes.below;
+    hands = takes.hands;
+    source = takes.source_is;
+    lines = drops_pass (lines_left left old.reader) (lines_left left reader) _ (lines_given reader - lines_given old.reader) takes.left_is (omega (arith, takes.given, is.lines.given, is.lines.feeds));
+    kept = takes.kept;
+    near = λ h. takes.near (some_bytes consumed.lines.bytes (buffered_bytes old.reader) (omega (arith, is.lines.feeds, some)));
+    shrinks = omega (arith, takes.taken_is, takes.shrinks, is.lines.feeds, count_is);
   }
 
-  -- the record ahead is passed
-  pub sorted_passed : (own : Option Told) (reader : LineReader S) (old new : Neighbours Q) → IsSome (line_of_ahead (view_with sorting own reader old)) → has_ahead new ≡ false
-      → ((text : List ℕ) → last_in new ≡ option_map (λ m. locus_at m.item) (ahead_in text old))
-      → Advances left (view_with sorting own reader old) (view_with sorting own reader new)
-  unfolding view_with
-  sorted_passed own reader old new some none last =
-      let there = is_some_line (λ (m : Member Feature). m.line) (ahead_in (text_at (line_at reader)) old) some in
-      advanced left failed end (view_with sorting own reader old) (view_with sorting own reader new) there.0 there.1 (none_in left failed end sorting own reader new none) refl refl refl
-      (last (text_at (line_at reader)) ∙ ap (option_map (λ (m : Member Feature). locus_at m.item)) there.1)
+  known_then : ForSome (last_in neighbours) (λ place. IsTrue (sorting.knows place.chrom))
+  known_then = known_last sorting (last_in old.neighbours) parts.0 parts.1 rest (last_in neighbours) (subst (AreSaid (bed_format sorting) (last_in old.neighbours)) (split ∙ ap (λ l. l ++ rest) parts.2) said_all) (state_then ∙ ap (state_behind (bed_format sorting) (last_in old.neighbours)) parts.2)
 
-  -- the chromosome of the last record is known
-  pub known_last : (own : Option Told) (reader : LineReader S) (neighbours : Neighbours Q) → IsPlaced sorting (view_with sorting own reader neighbours) → IsKnownLast sorting (last_in neighbours)
+  pub sorted_placed : IsPlaced sorting now
   unfolding view_with
-  known_last own reader neighbours placed = for_if (last_in neighbours) (λ place. IsTrue (sorting.knows place.chrom)) placed.last
-
-  -- where no record is ahead, the chromosome of the last one is all that is asked
-  pub placed_none : (own : Option Told) (reader : LineReader S) (neighbours : Neighbours Q) → IsKnownLast sorting (last_in neighbours) → has_ahead neighbours ≡ false → IsPlaced sorting (view_with sorting own reader neighbours)
-  unfolding view_with
-  placed_none own reader neighbours known none = record {
-    last = if_for (last_in neighbours) (λ place. IsTrue (sorting.knows place.chrom)) known;
-    ahead = λ m e. absurd (let apart : None ≡ Some m = sym (no_record (text_at (line_at reader)) neighbours none) ∙ e in cc);
-    going = λ m e. absurd (let apart : None ≡ Some m = sym (no_record (text_at (line_at reader)) neighbours none) ∙ e in cc);
+  sorted_placed = record {
+    last = known_then;
+    in_order = ap (are_in_order sorting (last_in neighbours)) buffered_then
+        ∙ ap (λ s. are_in_order sorting s rest) state_then ∙ order_behind sorting (last_in old.neighbours) taken rest (ap (are_in_order sorting (last_in old.neighbours)) (sym split) ∙ order_all);
+    going = λ e. fault_then ∙ going;
   }
 
-  -- a record that was taken is what its line says
-  pub placed_taken : (place : Place) (line : TextLine) (reader : LineReader S) (before after : Neighbours Q) (is_record : Bool) → line_fault reader ≡ None → IsKnownLast sorting (last_in before) → line_at reader ≡ Some line → LineTaken sorting place.line line.text before is_record after
-      → IsPlaced sorting (view_with sorting None reader after)
-  unfolding view_with
-  placed_taken place line reader before after is_record going known at taken = record {
-    last = if_for (last_in after) (λ place. IsTrue (sorting.knows place.chrom)) (rw taken.keeps.last known);
-    ahead = λ m e.
-        let text : text_at (line_at reader) ≡ line.text = ap text_at at in
-        let here : on_line place.line taken.said ≡ Some m = sym taken.ahead ∙ ap (λ t. ahead_in t after) (sym text) ∙ e in
-        rw (text, taken.keeps.last) (taken.says ∙ ap Ok (said_item place.line taken.said m here));
-    going = λ m e. going;
-  }
+  pub sorted_ahead : is_ahead ≡ true → is_some_left (ahead_of is_ahead reader neighbours) ≡ true
+  sorted_ahead e = ap is_some_left buffered_then ∙ sym (ahead ∙ is.ahead) ∙ e
+
+  pub was_ahead : old.is_ahead ≡ true
+  was_ahead = was.0
+
+-- a line that says a record which fits begins the records that are buffered then
+module _ {Q : Type 0} (sorting : Sorting) (old new : Neighbours Q) (line : TextLine) (more : List TextLine) (r : Feature) (says : line_says sorting (last_in old) line.text ≡ Ok (Some r)) (holds : HoldsChrom old r.chrom new) where
+  pub found_run : run_of (name_in new) (start_in new) (line ∷ more) ≡ r ∷ run_of (name_in new) r.start more
+  found_run =
+      let said = line_said sorting (last_in old) line.text r says in
+      let above : start_in new ≤ r.start = subst (λ (n : ℕ). n ≤ r.start) (sym holds.start_is) (fits_above sorting (last_in old) r said.stays) in
+      run_some (name_in new) (start_in new) line more r (placed_there (name_in new) (start_in new) line.text r said.says (sym holds.name_is) above)
+
+  pub found_said : AreSaid (bed_format sorting) (last_in old) (run_of (name_in new) (start_in new) (line ∷ more))
+  found_said =
+      let said = line_said sorting (last_in old) line.text r says in
+      let place : ◌≡◌ {A = Locus} (record { chrom = name_in new; start = r.start }) (locus_at r) = ap (λ (n : List ℕ). record { chrom = n; start = r.start }) holds.name_is in
+      let known : IsTrue (sorting.knows (name_in new)) = subst (λ n. IsTrue (sorting.knows n)) (sym holds.name_is) said.known in
+      subst (AreSaid (bed_format sorting) (last_in old)) (sym found_run)
+      ((line, says), subst (λ (p : Locus). AreSaid (bed_format sorting) (Some p) (run_of (name_in new) r.start more)) place (run_is_said sorting (name_in new) r.start more (run_of (name_in new) r.start more) known refl))
+
+  pub found_buffered : (lines : List TextLine) → lines ≡ line ∷ more → run_of (name_in new) (start_in new) lines ≡ r ∷ run_of (name_in new) r.start more
+  found_buffered lines e = ap (run_of (name_in new) (start_in new)) e ∙ found_run
+
+  pub found_all_said : (lines : List TextLine) → lines ≡ line ∷ more → AreSaid (bed_format sorting) (last_in old) (run_of (name_in new) (start_in new) lines)
+  found_all_said lines e = subst (λ l. AreSaid (bed_format sorting) (last_in old) (run_of (name_in new) (start_in new) l)) (sym e) found_said
+
+  pub found_some : (lines : List TextLine) → lines ≡ line ∷ more → is_some_left (run_of (name_in new) (start_in new) lines) ≡ true
+  found_some lines e = ap is_some_left (found_buffered lines e)
+
+-- a line that was taken as a record says one
+pub record Found {Q : Type 0} (sorting : Sorting) (old new : Neighbours Q) (text : List ℕ) : Type 0 where
+  pub r : Feature
+  pub says : line_says sorting (last_in old) text ≡ Ok (Some r)
+  pub holds : HoldsChrom old r.chrom new
+
+found_by : {Q : Type 0} (sorting : Sorting) (old new : Neighbours Q) (text : List ℕ) (said : Option Feature) → line_says sorting (last_in old) text ≡ Ok said → true ≡ is_some said → IfSome said (λ r. HoldsChrom old r.chrom new) → Found sorting old new text
+found_by sorting old new text None says e holds = absurd (false≢true (sym e))
+found_by sorting old new text (Some r) says e holds = record { r = r; says = says; holds = holds }
+
+pub found_of : {Q : Type 0} (sorting : Sorting) (old new : Neighbours Q) (text : List ℕ) → LineTaken sorting text old true new → Found sorting old new text
+found_of sorting old new text taken = found_by sorting old new text taken.said taken.says taken.is taken.ahead
+
+said_none : (said : Option Feature) → false ≡ is_some said → said ≡ None
+said_none None e = refl
+said_none (Some r) e = absurd (false≢true e)
+
+-- one that wasn't says nothing
+pub skipped_of : {Q : Type 0} (sorting : Sorting) (old new : Neighbours Q) (text : List ℕ) → LineTaken sorting text old false new → line_says sorting (last_in old) text ≡ Ok None
+skipped_of sorting old new text taken = taken.says ∙ ap (λ o. Ok o) (said_none taken.said taken.is)

@@ -8,7 +8,6 @@ use Rattle.std.proofs.lemmas.List.Sums.{prefix_len-le-length}
 use Rattle.std.specs.Int.Bits.{and_self}
 use Rattle.std.specs.List.{prefix_len}
 use Rattle.std.specs.Simd.Lanes.{chunk, mask_l}
-use Rattle.bt_lines.proofs.EarlyLemmas.{none_fails}
 use Rattle.bt_lines.specs.Lines.{pieces}
 use Rattle.bt_lines.proofs.ColumnLemmas.{IsColumn}
 use Rattle.bt_lines.proofs.ColumnLemmas.{cut_at}
@@ -28,6 +27,10 @@ mask_behind (x ∷ xs) (suc k) =
     ap (λ n. (cond (is_tab x) 1 0 + 2 * mask_l (map is_tab xs)) / 2 ^ n) (omega arith)
     ∙ sym (shr-shr (cond (is_tab x) 1 0 + 2 * mask_l (map is_tab xs)) 1 k)
     ∙ ap (λ n. n / 2 ^ k) (halved (is_tab x) (mask_l (map is_tab xs))) ∙ mask_behind xs k
+
+none_fails : (b : Bool) (n l m : ℕ) → n ≤ l → cond (not b) (1 + n) 0 ≡ 1 + l → (n ≡ l → m ≡ 0) → cond b 1 0 + 2 * m ≡ 0
+none_fails true n l m le e none = absurd (omega arith)
+none_fails false n l m le e none = let z = none (omega arith) in omega arith
 
 no_tabs : (xs : List ℕ) → prefix_len (λ x. not (is_tab x)) xs ≡ length xs → mask_l (map is_tab xs) ≡ 0
 no_tabs [] e = refl

@@ -1,22 +1,24 @@
 -- What a reader of records in blocks holds, and what its calls do.
-use Rattle.std.specs.Prelude.{◌≡◌, ℕ, Bool, List, Option, Some, None, option_map, Result, Ok, Err}
-use Rattle.std.specs.Prelude.{IfSome}
+use Rattle.std.specs.Prelude.{◌≡◌, ℕ, Bool, true, false, List, Option, Some, None, option_map, Result, Ok, Err}
+use Rattle.std.specs.Prelude.{IfSome, take}
 use Rattle.bt_lines.specs.Fault.{Told}
 use Rattle.bt_lines.specs.Names.{told}
-use Rattle.bt_lines.specs.Reader.{IsSound}
+use Rattle.bt_lines.specs.Reader.{IsKept}
 use Rattle.bt_lines.specs.declared.fault.Fault.{Fault}
 use Rattle.bt_lines.specs.declared.line_reader.LineReader.{LineReader}
 use Rattle.bt_bed.specs.Bed.{feature_lent}
-use Rattle.bt_bed.specs.SortedReader.{view_in}
+use Rattle.bt_bed.specs.SortedReader.{IsTaken as IsTakenIn, Lends as LendsFrom, count_in as count_from, view_in}
 use Rattle.bt_bed.specs.Feature.{Feature}
-use Rattle.bt_bed.specs.Good.{Good, Member}
+use Rattle.bt_bed.specs.Good.{Good}
 use Rattle.bt_bed.specs.GoodBed.{locus_at}
 use Rattle.bt_bed.specs.GoodBlocks.{IsBlockUpTo}
 use Rattle.bt_bed.specs.Locus.{Locus}
-use Rattle.bt_bed.specs.Reading.{Advances, AnswersFault, EndsMembers, GivesMember, MemberReader}
-use Rattle.bt_bed.specs.Reading.{TellsOwnFailure, good_coming, line_of_ahead, room as room_in}
+use Rattle.bt_bed.specs.Reading.{AnswersFault, EndsMembers, GivesMember, MemberReader, Takes}
+use Rattle.bt_bed.specs.Reading.{TellsOwnFailure, ahead_in, good_coming, line_of_ahead, room as room_in}
 use Rattle.bt_bed.specs.Record.{IsFeature}
 use Rattle.bt_bed.specs.Sorting.{block_sorting}
+use Rattle.bt_bed.specs.declared.batch.Batch.{Batch}
+use Rattle.bt_bed.specs.declared.batch.Consumed.{Consumed}
 use Rattle.bt_bed.specs.declared.bed.BedRef.{BedRef}
 use Rattle.bt_bed.specs.declared.blocks.Blocks.{Blocks}
 
@@ -33,9 +35,13 @@ module _ {S : Type 0} where
   abbrev pub last_locus : Blocks S → Option Locus
   last_locus blocks = (view_of blocks).state
 
-  -- the record ahead, once it was asked for
+  -- the records that are buffered
+  abbrev pub buffered_in : Blocks S → List Feature
+  buffered_in blocks = (view_of blocks).buffered
+
+  -- the record ahead: the first of them
   abbrev pub record_ahead : Blocks S → Option Feature
-  record_ahead blocks = option_map (λ m. m.item) (view_of blocks).ahead
+  record_ahead blocks = option_map (λ m. m.item) (ahead_in (view_of blocks))
 
   -- its line
   abbrev pub line_ahead : Blocks S → Option ℕ
@@ -45,11 +51,11 @@ module _ {S : Type 0} where
   abbrev pub fault_kept : Blocks S → Option Told
   fault_kept blocks = (view_of blocks).fault
 
-  -- what is still to come, the record ahead included, where the source's bytes are known
+  -- what is still to come, the records that are buffered included, where the source's bytes are known
   abbrev pub good_left : (S → Option (List ℕ)) → Blocks S → Option (Good Feature)
   good_left left blocks = good_coming left (view_of blocks)
 
-  -- how many bytes and records may still come: it never rises, and falls with each record passed
+  -- how many bytes may still come: it never rises, and falls with each record taken
   abbrev pub room : Blocks S → ℕ
   room blocks = room_in (view_of blocks)
 
@@ -63,28 +69,40 @@ module _ {S : Type 0} where
     pub feature : IsFeature r
     pub in_order : IfSome (last_locus old) (λ last. IsBlockUpTo last (locus_at r))
 
-  -- what a step gives: a record, or the end where there is none
-  abbrev pub StepsTo : (S → Option (List ℕ)) → (S → Bool) → Blocks S → Option (Member Feature)
-      → Blocks S → Type 0
-  StepsTo left failed old (Some m) new = GivesRecord left failed old m.item new
-  StepsTo left failed old None new = EndsMembers left failed (view_of old) (view_of new)
-
-  -- the same, or a fault
-  abbrev pub StepAnswers : {A : Type 0} → (S → Option (List ℕ)) → (S → Bool) → (S → Bool)
-      → Blocks S → Result A Fault → Blocks S → Type 0
-  StepAnswers left failed end old (Ok done) new = StepsTo left failed old (view_of new).ahead new
-  StepAnswers left failed end old (Err fault) new = AnswersFault left failed end (view_of old)
+  -- what `fill` answers: a record is buffered, or there is none, for good or after a fault
+  abbrev pub FillAnswers : (S → Option (List ℕ)) → (S → Bool) → (S → Bool) → Blocks S
+      → Result Bool Fault → Blocks S → Type 0
+  FillAnswers left failed end old (Ok true) new = (r : Feature) × GivesRecord left failed old r new
+  FillAnswers left failed end old (Ok false) new = EndsMembers left failed (view_of old) (view_of new)
+  FillAnswers left failed end old (Err fault) new = AnswersFault left failed end (view_of old)
       (told fault) (view_of new)
 
-  -- a call of `peek`, with the record held in place of lent
-  pub record StepsBlocks {A : Type 0} (left : S → Option (List ℕ)) (failed end : S → Bool)
-      (IsRead : S → Option ℕ → S → Type 0)
-      (old : Blocks S) (answer : Result A Fault) (new : Blocks S) : Type 0 where
-    pub answers : StepAnswers left failed end old answer new
+  -- a call of `fill`
+  pub record FillsBlocks (left : S → Option (List ℕ)) (failed end : S → Bool)
+      (IsRead : S → Option ℕ → S → Type 0) (old : Blocks S) (answer : Result Bool Fault)
+      (new : Blocks S) : Type 0 where
+    pub answers : FillAnswers left failed end old answer new
     pub own_failure : TellsOwnFailure IsRead (fault_kept old) (below old) answer (below new)
-    pub sound : IsSound left end (below old) → IsSound left end (below new)
+    pub kept : IsKept left end (below old) → IsKept left end (below new)
 
-  -- what an answer says
+  -- the batch has the records that are buffered
+  abbrev pub Lends : Blocks S → Batch → Type 0
+  Lends blocks batch = LendsFrom blocks.sorted batch
+
+  -- so many of them were consumed
+  abbrev pub count_in : Blocks S → Consumed → ℕ
+  count_in blocks consumed = count_from blocks.sorted consumed
+
+  -- what was consumed of the batch
+  abbrev pub IsTaken : Blocks S → Consumed → Type 0
+  IsTaken blocks consumed = IsTakenIn blocks.sorted consumed
+
+  -- a call of `consume`: the first of those that are buffered are taken, so many, and nothing is read
+  pub record TakesBlocks (left : S → Option (List ℕ)) (end : S → Bool) (old : Blocks S)
+      (count : ℕ) (new : Blocks S) : Type 0 where
+    pub takes : Takes left end (view_of old) (take count (buffered_in old)) (view_of new)
+
+  -- what `peek` answers
   abbrev pub Answers : (S → Option (List ℕ)) → (S → Bool) → (S → Bool) → Blocks S → Result
       (Option BedRef) Fault → Blocks S → Type 0
   Answers left failed end old (Ok (Some bed)) new = GivesRecord left failed old
@@ -99,9 +117,10 @@ module _ {S : Type 0} where
       (answer : Result (Option BedRef) Fault) (new : Blocks S) : Type 0 where
     pub answers : Answers left failed end old answer new
     pub own_failure : TellsOwnFailure IsRead (fault_kept old) (below old) answer (below new)
-    pub sound : IsSound left end (below old) → IsSound left end (below new)
+    pub kept : IsKept left end (below old) → IsKept left end (below new)
 
   -- one call of `advance`: the record ahead is the last one, and nothing is read
-  pub record PassesBlocks (left : S → Option (List ℕ)) (old new : Blocks S) : Type 0 where
+  pub record PassesBlocks (left : S → Option (List ℕ)) (end : S → Bool)
+      (old new : Blocks S) : Type 0 where
     pub last : last_locus new ≡ option_map locus_at (record_ahead old)
-    pub passes : Advances left (view_of old) (view_of new)
+    pub takes : Takes left end (view_of old) (take 1 (buffered_in old)) (view_of new)

@@ -1,5 +1,5 @@
 -- The first columns of a line that are in order.
-use Rattle.std.specs.Prelude.{◌≡◌, ℕ, ◌<◌, ◌≤◌, ◌+◌, ◌⊎◌, ◌==◌, Bool, true, false, List, ◌∷◌, ◌++◌}
+use Rattle.std.specs.Prelude.{◌≡◌, ℕ, ◌<◌, ◌≤◌, ◌+◌, ◌==◌, Bool, true, false, List, ◌∷◌, ◌++◌}
 use Rattle.std.specs.Prelude.{length, take, drop, get_or, Some}
 use Rattle.std.specs.Char.{is_ascii_digit}
 use Rattle.std.specs.List.{All, list_all}
@@ -26,6 +26,12 @@ pub record IsRecordName (name : List ℕ) : Type 0 where
   pub named : IsName name
   pub no_header : (rest : List ℕ) → is_header (name ++ 9 ∷ rest) ≡ false
 
+-- the first column ends here
+pub record EndsFirst (text : List ℕ) (end : ℕ) : Type 0 where
+  pub within : end ≤ length text
+  pub tab : end < length text → get_or text end 0 ≡ 9
+  pub column : All (λ byte. (byte == 9) ≡ false) (take end text)
+
 -- the first column denotes the number, and ends here
 pub record Leads (text : List ℕ) (lead : Leading) : Type 0 where
   pub within : lead.end ≤ length text
@@ -48,21 +54,14 @@ pub record BeginsWith (text : List ℕ) (lead : Leading) : Type 0 where
   pub digits : list_all is_ascii_digit (take lead.end text) ≡ true
   pub value : lead.value ≡ digits_value 10 (take lead.end text)
 
--- a tab or a line feed: a column ends before it
-abbrev pub EndsColumn : ℕ → Type 0
-EndsColumn byte = (byte ≡ 9) ⊎ (byte ≡ 10)
-
--- the bytes begin with this name, which isn't too long, and behind it, each after a tab, with a start and an end that is
--- greater; a tab or a line feed stands behind them
+-- the bytes begin with this name, and behind it, each after a tab, with the digits of a start and of an end that is greater
 pub record HasColumns (bytes name : List ℕ) (start stop : Leading) : Type 0 where
-  pub short : length name ≤ 400
   pub named : BeginsWithName bytes name
   pub first : BeginsWith (drop (length name + 1) bytes) start
   pub some_first : 0 < start.end
   pub tab : get_or bytes (length name + start.end + 1) 0 ≡ 9
   pub second : BeginsWith (drop (length name + start.end + 2) bytes) stop
   pub some_second : 0 < stop.end
-  pub ended : EndsColumn (get_or bytes (length name + start.end + stop.end + 2) 0)
   pub below : start.value < stop.value
 
 -- whether a byte is a tab

@@ -13,6 +13,9 @@ pub mod Together
 pub mod Header
 pub mod Record
 pub mod FirstColumns
+pub mod RawRecord
+pub mod Run
+pub mod Batch
 pub mod NameKey
 pub mod Bed
 pub mod LineKind
@@ -24,8 +27,8 @@ pub mod GoodBlocks
 pub mod Reading
 pub mod Genome
 pub mod GenomeTable
-pub mod Ahead
 pub mod Neighbours
+pub mod Ahead
 pub mod SortedReader
 pub mod Records
 pub mod Blocks
@@ -33,8 +36,5 @@ pub mod Meeting
 pub mod KeptText
 pub mod KeptForm
 pub mod Rec
-pub mod RecordLine
-pub mod WholeInside
-pub mod WholeRecords
 pub mod Single
 pub mod CursorLaws

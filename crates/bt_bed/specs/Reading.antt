@@ -1,20 +1,20 @@
 -- What a reader of the members of an input holds, and what its calls do.
 use Rattle.std.specs.Prelude.{◌≡◌, ℕ, suc, ◌+◌, ◌-◌, ◌^◌, ◌<◌, ◌≤◌, ◌⊎◌, Bool, true, false, List}
-use Rattle.std.specs.Prelude.{[], ◌∷◌, drop, length, Option, Some, None, option_map, Result, Ok}
+use Rattle.std.specs.Prelude.{[], ◌∷◌, ◌++◌, drop, length, Option, Some, None, option_map, Result, Ok}
 use Rattle.std.specs.Prelude.{Err, IsSome, IfSome, ⊤}
-use Rattle.std.specs.Option.{option_to_list}
 use Rattle.bt_lines.specs.Fault.{Told, read_failed, no_memory}
 use Rattle.bt_lines.specs.Lines.{TextLine}
 use Rattle.bt_lines.specs.Names.{told}
-use Rattle.bt_lines.specs.Reader.{CutsOff, Hands, HasRead, IsNear, IsSound, TellsReads}
-use Rattle.bt_lines.specs.Reader.{end_told, input_of, source_of}
+use Rattle.bt_lines.specs.Output.{block_size}
+use Rattle.bt_lines.specs.Reader.{CutsOff, Hands, HasRead, IsKept, IsNear, TellsReads}
+use Rattle.bt_lines.specs.Reader.{end_told, held, input_of, source_of}
 use Rattle.bt_lines.specs.Reader.{lines_given, bytes_taken, has_ended, lines_left}
 use Rattle.bt_lines.specs.Reader.{room as line_room, fault_kept as line_fault}
 use Rattle.bt_lines.specs.declared.fault.Fault.{Fault}
 use Rattle.bt_lines.specs.declared.fault.Input.{Input}
 use Rattle.bt_lines.specs.declared.fault.Kind.{Kind}
 use Rattle.bt_lines.specs.declared.line_reader.LineReader.{LineReader}
-use Rattle.bt_bed.specs.Good.{Format, Good, Member, ends_with, good_from, with_member}
+use Rattle.bt_bed.specs.Good.{Format, Good, Member, ends_with, good_from}
 use Rattle.bt_bed.specs.GoodLines.{IsBeyond}
 use Rattle.bt_bed.specs.LineKind.{fault_at_line, is_of_line}
 
@@ -25,8 +25,8 @@ pub record MemberReader (S A State : Type 0) : Type 0 where
   pub below : LineReader S
   -- what is known after the member that was passed last
   pub state : State
-  -- the member ahead, once it was asked for
-  pub ahead : Option (Member A)
+  -- the members that are known to come next, on the lines that follow those given
+  pub buffered : List A
   -- the fault that is kept
   pub fault : Option Told
 
@@ -35,13 +35,6 @@ abbrev pub good_behind : {A State : Type 0} → Format A State → Input → Opt
     → List TextLine → Good A
 good_behind format input (Some fault) state lines = ends_with (Some fault)
 good_behind format input None state lines = good_from format input state lines
-
--- the same, with the member ahead
-abbrev pub good_at : {A State : Type 0} → Format A State → Input → Option Told → State → Option
-    (Member A) → List TextLine → Good A
-good_at format input fault state None lines = good_behind format input fault state lines
-good_at format input fault state (Some m) lines = with_member m
-    (good_behind format input fault (format.after state m.item) lines)
 
 -- what was known stays what is still to come
 abbrev pub Remains : {A : Type 0} → Option (Good A) → Option (Good A) → Type 0
@@ -52,6 +45,31 @@ Remains (Some good) (Some new) = new ≡ good
 -- a line says the item, by what is known before it
 abbrev pub IsSaidBehind : {A State : Type 0} → Format A State → State → A → Type 0
 IsSaidBehind format state item = (line : TextLine) × (format.says state line ≡ Ok (Some item))
+
+-- each of these items is what a line says after those before it
+abbrev pub AreSaid : {A State : Type 0} → Format A State → State → List A → Type 0
+AreSaid format state [] = ⊤
+AreSaid format state (item ∷ items) =
+    IsSaidBehind format state item × AreSaid format (format.after state item) items
+
+-- what is known after these items
+abbrev pub state_behind : {A State : Type 0} → Format A State → State → List A → State
+state_behind format state [] = state
+state_behind format state (item ∷ items) = state_behind format (format.after state item) items
+
+-- items on lines that follow one another, of which the first has this number
+abbrev pub members_from : {A : Type 0} → ℕ → List A → List (Member A)
+members_from line [] = []
+members_from line (item ∷ items) = record { line = line; item = item } ∷ members_from (suc line) items
+
+-- the first of them
+abbrev pub first_from : {A : Type 0} → ℕ → List A → Option (Member A)
+first_from line [] = None
+first_from line (item ∷ items) = Some (record { line = line; item = item })
+
+-- members before others
+abbrev pub with_members : {A : Type 0} → List (Member A) → Good A → Good A
+with_members members good = record { members = members ++ good.members; fault = good.fault }
 
 module _ {S : Type 0} where
   -- of known lines, those that were given are no longer left
@@ -67,7 +85,7 @@ module _ {S : Type 0} where
     -- it comes before the end
     pub before_end : end_told old ≡ false
     -- the whole lines among the bytes taken in the call are those that were given
-    pub cut : IsSound left end old → CutsOff left old new
+    pub cut : IsKept left end old → CutsOff left old new
 
   -- A failed read is told for the first time only where a read of this call failed, whatever the
   -- source did before, or where the text is too long, by what its reads gave; else all reads of the
@@ -84,20 +102,24 @@ module _ {S : Type 0} where
     pub served : failed (source_of new) ≡ failed (source_of old)
 
 module _ {S A State : Type 0} where
-  -- the line of the member ahead
-  abbrev pub line_of_ahead : MemberReader S A State → Option ℕ
-  line_of_ahead reader = option_map (λ m. m.line) reader.ahead
+  -- the member ahead, once it is known
+  abbrev pub ahead_in : MemberReader S A State → Option (Member A)
+  ahead_in reader = first_from (suc (lines_given reader.below)) reader.buffered
 
-  -- what is still to come, the member ahead included, where the source's bytes are known
+  -- its line
+  abbrev pub line_of_ahead : MemberReader S A State → Option ℕ
+  line_of_ahead reader = option_map (λ m. m.line) (ahead_in reader)
+
+  -- what is still to come, the members that are buffered included, where the source's bytes are known
   unfoldable pub good_coming : (S → Option (List ℕ)) → MemberReader S A State → Option (Good A)
   good_coming left reader =
       option_map
-      (good_at reader.format (input_of reader.below) reader.fault reader.state reader.ahead)
+      (good_behind reader.format (input_of reader.below) reader.fault reader.state)
       (lines_left left reader.below)
 
-  -- how many bytes and members may still come: it never rises, and falls with each member passed
+  -- how many bytes may still come: it never rises, and falls with each member taken
   abbrev pub room : MemberReader S A State → ℕ
-  room reader = line_room reader.below + length (option_to_list reader.ahead)
+  room reader = line_room reader.below
 
   -- what no call changes
   pub record Stays (left : S → Option (List ℕ)) (old new : MemberReader S A State) : Type 0 where
@@ -107,7 +129,7 @@ module _ {S A State : Type 0} where
   -- a member is ahead
   pub record GivesMember (left : S → Option (List ℕ)) (failed : S → Bool)
       (old : MemberReader S A State) (m : Member A) (new : MemberReader S A State) : Type 0 where
-    pub ahead : new.ahead ≡ Some m
+    pub ahead : ahead_in new ≡ Some m
     pub state : new.state ≡ old.state
     -- it is the first of what is still to come, where that is known, and nothing of it is lost
     pub good : Remains (good_coming left old) (good_coming left new)
@@ -116,17 +138,19 @@ module _ {S A State : Type 0} where
     -- known or not, it is what a line says after the member before it
     pub said : IsSaidBehind old.format old.state m.item
     -- where it was ahead before, nothing is read
-    pub again : IsSome old.ahead → new ≡ old
-    -- its line is the last one given, which comes after those given before
-    pub at : old.ahead ≡ None → m.line ≡ lines_given new.below
-    pub rises : old.ahead ≡ None → (lines_given old.below < lines_given new.below) ×
-        (lines_given new.below < 2 ^ 63)
+    pub again : IsSome (ahead_in old) → new ≡ old
+    -- its line comes next, after those given before
+    pub at : m.line ≡ suc (lines_given new.below)
+    pub rises : lines_given old.below ≤ lines_given new.below
+    pub below : m.line < 2 ^ 63
     pub served : failed (source_of new.below) ≡ failed (source_of old.below)
     -- after a fault none is given
     pub was_going : old.fault ≡ None
     pub goes : new.fault ≡ old.fault
     pub stays : Stays left old new
     pub lines : LinesPass left old.below new.below
+    -- of known bytes, those after the lines given and its own are left, but for a block at most
+    pub near : IsNear left old.below new.below
     pub shrinks : room new ≤ room old
 
   -- no member is left
@@ -134,7 +158,7 @@ module _ {S A State : Type 0} where
       (old new : MemberReader S A State) : Type 0 where
     pub none_left : IfSome (good_coming left old) (λ good. good ≡ ends_with None)
     pub none_comes : IfSome (good_coming left new) (λ good. good ≡ ends_with None)
-    pub none_ahead : new.ahead ≡ None
+    pub none_buffered : new.buffered ≡ []
     pub state : new.state ≡ old.state
     pub ends : has_ended new.below ≡ true
     pub told : end_told new.below ≡ true
@@ -204,7 +228,7 @@ module _ {S A State : Type 0} where
   pub record AnswersFault (left : S → Option (List ℕ)) (failed end : S → Bool)
       (old : MemberReader S A State) (fault : Told) (new : MemberReader S A State) : Type 0 where
     pub kept : new.fault ≡ Some fault
-    pub none_ahead : new.ahead ≡ None
+    pub none_buffered : new.buffered ≡ []
     pub state : new.state ≡ old.state
     -- a fault is answered again, and nothing is read
     pub again : (before : Told) → old.fault ≡ Some before → (fault ≡ before) × (new ≡ old)
@@ -215,35 +239,45 @@ module _ {S A State : Type 0} where
     pub lines : line_fault new.below ≡ None → LinesPass left old.below new.below
     -- of known bytes, those after the lines given and one line more are left,
     -- but for a block at most
-    pub near : old.fault ≡ None → IsSound left end old.below → IsNear left old.below new.below
+    pub near : old.fault ≡ None → IsKept left end old.below → IsNear left old.below new.below
 
-  -- what a step to the next member gives, or to the end where there is none
-  abbrev pub StepsTo : (S → Option (List ℕ)) → (S → Bool) → MemberReader S A State → Option
-      (Member A) → MemberReader S A State → Type 0
-  StepsTo left failed old (Some m) new = GivesMember left failed old m new
-  StepsTo left failed old None new = EndsMembers left failed old new
+  -- a member was made buffered
+  pub record MakesMember (left : S → Option (List ℕ)) (failed : S → Bool)
+      (old new : MemberReader S A State) : Type 0 where
+    pub m : Member A
+    pub gives : GivesMember left failed old m new
 
-  -- the same, or a fault
-  abbrev pub StepAnswers : {T : Type 0} → (S → Option (List ℕ)) → (S → Bool) → (S → Bool)
-      → MemberReader S A State → Result T Fault → MemberReader S A State → Type 0
-  StepAnswers left failed end old (Ok done) new = StepsTo left failed old new.ahead new
-  StepAnswers left failed end old (Err fault) new = AnswersFault left failed end old
+  -- what `fill` answers
+  abbrev pub FillAnswers : (S → Option (List ℕ)) → (S → Bool) → (S → Bool) → MemberReader S A State
+      → Result Bool Fault → MemberReader S A State → Type 0
+  FillAnswers left failed end old (Ok true) new = MakesMember left failed old new
+  FillAnswers left failed end old (Ok false) new = EndsMembers left failed old new
+  FillAnswers left failed end old (Err fault) new = AnswersFault left failed end old
       (told fault) new
 
-  -- a step to the next member
-  pub record Stepped {T : Type 0} (left : S → Option (List ℕ)) (failed end : S → Bool)
-      (old : MemberReader S A State) (answer : Result T Fault)
+  -- a call of `fill`
+  pub record Fills (left : S → Option (List ℕ)) (failed end : S → Bool)
+      (old : MemberReader S A State) (answer : Result Bool Fault)
       (new : MemberReader S A State) : Type 0 where
-    pub answers : StepAnswers left failed end old answer new
-    pub sound : IsSound left end old.below → IsSound left end new.below
+    pub answers : FillAnswers left failed end old answer new
+    pub kept : IsKept left end old.below → IsKept left end new.below
 
-  -- the member ahead was passed, and nothing is read
-  pub record Advances (left : S → Option (List ℕ)) (old new : MemberReader S A State) : Type 0 where
-    pub state : (m : Member A) → old.ahead ≡ Some m → new.state ≡ old.format.after old.state m.item
-    pub none_ahead : new.ahead ≡ None
-    pub good : (m : Member A) → old.ahead ≡ Some m → option_map (with_member m)
+  -- members were taken, which were buffered, and nothing is read
+  pub record Takes (left : S → Option (List ℕ)) (end : S → Bool) (old : MemberReader S A State)
+      (taken : List A) (new : MemberReader S A State) : Type 0 where
+    pub buffered : old.buffered ≡ taken ++ new.buffered
+    pub said : AreSaid old.format old.state taken
+    pub state : new.state ≡ state_behind old.format old.state taken
+    pub good : option_map (with_members (members_from (suc (lines_given old.below)) taken))
         (good_coming left new) ≡ good_coming left old
-    pub reads_nothing : new.below ≡ old.below
     pub goes : new.fault ≡ old.fault
     pub format : new.format ≡ old.format
-    pub shrinks : room new < room old
+    pub given : lines_given new.below ≡ lines_given old.below + length taken
+    pub below : lines_given new.below < 2 ^ 63
+    pub hands : Hands left old.below [] new.below
+    pub source : source_of new.below ≡ source_of old.below
+    pub lines : LinesPass left old.below new.below
+    pub kept : IsKept left end old.below → IsKept left end new.below
+    -- behind the lines at most a block is held
+    pub near : 0 < length taken → length (held new.below) ≤ block_size
+    pub shrinks : room new + length taken ≤ room old

@@ -1,22 +1,24 @@
 -- What a reader of records holds, and what its calls do.
-use Rattle.std.specs.Prelude.{◌≡◌, ℕ, Bool, IsTrue, List, Option, Some, None, option_map, Result}
-use Rattle.std.specs.Prelude.{Ok, Err, IfSome}
+use Rattle.std.specs.Prelude.{◌≡◌, ℕ, Bool, true, false, IsTrue, List, Option, Some, None, option_map, Result}
+use Rattle.std.specs.Prelude.{Ok, Err, IfSome, take}
 use Rattle.bt_lines.specs.Fault.{Told}
 use Rattle.bt_lines.specs.Names.{told}
-use Rattle.bt_lines.specs.Reader.{IsSound}
+use Rattle.bt_lines.specs.Reader.{IsKept}
 use Rattle.bt_lines.specs.declared.fault.Fault.{Fault}
 use Rattle.bt_lines.specs.declared.line_reader.LineReader.{LineReader}
 use Rattle.bt_bed.specs.Bed.{feature_lent}
-use Rattle.bt_bed.specs.SortedReader.{view_in}
+use Rattle.bt_bed.specs.SortedReader.{IsTaken as IsTakenIn, Lends as LendsFrom, count_in as count_from, view_in}
 use Rattle.bt_bed.specs.Feature.{Feature}
-use Rattle.bt_bed.specs.Good.{Good, Member}
+use Rattle.bt_bed.specs.Good.{Good}
 use Rattle.bt_bed.specs.GoodBed.{locus_at}
 use Rattle.bt_bed.specs.Order.{Order}
 use Rattle.bt_bed.specs.Locus.{Locus, IsUpTo}
-use Rattle.bt_bed.specs.Reading.{Advances, AnswersFault, EndsMembers, GivesMember, MemberReader}
-use Rattle.bt_bed.specs.Reading.{TellsOwnFailure, good_coming, line_of_ahead, room as room_in}
+use Rattle.bt_bed.specs.Reading.{AnswersFault, EndsMembers, GivesMember, MemberReader, Takes}
+use Rattle.bt_bed.specs.Reading.{TellsOwnFailure, ahead_in, good_coming, line_of_ahead, room as room_in}
 use Rattle.bt_bed.specs.Record.{IsFeature}
 use Rattle.bt_bed.specs.Sorting.{sorting_of}
+use Rattle.bt_bed.specs.declared.batch.Batch.{Batch}
+use Rattle.bt_bed.specs.declared.batch.Consumed.{Consumed}
 use Rattle.bt_bed.specs.declared.bed.BedRef.{BedRef}
 use Rattle.bt_bed.specs.declared.order.ChromOrder.{Ghosts}
 use Rattle.bt_bed.specs.declared.records.Records.{Records}
@@ -39,9 +41,13 @@ module _ {S O : Type 0} {g : Ghosts O} where
   abbrev pub last_locus : Records S O g → Option Locus
   last_locus records = (view_of records).state
 
-  -- the record ahead, once it was asked for
+  -- the records that are buffered
+  abbrev pub buffered_in : Records S O g → List Feature
+  buffered_in records = (view_of records).buffered
+
+  -- the record ahead: the first of them
   abbrev pub record_ahead : Records S O g → Option Feature
-  record_ahead records = option_map (λ m. m.item) (view_of records).ahead
+  record_ahead records = option_map (λ m. m.item) (ahead_in (view_of records))
 
   -- its line
   abbrev pub line_ahead : Records S O g → Option ℕ
@@ -51,11 +57,11 @@ module _ {S O : Type 0} {g : Ghosts O} where
   abbrev pub fault_kept : Records S O g → Option Told
   fault_kept records = (view_of records).fault
 
-  -- what is still to come, the record ahead included, where the source's bytes are known
+  -- what is still to come, the records that are buffered included, where the source's bytes are known
   abbrev pub good_left : (S → Option (List ℕ)) → Records S O g → Option (Good Feature)
   good_left left records = good_coming left (view_of records)
 
-  -- how many bytes and records may still come: it never rises, and falls with each record passed
+  -- how many bytes may still come: it never rises, and falls with each record taken
   abbrev pub room : Records S O g → ℕ
   room records = room_in (view_of records)
 
@@ -70,29 +76,42 @@ module _ {S O : Type 0} {g : Ghosts O} where
     pub known : IsTrue ((order_in old).knows r.chrom)
     pub in_order : IfSome (last_locus old) (λ last. IsUpTo (order_in old) last (locus_at r))
 
-  -- what a step gives: a record, or the end where there is none
-  abbrev pub StepsTo : (S → Option (List ℕ)) → (S → Bool) → Records S O g → Option (Member Feature)
-      → Records S O g → Type 0
-  StepsTo left failed old (Some m) new = GivesRecord left failed old m.item new
-  StepsTo left failed old None new = EndsMembers left failed (view_of old) (view_of new)
-
-  -- the same, or a fault
-  abbrev pub StepAnswers : {A : Type 0} → (S → Option (List ℕ)) → (S → Bool) → (S → Bool)
-      → Records S O g → Result A Fault → Records S O g → Type 0
-  StepAnswers left failed end old (Ok done) new = StepsTo left failed old (view_of new).ahead new
-  StepAnswers left failed end old (Err fault) new = AnswersFault left failed end (view_of old)
+  -- what `fill` answers: a record is buffered, or there is none, for good or after a fault
+  abbrev pub FillAnswers : (S → Option (List ℕ)) → (S → Bool) → (S → Bool) → Records S O g
+      → Result Bool Fault → Records S O g → Type 0
+  FillAnswers left failed end old (Ok true) new = (r : Feature) × GivesRecord left failed old r new
+  FillAnswers left failed end old (Ok false) new = EndsMembers left failed (view_of old) (view_of new)
+  FillAnswers left failed end old (Err fault) new = AnswersFault left failed end (view_of old)
       (told fault) (view_of new)
 
-  -- a call of `peek`, with the record held in place of lent
-  pub record StepsRecord {A : Type 0} (left : S → Option (List ℕ)) (failed end : S → Bool)
-      (IsRead : S → Option ℕ → S → Type 0)
-      (old : Records S O g) (answer : Result A Fault) (new : Records S O g) : Type 0 where
-    pub answers : StepAnswers left failed end old answer new
+  -- a call of `fill`
+  pub record FillsRecords (left : S → Option (List ℕ)) (failed end : S → Bool)
+      (IsRead : S → Option ℕ → S → Type 0) (old : Records S O g) (answer : Result Bool Fault)
+      (new : Records S O g) : Type 0 where
+    pub answers : FillAnswers left failed end old answer new
     pub own_failure : TellsOwnFailure IsRead (fault_kept old) (below old) answer (below new)
-    pub sound : IsSound left end (below old) → IsSound left end (below new)
+    pub kept : IsKept left end (below old) → IsKept left end (below new)
     pub order : order_in new ≡ order_in old
 
-  -- what an answer says
+  -- the batch has the records that are buffered
+  abbrev pub Lends : Records S O g → Batch → Type 0
+  Lends records batch = LendsFrom records.sorted batch
+
+  -- so many of them were consumed
+  abbrev pub count_in : Records S O g → Consumed → ℕ
+  count_in records consumed = count_from records.sorted consumed
+
+  -- what was consumed of the batch
+  abbrev pub IsTaken : Records S O g → Consumed → Type 0
+  IsTaken records consumed = IsTakenIn records.sorted consumed
+
+  -- a call of `consume`: the first of those that are buffered are taken, so many, and nothing is read
+  pub record TakesRecords (left : S → Option (List ℕ)) (end : S → Bool) (old : Records S O g)
+      (count : ℕ) (new : Records S O g) : Type 0 where
+    pub takes : Takes left end (view_of old) (take count (buffered_in old)) (view_of new)
+    pub order : order_in new ≡ order_in old
+
+  -- what `peek` answers
   abbrev pub Answers : (S → Option (List ℕ)) → (S → Bool) → (S → Bool) → Records S O g → Result
       (Option BedRef) Fault → Records S O g → Type 0
   Answers left failed end old (Ok (Some bed)) new = GivesRecord left failed old
@@ -107,11 +126,12 @@ module _ {S O : Type 0} {g : Ghosts O} where
       (answer : Result (Option BedRef) Fault) (new : Records S O g) : Type 0 where
     pub answers : Answers left failed end old answer new
     pub own_failure : TellsOwnFailure IsRead (fault_kept old) (below old) answer (below new)
-    pub sound : IsSound left end (below old) → IsSound left end (below new)
+    pub kept : IsKept left end (below old) → IsKept left end (below new)
     pub order : order_in new ≡ order_in old
 
   -- one call of `advance`: the record ahead is the last one, and nothing is read
-  pub record PassesRecord (left : S → Option (List ℕ)) (old new : Records S O g) : Type 0 where
+  pub record PassesRecord (left : S → Option (List ℕ)) (end : S → Bool)
+      (old new : Records S O g) : Type 0 where
     pub last : last_locus new ≡ option_map locus_at (record_ahead old)
-    pub passes : Advances left (view_of old) (view_of new)
+    pub takes : Takes left end (view_of old) (take 1 (buffered_in old)) (view_of new)
     pub order : order_in new ≡ order_in old

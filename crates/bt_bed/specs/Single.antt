@@ -12,10 +12,15 @@ single_left one = option_to_list (option_map feature_lent one.bed)
 unfoldable pub single_name : Single → List ℕ
 single_name one = one.chrom.now
 
+-- the line on which the record stands
+unfoldable pub single_line : Single → ℕ
+single_line one = one.line
+
 -- the records were given
 pub record GivesSingle (old : Single) (records : List Feature) (new : Single) : Type 0 where
   pub left : single_left old ≡ records ++ single_left new
   pub name : single_name new ≡ single_name old
+  pub line : single_line new ≡ single_line old
 
 -- there is none
 pub record HasNone (one : Single) : Type 0 where

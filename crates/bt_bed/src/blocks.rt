@@ -3,6 +3,7 @@
 ghost use Rattle.bt_bed.specs.SortedReader.{IsPlaced, view_in};
 ghost use Rattle.bt_bed.specs.Sorting.{block_sorting};
 
+use crate::batch::{Batch, Consumed};
 use crate::bed::BedRef;
 use crate::sorted::InBlocks;
 use crate::sorted_reader::SortedReader;
@@ -12,7 +13,8 @@ use std::alloc::Global;
 /// Reads the records of a BED input in blocks, and reports the first line at fault: one that isn't a
 /// feature, or starts before the record before it on the same chromosome. A block is a maximal run of
 /// records of one chromosome; the blocks come in any order, and a chromosome may have several. Header
-/// lines and blank lines are skipped. The record ahead is lent until the next call.
+/// lines and blank lines are skipped. `fill` makes a record buffered, or the end, `buffered` lends the records, and
+/// `consume` takes some of them.
 #[derive(Drop)]
 pub struct Blocks<S> {
     // Always valid: `placed` says that it goes by the order of blocks.
@@ -22,12 +24,12 @@ pub struct Blocks<S> {
 
 #[tactic(auto, unfolding(crate::specs::SortedReader::view_with, crate::specs::Blocks::view_of))]
 impl<S: Source> Blocks<S> {
-    ghost use Rattle.std.specs.Prelude.{◌≡◌, [], Some, None, IsSome, option_map};
+    ghost use Rattle.std.specs.Prelude.{◌≡◌, [], None, Some, IsSome, option_map};
     ghost use Rattle.std.specs.Borrow.{sem};
     ghost use Rattle.std.specs.Io.BufRead.{Rests};
     ghost use Rattle.bt_lines.specs.Reader.{fault_kept as line_fault, input_of, lines_left};
     ghost use Rattle.bt_bed.specs.contracts.blocks.Blocks.{the_row};
-    ghost use Rattle.bt_bed.specs.Blocks.{PassesBlocks, PeeksBlocks, StepsBlocks, below, fault_kept, good_left, last_locus, line_ahead};
+    ghost use Rattle.bt_bed.specs.Blocks.{FillsBlocks, IsTaken, Lends, PassesBlocks, PeeksBlocks, TakesBlocks, below, buffered_in, count_in, fault_kept, good_left, last_locus, line_ahead};
     ghost use Rattle.bt_bed.specs.Good.{good};
     ghost use Rattle.bt_bed.specs.GoodBlocks.{block_format};
 
@@ -38,30 +40,53 @@ impl<S: Source> Blocks<S> {
         ensures good { line_fault reader ≡ None → good_left S.left result
             ≡ option_map (good block_format (input_of reader)) (lines_left S.left reader) }
         ensures none_last { last_locus result ≡ None }
-        ensures none_ahead { line_ahead result ≡ None }
+        ensures none_buffered { buffered_in result ≡ [] }
     {
         Blocks {
             sorted: SortedReader::new(alloc, reader, InBlocks),
         }
     }
 
-    /// The record ahead, or none at the end of the input. It reads on only where no record is ahead,
-    /// and after a fault and after the end nothing is read. A line that couldn't be read is reported
-    /// before what is wrong with it, and want of memory for its chromosome's name after. Memory is
-    /// taken for the line, and where the chromosome is another than that of the record before.
+    /// Makes at least one record buffered, and returns true if there is one: there is none at the end of the input. It
+    /// reads nothing while one is buffered, and after a fault, which is answered again, and after the end. A line that
+    /// couldn't be read is reported before what is wrong with it, and want of memory for its chromosome's name after.
+    /// Memory is taken for the line, and where the chromosome is another than that of the record before.
+    #[inline(always)]
+    pub fn fill(&mut self) -> Result<bool, Fault>
+        ensures { FillsBlocks S.left S.has_failed S.end_told S.is_read self.old result self.new }
+    {
+        self.sorted.fill()
+    }
+
+    /// The records that are buffered, on the chromosome of the first of them.
+    pub fn buffered(&self) -> Batch<'_>
+        ensures { Lends self.now result }
+    {
+        self.sorted.buffered()
+    }
+
+    /// Takes the records that were consumed of what [`Blocks::buffered`] lent. It reads nothing and takes no memory.
+    pub fn consume(&mut self, consumed: Consumed)
+        requires { IsTaken self.old consumed }
+        ensures { TakesBlocks S.left S.end_told self.old (count_in self.old consumed) self.new }
+    {
+        self.sorted.consume(consumed);
+    }
+
+    /// The record ahead, or none at the end of the input: `fill`, and the first of those buffered.
     #[inline]
     pub fn peek(&mut self) -> Result<Option<BedRef<'_>>, Fault>
         ensures* after { sem 𝓛 (Rests (the_row S.row) self.entry
             (λ new. PeeksBlocks S.left S.has_failed S.end_told S.is_read self.old result new)) }
     {
-        self.step()?;
-        Ok(self.sorted.record())
+        self.fill()?;
+        Ok(self.sorted.first())
     }
 
-    /// Passes the record ahead, which the last `peek` gave. It reads nothing and takes no memory.
+    /// Takes the record ahead, which the last `peek` gave: `consume` of one.
     pub fn advance(&mut self)
         requires { IsSome (line_ahead self.old) }
-        ensures { PassesBlocks S.left self.old self.new }
+        ensures { PassesBlocks S.left S.end_told self.old self.new }
     {
         self.sorted.advance();
     }
@@ -80,13 +105,6 @@ impl<S: Source> Blocks<S> {
     {
         let Blocks { sorted } = self;
         sorted.into_reader()
-    }
-
-    // Reads on to the next record, if none is ahead and there is one.
-    fn step(&mut self) -> Result<(), Fault>
-        ensures { StepsBlocks S.left S.has_failed S.end_told S.is_read self.old result self.new }
-    {
-        self.sorted.step()
     }
 }
 

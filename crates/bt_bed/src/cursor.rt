@@ -1,16 +1,16 @@
 //! Records that come one after another, on one chromosome.
 
-ghost use Rattle.std.specs.Prelude.{◌≡◌, ◌∷◌, ◌++◌, ◌<◌, ℕ, ⊤, [], List, Some, IfSome, IfNone, refl};
+ghost use Rattle.std.specs.Prelude.{◌≡◌, ◌∷◌, ◌++◌, ◌<◌, ℕ, ⊤, [], List, Some, IfSome, IfNone, false, refl, true};
 ghost use Rattle.bt_bed.specs.Feature.{Feature};
 ghost use Rattle.bt_bed.specs.declared.bed.BedRef.{BedRef};
 
+use crate::batch::Batch;
 use crate::bed::BedRef;
 use crate::record::Record;
-use crate::record_line::RecordLine;
-use crate::whole_records::WholeRecords;
+use crate::raw_record::RawRecord;
 
 /// Records of one chromosome in order, of which the first are consumed: those that a reader has buffered
-/// ([`WholeRecords`](crate::WholeRecords)), or one ([`Single`]).
+/// ([`Batch`]), or one ([`Single`]).
 pub trait Cursor: Copy {
     type Record: Record;
 
@@ -26,9 +26,16 @@ pub trait Cursor: Copy {
     // It falls with each record.
     ghost room: { Self → ℕ };
 
+    // The line of the record that was consumed last.
+    ghost line: { Self → ℕ };
+
     /// The chromosome of the records.
     fn chrom(&self) -> &[u8]
         ensures { result.now ≡ name self.now };
+
+    /// The line on which the record stands that was consumed last.
+    fn line(&self) -> u64
+        ensures { result ≡ line self.now };
 
     /// The next record, which is consumed.
     fn next(&mut self) -> Option<Self::Record>
@@ -44,6 +51,9 @@ pub trait Cursor: Copy {
 
     // What is given after others is given after these.
     ghost gives_more: { (old mid new : Self) (xs ys : List Feature) → gives old xs mid → gives mid ys new → gives old (xs ++ ys) new };
+
+    // One record comes next.
+    ghost gives_same: { (old mid new : Self) (x y : Feature) (ys : List Feature) → gives old (x ∷ []) mid → gives old (y ∷ ys) new → x ≡ y };
 }
 
 /// One record that a caller gives, or none.
@@ -51,30 +61,56 @@ pub trait Cursor: Copy {
 pub struct Single<'a> {
     chrom: &'a [u8],
     bed: Option<BedRef<'a>>,
+    line: u64,
     ghost on: { (r : BedRef) → bed ≡ Some r → r.chrom.now ≡ chrom.now },
 }
 
-#[tactic(auto, unfolding(crate::specs::Single::single_left, crate::specs::Single::single_name))]
+#[tactic(auto, unfolding(crate::specs::Single::single_left, crate::specs::Single::single_name, crate::specs::Single::single_line))]
 impl<'a> Single<'a> {
     ghost use Rattle.bt_bed.specs.Bed.{feature_lent};
-    ghost use Rattle.bt_bed.specs.Single.{single_left, single_name};
+    ghost use Rattle.bt_bed.specs.Single.{single_left, single_line, single_name};
 
-    /// This record.
-    pub fn new(bed: BedRef<'a>) -> Single<'a>
+    /// This record, which stands on a line.
+    pub fn new(bed: BedRef<'a>, line: u64) -> Single<'a>
         ensures left { single_left result ≡ feature_lent bed.entry ∷ [] }
         ensures chrom { single_name result ≡ bed.entry.chrom.now }
+        ensures line { single_line result ≡ line }
     {
         Single {
             chrom: bed.chrom,
             bed: Some(bed),
+            line,
+        }
+    }
+
+    /// No record, on a chromosome.
+    pub fn none(chrom: &'a [u8]) -> Single<'a>
+        ensures left { single_left result ≡ [] }
+        ensures chrom { single_name result ≡ chrom.now }
+    {
+        Single {
+            chrom,
+            bed: None,
+            line: 0,
+        }
+    }
+
+    /// Whether it has no record, or that was consumed.
+    pub fn is_empty(&self) -> bool
+        ensures some { result ≡ false → (r : Feature) × (single_left self.now ≡ r ∷ []) }
+        ensures none { result ≡ true → single_left self.now ≡ [] }
+    {
+        match self.bed {
+            None => true,
+            Some(_) => false,
         }
     }
 }
 
-#[tactic(auto, unfolding(crate::specs::Single::single_left, crate::specs::Single::single_name))]
+#[tactic(auto, unfolding(crate::specs::Single::single_left, crate::specs::Single::single_name, crate::specs::Single::single_line))]
 impl<'a> Cursor for Single<'a> {
-    ghost use Rattle.bt_bed.specs.CursorLaws.{single_gives_more, single_gives_none};
-    ghost use Rattle.bt_bed.specs.Single.{GivesSingle, HasNone, single_name, single_room};
+    ghost use Rattle.bt_bed.specs.CursorLaws.{single_gives_more, single_gives_none, single_gives_same};
+    ghost use Rattle.bt_bed.specs.Single.{GivesSingle, HasNone, single_line, single_name, single_room};
 
     type Record = BedRef<'a>;
 
@@ -86,8 +122,14 @@ impl<'a> Cursor for Single<'a> {
 
     ghost room = { single_room };
 
+    ghost line = { single_line };
+
     fn chrom(&self) -> &[u8] {
         self.chrom
+    }
+
+    fn line(&self) -> u64 {
+        self.line
     }
 
     #[inline(always)]
@@ -100,34 +142,44 @@ impl<'a> Cursor for Single<'a> {
     ghost gives_none = { single_gives_none };
 
     ghost gives_more = { single_gives_more };
+
+    ghost gives_same = { single_gives_same };
 }
 
-impl<'a> Cursor for WholeRecords<'a> {
-    ghost use Rattle.bt_bed.specs.CursorLaws.{wholes_give_more};
-    ghost use Rattle.bt_bed.specs.WholeRecords.{GivesWholes, bytes_ahead, chrom_in};
+impl<'a> Cursor for Batch<'a> {
+    ghost use Rattle.bt_bed.specs.Batch.{HasEnded, Passes, batch_room, chrom_in, line_in};
+    ghost use Rattle.bt_bed.specs.CursorLaws.{batch_gives_more, batch_gives_none, batch_gives_same};
 
-    type Record = RecordLine<'a>;
+    type Record = RawRecord<'a>;
 
     ghost name = { chrom_in };
 
-    ghost gives = { GivesWholes };
+    ghost gives = { Passes };
 
-    ghost has_ended = { λ whole. ⊤ };
+    ghost has_ended = { HasEnded };
 
-    ghost room = { bytes_ahead };
+    ghost room = { batch_room };
+
+    ghost line = { line_in };
 
     fn chrom(&self) -> &[u8] {
         self.chrom()
     }
 
-    #[inline(always)]
-    fn next(&mut self) -> Option<RecordLine<'a>> {
-        self.next_line()
+    fn line(&self) -> u64 {
+        self.line()
     }
 
-    ghost gives_none = { λ whole. refl };
+    #[inline(always)]
+    fn next(&mut self) -> Option<RawRecord<'a>> {
+        self.next()
+    }
 
-    ghost gives_more = { wholes_give_more };
+    ghost gives_none = { batch_gives_none };
+
+    ghost gives_more = { batch_gives_more };
+
+    ghost gives_same = { batch_gives_same };
 }
 
 #[cfg(test)]

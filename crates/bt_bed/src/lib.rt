@@ -4,9 +4,8 @@
 //! keeps it; both are written whole or in parts ([`write_bed`], [`write_cut`], [`put_bed`],
 //! [`put_cut`]). [`Records`] reads the features of sorted input in an order of the chromosomes
 //! ([`ChromOrder`]), that of a [`Genome`] or of the bytes of their names ([`ByteOrder`]), and [`Blocks`]
-//! those of input in which only the records of a chromosome that stand together are sorted. Where several
-//! records stand whole in what was read, [`WholeRecords`] gives one after another, or the line of each
-//! ([`RecordLine`]), and the reader is told once what was passed.
+//! those of input in which only the records of a chromosome that stand together are sorted. Both lend the
+//! records that are buffered as a [`Batch`], and are told once what was consumed of it.
 //!
 //! An example, which is the test in `example.rt`: the records of a source, in the order of a genome
 //! file that has `chr1` first.
@@ -30,13 +29,13 @@
 //! ```
 #![tactic(auto)]
 
+mod batch;
 mod bed;
 mod blocks;
 mod bounds;
 mod byte_order;
 mod columns;
 mod cursor;
-mod direct;
 mod entry;
 #[cfg(test)]
 mod example;
@@ -48,6 +47,7 @@ mod genome_order;
 mod growth_tests;
 mod header;
 mod interval_line;
+mod kept_strand;
 mod kept_text;
 pub mod laws;
 mod leading;
@@ -57,19 +57,18 @@ mod neighbours;
 mod order;
 mod parsing;
 mod putting;
+mod raw_record;
 mod rec;
 mod record;
-mod record_line;
 mod records;
 mod sorted;
 mod sorted_reader;
-mod spot;
 mod strand;
 mod tabs;
 mod taken;
-mod whole_records;
 mod writing;
 
+pub use batch::{Batch, Consumed};
 pub use bed::BedRef;
 pub use blocks::Blocks;
 pub use bounds::Bounds;
@@ -82,11 +81,10 @@ pub use names::is_same_name;
 pub use order::ChromOrder;
 pub use parsing::parse_bed;
 pub use putting::{put_bed, put_cut};
+pub use raw_record::RawRecord;
 pub use rec::Rec;
 pub use record::Record;
-pub use record_line::RecordLine;
 pub use records::Records;
 pub use strand::Strand;
 pub use taken::Taken;
-pub use whole_records::{PassedRecords, WholeRecords};
 pub use writing::{write_bed, write_cut};

@@ -18,9 +18,16 @@ pub(crate) struct NameKey {
 }
 
 impl NameKey {
-    // The key of a name, from the first eight bytes of a line on its chromosome.
+    // The key of a name.
+    pub(crate) fn of(name: &[u8]) -> NameKey
+        ensures { HasKey name.now result }
+    {
+        NameKey::new(&front_of(name), name)
+    }
+
+    // The key of a name, from eight bytes that begin with it and a tab.
     #[inline(always)]
-    pub(crate) fn new(bytes: &[u8; 8], name: &[u8]) -> NameKey
+    fn new(bytes: &[u8; 8], name: &[u8]) -> NameKey
         requires { length name.now ≤ 7 → take (length name.now + 1) bytes.now ≡ name.now ++ 9 ∷ [] }
         ensures { HasKey name.now result }
     {
@@ -39,6 +46,18 @@ impl NameKey {
     {
         upper_word(bytes, self.factor) == self.word
     }
+}
+
+// Eight bytes that begin with a name and a tab, if it is a short one.
+fn front_of(name: &[u8]) -> [u8; 8]
+    ensures { length name.now ≤ 7 → take (length name.now + 1) result ≡ name.now ++ 9 ∷ [] }
+{
+    let mut bytes = [b'\t'; 8];
+    if name.len() > LONGEST_KEYED {
+        return bytes;
+    }
+    bytes[..name.len()].copy_from_slice(name);
+    bytes
 }
 
 // What moves a name of this length and a tab to the upper bytes of a number.

@@ -7,8 +7,8 @@ ghost use Rattle.bt_lines.specs.Lines.{pieces};
 ghost use Rattle.bt_lines.specs.Number.{value_of};
 
 use crate::bed::BedRef;
-use crate::direct::{direct_feature, kept_strand};
 use crate::header::is_header;
+use crate::kept_strand::kept_strand;
 use crate::strand::Strand;
 use bt_lines::{Kind, columns, number};
 
@@ -17,7 +17,6 @@ use bt_lines::{Kind, columns, number};
 /// the first that applies: fewer than three columns, an empty name of a chromosome, a start or an end
 /// that isn't a number of at most twelve digits, a start that isn't below the end. No memory is taken,
 /// and the feature borrows from the text.
-#[inline(always)]
 pub fn parse_bed(text: &[u8]) -> Result<Option<BedRef<'_>>, Kind>
     ensures said { record_seen result ≡ record_of text.now }
     ensures suffix { EndsWithRest text.now result }
@@ -25,17 +24,12 @@ pub fn parse_bed(text: &[u8]) -> Result<Option<BedRef<'_>>, Kind>
     if is_header(text) {
         return Ok(None);
     }
-    if let Some(feature) = direct_feature(text) {
-        return Ok(Some(feature));
-    }
     let feature = first_columns(text)?;
     Ok(Some(feature))
 }
 
 // The feature of a text's columns. What it keeps isn't copied: it begins at the tab after the third
 // column.
-#[cold]
-#[inline(never)]
 fn first_columns(text: &[u8]) -> Result<BedRef<'_>, Kind>
     ensures { feature_seen result ≡ columns_say (pieces 9 text.now) }
 {

@@ -4,14 +4,14 @@ ghost use Rattle.std.specs.Prelude.{◌≡◌, IfSome};
 ghost use Rattle.bt_bed.specs.Bed.{feature_lent};
 ghost use Rattle.bt_bed.specs.Feature.{Feature};
 ghost use Rattle.bt_bed.specs.Record.{IsFeature, bed_text};
-ghost use Rattle.bt_bed.specs.RecordLine.{record_in};
+ghost use Rattle.bt_bed.specs.RawRecord.{record_in};
 
 use crate::bed::BedRef;
-use crate::direct::kept_strand;
-use crate::record_line::RecordLine;
+use crate::kept_strand::kept_strand;
+use crate::raw_record::RawRecord;
 use crate::strand::Strand;
 
-/// A record: a line that a reader has buffered ([`RecordLine`]), or a [`BedRef`] that a caller gives.
+/// A record: a line that a reader has buffered ([`RawRecord`]), or a [`BedRef`] that a caller gives.
 pub trait Record: Copy {
     // The record.
     ghost feature: { Self → Feature };
@@ -28,6 +28,10 @@ pub trait Record: Copy {
     fn stop(&self) -> u64
         ensures is { result ≡ (feature self.now).stop }
         ensures said { IsFeature (feature self.now) };
+
+    /// Its text, where that is at hand as the record is written.
+    fn written(&self) -> Option<&[u8]>
+        ensures { IfSome result (λ text. text.now ≡ bed_text (feature self.now)) };
 
     /// Its strand.
     fn strand(&self) -> Strand
@@ -53,18 +57,23 @@ impl<'a> Record for BedRef<'a> {
     }
 
     #[inline(always)]
+    fn written(&self) -> Option<&[u8]> {
+        None
+    }
+
+    #[inline(always)]
     fn strand(&self) -> Strand {
         self.strand
     }
 }
 
-#[tactic(auto, unfolding(crate::specs::RecordLine::record_in, crate::specs::RecordLine::kept_in))]
-impl<'a> Record for RecordLine<'a> {
+#[tactic(auto, unfolding(crate::specs::RawRecord::record_in, crate::specs::RawRecord::kept_in))]
+impl<'a> Record for RawRecord<'a> {
     ghost feature = { record_in };
 
     #[inline(always)]
     fn bed(&self) -> BedRef<'_> {
-        self.bed()
+        self.to_bed()
     }
 
     #[inline(always)]
@@ -75,6 +84,15 @@ impl<'a> Record for RecordLine<'a> {
     #[inline(always)]
     fn stop(&self) -> u64 {
         self.stop.value
+    }
+
+    #[inline(always)]
+    fn written(&self) -> Option<&[u8]> {
+        if self.is_as_written() {
+            Some(self.text)
+        } else {
+            None
+        }
     }
 
     #[inline(always)]

@@ -1,20 +1,20 @@
-//! The records of a BED input, one after another.
+//! The records of a BED input, as many at a time as were read.
 
 ghost use Rattle.bt_bed.specs.SortedReader.{IsPlaced, view_in};
 ghost use Rattle.bt_bed.specs.Sorting.{sorting_of};
 
+use crate::batch::{Batch, Consumed};
 use crate::bed::BedRef;
 use crate::order::ChromOrder;
 use crate::sorted::ByOrder;
 use crate::sorted_reader::SortedReader;
-use crate::whole_records::{PassedRecords, WholeRecords};
 use bt_lines::{Fault, LineReader, Source};
 use std::alloc::Global;
 
 /// Reads the records of a BED input, and reports the first line at fault: one that isn't a feature, has
 /// a chromosome that the order doesn't know, or lies below the record before it, by chromosome and
-/// then by start. Header lines and blank lines are skipped. The record ahead is lent until the next
-/// call.
+/// then by start. Header lines and blank lines are skipped. `fill` makes a record buffered, or the end, `buffered` lends
+/// the records, and `consume` takes some of them.
 #[derive(Drop)]
 pub struct Records<'o, S, O: ChromOrder> {
     // Always valid: `placed` says that it goes by the order.
@@ -25,19 +25,16 @@ pub struct Records<'o, S, O: ChromOrder> {
 
 #[tactic(auto, unfolding(crate::specs::SortedReader::view_with, crate::specs::Records::view_of, crate::specs::Records::order_in))]
 impl<'o, S: Source, O: ChromOrder> Records<'o, S, O> {
-    ghost use Rattle.std.specs.Prelude.{◌≡◌, ℕ, Bool, [], List, Option, Some, None, IfSome, IsSome, option_map};
+    ghost use Rattle.std.specs.Prelude.{◌≡◌, [], ◌∷◌, List, None, Some, IsSome, option_map};
     ghost use Rattle.std.specs.Borrow.{sem};
     ghost use Rattle.std.specs.Io.BufRead.{Rests};
     ghost use mir.Syntax.{named};
-    ghost use Rattle.bt_lines.specs.Reader.{fault_kept as line_fault, input_of, lines_given, lines_left};
+    ghost use Rattle.bt_lines.specs.Reader.{fault_kept as line_fault, input_of, lines_left};
     ghost use Rattle.bt_bed.specs.contracts.records.Records.{the_row};
-    ghost use Rattle.bt_bed.specs.Bed.{feature_lent};
-    ghost use Rattle.bt_bed.specs.Feature.{Feature};
     ghost use Rattle.bt_bed.specs.Good.{good};
-    ghost use Rattle.bt_bed.specs.WholeRecords.{ArePassed, LendsWhole, PassesEach};
     ghost use Rattle.bt_bed.specs.GoodBed.{bed_format};
     ghost use Rattle.bt_bed.specs.Order.{IsTotal};
-    ghost use Rattle.bt_bed.specs.Records.{GivesRecord, PassesRecord, PeeksRecord, StepsRecord, below, fault_kept, good_left, last_locus, line_ahead, order_in, record_ahead};
+    ghost use Rattle.bt_bed.specs.Records.{FillsRecords, IsTaken, Lends, PassesRecord, PeeksRecord, TakesRecords, below, buffered_in, count_in, fault_kept, good_left, last_locus, line_ahead, order_in};
 
     /// A reader of the records that the reader of lines has left.
     pub fn new(alloc: Global, reader: LineReader<S>, order: &'o O) -> Records<'o, S, O>
@@ -49,56 +46,56 @@ impl<'o, S: Source, O: ChromOrder> Records<'o, S, O> {
             ≡ option_map (good (bed_format (sorting_of (O.order order.now))) (input_of reader))
             (lines_left S.left reader) }
         ensures none_last { last_locus result ≡ None }
-        ensures none_ahead { line_ahead result ≡ None }
+        ensures none_buffered { buffered_in result ≡ [] }
     {
         Records {
             sorted: SortedReader::new(alloc, reader, ByOrder { order }),
         }
     }
 
-    /// The record ahead, or none at the end of the input. It reads on only where no record is ahead,
-    /// and after a fault and after the end nothing is read. A line that couldn't be read is reported
-    /// before what is wrong with it, and want of memory for its chromosome's name after. Memory is
-    /// taken for the line, and where the chromosome is another than that of the record before.
+    /// Makes at least one record buffered, and returns true if there is one: there is none at the end of the input. It
+    /// reads nothing while one is buffered, and after a fault, which is answered again, and after the end. A line that
+    /// couldn't be read is reported before what is wrong with it, and want of memory for its chromosome's name after.
+    /// Memory is taken for the line, and where the chromosome is another than that of the record before.
+    #[inline(always)]
+    pub fn fill(&mut self) -> Result<bool, Fault>
+        ensures { FillsRecords S.left S.has_failed S.end_told S.is_read self.old result self.new }
+    {
+        self.sorted.fill()
+    }
+
+    /// The records that are buffered, on the chromosome of the first of them.
+    pub fn buffered(&self) -> Batch<'_>
+        ensures { Lends self.now result }
+    {
+        self.sorted.buffered()
+    }
+
+    /// Takes the records that were consumed of what [`Records::buffered`] lent. It reads nothing and takes no memory.
+    pub fn consume(&mut self, consumed: Consumed)
+        requires { IsTaken self.old consumed }
+        ensures { TakesRecords S.left S.end_told self.old (count_in self.old consumed) self.new }
+    {
+        self.sorted.consume(consumed);
+    }
+
+    /// The record ahead, or none at the end of the input: `fill`, and the first of those buffered.
     #[inline]
     pub fn peek(&mut self) -> Result<Option<BedRef<'_>>, Fault>
         ensures* after { sem 𝓛 (Rests (the_row (record { mir = named 0; lft = [] }) S.row O.row O.ChromOrder)
             self.entry
             (λ new. PeeksRecord S.left S.has_failed S.end_told S.is_read self.old result new)) }
     {
-        self.step()?;
-        Ok(self.sorted.record())
+        self.fill()?;
+        Ok(self.sorted.first())
     }
 
-    /// Passes the record ahead, which the last `peek` gave. It reads nothing and takes no memory.
+    /// Takes the record ahead, which the last `peek` gave: `consume` of one.
     pub fn advance(&mut self)
         requires { IsSome (line_ahead self.old) }
-        ensures { PassesRecord S.left self.old self.new }
+        ensures { PassesRecord S.left S.end_told self.old self.new }
     {
         self.sorted.advance();
-    }
-
-    /// The records that stand whole in what was taken ahead, on the chromosome of the record that was passed
-    /// last. There are none before the first record, where one is ahead, and after a fault.
-    #[inline(always)]
-    pub fn whole(&self) -> Option<WholeRecords<'_>>
-        ensures { IfSome result (LendsWhole self.now) }
-    {
-        self.sorted.whole()
-    }
-
-    /// Gives the records that were passed in what [`Records::whole`] lent, as `peek` does one after another, and
-    /// passes them. It reads nothing and takes no memory.
-    #[inline(always)]
-    pub fn pass(&mut self, passed: PassedRecords)
-        requires { (records : List Feature) × ArePassed self.old records passed }
-        ensures { (records : List Feature) → ArePassed self.old records passed
-            → PassesEach S.left S.has_failed S.end_told S.is_read self.old records self.new }
-    {
-        if passed.lines.lines == 0 {
-            return;
-        }
-        self.sorted.pass(passed);
     }
 
     /// The line of the record ahead, which the last `peek` gave.
@@ -109,39 +106,12 @@ impl<'o, S: Source, O: ChromOrder> Records<'o, S, O> {
         self.sorted.line()
     }
 
-    /// How many lines were read, that of a record ahead too.
-    #[inline(always)]
-    pub fn lines(&self) -> u64
-        ensures { result ≡ lines_given (below self.now) }
-    {
-        self.sorted.lines()
-    }
-
     /// Gives back the reader of lines.
     pub fn into_reader(self) -> LineReader<S>
         ensures { result ≡ below self.entry }
     {
         let Records { sorted } = self;
         sorted.into_reader()
-    }
-
-    /// Reads on to the next record, if none is ahead and there is one, as `peek` does, but doesn't lend
-    /// it: with [`Records::record`] its line can be asked for while it is lent.
-    #[inline]
-    pub fn step(&mut self) -> Result<(), Fault>
-        ensures { StepsRecord S.left S.has_failed S.end_told S.is_read self.old result self.new }
-    {
-        self.sorted.step()
-    }
-
-    /// The record ahead, if `step` or `peek` found one, which those give again as it is.
-    #[inline]
-    pub fn record(&self) -> Option<BedRef<'_>>
-        ensures is { option_map feature_lent result ≡ record_ahead self.now }
-        ensures again { (left : S → Option (List ℕ)) (failed : S → Bool)
-            → IfSome result (λ bed. GivesRecord left failed self.now (feature_lent bed) self.now) }
-    {
-        self.sorted.record()
     }
 }
 
@@ -515,65 +485,56 @@ mod tests {
         Ok(())
     }
 
-    // The next record, if it stands whole, with the line 0. It is passed.
-    fn pass_next<S: Source>(
+    // Takes the records of the next batch, at most so many, and answers whether there was one.
+    fn take_batch<S: Source>(
         genome: &Genome,
         records: &mut Records<'_, S, Genome>,
-    ) -> Option<Found> {
-        let mut whole = records.whole()?;
-        let bed = whole.next()?;
-        let found = seen(genome, 0, bed);
-        let passed = whole.passed();
-        records.pass(passed);
-        Some(found)
+        most: usize,
+        found: &mut Vec<Found>,
+    ) -> Result<Result<bool, Fault>, AllocError> {
+        match records.fill() {
+            Ok(true) => {}
+            other => return Ok(other),
+        }
+        let mut batch = records.buffered();
+        for _ in 0..most {
+            if let Some(record) = batch.next() {
+                found.push(seen(genome, batch.line(), record.to_bed()))?;
+            }
+        }
+        let consumed = batch.consumed();
+        records.consume(consumed);
+        Ok(Ok(true))
     }
 
-    // The records that are left, those that stand whole passed as such, each with the line 0, and the fault.
-    fn collect_whole<S: Source>(
+    // The records that are left, taken in batches of at most so many, and the fault.
+    fn collect_batches<S: Source>(
         alloc: Global,
         genome: &Genome,
         records: &mut Records<'_, S, Genome>,
+        most: usize,
     ) -> Result<(Vec<Found>, Option<Fault>), AllocError> {
         let mut found = Vec::new(alloc);
         for _ in 0..100 {
-            if let Some(one) = pass_next(genome, records) {
-                found.push(one)?;
-                continue;
-            }
-            match records.peek() {
-                Ok(Some(bed)) => found.push(seen(genome, 0, bed))?,
-                Ok(None) => return Ok((found, None)),
+            match take_batch(genome, records, most, &mut found)? {
+                Ok(true) => {}
+                Ok(false) => return Ok((found, None)),
                 Err(fault) => return Ok((found, Some(fault))),
             }
-            records.advance();
         }
         Ok((found, None))
     }
 
-    // Whether both have the same records, whatever their lines.
-    fn are_alike(found: &[Found], want: &[Found]) -> bool {
-        if found.len() != want.len() {
-            return false;
-        }
-        for index in 0..found.len() {
-            let (_, rank, start, stop) = found[index];
-            let (_, want_rank, want_start, want_stop) = want[index];
-            if (rank, start, stop) != (want_rank, want_start, want_stop) {
-                return false;
-            }
-        }
-        true
-    }
-
-    // The first text of a table that gives other records or another fault where the records that stand whole
-    // are passed as such, in pieces of seven bytes or in one.
-    fn first_passed_otherwise(
+    // The first text of a table that gives other records or another fault in batches of at most so many, in pieces of
+    // seven bytes or in one.
+    fn first_taken_otherwise(
         alloc: Global,
         rows: &[Row<'static>],
+        most: usize,
     ) -> Result<Option<&'static [u8]>, Fail> {
         let genome = read_genome(alloc)?;
         for row in rows {
-            if !passes(alloc, &genome, *row, 7)? || !passes(alloc, &genome, *row, 8192)? {
+            if !takes(alloc, &genome, *row, 7, most)? || !takes(alloc, &genome, *row, 8192, most)? {
                 return Ok(Some(row.0));
             }
         }
@@ -581,11 +542,12 @@ mod tests {
     }
 
     // Whether a text that comes in pieces of this many bytes gives the records and the fault so.
-    fn passes(
+    fn takes(
         alloc: Global,
         genome: &Genome,
         row: Row<'_>,
         step: usize,
+        most: usize,
     ) -> Result<bool, AllocError> {
         let (text, want, want_fault) = row;
         let lines = LineReader::new(
@@ -594,16 +556,18 @@ mod tests {
             Input::First,
         );
         let mut records = Records::new(alloc, lines, genome);
-        let collected = collect_whole(alloc, genome, &mut records);
+        let collected = collect_batches(alloc, genome, &mut records, most);
         let _ = records.into_reader().into_source();
         let (found, fault) = collected?;
-        Ok(are_alike(found.as_slice(), want) && is_fault(fault, want_fault))
+        Ok(found.as_slice() == want && is_fault(fault, want_fault))
     }
 
     #[test]
-    fn passes_records_that_stand_whole(rt: HostRuntime) -> Result<(), Fail> {
-        assert_eq!(rt; first_passed_otherwise(rt.alloc(), &IN_ORDER)?, None);
-        assert_eq!(rt; first_passed_otherwise(rt.alloc(), &AT_FAULT)?, None);
+    fn takes_records_in_batches(rt: HostRuntime) -> Result<(), Fail> {
+        for most in [1, 2, 9] {
+            assert_eq!(rt; first_taken_otherwise(rt.alloc(), &IN_ORDER, most)?, None);
+            assert_eq!(rt; first_taken_otherwise(rt.alloc(), &AT_FAULT, most)?, None);
+        }
         Ok(())
     }
 }

@@ -1,42 +1,39 @@
 //! A reader of sorted records, whatever the rule by which they are sorted.
 
-ghost use Rattle.std.specs.Prelude.{◌≡◌, IsSome, true};
-ghost use Rattle.bt_lines.specs.Reader.{line_at};
-ghost use Rattle.bt_bed.specs.Ahead.{text_at};
-ghost use Rattle.bt_bed.specs.Neighbours.{IsSaidBy, has_ahead};
+ghost use Rattle.std.specs.Prelude.{◌≡◌, None, true};
+ghost use Rattle.bt_bed.specs.Run.{is_some_left};
+ghost use Rattle.bt_bed.specs.Ahead.{ahead_of};
 
+use crate::batch::{Batch, Consumed};
 use crate::bed::BedRef;
 use crate::neighbours::Neighbours;
 use crate::sorted::Sorted;
-use crate::whole_records::{PassedRecords, WholeRecords};
 use bt_lines::{Fault, LineReader, Place, Source};
 use std::alloc::Global;
 
-// The line that the reader is at says the record ahead, if there is one: it has the kept columns, so
-// that they aren't copied. The fault is that of a line or of a name that had no room, and the reader
-// keeps its own.
+// Where a record is ahead, the reader's next line says it. The fault is that of a line or of a name that had no room, or
+// the reader's own.
 #[derive(Drop)]
 pub(crate) struct SortedReader<S, Q> {
-    // At the line of the record ahead, where there is one, else after the last line read.
     reader: LineReader<S>,
     pub(crate) neighbours: Neighbours<Q>,
+    // Whether the reader's next line is known to say a record that fits behind the last one.
+    is_ahead: bool,
     // `None` until a line is at fault; then it stays.
     fault: Option<Fault>,
-    ghost said: { IsSaidBy (text_at (line_at reader)) neighbours },
-    ghost at_line: { has_ahead neighbours ≡ true → IsSome (line_at reader) },
+    ghost ahead: { is_ahead ≡ true → is_some_left (ahead_of is_ahead reader neighbours) ≡ true },
+    ghost going: { is_ahead ≡ true → fault ≡ None },
 }
 
-#[tactic(auto, unfolding(crate::specs::SortedReader::view_with))]
+#[tactic(auto, unfolding(crate::specs::SortedReader::view_with, crate::specs::SortedReader::buffered_in))]
 impl<S: Source, Q: Sorted + Drop> SortedReader<S, Q> {
-    ghost use Rattle.std.specs.Prelude.{◌≡◌, ℕ, List, None, Some, false, true, IfSome, IsSome, option_map};
-    ghost use Rattle.bt_lines.specs.Names.{told};
-    ghost use Rattle.bt_lines.specs.Reader.{fault_kept as line_fault, held, lines_given};
-    ghost use Rattle.bt_lines.specs.Whole.{ArePassed as AreLinesPassed, GivesPlains};
-    ghost use Rattle.bt_bed.specs.WholeInside.{LendsFrom, StartsAt};
+    ghost use Rattle.std.specs.Prelude.{◌≡◌, ◌+◌, ◌<◌, ◌∷◌, [], List, None, Ok, false, true, IfSome, IfNone, length, take};
+    ghost use Rattle.bt_lines.specs.Reader.{buffered_bytes, fault_kept as line_fault, lines_given};
     ghost use Rattle.bt_bed.specs.Bed.{feature_lent};
-    ghost use Rattle.bt_bed.specs.SortedReader.{IsPlaced, answer_of, fault_in, view_in, view_with};
-    ghost use Rattle.bt_bed.specs.Neighbours.{has_ahead, last_in};
-    ghost use Rattle.bt_bed.specs.Reading.{Advances, Stepped, TellsOwnFailure, line_of_ahead};
+    ghost use Rattle.bt_bed.specs.Feature.{Feature};
+    ghost use Rattle.bt_bed.specs.Neighbours.{IsKnownLast, last_in};
+    ghost use Rattle.bt_bed.specs.Reading.{Fills, Takes, TellsOwnFailure};
+    ghost use Rattle.bt_bed.specs.SortedReader.{IsPlaced, IsTaken, Lends, TakesFirst, buffered_in, count_in, fault_in, view_in, view_with};
 
     // No record yet.
     pub(crate) fn new(alloc: Global, reader: LineReader<S>, rule: Q) -> SortedReader<S, Q>
@@ -44,73 +41,23 @@ impl<S: Source, Q: Sorted + Drop> SortedReader<S, Q> {
         ensures reader { result.reader ≡ reader }
         ensures fault { result.fault ≡ None }
         ensures last { last_in result.neighbours ≡ None }
-        ensures ahead { has_ahead result.neighbours ≡ false }
+        ensures none { buffered_in result ≡ [] }
     {
         SortedReader {
             reader,
             neighbours: Neighbours::new(alloc, rule),
+            is_ahead: false,
             fault: None,
         }
     }
 
-    // The line of the record ahead.
-    pub(crate) fn line(&self) -> u64
-        requires { IsSome (line_of_ahead (view_in (Q.sorting self.now.neighbours.rule) self.now)) }
-        ensures { line_of_ahead (view_in (Q.sorting self.now.neighbours.rule) self.now) ≡ Some result }
-    {
-        self.neighbours.line()
-    }
-
-    // Makes the record ahead the last one.
-    pub(crate) fn advance(&mut self)
-        requires { IsSome (line_of_ahead (view_in (Q.sorting self.old.neighbours.rule) self.old)) }
-        ensures rule { self.new.neighbours.rule ≡ self.old.neighbours.rule }
-        ensures passed { Advances S.left (view_in (Q.sorting self.old.neighbours.rule) self.old)
-            (view_in (Q.sorting self.old.neighbours.rule) self.new) }
-    {
-        self.neighbours.advance();
-    }
-
-    // The records that stand whole in what was taken ahead, on the chromosome of the last one.
+    // Makes at least one record buffered, and answers whether it did: it didn't at the end.
     #[inline(always)]
-    pub(crate) fn whole(&self) -> Option<WholeRecords<'_>>
-        ensures { IfSome result (LendsFrom self.now.fault self.now.reader self.now.neighbours) }
-    {
-        if self.fault.is_some() || !self.reader.may_pass() {
-            return None;
-        }
-        self.neighbours.whole(self.reader.whole_lines())
-    }
-
-    // Passes the records that were passed there.
-    pub(crate) fn pass(&mut self, passed: PassedRecords)
-        requires going { line_fault self.old.reader ≡ None }
-        requires none_ahead { has_ahead self.old.neighbours ≡ false }
-        requires some { IsSome self.old.neighbours.last }
-        requires whole { (texts : List (List ℕ)) × AreLinesPassed (held self.old.reader) texts passed.lines }
-        ensures lines { (texts : List (List ℕ)) → AreLinesPassed (held self.old.reader) texts passed.lines
-            → GivesPlains S.left S.has_failed S.end_told S.is_read self.old.reader texts self.new.reader }
-        ensures start { StartsAt self.old.neighbours passed.start self.new.neighbours }
-        ensures fault { self.new.fault ≡ self.old.fault }
-    {
-        self.reader.pass(passed.lines);
-        self.neighbours.pass(passed.start);
-    }
-
-    // How many lines were read.
-    #[inline(always)]
-    pub(crate) fn lines(&self) -> u64
-        ensures { result ≡ lines_given self.now.reader }
-    {
-        self.reader.lines()
-    }
-
-    // Reads on to the next record, if none is ahead and there is one.
-    pub(crate) fn step(&mut self) -> Result<(), Fault>
+    pub(crate) fn fill(&mut self) -> Result<bool, Fault>
         requires { IsPlaced (Q.sorting self.old.neighbours.rule)
             (view_in (Q.sorting self.old.neighbours.rule) self.old) }
         ensures rule { self.new.neighbours.rule ≡ self.old.neighbours.rule }
-        ensures step { Stepped S.left S.has_failed S.end_told
+        ensures fills { Fills S.left S.has_failed S.end_told
             (view_in (Q.sorting self.old.neighbours.rule) self.old) result
             (view_in (Q.sorting self.old.neighbours.rule) self.new) }
         ensures own_failure { TellsOwnFailure S.is_read
@@ -118,28 +65,76 @@ impl<S: Source, Q: Sorted + Drop> SortedReader<S, Q> {
         ensures placed { IsPlaced (Q.sorting self.old.neighbours.rule)
             (view_in (Q.sorting self.old.neighbours.rule) self.new) }
     {
-        if self.neighbours.has_record() {
-            return Ok(());
+        if self.is_ahead {
+            return Ok(true);
         }
-        if let Some(fault) = self.fault {
-            return Err(fault);
-        }
-        self.read_ahead();
-        match self.fault {
-            Some(fault) => Err(fault),
-            None => Ok(()),
-        }
+        self.read_ahead()
     }
 
-    // The record ahead, if there is one.
-    pub(crate) fn record(&self) -> Option<BedRef<'_>>
-        ensures { option_map feature_lent result
-            ≡ option_map (λ m. m.item) (view_in (Q.sorting self.now.neighbours.rule) self.now).ahead }
+    // The records that are buffered.
+    pub(crate) fn buffered(&self) -> Batch<'_>
+        ensures { Lends self.now result }
     {
-        if !self.neighbours.has_record() {
-            return None;
+        let lines = self.reader.buffered();
+        if !self.is_ahead {
+            return Batch::new(lines.none(), self.neighbours.name(), self.neighbours.start());
         }
-        self.neighbours.record(self.text())
+        Batch::new(lines, self.neighbours.name(), self.neighbours.start())
+    }
+
+    // The first of them.
+    #[inline(always)]
+    pub(crate) fn first(&self) -> Option<BedRef<'_>>
+        ensures some { IfSome result (λ bed. (more : List Feature) × (buffered_in self.now ≡ feature_lent bed ∷ more)) }
+        ensures none { IfNone result (buffered_in self.now ≡ []) }
+    {
+        let record = self.buffered().first()?;
+        Some(record.to_bed())
+    }
+
+    // Takes the records that were consumed of what was lent.
+    pub(crate) fn consume(&mut self, consumed: Consumed)
+        requires taken { IsTaken self.old consumed }
+        requires placed { IsPlaced (Q.sorting self.old.neighbours.rule)
+            (view_in (Q.sorting self.old.neighbours.rule) self.old) }
+        ensures rule { self.new.neighbours.rule ≡ self.old.neighbours.rule }
+        ensures takes { Takes S.left S.end_told (view_in (Q.sorting self.old.neighbours.rule) self.old)
+            (take (count_in self.old consumed) (buffered_in self.old))
+            (view_in (Q.sorting self.old.neighbours.rule) self.new) }
+        ensures placed { IsPlaced (Q.sorting self.old.neighbours.rule)
+            (view_in (Q.sorting self.old.neighbours.rule) self.new) }
+    {
+        if consumed.lines.bytes == 0 {
+            return;
+        }
+        self.reader.consume(consumed.lines);
+        self.neighbours.advance(consumed.start);
+        self.is_ahead = consumed.is_ahead;
+    }
+
+    // Takes the first of them.
+    pub(crate) fn advance(&mut self)
+        requires some { (r : Feature) × (more : List Feature) × (buffered_in self.old ≡ r ∷ more) }
+        requires placed { IsPlaced (Q.sorting self.old.neighbours.rule)
+            (view_in (Q.sorting self.old.neighbours.rule) self.old) }
+        ensures rule { self.new.neighbours.rule ≡ self.old.neighbours.rule }
+        ensures takes { Takes S.left S.end_told (view_in (Q.sorting self.old.neighbours.rule) self.old)
+            (take 1 (buffered_in self.old)) (view_in (Q.sorting self.old.neighbours.rule) self.new) }
+        ensures placed { IsPlaced (Q.sorting self.old.neighbours.rule)
+            (view_in (Q.sorting self.old.neighbours.rule) self.new) }
+    {
+        let mut batch = self.buffered();
+        let _ = batch.next();
+        let consumed = batch.consumed();
+        self.consume(consumed);
+    }
+
+    // The line of the record ahead.
+    pub(crate) fn line(&self) -> u64
+        requires { (r : Feature) × (more : List Feature) × (buffered_in self.now ≡ r ∷ more) }
+        ensures { result ≡ lines_given self.now.reader + 1 }
+    {
+        self.reader.lines() + 1
     }
 
     // Gives back the reader of lines.
@@ -149,67 +144,103 @@ impl<S: Source, Q: Sorted + Drop> SortedReader<S, Q> {
         let SortedReader {
             reader,
             neighbours: _,
+            is_ahead: _,
             fault: _,
         } = self;
         reader
     }
 
-    // Reads on to the next record, if there is one, and keeps the fault. It stands apart, so that a record
-    // that is ahead already is lent without a call.
+    // Reads on to the next record, if there is one, and keeps the fault.
+    #[cold]
     #[inline(never)]
-    fn read_ahead(&mut self)
-        requires none_ahead { has_ahead self.old.neighbours ≡ false }
-        requires no_fault { self.old.fault ≡ None }
+    fn read_ahead(&mut self) -> Result<bool, Fault>
+        requires none { self.old.is_ahead ≡ false }
         requires placed { IsPlaced (Q.sorting self.old.neighbours.rule)
             (view_in (Q.sorting self.old.neighbours.rule) self.old) }
         ensures rule { self.new.neighbours.rule ≡ self.old.neighbours.rule }
-        ensures step { Stepped S.left S.has_failed S.end_told
-            (view_in (Q.sorting self.old.neighbours.rule) self.old) (answer_of self.new.fault)
+        ensures fills { Fills S.left S.has_failed S.end_told
+            (view_in (Q.sorting self.old.neighbours.rule) self.old) result
             (view_in (Q.sorting self.old.neighbours.rule) self.new) }
-        ensures own_failure { TellsOwnFailure S.is_read (line_fault self.old.reader) self.old.reader
-            (answer_of self.new.fault) self.new.reader }
+        ensures own_failure { TellsOwnFailure S.is_read
+            (view_in (Q.sorting self.old.neighbours.rule) self.old).fault self.old.reader result self.new.reader }
         ensures placed { IsPlaced (Q.sorting self.old.neighbours.rule)
             (view_in (Q.sorting self.old.neighbours.rule) self.new) }
     {
-        if let Err(fault) = self.read_record() {
-            self.fault = Some(fault);
+        if let Some(fault) = self.fault {
+            return Err(fault);
+        }
+        match self.read_record() {
+            Ok(is_some) => Ok(is_some),
+            Err(fault) => {
+                self.fault = Some(fault);
+                Err(fault)
+            }
         }
     }
 
-    // Reads on to the next record, if there is one. No record is ahead.
-    #[inline(always)]
-    fn read_record(&mut self) -> Result<(), Fault>
-        requires none_ahead { has_ahead self.old.neighbours ≡ false }
+    // Reads on to the next record, if there is one.
+    fn read_record(&mut self) -> Result<bool, Fault>
+        requires none { self.old.is_ahead ≡ false }
+        requires going { self.old.fault ≡ None }
         requires placed { IsPlaced (Q.sorting self.old.neighbours.rule)
             (view_in (Q.sorting self.old.neighbours.rule) self.old) }
         ensures rule { self.new.neighbours.rule ≡ self.old.neighbours.rule }
-        ensures fault { self.new.fault ≡ self.old.fault }
-        ensures step { Stepped S.left S.has_failed S.end_told
-            (view_with (Q.sorting self.old.neighbours.rule) None self.old.reader self.old.neighbours) result
-            (view_with (Q.sorting self.old.neighbours.rule) (fault_in result) self.new.reader self.new.neighbours) }
+        ensures fault { self.new.fault ≡ None }
+        ensures none { self.new.is_ahead ≡ true → result ≡ Ok true }
+        ensures fills { Fills S.left S.has_failed S.end_told
+            (view_in (Q.sorting self.old.neighbours.rule) self.old) result
+            (view_with (Q.sorting self.old.neighbours.rule) (fault_in result) self.new.reader self.new.neighbours (buffered_in self.new)) }
         ensures own_failure { TellsOwnFailure S.is_read (line_fault self.old.reader) self.old.reader result
             self.new.reader }
         ensures placed { IsPlaced (Q.sorting self.old.neighbours.rule)
-            (view_with (Q.sorting self.old.neighbours.rule) (fault_in result) self.new.reader self.new.neighbours) }
+            (view_with (Q.sorting self.old.neighbours.rule) (fault_in result) self.new.reader self.new.neighbours (buffered_in self.new)) }
     {
-        let input = self.reader.input();
-        while let Some(line) = self.reader.next()? {
-            let place = Place {
-                input,
-                line: line.number,
-            };
-            if self.neighbours.take_line(place, line.text)? {
-                return Ok(());
+        loop {
+            match self.reader.fill() {
+                Ok(true) => match self.take_line() {
+                    Ok(true) => return Ok(true),
+                    Ok(false) => {}
+                    Err(fault) => return Err(fault),
+                },
+                Ok(false) => return Ok(false),
+                Err(fault) => return Err(fault),
             }
         }
-        Ok(())
     }
 
-    // The text of the line that says the record ahead.
-    fn text(&self) -> &[u8]
-        requires { has_ahead self.now.neighbours ≡ true }
-        ensures { result.now ≡ text_at (line_at self.now.reader) }
+    // Whether the next line says a record, which is ahead then. Any other line is consumed.
+    fn take_line(&mut self) -> Result<bool, Fault>
+        requires none { self.old.is_ahead ≡ false }
+        requires going { self.old.fault ≡ None }
+        requires some { 0 < length (buffered_bytes self.old.reader) }
+        requires known { IsKnownLast (Q.sorting self.old.neighbours.rule) (last_in self.old.neighbours) }
+        ensures rule { self.new.neighbours.rule ≡ self.old.neighbours.rule }
+        ensures fault { self.new.fault ≡ None }
+        ensures ahead { self.new.is_ahead ≡ true → result ≡ Ok true }
+        ensures takes { TakesFirst S.left S.end_told (Q.sorting self.old.neighbours.rule) self.old result self.new }
     {
-        self.reader.text()
+        let mut lines = self.reader.buffered();
+        let Some(line) = lines.next() else {
+            return Ok(false);
+        };
+        let place = Place {
+            input: self.reader.input(),
+            line: line.number,
+        };
+        let consumed = lines.consumed();
+        match self.neighbours.take_line(place, line.text) {
+            Ok(true) => {
+                self.is_ahead = true;
+                Ok(true)
+            }
+            Ok(false) => {
+                self.reader.consume(consumed);
+                Ok(false)
+            }
+            Err(fault) => {
+                self.reader.consume(consumed);
+                Err(fault)
+            }
+        }
     }
 }

@@ -2,28 +2,12 @@
 
 ghost use Rattle.std.specs.Prelude.{◌≡◌, ◌≤◌, IfSome, drop, length, map};
 ghost use Rattle.std.specs.Simd.Lanes.{mask_l};
-ghost use Rattle.bt_lines.specs.Columns.{IsFirstTab};
 ghost use Rattle.bt_bed.specs.FirstColumns.{CutsTwo, is_tab};
 
 use std::simd::prelude::*;
 
 // How many bytes are looked at at once.
 const WIDTH: usize = 16;
-
-// Where the first tab of a text stands, if that is one of its first sixteen bytes.
-#[inline]
-pub(crate) fn early_tab(text: &[u8]) -> Option<usize>
-    ensures { IfSome result (IsFirstTab text.now) }
-{
-    if text.len() < WIDTH {
-        return None;
-    }
-    let tabs = tab_bits(u8x16::from_slice(text));
-    if tabs == 0 {
-        return None;
-    }
-    Some(tabs.trailing_zeros() as usize)
-}
 
 // Where the second tab of a text after an index stands, counted from there, if that is one of the
 // sixteen bytes from there on. Where fewer follow, the last sixteen of the text are looked at, so that

@@ -3,8 +3,9 @@ use Rattle.std.proofs.Common.{◌≡◌, ℕ, ◌+◌, ◌-◌, ◌<◌, ◌≤�
 use Rattle.std.proofs.lemmas.List.{take-append-drop, drop_more, get_or-take, get_or_default, length-take, length-take-le, drop-take, drop-drop}
 use Rattle.std.proofs.lemmas.Bool.{eqb-true, false_from_ne_true}
 use Rattle.memchr.specs.Find.{IsFirstByte, is_byte}
-use Rattle.bt_lines.specs.Block.{IsFirstFeed, unread}
-use Rattle.bt_lines.specs.declared.block.Block.{Block}
+use Rattle.bt_lines.specs.Newline.{IsFirstFeed}
+use Rattle.bt_lines.specs.ReadBuffer.{unread}
+use Rattle.bt_lines.specs.declared.read_buffer.ReadBuffer.{ReadBuffer}
 use Rattle.bt_lines.specs.Output.{block_size}
 use Rattle.bt_lines.specs.LentLine.{NoLineFeed}
 
@@ -38,6 +39,6 @@ pub length-range-le : (xs : List ℕ) (start end : ℕ) → length (slice_range 
 length-range-le xs start end = omega (arith, length-take (end - start) (drop start xs))
 
 -- a block has room for so many
-pub unread_fits : (block : Block) → length (unread block) ≤ block_size
+pub unread_fits : (buffer : ReadBuffer) → length (unread buffer) ≤ block_size
 unfolding unread
-unread_fits block = omega (arith, length-range-le block.bytes block.start block.end, block.within)
+unread_fits buffer = omega (arith, length-range-le buffer.bytes buffer.whole buffer.end, buffer.within)

@@ -1,13 +1,11 @@
 -- Lemmas on bytes that are whole lines, one behind another.
-use Rattle.std.proofs.Common.{◌≡◌, ℕ, ◌+◌, ◌-◌, ◌≤◌, List, [], ◌∷◌, ◌++◌, length, take, drop, refl, sym, ap, ◌∙◌, arith, append_assoc, append-nil, eqb, length-append}
-use Rattle.std.proofs.lemmas.List.{drop-drop}
+use Rattle.std.proofs.Common.{◌≡◌, ℕ, ◌≤◌, List, [], ◌∷◌, ◌++◌, length, drop, refl, sym, ap, ◌∙◌, arith, append_assoc, append-nil, eqb, length-append}
 use Rattle.std.proofs.lemmas.List.Splits.{slice_split_at}
-use Rattle.std.proofs.Math.Seq.{drop-append_seam, take-add, take-append_seam}
+use Rattle.std.proofs.Math.Seq.{drop-append_seam}
 use Rattle.bt_lines.specs.LentLine.{NoLineFeed}
 use Rattle.bt_lines.specs.Lines.{pieces}
 use Rattle.bt_lines.specs.Output.{block_size}
-use Rattle.bt_lines.specs.Whole.{AreLines, PassesLines, ended_by, rest_of}
-use Rattle.bt_lines.specs.declared.whole.WholeLines.{WholeLines}
+use Rattle.bt_lines.specs.Whole.{AreLines, ended_by}
 
 -- two cuts at a first line feed are one
 first_feed_is_one : (a b x y : List ℕ) → NoLineFeed a → NoLineFeed b → a ++ 10 ∷ x ≡ b ++ 10 ∷ y → (a ≡ b) × (x ≡ y)
@@ -17,40 +15,6 @@ first_feed_is_one a b x y p q e =
     let behind : drop (length a) (a ++ 10 ∷ x) ≡ drop (length b) (b ++ 10 ∷ y) = ap (λ (l : List ℕ). drop (length l) (a ++ 10 ∷ x)) same ∙ ap (drop (length b)) e in
     let rest : 10 ∷ x ≡ 10 ∷ y = sym (drop-append_seam a (10 ∷ x)) ∙ behind ∙ drop-append_seam b (10 ∷ y) in
     (same, cc)
-
-none_taken : (n : ℕ) (l : List ℕ) → take (n - n) l ≡ []
-none_taken n l = let e : n - n ≡ 0 = omega arith in ap (λ (k : ℕ). take k l) e
-
--- the bytes between two places are the lines that were passed there
-pub lines_between : (old : WholeLines) (texts : List (List ℕ)) (mid : WholeLines) → PassesLines old texts mid → (old.at ≤ mid.at) × AreLines (take (mid.at - old.at) (drop old.at old.bytes.now)) texts
-unfolding rest_of
-lines_between old [] mid p =
-    let same : mid.at ≡ old.at = ap (λ (w : WholeLines). w.at) p in
-    (omega arith, record { is = ap (λ (k : ℕ). take (k - old.at) (drop old.at old.bytes.now)) same ∙ none_taken old.at (drop old.at old.bytes.now); clear = tt })
-lines_between old (text ∷ texts) mid p =
-    let line = p.1 in
-    let more = lines_between p.0 texts mid p.2 in
-    let rest = drop old.at old.bytes.now in
-    let at = line.at in
-    let size : mid.at - old.at ≡ (length text + 1) + (mid.at - p.0.at) = omega (arith, more.0) in
-    let behind : drop (length text + 1) rest ≡ drop p.0.at p.0.bytes.now =
-    drop-drop (length text + 1) old.at old.bytes.now ∙ ap (λ (k : ℕ). drop k old.bytes.now) (sym at) ∙ ap (λ b. drop p.0.at b.now) (sym line.bytes) in
-    let first : take (length text + 1) rest ≡ text ++ 10 ∷ [] =
-    ap (take (length text + 1)) line.begins.cut ∙ front_of text (drop (length text + 1) rest) in (
-      omega (arith, more.0),
-      record {
-        is = ap (λ (k : ℕ). take k rest) size ∙ take-add (length text + 1) (mid.at - p.0.at) rest
-            ∙ ap (λ (l : List ℕ). l ++ take (mid.at - p.0.at) (drop (length text + 1) rest)) first
-            ∙ ap (λ (l : List ℕ). (text ++ 10 ∷ []) ++ take (mid.at - p.0.at) l) behind
-            ∙ ap (λ (l : List ℕ). (text ++ 10 ∷ []) ++ l) more.1.is;
-        clear = (line.begins.clear, more.1.clear);
-      },
-    )
-  where
-    front_of : (text rest : List ℕ) → take (length text + 1) (text ++ 10 ∷ rest) ≡ text ++ 10 ∷ []
-    front_of text rest =
-        let size : length text + 1 ≡ length (text ++ 10 ∷ []) = sym (length-append text (10 ∷ [])) in
-        ap (λ (k : ℕ). take k (text ++ 10 ∷ rest)) size ∙ ap (take (length (text ++ 10 ∷ []))) (sym (append_assoc text (10 ∷ []) rest)) ∙ take-append_seam (text ++ 10 ∷ []) rest
 
 -- of some lines the first are held back, each with an end, and the others are left
 pub record HoldsSome (lines end old rest new : List ℕ) : Type 0 where

@@ -42,7 +42,7 @@ near_left : (told : Bool) (held : List ℕ) (n : ℕ) (left : Option (List ℕ))
     → IfSome (option_map (lines_from n) (left_at told held left)) (λ lines. IfSome left (λ rest. bytes_in lines ≤ length rest + k))
 near_left true held n None k short = tt
 near_left false held n None k short = tt
-near_left true held n (Some rest) k short = omega (arith, bytes_in-lines n [])
+near_left true held n (Some rest) k short = omega (arith, bytes_in-lines n held, short)
 near_left false held n (Some rest) k short = omega (arith, bytes_in-lines n (held ++ rest), length-append held rest)
 
 -- of known bytes, those of the lines that are left are left at the source, but for a block at most

@@ -1,6 +1,5 @@
 pub mod Adapter
 pub mod Device
-pub mod Early
 pub mod Fault
 pub mod Script
 pub mod Lines
@@ -14,8 +13,12 @@ pub mod Putting
 pub mod Span
 pub mod Names
 pub mod LentLine
-pub mod Sight
-pub mod Block
+pub mod Shape
+pub mod Newline
+pub mod ReadBuffer
+pub mod ReaderState
+pub mod FirstLine
+pub mod Buffered
 pub mod Reader
-pub mod Filling
+pub mod Spill
 pub mod Whole

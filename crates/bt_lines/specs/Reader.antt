@@ -1,9 +1,12 @@
 -- What a reader of lines holds, and what one call of `next` does.
 use Rattle.std.specs.Prelude.{◌≡◌, ◌≢◌, ℕ, suc, ◌+◌, ◌-◌, ◌^◌, ◌<◌, ◌≤◌, ◌⊎◌, Bool, true, false, List}
 use Rattle.std.specs.Prelude.{[], ◌++◌, length, Option, Some, None, option_map, Result, Ok, Err}
-use Rattle.std.specs.Prelude.{IfSome, IsSome, nat_lt, if◌then◌else◌, take, drop}
+use Rattle.std.specs.Prelude.{IfSome, IsSome, take, drop, ⊤}
 use Rattle.std.specs.Io.KnownBytes.{Consumes, IsAtEnd, prepend_known}
-use Rattle.bt_lines.specs.Block.{unread, text_in}
+use Rattle.bt_lines.specs.ReadBuffer.{complete, text_in, unread}
+use Rattle.bt_lines.specs.ReaderState.{ended_at, fault_at, going_at, open_at, taken_at, text_at, told_at}
+use Rattle.bt_lines.specs.Shape.{held_at, is_fed}
+use Rattle.bt_lines.specs.Buffered.{buffered_lines}
 use Rattle.bt_lines.specs.Device.{ReadsCounted, ReadsFail}
 use Rattle.bt_lines.specs.Lines.{TextLine, lines_from, line_feeds, bytes_in, spelled}
 use Rattle.bt_lines.specs.Output.{block_size}
@@ -12,87 +15,24 @@ use Rattle.bt_lines.specs.Names.{told}
 use Rattle.bt_lines.specs.LentLine.{line_seen, GivesFirst}
 use Rattle.bt_lines.specs.declared.fault.Input.{Input}
 use Rattle.bt_lines.specs.declared.fault.Fault.{Fault}
+use Rattle.bt_lines.specs.declared.buffered_lines.ConsumedLines.{ConsumedLines}
 use Rattle.bt_lines.specs.declared.line.Line.{Line}
 use Rattle.bt_lines.specs.declared.line_reader.LineReader.{LineReader}
-use Rattle.bt_lines.specs.declared.line_reader.State.{State}
-use Rattle.bt_lines.specs.declared.line_reader.State.TheVariants.{Reading, Carried, LastLine, Ended}
-use Rattle.bt_lines.specs.declared.line_reader.State.TheVariants.{ReadFailed, TooLong, NoMemory}
 
--- the bytes that were taken from the source and not given as lines: those of the block, and where
--- there is a fault the piece before them that was cut off
-abbrev pub held_at : State → List ℕ → List ℕ → List ℕ
-held_at Reading carried block = block
-held_at Carried carried block = block
-held_at LastLine carried block = []
-held_at Ended carried block = []
-held_at ReadFailed carried block = carried ++ block
-held_at TooLong carried block = carried ++ block
-held_at NoMemory carried block = carried ++ block
-
--- the fault that ended the reading, if one did
-abbrev pub fault_at : State → Input → ℕ → Option Told
-fault_at Reading input number = None
-fault_at Carried input number = None
-fault_at LastLine input number = None
-fault_at Ended input number = None
-fault_at ReadFailed input number = Some (read_failed input (suc number))
-fault_at TooLong input number = Some (read_failed input (suc number))
-fault_at NoMemory input number = Some no_memory
-
--- whether the end was told
-abbrev pub told_at : State → Bool
-told_at Reading = false
-told_at Carried = false
-told_at LastLine = true
-told_at Ended = true
-told_at ReadFailed = false
-told_at TooLong = false
-told_at NoMemory = false
-
--- the bytes that come after the lines given: none once the end was told
+-- the bytes that come after the lines given: once the end was told, only those that are held
 abbrev pub left_at : Bool → List ℕ → Option (List ℕ) → Option (List ℕ)
-left_at true held left = option_map (λ bytes. []) left
+left_at true held left = option_map (λ bytes. held) left
 left_at false held left = prepend_known held left
 
--- whether the reader is after the last line
-abbrev pub ended_at : State → Bool
-ended_at Reading = false
-ended_at Carried = false
-ended_at LastLine = false
-ended_at Ended = true
-ended_at ReadFailed = false
-ended_at TooLong = false
-ended_at NoMemory = false
+-- the first lines are gone, so many, where they were known
+abbrev pub DropsLines : Option (List TextLine) → ℕ → Option (List TextLine) → Type 0
+DropsLines None count new = ⊤
+DropsLines (Some lines) count new = new ≡ Some (drop count lines)
 
--- how many bytes were taken: one past the bound isn't counted apart
-abbrev pub taken_at : State → ℕ → ℕ
-taken_at Reading taken = taken
-taken_at Carried taken = taken
-taken_at LastLine taken = taken
-taken_at Ended taken = taken
-taken_at ReadFailed taken = taken
-taken_at TooLong taken = suc taken
-taken_at NoMemory taken = taken
-
--- whether the reader goes on
-abbrev pub going_at : State → Bool
-going_at Reading = true
-going_at Carried = true
-going_at LastLine = false
-going_at Ended = false
-going_at ReadFailed = false
-going_at TooLong = false
-going_at NoMemory = false
-
--- the text of the line that the reader is at, once it has given so many
-abbrev pub text_at : State → ℕ → List ℕ → List ℕ → Option (List ℕ)
-text_at Reading lines block carried = if nat_lt 0 lines then Some block else None
-text_at Carried lines block carried = Some carried
-text_at LastLine lines block carried = Some carried
-text_at Ended lines block carried = None
-text_at ReadFailed lines block carried = None
-text_at TooLong lines block carried = None
-text_at NoMemory lines block carried = None
+-- the lines are the same, where they were known
+abbrev pub SameLines : Option (List TextLine) → Option (List TextLine) → Type 0
+SameLines None new = ⊤
+SameLines (Some lines) new = new ≡ Some lines
 
 module _ {S : Type 0} where
   -- the source
@@ -111,15 +51,12 @@ module _ {S : Type 0} where
   unfoldable pub bytes_taken : LineReader S → ℕ
   bytes_taken reader = taken_at reader.state reader.taken
 
+  -- the bytes that were taken from the source and not given as lines
   unfoldable pub held : LineReader S → List ℕ
-  held reader = held_at reader.state reader.carried.items (unread reader.block)
+  held reader = held_at (open_at reader.state) (complete reader.buffer) (unread reader.buffer)
 
   unfoldable pub fault_kept : LineReader S → Option Told
   fault_kept reader = fault_at reader.state reader.input reader.lines
-
-  -- the bytes of its block
-  abbrev pub taken_ahead : LineReader S → List ℕ
-  taken_ahead reader = unread reader.block
 
   -- whether it goes on
   abbrev pub is_going : LineReader S → Bool
@@ -165,7 +102,7 @@ module _ {S : Type 0} where
   unfoldable pub line_at : LineReader S → Option TextLine
   line_at reader =
       option_map (λ text. record { number = reader.lines; text = text; ending = reader.ending })
-      (text_at reader.state reader.lines (text_in reader.block) reader.carried.items)
+      (text_at reader.state reader.lines (text_in reader.buffer))
 
   -- the source handed over these bytes in the call
   pub record Hands (left : S → Option (List ℕ)) (old : LineReader S) (bytes : List ℕ)
@@ -337,3 +274,106 @@ module _ {S : Type 0} where
     pub own_failure : (fault : Fault) → fault_kept new ≡ Some (told fault)
         → TellsOwnFailure {A = Option Line} IsRead old (Err fault) new
     pub sound : IsSound left end old → IsSound left end new
+
+  -- the complete lines that are buffered, as bytes
+  unfoldable pub buffered_bytes : LineReader S → List ℕ
+  buffered_bytes reader = complete reader.buffer
+
+  -- a line was made buffered
+  pub record MakesLine (left : S → Option (List ℕ)) (failed : S → Bool) (old new : LineReader S)
+      : Type 0 where
+    pub some : 0 < length (buffered_bytes new)
+    pub bytes : (bytes : List ℕ) × Hands left old bytes new × (held new ≡ held old ++ bytes)
+    pub same : SameLines (lines_left left old) (lines_left left new)
+    pub counted : lines_given new ≡ lines_given old
+    -- nothing is read while a whole line is held
+    pub ready : 0 < line_feeds (held old) → source_of new ≡ source_of old
+    pub served : failed (source_of new) ≡ failed (source_of old)
+    pub was_going : (fault_kept old ≡ None) × (has_ended old ≡ false)
+    pub goes : fault_kept new ≡ None
+    pub within : bytes_taken new < 2 ^ 63
+
+  abbrev pub FillAnswers : (S → Option (List ℕ)) → (S → Bool) → LineReader S → Result Bool Fault
+      → LineReader S → Type 0
+  FillAnswers left failed old (Ok true) new = MakesLine left failed old new
+  FillAnswers left failed old (Ok false) new = GivesEnd left failed old new
+  FillAnswers left failed old (Err fault) new = GivesFault left failed old (told fault) new
+
+  -- what holds of a reader at all times, but for how much it has buffered
+  pub record IsKept (left : S → Option (List ℕ)) (told : S → Bool) (reader : LineReader S) : Type 0 where
+    pub end : end_told reader ≡ true
+        → (told (source_of reader) ≡ true) × IsAtEnd (left (source_of reader))
+    pub within : fault_kept reader ≡ None → bytes_taken reader < 2 ^ 63
+
+  -- a call of `fill`
+  pub record FillsLines (left : S → Option (List ℕ)) (failed : S → Bool) (end : S → Bool)
+      (old : LineReader S) (answer : Result Bool Fault) (new : LineReader S) : Type 0 where
+    pub answers : FillAnswers left failed old answer new
+    -- where a line is buffered, nothing changes
+    pub unread : 0 < length (buffered_bytes old) → new ≡ old
+    pub kept : IsKept left end old → IsKept left end new
+
+  -- the first line that is buffered was given
+  pub record CutsFirst (left : S → Option (List ℕ)) (failed : S → Bool) (end : S → Bool)
+      (old new : LineReader S) : Type 0 where
+    pub line : TextLine
+    pub at : line_at new ≡ Some line
+    pub gives : GivesLine left failed old line new
+    pub sound : IsKept left end old → IsSound left end new
+
+  -- whether the last line that is buffered has no line feed of its own
+  unfoldable pub is_open : LineReader S → Bool
+  is_open reader = open_at reader.state
+
+  -- the lines that are buffered
+  abbrev pub buffered_in : LineReader S → List TextLine
+  buffered_in reader = buffered_lines (is_open reader) (lines_given reader) (buffered_bytes reader)
+
+  -- the lines that are left begin with those that are buffered
+  abbrev pub IsPrefix : (S → Option (List ℕ)) → LineReader S → Type 0
+  IsPrefix left reader = IfSome (lines_left left reader) (λ lines.
+      take (length (buffered_in reader)) lines ≡ buffered_in reader)
+
+  -- of known bytes, those after the next line are left at the source, but for a block at most
+  abbrev pub IsNearNext : (S → Option (List ℕ)) → LineReader S → Type 0
+  IsNearNext left reader = IfSome (lines_left left reader) (λ lines. IfSome (left (source_of reader)) (λ rest.
+      bytes_in (drop 1 lines) ≤ length rest + block_size))
+
+  -- lines were consumed of those that are buffered
+  pub record IsTaken (reader : LineReader S) (consumed : ConsumedLines) : Type 0 where
+    pub within : consumed.bytes ≤ length (buffered_bytes reader)
+    pub fed : is_fed (take consumed.bytes (buffered_bytes reader)) ≡ true
+    pub lines : consumed.lines
+        ≡ lines_given reader + line_feeds (take consumed.bytes (buffered_bytes reader))
+
+  -- so many lines were
+  pub record TakenLines (reader : LineReader S) (consumed : ConsumedLines) (count : ℕ) : Type 0 where
+    pub taken : IsTaken reader consumed
+    pub feeds : line_feeds (take consumed.bytes (buffered_bytes reader)) ≡ count
+    pub given : consumed.lines ≡ lines_given reader + count
+    pub left_is : buffered_lines (is_open reader) consumed.lines (drop consumed.bytes (buffered_bytes reader))
+        ≡ drop count (buffered_in reader)
+
+  -- they were taken
+  pub record TakesLines (left : S → Option (List ℕ)) (end : S → Bool) (old : LineReader S)
+      (consumed : ConsumedLines) (new : LineReader S) : Type 0 where
+    pub kept : IsKept left end old → IsKept left end new
+    -- behind the lines at most a block is held
+    pub near : 0 < consumed.bytes → length (held new) ≤ block_size
+    -- of the lines that were left so many are gone
+    pub left_is : DropsLines (lines_left left old)
+        (line_feeds (take consumed.bytes (buffered_bytes old))) (lines_left left new)
+    pub bytes : buffered_bytes new ≡ drop consumed.bytes (buffered_bytes old)
+    pub given : lines_given new ≡ consumed.lines
+    pub below : lines_given new < 2 ^ 63
+    pub source_is : source_of new ≡ source_of old
+    pub input_is : input_of new ≡ input_of old
+    pub taken_is : bytes_taken new ≡ bytes_taken old
+    pub open_is : is_open new ≡ is_open old
+    pub fault_is : fault_kept new ≡ fault_kept old
+    pub told_is : end_told new ≡ end_told old
+    pub ended_is : has_ended new ≡ has_ended old
+    -- nothing is handed over
+    pub hands : Hands left old [] new
+    -- and so much less is held
+    pub shrinks : length (held new) + line_feeds (take consumed.bytes (buffered_bytes old)) ≤ length (held old)

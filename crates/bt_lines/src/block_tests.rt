@@ -536,72 +536,62 @@ fn nothing_is_held_behind_a_failure(rt: HostRuntime) -> Result<(), Fail> {
     Ok(())
 }
 
-// What a reader took ahead begins with a line only where that ends with a line feed alone.
+// The lines that are buffered are given in order, each kind of line end among them.
 #[test]
-fn whole_lines_are_those_with_a_line_feed_alone(rt: HostRuntime) -> Result<(), Fail> {
-    let source = ScriptSource::new(b"a\nbc\nd\r\n", BLOCK, None);
+fn buffered_lines_are_given_in_order(rt: HostRuntime) -> Result<(), Fail> {
+    let source = ScriptSource::new(b"a\nbc\r\n\nd\n", BLOCK, None);
     let mut reader = LineReader::new(rt.alloc(), source, Input::First);
-    let is_first = matches!(reader.next()?, Some(line) if line.text == b"a".as_slice());
-    let ahead = reader.whole_lines();
-    let is_ahead = ahead.rest() == b"bc\nd\r\n".as_slice()
-        && ahead.text() == Some(b"bc".as_slice());
-    let none_passed = ahead.passed().bytes == 0;
-    let is_second = matches!(reader.next()?, Some(line) if line.text == b"bc".as_slice());
-    let ahead = reader.whole_lines();
-    let is_cut = ahead.rest() == b"d\r\n".as_slice() && ahead.text().is_none();
+    let is_filled = reader.fill()?;
+    let mut lines = reader.buffered();
+    let first = matches!(lines.next(), Some(line) if line.text == b"a".as_slice());
+    let second =
+        matches!(lines.next(), Some(line) if line.text == b"bc".as_slice() && line.ending == LineEnd::CrLf);
+    let consumed = lines.consumed();
+    reader.consume(consumed);
     let given = reader.lines();
+    let third = matches!(reader.next()?, Some(line) if line.text.is_empty() && line.number == 3);
+    let is_still_filled = reader.fill()?;
+    let rest = reader.buffered().rest() == b"d\n".as_slice();
     let _ = reader.into_source();
-    assert!(rt; is_first && is_ahead && none_passed && is_second && is_cut);
+    assert!(rt; is_filled && first && second && third && is_still_filled && rest);
     assert_eq!(rt; given, 2);
     Ok(())
 }
 
-// The lines between two places are given with their line feeds, but for the last one that was passed.
+// A last line without a line feed is buffered like another, and then comes the end.
 #[test]
-fn lines_that_were_passed_are_given(rt: HostRuntime) -> Result<(), Fail> {
+fn a_last_line_is_buffered(rt: HostRuntime) -> Result<(), Fail> {
     let mut reader = LineReader::new(
         rt.alloc(),
-        ScriptSource::new(b"a\nbc\n\nd\n", BLOCK, None),
+        ScriptSource::new(b"a\nb\r", BLOCK, None),
         Input::First,
     );
     let is_first = matches!(reader.next()?, Some(line) if line.text == b"a".as_slice());
-    let from = reader.whole_lines();
-    let mut ahead = from;
-    let mut lengths = Vec::new(rt.alloc());
-    for _ in 0..3 {
-        if let Some(text) = ahead.text() {
-            ahead.pass(text.len());
-        }
-        lengths.push(from.before_last(&ahead).len())?;
-    }
-    let is_before = from.before_last(&ahead) == b"bc\n\n".as_slice();
+    let is_filled = reader.fill()?;
+    let mut lines = reader.buffered();
+    let is_last =
+        matches!(lines.next(), Some(line) if line.text == b"b".as_slice() && line.ending == LineEnd::Cr);
+    let is_none = lines.next().is_none();
+    let consumed = lines.consumed();
+    reader.consume(consumed);
+    let has_ended = !reader.fill()? && reader.next()?.is_none();
     let _ = reader.into_source();
-    assert!(rt; is_first && is_before);
-    assert_eq!(rt; lengths.as_slice(), [0, 3, 4].as_slice());
+    assert!(rt; is_first && is_filled && is_last && is_none && has_ended);
     Ok(())
 }
 
-// In sight are the bytes that come, and a line's end is found behind the bytes that are known to have none; the text of
-// the line that was passed is given again.
+// A line that is longer than a block is buffered alone, and the lines after it come next.
 #[test]
-fn a_text_is_found_behind_its_first_byte(rt: HostRuntime) -> Result<(), Fail> {
-    let mut reader = LineReader::new(
-        rt.alloc(),
-        ScriptSource::new(b"a\nbc\nd", BLOCK, None),
-        Input::First,
-    );
-    let is_first = matches!(reader.next()?, Some(line) if line.text == b"a".as_slice());
-    let mut ahead = reader.whole_lines();
-    let is_shown = ahead.sight()[0] == b'b' && ahead.sight()[1] == b'c';
-    let mut is_found = false;
-    if ahead.sight()[0] != b'\n' {
-        if let Some(text) = ahead.text_behind(1) {
-            is_found = text == b"bc".as_slice();
-            ahead.pass(text.len());
-        }
-    }
-    let is_passed = ahead.last_text() == b"bc".as_slice();
+fn a_long_line_is_buffered_alone(rt: HostRuntime) -> Result<(), Fail> {
+    let text = long_line(rt.alloc(), 20000, b"\nb\nc\n")?;
+    let source = ScriptSource::new(text.as_slice(), 8192, None);
+    let mut reader = LineReader::new(rt.alloc(), source, Input::First);
+    let is_filled = reader.fill()?;
+    let is_alone = reader.buffered().rest().len() == 20001;
+    let is_long = matches!(reader.next()?, Some(line) if line.text.len() == 20000);
+    let is_more = reader.fill()?;
+    let rest = reader.buffered().rest() == b"b\nc\n".as_slice();
     let _ = reader.into_source();
-    assert!(rt; is_first && is_shown && is_found && is_passed);
+    assert!(rt; is_filled && is_alone && is_long && is_more && rest);
     Ok(())
 }

@@ -6,10 +6,10 @@ ghost use Rattle.bt_lines.specs.Output.{block_size};
 ghost use Rattle.bt_lines.specs.Span.{span_text};
 ghost use Rattle.bt_lines.specs.Whole.{AreLines, ended_by};
 
-use crate::block::BLOCK;
 use crate::copying::{copy_end, copy_piece, copy_short, copy_wide, is_end, is_wide};
-use crate::feeds::first_feed;
+use crate::newline::find_newline;
 use crate::number_column::{COLUMN, write_column};
+use crate::read_buffer::BLOCK;
 use std::marker::Model;
 use std::simd::prelude::*;
 
@@ -121,7 +121,7 @@ impl HeldBack {
         ensures block { length self.old ≤ block_size → length self.new ≤ block_size }
     {
         let mut rest = lines;
-        while let Some(length) = first_feed(rest) {
+        while let Some(length) = find_newline(rest) {
             let room = self.room();
             if room < length || room - length < end.len() {
                 return false;

@@ -5,8 +5,8 @@ ghost use Rattle.bt_lines.specs.Lines.{AreNumbered, line_feeds, pieces, spelled,
 ghost use Rattle.bt_lines.specs.Output.{block_size};
 ghost use Rattle.bt_lines.specs.Number.{value_of};
 
-use crate::block::BLOCK;
 use crate::line::LineEnd;
+use crate::read_buffer::BLOCK;
 
 /// The lines of a text lose nothing: with their line ends, one after another, they are its bytes.
 pub fn lines_lose_nothing()

@@ -20,32 +20,31 @@
 //! ```
 #![tactic(auto)]
 
-mod block;
+mod buffered_lines;
 mod column_iter;
 mod copying;
 mod device;
-mod early;
 mod fault;
 mod faults;
-mod feeds;
-mod filling;
 mod from_read;
 mod held_back;
 pub mod laws;
 mod line;
 mod line_reader;
+mod newline;
 mod number_column;
 mod numbers;
 mod output;
 mod putting;
+mod read_buffer;
 mod report;
 mod script_sink;
 mod script_source;
+mod spill;
 mod split;
 mod to_write;
-mod whole;
 
-pub use block::{BLOCK, SIGHT};
+pub use buffered_lines::{BufferedLines, ConsumedLines, LineText, without_return};
 pub use column_iter::Columns;
 pub use copying::copy_piece;
 pub use device::{DeviceFailed, Sink, Source};
@@ -54,16 +53,17 @@ pub use faults::{no_memory, write_failed};
 pub use from_read::FromRead;
 pub use line::{Line, LineEnd};
 pub use line_reader::LineReader;
+pub use newline::length_before;
 pub use number_column::{COLUMN, write_column};
 pub use numbers::{MAX_DIGITS, MAX_NUMBER, eight_digits, few_digits, number};
 pub use output::Out;
 pub use putting::{put_both, put_column, put_line, put_number};
+pub use read_buffer::BLOCK;
 pub use report::{Names, fault_line};
 pub use script_sink::ScriptSink;
 pub use script_source::ScriptSource;
 pub use split::{columns, first_tab};
 pub use to_write::ToWrite;
-pub use whole::{PassedLines, WholeLines};
 
 #[cfg(test)]
 mod block_tests;

@@ -1,76 +1,72 @@
 //! The lines of a source, one after another.
 
-ghost use Rattle.std.specs.Prelude.{◌≡◌, ◌<◌, ◌≤◌, ◌^◌, ◌+◌, length, if◌then◌else◌};
-ghost use Rattle.std.specs.Io.BufRead.{ends_with_byte, strip_last};
-ghost use Rattle.bt_lines.specs.Block.{unread};
-ghost use Rattle.bt_lines.specs.Fault.{no_memory};
-ghost use Rattle.bt_lines.specs.Names.{told};
-ghost use Rattle.bt_lines.specs.declared.line_reader.State.TheVariants.{Reading};
+ghost use Rattle.std.specs.Prelude.{◌≡◌, ◌<◌, ◌≤◌, ◌^◌, ◌+◌, [], false, length};
+ghost use Rattle.bt_lines.specs.ReadBuffer.{complete, unread};
+ghost use Rattle.bt_lines.specs.ReaderState.{lends_at, open_at, told_at};
+ghost use Rattle.bt_lines.specs.Shape.{IsLast, held_at};
 
-use crate::block::Block;
+use crate::buffered_lines::{BufferedLines, ConsumedLines, LineText, ending_of, first_line};
 use crate::device::Source;
 use crate::fault::{Fault, Input, Kind, Place};
 use crate::faults::no_memory;
-use crate::filling::{Stop, fill};
 use crate::line::{Line, LineEnd};
-use crate::whole::{PassedLines, WholeLines};
+use crate::read_buffer::ReadBuffer;
+use crate::spill::{Stop, read_lines};
 use std::alloc::Global;
 
 // How far a reader is.
 #[derive(Clone, Copy, Debug)]
 pub(crate) enum State {
-    // Before the first line, or at a line that stands whole in the block.
+    // Before the end of the text.
     Reading,
-    // At a line that reaches past a block: its text was carried together.
-    Carried,
-    // At a last line without a line feed. Its text was carried together.
+    // The text has ended with a line that has no line feed.
     LastLine,
-    // Behind the last line.
+    // After the last line.
     Ended,
     // The source failed.
     ReadFailed,
-    // The text is too long: a byte past the bound was taken, and isn't counted.
+    // The text is too long: a byte past the bound was read, and isn't counted.
     TooLong,
     // The line couldn't grow.
     NoMemory,
 }
 
-/// Reads the lines of a source, a block of bytes at a time. A line is lent until the next call: from
-/// the block where it stands whole in it, and else from a buffer that is used again.
+/// Reads the lines of a source, a block of bytes at a time: `fill` makes a line buffered, or the end, `buffered` lends the
+/// lines, and `consume` takes some of them.
 #[derive(Drop)]
 pub struct LineReader<S> {
-    // Not asked any more after the end and after a fault.
+    // Not read any more after the end and after a fault.
     source: S,
     // What the source is called in faults.
     input: Input,
-    // What was read ahead; in the state `Reading` the text of the last line too.
-    block: Block,
-    // The text of the last line, in the states `Carried` and `LastLine` alone.
-    carried: Vec<u8>,
+    // What was read ahead, and the text of the last line.
+    buffer: ReadBuffer,
     // How the last line ended; it means nothing before the first.
     ending: LineEnd,
     // How many lines were given.
     lines: u64,
     // How many bytes were taken from the source, at most the bound.
     taken: u64,
-    // Decides which of the fields above mean something.
     state: State,
     ghost counted: { taken < 2 ^ 63 },
-    // Each line given has a byte at least, and those in the block are no line's yet.
-    ghost a_byte_each: { lines + length (unread block) ≤ taken },
+    // Each line given has a byte at least, and those that are held are no line's yet.
+    ghost a_byte_each: { lines + length (held_at (open_at state) (complete buffer) (unread buffer)) ≤ taken },
+    ghost quiet: { lends_at state ≡ false → complete buffer ≡ [] },
+    ghost last: { IsLast (told_at state) (open_at state) (complete buffer) (unread buffer) },
 }
 
 #[tactic(auto, unfolding(crate::specs::Reader::source_of, crate::specs::Reader::input_of, crate::specs::Reader::lines_given, crate::specs::Reader::bytes_taken, crate::specs::Reader::held, crate::specs::Reader::fault_kept, crate::specs::Reader::has_ended, crate::specs::Reader::line_at, crate::specs::Reader::end_told, crate::specs::Reader::bytes_left, crate::specs::Reader::feeds_taken))]
 impl<S: Source> LineReader<S> {
-    ghost use Rattle.bt_lines.specs.Whole.{ArePassed, Begins, GivesPlains};
     ghost use Rattle.std.specs.Prelude.{◌≡◌, ℕ, List, suc, ◌<◌, ◌-◌, ◌≤◌, ◌^◌, None, Some, IsSome, [], false, true, option_map};
     ghost use Rattle.std.specs.Borrow.{sem};
     ghost use Rattle.std.specs.Io.BufRead.{Rests};
     ghost use Rattle.bt_lines.specs.contracts.line_reader.LineReader.{the_row};
-    ghost use Rattle.bt_lines.specs.Reader.{HasRead, IsSound, Moves, NextLine, Stepped, Stops, TellsOwnFailure, line_at, feeds_taken, is_going, taken_ahead, source_of, input_of, lines_given, bytes_taken, held, fault_kept, has_ended, lines_left};
-    ghost use Rattle.bt_lines.specs.LentLine.{NoLineFeed, line_seen};
+    ghost use Rattle.bt_lines.specs.Reader.{CutsFirst, FillsLines, IsPrefix, IsTaken, TakesLines, buffered_bytes, buffered_in, is_open, HasRead, IsSound, Moves, NextLine, Stepped, Stops, TellsOwnFailure, line_at, feeds_taken, is_going, source_of, input_of, lines_given, bytes_taken, held, fault_kept, has_ended, lines_left};
+    ghost use Rattle.bt_lines.specs.Buffered.{BeginsLines, lines_in};
+    ghost use Rattle.bt_lines.specs.LentLine.{line_seen};
     ghost use Rattle.bt_lines.specs.Lines.{text_lines};
     ghost use Rattle.bt_lines.specs.Fault.{read_failed};
+    ghost use Rattle.bt_lines.specs.Names.{told};
 
     /// A reader of the source's lines, which stands for this input in faults.
     pub fn new(alloc: Global, source: S, input: Input) -> LineReader<S>
@@ -86,13 +82,44 @@ impl<S: Source> LineReader<S> {
         LineReader {
             source,
             input,
-            block: Block::new(),
-            carried: Vec::new(alloc),
+            buffer: ReadBuffer::new(alloc),
             ending: LineEnd::Absent,
             lines: 0,
             taken: 0,
             state: State::Reading,
         }
+    }
+
+    /// Makes at least one line buffered, and returns true if there is one: there is none at the end of the text. It reads
+    /// nothing while one is buffered.
+    #[inline(always)]
+    pub fn fill(&mut self) -> Result<bool, Fault>
+        ensures fills { FillsLines S.left S.has_failed S.end_told self.old result self.new }
+        ensures own_failure { TellsOwnFailure S.is_read self.old result self.new }
+    {
+        if !self.buffer.lines().is_empty() {
+            return Ok(true);
+        }
+        self.read_on()
+    }
+
+    /// The lines that are buffered.
+    #[inline(always)]
+    pub fn buffered(&self) -> BufferedLines<'_>
+        ensures begins { BeginsLines (buffered_bytes self.now) (lines_given self.now) (is_open self.now) result }
+        ensures lines { lines_in result ≡ buffered_in self.now }
+        ensures prefix { IsPrefix S.left self.now }
+    {
+        BufferedLines::new(self.buffer.lines(), self.lines, self.is_open())
+    }
+
+    /// Takes the lines that were consumed of what [`LineReader::buffered`] lent.
+    pub fn consume(&mut self, consumed: ConsumedLines)
+        requires { IsTaken self.old consumed }
+        ensures { TakesLines S.left S.end_told self.old consumed self.new }
+    {
+        self.buffer.consume(consumed.bytes);
+        self.lines = consumed.lines;
     }
 
     /// The next line, or none at the end of the text. It fails with `ReadFailed`, at the line after
@@ -105,7 +132,7 @@ impl<S: Source> LineReader<S> {
             NextLine S.left S.has_failed S.end_told S.is_read self.old result new)) }
     {
         if self.cuts_line() {
-            return Ok(Some(self.line_in_block()));
+            return Ok(Some(self.last_line()));
         }
         if !self.moves_on() {
             return Err(self.fault());
@@ -118,16 +145,10 @@ impl<S: Source> LineReader<S> {
     pub fn line(&self) -> Option<Line<'_>>
         ensures { option_map line_seen result ≡ line_at self.now }
     {
-        let text = match self.state {
-            State::Reading if self.lines > 0 => self.block.text(),
-            State::Carried | State::LastLine => self.carried.as_slice(),
-            _ => return None,
-        };
-        Some(Line {
-            number: self.lines,
-            text,
-            ending: self.ending,
-        })
+        if self.lines == 0 || !self.is_open() && !self.is_going() {
+            return None;
+        }
+        Some(self.last_line())
     }
 
     /// The text of the line that [`LineReader::line`] has. It reads nothing.
@@ -135,48 +156,7 @@ impl<S: Source> LineReader<S> {
         requires { IsSome (line_at self.now) }
         ensures { option_map (λ line. line.text) (line_at self.now) ≡ Some result.now }
     {
-        match self.state {
-            State::LastLine | State::Carried => self.carried.as_slice(),
-            _ => self.block.text(),
-        }
-    }
-
-    /// Whether it is worth asking for whole lines: neither the end nor a fault has come, and the last line ended
-    /// with a line feed alone, as the next ones mostly do then.
-    #[inline(always)]
-    pub fn may_pass(&self) -> bool
-        ensures { result ≡ true → fault_kept self.now ≡ None }
-    {
-        self.is_going() && matches!(self.ending, LineEnd::Lf)
-    }
-
-    /// The lines that stand whole in what was taken ahead. There are none after a fault and after the end.
-    #[inline(always)]
-    pub fn whole_lines(&self) -> WholeLines<'_>
-        ensures { fault_kept self.now ≡ None → Begins (held self.now) result }
-    {
-        let more = self.block.unread_and_more();
-        if self.is_going() {
-            return WholeLines::new(self.block.unread(), more);
-        }
-        WholeLines::new(&[], more)
-    }
-
-    /// Gives the lines that were passed in what [`LineReader::whole_lines`] lent, as [`LineReader::next`] does one
-    /// after another: the reader is at the last of them. It reads nothing.
-    pub fn pass(&mut self, passed: PassedLines)
-        requires going { fault_kept self.old ≡ None }
-        requires whole { (texts : List (List ℕ)) × ArePassed (held self.old) texts passed }
-        ensures { (texts : List (List ℕ)) → ArePassed (held self.old) texts passed
-            → GivesPlains S.left S.has_failed S.end_told S.is_read self.old texts self.new }
-    {
-        if passed.lines == 0 {
-            return;
-        }
-        self.block.pass(passed.last, passed.bytes);
-        self.lines += passed.lines;
-        self.ending = LineEnd::Lf;
-        self.state = State::Reading;
+        self.buffer.text()
     }
 
     /// How many lines were given.
@@ -201,8 +181,7 @@ impl<S: Source> LineReader<S> {
         let LineReader {
             source,
             input: _,
-            block: _,
-            carried: _,
+            buffer: _,
             ending: _,
             lines: _,
             taken: _,
@@ -211,15 +190,15 @@ impl<S: Source> LineReader<S> {
         source
     }
 
-    // The line that stands whole in the block.
-    fn line_in_block(&self) -> Line<'_>
-        requires reading { self.now.state ≡ Reading }
-        requires some { 0 < self.now.lines }
+    // The line that was given last.
+    #[inline(always)]
+    fn last_line(&self) -> Line<'_>
+        requires { IsSome (line_at self.now) }
         ensures { Some (line_seen result) ≡ line_at self.now }
     {
         Line {
             number: self.lines,
-            text: self.block.text(),
+            text: self.buffer.text(),
             ending: self.ending,
         }
     }
@@ -228,27 +207,32 @@ impl<S: Source> LineReader<S> {
     fn is_going(&self) -> bool
         ensures { result ≡ is_going self.now }
     {
-        matches!(self.state, State::Reading | State::Carried)
+        matches!(self.state, State::Reading)
     }
 
-    // Moves on to the next line where it stands whole in the block, and else does nothing.
+    // Whether the last line buffered has no line feed of its own.
+    fn is_open(&self) -> bool
+        ensures { result ≡ open_at self.now.state }
+    {
+        matches!(self.state, State::LastLine)
+    }
+
+    // Moves on to the next line if one is buffered, and else does nothing.
     #[inline(always)]
     fn cuts_line(&mut self) -> bool
-        ensures cut { result ≡ true → Stepped S.left S.has_failed S.end_told self.old (Ok result) self.new }
-        ensures at_block { result ≡ true → (self.new.state ≡ Reading) × (0 < self.new.lines) }
+        ensures cut { result ≡ true → CutsFirst S.left S.has_failed S.end_told self.old self.new }
+        ensures at { result ≡ true → IsSome (line_at self.new) }
         ensures reads_nothing { result ≡ true → HasRead S.is_read self.old self.new }
         ensures unchanged { result ≡ false → self.new ≡ self.old }
-        ensures none { result ≡ false → is_going self.old ≡ true → NoLineFeed (taken_ahead self.old) }
+        ensures none { result ≡ false → complete self.old.buffer ≡ [] }
     {
-        if !self.is_going() {
-            return false;
-        }
-        let Some(length) = self.block.find_feed() else {
+        let Some(LineText { text, size }) = first_line(self.buffer.lines()) else {
             return false;
         };
-        self.ending = self.block.cut_line(length);
+        let length = text.len();
+        self.ending = ending_of(length + 1 < size, self.is_open());
+        self.buffer.take_line(length, size);
         self.lines += 1;
-        self.state = State::Reading;
         true
     }
 
@@ -257,7 +241,7 @@ impl<S: Source> LineReader<S> {
     #[cold]
     #[inline(never)]
     fn moves_on(&mut self) -> bool
-        requires { is_going self.old ≡ true → NoLineFeed (taken_ahead self.old) }
+        requires { complete self.old.buffer ≡ [] }
         ensures moved { result ≡ true → Moves S.left S.has_failed S.end_told S.is_read self.old self.new }
         ensures stopped { result ≡ false → Stops S.left S.has_failed S.end_told S.is_read self.old self.new }
     {
@@ -279,54 +263,58 @@ impl<S: Source> LineReader<S> {
         }
     }
 
-    // Moves on where no whole line stands in the block: reads one, if there is one.
+    // Moves on where no line is buffered: reads one, if there is one.
     fn step(&mut self) -> Result<(), Fault>
-        requires { is_going self.old ≡ true → NoLineFeed (taken_ahead self.old) }
+        requires { complete self.old.buffer ≡ [] }
         ensures steps { Stepped S.left S.has_failed S.end_told self.old result self.new }
         ensures own_failure { TellsOwnFailure S.is_read self.old result self.new }
     {
-        match self.state {
-            State::Reading | State::Carried => self.read_on(),
-            State::LastLine => {
-                self.state = State::Ended;
+        match self.fill() {
+            Ok(true) => {
+                self.cuts_line();
                 Ok(())
             }
-            State::Ended => Ok(()),
+            Ok(false) => Ok(()),
+            Err(fault) => Err(fault),
+        }
+    }
+
+    // Makes a line buffered, or the end, where none is.
+    #[cold]
+    #[inline(never)]
+    fn read_on(&mut self) -> Result<bool, Fault>
+        requires { complete self.old.buffer ≡ [] }
+        ensures fills { FillsLines S.left S.has_failed S.end_told self.old result self.new }
+        ensures own_failure { TellsOwnFailure S.is_read self.old result self.new }
+    {
+        match self.state {
+            State::Reading => self.read_more(),
+            State::LastLine => {
+                self.state = State::Ended;
+                Ok(false)
+            }
+            State::Ended => Ok(false),
             State::ReadFailed | State::TooLong => Err(self.read_failed()),
             State::NoMemory => Err(no_memory()),
         }
     }
 
-    // Reads the line that reaches past the block.
-    fn read_on(&mut self) -> Result<(), Fault>
+    // The same before the end.
+    fn read_more(&mut self) -> Result<bool, Fault>
+        requires none { complete self.old.buffer ≡ [] }
         requires going { is_going self.old ≡ true }
-        requires no_line { NoLineFeed (taken_ahead self.old) }
-        ensures steps { Stepped S.left S.has_failed S.end_told self.old result self.new }
+        ensures fills { FillsLines S.left S.has_failed S.end_told self.old result self.new }
         ensures own_failure { TellsOwnFailure S.is_read self.old result self.new }
     {
-        self.carried.clear();
-        let stop = fill(
-            &mut self.source,
-            &mut self.block,
-            &mut self.carried,
-            &mut self.taken,
-        );
-        match stop {
-            Stop::LineFeed => {
-                self.ending = split_ending(&mut self.carried, LineEnd::CrLf, LineEnd::Lf);
-                self.lines += 1;
-                self.state = State::Carried;
-                Ok(())
-            }
-            Stop::End if self.carried.is_empty() => {
+        match read_lines(&mut self.source, &mut self.buffer, &mut self.taken) {
+            Stop::LineFeed => Ok(true),
+            Stop::End if self.buffer.lines().is_empty() => {
                 self.state = State::Ended;
-                Ok(())
+                Ok(false)
             }
             Stop::End => {
-                self.ending = split_ending(&mut self.carried, LineEnd::Cr, LineEnd::Absent);
-                self.lines += 1;
                 self.state = State::LastLine;
-                Ok(())
+                Ok(true)
             }
             Stop::Failed => {
                 self.state = State::ReadFailed;
@@ -356,16 +344,4 @@ impl<S: Source> LineReader<S> {
             place: Some(place),
         }
     }
-}
-
-// Drops a carriage return at the end, and answers how the line ends with it or without one.
-fn split_ending(text: &mut Vec<u8>, with: LineEnd, without: LineEnd) -> LineEnd
-    ensures ending { result ≡ (if ends_with_byte 13 text.old.items then with else without) }
-    ensures dropped { text.new.items ≡ strip_last 13 text.old.items }
-{
-    if text.last() != Some(&b'\r') {
-        return without;
-    }
-    text.pop();
-    with
 }

@@ -9,12 +9,12 @@ ghost use Rattle.bt_lines.specs.Putting.{PutsAll};
 ghost use Rattle.bt_lines.specs.Span.{span_text};
 ghost use Rattle.bt_lines.specs.Whole.{AreLines, ended_by};
 
-use crate::block::BLOCK;
 use crate::copying::is_short;
 use crate::device::{DeviceFailed, Sink};
 use crate::fault::Fault;
 use crate::faults::write_failed;
 use crate::held_back::{HeldBack, SPAN_ROOM};
+use crate::read_buffer::BLOCK;
 use std::marker::Model;
 
 /// Puts bytes to a sink in order, a block at a time: at most [`BLOCK`] bytes are held back until a

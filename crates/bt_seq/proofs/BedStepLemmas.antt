@@ -389,6 +389,17 @@ pub stops_bed : (old new : Masking) (r : Feature) (out grown : Output) (answer :
 stops_bed old new r out grown answer None e t = absurd (never e)
 stops_bed old new r out grown answer (Some l) e t = stops_at old new l r out grown answer (t l refl)
 
+leaves_at : (old new : Masking) (l : Waiting) (r : Feature) (out grown : Output) (answer : Result Taken Fault) → TakesBed old l r out answer new grown → answer ≡ Ok No → new.want ≡ Line
+leaves_at old new l r out grown (Ok Yes) t e = absurd (let apart : Ok Yes ≡ Ok No = e in cc)
+leaves_at old new l r out grown (Ok No) t e = ap (λ (m : Masking). m.want) t.1
+leaves_at old new l r out grown (Err fault) t e = absurd (let apart : Err fault ≡ Ok No = e in cc)
+
+-- a line is asked for behind a record that was left
+pub leaves_bed : (old new : Masking) (r : Feature) (out grown : Output) (answer : Result Taken Fault) (w : Option Waiting) → is_some w ≡ true
+    → ((l : Waiting) → w ≡ Some l → TakesBed old l r out answer new grown) → answer ≡ Ok No → new.want ≡ Line
+leaves_bed old new r out grown answer None e t is = absurd (never e)
+leaves_bed old new r out grown answer (Some l) e t is = leaves_at old new l r out grown answer (t l refl) is
+
 stops_writing : {A : Type 0} (old new : Masking) (l : Waiting) (out grown : Output) (answer : Result A Fault) → Writes old l out answer new grown → OnErr answer (new.want ≡ Nothing)
 stops_writing old new l out grown (Ok done) t = tt
 stops_writing old new l out grown (Err fault) t = t.0

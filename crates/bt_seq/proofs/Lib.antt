@@ -10,7 +10,6 @@ pub mod OwnerLemmas
 pub mod ExtentLemmas
 pub mod TextLemmas
 pub mod MaskingLemmas
-pub mod PassingLemmas
 pub mod LeftLemmas
 pub mod QuietLemmas
 pub mod KnowsLemmas
@@ -30,3 +29,7 @@ pub mod BedStepLemmas
 pub mod PlainMaskLemmas
 pub mod ColumnEndLemmas
 pub mod ShortNumbers
+pub mod NameLemmas
+pub mod CopyLemmas
+pub mod SettleLemmas
+pub mod AdvanceLemmas

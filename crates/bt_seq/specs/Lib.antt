@@ -21,6 +21,7 @@ pub mod Masked
 pub mod Matching
 pub mod MaskedBases
 pub mod Window
+pub mod Phase
 pub mod MaskState
 pub mod HeldMasks
 pub mod Knows
@@ -29,4 +30,7 @@ pub mod MaskInside
 pub mod MaskStanding
 pub mod MaskFronts
 pub mod MaskSteps
-pub mod Passing
+pub mod GivenLines
+pub mod CopyThrough
+pub mod MaskSettles
+pub mod MaskAdvance

@@ -130,15 +130,15 @@ stays_as_given m text =
     not (is_header text) && (is_some m.matched.name && (nat_eq (length m.window.held) 0
     && (m.bed_ended || nat_le (gone_on m.window (length text)).bases m.decided_to)))
 
+-- with such a line, once it is written
+abbrev pub passed : Masking → List ℕ → Masking
+passed m text =
+    record m { window = gone_on m.window (length text); waiting = None; want = Line }
+
 -- taking such a line, which is written as it is
 abbrev pub PassesLine : Masking → Waiting → Output → Masking → Output → Type 0
 PassesLine old line out new grown =
-    (stays_as_given old line.text ≡ true)
-    × (new ≡ record old {
-      window = gone_on old.window (length line.text);
-      waiting = None;
-      want = Line;
-    })
+    (stays_as_given old line.text ≡ true) × (new ≡ passed old line.text)
     × Grown out (line.text ++ end_bytes line.ending) grown
 
 -- with the sequence of the block of a record on this chromosome

@@ -8,7 +8,6 @@ use Rattle.bt_lines.specs.Lines.{TextLine}
 use Rattle.bt_lines.specs.Names.{told}
 use Rattle.bt_lines.specs.Output.{Output}
 use Rattle.bt_lines.specs.Putting.{FailsToAdd, Grown}
-use Rattle.bt_lines.specs.Whole.{plain_line}
 use Rattle.bt_lines.specs.declared.fault.Fault.{Fault}
 use Rattle.bt_lines.specs.declared.fault.Input.TheVariants.{First, Second}
 use Rattle.bt_lines.specs.declared.fault.Kind.{Kind}
@@ -22,7 +21,7 @@ use Rattle.bt_seq.specs.MaskState.{Masking}
 use Rattle.bt_seq.specs.Owners.{left_after}
 use Rattle.bt_seq.specs.Sequences.{SequenceLine, is_header, line_says}
 use Rattle.bt_seq.specs.declared.mask_how.MaskHow.{MaskHow}
-use Rattle.bt_seq.specs.declared.mask_want.MaskWant.TheVariants.{Line, Nothing}
+use Rattle.bt_seq.specs.declared.mask_want.MaskWant.TheVariants.{Nothing}
 use Rattle.bt_bed.specs.declared.taken.Taken.{Taken}
 use Rattle.bt_bed.specs.declared.taken.Taken.TheVariants.{Yes, No}
 
@@ -76,21 +75,6 @@ module _ (how : MaskHow) (full : Bool) (stage : MaskStage) (line : TextLine) (ou
   GivesNextLine (Ok done) new grown = TakesNextLine new grown
   GivesNextLine (Err fault) new grown =
       (new.want ≡ Nothing) × (RefusesLine (told fault) grown ⊎ FailsWithLine (told fault) grown)
-
--- a line of this text, which ends with a line feed alone, was given and taken, whatever its number,
--- and one more is asked for
-abbrev pub TakesText : Masking → List ℕ → Output → Masking → Output → Type 0
-TakesText old text out new grown =
-    (new.want ≡ Line)
-    × ((how : MaskHow) (full : Bool) (stage : MaskStage) → MaskStandsAt how full stage old
-    → (number : ℕ) → TakesNextLine how full stage (plain_line number text) out new grown)
-
--- lines of these texts were, one after another
-abbrev pub TakesTexts : Masking → List (List ℕ) → Output → Masking → Output → Type 0
-TakesTexts old [] out new grown = (new ≡ old) × (grown ≡ out)
-TakesTexts old (text ∷ texts) out new grown =
-    (mid : Masking) × (between : Output) × TakesText old text out mid between
-    × TakesTexts mid texts between new grown
 
 -- one more record, while a line waits
 module _ (how : MaskHow) (full : Bool) (stage : MaskStage) (line : SequenceLine) (r : Feature)

@@ -1,15 +1,12 @@
 //! The columns of an alignment's line that are looked at.
 
-ghost use Rattle.std.specs.Prelude.{◌≡◌, ◌≤◌, length, nat_le, option_map, true};
+ghost use Rattle.std.specs.Prelude.{◌≡◌, ◌+◌, ◌≤◌, IfNone, IfSome, length, nat_le, option_map};
 ghost use Rattle.bt_lines.specs.Lines.{pieces};
 ghost use Rattle.bt_seq.specs.Alignment.{fields_of};
 ghost use Rattle.bt_seq.specs.Sam.{IsCut, fields_lent};
 
-use crate::tabs::{EARLY, early_tabs, first_tab_by_lanes};
 use bstr::ByteSlice;
-
-// The columns between CIGAR and SEQ, which are short: RNEXT, PNEXT and TLEN.
-const SHORT_COLUMNS: usize = 3;
+use bt_lines::length_before;
 
 // QNAME, FLAG, RNAME, POS, MAPQ and CIGAR as they stand (SAM specification, section 1.4).
 #[derive(Clone, Copy, Debug)]
@@ -27,13 +24,13 @@ pub(crate) struct Fields<'a> {
 pub(crate) fn first_fields(text: &[u8]) -> Option<Fields<'_>>
     ensures { option_map fields_lent result ≡ fields_of (pieces 9 text.now) }
 {
-    let (name, rest) = cut_short(text)?;
-    let (flag, rest) = cut_short(rest)?;
-    let (chrom, rest) = cut_short(rest)?;
-    let (position, rest) = cut_short(rest)?;
-    let (quality, rest) = cut_short(rest)?;
-    let (cigar, rest) = cut_short(rest)?;
-    if !has_counted(rest) {
+    let (name, rest) = cut_column(text)?;
+    let (flag, rest) = cut_column(rest)?;
+    let (chrom, rest) = cut_column(rest)?;
+    let (position, rest) = cut_column(rest)?;
+    let (quality, rest) = cut_column(rest)?;
+    let (cigar, rest) = cut_column(rest)?;
+    if !has_five(rest) {
         return None;
     }
     Some(Fields {
@@ -46,39 +43,27 @@ pub(crate) fn first_fields(text: &[u8]) -> Option<Fields<'_>>
     })
 }
 
-// Whether a text has five columns at least, of which the first three are short.
-fn has_counted(text: &[u8]) -> bool
+// Whether a text has five columns at least. The first three are short, as RNEXT, PNEXT and TLEN are.
+#[inline(always)]
+fn has_five(text: &[u8]) -> bool
     ensures { result ≡ nat_le 5 (length (pieces 9 text.now)) }
 {
-    has_early(text) || has_late(text)
+    match behind_three(text) {
+        Some(rest) => has_tab(rest),
+        None => false,
+    }
 }
 
-// Whether three of them end in the first thirty-two bytes, and another one behind these: so it is mostly.
-fn has_early(text: &[u8]) -> bool
-    ensures { result ≡ true → 5 ≤ length (pieces 9 text.now) }
+// What comes after the third column of a text, if it has a fourth.
+#[inline(always)]
+fn behind_three(text: &[u8]) -> Option<&[u8]>
+    ensures some { IfSome result (λ rest. length (pieces 9 text.now) ≡ 3 + length (pieces 9 rest.now)) }
+    ensures none { IfNone result (length (pieces 9 text.now) ≤ 3) }
 {
-    if text.len() < EARLY {
-        return false;
-    }
-    if early_tabs(text) < 3 {
-        return false;
-    }
-    has_tab(&text[EARLY..])
-}
-
-// Whether a text has five columns at least, wherever they end.
-#[inline(never)]
-fn has_late(text: &[u8]) -> bool
-    ensures { result ≡ nat_le 5 (length (pieces 9 text.now)) }
-{
-    let mut rest = text;
-    for _column in 0..SHORT_COLUMNS {
-        let Some((_, behind)) = cut_short(rest) else {
-            return false;
-        };
-        rest = behind;
-    }
-    has_tab(rest)
+    let (_mate_chrom, rest) = cut_column(text)?;
+    let (_mate_position, rest) = cut_column(rest)?;
+    let (_length, rest) = cut_column(rest)?;
+    Some(rest)
 }
 
 // Whether a text has two columns at least. The last tab is looked for: it is mostly nearer to its end
@@ -91,9 +76,12 @@ fn has_tab(text: &[u8]) -> bool
 
 // The first column of a text, and what stands after its tab, if it has one.
 #[inline(always)]
-fn cut_short(text: &[u8]) -> Option<(&[u8], &[u8])>
+fn cut_column(text: &[u8]) -> Option<(&[u8], &[u8])>
     ensures { IsCut text.now result }
 {
-    let end = first_tab_by_lanes(text)?;
+    let end = length_before(b'\t', text);
+    if end == text.len() {
+        return None;
+    }
     Some((&text[..end], &text[end + 1..]))
 }

@@ -4,6 +4,8 @@ ghost use Rattle.std.specs.Prelude.{◌≡◌, ◌≤◌, length, not, take, tru
 ghost use Rattle.std.specs.List.{take_while};
 ghost use Rattle.bt_seq.specs.Sequences.{ends_name, is_header, name_in};
 
+use bt_lines::length_before;
+
 // Whether a line is a header.
 pub(crate) fn is_header(text: &[u8]) -> bool
     ensures { result ≡ is_header text.now }
@@ -28,19 +30,6 @@ fn name_length(text: &[u8]) -> usize
     ensures within { result ≤ length text.now }
     ensures name { take result text.now ≡ take_while (λ byte. not (ends_name byte)) text.now }
 {
-    let mut end = 0;
-    while end < text.len() {
-        if ends_name(text[end]) {
-            return end;
-        }
-        end += 1;
-    }
-    end
-}
-
-// Whether a byte ends a name.
-fn ends_name(byte: u8) -> bool
-    ensures { result ≡ ends_name byte }
-{
-    matches!(byte, b' ' | b'\t')
+    let end = length_before(b' ', text);
+    length_before(b'\t', &text[..end])
 }

@@ -27,6 +27,7 @@ mod bam_to_bed;
 mod bed_line;
 mod block_iter;
 mod cigar;
+mod copy_through;
 #[cfg(test)]
 mod example;
 mod extent;
@@ -40,13 +41,12 @@ mod mask_state;
 mod mask_want;
 mod matching;
 mod operation;
-mod passing;
+mod phase;
 mod plain;
 mod put_text;
 mod sam;
 mod sam_text;
 mod splitting;
-mod tabs;
 mod window;
 
 pub use bam_to_bed::BamToBed;

@@ -1,20 +1,20 @@
 //! The engine of `bedtools maskfasta`.
 
-ghost use Rattle.std.specs.Prelude.{◌≡◌, ◌⊎◌, ℕ, List, Bool, None, OnErr, Some, false, length};
+ghost use Rattle.std.specs.Prelude.{◌≡◌, ◌<◌, ◌⊎◌, [], Bool, None, OnErr, OnOk, Some, false, length, true};
 ghost use Rattle.bt_bed.specs.Bed.{feature_lent};
 ghost use Rattle.bt_bed.specs.GoodBlocks.{AreInBlocks};
 ghost use Rattle.bt_lines.specs.LentLine.{line_seen};
-ghost use Rattle.bt_lines.specs.Whole.{PassesLines};
 ghost use Rattle.bt_seq.specs.MaskStage.{IsNext, MaskStage, first_stage, given, held_by, line_given_last, want_at, with_lines_ended};
 ghost use Rattle.bt_seq.specs.MaskStanding.{MaskStandsAt};
-ghost use Rattle.bt_seq.specs.MaskSteps.{ChecksRecord, EndsCheck, EndsRecords, GivesNextLine, GivesBed, TakesTexts};
+ghost use Rattle.bt_seq.specs.MaskAdvance.{GivesBoth, GivesRecord, StopsAt, left_to_give};
+ghost use Rattle.bt_seq.specs.MaskSteps.{ChecksRecord, EndsCheck, EndsRecords, GivesNextLine, GivesBed};
 ghost use Rattle.bt_seq.specs.Sequences.{SequenceLine};
 
 use crate::mask_how::MaskHow;
 use crate::mask_state::MaskState;
 use crate::mask_want::MaskWant;
-use bt_bed::{BedRef, Taken};
-use bt_lines::{Fault, Line, Out, Sink, WholeLines};
+use bt_bed::{BedRef, Cursor, Record, Taken};
+use bt_lines::{BufferedLines, Fault, Line, Out, Sink};
 use std::alloc::Global;
 use std::marker::Model;
 
@@ -84,27 +84,67 @@ impl Mask {
         self.state.take_line(line, out)
     }
 
-    /// Whether it is worth asking [`Mask::pass_lines`], where no record is held: a sequence has begun, and the record
-    /// ahead starts some lines further on. So nothing is tried where records reach into most lines.
-    #[inline(always)]
-    pub fn may_pass(&self) -> bool {
-        self.state.may_pass()
+    /// Takes lines and records, one after another, as long as the next one that it asks for is there. It fails as
+    /// [`Mask::give_line`] and [`Mask::give_bed`] do. Lines that nothing masks are written together.
+    pub fn advance<C: Cursor, K: Sink>(
+        &mut self,
+        lines: &mut BufferedLines<'_>,
+        records: &mut C,
+        out: &mut Out<K>,
+    ) -> Result<(), Fault>
+        ensures gives { GivesBoth C.gives C.line C.has_ended self.old lines.old records.old out.old.output result
+            self.new lines.new records.new out.new.output }
+        ensures stops { OnOk result (StopsAt C.gives C.line C.has_ended self.new.want lines.new records.new) }
+    {
+        while self.gives_next(lines, records, out)? {}
+        Ok(())
     }
 
-    /// Takes those of the next lines that are known beforehand to be written as they stand, and answers where it
-    /// has come. It stops before a header, before a line that may wait, and where the output has no room; before
-    /// the first header and while a record is held it takes none. It can't fail.
-    pub fn pass_lines<'a, K: Sink>(
+    // Takes what it asks for next, and returns true if that is there.
+    #[inline(always)]
+    fn gives_next<C: Cursor, K: Sink>(
         &mut self,
-        lines: WholeLines<'a>,
+        lines: &mut BufferedLines<'_>,
+        records: &mut C,
         out: &mut Out<K>,
-    ) -> WholeLines<'a>
-        requires { self.old.want ≡ MaskWant.Line }
-        ensures passes { (texts : List (List ℕ)) × PassesLines lines.entry texts result
-            × TakesTexts self.old texts out.old.output self.new out.new.output }
-        ensures asks { self.new.want ≡ MaskWant.Line }
+    ) -> Result<bool, Fault>
+        ensures gives { GivesBoth C.gives C.line C.has_ended self.old lines.old records.old out.old.output result
+            self.new lines.new records.new out.new.output }
+        ensures stops { result ≡ Ok false → StopsAt C.gives C.line C.has_ended self.new.want lines.new records.new }
+        ensures shrinks { result ≡ Ok true → left_to_give C.room self.new lines.new records.new
+            < left_to_give C.room self.old lines.old records.old }
     {
-        self.state.pass_lines(lines, out)
+        match self.want() {
+            MaskWant::Line => self.state.give_lines(lines, out),
+            MaskWant::Bed => self.give_record(records, out),
+            MaskWant::Nothing => Ok(false),
+        }
+    }
+
+    // Takes the next record, if there is one, unless it decides the line that waits.
+    #[inline(always)]
+    fn give_record<C: Cursor, K: Sink>(
+        &mut self,
+        records: &mut C,
+        out: &mut Out<K>,
+    ) -> Result<bool, Fault>
+        requires { self.old.want ≡ MaskWant.Bed }
+        ensures gives { GivesRecord C.gives C.line C.has_ended self.old records.old out.old.output result self.new records.new out.new.output }
+        ensures stops { result ≡ Ok false → C.has_ended records.new × (self.new.want ≡ MaskWant.Bed) }
+        ensures shrinks { result ≡ Ok true → (C.room records.new < C.room records.old)
+            ⊎ ((records.new ≡ records.old) × (self.new.want ≡ MaskWant.Line)) }
+    {
+        let mut later = *records;
+        let Some(next) = later.next() else {
+            return Ok(false);
+        };
+        match self.give_bed(&next.bed(), later.line(), out)? {
+            Taken::Yes => {
+                *records = later;
+                Ok(true)
+            }
+            Taken::No => Ok(true),
+        }
     }
 
     /// Takes the end of the lines. Nothing is written. Records are asked for until they end: each has
@@ -138,6 +178,7 @@ impl Mask {
             → IsNext stage.ahead (feature_lent bed.now)
             → ChecksRecord how full stage (feature_lent bed.now) line out.old.output result self.new out.new.output }
         ensures stops { OnErr result (self.new.want ≡ MaskWant.Nothing) }
+        ensures leaves { result ≡ Ok Taken.No → self.new.want ≡ MaskWant.Line }
     {
         if self.state.waits() {
             return self.state.take_bed(bed, out);

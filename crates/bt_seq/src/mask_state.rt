@@ -1,30 +1,31 @@
 //! What a masking engine keeps, and its steps.
 
-ghost use Rattle.std.specs.Prelude.{◌≡◌, ◌&&◌, ℕ, List, None, Some, [], OnOk, IfErr, IsErr, IsOk, cond, false, not, true, is_some, length, nat_le, nat_lt, if◌then◌else◌};
+ghost use Rattle.std.specs.Prelude.{◌≡◌, ◌<◌, ◌&&◌, None, Some, [], OnOk, IfErr, IsErr, IsOk, cond, false, not, true, is_some, length, nat_eq, nat_le, nat_lt, if◌then◌else◌};
 ghost use Rattle.bt_lines.specs.Fault.{no_memory};
 ghost use Rattle.bt_lines.specs.Names.{told};
 ghost use Rattle.bt_bed.specs.Bed.{feature_lent};
 ghost use Rattle.bt_bed.specs.LineKind.{fault_at_line};
-ghost use Rattle.bt_seq.specs.MaskState.{ChecksBed, Keeps, Moves, PassesLine, TakesBed, TakesLine, Waiting, Writes, WritesGiven, decides_by, decides_up_to, stays_as_given, with_extent, writes_at_once};
-ghost use Rattle.bt_lines.specs.Whole.{PassesLines};
-ghost use Rattle.bt_seq.specs.Passing.{MaskPasses};
+ghost use Rattle.bt_lines.specs.Buffered.{lines_in};
+ghost use Rattle.bt_seq.specs.CopyThrough.{CopiesThrough};
+ghost use Rattle.bt_seq.specs.MaskAdvance.{GivesLines};
+ghost use Rattle.bt_seq.specs.MaskState.{ChecksBed, Keeps, Moves, TakesBed, TakesLine, Waiting, Writes, WritesGiven, decides_by, decides_up_to, with_extent, writes_at_once};
 ghost use Rattle.bt_seq.specs.Sequences.{is_header};
-ghost use Rattle.bt_seq.specs.Window.{gone_on, limit, no_bases};
+ghost use Rattle.bt_seq.specs.Window.{limit, no_bases};
 
+use crate::copy_through::CopyThrough;
 use crate::header_name::{is_header, name_in};
 use crate::mask_how::MaskHow;
 use crate::mask_want::MaskWant;
 use crate::matching::{Matching, Owner};
-use crate::passing::Passing;
-use crate::put_text::{hold_passed, hold_text, put_text};
+use crate::phase::Phase;
+use crate::put_text::put_text;
 use crate::window::{LIMIT, Window};
 use bt_bed::{BedRef, Taken, at_line};
-use bt_lines::{Fault, Input, Kind, Line, LineEnd, Out, Place, Sink, WholeLines, no_memory};
+use bt_lines::{
+    BufferedLines, Fault, Input, Kind, Line, LineEnd, Out, Place, Sink, no_memory, put_line,
+};
 use std::alloc::Global;
 use std::marker::Model;
-
-// Of how many bases the lines are at least that are tried to be passed: of about three lines.
-const FEWEST: u64 = 200;
 
 // The line that waits stands in a buffer, which is used again.
 #[derive(Drop)]
@@ -37,14 +38,12 @@ pub(crate) struct MaskState {
     matching: Matching,
     // Where the line given last lies, and what reaches into it.
     window: Window,
-    // The line that waits, while `waits` holds.
+    // The line that waits, if one does.
     text: Vec<u8>,
-    // How that line ended, while `waits` holds.
+    // How that line ended.
     ending: LineEnd,
-    // Whether a line was given that isn't written.
-    waits: bool,
-    // What is asked for next; nothing once there was a fault.
-    want: MaskWant,
+    // Whether a line waits, and what is asked for.
+    phase: Phase,
     // Whether the end of the records was given.
     bed_ended: bool,
     // Up to which base of the sequence the record ahead decides lines. Valid while a line is asked for
@@ -55,6 +54,7 @@ pub(crate) struct MaskState {
 impl Model for MaskState {
     ghost use Rattle.std.specs.Prelude.{None, Some, if◌then◌else◌};
     ghost use Rattle.bt_seq.specs.MaskState.{Masking};
+    ghost use Rattle.bt_seq.specs.Phase.{waits_in, want_in};
 
     ghost Value = { Masking };
 
@@ -63,8 +63,8 @@ impl Model for MaskState {
       full = m.full;
       matched = m.matching;
       window = m.window;
-      waiting = if m.waits then Some (record { text = m.text.items; ending = m.ending }) else None;
-      want = m.want;
+      waiting = if waits_in m.phase then Some (record { text = m.text.items; ending = m.ending }) else None;
+      want = want_in m.phase;
       bed_ended = m.bed_ended;
       decided_to = m.decided_to;
     } };
@@ -91,8 +91,7 @@ impl MaskState {
             window: Window::new(alloc),
             text: Vec::new(alloc),
             ending: LineEnd::Absent,
-            waits: false,
-            want: MaskWant::Line,
+            phase: Phase::Lines,
             bed_ended: false,
             decided_to: 0,
         }
@@ -102,7 +101,7 @@ impl MaskState {
     pub(crate) fn want(&self) -> MaskWant
         ensures { result ≡ self.now.want }
     {
-        self.want
+        self.phase.want()
     }
 
     // How many extents are held.
@@ -116,7 +115,7 @@ impl MaskState {
     pub(crate) fn waits(&self) -> bool
         ensures { result ≡ is_some self.now.waiting }
     {
-        self.waits
+        self.phase.waits()
     }
 
     // Takes the next line, which is written at once or kept until it is decided.
@@ -128,25 +127,34 @@ impl MaskState {
         ensures { TakesLine self.old line.now.number
             (record { text = line.now.text.now; ending = line.now.ending }) out.old.output result self.new out.new.output }
     {
-        if self.passes(line.text, line.ending, out) {
-            return Ok(());
-        }
-        self.take_any(line, out)
-    }
-
-    // The same for any line.
-    fn take_any<K: Sink>(&mut self, line: &Line<'_>, out: &mut Out<K>) -> Result<(), Fault>
-        ensures { TakesLine self.old line.now.number
-            (record { text = line.now.text.now; ending = line.now.ending }) out.old.output result self.new out.new.output }
-    {
         if let Err(fault) = self.move_to(line.number, line.text) {
-            self.want = MaskWant::Nothing;
+            self.phase = Phase::Ended;
             return Err(fault);
         }
         if self.writes_at_once(line.text) {
             return self.write_at_once(line.text, line.ending, out);
         }
         self.keep(line.text, line.ending)
+    }
+
+    // Takes the lines that nothing masks, and the one after them, and returns true if there is one.
+    #[inline(always)]
+    pub(crate) fn give_lines<K: Sink>(
+        &mut self,
+        lines: &mut BufferedLines<'_>,
+        out: &mut Out<K>,
+    ) -> Result<bool, Fault>
+        requires { self.old.want ≡ MaskWant.Line }
+        ensures gives { GivesLines self.old lines.old out.old.output result self.new lines.new out.new.output }
+        ensures stops { result ≡ Ok false → (lines_in lines.new ≡ []) × (self.new.want ≡ MaskWant.Line) }
+        ensures shrinks { result ≡ Ok true → length (lines_in lines.new) < length (lines_in lines.old) }
+    {
+        self.copy_through(lines, out)?;
+        let Some(line) = lines.next() else {
+            return Ok(false);
+        };
+        self.take_line(&line, out)?;
+        Ok(true)
     }
 
     // Takes a record while a line waits, unless it decides the line.
@@ -177,7 +185,7 @@ impl MaskState {
         match self.matching.owner(bed.chrom) {
             Owner::Own | Owner::Earlier => Ok(()),
             Owner::Nobody => {
-                self.want = MaskWant::Nothing;
+                self.phase = Phase::Ended;
                 Err(no_sequence(line))
             }
         }
@@ -185,14 +193,15 @@ impl MaskState {
 
     // Takes the end of the lines.
     pub(crate) fn end_lines(&mut self)
+        requires { self.old.want ≡ MaskWant.Line }
         ensures { self.new ≡ record self.old {
           want = cond self.old.bed_ended MaskWant.Nothing MaskWant.Bed;
         } }
     {
-        self.want = if self.bed_ended {
-            MaskWant::Nothing
+        self.phase = if self.bed_ended {
+            Phase::Ended
         } else {
-            MaskWant::Bed
+            Phase::Checks
         };
     }
 
@@ -205,61 +214,47 @@ impl MaskState {
             × (out.new.output ≡ out.old.output) }
     {
         self.bed_ended = true;
-        if self.waits {
+        if self.phase.waits() {
             return self.write(out);
         }
-        self.want = MaskWant::Nothing;
+        self.phase = Phase::Ended;
         Ok(())
     }
 
-    // Writes the next line as it was given, if it is known beforehand that nothing masks it, it ends with
-    // a line feed alone and the output has room; else nothing changes. Where few records mask anything, most
-    // lines go this way.
+    // Copies those of the next lines through that are known beforehand to be written as they stand.
     #[inline(always)]
-    fn passes<K: Sink>(&mut self, text: &[u8], ending: LineEnd, out: &mut Out<K>) -> bool
-        ensures passed { result ≡ true → PassesLine self.old
-            (record { text = text.now; ending = ending }) out.old.output self.new out.new.output }
-        ensures unchanged { result ≡ false → (self.new ≡ self.old) × (out.new.output ≡ out.old.output) }
-    {
-        let bases = self.window.bases_with(text.len());
-        if !self.stays_as_given(text, bases) || !hold_text(text, ending, out) {
-            return false;
-        }
-        self.window.go_to(bases);
-        self.waits = false;
-        self.want = MaskWant::Line;
-        true
-    }
-
-    // Whether a sequence has begun, and a few lines more are known to be decided.
-    #[inline(always)]
-    pub(crate) fn may_pass(&self) -> bool {
-        (self.bed_ended || FEWEST <= self.decided_to.saturating_sub(self.window.bases()))
-            && self.matching.is_named()
-    }
-
-    // Passes those of the next lines that are known beforehand to be written as they stand, for which the
-    // output has room.
-    pub(crate) fn pass_lines<'a, K: Sink>(
+    pub(crate) fn copy_through<K: Sink>(
         &mut self,
-        lines: WholeLines<'a>,
+        lines: &mut BufferedLines<'_>,
         out: &mut Out<K>,
-    ) -> WholeLines<'a>
-        ensures { (texts : List (List ℕ)) × PassesLines lines.entry texts result
-            × MaskPasses self.old texts out.old.output self.new out.new.output }
+    ) -> Result<(), Fault>
+        ensures { CopiesThrough self.old lines.old out.old.output result self.new lines.new out.new.output }
     {
-        if !self.matching.is_named() || !self.window.is_empty() {
-            return lines;
+        if !self.may_copy() || lines.is_open() {
+            return Ok(());
         }
-        let passing = Passing::new(lines, self.window.before(), self.window.bases(), out.room());
-        let passed = passing.pass_all(self.known_to());
-        if !hold_passed(lines, passed.lines, out) {
-            return lines;
+        let through = CopyThrough {
+            lines: *lines,
+            before: self.window.before(),
+            bases: self.window.bases(),
+        };
+        let through = through.consume_up_to(self.known_to());
+        let copied = lines.between(lines.offset(), through.lines.offset());
+        if copied.is_empty() {
+            return Ok(());
         }
-        self.window.stand_at(passed.before, passed.bases);
-        self.waits = false;
-        self.want = MaskWant::Line;
-        passed.lines
+        *lines = through.lines;
+        self.window.stand_at(through.before, through.bases);
+        let put = put_line(copied, b"", out);
+        self.has_written(put)
+    }
+
+    // Whether a sequence has begun, nothing is held, and bases behind the last line are known to be decided.
+    fn may_copy(&self) -> bool
+        ensures named { result ≡ true → is_some self.now.matched.name ≡ true }
+        ensures held { result ≡ true → nat_eq (length self.now.window.held) 0 ≡ true }
+    {
+        self.window.bases() < self.known_to() && self.matching.is_named() && self.window.is_empty()
     }
 
     // Up to which base of the sequence lines are known to be decided, where they stand behind a header.
@@ -271,19 +266,6 @@ impl MaskState {
         } else {
             self.decided_to
         }
-    }
-
-    // Whether the next line, of this text and up to so many bases of its sequence, is known to be written as
-    // it is: it is no header but stands after one, nothing is held, and the records have ended or the record
-    // ahead decides it.
-    fn stays_as_given(&self, text: &[u8], bases: u64) -> bool
-        requires { bases ≡ (gone_on self.now.window (length text.now)).bases }
-        ensures { result ≡ stays_as_given self.now text.now }
-    {
-        !is_header(text)
-            && self.matching.is_named()
-            && self.window.is_empty()
-            && (self.bed_ended || bases <= self.decided_to)
     }
 
     // Whether a line of this text is written at once: the records have ended, no header has come, or it is
@@ -333,7 +315,7 @@ impl MaskState {
             × (nat_lt self.old.window.before stop ≡ true)) }
     {
         if self.window.hold(start, stop).is_err() {
-            self.want = MaskWant::Nothing;
+            self.phase = Phase::Ended;
             return Err(no_memory());
         }
         Ok(())
@@ -363,12 +345,11 @@ impl MaskState {
     {
         self.text.clear();
         if self.text.extend_from_slice(text).is_err() {
-            self.want = MaskWant::Nothing;
+            self.phase = Phase::Ended;
             return Err(no_memory());
         }
         self.ending = ending;
-        self.waits = true;
-        self.want = MaskWant::Bed;
+        self.phase = Phase::Waits;
         Ok(())
     }
 
@@ -405,11 +386,10 @@ impl MaskState {
         ensures next { IsOk written → self.new ≡ record self.old { waiting = None; want = MaskWant.Line } }
         ensures stops { IsErr written → self.new.want ≡ MaskWant.Nothing }
     {
-        self.waits = false;
-        self.want = if written.is_ok() {
-            MaskWant::Line
+        self.phase = if written.is_ok() {
+            Phase::Lines
         } else {
-            MaskWant::Nothing
+            Phase::Ended
         };
         written?;
         Ok(())

@@ -67,15 +67,6 @@ impl Window {
         }
     }
 
-    // Goes on to the next line of the sequence, up to whose end so many bases stand, where nothing is held.
-    pub(crate) fn go_to(&mut self, bases: u64)
-        requires held { self.old.held ≡ [] }
-        requires within { bases ≤ limit }
-        ensures { self.new ≡ record { before = self.old.bases; bases = bases; held = [] } }
-    {
-        self.before = std::mem::replace(&mut self.bases, bases);
-    }
-
     // How many bases stand before the line.
     pub(crate) fn before(&self) -> u64
         ensures { result ≡ self.now.before }
@@ -106,13 +97,6 @@ impl Window {
         ensures { result ≡ nat_lt place self.now.bases }
     {
         place < self.bases
-    }
-
-    // How many bases stand up to the end of the next line, which has so many.
-    pub(crate) fn bases_with(&self, count: usize) -> u64
-        ensures { result ≡ (gone_on self.now count).bases }
-    {
-        up_to_limit(self.bases, count)
     }
 
     // Holds the part of a record that reaches past the start of the line.

@@ -1,5 +1,5 @@
 -- Lemmas on what is held.
-use Rattle.std.proofs.Common.{◌≡◌, ℕ, ◌≤◌, ◌<◌, inl, inr, Bool, true, false, not, ◌&&◌, ◌||◌, cond, List, [], ◌∷◌, ◌++◌, Some, refl, sym, ap, ◌∙◌, subst, ltb, arith, filter, bytes_eq}
+use Rattle.std.proofs.Common.{◌≡◌, ℕ, ◌≤◌, ◌<◌, inl, inr, Bool, true, false, not, ◌&&◌, ◌||◌, cond, List, [], ◌∷◌, ◌++◌, Option, None, Some, refl, sym, ap, ◌∙◌, subst, ltb, arith, filter, bytes_eq}
 use Rattle.std.specs.Prelude.{IsTrue}
 use Rattle.std.specs.List.{list_all}
 use Rattle.std.specs.Ordering.{ordering_reverse}
@@ -13,12 +13,17 @@ use Rattle.bt_bed.specs.Order.{Order, IsTotal}
 use Rattle.bt_bed.specs.GoodBed.{locus_at}
 use Rattle.bt_bed.specs.Locus.{is_below_at, IsUpTo, ArePlaced}
 use Rattle.bt_bed.specs.Together.{has_records}
-use Rattle.bt_bed.proofs.NameLemmas.{name_eq, name_ne, other_name}
+use Rattle.bt_bed.proofs.NameLemmas.{name_eq, name_ne, other_name, same_name}
 use Rattle.bt_sweep.specs.Deciding.{decides}
 use Rattle.bt_sweep.specs.Standing.{is_held, held_for, last_after, last_given, leaves_some, HoldsFor}
 use Rattle.bt_sweep.specs.StateSteps.{held_with}
 use Rattle.bt_sweep.proofs.FilterLemmas.{filter-both}
 use Rattle.bt_sweep.proofs.PlacedLemmas.{last_given-push, last_is_there, next_lies}
+
+-- what is held once a is given, after the one that was given last
+abbrev pub held_behind : Option Feature → List Feature → Feature → List Feature
+held_behind None held a = []
+held_behind (Some last) held a = cond (bytes_eq last.chrom a.chrom) (filter (λ b. ltb a.start b.stop) held) []
 
 -- places that come in order
 pub up_trans : (order : Order) (x y z : Feature) → IsTotal order → IsTrue (order.knows x.chrom) → IsTrue (order.knows y.chrom) → IsTrue (order.knows z.chrom) → IsUpTo order (locus_at x) (locus_at y) → IsUpTo order (locus_at y) (locus_at z) → IsUpTo order (locus_at x) (locus_at z)
@@ -91,11 +96,11 @@ same_held l a taken same up =
     (λ b. narrow_at (bytes_eq a.chrom b.chrom) l.start a.start b.stop up ∙ ap (λ (c : List ℕ). (bytes_eq c b.chrom && ltb l.start b.stop) && ltb a.start b.stop) same)
     taken
 
-held_on : (l a : Feature) (held : List Feature) (c : Bool) → bytes_eq l.chrom a.chrom ≡ c → held_with (Some l) held a ≡ cond c (filter (λ b. ltb a.start b.stop) held) []
+held_on : (l a : Feature) (held : List Feature) (c : Bool) → bytes_eq l.chrom a.chrom ≡ c → held_behind (Some l) held a ≡ cond c (filter (λ b. ltb a.start b.stop) held) []
 held_on l a held c e = ap (λ b. cond b (filter (λ b. ltb a.start b.stop) held) []) e
 
 -- what is held once a is given
-pub held_next : (order : Order) (gs taken held : List Feature) (a : Feature) → IsTotal order → ArePlaced order (intervals_of (gs ++ a ∷ [])) → HoldsFor order gs taken held → held_with (last_given gs) held a ≡ filter (is_held a) taken
+pub held_next : (order : Order) (gs taken held : List Feature) (a : Feature) → IsTotal order → ArePlaced order (intervals_of (gs ++ a ∷ [])) → HoldsFor order gs taken held → held_behind (last_given gs) held a ≡ filter (is_held a) taken
 held_next order [] [] held a total placed holds = refl
 held_next order [] (b ∷ taken) held a total placed holds = absurd (false≢true holds.reached)
 held_next order (q ∷ qs) taken held a total placed holds =
@@ -120,7 +125,7 @@ reached_more order gs more (b ∷ taken) reached =
 
 -- with one more record of the first input
 pub holds_a : (order : Order) (gs taken held : List Feature) (a : Feature) → IsTotal order → ArePlaced order (intervals_of (gs ++ a ∷ [])) → HoldsFor order gs taken held
-    → HoldsFor order (gs ++ a ∷ []) taken (held_with (last_given gs) held a)
+    → HoldsFor order (gs ++ a ∷ []) taken (held_behind (last_given gs) held a)
 holds_a order gs taken held a total placed holds = record {
   held_is = held_next order gs taken held a total placed holds ∙ ap (λ l. held_for l taken) (sym (last_given-push gs a));
   reached = reached_more order gs (a ∷ []) taken holds.reached;
@@ -137,3 +142,28 @@ holds_b order gs taken held a b holds e = record {
       (and_from (leaves_some order (gs ++ a ∷ []) b) true
       (list_any-append (λ a. not (decides order a b)) gs (a ∷ []) ∙ or_right (leaves_some order gs b) (not (decides order a b) || false) (or_left (not (decides order a b)) false (ap not e))) refl);
 }
+
+-- ---- which of them lie on a chromosome is told by the first
+
+first_at : (l x b : Feature) (xs more : List Feature) (c : Bool) → is_held l x ≡ c → (filter (is_held l) xs ≡ b ∷ more → b.chrom ≡ l.chrom)
+    → cond c (x ∷ filter (is_held l) xs) (filter (is_held l) xs) ≡ b ∷ more → b.chrom ≡ l.chrom
+first_at l x b xs more true held rest e =
+    let same : x ≡ b = cc in
+    subst (λ (f : Feature). f.chrom ≡ l.chrom) same (sym (same_name l.chrom x.chrom (and_parts (bytes_eq l.chrom x.chrom) (ltb l.start x.stop) held).0))
+first_at l x b xs more false held rest e = rest e
+
+first_on : (l : Feature) (taken : List Feature) (b : Feature) (more : List Feature) → filter (is_held l) taken ≡ b ∷ more → b.chrom ≡ l.chrom
+first_on l [] b more e = absurd (let apart : [] ≡ b ∷ more = e in cc)
+first_on l (x ∷ xs) b more e = first_at l x b xs more (is_held l x) refl (first_on l xs b more) e
+
+none_either : (c : Bool) → cond {A = List Feature} c [] [] ≡ []
+none_either true = refl
+none_either false = refl
+
+pub held_is_behind : (order : Order) (gs taken held : List Feature) (a : Feature) → HoldsFor order gs taken held → held_with held a ≡ held_behind (last_given gs) held a
+held_is_behind order [] taken [] a holds = refl
+held_is_behind order (q ∷ qs) taken [] a holds = sym (none_either (bytes_eq (last_after q qs).chrom a.chrom))
+held_is_behind order [] taken (b ∷ more) a holds = absurd (let apart : b ∷ more ≡ [] = holds.held_is in cc)
+held_is_behind order (q ∷ qs) taken (b ∷ more) a holds =
+    let on : b.chrom ≡ (last_after q qs).chrom = first_on (last_after q qs) taken b more (sym holds.held_is) in
+    ap (λ (name : List ℕ). cond (bytes_eq name a.chrom) (filter (λ r. ltb a.start r.stop) (b ∷ more)) []) on

@@ -1,5 +1,5 @@
 -- Lemmas on a limit on how many records are held.
-use Rattle.std.proofs.Common.{◌≡◌, ℕ, ◌≤◌, Bool, true, false, not, cond, suc, List, [], ◌∷◌, ◌++◌, Option, Some, None, refl, sym, ap, ◌∙◌, arith, append_assoc, append-nil, filter, length, length-append, bytes_eq, ltb, map}
+use Rattle.std.proofs.Common.{◌≡◌, ℕ, ◌≤◌, Bool, true, false, not, cond, suc, List, [], ◌∷◌, ◌++◌, Option, Some, None, refl, sym, ap, ◌∙◌, arith, append_assoc, append-nil, filter, length, length-append, ltb, map}
 use Rattle.std.specs.Prelude.{IfSome, if◌then◌else◌, nat_lt}
 use Rattle.std.specs.List.{find, list_all}
 use Rattle.std.proofs.lemmas.Bool.{false≢true, and_from, and_parts, lt-ltb, le-ltb, ltb-true, false_from_ne_true}
@@ -15,7 +15,7 @@ use Rattle.bt_bed.proofs.MeetingLemmas.{all_stop, met_fault_stop, met_lines, wri
 use Rattle.bt_sweep.specs.Deciding.{decided}
 use Rattle.bt_sweep.specs.IntersectLines.{intersect}
 use Rattle.bt_sweep.specs.Limit.{HoldsEnough, HoldsTooMany, are_too_many, cut_behind, first_open, held_for, is_held, limited, limit_is_kept, limit_stops}
-use Rattle.bt_sweep.specs.StateSteps.{held_with, is_held_by}
+use Rattle.bt_sweep.specs.StateSteps.{are_on, held_with}
 use Rattle.bt_sweep.specs.Steps.{has_room}
 use Rattle.bt_sweep.specs.SweepMeeting.{intersect_met, sweep_rule}
 use Rattle.bt_sweep.specs.declared.hit_rule.HitRule.{HitRule}
@@ -30,7 +30,7 @@ passed_less : (c : Bool) (x : Feature) (xs : List Feature) (count : ℕ) → len
 passed_less true x xs count h = omega arith
 passed_less false x xs count h = omega arith
 
-filter_less : (test : Feature → Bool) (xs : List Feature) → length (filter test xs) ≤ length xs
+pub filter_less : (test : Feature → Bool) (xs : List Feature) → length (filter test xs) ≤ length xs
 filter_less test [] = omega arith
 filter_less test (x ∷ xs) = passed_less (test x) x (filter test xs) (length xs) (filter_less test xs)
 
@@ -39,9 +39,8 @@ cond_less true xs count h = h
 cond_less false xs count h = omega arith
 
 -- a record of the first input makes no more be held
-pub held_less : (last : Option Feature) (held : List Feature) (a : Feature) → length (held_with last held a) ≤ length held
-held_less None held a = omega arith
-held_less (Some l) held a = cond_less (bytes_eq l.chrom a.chrom) (filter (λ b. ltb a.start b.stop) held) (length held) (filter_less (λ b. ltb a.start b.stop) held)
+pub held_less : (held : List Feature) (a : Feature) → length (held_with held a) ≤ length held
+held_less held a = cond_less (are_on held a.chrom) (filter (λ b. ltb a.start b.stop) held) (length held) (filter_less (λ b. ltb a.start b.stop) held)
 
 within_at : (limit : Option ℕ) (b : Feature) (held : List Feature) (c : Bool) → (c ≡ true → has_room limit (length held) ≡ true) → IfSome limit (λ most. length held ≤ most)
     → IfSome limit (λ most. length (held ++ cond c (b ∷ []) []) ≤ most)
@@ -50,9 +49,9 @@ within_at (Some most) b held true room within = omega (arith, ltb-true (length h
 within_at (Some most) b held false room within = omega (arith, ap length (append-nil held), within)
 
 -- with one more, for which there is room where it has to be held
-pub within_more : (limit : Option ℕ) (last : Option Feature) (b : Feature) (held : List Feature) → (is_held_by last b ≡ true → has_room limit (length held) ≡ true) → IfSome limit (λ most. length held ≤ most)
-    → IfSome limit (λ most. length (held ++ filter (is_held_by last) (b ∷ [])) ≤ most)
-within_more limit last b held room within = within_at limit b held (is_held_by last b) room within
+pub within_more : (limit : Option ℕ) (a b : Feature) (held : List Feature) → (is_held a b ≡ true → has_room limit (length held) ≡ true) → IfSome limit (λ most. length held ≤ most)
+    → IfSome limit (λ most. length (held ++ filter (is_held a) (b ∷ [])) ≤ most)
+within_more limit a b held room within = within_at limit b held (is_held a b) room within
 
 -- behind fronts that aren't too many
 pub cut_past : (too_many : List Feature → Bool) (before past more : List (Member Feature)) (fault : Option Told)

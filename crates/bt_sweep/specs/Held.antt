@@ -7,14 +7,22 @@ use Rattle.bt_bed.specs.Feature.{Feature}
 abbrev pub AreOn : List ℕ → List Feature → Type 0
 AreOn name held = All (λ b. b.chrom ≡ name) held
 
--- the record b can hit a, or one that follows it: it lies on its chromosome, ends behind its start and
--- has a base
-abbrev pub CanHit : Feature → Feature → Type 0
-CanHit a b = (b.chrom ≡ a.chrom) × (a.start < b.stop) × (b.start < b.stop)
+-- the record b lies on the chromosome, ends behind this start and has a base
+abbrev pub CanHitAt : List ℕ → ℕ → Feature → Type 0
+CanHitAt name start b = (b.chrom ≡ name) × (start < b.stop) × (b.start < b.stop)
 
--- the records can hit the one that was given last
-abbrev pub AreWith : Option Feature → List Feature → Type 0
-AreWith last held = ForSome last (λ a. All (CanHit a) held)
+-- the record b can hit a, or one that follows it
+abbrev pub CanHit : Feature → Feature → Type 0
+CanHit a b = CanHitAt a.chrom a.start b
+
+-- the records have a base, and lie on one chromosome
+abbrev pub AreTogether : List Feature → Type 0
+AreTogether held = All (λ b. (b.start < b.stop) × All (λ r. r.chrom ≡ b.chrom) held) held
+
+-- the same, and they can hit the one that waits, if one does
+pub record AreReady (current : Option Feature) (held : List Feature) : Type 0 where
+  pub together : AreTogether held
+  pub hits : ForSome current (λ a. All (CanHit a) held)
 
 -- each starts at this position or after it, and at the start of the one before it or after that
 abbrev pub AreRisingFrom : ℕ → List Feature → Type 0

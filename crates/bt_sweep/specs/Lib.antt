@@ -11,12 +11,10 @@ pub mod Standing
 pub mod Walking
 pub mod Steps
 pub mod StateSteps
-pub mod Passing
-pub mod Unhit
+pub mod Joining
+pub mod Relating
 pub mod Reaching
-pub mod StatePassing
-pub mod StateLeaping
-pub mod StateEnding
+pub mod Advancing
 pub mod PlainPieces
 pub mod Held
 pub mod HeldList

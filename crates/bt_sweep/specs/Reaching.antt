@@ -1,5 +1,5 @@
 -- Where a record of the second input lies beside one of the first.
-use Rattle.std.specs.Prelude.{◌≡◌, ◌≤◌, ◌<◌, true, false, Option, None, Some}
+use Rattle.std.specs.Prelude.{◌≡◌, ◌≤◌, ◌<◌, true, false}
 use Rattle.bt_bed.specs.Feature.{Feature}
 use Rattle.bt_bed.specs.Order.{Order}
 use Rattle.bt_sweep.specs.Deciding.{decides}
@@ -18,8 +18,3 @@ abbrev pub IsReachBeside : Reach → Feature → Feature → Type 0
 IsReachBeside Before a b = (b.start < a.stop) × (b.stop ≤ a.start)
 IsReachBeside Within a b = (b.start < a.stop) × (a.start < b.stop)
 IsReachBeside Past a b = a.stop ≤ b.start
-
--- beside the record that was given last, if one was
-abbrev pub IsReachBy : Reach → Order → Option Feature → Feature → Type 0
-IsReachBy reach order None b = reach ≡ Before
-IsReachBy reach order (Some a) b = IsReach reach order a b

@@ -9,6 +9,8 @@ use Rattle.bt_sweep.specs.Deciding.{decides, decided}
 pub use Rattle.bt_sweep.specs.Limit.{is_held, held_for}
 use Rattle.bt_sweep.specs.SweepState.{Sweeping, want_of}
 use Rattle.bt_sweep.specs.declared.hit_rule.HitRule.{HitRule}
+use Rattle.bt_sweep.specs.declared.phase.Phase.{Phase}
+use Rattle.bt_sweep.specs.declared.phase.Phase.TheVariants.{Both, First, Over}
 use Rattle.bt_sweep.specs.declared.shape.Shape.{Shape}
 use Rattle.bt_sweep.specs.declared.want.Want.{Want}
 
@@ -58,16 +60,20 @@ pub record HoldsFor (order : Order) (as_given taken held : List Feature) : Type 
   pub held_is : held ≡ held_for (last_given as_given) taken
   pub reached : IsTrue (list_all (leaves_some order as_given) taken)
 
+-- how far it has come with its inputs, by whether each has ended
+abbrev pub phase_of : Bool → Bool → Phase
+phase_of true b_ended = Over
+phase_of false true = First
+phase_of false false = Both
+
 -- the sweep stands there
 pub record StandsAt (order : Order) (shape : Shape) (rule : HitRule) (limit : Option ℕ)
     (stage : Stage) (sweep : Sweeping) : Type 0 where
   pub shape_is : sweep.shape ≡ shape
   pub rule_is : sweep.rule ≡ rule
   pub limit_is : sweep.limit ≡ limit
-  pub last_is : sweep.last ≡ last_given (given stage)
-  pub waits : sweep.waits ≡ is_some stage.waiting
-  pub done : sweep.done ≡ stage.a_ended
-  pub b_ended : sweep.b_ended ≡ stage.b_ended
+  pub current_is : sweep.current ≡ stage.waiting
+  pub phase_is : sweep.phase ≡ phase_of stage.a_ended stage.b_ended
   pub holds : HoldsFor order (given stage) stage.taken sweep.held
   -- no more records are held than the limit allows
   pub within : IfSome limit (λ most. length sweep.held ≤ most)

@@ -1,24 +1,23 @@
--- What a sweep holds, as its callers see it.
-use Rattle.std.specs.Prelude.{ℕ, Bool, true, false, List, Option}
+-- What a sweep holds between calls.
+use Rattle.std.specs.Prelude.{ℕ, Bool, true, false, List, Option, is_some}
 use Rattle.bt_bed.specs.Feature.{Feature}
 use Rattle.bt_sweep.specs.declared.hit_rule.HitRule.{HitRule}
+use Rattle.bt_sweep.specs.declared.phase.Phase.{Phase}
+use Rattle.bt_sweep.specs.declared.phase.Phase.TheVariants.{Both, First, Over}
 use Rattle.bt_sweep.specs.declared.shape.Shape.{Shape}
 use Rattle.bt_sweep.specs.declared.want.Want.{Want}
 use Rattle.bt_sweep.specs.declared.want.Want.TheVariants.{A, B, Nothing}
 
 -- the shape of what it writes, the rule of what hits a record, how many records may be held, if
--- that is limited, the record of the first input that was given last, whether its lines are still
--- to be written, the records of the second input that are held, whether it is done with the first
--- input, and whether the second has ended
+-- that is limited, the record of the first input that waits, if one does, the records of the second
+-- input that are held, and how far it has come
 pub record Sweeping : Type 0 where
   pub shape : Shape
   pub rule : HitRule
   pub limit : Option ℕ
-  pub last : Option Feature
-  pub waits : Bool
+  pub current : Option Feature
   pub held : List Feature
-  pub done : Bool
-  pub b_ended : Bool
+  pub phase : Phase
 
 -- what is asked for: the second input while lines are to be written, then the first, and nothing at
 -- last or after a fault
@@ -27,5 +26,10 @@ want_of true done = B
 want_of false true = Nothing
 want_of false false = A
 
+abbrev pub is_over : Phase → Bool
+is_over Both = false
+is_over First = false
+is_over Over = true
+
 abbrev pub want_in : Sweeping → Want
-want_in sweep = want_of sweep.waits sweep.done
+want_in sweep = want_of (is_some sweep.current) (is_over sweep.phase)

@@ -7,7 +7,7 @@ ghost use Rattle.bt_sweep.specs.Reaching.{IsReach, IsReachBeside};
 use bt_bed::{BedRef, ChromOrder};
 use std::cmp::Ordering;
 
-// Where a record of the second input lies, for the record of the first that was given last.
+// Where a record of the second input lies, for one of the first.
 #[derive(Clone, Copy)]
 pub(crate) enum Reach {
     // It hits neither that record nor a later one: it lies before it.

@@ -5,12 +5,14 @@ ghost use Rattle.bt_bed.specs.Feature.{Feature};
 
 use crate::held::Held;
 use crate::hit_rule::HitRule;
-use crate::reach::Reach;
+use crate::phase::Phase;
+use crate::reach::{Reach, reach_of};
+use crate::relation::{Relation, relation_of};
 use crate::shape::Shape;
-use crate::state::State;
+use crate::state::{State, skip};
 use crate::want::Want;
-use bt_bed::{BedRef, ChromOrder, Taken, WholeRecords};
-use bt_lines::{Fault, Out, Sink};
+use bt_bed::{BedRef, ChromOrder, Cursor, Record, Single, Taken};
+use bt_lines::{Fault, MAX_NUMBER, Out, Sink};
 use std::alloc::Global;
 
 /// Compares two inputs that are sorted in one order of the chromosomes, and writes the lines of each
@@ -25,20 +27,22 @@ pub struct Sweep<'o, H: Held, O: ChromOrder> {
     order: &'o O,
     // Always valid; after a fault it asks for nothing.
     state: State<H>,
-    ghost known: { (a : Feature) → state.last ≡ Some a
+    ghost known: { (a : Feature) → state.current ≡ Some a
         → IsTrue ((O.order order.now).knows a.chrom) },
 }
 
 impl<'o, H: Held, O: ChromOrder> Sweep<'o, H, O> {
-    ghost use Rattle.std.specs.Prelude.{◌≡◌, ℕ, List, [], IsTrue, Ok, OnErr, Option, Some, false, true};
+    ghost use Rattle.std.specs.Prelude.{◌≡◌, ℕ, All, List, [], IsTrue, None, OnErr, OnOk, Option, Some};
     ghost use Rattle.bt_bed.specs.Bed.{feature_lent};
     ghost use Rattle.bt_bed.specs.Feature.{intervals_of};
     ghost use Rattle.bt_bed.specs.Locus.{ArePlaced};
     ghost use Rattle.bt_bed.specs.Order.{Order};
     ghost use Rattle.bt_sweep.specs.Standing.{IsInOrder, Stage, StandsAt, first_stage, given, held_for, last_given, want_at, with_a, with_a_ended};
     ghost use Rattle.bt_sweep.specs.Steps.{EndsB, GivesA, GivesB};
-    ghost use Rattle.bt_bed.specs.WholeRecords.{GivesWholes};
-    ghost use Rattle.bt_sweep.specs.Passing.{PassesSeconds, TakesBoth, TakesFirsts, WritesAny};
+    ghost use Rattle.bt_sweep.specs.Advancing.{Advances, AdvancesOn, DecidesCurrent, IsThis, Settles};
+    ghost use Rattle.bt_sweep.specs.Held.{CanHit};
+    ghost use Rattle.bt_sweep.specs.Joining.{Joins, LeavesLast};
+    ghost use Rattle.bt_sweep.specs.Relating.{EndsWhile, GivesKnown};
     ghost use Rattle.bt_sweep.specs.SweepView.{order_of, state_of};
     ghost use Rattle.bt_sweep.specs.SweepState.{want_in};
 
@@ -81,6 +85,31 @@ impl<'o, H: Held, O: ChromOrder> Sweep<'o, H, O> {
         self.state.held()
     }
 
+    /// Takes records of both inputs, one after another, as [`Sweep::give_a`] and [`Sweep::give_b`] do with each, as long as
+    /// the next one of the input that it asks for is there. It stops too once the record is written that waited before.
+    /// Where it asks for nothing, it takes none.
+    pub fn advance<A: Cursor, B: Cursor, K: Sink>(
+        &mut self,
+        a: &mut A,
+        b: &mut B,
+        out: &mut Out<K>,
+    ) -> Result<(), Fault>
+        requires known_a { GivesKnown A.gives (order_of self.old) a.old }
+        requires known_b { GivesKnown B.gives (order_of self.old) b.old }
+        ensures advances { AdvancesOn A.gives A.has_ended B.gives B.has_ended B.line (order_of self.old) (state_of self.old)
+            a.old b.old out.old.output result (state_of self.new) a.new b.new out.new.output }
+        ensures stops { OnErr result (want_in (state_of self.new) ≡ Want.Nothing) }
+        ensures order { order_of self.new ≡ order_of self.old }
+    {
+        if !self.state.waits() {
+            return self.go_on(a, b, out);
+        }
+        match self.is_current_left(b, out) {
+            Ok(_) => Ok(()),
+            Err(fault) => Err(fault),
+        }
+    }
+
     /// Takes the next record of the first input. Where the second has ended its lines are written at
     /// once, and else nothing is. For those the records of the second input have to be in order too, since
     /// pieces are found by their starts. It fails with `NoMemory` where the record can't be kept, and with
@@ -95,75 +124,11 @@ impl<'o, H: Held, O: ChromOrder> Sweep<'o, H, O> {
         ensures stops { OnErr result (want_in (state_of self.new) ≡ Want.Nothing) }
         ensures order { order_of self.new ≡ order_of self.old }
     {
-        self.state.take_a(a, out)
-    }
-
-    /// Takes records of the first input that stand whole, one after another: those that `b`, the next of the second,
-    /// decides, as [`Sweep::give_a`] and then [`Sweep::give_b`] do with each, and the one behind them, as
-    /// [`Sweep::give_a`] does, unless all that stand whole are decided and have no line. It takes no more than the output
-    /// has room for. It answers whether it took any: none where a record is held, where there is no memory for the one
-    /// that waits, or behind a failed write. What it took was passed.
-    pub fn take_whole<K: Sink>(
-        &mut self,
-        records: &mut WholeRecords<'_>,
-        b: &BedRef<'_>,
-        out: &mut Out<K>,
-    ) -> bool
-        requires want { want_in (state_of self.old) ≡ Want.A }
-        requires known { IsTrue ((order_of self.old).knows b.now.chrom.now) }
-        ensures takes { result ≡ true → TakesFirsts (order_of self.old) (feature_lent b.now) (state_of self.old) records.old
-            out.old.output (state_of self.new) records.new out.new.output }
-        ensures none { result ≡ false → (state_of self.new ≡ state_of self.old) × (records.new ≡ records.old)
-            × (out.new.output ≡ out.old.output) }
-        ensures order { order_of self.new ≡ order_of self.old }
-    {
-        self.state.take_whole(self.order, records, b, out)
-    }
-
-    /// Takes records of the first input that stand whole, one after another, once it was told that the second has ended,
-    /// and writes the lines of each, as [`Sweep::give_a`] does. It answers whether it took any: none where it wasn't told
-    /// so, before the first record, and on another chromosome than that of the record given last. What it took was
-    /// passed, and where it fails, as [`Sweep::give_a`] does, the record that it failed at too.
-    pub fn write_whole<K: Sink>(
-        &mut self,
-        records: &mut WholeRecords<'_>,
-        out: &mut Out<K>,
-    ) -> Result<bool, Fault>
-        requires want { want_in (state_of self.old) ≡ Want.A }
-        ensures before_end { (state_of self.old).b_ended ≡ false → result ≡ Ok false }
-        ensures writes { WritesAny (order_of self.old) (state_of self.old) records.old out.old.output result (state_of self.new)
-            records.new out.new.output }
-        ensures stops { OnErr result (want_in (state_of self.new) ≡ Want.Nothing) }
-        ensures order { order_of self.new ≡ order_of self.old }
-    {
-        self.state.write_whole(records, out)
-    }
-
-    /// Takes records of both inputs that stand whole, as [`Sweep::give_b`] and [`Sweep::give_a`] do with each: those of
-    /// the second that end at the start of the current record of the first or before it, and where nothing is held and a
-    /// record that nothing hits has no line, those of the first that end at the start of the next one of the second or
-    /// before it, up to the first two that share a base. Of these the record of the second is held, and that of the first
-    /// is the current one then. Where records are held and that isn't limited, it takes those of the second alone, up to
-    /// the first that decides the current one, and holds each that has to be. Nothing is written. What it took was passed,
-    /// which may be none. Of the first input's records only the last one is copied. Where there is no memory for a copy,
-    /// or the limit leaves no room, it takes none of the first input, and of the second none from there on.
-    pub fn take_both(&mut self, firsts: &mut WholeRecords<'_>, seconds: &mut WholeRecords<'_>)
-        requires { want_in (state_of self.old) ≡ Want.B }
-        ensures takes { TakesBoth (order_of self.old) (state_of self.old) firsts.old seconds.old (state_of self.new)
-            firsts.new seconds.new }
-        ensures want { want_in (state_of self.new) ≡ Want.B }
-        ensures order { order_of self.new ≡ order_of self.old }
-    {
-        self.state.leap(firsts, seconds);
-    }
-
-    /// Takes records of the second input that stand whole alone, as [`Sweep::take_both`] does.
-    pub fn pass_before(&self, records: &mut WholeRecords<'_>)
-        requires { want_in (state_of self.now) ≡ Want.B }
-        ensures { (seconds : List Feature) × GivesWholes records.old seconds records.new
-            × PassesSeconds (order_of self.now) (state_of self.now) seconds }
-    {
-        self.state.pass_before(records);
+        self.state.enter(a);
+        if let Phase::First = self.state.phase() {
+            return self.state.put(a, out);
+        }
+        self.state.keep(a)
     }
 
     /// Takes the end of the first input. Nothing is written, and nothing more is asked for.
@@ -198,14 +163,22 @@ impl<'o, H: Held, O: ChromOrder> Sweep<'o, H, O> {
         ensures stops { OnErr result (want_in (state_of self.new) ≡ Want.Nothing) }
         ensures order { order_of self.new ≡ order_of self.old }
     {
-        match self.state.reach(self.order, b) {
-            Reach::Before => Ok(Taken::Yes),
+        let Some(current) = self.state.take_current() else {
+            return Ok(Taken::Yes);
+        };
+        let a = current.as_bed();
+        match reach_of(self.order, &a, b) {
+            Reach::Before => {
+                self.state.put_back(current);
+                Ok(Taken::Yes)
+            }
             Reach::Within => {
-                self.state.hold(b, line)?;
+                self.state.take(&a, b, line)?;
+                self.state.put_back(current);
                 Ok(Taken::Yes)
             }
             Reach::Past => {
-                self.state.write(out)?;
+                self.state.put(&a, out)?;
                 Ok(Taken::No)
             }
         }
@@ -222,7 +195,96 @@ impl<'o, H: Held, O: ChromOrder> Sweep<'o, H, O> {
         ensures stops { OnErr result (want_in (state_of self.new) ≡ Want.Nothing) }
         ensures order { order_of self.new ≡ order_of self.old }
     {
-        self.state.end_b(out)
+        let Some(current) = self.state.take_current() else {
+            return Ok(());
+        };
+        self.state.end_b();
+        self.state.put(&current.as_bed(), out)
+    }
+
+    // Whether there is a record that waits, and it still does after these of the second input.
+    fn is_current_left<B: Cursor, K: Sink>(
+        &mut self,
+        b: &mut B,
+        out: &mut Out<K>,
+    ) -> Result<bool, Fault>
+        requires known_b { GivesKnown B.gives (order_of self.old) b.old }
+        ensures decides { DecidesCurrent B.gives B.has_ended B.line (order_of self.old) (state_of self.old) b.old
+            out.old.output result (state_of self.new) b.new out.new.output }
+        ensures phase { OnOk result ((state_of self.new).phase ≡ (state_of self.old).phase) }
+        ensures stops { OnErr result (want_in (state_of self.new) ≡ Want.Nothing) }
+        ensures order { order_of self.new ≡ order_of self.old }
+    {
+        let Some(current) = self.state.take_current() else {
+            return Ok(false);
+        };
+        let bed = current.as_bed();
+        let Some(_) = self.decide(bed, &mut Single::none(bed.chrom), b, out)? else {
+            return Ok(false);
+        };
+        self.state.put_back(current);
+        Ok(true)
+    }
+
+    // Takes records of both inputs, where none of the first waits.
+    fn go_on<A: Cursor, B: Cursor, K: Sink>(
+        &mut self,
+        a: &mut A,
+        b: &mut B,
+        out: &mut Out<K>,
+    ) -> Result<(), Fault>
+        requires none { (state_of self.old).current ≡ None }
+        requires known_a { GivesKnown A.gives (order_of self.old) a.old }
+        requires known_b { GivesKnown B.gives (order_of self.old) b.old }
+        ensures advances { Advances A.gives A.has_ended B.gives B.has_ended B.line (order_of self.old) (state_of self.old)
+            a.old b.old out.old.output result (state_of self.new) a.new b.new out.new.output }
+        ensures stops { OnErr result (want_in (state_of self.new) ≡ Want.Nothing) }
+        ensures order { order_of self.new ≡ order_of self.old }
+    {
+        if let Phase::Over = self.state.phase() {
+            return Ok(());
+        }
+        let Some(first) = a.next() else {
+            return Ok(());
+        };
+        self.state.enter(&first);
+        let Some(waiting) = self.decide(first, a, b, out)? else {
+            return Ok(());
+        };
+        self.state.keep(&waiting)
+    }
+
+    // Writes records of the first input, from this one on, as far as those of the second decide them, which are taken up to
+    // there. It returns the one that is left, if there is one.
+    fn decide<A: Cursor, B: Cursor, K: Sink>(
+        &mut self,
+        first: A::Record,
+        a: &mut A,
+        b: &mut B,
+        out: &mut Out<K>,
+    ) -> Result<Option<A::Record>, Fault>
+        requires none { (state_of self.old).current ≡ None }
+        requires hits { All (CanHit (A.Record.feature first)) (state_of self.old).held }
+        requires on { A.name a.old ≡ (A.Record.feature first).chrom }
+        requires known { IsTrue ((order_of self.old).knows (A.Record.feature first).chrom) }
+        requires known_b { GivesKnown B.gives (order_of self.old) b.old }
+        ensures joins { Joins A.gives A.has_ended B.gives (EndsWhile B.has_ended (state_of self.old).phase) B.line (IsThis (order_of self.old)) (Settles (order_of self.old) (state_of self.old).phase)
+            (LeavesLast (order_of self.old)) A.Record.feature (state_of self.old) (A.Record.feature first) a.old b.old out.old.output result (state_of self.new)
+            a.new b.new out.new.output }
+        ensures none { (state_of self.new).current ≡ None }
+        ensures phase { OnOk result ((state_of self.new).phase ≡ (state_of self.old).phase) }
+        ensures stops { OnErr result (want_in (state_of self.new) ≡ Want.Nothing) }
+        ensures order { order_of self.new ≡ order_of self.old }
+    {
+        match relation_of(self.order, self.state.phase(), first.bed().chrom, b) {
+            Relation::Unknown => Ok(Some(first)),
+            Relation::Before => {
+                skip(b);
+                Ok(Some(first))
+            }
+            Relation::Beside => self.state.join(first, a, b, out),
+            Relation::After => self.state.write_up_to(MAX_NUMBER, first, a, out),
+        }
     }
 }
 

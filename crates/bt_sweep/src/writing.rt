@@ -15,7 +15,6 @@ use crate::hit_rule::HitRule;
 use crate::pieces::put_pieces;
 use crate::shape::Shape;
 use crate::started::count_started;
-use crate::unhit::{Unhit, unhit_of};
 use crate::written::{Written, put_written};
 use bt_bed::{BedRef, Rec, put_bed, put_cut};
 use bt_lines::{Fault, Out, Sink, put_number};
@@ -24,7 +23,15 @@ use bt_lines::{Fault, Out, Sink, put_number};
 pub(crate) fn needs_hit(shape: Shape) -> bool
     ensures { IsTrue result → NeedsHit shape }
 {
-    unhit_of(shape) == Unhit::Nothing
+    match shape {
+        Shape::Cut
+        | Shape::OrigA
+        | Shape::CutAndB
+        | Shape::OrigBoth
+        | Shape::Overlap
+        | Shape::Once => true,
+        Shape::Missing | Shape::Whole | Shape::Pieces | Shape::Count => false,
+    }
 }
 
 // Puts the lines of a record against these, which can hit it and come by their starts. Those that start

@@ -5,9 +5,8 @@ ghost use Rattle.std.specs.Option.{ForSome};
 ghost use Rattle.bt_lines.specs.Putting.{Puts};
 ghost use Rattle.bt_bed.specs.Bed.{feature_lent};
 ghost use Rattle.bt_bed.specs.Record.{bed_text};
-ghost use Rattle.bt_bed.specs.RecordLine.{Says};
 
-use bt_bed::{BedRef, RecordLine, put_bed};
+use bt_bed::{BedRef, Record, put_bed};
 use bt_lines::{Fault, Out, Sink, put_line};
 
 // A record, with its line where that is at hand and stands as the record is written.
@@ -29,19 +28,14 @@ impl<'a> Written<'a> {
         Written { bed, text: None }
     }
 
-    // The record of a line, with the line if that stands as the record is written.
+    // The record, with its line if that stands as the record is written.
     #[inline(always)]
-    pub(crate) fn of_line(line: &RecordLine<'a>) -> Written<'a>
-        ensures { Says line.now (feature_lent result.bed) }
+    pub(crate) fn of<R: Record>(record: &'a R) -> Written<'a>
+        ensures { feature_lent result.bed ≡ R.feature record.now }
     {
-        let text = if line.is_as_written() {
-            Some(line.text())
-        } else {
-            None
-        };
         Written {
-            bed: line.bed(),
-            text,
+            bed: record.bed(),
+            text: record.written(),
         }
     }
 }
@@ -65,13 +59,13 @@ pub(crate) fn put_written<K: Sink>(
 #[cfg(test)]
 mod tests {
     use super::*;
-    use bt_bed::{Genome, Records};
+    use bt_bed::{Genome, RecordLine, Records};
     use bt_lines::{Input, LineReader, ScriptSink, ScriptSource};
     use std::test::Fail;
 
     // Puts the record of a line, with the line at hand and without it.
     fn put_both_ways<K: Sink>(line: &RecordLine<'_>, out: &mut Out<K>) -> Result<(), Fault> {
-        put_written(&Written::of_line(line), b"\n", out)?;
+        put_written(&Written::of(line), b"\n", out)?;
         put_written(&Written::of_bed(line.bed()), b"\n", out)
     }
 

@@ -26,7 +26,7 @@ fn a_single_record_is_given_once(rt: HostRuntime) -> Result<(), Fail> {
     let Ok(Some(bed)) = crate::parsing::parse_bed(text) else {
         return Err("a record".into());
     };
-    let mut one = Single::new(bed);
+    let mut one = Single::new(bed, 3);
     assert!(rt; is_next(&mut one, (2, 4), Strand::Minus, b"\tn\t0\t-"));
     assert!(rt; one.next().is_none());
     Ok(())
@@ -42,17 +42,15 @@ fn buffered_records_are_given_in_order(rt: HostRuntime) -> Result<(), Fail> {
     );
     let order = ByteOrder;
     let mut records = Records::new(rt.alloc(), lines, &order);
-    if records.peek()?.is_some() {
-        records.advance();
+    if !records.fill()? {
+        return Err("a record".into());
     }
-    let are_given = match records.whole() {
-        None => false,
-        Some(mut whole) => {
-            is_next(&mut whole, (2, 4), Strand::Minus, b"\tn\t0\t-")
-                && is_next(&mut whole, (3, 9), Strand::Dot, b"")
-                && Cursor::next(&mut whole).is_none()
-        }
-    };
+    let mut batch = records.buffered();
+    let are_given = is_next(&mut batch, (1, 5), Strand::Dot, b"")
+        && is_next(&mut batch, (2, 4), Strand::Minus, b"\tn\t0\t-")
+        && is_next(&mut batch, (3, 9), Strand::Dot, b"")
+        && Cursor::line(&batch) == 3
+        && Cursor::next(&mut batch).is_none();
     let _ = records.into_reader().into_source();
     assert!(rt; are_given);
     Ok(())

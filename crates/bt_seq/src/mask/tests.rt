@@ -2,8 +2,8 @@ ghost use Rattle.std.specs.Prelude.{◌≡◌};
 
 use super::*;
 use crate::plain::plain_mask;
-use bt_bed::{Blocks, Rec, parse_bed};
-use bt_lines::{Input, Kind, LineEnd, LineReader, Place, ScriptSink, ScriptSource};
+use bt_bed::{Blocks, Rec, Single, parse_bed};
+use bt_lines::{BufferedLines, Input, Kind, LineEnd, LineReader, Place, ScriptSink, ScriptSource};
 use std::alloc::AllocError;
 use std::test::Fail;
 
@@ -418,52 +418,119 @@ fn lines_before_the_record_ahead_dont_wait(rt: HostRuntime) {
     assert!(rt; is_flushed && is_written);
 }
 
-// Lines, a record ahead, how many of the lines are passed at once behind the first, and what is written then.
-type Passed = (&'static [u8], &'static [u8], u64, &'static [u8]);
-
-const PASSED: [Passed; 6] = [
-    (b">s\nACGT\n\nAC\nGA\n", b"s\t7\t9", 3, b">s\nACGT\n\nAC\n"),
-    (b">s\nACGT\nACG\nA\n", b"s\t7\t9", 2, b">s\nACGT\nACG\n"),
-    (b">s\nAC\n>t\nGT\n", b"s\t9\t10", 1, b">s\nAC\n"),
-    (b">s\nAC\nGT\r\nAA\n", b"s\t9\t10", 1, b">s\nAC\n"),
-    (b">s\nAC\nGT", b"s\t9\t10", 1, b">s\nAC\n"),
-    (b">s\nAC\nGT\n", b"s\t1\t3", 0, b">s\n"),
+// Rows of which all lines are buffered at once.
+const BUFFERED: [Row; 7] = [
+    (b"", b"", b"", None),
+    (
+        b"\n>s\nACGT\n\nAC\nGA\n>t\nTT\n",
+        b"s\t7\t9\nt\t0\t1\n",
+        b"\n>s\nACGT\n\nAC\nGN\n>t\nNT\n",
+        None,
+    ),
+    (
+        b">s\r\nACGT\r\nACG\r\nAA\r\n",
+        b"s\t7\t8\n",
+        b">s\r\nACGT\r\nACG\r\nNA\r\n",
+        None,
+    ),
+    (
+        b">s\nAC\nGT\nAC\nGT\n",
+        b"s\t1\t3\ns\t2\t3\n",
+        b">s\nAN\nNT\nAC\nGT\n",
+        None,
+    ),
+    (
+        b">s\nAC\nGT\n>t\nAC\n",
+        b"t\t0\t1\nu\t0\t1\nt\t1\t2\n",
+        b">s\nAC\nGT\n>t\nNC\n",
+        Some((Kind::NoSequence, Input::Second, 2)),
+    ),
+    (b">s\nAC\nGT\n", b"", b">s\nAC\nGT\n", None),
+    (
+        b"\nAC\n>s\n",
+        b"s\t0\t1\n",
+        b"\n",
+        Some((Kind::TextBeforeHeader, Input::First, 2)),
+    ),
 ];
 
-// How many lines a mask passes at once, where it asks for one.
-fn passes(
-    mask: &mut Mask,
-    lines: &LineReader<ScriptSource<'_>>,
-    out: &mut Out<ScriptSink>,
-) -> Option<u64> {
-    match mask.want() {
-        MaskWant::Line => Some(mask.pass_lines(lines.whole_lines(), out).passed().lines),
-        _ => None,
+// The record of the line that was read last, while that is ahead, or none.
+fn ahead<'a>(beds: &'a LineReader<ScriptSource<'_>>, is_ahead: bool) -> Single<'a> {
+    if !is_ahead {
+        return Single::none(b"");
+    }
+    let Some(line) = beds.line() else {
+        return Single::none(b"");
+    };
+    match parse_bed(line.text) {
+        Ok(Some(bed)) => Single::new(bed, line.number),
+        _ => Single::none(b""),
     }
 }
 
-// Whether the lines that the row says are passed, and written as they stand.
-fn passes_as(alloc: Global, row: &Passed) -> bool {
-    let mut lines = LineReader::new(alloc, ScriptSource::new(row.0, 64, None), Input::First);
-    let mut out = Out::new(ScriptSink::new(alloc, 64, None));
-    let mut mask = Mask::new(alloc, MaskHow::Soft, false);
-    let has_header = match lines.next() {
-        Ok(Some(line)) => line.text == b">s".as_slice(),
-        _ => false,
-    };
-    let begun = [Step::Line(b">s"), Step::Leaves(row.1)];
-    let has_begun = first_that_goes_otherwise(&mut mask, &begun, &mut out).is_none();
-    let count = passes(&mut mask, &lines, &mut out);
+// Gives all lines, and a record if one is ahead, and returns true if it still is.
+fn advance(
+    mask: &mut Mask,
+    lines: &mut BufferedLines<'_>,
+    beds: &LineReader<ScriptSource<'_>>,
+    is_ahead: bool,
+    out: &mut Out<ScriptSink>,
+) -> Result<bool, Fault> {
+    let mut record = ahead(beds, is_ahead);
+    mask.advance(lines, &mut record, out)?;
+    Ok(!record.is_empty())
+}
+
+// Gives what is asked for, all lines and a record at a time.
+fn drive_buffered(
+    mask: &mut Mask,
+    lines: &mut BufferedLines<'_>,
+    beds: &mut LineReader<ScriptSource<'_>>,
+    out: &mut Out<ScriptSink>,
+) -> Result<(), Fault> {
+    let mut is_ahead = false;
+    for _turn in 0..64 {
+        match mask.want() {
+            MaskWant::Line => {
+                if lines.is_empty() {
+                    mask.end_lines();
+                }
+            }
+            MaskWant::Bed => {
+                if !is_ahead {
+                    is_ahead = beds.next()?.is_some();
+                    if !is_ahead {
+                        mask.end_bed(out)?;
+                    }
+                }
+            }
+            MaskWant::Nothing => return Ok(()),
+        }
+        is_ahead = advance(mask, lines, beds, is_ahead, out)?;
+    }
+    Ok(())
+}
+
+// Whether the row gives its bytes and its fault, where all its lines are given together.
+fn agrees_buffered(alloc: Global, row: &Row) -> bool {
+    let mut reader = LineReader::new(alloc, ScriptSource::new(row.0, 64, None), Input::First);
+    let mut beds = LineReader::new(alloc, ScriptSource::new(row.1, 64, None), Input::Second);
+    let mut out = Out::new(ScriptSink::new(alloc, 7, None));
+    let mut mask = Mask::new(alloc, MaskHow::Hard(b'N'), false);
+    let _ = reader.fill().is_ok();
+    let mut lines = reader.buffered();
+    let driven = drive_buffered(&mut mask, &mut lines, &mut beds, &mut out);
     let is_flushed = out.flush().is_ok();
-    let is_written = out.into_sink().taken() == row.3;
-    let _ = lines.into_source();
-    has_header && has_begun && count == Some(row.2) && is_flushed && is_written
+    let is_written = out.into_sink().taken() == row.2;
+    let _ = reader.into_source();
+    let _ = beds.into_source();
+    is_flushed && is_written && is_it(driven, row.3)
 }
 
 #[test]
-fn lines_that_stay_are_passed_at_once(rt: HostRuntime) {
-    for row in &PASSED {
-        assert!(rt; passes_as(rt.alloc(), row));
+fn lines_given_together_are_masked(rt: HostRuntime) {
+    for row in &BUFFERED {
+        assert!(rt; agrees_buffered(rt.alloc(), row));
     }
 }
 

@@ -513,5 +513,4 @@ fn gives_what_the_plain_program_gives(rt: HostRuntime) -> Result<(), Fail> {
     Ok(())
 }
 
-mod passing;
 mod random;

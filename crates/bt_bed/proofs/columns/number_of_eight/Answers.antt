@@ -5,31 +5,31 @@ use Rattle.bt_bed.proofs.ColumnsLemmas.{eight_begin, eight_small, one_more}
 use Rattle.bt_bed.proofs.FirstColumnLemmas.{digit_bound}
 use Rattle.bt_bed.proofs.columns.number_of_eight.Goals as goal
 
-pub returns-then-is_column_end : goal.returns-then-is_column_end
-returns-then-is_column_end c =
-    let text = drop c.args.at c.args.sight.now in
-    let room : 8 ≤ length text = omega (arith, length-drop c.args.at c.args.sight.now) in
+pub returns-then-not-is_ascii_digit-clause-begins : goal.returns-then-not-is_ascii_digit-clause-begins
+returns-then-not-is_ascii_digit-clause-begins c =
+    let text = drop c.args.at c.args.bytes.now in
+    let room : 8 ≤ length text = omega (arith, length-drop c.args.at c.args.bytes.now) in
     eight_begin text c.args.value room c.requires.value
 
 pub overflow_mul-result : goal.overflow_mul-result
 overflow_mul-result c =
-    let text = drop c.args.at c.args.sight.now in
-    let room : 8 ≤ length text = omega (arith, length-drop c.args.at c.args.sight.now) in
+    let text = drop c.args.at c.args.bytes.now in
+    let room : 8 ≤ length text = omega (arith, length-drop c.args.at c.args.bytes.now) in
     let small = eight_small text c.args.value room c.requires.value in
     omega arith
 
 pub overflow_add-result : goal.overflow_add-result
 overflow_add-result c =
-    let text = drop c.args.at c.args.sight.now in
-    let room : 8 ≤ length text = omega (arith, length-drop c.args.at c.args.sight.now) in
+    let text = drop c.args.at c.args.bytes.now in
+    let room : 8 ≤ length text = omega (arith, length-drop c.args.at c.args.bytes.now) in
     let small = eight_small text c.args.value room c.requires.value in
     let digit = sym c.is_ascii_digit.ensures.value ∙ c.if-not-is_ascii_digit.false in
-    let low = digit_bound (get_or c.args.sight.now (c.args.at + 8) 0) digit in
+    let low = digit_bound (get_or c.args.bytes.now (c.args.at + 8) 0) digit in
     omega (arith, c.from.ensures)
 
-pub returns-then-is_column_end-2 : goal.returns-then-is_column_end-2
-returns-then-is_column_end-2 c =
-    let sight = c.args.sight.now in
+pub returns-clause-begins : goal.returns-clause-begins
+returns-clause-begins c =
+    let sight = c.args.bytes.now in
     let text = drop c.args.at sight in
     let room : 8 < length text = omega (arith, length-drop c.args.at sight) in
     let there : get_or text 8 0 ≡ get_or sight (c.args.at + 8) 0 = get_or-drop c.args.at sight 8 0 in

@@ -14,9 +14,3 @@ returns-clause-said c = columns_say_feature c.args.text.now (feature_lent c.in_o
 
 pub returns-clause-suffix : goal.returns-clause-suffix
 returns-clause-suffix c = said_ends c.args.text.now (feature_lent c.in_ok-feature.feature) (sym c.in_ok-feature.ensures)
-
-pub returns-in-Some-clause-said : goal.returns-in-Some-clause-said
-returns-in-Some-clause-said c = columns_say_feature c.args.text.now (feature_lent c.in-Some.feature) (sym c.if-is_header.ensures) c.in-Some.ensures
-
-pub returns-in-Some-clause-suffix : goal.returns-in-Some-clause-suffix
-returns-in-Some-clause-suffix c = said_ends c.args.text.now (feature_lent c.in-Some.feature) (sym c.in-Some.ensures)

@@ -1,10 +1,15 @@
 use Rattle.bt_bed.specs.Blocks.{view_of}
-use Rattle.bt_bed.proofs.BlocksLemmas.{passed_in_blocks, passes_blocks}
+use Rattle.bt_bed.specs.SortedReader.{view_with}
+use Rattle.bt_bed.proofs.BlocksLemmas.{passes_blocks}
+use Rattle.bt_bed.proofs.RecordsLemmas.{some_first}
 use Rattle.bt_bed.proofs.blocks.Blocks.advance.Goals as goal
 
-pub invariant_of-self : goal.invariant_of-self
-unfolding view_of
-invariant_of-self g c = record { placed = passed_in_blocks g.S.Source.left c.args.self.now.sorted c.advance.new.self c.args.self.now.placed c.requires c.advance.ensures.passed }
+pub advance-requires-clause-some : goal.advance-requires-clause-some
+unfolding view_of view_with
+advance-requires-clause-some g c = some_first _ _ c.requires
 
 pub returns : goal.returns
-returns g c = passes_blocks g.S.Source.left c.args.self.now _ c.requires c.advance.ensures.passed
+unfolding view_of view_with
+returns g c =
+    let first = some_first _ _ c.requires in
+    passes_blocks g.S.Source.left g.S.Source.end_told c.args.self.now _ first.0 first.1 first.2 c.advance.ensures.takes

@@ -1,7 +1,7 @@
 use Rattle.std.proofs.Common.{◌∙◌, ap}
 use Rattle.std.specs.Prelude.{option_map}
 use Rattle.bt_lines.specs.Reader.{input_of, lines_left}
-use Rattle.bt_bed.proofs.RecordsLemmas.{good_at_start, no_line_at_start, placed_at_start}
+use Rattle.bt_bed.proofs.RecordsLemmas.{good_at_start, placed_at_start}
 use Rattle.bt_bed.specs.Good.{good}
 use Rattle.bt_bed.specs.GoodBed.{bed_format}
 use Rattle.bt_bed.specs.Records.{view_of}
@@ -10,14 +10,10 @@ use Rattle.bt_bed.specs.declared.sorted.ByOrder.{ByOrder}
 use Rattle.bt_bed.proofs.records.Records.new.Goals as goal
 
 pub invariant_of-result : goal.invariant_of-result
-invariant_of-result g c = record { placed = placed_at_start g.S.Source.left g.S.Source.has_failed g.S.Source.end_told _ c.new.result c.new.ensures.ahead c.new.ensures.last }
+invariant_of-result g c = record { placed = placed_at_start g.S.Source.left g.S.Source.has_failed g.S.Source.end_told _ c.new.result c.new.ensures.none c.new.ensures.last }
 
 pub returns-clause-good : goal.returns-clause-good
 unfolding view_of
 returns-clause-good g c = λ going.
-    good_at_start g.S.Source.left g.S.Source.has_failed g.S.Source.end_told _ c.new.result c.args.reader c.new.ensures.reader c.new.ensures.fault c.new.ensures.ahead c.new.ensures.last going
+    good_at_start g.S.Source.left g.S.Source.has_failed g.S.Source.end_told _ c.new.result c.args.reader c.new.ensures.reader c.new.ensures.fault c.new.ensures.last going
     ∙ ap (λ (by : ByOrder _). option_map (good (bed_format (sorting_of (g.O.ChromOrder.order by.order.now))) (input_of c.args.reader)) (lines_left g.S.Source.left c.args.reader)) c.new.ensures.rule
-
-pub returns-clause-none_ahead : goal.returns-clause-none_ahead
-unfolding view_of
-returns-clause-none_ahead g c = no_line_at_start g.S.Source.left g.S.Source.has_failed g.S.Source.end_told _ c.new.result c.new.ensures.ahead

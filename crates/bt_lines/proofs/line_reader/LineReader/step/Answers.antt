@@ -1,17 +1,15 @@
-use Rattle.std.proofs.Common.{refl}
-use Rattle.bt_lines.proofs.ReadsLemmas.{reads_none, reads_same}
-use Rattle.bt_lines.proofs.StepLemmas.{stepped_from_last, stepped_again, told_ended, told_last}
+use Rattle.std.proofs.Common.{◌∙◌, Ok, ap}
+use Rattle.bt_lines.proofs.FillLemmas.{reads_by, steps_by, steps_to_fault}
 use Rattle.bt_lines.proofs.line_reader.LineReader.step.Goals as goal
 
-pub returns-in-LastLine-clause-steps : goal.returns-in-LastLine-clause-steps
-returns-in-LastLine-clause-steps g c = stepped_from_last _ _ _ c.args.self.now _ c.in-LastLine.is refl refl refl refl refl refl
+pub returns-in-Err-clause-steps : goal.returns-in-Err-clause-steps
+returns-in-Err-clause-steps g c = steps_to_fault _ _ _ c.args.self.now _ c.in-Err.fault c.in-Err.ensures.fills
 
-pub returns-in-Ended-clause-steps : goal.returns-in-Ended-clause-steps
-returns-in-Ended-clause-steps g c = stepped_again _ _ _ c.args.self.now c.args.self.now c.in-Ended.is
+pub returns-in-Ok-true-clause-steps : goal.returns-in-Ok-true-clause-steps
+returns-in-Ok-true-clause-steps g c =
+    steps_by _ _ _ c.args.self.now c.fill.new.self c.cuts_line.new.self c.fill.result c.cuts_line.result (c.in-Ok-true.is ∙ ap Ok c.in-Ok-true.field-0-test) c.fill.ensures.fills c.cuts_line.ensures.none c.cuts_line.ensures.cut
 
-pub returns-in-LastLine-clause-own_failure : goal.returns-in-LastLine-clause-own_failure
-returns-in-LastLine-clause-own_failure g c =
-    reads_none g.S.Source.is_read c.args.self.now _ (told_last c.args.self.now c.in-LastLine.is).taken (told_ended _ refl).taken refl refl
-
-pub returns-in-Ended-clause-own_failure : goal.returns-in-Ended-clause-own_failure
-returns-in-Ended-clause-own_failure g c = reads_same g.S.Source.is_read c.args.self.now c.args.self.now refl
+pub returns-in-Ok-true-clause-own_failure : goal.returns-in-Ok-true-clause-own_failure
+returns-in-Ok-true-clause-own_failure g c =
+    reads_by g.S.Source.left g.S.Source.has_failed g.S.Source.end_told g.S.Source.is_read c.args.self.now c.fill.new.self c.cuts_line.new.self c.fill.result c.cuts_line.result (c.in-Ok-true.is ∙ ap Ok c.in-Ok-true.field-0-test) c.fill.ensures.fills c.cuts_line.ensures.none
+    c.fill.ensures.own_failure c.cuts_line.ensures.reads_nothing

@@ -1,7 +1,7 @@
 use Rattle.std.proofs.Common.{◌∙◌, ap, subst, sym}
 use Rattle.std.proofs.lemmas.Result.{err_from_is_err_and}
 use Rattle.bt_bed.specs.Bed.{feature_lent}
-use Rattle.bt_seq.proofs.BedStepLemmas.{checks_bed, gives_bed, kept_is, lacks_sequence, stops_bed}
+use Rattle.bt_seq.proofs.BedStepLemmas.{checks_bed, gives_bed, kept_is, lacks_sequence, leaves_bed, stops_bed}
 use Rattle.bt_seq.proofs.mask.Mask.give_bed.Goals as goal
 use Rattle.bt_seq.specs.MaskStanding.{MaskStandsAt, kept_line}
 use Rattle.bt_seq.specs.MaskState.{Masking}
@@ -16,6 +16,11 @@ returns-then-waits-clause-waits g c = λ how full stage waiting stands is next.
 pub returns-then-waits-clause-stops : goal.returns-then-waits-clause-stops
 returns-then-waits-clause-stops g c =
     stops_bed c.self.inside.state c.take_bed.new.self (feature_lent c.args.bed.now) c.args.out.now.output c.take_bed.new.out.output c.take_bed.result c.self.inside.state.waiting
+    (sym c.waits.ensures ∙ c.if-waits.true) c.take_bed.ensures
+
+pub returns-then-waits-clause-leaves : goal.returns-then-waits-clause-leaves
+returns-then-waits-clause-leaves g c =
+    leaves_bed c.self.inside.state c.take_bed.new.self (feature_lent c.args.bed.now) c.args.out.now.output c.take_bed.new.out.output c.take_bed.result c.self.inside.state.waiting
     (sym c.waits.ensures ∙ c.if-waits.true) c.take_bed.ensures
 
 pub returns-in_err-check_bed-clause-none_waits : goal.returns-in_err-check_bed-clause-none_waits

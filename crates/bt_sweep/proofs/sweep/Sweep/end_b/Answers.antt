@@ -1,8 +1,15 @@
-use Rattle.bt_sweep.proofs.StepLemmas.{ends_b, last_waits, waiting_rises}
+use Rattle.std.proofs.Common.{◌≡◌, Some, ap, ◌∙◌}
+use Rattle.bt_bed.specs.Bed.{feature_lent}
+use Rattle.bt_sweep.specs.SweepState.{Sweeping}
+use Rattle.bt_sweep.specs.SweepView.{order_of, state_of}
+use Rattle.bt_sweep.specs.declared.phase.Phase.TheVariants.{First}
+use Rattle.bt_sweep.proofs.GiveLemmas.{ends_b, same_one, stop_wants}
 use Rattle.bt_sweep.proofs.sweep.Sweep.end_b.Goals as goal
 
 pub returns-clause-gives : goal.returns-clause-gives
-returns-clause-gives g c = λ shape rule limit stage a stands waits placed.
-    let order = g.O.ChromOrder.order c.args.self.now.order.now in
-    ends_b order shape rule limit stage a waits c.args.self.now.state stands c.end_b.result _ _ _
-    (c.end_b.ensures.writes a (last_waits order shape rule limit stage a waits c.args.self.now.state stands) (waiting_rises order shape rule limit stage a waits c.args.self.now.state stands (g.met.O.ChromOrder.total c.args.self.now.order.now) placed))
+returns-clause-gives g c = λ shape rule limit stage a st waits placed.
+    let old = state_of c.args.self.now in
+    let cur : Some c.in-Some.current ≡ Some a = c.in-Some.ensures.is ∙ st.current_is ∙ waits in
+    ends_b (order_of c.args.self.now) (g.met.O.ChromOrder.total c.args.self.now.order.now) shape rule limit stage a old st waits c.put.result c.end_b.new.self c.put.new.self (feature_lent c.as_bed.result) c.args.out.now.output c.put.new.out.output placed
+    (c.end_b.ensures ∙ ap (λ (s : Sweeping). record s { phase = First }) c.take_current.ensures.taken) (c.as_bed.ensures ∙ same_one c.in-Some.current a cur) c.put.ensures.same
+    (stop_wants c.put.result c.end_b.new.self c.put.new.self (ap (λ (s : Sweeping). s.current) (c.end_b.ensures ∙ ap (λ (s : Sweeping). record s { phase = First }) c.take_current.ensures.taken)) c.put.ensures.stops) c.put.ensures.puts

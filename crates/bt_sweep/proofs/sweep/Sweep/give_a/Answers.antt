@@ -1,10 +1,16 @@
+use Rattle.std.proofs.Common.{sym, ap, ◌∙◌}
 use Rattle.bt_bed.specs.Bed.{feature_lent}
-use Rattle.bt_sweep.proofs.StepLemmas.{gives_a, next_rises}
+use Rattle.bt_sweep.specs.SweepState.{Sweeping}
+use Rattle.bt_sweep.specs.SweepView.{order_of, state_of}
+use Rattle.bt_sweep.proofs.GiveLemmas.{gives_waiting, gives_written}
 use Rattle.bt_sweep.proofs.sweep.Sweep.give_a.Goals as goal
 
+pub returns-in-First-clause-gives : goal.returns-in-First-clause-gives
+returns-in-First-clause-gives g c = λ shape rule limit stage st ordered.
+    gives_written (order_of c.args.self.now) (g.met.O.ChromOrder.total c.args.self.now.order.now) shape rule limit stage (feature_lent c.args.a.now) (state_of c.args.self.now) st c.requires.want c.enter.new.self c.enter.ensures.entered
+    c.put.result c.put.new.self c.args.out.now.output c.put.new.out.output (ap (λ (s : Sweeping). s.phase) (sym c.enter.ensures.entered) ∙ sym c.phase.ensures ∙ c.in-First.is) ordered c.put.ensures.same c.put.ensures.stops c.put.ensures.puts
+
 pub returns-clause-gives : goal.returns-clause-gives
-returns-clause-gives g c = λ shape rule limit stage stands ordered.
-    gives_a (g.O.ChromOrder.order c.args.self.now.order.now) shape rule limit stage.written stage.taken stage.a_ended c.args.self.now.state (feature_lent c.args.a.now)
-    (g.met.O.ChromOrder.total c.args.self.now.order.now) c.take_a.result stage.b_ended stage.waiting _ _ _ stands c.requires.want ordered
-    (c.take_a.ensures.takes (next_rises (g.O.ChromOrder.order c.args.self.now.order.now) shape rule limit stage.written stage.taken stage.a_ended c.args.self.now.state (feature_lent c.args.a.now)
-    (g.met.O.ChromOrder.total c.args.self.now.order.now) stage.b_ended stage.waiting stands c.requires.want ordered))
+returns-clause-gives g c = λ shape rule limit stage st ordered.
+    gives_waiting (order_of c.args.self.now) (g.met.O.ChromOrder.total c.args.self.now.order.now) shape rule limit stage (feature_lent c.args.a.now) (state_of c.args.self.now) st c.requires.want c.enter.new.self c.enter.ensures.entered
+    c.keep.result c.keep.new.self c.args.out.now.output (λ e. c.in_default.not-First (c.phase.ensures ∙ ap (λ (s : Sweeping). s.phase) c.enter.ensures.entered ∙ e)) ordered c.keep.ensures

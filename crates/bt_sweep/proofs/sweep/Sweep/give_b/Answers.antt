@@ -1,58 +1,78 @@
-use Rattle.std.proofs.Common.{◌∙◌, Option, ap}
+use Rattle.std.proofs.Common.{◌≡◌, Option, Some, Ok, Err, ap, refl, subst, sym, ◌∙◌}
+use Rattle.std.proofs.lemmas.Bool.{false≢true}
 use Rattle.std.proofs.lemmas.Result.{err_from_is_err_and}
+use Rattle.bt_lines.specs.Names.{told}
 use Rattle.bt_bed.specs.Bed.{feature_lent}
 use Rattle.bt_bed.specs.Feature.{Feature}
-use Rattle.bt_sweep.specs.StateSteps.{is_held_by}
+use Rattle.bt_lines.specs.Putting.{FailsToAdd, Grown}
+use Rattle.bt_sweep.specs.Held.{AreRising}
+use Rattle.bt_sweep.specs.IntersectLines.{lines_for}
+use Rattle.bt_sweep.specs.Reaching.{IsReach}
 use Rattle.bt_sweep.specs.declared.reach.Reach.TheVariants.{Before, Past, Within}
-use Rattle.bt_sweep.proofs.StepLemmas.{cuts_a, holds_none, last_waits, reach_beside, stops_b, takes_b, waiting_rises, within_held, writes_a}
+use Rattle.bt_sweep.specs.StateSteps.{Takes, has_room_in, holding}
+use Rattle.bt_sweep.specs.SweepState.{Sweeping}
+use Rattle.bt_sweep.specs.SweepView.{order_of, state_of}
+use Rattle.bt_sweep.proofs.GiveLemmas.{cuts_b, holds_none, same_one, stops_taking, takes_b, writes_b}
 use Rattle.bt_sweep.proofs.sweep.Sweep.give_b.Goals as goal
 
-pub hold-requires : goal.hold-requires
-hold-requires g c = within_held (g.O.ChromOrder.order c.args.self.now.order.now) c.args.self.now.state.last (feature_lent c.args.b.now) c.in-Within.ensures
+pub returns-in_err-take-in-Within-clause-gives : goal.returns-in_err-take-in-Within-clause-gives
+returns-in_err-take-in-Within-clause-gives g c = λ shape rule limit stage a st waits placed.
+    let old = state_of c.args.self.now in
+    let order = order_of c.args.self.now in
+    let mid = c.take_current.new.self in
+    let is : c.in-Some.current ≡ a = same_one c.in-Some.current a (c.in-Some.ensures.is ∙ st.current_is ∙ waits) in
+    let same : feature_lent c.as_bed-a.result ≡ a = c.as_bed-a.ensures ∙ is in
+    let reach = subst (λ (f : Feature). IsReach Within order f (feature_lent c.args.b.now)) same c.in-Within.ensures in
+    let takes = subst (λ (f : Feature). Takes {A = Unit {0}} mid f (feature_lent c.args.b.now) c.args.line (Err c.in_err-take-in-Within.field-0.0) c.take.new.self) same c.in_err-take-in-Within.ensures.takes in
+    let e = err_from_is_err_and c.from_residual.result c.from_residual.ensures.1 in
+    rw (e.1, e.2)
+    (stops_taking order (g.met.O.ChromOrder.total c.args.self.now.order.now) shape rule limit stage a old st waits (feature_lent c.args.b.now) c.args.line c.args.out.now.output c.args.out.now.output mid c.take.new.self c.take_current.ensures.taken c.in_err-take-in-Within.field-0.0 reach.0 reach.1 takes.0 takes.2 refl)
 
-pub returns-in_err-hold-in-Within-clause-gives : goal.returns-in_err-hold-in-Within-clause-gives
-returns-in_err-hold-in-Within-clause-gives g c = λ shape rule limit stage a stands waits placed.
-    let order = g.O.ChromOrder.order c.args.self.now.order.now in
-    let state = c.args.self.now.state in
-    let b = feature_lent c.args.b.now in
-    let last = last_waits order shape rule limit stage a waits state stands in
-    let reach = reach_beside Within order state.last a b c.in-Within.ensures last in
-    let p = err_from_is_err_and c.from_residual.result c.from_residual.ensures.1 in
-    rw (p.1, p.2) (stops_b order shape rule limit stage a waits state stands (Unit {0}) c.in_err-hold-in-Within.field-0.0 b c.args.line c.hold.new.self c.args.out.now.output reach.0 c.in_err-hold-in-Within.ensures.holds)
+pub returns-in_err-put-in-Past-clause-gives : goal.returns-in_err-put-in-Past-clause-gives
+returns-in_err-put-in-Past-clause-gives g c = λ shape rule limit stage a st waits placed.
+    let old = state_of c.args.self.now in
+    let order = order_of c.args.self.now in
+    let mid = c.take_current.new.self in
+    let is : c.in-Some.current ≡ a = same_one c.in-Some.current a (c.in-Some.ensures.is ∙ st.current_is ∙ waits) in
+    let same : feature_lent c.as_bed-a.result ≡ a = c.as_bed-a.ensures ∙ is in
+    let reach = subst (λ (f : Feature). IsReach Past order f (feature_lent c.args.b.now)) same c.in-Past.ensures in
+    let e = err_from_is_err_and c.from_residual-in_err-put-in-Past.result c.from_residual-in_err-put-in-Past.ensures.1 in
+    rw (e.1, e.2)
+    (cuts_b order (g.met.O.ChromOrder.total c.args.self.now.order.now) shape rule limit stage a old st waits (feature_lent c.args.b.now) c.args.line c.args.out.now.output c.put.new.out.output mid c.put.new.self c.take_current.ensures.taken c.in_err-put-in-Past.field-0.0 placed reach c.in_err-put-in-Past.ensures.stops (subst (λ (f : Feature). AreRising mid.held → FailsToAdd c.args.out.now.output (lines_for mid.shape mid.rule f mid.held) (told c.in_err-put-in-Past.field-0.0) c.put.new.out.output) same c.in_err-put-in-Past.ensures.puts))
 
-pub returns-in_err-write-in-Past-clause-gives : goal.returns-in_err-write-in-Past-clause-gives
-returns-in_err-write-in-Past-clause-gives g c = λ shape rule limit stage a stands waits placed.
-    let order = g.O.ChromOrder.order c.args.self.now.order.now in
-    let state = c.args.self.now.state in
-    let b = feature_lent c.args.b.now in
-    let last = last_waits order shape rule limit stage a waits state stands in
-    let told_so = reach_beside Past order state.last a b c.in-Past.ensures last in
-    let p = err_from_is_err_and c.from_residual-in_err-write-in-Past.result c.from_residual-in_err-write-in-Past.ensures.1 in
-    rw (p.1, p.2) (cuts_a order shape rule limit stage a waits state stands (Unit {0}) c.in_err-write-in-Past.field-0.0 b c.args.line c.write.new.self c.args.out.now.output c.write.new.out.output told_so (c.in_err-write-in-Past.ensures.writes a last (waiting_rises order shape rule limit stage a waits state stands (g.met.O.ChromOrder.total c.args.self.now.order.now) placed)))
+pub returns-in_ok-put-in-Past-clause-gives : goal.returns-in_ok-put-in-Past-clause-gives
+returns-in_ok-put-in-Past-clause-gives g c = λ shape rule limit stage a st waits placed.
+    let old = state_of c.args.self.now in
+    let order = order_of c.args.self.now in
+    let mid = c.take_current.new.self in
+    let is : c.in-Some.current ≡ a = same_one c.in-Some.current a (c.in-Some.ensures.is ∙ st.current_is ∙ waits) in
+    let same : feature_lent c.as_bed-a.result ≡ a = c.as_bed-a.ensures ∙ is in
+    let reach = subst (λ (f : Feature). IsReach Past order f (feature_lent c.args.b.now)) same c.in-Past.ensures in
+    writes_b order (g.met.O.ChromOrder.total c.args.self.now.order.now) shape rule limit stage a old st waits (feature_lent c.args.b.now) c.args.line c.args.out.now.output c.put.new.out.output mid c.put.new.self c.take_current.ensures.taken placed (c.args.self.now.known a (st.current_is ∙ waits)) reach c.in_ok-put-in-Past.ensures.same (subst (λ (f : Feature). AreRising mid.held → Grown c.args.out.now.output (lines_for mid.shape mid.rule f mid.held) c.put.new.out.output) same c.in_ok-put-in-Past.ensures.puts)
 
 pub returns-in-Before-clause-gives : goal.returns-in-Before-clause-gives
-returns-in-Before-clause-gives g c = λ shape rule limit stage a stands waits placed.
-    let order = g.O.ChromOrder.order c.args.self.now.order.now in
-    let state = c.args.self.now.state in
-    let b = feature_lent c.args.b.now in
-    let last = last_waits order shape rule limit stage a waits state stands in
-    let reach = reach_beside Before order state.last a b c.in-Before.ensures last in
-    takes_b order shape rule limit stage a waits state stands (tt {0}) b c.args.line state c.args.out.now.output reach.0 (holds_none state b c.args.line (ap (λ (l : Option Feature). is_held_by l b) last ∙ reach.1))
+returns-in-Before-clause-gives g c = λ shape rule limit stage a st waits placed.
+    let old = state_of c.args.self.now in
+    let order = order_of c.args.self.now in
+    let mid = c.take_current.new.self in
+    let is : c.in-Some.current ≡ a = same_one c.in-Some.current a (c.in-Some.ensures.is ∙ st.current_is ∙ waits) in
+    let same : feature_lent c.as_bed-a.result ≡ a = c.as_bed-a.ensures ∙ is in
+    let reach = subst (λ (f : Feature). IsReach Before order f (feature_lent c.args.b.now)) same c.in-Before.ensures in
+    let back : c.put_back.new.self ≡ old =
+    c.put_back.ensures ∙ ap (λ (s : Sweeping). record s { current = Some c.in-Some.current }) c.take_current.ensures.taken ∙ ap (λ (o : Option Feature). record old { current = o }) c.in-Some.ensures.is in
+    takes_b order (g.met.O.ChromOrder.total c.args.self.now.order.now) shape rule limit stage a old st waits (feature_lent c.args.b.now) c.args.line c.args.out.now.output c.args.out.now.output mid c.put_back.new.self c.take_current.ensures.taken reach.0 (λ h. absurd (false≢true (sym reach.1 ∙ h))) (back ∙ holds_none old a (feature_lent c.args.b.now) reach.1) refl
 
-pub returns-in_ok-hold-in-Within-clause-gives : goal.returns-in_ok-hold-in-Within-clause-gives
-returns-in_ok-hold-in-Within-clause-gives g c = λ shape rule limit stage a stands waits placed.
-    let order = g.O.ChromOrder.order c.args.self.now.order.now in
-    let state = c.args.self.now.state in
-    let b = feature_lent c.args.b.now in
-    let last = last_waits order shape rule limit stage a waits state stands in
-    let reach = reach_beside Within order state.last a b c.in-Within.ensures last in
-    takes_b order shape rule limit stage a waits state stands c.in_ok-hold-in-Within.field-0 b c.args.line c.hold.new.self c.args.out.now.output reach.0 c.in_ok-hold-in-Within.ensures.holds
-
-pub returns-in_ok-write-in-Past-clause-gives : goal.returns-in_ok-write-in-Past-clause-gives
-returns-in_ok-write-in-Past-clause-gives g c = λ shape rule limit stage a stands waits placed.
-    let order = g.O.ChromOrder.order c.args.self.now.order.now in
-    let state = c.args.self.now.state in
-    let b = feature_lent c.args.b.now in
-    let last = last_waits order shape rule limit stage a waits state stands in
-    let told_so = reach_beside Past order state.last a b c.in-Past.ensures last in
-    writes_a order shape rule limit stage a waits state stands c.in_ok-write-in-Past.field-0 b c.args.line c.write.new.self c.args.out.now.output c.write.new.out.output (g.met.O.ChromOrder.total c.args.self.now.order.now) (c.args.self.now.known a last) told_so (c.in_ok-write-in-Past.ensures.writes a last (waiting_rises order shape rule limit stage a waits state stands (g.met.O.ChromOrder.total c.args.self.now.order.now) placed))
+pub returns-in_ok-take-in-Within-clause-gives : goal.returns-in_ok-take-in-Within-clause-gives
+returns-in_ok-take-in-Within-clause-gives g c = λ shape rule limit stage a st waits placed.
+    let old = state_of c.args.self.now in
+    let order = order_of c.args.self.now in
+    let mid = c.take_current.new.self in
+    let is : c.in-Some.current ≡ a = same_one c.in-Some.current a (c.in-Some.ensures.is ∙ st.current_is ∙ waits) in
+    let same : feature_lent c.as_bed-a.result ≡ a = c.as_bed-a.ensures ∙ is in
+    let reach = subst (λ (f : Feature). IsReach Within order f (feature_lent c.args.b.now)) same c.in-Within.ensures in
+    let takes = subst (λ (f : Feature). Takes {A = Unit {0}} mid f (feature_lent c.args.b.now) c.args.line (Ok tt) c.take.new.self) same c.in_ok-take-in-Within.ensures.takes in
+    let back : c.put_back-in-Within.new.self ≡ holding old a (feature_lent c.args.b.now) =
+    c.put_back-in-Within.ensures ∙ ap (λ (s : Sweeping). record s { current = Some c.in-Some.current }) takes.0
+    ∙ ap (λ (s : Sweeping). record (holding s a (feature_lent c.args.b.now)) { current = Some c.in-Some.current }) c.take_current.ensures.taken
+    ∙ ap (λ (o : Option Feature). record (holding old a (feature_lent c.args.b.now)) { current = o }) c.in-Some.ensures.is in
+    takes_b order (g.met.O.ChromOrder.total c.args.self.now.order.now) shape rule limit stage a old st waits (feature_lent c.args.b.now) c.args.line c.args.out.now.output c.args.out.now.output mid c.put_back-in-Within.new.self c.take_current.ensures.taken reach.0 (λ h. ap has_room_in (sym c.take_current.ensures.taken) ∙ takes.1 h) back refl

@@ -1,0 +1,5 @@
+use Rattle.bt_bed.proofs.RawRecordLemmas.{raw_is_feature}
+use Rattle.bt_bed.proofs.record.RawRecordRecord.stop.Goals as goal
+
+pub returns-clause-said : goal.returns-clause-said
+returns-clause-said c = raw_is_feature c.args.self.now

@@ -1,0 +1,7 @@
+use Rattle.bt_bed.specs.RawRecord.{text_in}
+use Rattle.bt_bed.proofs.RawRecordLemmas.{text_written}
+use Rattle.bt_bed.proofs.record.RawRecordRecord.written.Goals as goal
+
+pub returns-then-is_as_written : goal.returns-then-is_as_written
+unfolding text_in
+returns-then-is_as_written c = text_written c.args.self.now (c.is_as_written.ensures c.if-is_as_written.true)

@@ -1,0 +1,71 @@
+//! The first byte of a value among some bytes, as a line feed or a tab.
+
+ghost use Rattle.std.specs.Prelude.{◌≡◌};
+ghost use Rattle.bt_lines.specs.Newline.{IsBefore, IsFirstFeed, IsFirstOf};
+
+use memchr::memchr;
+
+// How many bytes are looked at at once.
+const NEAR: usize = 32;
+
+// Where the first line feed of a text stands. Most lines end in the first sixty-four bytes.
+#[inline(always)]
+pub(crate) fn find_newline(text: &[u8]) -> Option<usize>
+    ensures { IsFirstFeed text.now result }
+{
+    if let Some(near) = text.first_chunk::<NEAR>() {
+        if let Some(at) = find_near(b'\n', near) {
+            return Some(at);
+        }
+        if let Some(next) = text[NEAR..].first_chunk::<NEAR>() {
+            if let Some(at) = find_near(b'\n', next) {
+                return Some(NEAR + at);
+            }
+        }
+    }
+    let length = late_length(b'\n', text);
+    if length < text.len() {
+        return Some(length);
+    }
+    None
+}
+
+/// How many bytes come before the first of this value, or in all: most often less than thirty-two.
+#[inline(always)]
+pub fn length_before(byte: u8, text: &[u8]) -> usize
+    ensures { IsBefore byte text.now result }
+{
+    if let Some(near) = text.first_chunk::<NEAR>() {
+        if let Some(at) = find_near(byte, near) {
+            return at;
+        }
+    }
+    late_length(byte, text)
+}
+
+// The same wherever it stands. It gives a number, for which no room is made where it is called.
+#[inline(never)]
+fn late_length(byte: u8, text: &[u8]) -> usize
+    ensures { IsBefore byte text.now result }
+{
+    let mut at = 0;
+    while let Some(near) = text[at..].first_chunk::<NEAR>() {
+        if let Some(place) = find_near(byte, near) {
+            return at + place;
+        }
+        at += NEAR;
+    }
+    while at < text.len() && text[at] != byte {
+        at += 1;
+    }
+    at
+}
+
+// Where a byte first stands among thirty-two. This is the only call of `memchr`, which is inlined and folded into a few
+// instructions while there is no other.
+#[inline]
+fn find_near(byte: u8, bytes: &[u8; NEAR]) -> Option<usize>
+    ensures { IsFirstOf byte bytes.now result }
+{
+    memchr(byte, bytes)
+}

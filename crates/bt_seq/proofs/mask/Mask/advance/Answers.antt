@@ -1,0 +1,34 @@
+use Rattle.std.proofs.Common.{true, false, refl}
+use Rattle.std.proofs.lemmas.Result.{err_from_is_err_and}
+use Rattle.bt_seq.proofs.AdvanceLemmas.{both_fail, both_more, nothing_both}
+use Rattle.bt_seq.proofs.mask.Mask.advance.Goals as goal
+
+pub loop-init : goal.loop-init
+loop-init g c =
+    nothing_both g.C.Cursor.gives g.C.Cursor.line g.C.Cursor.has_ended g.met.C.Cursor.gives_none g.met.C.Cursor.gives_more g.met.C.Cursor.gives_same true
+    c.args.self.now c.args.lines.now c.args.records.now c.args.out.now.output
+
+pub loop-preserved : goal.loop-preserved
+loop-preserved g c =
+    both_more g.C.Cursor.gives g.C.Cursor.line g.C.Cursor.has_ended g.met.C.Cursor.gives_none g.met.C.Cursor.gives_more g.met.C.Cursor.gives_same true
+    c.args.self.now c.loop.self c.gives_next.new.self c.args.lines.now c.loop.lines c.gives_next.new.lines c.args.records.now c.loop.records c.gives_next.new.records
+    c.args.out.now.output c.loop.out.output c.gives_next.new.out.output c.loop.invariant true true (rw c.if-branch.true at c.in_ok-gives_next.ensures.gives)
+
+pub loop-smaller : goal.loop-smaller
+loop-smaller g c = c.in_ok-gives_next.ensures.shrinks (rw c.if-branch.true refl)
+
+pub returns-in_err-gives_next-clause-gives : goal.returns-in_err-gives_next-clause-gives
+returns-in_err-gives_next-clause-gives g c =
+    let p = err_from_is_err_and c.from_residual.result c.from_residual.ensures.1 in
+    rw (p.1, p.2) (both_fail g.C.Cursor.gives g.C.Cursor.line g.C.Cursor.has_ended g.met.C.Cursor.gives_none g.met.C.Cursor.gives_more g.met.C.Cursor.gives_same true
+    c.args.self.now c.loop.self c.gives_next.new.self c.args.lines.now c.loop.lines c.gives_next.new.lines c.args.records.now c.loop.records c.gives_next.new.records
+    c.args.out.now.output c.loop.out.output c.gives_next.new.out.output c.loop.invariant c.in_err-gives_next.field-0.0 c.in_err-gives_next.ensures.gives)
+
+pub returns-clause-gives : goal.returns-clause-gives
+returns-clause-gives g c =
+    both_more g.C.Cursor.gives g.C.Cursor.line g.C.Cursor.has_ended g.met.C.Cursor.gives_none g.met.C.Cursor.gives_more g.met.C.Cursor.gives_same true
+    c.args.self.now c.loop.self c.gives_next.new.self c.args.lines.now c.loop.lines c.gives_next.new.lines c.args.records.now c.loop.records c.gives_next.new.records
+    c.args.out.now.output c.loop.out.output c.gives_next.new.out.output c.loop.invariant false (tt {0}) (rw c.if-branch.false at c.in_ok-gives_next.ensures.gives)
+
+pub returns-clause-stops : goal.returns-clause-stops
+returns-clause-stops g c = c.in_ok-gives_next.ensures.stops (rw c.if-branch.false refl)

@@ -1,0 +1,77 @@
+use Rattle.std.proofs.Common.{◌≡◌, [], ◌∷◌, Option, None, ap, sym, ◌∙◌}
+use Rattle.std.proofs.lemmas.Bool.{false≢true}
+use Rattle.std.proofs.lemmas.Result.{err_from_is_err_and}
+use Rattle.bt_lines.specs.Names.{told}
+use Rattle.bt_bed.specs.Feature.{Feature}
+use Rattle.bt_sweep.specs.Relating.{EndsWhile}
+use Rattle.bt_sweep.specs.SweepState.{Sweeping}
+use Rattle.bt_sweep.specs.SweepView.{order_of, state_of}
+use Rattle.bt_sweep.proofs.StandLemmas.{advances_from, advances_none, fails_from, keeps_entered, kept_or_not, pre_next, stops_a, stops_nothing, want_a, want_over}
+use Rattle.bt_sweep.proofs.sweep.Sweep.go_on.Goals as goal
+
+pub returns-in-Over-clause-advances : goal.returns-in-Over-clause-advances
+returns-in-Over-clause-advances g c = (
+  advances_none g.A.Cursor.gives g.A.Cursor.has_ended g.B.Cursor.gives g.B.Cursor.has_ended g.B.Cursor.line (order_of c.args.self.now) (state_of c.args.self.now) c.args.a.now c.args.b.now c.args.out.now.output (g.met.A.Cursor.gives_none _) (g.met.B.Cursor.gives_none _),
+  stops_nothing g.A.Cursor.gives g.A.Cursor.has_ended g.B.Cursor.gives g.B.Cursor.has_ended g.B.Cursor.line (order_of c.args.self.now) (state_of c.args.self.now) c.args.a.now c.args.a.now c.args.b.now c.args.b.now c.args.out.now.output (state_of c.args.self.now)
+      (want_over (state_of c.args.self.now) c.requires.none (sym c.phase.ensures ∙ c.in-Over.is)),
+)
+
+pub returns-in_default-next-clause-advances : goal.returns-in_default-next-clause-advances
+returns-in_default-next-clause-advances g c =
+    rw c.in_default-next.ensures.unchanged (
+      advances_none g.A.Cursor.gives g.A.Cursor.has_ended g.B.Cursor.gives g.B.Cursor.has_ended g.B.Cursor.line (order_of c.args.self.now) (state_of c.args.self.now) c.args.a.now c.args.b.now c.args.out.now.output (g.met.A.Cursor.gives_none _) (g.met.B.Cursor.gives_none _),
+      stops_a g.A.Cursor.gives g.A.Cursor.has_ended g.B.Cursor.gives g.B.Cursor.has_ended g.B.Cursor.line (order_of c.args.self.now) (state_of c.args.self.now) c.args.a.now c.args.a.now c.args.b.now c.args.b.now c.args.out.now.output (state_of c.args.self.now)
+          (want_a (state_of c.args.self.now) c.requires.none (λ e. c.in_default.not-Over (c.phase.ensures ∙ e))) c.in_default-next.ensures.none,
+    )
+
+pub returns-in_err-waiting-clause-advances : goal.returns-in_err-waiting-clause-advances
+returns-in_err-waiting-clause-advances g c =
+    let order = order_of c.args.self.now in
+    let old = state_of c.args.self.now in
+    let first = g.A.Record.Record.feature c.in-Some.first in
+    let mid = c.enter.new.self in
+    let phase : mid.phase ≡ old.phase = ap (λ (s : Sweeping). s.phase) c.enter.ensures.entered in
+    let e = err_from_is_err_and c.from_residual.result c.from_residual.ensures.1 in
+    let b = c.in_err-waiting.ensures.joins in
+    rw (e.1, e.2)
+    (fails_from order old mid first (first ∷ []) (pre_next order (g.met.O.ChromOrder.total c.args.self.now.order.now) old c.requires.none first mid c.enter.ensures.entered)
+    (keeps_entered order (g.met.O.ChromOrder.total c.args.self.now.order.now) old c.requires.none first mid c.enter.ensures.entered) phase
+    g.A.Cursor.gives g.A.Cursor.has_ended g.B.Cursor.gives g.B.Cursor.has_ended (EndsWhile g.B.Cursor.has_ended c.enter.new.self.phase) g.B.Cursor.line
+    g.A.Cursor.gives g.A.Cursor.has_ended c.args.a.now c.decide.new.a c.next.new.self c.decide.new.a c.args.b.now c.decide.new.b c.args.out.now.output c.decide.new.out.output (state_of c.decide.new.self)
+    (told c.in_err-waiting.field-0.0) b (g.met.A.Cursor.gives_more _ _ _ (first ∷ []) b.firsts c.in-Some.ensures.some b.gives_firsts))
+
+pub returns-in_default-2-clause-advances : goal.returns-in_default-2-clause-advances
+returns-in_default-2-clause-advances g c =
+    let order = order_of c.args.self.now in
+    let old = state_of c.args.self.now in
+    let first = g.A.Record.Record.feature c.in-Some.first in
+    let mid = c.enter.new.self in
+    let phase : mid.phase ≡ old.phase = ap (λ (s : Sweeping). s.phase) c.enter.ensures.entered in
+    let j = rw c.in_default-2.is at c.in_ok-waiting.ensures.joins in
+    let final = state_of c.decide.new.self in
+    let same : final.phase ≡ old.phase = c.in_ok-waiting.ensures.phase ∙ phase in (
+      advances_from order old mid first (first ∷ []) (pre_next order (g.met.O.ChromOrder.total c.args.self.now.order.now) old c.requires.none first mid c.enter.ensures.entered)
+          (keeps_entered order (g.met.O.ChromOrder.total c.args.self.now.order.now) old c.requires.none first mid c.enter.ensures.entered) phase
+          g.A.Cursor.gives g.A.Cursor.has_ended g.B.Cursor.gives g.B.Cursor.has_ended (EndsWhile g.B.Cursor.has_ended c.enter.new.self.phase) g.B.Cursor.line
+          g.A.Cursor.gives g.A.Cursor.has_ended c.args.a.now c.decide.new.a c.next.new.self c.decide.new.a c.args.b.now c.decide.new.b c.args.out.now.output c.decide.new.out.output (state_of c.decide.new.self)
+          None final j.0 (g.met.A.Cursor.gives_more _ _ _ (first ∷ []) j.0.firsts c.in-Some.ensures.some j.0.gives_firsts) same
+          (ap (λ (o : Option Feature). record final { current = o }) c.decide.ensures.none) (λ bad. absurd (false≢true bad)) tt,
+      stops_a g.A.Cursor.gives g.A.Cursor.has_ended g.B.Cursor.gives g.B.Cursor.has_ended g.B.Cursor.line order old c.args.a.now c.decide.new.a c.args.b.now c.decide.new.b c.args.out.now.output final
+          (want_a final c.decide.ensures.none (λ e. c.in_default.not-Over (c.phase.ensures ∙ sym same ∙ e))) j.1,
+    )
+
+pub returns-clause-advances : goal.returns-clause-advances
+returns-clause-advances g c =
+    let order = order_of c.args.self.now in
+    let old = state_of c.args.self.now in
+    let first = g.A.Record.Record.feature c.in-Some.first in
+    let mid = c.enter.new.self in
+    let phase : mid.phase ≡ old.phase = ap (λ (s : Sweeping). s.phase) c.enter.ensures.entered in
+    let j = rw c.in-Some-2.is at c.in_ok-waiting.ensures.joins in
+    let a = g.A.Record.Record.feature c.in-Some-2.waiting in
+    kept_or_not order old mid first (first ∷ []) (pre_next order (g.met.O.ChromOrder.total c.args.self.now.order.now) old c.requires.none first mid c.enter.ensures.entered)
+    (keeps_entered order (g.met.O.ChromOrder.total c.args.self.now.order.now) old c.requires.none first mid c.enter.ensures.entered) phase
+    g.A.Cursor.gives g.A.Cursor.has_ended g.B.Cursor.gives g.B.Cursor.has_ended (EndsWhile g.B.Cursor.has_ended c.enter.new.self.phase) g.B.Cursor.line
+    g.A.Cursor.gives g.A.Cursor.has_ended c.args.a.now c.decide.new.a c.next.new.self c.decide.new.a c.args.b.now c.decide.new.b c.args.out.now.output c.decide.new.out.output (state_of c.decide.new.self)
+    a j.0 j.1.0 j.1.1 (g.met.A.Cursor.gives_more _ _ _ (first ∷ []) j.0.firsts c.in-Some.ensures.some j.0.gives_firsts) (c.in_ok-waiting.ensures.phase ∙ phase)
+    (λ e. c.in_default.not-Over (c.phase.ensures ∙ e)) j.2 c.keep.result c.keep.new.self c.keep.ensures

@@ -1,0 +1,89 @@
+use Rattle.std.proofs.Common.{◌≡◌, List, [], ◌∷◌, Option, Some, None, ap, refl, subst, sym, ◌∙◌}
+use Rattle.std.specs.Prelude.{All, is_some, ⊤}
+use Rattle.std.proofs.lemmas.Bool.{false≢true}
+use Rattle.std.proofs.lemmas.Result.{err_from_is_err_and}
+use Rattle.bt_lines.specs.Names.{told}
+use Rattle.bt_bed.specs.Bed.{feature_lent}
+use Rattle.bt_bed.specs.Feature.{Feature}
+use Rattle.bt_bed.specs.Single.{GivesSingle, HasNone}
+use Rattle.bt_sweep.specs.Advancing.{AdvancesSo, NoneGiven}
+use Rattle.bt_sweep.specs.Held.{CanHit}
+use Rattle.bt_sweep.specs.Relating.{EndsWhile}
+use Rattle.bt_sweep.specs.SweepState.{Sweeping}
+use Rattle.bt_sweep.specs.SweepView.{order_of, state_of}
+use Rattle.bt_sweep.proofs.StandLemmas.{advances_from, advances_none, fails_from, keeps_current, only_first, pre_current, single_none, want_b}
+use Rattle.bt_sweep.proofs.sweep.Sweep.is_current_left.Goals as goal
+
+pub returns-in_default-clause-decides : goal.returns-in_default-clause-decides
+returns-in_default-clause-decides g c =
+    let old = state_of c.args.self.now in
+    let none : None ≡ old.current = sym (sym c.take_current.ensures.is ∙ c.in_default.is) in
+    let same : c.take_current.new.self ≡ old = c.take_current.ensures.taken ∙ ap (λ (o : Option Feature). record old { current = o }) none in (
+      subst (λ (n : Sweeping). AdvancesSo NoneGiven (λ u. ⊤) g.B.Cursor.gives g.B.Cursor.has_ended g.B.Cursor.line (order_of c.args.self.now) old tt c.args.b.now c.args.out.now.output n tt c.args.b.now c.args.out.now.output) (sym same)
+          (advances_none NoneGiven (λ u. ⊤) g.B.Cursor.gives g.B.Cursor.has_ended g.B.Cursor.line (order_of c.args.self.now) old tt c.args.b.now c.args.out.now.output refl (g.met.B.Cursor.gives_none _)),
+      ap (λ (s : Sweeping). s.current) c.take_current.ensures.taken,
+    )
+
+pub returns-in_err-decide-clause-decides : goal.returns-in_err-decide-clause-decides
+returns-in_err-decide-clause-decides g c =
+    let order = order_of c.args.self.now in
+    let old = state_of c.args.self.now in
+    let first = feature_lent c.as_bed-bed.result in
+    let some : old.current ≡ Some first = sym c.in-Some.ensures.is ∙ ap (λ (f : Feature). Some f) (sym c.as_bed-bed.ensures) in
+    let mid = c.take_current.new.self in
+    let taken = c.take_current.ensures.taken in
+    let phase : mid.phase ≡ old.phase = ap (λ (s : Sweeping). s.phase) taken in
+    let e = err_from_is_err_and c.from_residual.result c.from_residual.ensures.1 in
+    let b = c.in_err-decide.ensures.joins in
+    rw (e.1, e.2)
+    (fails_from order old mid first [] (pre_current order old first some mid taken) (keeps_current order old first some mid taken) phase GivesSingle HasNone g.B.Cursor.gives g.B.Cursor.has_ended (EndsWhile g.B.Cursor.has_ended c.take_current.new.self.phase) g.B.Cursor.line
+    NoneGiven (λ u. ⊤) tt tt c.none.result c.decide.new.a c.args.b.now c.decide.new.b c.args.out.now.output c.decide.new.out.output (state_of c.decide.new.self)
+    (told c.in_err-decide.field-0.0) b (single_none c.none.result c.decide.new.a b.firsts c.none.ensures.left b.gives_firsts))
+
+pub returns-in_default-2-clause-decides : goal.returns-in_default-2-clause-decides
+returns-in_default-2-clause-decides g c =
+    let order = order_of c.args.self.now in
+    let old = state_of c.args.self.now in
+    let first = feature_lent c.as_bed-bed.result in
+    let some : old.current ≡ Some first = sym c.in-Some.ensures.is ∙ ap (λ (f : Feature). Some f) (sym c.as_bed-bed.ensures) in
+    let mid = c.take_current.new.self in
+    let taken = c.take_current.ensures.taken in
+    let phase : mid.phase ≡ old.phase = ap (λ (s : Sweeping). s.phase) taken in
+    let j = rw c.in_default-2.is at c.in_ok-decide.ensures.joins in
+    let final = state_of c.decide.new.self in (
+      advances_from order old mid first [] (pre_current order old first some mid taken) (keeps_current order old first some mid taken) phase GivesSingle HasNone g.B.Cursor.gives g.B.Cursor.has_ended (EndsWhile g.B.Cursor.has_ended c.take_current.new.self.phase) g.B.Cursor.line
+          NoneGiven (λ u. ⊤) tt tt c.none.result c.decide.new.a c.args.b.now c.decide.new.b c.args.out.now.output c.decide.new.out.output (state_of c.decide.new.self)
+          None final j.0 (single_none c.none.result c.decide.new.a j.0.firsts c.none.ensures.left j.0.gives_firsts) (c.in_ok-decide.ensures.phase ∙ phase)
+          (ap (λ (o : Option Feature). record final { current = o }) c.decide.ensures.none) (λ bad. absurd (false≢true bad)) tt,
+      c.decide.ensures.none,
+    )
+
+pub put_back-requires : goal.put_back-requires
+put_back-requires g c =
+    let j = rw c.in-Some-2.is at c.in_ok-decide.ensures.joins in
+    let first = feature_lent c.as_bed-bed.result in
+    let alone = single_none c.none.result c.decide.new.a j.0.firsts c.none.ensures.left j.0.gives_firsts in
+    let same = only_first first (feature_lent c.in-Some-2.field-0) j.0.newly (ap (λ (l : List Feature). first ∷ l) (sym alone) ∙ j.0.are) in
+    subst (λ (f : Feature). All (CanHit f) (state_of c.decide.new.self).held) (sym same ∙ c.as_bed-bed.ensures) j.0.waits.1
+
+pub returns-clause-decides : goal.returns-clause-decides
+returns-clause-decides g c =
+    let order = order_of c.args.self.now in
+    let old = state_of c.args.self.now in
+    let first = feature_lent c.as_bed-bed.result in
+    let some : old.current ≡ Some first = sym c.in-Some.ensures.is ∙ ap (λ (f : Feature). Some f) (sym c.as_bed-bed.ensures) in
+    let mid = c.take_current.new.self in
+    let taken = c.take_current.ensures.taken in
+    let phase : mid.phase ≡ old.phase = ap (λ (s : Sweeping). s.phase) taken in
+    let j = rw c.in-Some-2.is at c.in_ok-decide.ensures.joins in
+    let final = c.put_back.new.self in
+    let alone = single_none c.none.result c.decide.new.a j.0.firsts c.none.ensures.left j.0.gives_firsts in
+    let last = feature_lent c.in-Some-2.field-0 in
+    let same = only_first first last j.0.newly (ap (λ (l : List Feature). first ∷ l) (sym alone) ∙ j.0.are) in
+    let back : final ≡ record (state_of c.decide.new.self) { current = Some last } = c.put_back.ensures ∙ ap (λ (f : Feature). record (state_of c.decide.new.self) { current = Some f }) (sym c.as_bed-bed.ensures ∙ same) in (
+      advances_from order old mid first [] (pre_current order old first some mid taken) (keeps_current order old first some mid taken) phase GivesSingle HasNone g.B.Cursor.gives g.B.Cursor.has_ended (EndsWhile g.B.Cursor.has_ended c.take_current.new.self.phase) g.B.Cursor.line
+          NoneGiven (λ u. ⊤) tt tt c.none.result c.decide.new.a c.args.b.now c.decide.new.b c.args.out.now.output c.decide.new.out.output (state_of c.decide.new.self)
+          (Some last) final j.0 alone (c.in_ok-decide.ensures.phase ∙ phase) back
+          (λ waits shape rule limit stage st. st.unended (ap is_some (sym st.current_is ∙ some))) j.2,
+      (want_b final last (ap (λ (s : Sweeping). s.current) back), j.1.0),
+    )

@@ -1,0 +1,252 @@
+-- What runs of steps over records of both inputs come to. Callers know them by `Advancing`.
+use Rattle.std.specs.Prelude.{◌≡◌, ◌⊎◌, ℕ, ◌<◌, ◌≤◌, ⊤, true, false, All, IfSome, List, [], ◌∷◌, ◌++◌, Option}
+use Rattle.std.specs.Prelude.{None, Some, Result, Ok, Err, length, option_map, option_to_list}
+use Rattle.std.specs.List.{list_all}
+use Rattle.bt_lines.specs.Fault.{Told, no_memory}
+use Rattle.bt_lines.specs.Names.{told}
+use Rattle.bt_lines.specs.Number.{max_number}
+use Rattle.bt_lines.specs.Output.{Output}
+use Rattle.bt_lines.specs.Putting.{FailsToAdd, Grown}
+use Rattle.bt_lines.specs.declared.fault.Fault.{Fault}
+use Rattle.bt_lines.specs.declared.fault.Input.TheVariants.{Second}
+use Rattle.bt_lines.specs.declared.fault.Kind.TheVariants.{TooManyHeld}
+use Rattle.bt_bed.specs.Feature.{Feature, intervals_of}
+use Rattle.bt_bed.specs.LineKind.{fault_at_line}
+use Rattle.bt_bed.specs.Locus.{ArePlaced}
+use Rattle.bt_bed.specs.Order.{Order, IsTotal}
+use Rattle.bt_sweep.specs.Deciding.{decided, decides}
+use Rattle.bt_sweep.specs.Held.{CanHit}
+use Rattle.bt_sweep.specs.IntersectLines.{intersect, lines_for}
+use Rattle.bt_sweep.specs.Standing.{HoldsFor, held_for}
+use Rattle.bt_sweep.specs.Steps.{has_room}
+use Rattle.bt_sweep.specs.SweepState.{Sweeping}
+use Rattle.bt_sweep.specs.declared.hit_rule.HitRule.{HitRule}
+use Rattle.bt_sweep.specs.declared.shape.Shape.{Shape}
+
+-- the sweep keeps what it has to once these records of both inputs were given and taken
+pub record Keeps (order : Order) (shape : Shape) (rule : HitRule) (limit : Option ℕ)
+    (as_given taken : List Feature) (sweep : Sweeping) : Type 0 where
+  pub shape_is : sweep.shape ≡ shape
+  pub rule_is : sweep.rule ≡ rule
+  pub limit_is : sweep.limit ≡ limit
+  pub holds : HoldsFor order as_given taken sweep.held
+  pub within : IfSome limit (λ most. length sweep.held ≤ most)
+
+-- In such orders, wherever it stands with `first` given last: once these are given and taken.
+abbrev pub BehindFor : (Order → Type 0) → Feature → List Feature → List Feature → Sweeping
+    → (Order → Shape → HitRule → Option ℕ → List Feature → List Feature → Type 0) → Type 0
+BehindFor For first firsts seconds old P =
+    (order : Order) (shape : Shape) (rule : HitRule) (limit : Option ℕ) (before taken : List Feature)
+    → For order → Keeps order shape rule limit (before ++ first ∷ []) taken old
+    → ArePlaced order (intervals_of (before ++ first ∷ firsts))
+    → ArePlaced order (intervals_of (taken ++ seconds))
+    → P order shape rule limit (before ++ first ∷ firsts) (taken ++ seconds)
+
+-- it keeps what it has to
+abbrev pub GoesToFor : (Order → Type 0) → Feature → List Feature → List Feature → Sweeping → Sweeping
+    → Type 0
+GoesToFor For first firsts seconds old new =
+    BehindFor For first firsts seconds old
+    (λ order shape rule limit as_given taken. Keeps order shape rule limit as_given taken new)
+
+-- the lines of these were written
+abbrev pub WritesFor : (Order → Type 0) → Feature → List Feature → List Feature → Sweeping
+    → List Feature → Output → Output → Type 0
+WritesFor For first firsts seconds old newly out grown =
+    BehindFor For first firsts seconds old
+    (λ order shape rule limit as_given taken. Grown out (intersect shape rule newly taken) grown)
+
+-- the lines of the last one couldn't be
+abbrev pub CutsFor : (Order → Type 0) → Feature → List Feature → List Feature → Sweeping → Feature
+    → Output → Told → Output → Type 0
+CutsFor For first firsts seconds old last out fault grown =
+    BehindFor For first firsts seconds old
+    (λ order shape rule limit as_given taken. FailsToAdd out (lines_for shape rule last taken) fault grown)
+
+-- the same in every order
+abbrev pub Behind : Feature → List Feature → List Feature → Sweeping
+    → (Order → Shape → HitRule → Option ℕ → List Feature → List Feature → Type 0) → Type 0
+Behind = BehindFor IsTotal
+
+abbrev pub GoesTo : Feature → List Feature → List Feature → Sweeping → Sweeping → Type 0
+GoesTo = GoesToFor IsTotal
+
+abbrev pub Writes : Feature → List Feature → List Feature → Sweeping → List Feature → Output → Output
+    → Type 0
+Writes = WritesFor IsTotal
+
+abbrev pub Cuts : Feature → List Feature → List Feature → Sweeping → Feature → Output → Told → Output
+    → Type 0
+Cuts = CutsFor IsTotal
+
+-- each lies on the chromosome
+abbrev pub LieOn : List ℕ → List Feature → Type 0
+LieOn name [] = ⊤
+LieOn name (b ∷ more) = (b.chrom ≡ name) × LieOn name more
+
+-- each lies on the chromosome, and ends at the place or before it
+abbrev pub EndUpTo : List ℕ → ℕ → List Feature → Type 0
+EndUpTo name place [] = ⊤
+EndUpTo name place (a ∷ more) = (a.chrom ≡ name) × (a.stop ≤ place) × EndUpTo name place more
+
+-- the records of the second input decide each
+abbrev pub AreDecided : Order → List Feature → List Feature → Type 0
+AreDecided order as_given bs = list_all (λ a. decided order a bs) as_given ≡ true
+
+-- the record that waits lies on the chromosome, and those that are held can hit it
+abbrev pub WaitsOn : List ℕ → List Feature → Option Feature → Type 0
+WaitsOn name held waiting = IfSome waiting (λ a. (a.chrom ≡ name) × All (CanHit a) held)
+
+-- records of the first input alone, from `first` on
+module _ {A : Type 0} (gives : A → List Feature → A → Type 0) (has_ended : A → Type 0) (place : ℕ)
+    (old : Sweeping) (first : Feature) (from : A) (out : Output) where
+  -- their lines were written, but for the last one, where that waits
+  pub record WritesSo (waiting : Option Feature) (new : Sweeping) (to : A) (grown : Output)
+      : Type 0 where
+    pub firsts : List Feature
+    pub newly : List Feature
+    pub given : gives from firsts to
+    pub are : first ∷ firsts ≡ newly ++ option_to_list waiting
+    pub end : EndUpTo first.chrom place newly
+    pub waits : WaitsOn first.chrom new.held waiting
+    pub goes : GoesTo first firsts [] old new
+    pub writes : Writes first firsts [] old newly out grown
+
+  -- one waits that ends behind the place, or there is none
+  abbrev pub StopsBehind : Option Feature → A → Type 0
+  StopsBehind None to = has_ended to
+  StopsBehind (Some a) to = (place < a.stop) × (a.stop ≤ max_number)
+
+  -- those of the last one couldn't be written
+  pub record CutsOff (fault : Told) (to : A) (grown : Output) : Type 0 where
+    pub firsts : List Feature
+    pub newly : List Feature
+    pub last : Feature
+    pub given : gives from firsts to
+    pub are : first ∷ firsts ≡ newly ++ last ∷ []
+    pub end : EndUpTo first.chrom place (newly ++ last ∷ [])
+    pub through : Output
+    pub writes : Writes first firsts [] old newly out through
+    pub cuts : Cuts first firsts [] old last through fault grown
+
+abbrev pub WritesUpTo : {A R : Type 0} → (A → List Feature → A → Type 0) → (A → Type 0) → (R → Feature) → ℕ
+    → Sweeping → Feature → A → Output → Result (Option R) Fault → Sweeping → A → Output → Type 0
+WritesUpTo gives has_ended feature place old first from out (Ok waiting) new to grown =
+    WritesSo gives has_ended place old first from out (option_map feature waiting) new to grown
+    × StopsBehind gives has_ended place old first from out (option_map feature waiting) to
+WritesUpTo gives has_ended feature place old first from out (Err fault) new to grown =
+    CutsOff gives has_ended place old first from out (told fault) to grown
+
+-- all records that there were are given
+pub record SkipsAll {B : Type 0} (gives : B → List Feature → B → Type 0) (has_ended : B → Type 0)
+    (name : List ℕ) (from to : B) : Type 0 where
+  pub seconds : List Feature
+  pub given : gives from seconds to
+  pub on : LieOn name seconds
+  pub ended : has_ended to
+
+-- a record that has to be held can't be: for want of room, or of memory
+abbrev pub CannotBeHeld : Option ℕ → Feature → List Feature → ℕ → Told → Type 0
+CannotBeHeld limit last taken line fault =
+    ((has_room limit (length (held_for (Some last) taken)) ≡ false)
+    × (fault ≡ fault_at_line Second line TooManyHeld))
+    ⊎ ((has_room limit (length (held_for (Some last) taken)) ≡ true) × (fault ≡ no_memory))
+
+-- the record that a cursor gives next, if one is told
+abbrev pub ComesNext : {B : Type 0} → (B → List Feature → B → Type 0) → B → Option Feature → Type 0
+ComesNext {B} gives to next = IfSome next (λ b. (after : B) × gives to (b ∷ []) after)
+
+-- records of both inputs, from `first` of the first on
+module _ {A B : Type 0} (a_gives : A → List Feature → A → Type 0) (a_ended : A → Type 0)
+    (b_gives : B → List Feature → B → Type 0) (b_ended : B → Type 0) (b_line : B → ℕ)
+    (For : Order → Type 0) (Settles : List Feature → List Feature → Type 0)
+    (old : Sweeping) (first : Feature) (from_a : A) (from_b : B) (out : Output) where
+  -- the lines of those of the first were written, but for the last one, where that waits
+  pub record JoinsSo (waiting : Option Feature) (new : Sweeping) (to_a : A) (to_b : B)
+      (grown : Output) : Type 0 where
+    pub firsts : List Feature
+    pub seconds : List Feature
+    pub newly : List Feature
+    pub gives_firsts : a_gives from_a firsts to_a
+    pub gives_seconds : b_gives from_b seconds to_b
+    pub are : first ∷ firsts ≡ newly ++ option_to_list waiting
+    pub waits : WaitsOn first.chrom new.held waiting
+    pub next : Option Feature
+    pub comes : ComesNext b_gives to_b next
+    pub settles : Settles newly (seconds ++ option_to_list next)
+    pub goes : GoesToFor For first firsts seconds old new
+    pub writes : WritesFor For first firsts seconds old newly out grown
+
+  -- one waits and there is none of the second input, or there is none of the first
+  abbrev pub StopsAt : Option Feature → A → B → Type 0
+  StopsAt None to_a to_b = a_ended to_a
+  StopsAt (Some a) to_a to_b = b_ended to_b
+
+  module _ (firsts seconds newly : List Feature) (last : Feature) (to_b : B) (through : Output)
+      (fault : Told) (grown : Output) where
+    -- the lines of the last one are settled, and couldn't be written
+    pub record CutsLines (next : Option Feature) : Type 0 where
+      pub settled : Settles (newly ++ last ∷ []) (seconds ++ option_to_list next)
+      pub cuts : CutsFor For first firsts seconds old last through fault grown
+
+    -- the next record of the second input shares a base with the last one, and can't be held
+    pub record LacksRoom : Type 0 where
+      pub b : Feature
+      pub after : B
+      pub gives : b_gives to_b (b ∷ []) after
+      pub chrom : b.chrom ≡ last.chrom
+      pub starts : b.start < last.stop
+      pub ends : last.start < b.stop
+      pub same_output : grown ≡ through
+      pub lacks : BehindFor For first firsts seconds old
+          (λ order shape rule limit as_given taken. CannotBeHeld limit last taken (b_line after) fault)
+
+  -- it failed at the last one
+  pub record Breaks (fault : Told) (to_a : A) (to_b : B) (grown : Output) : Type 0 where
+    pub firsts : List Feature
+    pub seconds : List Feature
+    pub newly : List Feature
+    pub last : Feature
+    pub gives_firsts : a_gives from_a firsts to_a
+    pub gives_seconds : b_gives from_b seconds to_b
+    pub are : first ∷ firsts ≡ newly ++ last ∷ []
+    pub next : Option Feature
+    pub comes : ComesNext b_gives to_b next
+    pub settles : Settles newly (seconds ++ option_to_list next)
+    pub through : Output
+    pub writes : WritesFor For first firsts seconds old newly out through
+    pub cause : CutsLines firsts seconds newly last to_b through fault grown next
+        ⊎ LacksRoom firsts seconds newly last to_b through fault grown
+
+abbrev pub Joins : {A B R : Type 0} → (A → List Feature → A → Type 0) → (A → Type 0)
+    → (B → List Feature → B → Type 0) → (B → Type 0) → (B → ℕ) → (Order → Type 0)
+    → (List Feature → List Feature → Type 0)
+    → (List Feature → Feature → Type 0)
+    → (R → Feature) → Sweeping → Feature → A → B → Output → Result (Option R) Fault → Sweeping → A → B
+    → Output → Type 0
+Joins a_gives a_ended b_gives b_ended b_line For Settles Leaves feature old first from_a from_b out (Ok waiting) new
+    to_a to_b grown =
+    (j : JoinsSo a_gives a_ended b_gives b_ended b_line For Settles old first from_a from_b out
+    (option_map feature waiting) new to_a to_b grown)
+    × StopsAt a_gives a_ended b_gives b_ended b_line For Settles old first from_a from_b out
+    (option_map feature waiting) to_a to_b
+    × IfSome (option_map feature waiting) (Leaves j.seconds)
+Joins a_gives a_ended b_gives b_ended b_line For Settles Leaves feature old first from_a from_b out (Err fault) new
+    to_a to_b grown =
+    Breaks a_gives a_ended b_gives b_ended b_line For Settles old first from_a from_b out (told fault)
+    to_a to_b grown
+
+-- the record of the second input that was taken last leaves it undecided
+abbrev pub LeavesLast : Order → List Feature → Feature → Type 0
+LeavesLast order seconds a =
+    (before : List Feature) (b : Feature) → seconds ≡ before ++ b ∷ [] → decides order a b ≡ false
+
+-- in every order that knows its chromosome
+abbrev pub LeavesOn : List Feature → Feature → Type 0
+LeavesOn seconds a =
+    (order : Order) → IsTotal order → order.knows a.chrom ≡ true → LeavesLast order seconds a
+
+-- in every order that knows the chromosome the records of the second input decide each
+abbrev pub AreDecidedOn : List ℕ → List Feature → List Feature → Type 0
+AreDecidedOn name as_given bs =
+    (order : Order) → IsTotal order → order.knows name ≡ true → AreDecided order as_given bs
