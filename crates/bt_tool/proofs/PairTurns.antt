@@ -83,7 +83,7 @@ last_of {A} (x ∷ xs) =
       | inr some ↦ inr (x ∷ some.0, some.1, ap (λ (l : List A). x ∷ l) some.2)
     ]
 
-cancel_front : {A : Type 0} (front a b : List A) → front ++ a ≡ front ++ b → a ≡ b
+pub cancel_front : {A : Type 0} (front a b : List A) → front ++ a ≡ front ++ b → a ≡ b
 cancel_front [] a b e = e
 cancel_front (x ∷ front) a b e = cancel_front front a b (let rest : front ++ a ≡ front ++ b = cc in rest)
 

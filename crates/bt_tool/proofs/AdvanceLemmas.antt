@@ -1,0 +1,187 @@
+-- Lemmas on records that a sweep is given of what two readers have buffered.
+use Rattle.std.proofs.Common.{◌≡◌, inl, inr, ℕ, suc, ◌+◌, Bool, true, false, ◌&&◌, not, List, [], ◌∷◌, ◌++◌, Option, None, Some, Ok, Err, Result, refl, sym, ap, ◌∙◌, subst, arith, length, append-nil, option_to_list, take}
+use Rattle.std.specs.Prelude.{◌⊎◌, IfSome, option_map}
+use Rattle.std.specs.List.{list_all}
+use Rattle.std.proofs.lemmas.Bool.{and_from, and_parts}
+use Rattle.bt_lines.specs.Fault.{Told}
+use Rattle.bt_lines.specs.Names.{told}
+use Rattle.bt_lines.specs.Output.{Output}
+use Rattle.bt_lines.specs.Reader.{lines_given}
+use Rattle.bt_lines.specs.declared.fault.Fault.{Fault}
+use Rattle.bt_bed.specs.Batch.{HasEnded, IsWhere, Passes, cursor_in, left as left_in, line_in}
+use Rattle.bt_bed.specs.Feature.{Feature}
+use Rattle.bt_bed.specs.Good.{Member}
+use Rattle.bt_bed.specs.Locus.{Locus}
+use Rattle.bt_bed.specs.Order.{Order}
+use Rattle.bt_bed.specs.GoodBed.{locus_at}
+use Rattle.bt_bed.specs.Reading.{BeginsComing, MemberReader, ahead_in, first_from}
+use Rattle.bt_bed.specs.Records.{IsTaken, Lends, TakesRecords, below, buffered_in, count_in, order_in, view_of}
+use Rattle.bt_bed.specs.SortedReader.{are_in_order, view_with}
+use Rattle.bt_bed.specs.Sorting.{Sorting, falls_in, sorting_of}
+use Rattle.bt_bed.specs.declared.batch.Batch.{Batch}
+use Rattle.bt_bed.specs.declared.batch.Consumed.{Consumed}
+use Rattle.bt_bed.specs.declared.order.ChromOrder.{Ghosts}
+use Rattle.bt_bed.specs.declared.records.Records.{Records}
+use Rattle.bt_bed.proofs.TokenLemmas.{taken_are, token_is}
+use Rattle.bt_sweep.specs.Advancing.{AdvancesOn, AdvancesSo, AtEach, FailsAt, HasWritten, Settles, StopsFor}
+use Rattle.bt_sweep.specs.Deciding.{decided}
+use Rattle.bt_sweep.specs.Joining.{CannotBeHeld, ComesNext}
+use Rattle.bt_sweep.specs.Relating.{GivesKnown}
+use Rattle.bt_sweep.specs.SweepState.{Sweeping, want_in}
+use Rattle.bt_sweep.specs.declared.phase.Phase.{Phase}
+use Rattle.bt_sweep.specs.declared.want.Want.{Want}
+use Rattle.bt_sweep.specs.declared.want.Want.TheVariants.{A as WantA, B as WantB, Nothing}
+use Rattle.bt_sweep.proofs.KeepLemmas.{decided_before}
+use Rattle.bt_tool.specs.Pair.{item_ahead}
+use Rattle.bt_tool.specs.Passed.{HasTaken}
+use Rattle.bt_tool.specs.SweepSteps.{AdvancesBoth, FailsAmong, FailsToTake, GivesBoth, NotBuffered, TakesBoth}
+use Rattle.bt_tool.proofs.PairTurns.{cancel_front}
+use Rattle.bt_tool.proofs.PassedLemmas.{has_taken}
+
+-- records in order lie on known chromosomes
+known_in : (sorting : Sorting) (last : Option Locus) (records more : List Feature) → are_in_order sorting last (records ++ more) ≡ true → list_all (λ r. sorting.knows r.chrom) records ≡ true
+known_in sorting last [] more e = refl
+known_in sorting last (r ∷ records) more e =
+    let all = and_parts (sorting.knows r.chrom && not (falls_in sorting last (locus_at r))) (are_in_order sorting (Some (locus_at r)) (records ++ more)) e in
+    let here = and_parts (sorting.knows r.chrom) (not (falls_in sorting last (locus_at r))) all.0 in
+    and_from (sorting.knows r.chrom) (list_all (λ r. sorting.knows r.chrom) records) here.0 (known_in sorting (Some (locus_at r)) records more all.1)
+
+module _ {S O : Type 0} {g : Ghosts O} (now : Records S O g) (batch : Batch) (lends : Lends now batch) where
+  lent_is : left_in batch ≡ buffered_in now
+  unfolding view_of view_with
+  lent_is = lends.left_is
+
+  in_order : are_in_order (sorting_of (order_in now)) (view_of now).state (buffered_in now) ≡ true
+  unfolding view_of order_in
+  in_order = now.placed.in_order
+
+  -- the chromosome of each record that a reader lends is known
+  pub known_batch : (order : Order) → order ≡ order_in now → GivesKnown Passes order batch
+  known_batch order same records to passes =
+      subst (λ (o : Order). list_all (λ r. o.knows r.chrom) records ≡ true) (sym same)
+      (known_in (sorting_of (order_in now)) (view_of now).state records (left_in to)
+      (ap (are_in_order (sorting_of (order_in now)) (view_of now).state) (sym passes.left_is ∙ lent_is) ∙ in_order))
+
+  given_is : (cursor_in batch).lines ≡ lines_given (below now)
+  unfolding view_of view_with
+  given_is = lends.given
+
+  module _ (last : Batch) (records : List Feature) (passes : Passes batch records last) (consumed : Consumed) (is : IsWhere last consumed) where
+    pub batch_taken : IsTaken now consumed
+    batch_taken = token_is now.sorted batch last records consumed lends passes is
+
+    records_are : take (count_in now consumed) (buffered_in now) ≡ records
+    unfolding view_of view_with
+    records_are = taken_are now.sorted batch last records consumed lends passes is
+
+    module _ (left : S → Option (List ℕ)) (failed end : S → Bool) (comes : BeginsComing left (view_of now)) (new : Records S O g) (takes : TakesRecords left end now (count_in now consumed) new) where
+      pub taken_of : HasTaken left failed end (view_of now) records (view_of new)
+      taken_of = has_taken left failed end now new (count_in now consumed) records records_are comes takes
+
+      -- what is buffered then is what the batch has left
+      pub left_then : (view_of new).buffered ≡ left_in last
+      left_then = cancel_front records (view_of new).buffered (left_in last) (sym taken_of.takes.buffered ∙ sym lent_is ∙ passes.left_is)
+
+      pub ended_then : HasEnded last → (view_of new).buffered ≡ []
+      ended_then ended = left_then ∙ ended.none
+
+      first_then : (b : Feature) (after : Batch) → Passes last (b ∷ []) after → ahead_in (view_of new) ≡ Some (record { line = suc (lines_given (below new)); item = b })
+      first_then b after next = ap (first_from (suc (lines_given (below new)))) (left_then ∙ next.left_is)
+
+      next_then : (next : Option Feature) → ComesNext Passes last next → IfSome next (λ b. item_ahead (view_of new) ≡ Some b)
+      next_then None comes = tt
+      next_then (Some b) comes = ap (option_map (λ m. m.item)) (first_then b comes.0 comes.1)
+
+      line_then : (b : Feature) (after : Batch) → Passes last (b ∷ []) after → line_in after ≡ suc (lines_given (below new))
+      unfolding line_in cursor_in
+      line_then b after next = omega (arith, next.lines.given, passes.lines.given, given_is, taken_of.takes.given)
+
+-- the records that a sweep took of either batch
+pub first_passed : {T : Type 0} (order : Order) (sweep : Sweeping) (firsts seconds : Batch) (out : Output) (result : Result T Fault) (swept : Sweeping) (last_firsts last_seconds : Batch) (grown : Output)
+    → AdvancesOn Passes HasEnded Passes HasEnded line_in order sweep firsts seconds out result swept last_firsts last_seconds grown → (records : List Feature) × Passes firsts records last_firsts
+first_passed order sweep firsts seconds out (Ok done) swept last_firsts last_seconds grown (so, stops) = (so.firsts, so.gives_firsts)
+first_passed order sweep firsts seconds out (Err fault) swept last_firsts last_seconds grown fails = (fails.firsts, fails.gives_firsts)
+
+pub second_passed : {T : Type 0} (order : Order) (sweep : Sweeping) (firsts seconds : Batch) (out : Output) (result : Result T Fault) (swept : Sweeping) (last_firsts last_seconds : Batch) (grown : Output)
+    → AdvancesOn Passes HasEnded Passes HasEnded line_in order sweep firsts seconds out result swept last_firsts last_seconds grown → (records : List Feature) × Passes seconds records last_seconds
+second_passed order sweep firsts seconds out (Ok done) swept last_firsts last_seconds grown (so, stops) = (so.seconds, so.gives_seconds)
+second_passed order sweep firsts seconds out (Err fault) swept last_firsts last_seconds grown fails = (fails.seconds, fails.gives_seconds)
+
+-- what comes next is seen too
+settles_seen : (order : Order) (phase : Phase) (newly seconds : List Feature) (next ahead : Option Feature) → IfSome next (λ b. ahead ≡ Some b) → Settles order phase newly (seconds ++ option_to_list next) → Settles order phase newly (seconds ++ option_to_list ahead)
+settles_seen order phase newly seconds None ahead is (inl ended) = inl ended
+settles_seen order phase newly seconds None ahead is (inr all) =
+    inr (decided_before order newly seconds (option_to_list ahead) (let e = append-nil seconds in subst (λ (l : List Feature). list_all (λ a. decided order a l) newly ≡ true) e all))
+settles_seen order phase newly seconds (Some b) ahead is all = subst (λ (o : Option Feature). Settles order phase newly (seconds ++ option_to_list o)) (sym is) all
+
+module _ {A B O : Type 0} {g : Ghosts O} (a_left : A → Option (List ℕ)) (a_failed a_end : A → Bool) (ReadsA : A → Option ℕ → A → Type 0) (b_left : B → Option (List ℕ)) (b_failed b_end : B → Bool) (ReadsB : B → Option ℕ → B → Type 0)
+    (order : Order) (first new_first : Records A O g) (second new_second : Records B O g) (sweep : Sweeping) (out : Output)
+    (firsts last_firsts : Batch) (lends : Lends first firsts) (comes : BeginsComing a_left (view_of first)) (first_consumed : Consumed) (first_is : IsWhere last_firsts first_consumed)
+    (first_takes : TakesRecords a_left a_end first (count_in first first_consumed) new_first)
+    (seconds last_seconds : Batch) (lends_second : Lends second seconds) (comes_second : BeginsComing b_left (view_of second)) (second_consumed : Consumed) (second_is : IsWhere last_seconds second_consumed)
+    (second_takes : TakesRecords b_left b_end second (count_in second second_consumed) new_second) where
+  takes_both : (fs ss : List Feature) → Passes firsts fs last_firsts → Passes seconds ss last_seconds → TakesBoth a_left a_failed a_end ReadsA b_left b_failed b_end ReadsB order first second sweep out fs ss new_first new_second
+  takes_both fs ss passes passes_second = record {
+    first_taken = taken_of first firsts lends last_firsts fs passes first_consumed first_is a_left a_failed a_end comes new_first first_takes;
+    second_taken = taken_of second seconds lends_second last_seconds ss passes_second second_consumed second_is b_left b_failed b_end comes_second new_second second_takes;
+    first_order = first_takes.order;
+    second_order = second_takes.order;
+  }
+
+  seen_then : (ss newly : List Feature) (next : Option Feature) → Passes seconds ss last_seconds → ComesNext Passes last_seconds next → Settles order sweep.phase newly (ss ++ option_to_list next) → Settles order sweep.phase newly (ss ++ option_to_list (item_ahead (view_of new_second)))
+  seen_then ss newly next passes comes_next settles =
+      settles_seen order sweep.phase newly ss next (item_ahead (view_of new_second)) (next_then second seconds lends_second last_seconds ss passes second_consumed second_is b_left b_failed b_end comes_second new_second second_takes next comes_next) settles
+
+  stops_for : (want : Want) (fs ss : List Feature) → Passes firsts fs last_firsts → Passes seconds ss last_seconds → StopsFor Passes HasEnded Passes HasEnded line_in order sweep firsts seconds out want last_firsts last_seconds
+      → NotBuffered a_left a_failed a_end ReadsA b_left b_failed b_end ReadsB order first second sweep out want new_first new_second
+  stops_for WantA fs ss passes passes_second ended = ended_then first firsts lends last_firsts fs passes first_consumed first_is a_left a_failed a_end comes new_first first_takes ended
+  stops_for WantB fs ss passes passes_second ended = ended_then second seconds lends_second last_seconds ss passes_second second_consumed second_is b_left b_failed b_end comes_second new_second second_takes ended
+  stops_for Nothing fs ss passes passes_second ended = tt
+
+  pub advances_both : {T : Type 0} (result : Result T Fault) (swept : Sweeping) (grown : Output) → AdvancesOn Passes HasEnded Passes HasEnded line_in order sweep firsts seconds out result swept last_firsts last_seconds grown
+      → AdvancesBoth a_left a_failed a_end ReadsA b_left b_failed b_end ReadsB order first second sweep out result new_first new_second swept grown
+  advances_both (Ok done) swept grown (so, stops) = record {
+    firsts = so.firsts;
+    seconds = so.seconds;
+    newly = so.newly;
+    takes = takes_both so.firsts so.seconds so.gives_firsts so.gives_seconds;
+    are = so.are;
+    settles = seen_then so.seconds so.newly so.next so.gives_seconds so.comes so.settles;
+    each = so.each;
+    stands = so.stands;
+    puts = so.puts;
+    stops = elim stops [
+      | inl for ↦ inl (stops_for (want_in swept) so.firsts so.seconds so.gives_firsts so.gives_seconds for)
+      | inr written ↦ inr written
+    ];
+  }
+  advances_both (Err fault) swept grown fails = record {
+    firsts = fails.firsts;
+    seconds = fails.seconds;
+    newly = fails.newly;
+    last = fails.last;
+    takes = takes_both fails.firsts fails.seconds fails.gives_firsts fails.gives_seconds;
+    are = fails.are;
+    settles = seen_then fails.seconds fails.newly fails.next fails.gives_seconds fails.comes fails.settles;
+    each = fails.each;
+    through = fails.through;
+    puts = fails.puts;
+    cause = elim fails.cause [
+      | inl write ↦ inl (record { settled = seen_then fails.seconds (fails.newly ++ fails.last ∷ []) fails.next fails.gives_seconds fails.comes write.settled; cuts = write.cuts })
+      | inr others ↦ elim others [
+        | inl lack ↦ inr (inl (record {
+          m = record { line = suc (lines_given (below new_second)); item = lack.b };
+          ahead = first_then second seconds lends_second last_seconds fails.seconds fails.gives_seconds second_consumed second_is b_left b_failed b_end comes_second new_second second_takes lack.b lack.after lack.gives;
+          chrom = lack.chrom;
+          starts = lack.starts;
+          ends = lack.ends;
+          same_output = lack.same_output;
+          lacks = λ shape rule limit stage stands placed placed_second.
+              subst (λ (n : ℕ). CannotBeHeld limit fails.last (stage.taken ++ fails.seconds) n (told fault))
+              (line_then second seconds lends_second last_seconds fails.seconds fails.gives_seconds second_consumed second_is b_left b_failed b_end comes_second new_second second_takes lack.b lack.after lack.gives)
+              (lack.lacks shape rule limit stage stands placed placed_second);
+        }))
+        | inr keep ↦ inr (inr (record { is = keep.is; same_output = keep.same_output }))
+      ]
+    ];
+  }
