@@ -1,5 +1,5 @@
 -- Lemmas on records that a sweep is given of what two readers have buffered.
-use Rattle.std.proofs.Common.{◌≡◌, inl, inr, ℕ, suc, ◌+◌, Bool, true, false, ◌&&◌, not, List, [], ◌∷◌, ◌++◌, Option, None, Some, Ok, Err, Result, refl, sym, ap, ◌∙◌, subst, arith, length, append-nil, option_to_list, take}
+use Rattle.std.proofs.Common.{◌≡◌, inl, inr, ℕ, suc, ◌+◌, ◌<◌, Bool, true, false, ◌&&◌, not, List, [], ◌∷◌, ◌++◌, Option, None, Some, Ok, Err, Result, refl, sym, ap, ◌∙◌, subst, arith, length, append-nil, option_to_list, take}
 use Rattle.std.specs.Prelude.{◌⊎◌, IfSome, option_map}
 use Rattle.std.specs.List.{list_all}
 use Rattle.std.proofs.lemmas.Bool.{and_from, and_parts}
@@ -8,7 +8,7 @@ use Rattle.bt_lines.specs.Names.{told}
 use Rattle.bt_lines.specs.Output.{Output}
 use Rattle.bt_lines.specs.Reader.{lines_given}
 use Rattle.bt_lines.specs.declared.fault.Fault.{Fault}
-use Rattle.bt_bed.specs.Batch.{HasEnded, IsWhere, Passes, cursor_in, left as left_in, line_in}
+use Rattle.bt_bed.specs.Batch.{HasEnded, IsWhere, Passes, batch_room, cursor_in, left as left_in, line_in}
 use Rattle.bt_bed.specs.Feature.{Feature}
 use Rattle.bt_bed.specs.Good.{Member}
 use Rattle.bt_bed.specs.Locus.{Locus}
@@ -45,6 +45,10 @@ known_in sorting last (r ∷ records) more e =
     let all = and_parts (sorting.knows r.chrom && not (falls_in sorting last (locus_at r))) (are_in_order sorting (Some (locus_at r)) (records ++ more)) e in
     let here = and_parts (sorting.knows r.chrom) (not (falls_in sorting last (locus_at r))) all.0 in
     and_from (sorting.knows r.chrom) (list_all (λ r. sorting.knows r.chrom) records) here.0 (known_in sorting (Some (locus_at r)) records more all.1)
+
+-- a record less is left
+pub room_falls : (old new : Batch) (b : Feature) → Passes old (b ∷ []) new → batch_room new < batch_room old
+room_falls old new b passes = omega (arith, ap length passes.left_is)
 
 module _ {S O : Type 0} {g : Ghosts O} (now : Records S O g) (batch : Batch) (lends : Lends now batch) where
   lent_is : left_in batch ≡ buffered_in now
@@ -84,6 +88,11 @@ module _ {S O : Type 0} {g : Ghosts O} (now : Records S O g) (batch : Batch) (le
 
       pub ended_then : HasEnded last → (view_of new).buffered ≡ []
       ended_then ended = left_then ∙ ended.none
+
+      -- where it has none left, all that was buffered is taken
+      pub all_taken : left_in last ≡ [] → HasTaken left failed end (view_of now) (buffered_in now) (view_of new)
+      all_taken none =
+          subst (λ (l : List Feature). HasTaken left failed end (view_of now) l (view_of new)) (sym (append-nil records) ∙ ap (λ (l : List Feature). records ++ l) (sym none) ∙ sym passes.left_is ∙ lent_is) taken_of
 
       first_then : (b : Feature) (after : Batch) → Passes last (b ∷ []) after → ahead_in (view_of new) ≡ Some (record { line = suc (lines_given (below new)); item = b })
       first_then b after next = ap (first_from (suc (lines_given (below new)))) (left_then ∙ next.left_is)

@@ -17,7 +17,7 @@ ghost use Rattle.bt_tool.specs.SweepSteps.{AdvancesBoth, FillsWanted};
 ghost use Rattle.bt_tool.specs.OwnReads.{AnswersNoRead, IsOwnFailure, ReadsServe, TellsNoRead, TellsOwnReads};
 ghost use Rattle.bt_tool.specs.Writing.{WritesBy};
 
-use bt_bed::{ChromOrder, Cursor, Records};
+use bt_bed::{ChromOrder, Records};
 use bt_lines::{Fault, Input, LineReader, Out, Sink, Source};
 use bt_sweep::{Held, HeldIndex, HitRule, Shape, Sweep, Want};
 use std::alloc::Global;
