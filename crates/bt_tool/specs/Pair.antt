@@ -9,7 +9,7 @@ use Rattle.bt_lines.specs.Reader.{bytes_taken, source_of}
 use Rattle.bt_lines.specs.declared.fault.Kind.{Kind}
 use Rattle.bt_bed.specs.Good.{Good, Member, items_in, or_else}
 use Rattle.bt_bed.specs.Meeting.{Met, Rule, meet}
-use Rattle.bt_bed.specs.Reading.{MemberReader}
+use Rattle.bt_bed.specs.Reading.{MemberReader, ahead_in}
 
 -- what a command makes of the members of the first input by good members of the second
 pub record Making (X Y : Type 0) : Type 1 where
@@ -59,7 +59,7 @@ pub record Serves {S A State : Type 0} (failed : S → Bool)
 
 -- the item of the member that a reader has ahead
 abbrev pub item_ahead : {S A State : Type 0} → MemberReader S A State → Option A
-item_ahead reader = option_map (λ m. m.item) reader.ahead
+item_ahead reader = option_map (λ m. m.item) (ahead_in reader)
 
 module _ {X Y : Type 0} (making : Making X Y) where
   -- what the good members of the second input, and its fault, make of the members of the first
