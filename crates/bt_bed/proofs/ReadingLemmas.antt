@@ -287,6 +287,7 @@ module _ {S A State : Type 0} (left : S → Option (List ℕ)) (failed end : S �
           rises = omega (arith, g.passed.least, gives.counted);
           going = gives.goes;
           served = gives.served ∙ g.served;
+          near = gives.near;
         }
 
     first_came : (a b : Option (List TextLine)) (line : TextLine) → GivesFirst a line b → IfSome a (λ lines. (rest : List TextLine) × (lines ≡ line ∷ rest))
@@ -307,7 +308,7 @@ module _ {S A State : Type 0} (left : S → Option (List ℕ)) (failed end : S �
         let counted : line.number ≡ lines_given new.below = gives.number ∙ sym gives.counted in
         let first = good_first now.format (input_of now.below) now.state line item (lines_left left now.below) (first_came (lines_left left now.below) (lines_left left new.below) line gives.first) says in
         let here : IfSome (good_coming left now) IsGood = rw (good_is now (g.rest ∙ gives.was_going.0)) (told_first _ (lines_given new.below) line.number item counted first) in
-        record { is = is; checked = inr (record { first = remains_if (good_coming left old) (good_coming left now) IsGood g.good here; rises = omega (arith, g.passed.least, gives.counted); going = gives.goes }); served = gives.served ∙ g.served }
+        record { is = is; checked = inr (record { first = remains_if (good_coming left old) (good_coming left now) IsGood g.good here; rises = omega (arith, g.passed.least, gives.counted); going = gives.goes; near = gives.near }); served = gives.served ∙ g.served }
 
     lost_by : (now new : MemberReader S A State) (line : TextLine) (fault : Told) → Going old now → LineCame left failed now.below line new.below → new.fault ≡ Some fault → new.buffered ≡ [] → Follows now new → (IsKept left end now.below → IsKept left end new.below)
         → Cause left failed end old fault new → AnswersFault left failed end old fault new

@@ -1,5 +1,5 @@
 -- Lemmas on a reader of sorted records.
-use Rattle.std.proofs.Common.{◌≡◌, ℕ, zero, suc, ◌+◌, ◌-◌, ◌<◌, ◌≤◌, Bool, true, false, List, [], ◌∷◌, ◌++◌, length, take, drop, Option, Some, None, Ok, Err, refl, sym, ap, ◌∙◌, subst, arith, inl, inr, length-take, take-append-drop}
+use Rattle.std.proofs.Common.{◌≡◌, ℕ, suc, ◌+◌, ◌-◌, ◌<◌, ◌≤◌, Bool, true, false, List, [], ◌∷◌, ◌++◌, length, take, drop, Option, Some, None, Ok, Err, refl, sym, ap, ◌∙◌, subst, arith, inl, inr, length-take, take-append-drop}
 use Rattle.std.specs.Prelude.{◌⊎◌, if◌then◌else◌, IfSome, IsSome, IsTrue, is_some, option_map}
 use Rattle.std.specs.Option.{ForSome}
 use Rattle.std.proofs.lemmas.Bool.{false≢true}
@@ -11,11 +11,11 @@ use Rattle.bt_lines.specs.Names.{told}
 use Rattle.bt_lines.specs.Reader.{DropsLines, TakenLines, TakesLines, bytes_left, buffered_bytes, buffered_in as lines_buffered, end_told, fault_kept as line_fault, held, input_of, is_open, left_at, lines_given, lines_left, source_of}
 use Rattle.bt_lines.specs.declared.fault.Input.{Input}
 use Rattle.bt_lines.specs.declared.line_reader.LineReader.{LineReader}
-use Rattle.bt_bed.proofs.CameLemmas.{drops_pass, left_numbered}
+use Rattle.bt_bed.proofs.CameLemmas.{drops_pass, left_numbered, some_bytes}
 use Rattle.bt_bed.proofs.GoodBedLemmas.{line_said}
 use Rattle.bt_bed.proofs.NeighbourLemmas.{fits_above}
 use Rattle.bt_bed.proofs.RunLemmas.{placed_there, run_some}
-use Rattle.bt_bed.proofs.SaidRuns.{LinesSay, good_said, order_behind, order_is_said, place_behind, run_behind, run_is_said, run_says, said_fewer, say_fewer, say_front}
+use Rattle.bt_bed.proofs.SaidRuns.{LinesSay, good_said, order_behind, order_is_said, place_behind, run_behind, run_is_said, run_says, said_fewer, said_in_order, say_fewer, say_front}
 use Rattle.bt_bed.specs.Feature.{Feature}
 use Rattle.bt_bed.specs.Good.{Format, Good, good_from, or_else}
 use Rattle.bt_bed.specs.GoodBed.{bed_format, line_says, locus_at}
@@ -83,10 +83,6 @@ some_taken n (r ∷ records) some within =
       omega (arith, less, length-take (n - 1) records, within),
     )
 
-some_bytes : (n : ℕ) (bytes : List ℕ) → 0 < line_feeds (take n bytes) → 0 < n
-some_bytes zero bytes some = absurd (omega (arith, some))
-some_bytes (suc n) bytes some = omega arith
-
 -- a record that is said lies on a known chromosome
 knows_said : (sorting : Sorting) (state : Option Locus) (text : List ℕ) (r : Feature) → line_says sorting state text ≡ Ok (Some r) → IsTrue (sorting.knows r.chrom)
 knows_said sorting state text r e = (line_said sorting state text r e).known
@@ -118,6 +114,7 @@ module _ {S Q : Type 0} (left : S → Option (List ℕ)) (end : S → Bool) (sor
 
   -- the lines that are buffered then
   lines_then : lines_buffered reader ≡ drop n (lines_buffered old.reader)
+  unfolding buffered_bytes is_open lines_given
   lines_then =
       ap (λ o. buffered_lines o (lines_given reader) (buffered_bytes reader)) takes.open_is
       ∙ ap (λ k. buffered_lines (is_open old.reader) k (buffered_bytes reader)) takes.given
@@ -244,8 +241,9 @@ module _ {Q : Type 0} (sorting : Sorting) (old new : Neighbours Q) (line : TextL
   pub found_buffered : (lines : List TextLine) → lines ≡ line ∷ more → run_of (name_in new) (start_in new) lines ≡ r ∷ run_of (name_in new) r.start more
   found_buffered lines e = ap (run_of (name_in new) (start_in new)) e ∙ found_run
 
-  pub found_all_said : (lines : List TextLine) → lines ≡ line ∷ more → AreSaid (bed_format sorting) (last_in old) (run_of (name_in new) (start_in new) lines)
-  found_all_said lines e = subst (λ l. AreSaid (bed_format sorting) (last_in old) (run_of (name_in new) (start_in new) l)) (sym e) found_said
+  pub found_in_order : (lines : List TextLine) → lines ≡ line ∷ more → are_in_order sorting (last_in old) (run_of (name_in new) (start_in new) lines) ≡ true
+  found_in_order lines e =
+      ap (λ l. are_in_order sorting (last_in old) (run_of (name_in new) (start_in new) l)) e ∙ said_in_order sorting (last_in old) (run_of (name_in new) (start_in new) (line ∷ more)) found_said
 
   pub found_some : (lines : List TextLine) → lines ≡ line ∷ more → is_some_left (run_of (name_in new) (start_in new) lines) ≡ true
   found_some lines e = ap is_some_left (found_buffered lines e)

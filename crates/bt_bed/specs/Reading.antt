@@ -188,6 +188,8 @@ module _ {S A State : Type 0} where
     pub rises : lines_given old.below < lines_given new.below
     pub going : line_fault new.below ≡ None
     pub served : failed (source_of new.below) ≡ failed (source_of old.below)
+    -- after it at most a block is held
+    pub near : length (held new.below) ≤ block_size
 
   -- the lines that were given said nothing: what was still to come lies behind them
   abbrev pub SaidNothing : (S → Option (List ℕ)) → MemberReader S A State → MemberReader S A State
@@ -207,6 +209,8 @@ module _ {S A State : Type 0} where
         × (good.members ≡ record { line = lines_given new.below; item = item } ∷ rest))
     pub rises : lines_given old.below < lines_given new.below
     pub going : line_fault new.below ≡ None
+    -- after it at most a block is held
+    pub near : length (held new.below) ≤ block_size
 
   -- memory ran out: for a line that couldn't be read, once those before it were checked, or for the
   -- member of the last line given, once it was
