@@ -117,6 +117,11 @@ module _ {S A State : Type 0} where
       (good_behind reader.format (input_of reader.below) reader.fault reader.state)
       (lines_left left reader.below)
 
+  -- the members that are buffered are the first of those still to come
+  abbrev pub BeginsComing : (S → Option (List ℕ)) → MemberReader S A State → Type 0
+  BeginsComing left reader = IfSome (good_coming left reader) (λ good. (rest : List (Member A))
+      × (good.members ≡ members_from (suc (lines_given reader.below)) reader.buffered ++ rest))
+
   -- how many bytes may still come: it never rises, and falls with each member taken
   abbrev pub room : MemberReader S A State → ℕ
   room reader = line_room reader.below

@@ -34,7 +34,8 @@ impl<'o, S: Source, O: ChromOrder> Records<'o, S, O> {
     ghost use Rattle.bt_bed.specs.Good.{good};
     ghost use Rattle.bt_bed.specs.GoodBed.{bed_format};
     ghost use Rattle.bt_bed.specs.Order.{IsTotal};
-    ghost use Rattle.bt_bed.specs.Records.{FillsRecords, IsTaken, Lends, PassesRecord, PeeksRecord, TakesRecords, below, buffered_in, count_in, fault_kept, good_left, last_locus, line_ahead, order_in};
+    ghost use Rattle.bt_bed.specs.Reading.{BeginsComing};
+    ghost use Rattle.bt_bed.specs.Records.{FillsRecords, IsTaken, Lends, PassesRecord, PeeksRecord, TakesRecords, below, buffered_in, count_in, fault_kept, good_left, last_locus, line_ahead, order_in, view_of};
 
     /// A reader of the records that the reader of lines has left.
     pub fn new(alloc: Global, reader: LineReader<S>, order: &'o O) -> Records<'o, S, O>
@@ -66,7 +67,8 @@ impl<'o, S: Source, O: ChromOrder> Records<'o, S, O> {
 
     /// The records that are buffered, on the chromosome of the first of them.
     pub fn buffered(&self) -> Batch<'_>
-        ensures { Lends self.now result }
+        ensures lends { Lends self.now result }
+        ensures comes { BeginsComing S.left (view_of self.now) }
     {
         self.sorted.buffered()
     }
