@@ -118,6 +118,7 @@ module _ {S A State : Type 0} (left : S → Option (List ℕ)) (failed end : S �
   pub fault_again : (old : MemberReader S A State) (fault : Told) → old.fault ≡ Some fault → old.buffered ≡ [] → AnswersFault left failed end old fault old
   fault_again old fault kept none = record {
     kept = kept;
+    was_none = none;
     none_buffered = none;
     state = refl;
     again = λ before was. (let both : Some fault ≡ Some before = sym kept ∙ was in cc, refl);
@@ -314,6 +315,7 @@ module _ {S A State : Type 0} (left : S → Option (List ℕ)) (failed end : S �
         → Cause left failed end old fault new → AnswersFault left failed end old fault new
     lost_by now new line fault g gives kept ahead follows sound cause = record {
       kept = kept;
+      was_none = g.was_none;
       none_buffered = ahead;
       state = follows.state ∙ g.state;
       again = λ before was. absurd (let apart : None ≡ Some before = sym (was_faultless now g gives.was_going.0) ∙ was in cc);
@@ -366,6 +368,7 @@ module _ {S A State : Type 0} (left : S → Option (List ℕ)) (failed end : S �
         → AnswersFault left failed end old fault new
     going_unread now new fault g gives kept ahead follows track = record {
       kept = kept;
+      was_none = g.was_none;
       none_buffered = ahead;
       state = follows.state ∙ g.state;
       again = again_by now new fault g gives kept track g.begun;
@@ -395,6 +398,7 @@ module _ {S A State : Type 0} (left : S → Option (List ℕ)) (failed end : S �
         record {
           none_left = remains_if (good_coming left old) (good_coming left now) (λ good. good ≡ ends_with None) g.good none;
           none_comes = rw (good_is new (rest ∙ gives.goes)) (good_end new.format (input_of new.below) new.state (lines_left left new.below) gives.none_comes);
+          was_none = g.was_none;
           none_buffered = ahead;
           state = follows.state ∙ g.state;
           ends = gives.ends;

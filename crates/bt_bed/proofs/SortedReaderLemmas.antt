@@ -17,11 +17,11 @@ use Rattle.bt_bed.proofs.NeighbourLemmas.{fits_above}
 use Rattle.bt_bed.proofs.RunLemmas.{placed_there, run_some}
 use Rattle.bt_bed.proofs.SaidRuns.{LinesSay, good_said, order_behind, order_is_said, place_behind, run_behind, run_is_said, run_says, said_fewer, said_in_order, say_fewer, say_front}
 use Rattle.bt_bed.specs.Feature.{Feature}
-use Rattle.bt_bed.specs.Good.{Format, Good, good_from, or_else}
+use Rattle.bt_bed.specs.Good.{Format, Good, Member, good_from, or_else}
 use Rattle.bt_bed.specs.GoodBed.{bed_format, line_says, locus_at}
 use Rattle.bt_bed.specs.Locus.{Locus}
 use Rattle.bt_bed.specs.Neighbours.{HoldsChrom, LineTaken, MakesLast, last_in, name_in, start_in}
-use Rattle.bt_bed.specs.Reading.{AreSaid, MemberReader, Takes, good_behind, good_coming, members_from, state_behind, with_members}
+use Rattle.bt_bed.specs.Reading.{AreSaid, BeginsComing, MemberReader, Takes, good_behind, good_coming, members_from, state_behind, with_members}
 use Rattle.bt_bed.specs.Run.{is_some_left, last_start, run_of}
 use Rattle.bt_bed.specs.Sorting.{Sorting}
 use Rattle.bt_bed.specs.Ahead.{ahead_of}
@@ -62,6 +62,17 @@ say_all : {A State : Type 0} (format : Format A State) (state : State) (front : 
     → IfSome all (λ lines. LinesSay format state lines items)
 say_all format state front items None e say = tt
 say_all format state front items (Some all) e say = say_front format state front all items e say
+
+-- items that lines say are the first of what is good
+begins_good : {A State : Type 0} (format : Format A State) (input : Input) (state : State) (number : ℕ) (items : List A) (a : Option (List TextLine)) → IfSome a (AreNumbered number) → IfSome a (λ all. LinesSay format state all items)
+    → IfSome (option_map (good_behind format input None state) a) (λ good. (rest : List (Member A)) × (good.members ≡ members_from number items ++ rest))
+begins_good format input state number items None n say = tt
+begins_good {A} {State} format input state number items (Some all) n say =
+    ((good_from format input (state_behind format state items) (drop (length items) all)).members, sym (ap (λ (good : Good A). good.members) (good_said format input number state all items n say)))
+
+begins_none : {A : Type 0} (good : Option (Good A)) (number : ℕ) (items : List A) → items ≡ [] → IfSome good (λ good. (rest : List (Member A)) × (good.members ≡ members_from number items ++ rest))
+begins_none None number items none = tt
+begins_none {A} (Some good) number items none = (good.members, ap (λ (l : List A). members_from number l ++ good.members) (sym none))
 
 cond_left : (b : Bool) (run more : List Feature) → b ≡ is_some_left more → run ≡ more → (if b then run else []) ≡ more
 cond_left true run more e same = same
@@ -221,6 +232,32 @@ module _ {S Q : Type 0} (left : S → Option (List ℕ)) (end : S → Bool) (sor
 
   pub was_ahead : old.is_ahead ≡ true
   was_ahead = was.0
+
+-- the records that are buffered are the first of those still to come
+module _ {S Q : Type 0} (left : S → Option (List ℕ)) (end : S → Bool) (sorting : Sorting) (sorted : SortedReader S Q) (placed : IsPlaced sorting (view_in sorting sorted)) where
+  some_comes : (r : Feature) (more : List Feature) → buffered_in sorted ≡ r ∷ more → BeginsComing left (view_in sorting sorted)
+  unfolding good_coming view_with buffered_in
+  some_comes r more e =
+      let format = bed_format sorting in
+      let reader = sorted.reader in
+      let state = last_in sorted.neighbours in
+      let run = is_ahead_by sorted.is_ahead (run_of (name_in sorted.neighbours) (start_in sorted.neighbours) (lines_buffered reader)) r more e in
+      let is : run_of (name_in sorted.neighbours) (start_in sorted.neighbours) (lines_buffered reader) ≡ buffered_in sorted = run.1 ∙ sym e in
+      let said = order_is_said sorting state (name_in sorted.neighbours) (start_in sorted.neighbours) (lines_buffered reader) (buffered_in sorted) is placed.in_order in
+      let say = run_says sorting state (name_in sorted.neighbours) (start_in sorted.neighbours) (lines_buffered reader) (buffered_in sorted) is said in
+      let all = say_all format state (lines_buffered reader) (buffered_in sorted) (lines_left left reader) (is_prefix left reader) say in
+      subst (λ own. IfSome (option_map (good_behind format (input_of reader) own state) (lines_left left reader))
+          (λ good. (rest : List (Member Feature)) × (good.members ≡ members_from (suc (lines_given reader)) (buffered_in sorted) ++ rest)))
+      (sym (placed.going (ap is_some_left e)))
+      (begins_good format (input_of reader) state (suc (lines_given reader)) (buffered_in sorted) (lines_left left reader) (left_numbered left end reader) all)
+
+  comes_by : (items : List Feature) → buffered_in sorted ≡ items → BeginsComing left (view_in sorting sorted)
+  unfolding view_with
+  comes_by [] e = begins_none (good_coming left (view_in sorting sorted)) (suc (lines_given sorted.reader)) (buffered_in sorted) e
+  comes_by (r ∷ more) e = some_comes r more e
+
+  pub sorted_comes : BeginsComing left (view_in sorting sorted)
+  sorted_comes = comes_by (buffered_in sorted) refl
 
 -- a line that says a record which fits begins the records that are buffered then
 module _ {Q : Type 0} (sorting : Sorting) (old new : Neighbours Q) (line : TextLine) (more : List TextLine) (r : Feature) (says : line_says sorting (last_in old) line.text ≡ Ok (Some r)) (holds : HoldsChrom old r.chrom new) where

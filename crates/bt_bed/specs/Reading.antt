@@ -163,6 +163,7 @@ module _ {S A State : Type 0} where
       (old new : MemberReader S A State) : Type 0 where
     pub none_left : IfSome (good_coming left old) (λ good. good ≡ ends_with None)
     pub none_comes : IfSome (good_coming left new) (λ good. good ≡ ends_with None)
+    pub was_none : old.buffered ≡ []
     pub none_buffered : new.buffered ≡ []
     pub state : new.state ≡ old.state
     pub ends : has_ended new.below ≡ true
@@ -237,6 +238,7 @@ module _ {S A State : Type 0} where
   pub record AnswersFault (left : S → Option (List ℕ)) (failed end : S → Bool)
       (old : MemberReader S A State) (fault : Told) (new : MemberReader S A State) : Type 0 where
     pub kept : new.fault ≡ Some fault
+    pub was_none : old.buffered ≡ []
     pub none_buffered : new.buffered ≡ []
     pub state : new.state ≡ old.state
     -- a fault is answered again, and nothing is read
