@@ -4,6 +4,7 @@ pub mod GivenLemmas
 pub mod Reading
 pub mod ComeLemmas
 pub mod FeedLemmas
+pub mod BufferedLemmas
 pub mod FractionLemmas
 pub mod PassedLemmas
 pub mod MemberLemmas
@@ -14,8 +15,7 @@ pub mod MaskKinds
 pub mod SweptLemmas
 pub mod RestLemmas
 pub mod SeenLemmas
-pub mod SweepTurns
-pub mod SweepPassing
+pub mod AdvanceLemmas
 pub mod SweepFacts
 pub mod SweepLimits
 pub mod MaskStart
@@ -69,4 +69,3 @@ pub mod PartMaskLaws
 pub mod PartOwnGenomes
 pub mod PartSuffice
 pub mod OwnFailureLemmas
-pub mod AheadLemmas

@@ -20,6 +20,7 @@ pub mod Telling
 pub mod OwnReads
 pub mod Flushing
 pub mod Feeding
+pub mod FeedsBuffered
 pub mod ConvertReport
 pub mod ConvertSteps
 pub mod Writing
@@ -31,7 +32,6 @@ pub mod Pair
 pub mod PairEnds
 pub mod PairComes
 pub mod SweepLoop
-pub mod MaskTurns
 pub mod MaskLoop
 pub mod Coming
 pub mod Behaviour
@@ -44,4 +44,3 @@ pub mod SplitLaws
 pub mod GenomeSplitLaws
 pub mod MaskSplitLaws
 pub mod OwnGenomeLaws
-pub mod Ahead
