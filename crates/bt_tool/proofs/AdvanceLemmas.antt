@@ -1,20 +1,23 @@
 -- Lemmas on records that a sweep is given of what two readers have buffered.
-use Rattle.std.proofs.Common.{◌≡◌, inl, inr, ℕ, suc, ◌+◌, ◌<◌, Bool, true, false, ◌&&◌, not, List, [], ◌∷◌, ◌++◌, Option, None, Some, Ok, Err, Result, refl, sym, ap, ◌∙◌, subst, arith, length, append-nil, option_to_list, take}
-use Rattle.std.specs.Prelude.{◌⊎◌, IfSome, option_map}
+use Rattle.std.proofs.Common.{◌≡◌, inl, inr, ℕ, suc, ◌+◌, ◌<◌, Bool, true, false, ◌&&◌, not, List, [], ◌∷◌, ◌++◌, Option, None, Some, Ok, Err, Result, refl, sym, ap, ◌∙◌, subst, arith, length, append-nil, append_assoc, option_to_list, take}
+use Rattle.std.specs.Option.{ForSome}
+use Rattle.std.specs.Prelude.{◌⊎◌, IfSome, IsTrue, option_map}
 use Rattle.std.specs.List.{list_all}
-use Rattle.std.proofs.lemmas.Bool.{and_from, and_parts}
+use Rattle.std.proofs.lemmas.Bool.{false≢true, and_from, and_parts}
+use Rattle.std.proofs.lemmas.List.{map-append}
 use Rattle.bt_lines.specs.Fault.{Told}
 use Rattle.bt_lines.specs.Names.{told}
 use Rattle.bt_lines.specs.Output.{Output}
 use Rattle.bt_lines.specs.Reader.{lines_given}
 use Rattle.bt_lines.specs.declared.fault.Fault.{Fault}
 use Rattle.bt_bed.specs.Batch.{HasEnded, IsWhere, Passes, batch_room, cursor_in, left as left_in, line_in}
-use Rattle.bt_bed.specs.Feature.{Feature}
+use Rattle.bt_bed.specs.Feature.{Feature, interval_of, intervals_of}
 use Rattle.bt_bed.specs.Good.{Member}
-use Rattle.bt_bed.specs.Locus.{Locus}
-use Rattle.bt_bed.specs.Order.{Order}
-use Rattle.bt_bed.specs.GoodBed.{locus_at}
-use Rattle.bt_bed.specs.Reading.{BeginsComing, MemberReader, ahead_in, first_from}
+use Rattle.bt_bed.specs.Interval.{Interval, last_of}
+use Rattle.bt_bed.specs.Locus.{ArePlaced, IsUpTo, Locus, locus_of}
+use Rattle.bt_bed.specs.Order.{IsTotal, Order}
+use Rattle.bt_bed.specs.GoodBed.{bed_format, locus_at}
+use Rattle.bt_bed.specs.Reading.{BeginsComing, MemberReader, ahead_in, first_from, state_behind}
 use Rattle.bt_bed.specs.Records.{IsTaken, Lends, TakesRecords, below, buffered_in, count_in, order_in, view_of}
 use Rattle.bt_bed.specs.SortedReader.{are_in_order, view_with}
 use Rattle.bt_bed.specs.Sorting.{Sorting, falls_in, sorting_of}
@@ -22,6 +25,8 @@ use Rattle.bt_bed.specs.declared.batch.Batch.{Batch}
 use Rattle.bt_bed.specs.declared.batch.Consumed.{Consumed}
 use Rattle.bt_bed.specs.declared.order.ChromOrder.{Ghosts}
 use Rattle.bt_bed.specs.declared.records.Records.{Records}
+use Rattle.bt_bed.proofs.SortingLemmas.{sorted_up_to}
+use Rattle.bt_bed.proofs.TogetherLemmas.{grows_placed, last_of-push}
 use Rattle.bt_bed.proofs.TokenLemmas.{taken_are, token_is}
 use Rattle.bt_sweep.specs.Advancing.{AdvancesOn, AdvancesSo, AtEach, FailsAt, HasWritten, Settles, StopsFor}
 use Rattle.bt_sweep.specs.Deciding.{decided}
@@ -104,6 +109,48 @@ module _ {S O : Type 0} {g : Ghosts O} (now : Records S O g) (batch : Batch) (le
       line_then : (b : Feature) (after : Batch) → Passes last (b ∷ []) after → line_in after ≡ suc (lines_given (below new))
       unfolding line_in cursor_in
       line_then b after next = omega (arith, next.lines.given, passes.lines.given, given_is, taken_of.takes.given)
+
+-- ---- the record ahead is in order behind those that were passed
+
+-- where the last of records stands
+state_last : (order : Order) (past before : List Feature) (last : Option Locus) → last ≡ option_map locus_of (last_of (intervals_of before))
+    → state_behind (bed_format (sorting_of order)) last past ≡ option_map locus_of (last_of (intervals_of (before ++ past)))
+state_last order [] before last e = e ∙ ap (λ (l : List Feature). option_map locus_of (last_of (intervals_of l))) (sym (append-nil before))
+state_last order (r ∷ past) before last e =
+    let pushed : intervals_of (before ++ r ∷ []) ≡ intervals_of before ++ interval_of r ∷ [] = map-append interval_of before (r ∷ []) in
+    let next : Some (locus_at r) ≡ option_map locus_of (last_of (intervals_of (before ++ r ∷ []))) =
+    ap (option_map locus_of) (sym (last_of-push (intervals_of before) (interval_of r))) ∙ ap (λ l. option_map locus_of (last_of l)) (sym pushed) in
+    state_last order past (before ++ r ∷ []) (Some (locus_at r)) next ∙ ap (λ (l : List Feature). option_map locus_of (last_of (intervals_of l))) (append_assoc before (r ∷ []) past)
+
+some_first : (line : ℕ) (items : List Feature) (m : Member Feature) → first_from line items ≡ Some m → (more : List Feature) × (items ≡ m.item ∷ more)
+some_first line [] m e = absurd (let apart : None ≡ Some m = e in cc)
+some_first line (x ∷ items) m e = let same : record { line = line; item = x } ≡ m = cc in (items, ap (λ (m : Member Feature). m.item ∷ items) same)
+
+not_false : (b : Bool) → not b ≡ true → b ≡ false
+not_false true e = absurd (false≢true e)
+not_false false e = refl
+
+known_last : (order : Order) (last : Option Locus) → ForSome last (λ place. IsTrue (order.knows place.chrom)) → IfSome last (λ place. IsTrue (order.knows place.chrom))
+known_last order None known = tt
+known_last order (Some place) known = known place refl
+
+last_up_to : (last : Option Interval) (P : Locus → Type 0) → IfSome (option_map locus_of last) P → IfSome last (λ r. P (locus_of r))
+last_up_to None P h = tt
+last_up_to (Some r) P h = h
+
+pub ahead_placed : {S O : Type 0} {g : Ghosts O} (now : Records S O g) (order : Order) → order_in now ≡ order → (past : List Feature) (m : Member Feature) → IsTotal order
+    → (view_of now).state ≡ state_behind (bed_format (sorting_of order)) None past → ahead_in (view_of now) ≡ Some m → ArePlaced order (intervals_of past) → ArePlaced order (intervals_of (past ++ m.item ∷ []))
+unfolding view_of order_in
+ahead_placed now order is past m total state ahead placed =
+    let some = some_first (suc (lines_given (below now))) (buffered_in now) m ahead in
+    let known = subst (λ (o : Order). ForSome (view_of now).state (λ place. IsTrue (o.knows place.chrom))) is now.placed.last in
+    let fits = subst (λ (o : Order). are_in_order (sorting_of o) (view_of now).state (m.item ∷ some.0) ≡ true) is (ap (are_in_order (sorting_of (order_in now)) (view_of now).state) (sym some.1) ∙ now.placed.in_order) in
+    let all = and_parts (order.knows m.item.chrom && not (falls_in (sorting_of order) (view_of now).state (locus_at m.item))) (are_in_order (sorting_of order) (Some (locus_at m.item)) some.0) fits in
+    let here = and_parts (order.knows m.item.chrom) (not (falls_in (sorting_of order) (view_of now).state (locus_at m.item))) all.0 in
+    let up = sorted_up_to order (view_of now).state (locus_at m.item) total (known_last order (view_of now).state known) here.0 (not_false (falls_in (sorting_of order) (view_of now).state (locus_at m.item)) here.1) in
+    let last : (view_of now).state ≡ option_map locus_of (last_of (intervals_of past)) = state ∙ state_last order past [] None refl in
+    let above = last_up_to (last_of (intervals_of past)) (λ place. IsUpTo order place (locus_at m.item)) (subst (λ (l : Option Locus). IfSome l (λ place. IsUpTo order place (locus_at m.item))) last up) in
+    subst (ArePlaced order) (sym (map-append interval_of past (m.item ∷ []))) (grows_placed order (intervals_of past) (interval_of m.item) placed here.0 above)
 
 -- the records that a sweep took of either batch
 pub first_passed : {T : Type 0} (order : Order) (sweep : Sweeping) (firsts seconds : Batch) (out : Output) (result : Result T Fault) (swept : Sweeping) (last_firsts last_seconds : Batch) (grown : Output)

@@ -41,7 +41,7 @@ push_front (z ∷ a) (w ∷ b) x y e =
     cc
 
 -- the items of members that are on lines one after another
-items_from : {A : Type 0} (line : ℕ) (items : List A) → member_items (members_from line items) ≡ items
+pub items_from : {A : Type 0} (line : ℕ) (items : List A) → member_items (members_from line items) ≡ items
 items_from line [] = refl
 items_from line (x ∷ items) = ap (λ l. x ∷ l) (items_from (suc line) items)
 
@@ -75,7 +75,7 @@ module _ {S A State : Type 0} (left : S → Option (List ℕ)) (failed end : S �
   }
 
 -- a list is empty, or has a last element
-last_of : {A : Type 0} (xs : List A) → (xs ≡ []) ⊎ ((front : List A) × (x : A) × (xs ≡ front ++ x ∷ []))
+pub last_of : {A : Type 0} (xs : List A) → (xs ≡ []) ⊎ ((front : List A) × (x : A) × (xs ≡ front ++ x ∷ []))
 last_of [] = inl refl
 last_of {A} (x ∷ xs) =
     elim (last_of xs) [
