@@ -13,6 +13,7 @@ pub mod MaskedLemmas
 pub mod MaskFacts
 pub mod MaskKinds
 pub mod SweptLemmas
+pub mod SweepRounds
 pub mod RestLemmas
 pub mod SeenLemmas
 pub mod AdvanceLemmas

@@ -80,7 +80,7 @@ done_by (Some a) done e = absurd (let apart : WantB ≡ Nothing = e in cc)
 done_by None true e = refl
 done_by None false e = absurd (let apart : WantA ≡ Nothing = e in cc)
 
-over_is : (a b : Bool) → is_done (phase_of a b) ≡ a
+pub over_is : (a b : Bool) → is_done (phase_of a b) ≡ a
 over_is true b = refl
 over_is false true = refl
 over_is false false = refl
@@ -318,7 +318,7 @@ module _ {A B O : Type 0} {g : Ghosts O} (a_left : A → Option (List ℕ)) (a_f
     -- ---- a record of the first input is wanted
 
     module _ (wants : want_in sweep ≡ WantA) where
-      none_waits : stage.waiting ≡ None
+      pub none_waits : stage.waiting ≡ None
       none_waits = sym s.stands.current_is ∙ none_by sweep.current (is_done sweep.phase) wants
 
       not_ended : stage.a_ended ≡ false
