@@ -260,11 +260,15 @@ module _ {C : Type 0} (gives : C → List Feature → C → Type 0) (line_at : C
 
     -- the record that was left is the one ahead
     left_ahead : ComesNext gives line_at has_ended (Some r) records
-    left_ahead next further gives_it = gives_same records later further r next [] given gives_it
+    left_ahead next e = let same : r ≡ next = cc in (later, subst (λ (x : Feature). gives records (x ∷ []) later) same given)
+
+    next_by : (ahead : Option Feature) → ComesNext gives line_at has_ended ahead records → IsNext ahead r
+    next_by None comes = tt
+    next_by (Some a) comes = let first = comes a refl in gives_same records first.0 later a r [] first.1 given
 
     module _ (how : MaskHow) (full : Bool) (stage : MaskStage) (stands : MaskStandsAt how full stage old) (ahead : ComesNext gives line_at has_ended stage.ahead records) where
       is_next : IsNext stage.ahead r
-      is_next = ahead r later given
+      is_next = next_by stage.ahead ahead
 
       ends_by : (o : Option SequenceLine) → stage.waiting ≡ o → stage.bed_ended ≡ false
       ends_by None e =
@@ -290,7 +294,7 @@ module _ {C : Type 0} (gives : C → List Feature → C → Type 0) (line_at : C
               stands = t.1;
               puts = subst (λ (o : Output). Grown out [] o) (sym t.0) (grown_none out);
             },
-            λ next further gives_it. tt,
+            λ next e. absurd (let apart : None ≡ Some next = e in cc),
           )
 
       come_left : (new : Masking) (grown : Output) → Waits (Ok No) new grown → NoneWaits (Ok No) new grown → (o : Option SequenceLine) → stage.waiting ≡ o

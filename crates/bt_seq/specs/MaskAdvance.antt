@@ -11,7 +11,7 @@ use Rattle.bt_lines.specs.declared.buffered_lines.BufferedLines.{BufferedLines}
 use Rattle.bt_lines.specs.declared.fault.Fault.{Fault}
 use Rattle.bt_seq.specs.GivenLines.{PassesLines}
 use Rattle.bt_seq.specs.MaskSettles.{GoesOn}
-use Rattle.bt_seq.specs.MaskStage.{IsNext, MaskStage, want_at}
+use Rattle.bt_seq.specs.MaskStage.{MaskStage, want_at}
 use Rattle.bt_seq.specs.MaskStanding.{MaskStandsAt}
 use Rattle.bt_seq.specs.MaskState.{Masking}
 use Rattle.bt_seq.specs.MaskSteps.{FailsToHoldRecord, FailsToWriteLine, FailsWithLine, LacksSequence, RefusesLine}
@@ -92,9 +92,9 @@ pub record GivesLines {A : Type 0} (old : Masking) (lines : BufferedLines) (out 
 
 module _ {C : Type 0} (gives : C → List Feature → C → Type 0) (line_at : C → ℕ)
     (has_ended : C → Type 0) where
-  -- whatever record comes next, it is the one ahead, if one is known to be
+  -- the record ahead, if one is known to be, comes next
   abbrev pub ComesNext : Option Feature → C → Type 0
-  ComesNext ahead records = (r : Feature) (later : C) → gives records (r ∷ []) later → IsNext ahead r
+  ComesNext ahead records = (r : Feature) → ahead ≡ Some r → (later : C) × gives records (r ∷ []) later
 
   -- what is asked for isn't there
   abbrev pub StopsAt : MaskWant → BufferedLines → C → Type 0
