@@ -1,5 +1,5 @@
 -- Lemmas on lines that a reader of records takes one after another.
-use Rattle.std.proofs.Common.{◌≡◌, ℕ, suc, ◌+◌, ◌-◌, ◌^◌, ◌<◌, ◌≤◌, Bool, List, [], ◌∷◌, ◌++◌, length, take, drop, Option, Some, None, refl, sym, ap, ◌∙◌, subst, arith, false, length-append}
+use Rattle.std.proofs.Common.{◌≡◌, ℕ, zero, suc, ◌+◌, ◌-◌, ◌^◌, ◌<◌, ◌≤◌, Bool, List, [], ◌∷◌, ◌++◌, length, take, drop, Option, Some, None, refl, sym, ap, ◌∙◌, subst, arith, false, length-append}
 use Rattle.std.specs.Prelude.{IfSome, option_map}
 use Rattle.std.proofs.Math.Seq.{take-append-add}
 use Rattle.std.proofs.lemmas.List.{drop-drop}
@@ -77,6 +77,12 @@ pub record LineCame {S : Type 0} (left : S → Option (List ℕ)) (failed : S �
   pub served : failed (source_of new) ≡ failed (source_of old)
   pub was_going : (fault_kept old ≡ None) × (has_ended old ≡ false)
   pub goes : fault_kept new ≡ None
+  pub near : length (held new) ≤ block_size
+
+-- where lines were taken, bytes were
+pub some_bytes : (count : ℕ) (bytes : List ℕ) → 0 < line_feeds (take count bytes) → 0 < count
+some_bytes zero bytes some = absurd (omega (arith, some))
+some_bytes (suc count) bytes some = omega arith
 
 module _ {S : Type 0} (left : S → Option (List ℕ)) (failed end : S → Bool) (old mid new : LineReader S) (makes : MakesLine left failed old mid) where
   pub same_room : room mid ≡ room old
@@ -95,6 +101,7 @@ module _ {S : Type 0} (left : S → Option (List ℕ)) (failed end : S → Bool)
       served = ap failed takes.source_is ∙ makes.served;
       was_going = makes.was_going;
       goes = takes.fault_is ∙ makes.goes;
+      near = takes.near (some_bytes consumed.bytes (buffered_bytes mid) (omega (arith, are.feeds)));
     }
 
 module _ {S : Type 0} (left : S → Option (List ℕ)) (end : S → Bool) where

@@ -4,6 +4,7 @@ use Rattle.std.specs.Prelude.{Bool, IfSome, option_map}
 use Rattle.std.proofs.Math.Seq.{take-append-add}
 use Rattle.std.proofs.lemmas.List.{drop-drop}
 use Rattle.bt_lines.proofs.ReaderLemmas.{given_drops, hands_none as none_handed, hands_both as both_handed, sound_near}
+use Rattle.bt_lines.proofs.TakingLemmas.{taken_below}
 use Rattle.bt_lines.proofs.TextLemmas.{bytes_in-drop, line_feeds-append, lines_are_numbered}
 use Rattle.bt_lines.specs.Fault.{Told, read_failed}
 use Rattle.bt_lines.specs.Lines.{TextLine, AreNumbered, bytes_in, lines_from}
@@ -91,10 +92,10 @@ module _ {S : Type 0} (left : S → Option (List ℕ)) (end : S → Bool) where
         (let same = gives.counted in let least = p.least in omega arith) (gives.near going)
 
     -- the line feeds among the bytes taken all end lines that were given
-    pub cut_fault : (fault : Told) → GivesFault left failed now fault new → fault_kept now ≡ None → fault ≡ read_failed (input_of now) (suc (lines_given now)) → IsSound left end old → CutsOff left old new
-    cut_fault fault gives going is sound =
+    pub cut_fault : (fault : Told) → GivesFault left failed now fault new → fault_kept now ≡ None → fault ≡ read_failed (input_of now) (suc (lines_given now)) → CutsOff left old new
+    cut_fault fault gives going is =
         let cut = gives.cut_off going is in
-        let within : bytes_taken now < 2 ^ 63 = (p.sound sound).within going in
+        let within : bytes_taken now < 2 ^ 63 = taken_below now going in
         let fed = p.bytes.1.fed (gives.before_end going) within in
         let counted = p.bytes.1.counted in
         let given = cut.given in

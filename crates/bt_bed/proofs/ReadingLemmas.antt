@@ -118,6 +118,7 @@ module _ {S A State : Type 0} (left : S → Option (List ℕ)) (failed end : S �
   pub fault_again : (old : MemberReader S A State) (fault : Told) → old.fault ≡ Some fault → old.buffered ≡ [] → AnswersFault left failed end old fault old
   fault_again old fault kept none = record {
     kept = kept;
+    was_none = none;
     none_buffered = none;
     state = refl;
     again = λ before was. (let both : Some fault ≡ Some before = sym kept ∙ was in cc, refl);
@@ -287,6 +288,7 @@ module _ {S A State : Type 0} (left : S → Option (List ℕ)) (failed end : S �
           rises = omega (arith, g.passed.least, gives.counted);
           going = gives.goes;
           served = gives.served ∙ g.served;
+          near = gives.near;
         }
 
     first_came : (a b : Option (List TextLine)) (line : TextLine) → GivesFirst a line b → IfSome a (λ lines. (rest : List TextLine) × (lines ≡ line ∷ rest))
@@ -307,12 +309,13 @@ module _ {S A State : Type 0} (left : S → Option (List ℕ)) (failed end : S �
         let counted : line.number ≡ lines_given new.below = gives.number ∙ sym gives.counted in
         let first = good_first now.format (input_of now.below) now.state line item (lines_left left now.below) (first_came (lines_left left now.below) (lines_left left new.below) line gives.first) says in
         let here : IfSome (good_coming left now) IsGood = rw (good_is now (g.rest ∙ gives.was_going.0)) (told_first _ (lines_given new.below) line.number item counted first) in
-        record { is = is; checked = inr (record { first = remains_if (good_coming left old) (good_coming left now) IsGood g.good here; rises = omega (arith, g.passed.least, gives.counted); going = gives.goes }); served = gives.served ∙ g.served }
+        record { is = is; checked = inr (record { first = remains_if (good_coming left old) (good_coming left now) IsGood g.good here; rises = omega (arith, g.passed.least, gives.counted); going = gives.goes; near = gives.near }); served = gives.served ∙ g.served }
 
     lost_by : (now new : MemberReader S A State) (line : TextLine) (fault : Told) → Going old now → LineCame left failed now.below line new.below → new.fault ≡ Some fault → new.buffered ≡ [] → Follows now new → (IsKept left end now.below → IsKept left end new.below)
         → Cause left failed end old fault new → AnswersFault left failed end old fault new
     lost_by now new line fault g gives kept ahead follows sound cause = record {
       kept = kept;
+      was_none = g.was_none;
       none_buffered = ahead;
       state = follows.state ∙ g.state;
       again = λ before was. absurd (let apart : None ≡ Some before = sym (was_faultless now g gives.was_going.0) ∙ was in cc);
@@ -365,6 +368,7 @@ module _ {S A State : Type 0} (left : S → Option (List ℕ)) (failed end : S �
         → AnswersFault left failed end old fault new
     going_unread now new fault g gives kept ahead follows track = record {
       kept = kept;
+      was_none = g.was_none;
       none_buffered = ahead;
       state = follows.state ∙ g.state;
       again = again_by now new fault g gives kept track g.begun;
@@ -394,6 +398,7 @@ module _ {S A State : Type 0} (left : S → Option (List ℕ)) (failed end : S �
         record {
           none_left = remains_if (good_coming left old) (good_coming left now) (λ good. good ≡ ends_with None) g.good none;
           none_comes = rw (good_is new (rest ∙ gives.goes)) (good_end new.format (input_of new.below) new.state (lines_left left new.below) gives.none_comes);
+          was_none = g.was_none;
           none_buffered = ahead;
           state = follows.state ∙ g.state;
           ends = gives.ends;

@@ -8,6 +8,8 @@ use Rattle.std.proofs.lemmas.Slice.Eq.{bytes_eq-Decides}
 use Rattle.bt_lines.specs.Lines.{AreNumbered, TextLine}
 use Rattle.bt_lines.specs.declared.fault.Input.{Input}
 use Rattle.bt_lines.specs.declared.fault.Kind.{Kind}
+use Rattle.bt_lines.specs.declared.fault.Kind.TheVariants.{OutOfOrder, UnknownChrom}
+use Rattle.bt_bed.proofs.GoodBedLemmas.{line_said}
 use Rattle.bt_bed.specs.Feature.{Feature}
 use Rattle.bt_bed.specs.Good.{Format, Good, Member, good_from}
 use Rattle.bt_bed.specs.GoodBed.{bed_format, in_order, line_says, locus_at, said_after}
@@ -69,7 +71,7 @@ placed_is_by name start (Err kind) r e = cc
 placed_is_by name start (Ok None) r e = cc
 placed_is_by name start (Ok (Some x)) r e = by (bytes_eq x.chrom name) (nat_lt x.start start) refl refl e
   where
-    by : (b d : Bool) → bytes_eq x.chrom name ≡ b → nat_lt x.start start ≡ d → cond b (cond d None (Some x)) None ≡ Some r → (Ok (Some x) ≡ Ok (Some r)) × (r.chrom ≡ name) × (start ≤ r.start)
+    by : (b d : Bool) → bytes_eq x.chrom name ≡ b → nat_lt x.start start ≡ d → cond b (cond d None (Some x)) None ≡ Some r → ◌≡◌ {A = Result (Option Feature) Kind} (Ok (Some x)) (Ok (Some r)) × (r.chrom ≡ name) × (start ≤ r.start)
     by false d p q h = cc
     by true true p q h = cc
     by true false p q h =
@@ -113,7 +115,7 @@ said_after_is sorting state (Err kind) r e = cc
 said_after_is sorting state (Ok None) r e = cc
 said_after_is sorting state (Ok (Some x)) r e = by (sorting.knows x.chrom) (falls_in sorting state (locus_at x)) e
   where
-    by : (b d : Bool) → cond b (cond d (Err _) (Ok (Some x))) (Err _) ≡ Ok (Some r) → Ok (Some x) ≡ Ok (Some r)
+    by : (b d : Bool) → ◌≡◌ {A = Result (Option Feature) Kind} (cond b (cond d (Err OutOfOrder) (Ok (Some x))) (Err UnknownChrom)) (Ok (Some r)) → ◌≡◌ {A = Result (Option Feature) Kind} (Ok (Some x)) (Ok (Some r))
     by false d h = cc
     by true true h = cc
     by true false h = h
@@ -215,3 +217,10 @@ order_is_said sorting state name start lines (r ∷ records) e o =
 pub order_behind : (sorting : Sorting) (state : Option Locus) (records more : List Feature) → are_in_order sorting state (records ++ more) ≡ true → are_in_order sorting (state_behind (bed_format sorting) state records) more ≡ true
 order_behind sorting state [] more o = o
 order_behind sorting state (r ∷ records) more o = order_behind sorting (Some (locus_at r)) records more (order_first sorting state r (records ++ more) o).2
+
+-- what is said, one record after another, is in order
+pub said_in_order : (sorting : Sorting) (state : Option Locus) (records : List Feature) → AreSaid (bed_format sorting) state records → are_in_order sorting state records ≡ true
+said_in_order sorting state [] said = refl
+said_in_order sorting state (r ∷ records) said =
+    let first = line_said sorting state said.0.0.text r said.0.1 in
+    rw (first.known, first.stays) (said_in_order sorting (Some (locus_at r)) records said.1)

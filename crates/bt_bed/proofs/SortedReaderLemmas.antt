@@ -1,5 +1,5 @@
 -- Lemmas on a reader of sorted records.
-use Rattle.std.proofs.Common.{◌≡◌, ℕ, zero, suc, ◌+◌, ◌-◌, ◌<◌, ◌≤◌, Bool, true, false, List, [], ◌∷◌, ◌++◌, length, take, drop, Option, Some, None, Ok, Err, refl, sym, ap, ◌∙◌, subst, arith, inl, inr, length-take, take-append-drop}
+use Rattle.std.proofs.Common.{◌≡◌, ℕ, suc, ◌+◌, ◌-◌, ◌<◌, ◌≤◌, Bool, true, false, List, [], ◌∷◌, ◌++◌, length, take, drop, Option, Some, None, Ok, Err, refl, sym, ap, ◌∙◌, subst, arith, inl, inr, length-take, take-append-drop}
 use Rattle.std.specs.Prelude.{◌⊎◌, if◌then◌else◌, IfSome, IsSome, IsTrue, is_some, option_map}
 use Rattle.std.specs.Option.{ForSome}
 use Rattle.std.proofs.lemmas.Bool.{false≢true}
@@ -11,17 +11,17 @@ use Rattle.bt_lines.specs.Names.{told}
 use Rattle.bt_lines.specs.Reader.{DropsLines, TakenLines, TakesLines, bytes_left, buffered_bytes, buffered_in as lines_buffered, end_told, fault_kept as line_fault, held, input_of, is_open, left_at, lines_given, lines_left, source_of}
 use Rattle.bt_lines.specs.declared.fault.Input.{Input}
 use Rattle.bt_lines.specs.declared.line_reader.LineReader.{LineReader}
-use Rattle.bt_bed.proofs.CameLemmas.{drops_pass, left_numbered}
+use Rattle.bt_bed.proofs.CameLemmas.{drops_pass, left_numbered, some_bytes}
 use Rattle.bt_bed.proofs.GoodBedLemmas.{line_said}
 use Rattle.bt_bed.proofs.NeighbourLemmas.{fits_above}
 use Rattle.bt_bed.proofs.RunLemmas.{placed_there, run_some}
-use Rattle.bt_bed.proofs.SaidRuns.{LinesSay, good_said, order_behind, order_is_said, place_behind, run_behind, run_is_said, run_says, said_fewer, say_fewer, say_front}
+use Rattle.bt_bed.proofs.SaidRuns.{LinesSay, good_said, order_behind, order_is_said, place_behind, run_behind, run_is_said, run_says, said_fewer, said_in_order, say_fewer, say_front}
 use Rattle.bt_bed.specs.Feature.{Feature}
-use Rattle.bt_bed.specs.Good.{Format, Good, good_from, or_else}
+use Rattle.bt_bed.specs.Good.{Format, Good, Member, good_from, or_else}
 use Rattle.bt_bed.specs.GoodBed.{bed_format, line_says, locus_at}
 use Rattle.bt_bed.specs.Locus.{Locus}
 use Rattle.bt_bed.specs.Neighbours.{HoldsChrom, LineTaken, MakesLast, last_in, name_in, start_in}
-use Rattle.bt_bed.specs.Reading.{AreSaid, MemberReader, Takes, good_behind, good_coming, members_from, state_behind, with_members}
+use Rattle.bt_bed.specs.Reading.{AreSaid, BeginsComing, MemberReader, Takes, good_behind, good_coming, members_from, state_behind, with_members}
 use Rattle.bt_bed.specs.Run.{is_some_left, last_start, run_of}
 use Rattle.bt_bed.specs.Sorting.{Sorting}
 use Rattle.bt_bed.specs.Ahead.{ahead_of}
@@ -63,6 +63,17 @@ say_all : {A State : Type 0} (format : Format A State) (state : State) (front : 
 say_all format state front items None e say = tt
 say_all format state front items (Some all) e say = say_front format state front all items e say
 
+-- items that lines say are the first of what is good
+begins_good : {A State : Type 0} (format : Format A State) (input : Input) (state : State) (number : ℕ) (items : List A) (a : Option (List TextLine)) → IfSome a (AreNumbered number) → IfSome a (λ all. LinesSay format state all items)
+    → IfSome (option_map (good_behind format input None state) a) (λ good. (rest : List (Member A)) × (good.members ≡ members_from number items ++ rest))
+begins_good format input state number items None n say = tt
+begins_good {A} {State} format input state number items (Some all) n say =
+    ((good_from format input (state_behind format state items) (drop (length items) all)).members, sym (ap (λ (good : Good A). good.members) (good_said format input number state all items n say)))
+
+begins_none : {A : Type 0} (good : Option (Good A)) (number : ℕ) (items : List A) → items ≡ [] → IfSome good (λ good. (rest : List (Member A)) × (good.members ≡ members_from number items ++ rest))
+begins_none None number items none = tt
+begins_none {A} (Some good) number items none = (good.members, ap (λ (l : List A). members_from number l ++ good.members) (sym none))
+
 cond_left : (b : Bool) (run more : List Feature) → b ≡ is_some_left more → run ≡ more → (if b then run else []) ≡ more
 cond_left true run more e same = same
 cond_left false run [] e same = refl
@@ -82,10 +93,6 @@ some_taken n (r ∷ records) some within =
       ap (λ l. r ∷ l) (sym (take-append-drop (n - 1) records)) ∙ ap (λ k. r ∷ (take (n - 1) records ++ drop k (r ∷ records))) (sym less),
       omega (arith, less, length-take (n - 1) records, within),
     )
-
-some_bytes : (n : ℕ) (bytes : List ℕ) → 0 < line_feeds (take n bytes) → 0 < n
-some_bytes zero bytes some = absurd (omega (arith, some))
-some_bytes (suc n) bytes some = omega arith
 
 -- a record that is said lies on a known chromosome
 knows_said : (sorting : Sorting) (state : Option Locus) (text : List ℕ) (r : Feature) → line_says sorting state text ≡ Ok (Some r) → IsTrue (sorting.knows r.chrom)
@@ -118,6 +125,7 @@ module _ {S Q : Type 0} (left : S → Option (List ℕ)) (end : S → Bool) (sor
 
   -- the lines that are buffered then
   lines_then : lines_buffered reader ≡ drop n (lines_buffered old.reader)
+  unfolding buffered_bytes is_open lines_given
   lines_then =
       ap (λ o. buffered_lines o (lines_given reader) (buffered_bytes reader)) takes.open_is
       ∙ ap (λ k. buffered_lines (is_open old.reader) k (buffered_bytes reader)) takes.given
@@ -225,6 +233,32 @@ module _ {S Q : Type 0} (left : S → Option (List ℕ)) (end : S → Bool) (sor
   pub was_ahead : old.is_ahead ≡ true
   was_ahead = was.0
 
+-- the records that are buffered are the first of those still to come
+module _ {S Q : Type 0} (left : S → Option (List ℕ)) (end : S → Bool) (sorting : Sorting) (sorted : SortedReader S Q) (placed : IsPlaced sorting (view_in sorting sorted)) where
+  some_comes : (r : Feature) (more : List Feature) → buffered_in sorted ≡ r ∷ more → BeginsComing left (view_in sorting sorted)
+  unfolding good_coming view_with buffered_in
+  some_comes r more e =
+      let format = bed_format sorting in
+      let reader = sorted.reader in
+      let state = last_in sorted.neighbours in
+      let run = is_ahead_by sorted.is_ahead (run_of (name_in sorted.neighbours) (start_in sorted.neighbours) (lines_buffered reader)) r more e in
+      let is : run_of (name_in sorted.neighbours) (start_in sorted.neighbours) (lines_buffered reader) ≡ buffered_in sorted = run.1 ∙ sym e in
+      let said = order_is_said sorting state (name_in sorted.neighbours) (start_in sorted.neighbours) (lines_buffered reader) (buffered_in sorted) is placed.in_order in
+      let say = run_says sorting state (name_in sorted.neighbours) (start_in sorted.neighbours) (lines_buffered reader) (buffered_in sorted) is said in
+      let all = say_all format state (lines_buffered reader) (buffered_in sorted) (lines_left left reader) (is_prefix left reader) say in
+      subst (λ own. IfSome (option_map (good_behind format (input_of reader) own state) (lines_left left reader))
+          (λ good. (rest : List (Member Feature)) × (good.members ≡ members_from (suc (lines_given reader)) (buffered_in sorted) ++ rest)))
+      (sym (placed.going (ap is_some_left e)))
+      (begins_good format (input_of reader) state (suc (lines_given reader)) (buffered_in sorted) (lines_left left reader) (left_numbered left end reader) all)
+
+  comes_by : (items : List Feature) → buffered_in sorted ≡ items → BeginsComing left (view_in sorting sorted)
+  unfolding view_with
+  comes_by [] e = begins_none (good_coming left (view_in sorting sorted)) (suc (lines_given sorted.reader)) (buffered_in sorted) e
+  comes_by (r ∷ more) e = some_comes r more e
+
+  pub sorted_comes : BeginsComing left (view_in sorting sorted)
+  sorted_comes = comes_by (buffered_in sorted) refl
+
 -- a line that says a record which fits begins the records that are buffered then
 module _ {Q : Type 0} (sorting : Sorting) (old new : Neighbours Q) (line : TextLine) (more : List TextLine) (r : Feature) (says : line_says sorting (last_in old) line.text ≡ Ok (Some r)) (holds : HoldsChrom old r.chrom new) where
   pub found_run : run_of (name_in new) (start_in new) (line ∷ more) ≡ r ∷ run_of (name_in new) r.start more
@@ -244,8 +278,9 @@ module _ {Q : Type 0} (sorting : Sorting) (old new : Neighbours Q) (line : TextL
   pub found_buffered : (lines : List TextLine) → lines ≡ line ∷ more → run_of (name_in new) (start_in new) lines ≡ r ∷ run_of (name_in new) r.start more
   found_buffered lines e = ap (run_of (name_in new) (start_in new)) e ∙ found_run
 
-  pub found_all_said : (lines : List TextLine) → lines ≡ line ∷ more → AreSaid (bed_format sorting) (last_in old) (run_of (name_in new) (start_in new) lines)
-  found_all_said lines e = subst (λ l. AreSaid (bed_format sorting) (last_in old) (run_of (name_in new) (start_in new) l)) (sym e) found_said
+  pub found_in_order : (lines : List TextLine) → lines ≡ line ∷ more → are_in_order sorting (last_in old) (run_of (name_in new) (start_in new) lines) ≡ true
+  found_in_order lines e =
+      ap (λ l. are_in_order sorting (last_in old) (run_of (name_in new) (start_in new) l)) e ∙ said_in_order sorting (last_in old) (run_of (name_in new) (start_in new) (line ∷ more)) found_said
 
   pub found_some : (lines : List TextLine) → lines ≡ line ∷ more → is_some_left (run_of (name_in new) (start_in new) lines) ≡ true
   found_some lines e = ap is_some_left (found_buffered lines e)

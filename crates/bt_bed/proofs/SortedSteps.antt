@@ -1,20 +1,22 @@
 -- Lemmas on how a reader of sorted records reads on.
-use Rattle.std.proofs.Common.{◌≡◌, ℕ, suc, ◌+◌, ◌<◌, Bool, true, false, List, [], ◌∷◌, length, Option, Some, None, Ok, Err, refl, sym, ap, ◌∙◌, subst, inl, inr}
+use Rattle.std.proofs.Common.{◌≡◌, ℕ, suc, ◌+◌, ◌<◌, Bool, true, false, List, [], ◌∷◌, length, Option, Some, None, Result, Ok, Err, refl, sym, ap, ◌∙◌, subst, inl, inr}
 use Rattle.std.specs.Prelude.{◌⊎◌, option_map}
 use Rattle.bt_lines.specs.Fault.{Told}
 use Rattle.bt_lines.specs.Lines.{TextLine}
 use Rattle.bt_lines.specs.Names.{told}
-use Rattle.bt_lines.specs.Reader.{GivesEnd, GivesFault, IsKept, MakesLine, buffered_bytes, buffered_in as lines_buffered, fault_kept as line_fault, input_of, lines_given}
+use Rattle.bt_lines.specs.Reader.{GivesEnd, GivesFault, HasRead, IsKept, MakesLine, buffered_bytes, buffered_in as lines_buffered, bytes_taken, fault_kept as line_fault, input_of, lines_given, source_of}
 use Rattle.bt_lines.specs.declared.fault.Fault.{Fault}
 use Rattle.bt_lines.specs.declared.fault.Place.{Place}
 use Rattle.bt_lines.specs.declared.line_reader.LineReader.{LineReader}
 use Rattle.bt_bed.proofs.CameLemmas.{LineCame, line_came}
 use Rattle.bt_bed.proofs.NeighbourLemmas.{says_of_line}
+use Rattle.bt_bed.proofs.OwnFailureLemmas.{lost_is_own}
 use Rattle.bt_bed.proofs.ReadingLemmas.{Follows, Going, fault_again, gives_again, going_end, going_member, going_more, going_start, going_unkept, going_unread, going_wrong}
 use Rattle.bt_bed.proofs.SaidLemmas.{bed_of_line}
 use Rattle.bt_bed.proofs.FirstColumnLemmas.{said_record_name}
 use Rattle.bt_bed.proofs.SaidRuns.{FirstOfRun, first_of_run, order_is_said, says_again}
 use Rattle.bt_bed.proofs.SortedReaderLemmas.{is_ahead_by}
+use Rattle.bt_lines.proofs.ReadsLemmas.{counts_none, has_read_then, reads_same}
 use Rattle.bt_lines.proofs.TakingLemmas.{next_bytes, next_number}
 use Rattle.std.proofs.lemmas.Bool.{false≢true}
 use Rattle.bt_bed.specs.Feature.{Feature}
@@ -25,10 +27,10 @@ use Rattle.bt_bed.specs.Locus.{Locus}
 use Rattle.bt_bed.specs.Neighbours.{KeepsLast, LineUnkept, LineWrong, last_in, name_in, start_in}
 use Rattle.bt_bed.specs.FirstColumns.{IsRecordName}
 use Rattle.bt_bed.specs.Run.{is_some_left, run_of}
-use Rattle.bt_bed.specs.Reading.{AnswersFault, AreSaid, Fills, MemberReader}
+use Rattle.bt_bed.specs.Reading.{AnswersFault, AreSaid, Fills, MemberReader, TellsOwnFailure}
 use Rattle.bt_bed.specs.Sorting.{Sorting}
 use Rattle.bt_bed.specs.Ahead.{ahead_of}
-use Rattle.bt_bed.specs.SortedReader.{FindsRecord, IsPlaced, LosesLine, SkipsLine, TakesOne, are_in_order, buffered_in, view_in, view_with}
+use Rattle.bt_bed.specs.SortedReader.{FindsRecord, IsPlaced, LosesLine, SkipsLine, TakesFirst, TakesOne, are_in_order, buffered_in, view_in, view_with}
 use Rattle.bt_bed.specs.declared.neighbours.Neighbours.{Neighbours}
 use Rattle.bt_bed.specs.declared.sorted_reader.SortedReader.{SortedReader}
 
@@ -135,11 +137,60 @@ module _ {S Q : Type 0} (left : S → Option (List ℕ)) (failed end : S → Boo
       kept = λ was. kept (g.passed.kept was);
     }
 
+-- where a line was taken, nothing more was read
+read_on : {S : Type 0} (left : S → Option (List ℕ)) (end : S → Bool) (IsRead : S → Option ℕ → S → Type 0) (old mid new : LineReader S) → HasRead IsRead old mid → TakesOne left end mid new → HasRead IsRead old new
+read_on left end IsRead old mid new read one = has_read_then IsRead old mid new read (counts_none IsRead (source_of mid) (source_of new) (bytes_taken mid) (bytes_taken new) one.takes.source_is one.takes.taken_is)
+
+-- where no record is known to be ahead, none is buffered
+pub none_buffered : {S Q : Type 0} (sorted : SortedReader S Q) → sorted.is_ahead ≡ false → buffered_in sorted ≡ []
+unfolding buffered_in
+none_buffered sorted none = rw none refl
+
+module _ {S Q : Type 0} (left : S → Option (List ℕ)) (failed end : S → Bool) (sorting : Sorting) where
+  -- a reader with no fault of its own and no record buffered
+  pub view_before : (sorted : SortedReader S Q) → sorted.is_ahead ≡ false → sorted.fault ≡ None → view_in sorting sorted ≡ view_with sorting None sorted.reader sorted.neighbours []
+  view_before sorted none going =
+      ap (λ own. view_with sorting (option_map told own) sorted.reader sorted.neighbours (buffered_in sorted)) going
+      ∙ ap (view_with sorting None sorted.reader sorted.neighbours) (none_buffered sorted none)
+
+  -- the next line, which was made buffered, was taken
+  module _ {mid new : SortedReader S Q} (rules : Sorting) (same : rules ≡ sorting) where
+    there : (answer : Result Bool Fault) → TakesFirst left end rules mid answer new → TakesFirst left end sorting mid answer new
+    there answer taken = subst (λ s. TakesFirst left end s mid answer new) same taken
+
+    module _ (old : MemberReader S Feature (Option Locus)) (now : LineReader S) (makes : MakesLine left failed now mid.reader) (kept : IsKept left end now → IsKept left end mid.reader) (g : Going left failed end old (view_with sorting None now mid.neighbours [])) where
+      pub taken_record : TakesFirst left end rules mid (Ok true) new → Fills left failed end old (Ok true) (view_with sorting None new.reader new.neighbours (buffered_in new))
+      taken_record taken =
+          let first = there (Ok true) taken in
+          sorted_record left failed end sorting old now mid new makes kept g first.line first.more first.first first.keeps first.takes
+
+      pub taken_nothing : TakesFirst left end rules mid (Ok false) new → Going left failed end old (view_with sorting None new.reader new.neighbours [])
+      taken_nothing taken =
+          let first = there (Ok false) taken in
+          sorted_more left failed end sorting old now mid new makes kept g first.line first.more first.first first.keeps first.takes
+
+      pub taken_fault : (fault : Fault) → TakesFirst left end rules mid (Err fault) new → Fills left failed end old (Err fault) (view_with sorting (Some (told fault)) new.reader new.neighbours (buffered_in new))
+      taken_fault fault taken =
+          let first = there (Err fault) taken in
+          rw (none_buffered new first.takes.none) (sorted_lost left failed end sorting old now mid new makes kept g first.line first.more first.first first.keeps fault first.takes)
+
+  -- what was read until then
+  module _ {mid new : SortedReader S Q} (rules : Sorting) (IsRead : S → Option ℕ → S → Type 0) (old : LineReader S) (read : HasRead IsRead old mid.reader) where
+
+    pub read_record : TakesFirst left end rules mid (Ok true) new → HasRead IsRead old new.reader
+    read_record taken = has_read_then IsRead old mid.reader new.reader read (reads_same IsRead mid.reader new.reader taken.takes.same)
+
+    pub read_nothing : TakesFirst left end rules mid (Ok false) new → HasRead IsRead old new.reader
+    read_nothing taken = read_on left end IsRead old mid.reader new.reader read taken.takes.takes
+
+    pub read_fault : (before : Option Told) (fault : Fault) → TakesFirst left end rules mid (Err fault) new → TellsOwnFailure {T = Bool} IsRead before old (Err fault) new.reader
+    read_fault before fault taken = lost_is_own Bool IsRead before old new.reader fault (read_on left end IsRead old mid.reader new.reader read taken.takes.takes) rules (record { input = input_of mid.reader; line = taken.line.number }) taken.line.text mid.neighbours taken.takes.cause
+
 some_parts : (records : List Feature) → is_some_left records ≡ true → (r : Feature) × (more : List Feature) × (records ≡ r ∷ more)
 some_parts [] e = absurd (false≢true e)
 some_parts (r ∷ more) e = (r, more, refl)
 
-module _ {S Q : Type 0} (left : S → Option (List ℕ)) (failed end : S → Bool) (sorting : Sorting) (sorted : SortedReader S Q) (placed : IsPlaced sorting (view_in sorting sorted)) (some : sorted.is_ahead ≡ true) where
+module _ {S Q : Type 0} (sorted : SortedReader S Q) (some : sorted.is_ahead ≡ true) where
   parts : (r : Feature) × (more : List Feature) × (buffered_in sorted ≡ r ∷ more)
   unfolding buffered_in
   parts = some_parts (ahead_of sorted.is_ahead sorted.reader sorted.neighbours) (sorted.ahead some)
@@ -151,24 +202,25 @@ module _ {S Q : Type 0} (left : S → Option (List ℕ)) (failed end : S → Boo
   first_is : FirstOfRun (name_in sorted.neighbours) (start_in sorted.neighbours) (lines_buffered sorted.reader) parts.0 parts.1
   first_is = first_of_run (name_in sorted.neighbours) (start_in sorted.neighbours) (lines_buffered sorted.reader) parts.0 parts.1 run_is
 
-  said_first : AreSaid (bed_format sorting) (last_in sorted.neighbours) (parts.0 ∷ parts.1)
-  unfolding view_with
-  said_first = order_is_said sorting (last_in sorted.neighbours) (name_in sorted.neighbours) (start_in sorted.neighbours) (lines_buffered sorted.reader) (parts.0 ∷ parts.1) run_is (ap (are_in_order sorting (last_in sorted.neighbours)) (sym parts.2) ∙ placed.in_order)
-
   -- the chromosome of what is buffered has a record's name
   pub name_is_record : IsRecordName (name_in sorted.neighbours)
   name_is_record = subst IsRecordName first_is.chrom (said_record_name first_is.line.text parts.0 (sym first_is.says))
 
-  -- the record ahead is given again
-  pub sorted_again : Fills left failed end (view_in sorting sorted) (Ok true) (view_in sorting sorted)
-  unfolding view_with
-  sorted_again =
-      let says = says_again sorting (last_in sorted.neighbours) first_is.line.text said_first.0.0.text parts.0 said_first.0.1 first_is.says in
-      record {
-        answers = record {
-          m = record { line = first_is.line.number; item = parts.0 };
-          gives = gives_again left failed end (view_in sorting sorted) first_is.line first_is.more parts.0 parts.1 (placed.going (ap is_some_left parts.2))
-              (next_bytes sorted.reader first_is.line first_is.more first_is.lines_are) first_is.lines_are (next_number sorted.reader first_is.line first_is.more first_is.lines_are) says parts.2;
-        };
-        kept = λ was. was;
-      }
+  module _ (left : S → Option (List ℕ)) (failed end : S → Bool) (sorting : Sorting) (placed : IsPlaced sorting (view_in sorting sorted)) where
+    said_first : AreSaid (bed_format sorting) (last_in sorted.neighbours) (parts.0 ∷ parts.1)
+    unfolding view_with
+    said_first = order_is_said sorting (last_in sorted.neighbours) (name_in sorted.neighbours) (start_in sorted.neighbours) (lines_buffered sorted.reader) (parts.0 ∷ parts.1) run_is (ap (are_in_order sorting (last_in sorted.neighbours)) (sym parts.2) ∙ placed.in_order)
+
+    -- the record ahead is given again
+    pub sorted_again : Fills left failed end (view_in sorting sorted) (Ok true) (view_in sorting sorted)
+    unfolding view_with
+    sorted_again =
+        let says = says_again sorting (last_in sorted.neighbours) first_is.line.text said_first.0.0.text parts.0 said_first.0.1 first_is.says in
+        record {
+          answers = record {
+            m = record { line = first_is.line.number; item = parts.0 };
+            gives = gives_again left failed end (view_in sorting sorted) first_is.line first_is.more parts.0 parts.1 (placed.going (ap is_some_left parts.2))
+                (next_bytes sorted.reader first_is.line first_is.more first_is.lines_are) first_is.lines_are (next_number sorted.reader first_is.line first_is.more first_is.lines_are) says parts.2;
+          };
+          kept = λ was. was;
+        }

@@ -324,7 +324,7 @@ module _ {S : Type 0} (left : S → Option (List ℕ)) (failed end : S → Bool)
       is = fails.is ∙ ap (λ i. read_failed i (suc (lines_given now))) (same_input now genome g) ∙ ap (λ n. read_failed (input_of old) (suc n)) (sym gives.counted);
       cause = fails.cause;
       before_end = not_told (end_told old) (end_told now) g.passed.bytes.1.told_stays (gives.before_end going);
-      cut = cut_fault left end failed old now new g.passed fault gives going fails.is;
+      cut = λ kept. cut_fault left end failed old now new g.passed fault gives going fails.is;
     };
     passed = rw gives.counted (given_entries (input_of old) (lines_left left old) (lines_left left now) (lines_given old) (lines_given now) (entries genome) g.continues);
   }))

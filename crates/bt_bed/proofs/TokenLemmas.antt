@@ -1,5 +1,6 @@
 -- What was consumed of a batch that a reader lent is a token that it takes.
-use Rattle.std.proofs.Common.{◌≡◌, ℕ, ◌+◌, ◌-◌, ◌≤◌, Bool, true, false, List, [], ◌∷◌, ◌++◌, length, take, drop, refl, sym, ap, ◌∙◌, subst, arith, length-append, length-take}
+use Rattle.std.proofs.Common.{◌≡◌, ℕ, ◌+◌, ◌-◌, ◌≤◌, Bool, true, false, List, [], ◌∷◌, ◌++◌, Option, Some, None, length, take, drop, refl, sym, ap, ◌∙◌, subst, arith, length-append, length-take}
+use Rattle.std.specs.Prelude.{IfNone, IfSome}
 use Rattle.std.proofs.Math.Seq.{take-append_seam}
 use Rattle.std.proofs.lemmas.Bool.{false≢true}
 use Rattle.std.proofs.lemmas.List.{drop_at, length-drop}
@@ -11,10 +12,12 @@ use Rattle.bt_lines.specs.declared.buffered_lines.BufferedLines.{BufferedLines}
 use Rattle.bt_bed.specs.Batch.{IsWhere, Passes, cursor_in, left, start_in}
 use Rattle.bt_bed.specs.Feature.{Feature}
 use Rattle.bt_bed.specs.Neighbours.{start_in as start_of}
+use Rattle.bt_bed.specs.RawRecord.{record_in}
 use Rattle.bt_bed.specs.Run.{is_some_left, last_start}
 use Rattle.bt_bed.specs.SortedReader.{IsTaken, Lends, buffered_in, count_in}
 use Rattle.bt_bed.specs.declared.batch.Batch.{Batch}
 use Rattle.bt_bed.specs.declared.batch.Consumed.{Consumed}
+use Rattle.bt_bed.specs.declared.raw_record.RawRecord.{RawRecord}
 use Rattle.bt_bed.specs.declared.sorted_reader.SortedReader.{SortedReader}
 
 none_before : (xs ys : List Feature) → [] ≡ xs ++ ys → xs ≡ []
@@ -31,6 +34,12 @@ unfolding rest_in
 same_place first last p =
     let gone : take (last.at - first.at) (rest_in first) ≡ [] = fed_none (take (last.at - first.at) (rest_in first)) p.fed p.feeds in
     omega (arith, ap length gone, length-take (last.at - first.at) (rest_in first), length-drop first.at first.all.now, last.within, ap (λ a. length a.now) p.all_is, p.rises)
+
+-- where a record is buffered, the next one of the batch is some
+pub one_given : {S Q : Type 0} (sorted : SortedReader S Q) (first last : Batch) (next : Option RawRecord) (r : Feature) (more : List Feature) → buffered_in sorted ≡ r ∷ more → Lends sorted first
+    → IfSome next (λ raw. Passes first (record_in raw ∷ []) last) → IfNone next (left first ≡ []) → (one : Feature) × Passes first (one ∷ []) last
+one_given sorted first last (Some raw) r more is lends some none = (record_in raw, some)
+one_given sorted first last None r more is lends some none = absurd (let gone : [] ≡ r ∷ more = sym none ∙ lends.left_is ∙ is in cc)
 
 module _ {S Q : Type 0} (sorted : SortedReader S Q) (first last : Batch) (records : List Feature) (consumed : Consumed) (lends : Lends sorted first) (passes : Passes first records last) (is : IsWhere last consumed) where
   all_is : buffered_in sorted ≡ records ++ left last

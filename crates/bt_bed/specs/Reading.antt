@@ -117,6 +117,11 @@ module _ {S A State : Type 0} where
       (good_behind reader.format (input_of reader.below) reader.fault reader.state)
       (lines_left left reader.below)
 
+  -- the members that are buffered are the first of those still to come
+  abbrev pub BeginsComing : (S → Option (List ℕ)) → MemberReader S A State → Type 0
+  BeginsComing left reader = IfSome (good_coming left reader) (λ good. (rest : List (Member A))
+      × (good.members ≡ members_from (suc (lines_given reader.below)) reader.buffered ++ rest))
+
   -- how many bytes may still come: it never rises, and falls with each member taken
   abbrev pub room : MemberReader S A State → ℕ
   room reader = line_room reader.below
@@ -158,6 +163,7 @@ module _ {S A State : Type 0} where
       (old new : MemberReader S A State) : Type 0 where
     pub none_left : IfSome (good_coming left old) (λ good. good ≡ ends_with None)
     pub none_comes : IfSome (good_coming left new) (λ good. good ≡ ends_with None)
+    pub was_none : old.buffered ≡ []
     pub none_buffered : new.buffered ≡ []
     pub state : new.state ≡ old.state
     pub ends : has_ended new.below ≡ true
@@ -188,6 +194,8 @@ module _ {S A State : Type 0} where
     pub rises : lines_given old.below < lines_given new.below
     pub going : line_fault new.below ≡ None
     pub served : failed (source_of new.below) ≡ failed (source_of old.below)
+    -- after it at most a block is held
+    pub near : length (held new.below) ≤ block_size
 
   -- the lines that were given said nothing: what was still to come lies behind them
   abbrev pub SaidNothing : (S → Option (List ℕ)) → MemberReader S A State → MemberReader S A State
@@ -207,6 +215,8 @@ module _ {S A State : Type 0} where
         × (good.members ≡ record { line = lines_given new.below; item = item } ∷ rest))
     pub rises : lines_given old.below < lines_given new.below
     pub going : line_fault new.below ≡ None
+    -- after it at most a block is held
+    pub near : length (held new.below) ≤ block_size
 
   -- memory ran out: for a line that couldn't be read, once those before it were checked, or for the
   -- member of the last line given, once it was
@@ -228,6 +238,7 @@ module _ {S A State : Type 0} where
   pub record AnswersFault (left : S → Option (List ℕ)) (failed end : S → Bool)
       (old : MemberReader S A State) (fault : Told) (new : MemberReader S A State) : Type 0 where
     pub kept : new.fault ≡ Some fault
+    pub was_none : old.buffered ≡ []
     pub none_buffered : new.buffered ≡ []
     pub state : new.state ≡ old.state
     -- a fault is answered again, and nothing is read

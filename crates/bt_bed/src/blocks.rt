@@ -29,7 +29,8 @@ impl<S: Source> Blocks<S> {
     ghost use Rattle.std.specs.Io.BufRead.{Rests};
     ghost use Rattle.bt_lines.specs.Reader.{fault_kept as line_fault, input_of, lines_left};
     ghost use Rattle.bt_bed.specs.contracts.blocks.Blocks.{the_row};
-    ghost use Rattle.bt_bed.specs.Blocks.{FillsBlocks, IsTaken, Lends, PassesBlocks, PeeksBlocks, TakesBlocks, below, buffered_in, count_in, fault_kept, good_left, last_locus, line_ahead};
+    ghost use Rattle.bt_bed.specs.Reading.{BeginsComing};
+    ghost use Rattle.bt_bed.specs.Blocks.{FillsBlocks, IsTaken, Lends, PassesBlocks, PeeksBlocks, TakesBlocks, below, buffered_in, count_in, fault_kept, good_left, last_locus, line_ahead, view_of};
     ghost use Rattle.bt_bed.specs.Good.{good};
     ghost use Rattle.bt_bed.specs.GoodBlocks.{block_format};
 
@@ -60,7 +61,8 @@ impl<S: Source> Blocks<S> {
 
     /// The records that are buffered, on the chromosome of the first of them.
     pub fn buffered(&self) -> Batch<'_>
-        ensures { Lends self.now result }
+        ensures lends { Lends self.now result }
+        ensures comes { BeginsComing S.left (view_of self.now) }
     {
         self.sorted.buffered()
     }

@@ -478,6 +478,19 @@ pub given_below : {S : Type 0} (reader : LineReader S) → lines_given reader < 
 unfolding lines_given
 given_below reader = omega (arith, reader.a_byte_each, reader.counted)
 
+taken_by : (state : State) (input : Input) (lines taken : ℕ) → taken < 2 ^ 63 → fault_at state input lines ≡ None → taken_at state taken < 2 ^ 63
+taken_by Reading input lines taken below going = below
+taken_by LastLine input lines taken below going = below
+taken_by Ended input lines taken below going = below
+taken_by ReadFailed input lines taken below going = cc
+taken_by TooLong input lines taken below going = cc
+taken_by NoMemory input lines taken below going = cc
+
+-- without a fault, fewer than 2^63 bytes were taken
+pub taken_below : {S : Type 0} (reader : LineReader S) → fault_kept reader ≡ None → bytes_taken reader < 2 ^ 63
+unfolding fault_kept bytes_taken
+taken_below reader going = taken_by reader.state reader.input reader.lines reader.taken reader.counted going
+
 -- ---- the number of the next line
 
 head_number : (n k : ℕ) (all : List TextLine) (line : TextLine) (more : List TextLine) → AreNumbered n all → take k all ≡ line ∷ more → line.number ≡ n
@@ -506,3 +519,19 @@ some_bytes_by (x ∷ xs) b given line more e = omega arith
 
 pub next_bytes : {S : Type 0} (reader : LineReader S) (line : TextLine) (more : List TextLine) → buffered_in reader ≡ line ∷ more → 0 < length (buffered_bytes reader)
 next_bytes reader line more e = some_bytes_by (buffered_bytes reader) (is_open reader) (lines_given reader) line more e
+
+-- and where bytes are, one is
+none_buffered : (b : Bool) (given : ℕ) (bytes : List ℕ) → is_fed bytes ≡ true → (b ≡ true → nat_eq (length bytes) 1 ≡ false) → buffered_lines b given bytes ≡ [] → length bytes ≡ 0
+none_buffered false given bytes fed two none = ap length (fed_none bytes fed (sym (whole_count (suc given) bytes) ∙ ap length none))
+none_buffered true given bytes fed two none =
+    let few : length bytes ≤ 1 = omega (arith, ap bytes_in none, bytes_in-lines (suc given) (take (length bytes - 1) bytes), length-take (length bytes - 1) bytes) in
+    none_of (length bytes) few (two refl)
+  where
+    none_of : (n : ℕ) → n ≤ 1 → nat_eq n 1 ≡ false → n ≡ 0
+    none_of n few two = grind (arith, nat_tests)
+
+pub some_buffered : {S : Type 0} (reader : LineReader S) → 0 < length (buffered_bytes reader) → buffered_in reader ≡ [] → ⊥
+unfolding buffered_bytes is_open
+some_buffered reader some none =
+    let gone : length (complete reader.buffer) ≡ 0 = none_buffered (open_at reader.state) (lines_given reader) (complete reader.buffer) (are_fed reader.buffer).fed reader.last.some none in
+    omega (arith, some, gone)

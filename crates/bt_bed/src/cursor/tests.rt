@@ -7,8 +7,8 @@ use crate::strand::Strand;
 use bt_lines::{Input, LineReader, ScriptSource};
 use std::test::Fail;
 
-// Whether the next record lies on chromosome `chr1` and has these bounds and this strand, and is written with this name.
-fn is_next<C: Cursor>(records: &mut C, bounds: (u64, u64), strand: Strand, rest: &[u8]) -> bool {
+// Consumes the next record: whether it lies on chromosome `chr1`, with these bounds and this strand, and is written with this name.
+fn gives_next<C: Cursor>(records: &mut C, bounds: (u64, u64), strand: Strand, rest: &[u8]) -> bool {
     let on = records.chrom() == b"chr1".as_slice();
     match records.next() {
         None => false,
@@ -27,7 +27,7 @@ fn a_single_record_is_given_once(rt: HostRuntime) -> Result<(), Fail> {
         return Err("a record".into());
     };
     let mut one = Single::new(bed, 3);
-    assert!(rt; is_next(&mut one, (2, 4), Strand::Minus, b"\tn\t0\t-"));
+    assert!(rt; gives_next(&mut one, (2, 4), Strand::Minus, b"\tn\t0\t-"));
     assert!(rt; one.next().is_none());
     Ok(())
 }
@@ -46,9 +46,9 @@ fn buffered_records_are_given_in_order(rt: HostRuntime) -> Result<(), Fail> {
         return Err("a record".into());
     }
     let mut batch = records.buffered();
-    let are_given = is_next(&mut batch, (1, 5), Strand::Dot, b"")
-        && is_next(&mut batch, (2, 4), Strand::Minus, b"\tn\t0\t-")
-        && is_next(&mut batch, (3, 9), Strand::Dot, b"")
+    let are_given = gives_next(&mut batch, (1, 5), Strand::Dot, b"")
+        && gives_next(&mut batch, (2, 4), Strand::Minus, b"\tn\t0\t-")
+        && gives_next(&mut batch, (3, 9), Strand::Dot, b"")
         && Cursor::line(&batch) == 3
         && Cursor::next(&mut batch).is_none();
     let _ = records.into_reader().into_source();
