@@ -7,6 +7,7 @@ pub mod FeedLemmas
 pub mod FractionLemmas
 pub mod PassedLemmas
 pub mod MemberLemmas
+pub mod CursorLemmas
 pub mod LineMembers
 pub mod MaskedLemmas
 pub mod MaskFacts
