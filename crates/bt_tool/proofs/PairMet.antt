@@ -264,7 +264,7 @@ module _ {A B X Y U V : Type 0} (making : Making X Y) (pair : Pair A B X Y U V) 
             (is.0, is.1, second_whole (Some other) two came serves MayBe second_may, sees.0, λ e. (sees.1 e).0)
         | inr unread ↦
             let is = came_cut pair.b_left pair.b_failed pair.b_end second_format Second two_before pair.second begins_second second two_after ended_second past other two came unread in
-            let k = seen_in (good_coming pair.b_left pair.second) past w.wrote.seen (lines_given second.below) (known_two (Some other) two came) unread.members w.wrote.second_begins w.wrote.low in
+            let k = seen_in (good_coming pair.b_left pair.second) past w.wrote.seen (lines_given second.below) (known_two (Some other) two came) unread.members w.wrote.second_begins (w.wrote.low (subst IsSome (sym unread.kept) refl)) in
             let may : MayCome (member_items w.wrote.seen) w.wrote.ended (member_items past) (Some other) = record {
               begins = (member_items k.0, ap member_items k.1 ∙ map-append (λ m. m.item) w.wrote.seen k.0);
               all = λ e. absurd (fails.before_end e (input_of pair.second.below) (suc (lines_given second.below)) unread.is);

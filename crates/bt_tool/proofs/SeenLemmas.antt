@@ -1,8 +1,7 @@
 -- Lemmas on the members that were seen and on the lines that were put, where a run stops.
-use Rattle.std.proofs.Common.{◌≡◌, ℕ, ◌≤◌, List, [], ◌∷◌, ◌++◌, Option, None, Some, refl, sym, ap, ◌∙◌, subst, append-nil, append_assoc, option_to_list}
-use Rattle.std.specs.Prelude.{All, IfSome, IsSome, option_map}
+use Rattle.std.proofs.Common.{◌≡◌, ℕ, List, [], ◌∷◌, ◌++◌, Option, None, Some, refl, sym, ap, ◌∙◌, subst, append-nil, append_assoc, option_to_list}
+use Rattle.std.specs.Prelude.{IfSome, IsSome, option_map}
 use Rattle.std.proofs.lemmas.List.{map-append}
-use Rattle.std.proofs.lemmas.List.Elements.{All-push}
 use Rattle.bt_lines.specs.Fault.{Told}
 use Rattle.bt_lines.specs.Output.{Output}
 use Rattle.bt_lines.specs.Putting.{FailsToAdd}
@@ -34,10 +33,6 @@ if_known (Some x) P h = h refl
 pub seen_items : {A : Type 0} (past : List (Member A)) (o : Option (Member A)) → member_items (past ++ option_to_list o) ≡ member_items past ++ option_to_list (option_map (λ m. m.item) o)
 seen_items past None = map-append (λ m. m.item) past []
 seen_items past (Some m) = map-append (λ m. m.item) past (m ∷ [])
-
-pub seen_low : {A : Type 0} (past : List (Member A)) (o : Option (Member A)) (count : ℕ) → All (λ m. m.line ≤ count) past → IfSome o (λ m. m.line ≤ count) → All (λ m. m.line ≤ count) (past ++ option_to_list o)
-seen_low {A} past None count up low = subst (All (λ (m : Member A). m.line ≤ count)) (sym (append-nil past)) up
-seen_low {A} past (Some m) count up low = All-push (λ (m : Member A). m.line ≤ count) past m up low
 
 pub puts_front : (out : Output) (lines : List ℕ) (grown : Output) → PutsLines out lines grown → PutsFront out lines grown
 puts_front out lines grown puts = record { front = lines; rest = []; parts = sym (append-nil lines); puts = puts }

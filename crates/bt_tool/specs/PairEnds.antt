@@ -37,7 +37,8 @@ module _ {A B X Y U V : Type 0} (making : Making X Y) (pair : Pair A B X Y U V)
         (λ good. (rest : List X) × (items_in good ≡ written ++ rest))
     pub second_begins : IfSome (good_coming pair.b_left pair.second)
         (λ good. (rest : List (Member Y)) × (good.members ≡ seen ++ rest))
-    pub low : All (λ m. m.line ≤ lines_given second.below) seen
+    -- where the reader stopped they are on the lines given
+    pub low : IsSome second.fault → All (λ m. m.line ≤ lines_given second.below) seen
     pub second_all : ended ≡ true → AreAll pair.b_left pair.b_failed pair.b_end pair.second seen
     -- the members that were given, those that were taken, and the one ahead
     pub given : List X
