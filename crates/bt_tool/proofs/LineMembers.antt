@@ -1,6 +1,7 @@
 -- Lemmas on a reader of lines as one of lines of sequences.
 use Rattle.std.proofs.Common.{◌≡◌, ℕ, zero, suc, ◌+◌, ◌-◌, ◌<◌, ◌≤◌, Bool, true, false, cond, List, [], ◌∷◌, ◌++◌, length, take, drop, Option, None, Some, Result, Ok, Err, refl, sym, ap, ◌∙◌, subst, append_assoc, append-nil, length-append, arith, inl, inr}
 use Rattle.std.specs.Prelude.{All, IfSome, IsSome, option_map}
+use Rattle.std.proofs.Math.Seq.{drop-append_seam}
 use Rattle.std.proofs.lemmas.List.{drop-drop}
 use Rattle.std.proofs.lemmas.List.Elements.{All-append, All-nil}
 use Rattle.bt_lines.proofs.ReaderLemmas.{hands_both, sound_near}
@@ -8,7 +9,7 @@ use Rattle.bt_lines.proofs.TakingLemmas.{is_prefix, near_next}
 use Rattle.bt_lines.specs.Fault.{Told}
 use Rattle.bt_lines.specs.Lines.{AreNumbered, TextLine, bytes_in, line_feeds, lines_from}
 use Rattle.bt_lines.specs.Output.{block_size}
-use Rattle.bt_lines.specs.Reader.{DropsLines, GivesEnd, GivesFault, IsKept, MakesLine, SameLines, TakenLines, TakesLines, buffered_bytes, buffered_in, bytes_left, bytes_taken, end_told, fault_kept as line_fault, held, input_of, left_at, lines_given, lines_left, source_of}
+use Rattle.bt_lines.specs.Reader.{DropsLines, GivesEnd, GivesFault, Hands, IsKept, MakesLine, SameLines, TakenLines, TakesLines, buffered_bytes, buffered_in, bytes_left, bytes_taken, end_told, fault_kept as line_fault, held, input_of, left_at, lines_given, lines_left, source_of}
 use Rattle.bt_lines.specs.declared.buffered_lines.ConsumedLines.{ConsumedLines}
 use Rattle.bt_lines.specs.declared.fault.Input.{Input}
 use Rattle.bt_lines.specs.declared.fault.Kind.{Kind}
@@ -18,13 +19,14 @@ use Rattle.bt_bed.proofs.CameLemmas.{drops_pass, left_numbered}
 use Rattle.bt_bed.proofs.ReadingLemmas.{Going, going_end, going_start, going_unread}
 use Rattle.bt_bed.proofs.SaidRuns.{LinesSay, good_said, say_front}
 use Rattle.bt_bed.specs.Good.{Good, Member, good_from}
+use Rattle.bt_bed.specs.GoodLines.{IsBeyond, IsFaultBeyond}
 use Rattle.bt_bed.specs.LineKind.{fault_at_line}
 use Rattle.bt_bed.specs.Reading.{AreSaid, MemberReader, ahead_in, first_from, good_behind, good_coming, members_from, state_behind, with_members}
 use Rattle.bt_seq.specs.GivenLines.{SayEach}
 use Rattle.bt_seq.specs.Sequences.{Reached, SequenceLine, is_header, line_says, may_stand, sequence_format}
 use Rattle.bt_tool.specs.MaskLoop.{line_members}
 use Rattle.bt_tool.specs.Passed.{ComeFirst, HasTaken, IsOver, IsReadFor, IsStopped, Passes, StopsAfter}
-use Rattle.bt_tool.proofs.ComeLemmas.{up_to}
+use Rattle.bt_tool.proofs.ComeLemmas.{lines_on, up_to}
 use Rattle.bt_tool.proofs.MemberLemmas.{members_low}
 
 -- what is wrong with a line is the text before the first header
@@ -80,6 +82,15 @@ near_by (Some lines) (Some here) rest given p n =
     let one : given + 1 ≡ suc given = omega arith in
     let same : drop 1 here ≡ drop (suc given) lines = ap (drop 1) is ∙ drop-drop 1 given lines ∙ ap (λ k. drop k lines) one in
     subst (λ l. IfSome rest (λ rest. bytes_in l ≤ length rest + block_size)) same n
+
+near_all : (start now : Option (List TextLine)) (rest : Option (List ℕ)) (given count : ℕ) → given ≡ count → IfSome start (λ lines. now ≡ Some (drop given lines))
+    → IfSome now (λ lines. IfSome rest (λ rest. bytes_in lines ≤ length rest + block_size))
+    → IfSome start (λ lines. IfSome rest (λ rest. bytes_in (drop count lines) ≤ length rest + block_size))
+near_all None now rest given count e p n = tt
+near_all (Some lines) None rest given count e p n = cc
+near_all (Some lines) (Some here) rest given count e p n =
+    let is : here ≡ drop count lines = let same : here ≡ drop given lines = cc in same ∙ ap (λ k. drop k lines) e in
+    subst (λ l. IfSome rest (λ rest. bytes_in l ≤ length rest + block_size)) is n
 
 none_by : (told : Bool) (held : List ℕ) (number : ℕ) → option_map (lines_from number) (left_at told held None) ≡ None
 none_by true held number = refl
@@ -253,3 +264,131 @@ module _ {S : Type 0} (left : S → Option (List ℕ)) (failed end : S → Bool)
         ahead = λ known m is. first_by (suc (lines_given lines)) items m (good_coming left (known_members reached items lines)) (good_coming left (line_members full reached_then new)) good_then is;
         near = g.near;
       }
+
+  -- lines were taken, of which the last one is at fault
+  module _ (old : MemberReader S SequenceLine Reached) (past : List (Member SequenceLine)) (reached : Reached) (lines new : LineReader S) (g : Passes left failed end old past (line_members full reached lines))
+      (before : List TextLine) (line : TextLine) (more : List TextLine) (items : List SequenceLine) (say : SayEach full reached before items) (kind : Kind) (says : line_says full (state_behind (sequence_format full) reached items) line ≡ Err kind)
+      (parts : buffered_in lines ≡ (before ++ line ∷ []) ++ more) (numbered : AreNumbered (suc (lines_given lines)) (before ++ line ∷ [])) (consumed : ConsumedLines) (are : TakenLines lines consumed (length (before ++ line ∷ [])))
+      (takes : TakesLines left end lines consumed new) (fault : Told) (is : fault ≡ fault_at_line (input_of old.below) line.number kind) where
+    abbrev pub refused : MemberReader S SequenceLine Reached
+    refused = record {
+      format = sequence_format full;
+      below = new;
+      state = state_behind (sequence_format full) reached items;
+      buffered = [];
+      fault = Some fault;
+    }
+
+    abbrev members : List (Member SequenceLine)
+    members = members_from (suc (lines_given lines)) items
+
+    number_by : (number : ℕ) (front : List TextLine) → AreNumbered number (front ++ line ∷ []) → line.number ≡ number + length front
+    number_by number [] n = omega (arith, n.0)
+    number_by number (x ∷ front) n = omega (arith, number_by (suc number) front n.1)
+
+    abbrev count : ℕ
+    count = lines_given lines + length items
+
+    number_is : line.number ≡ suc count
+    number_is = omega (arith, number_by (suc (lines_given lines)) before numbered, say_count full reached before items say)
+
+    given_is : lines_given new ≡ suc count
+    given_is = omega (arith, takes.given, are.given, length-append before (line ∷ []), say_count full reached before items say)
+
+    same_input : input_of lines ≡ input_of old.below
+    same_input = g.bytes.1.same_input
+
+    good_stops : (rest : List TextLine) → good_from (sequence_format full) (input_of lines) (state_behind (sequence_format full) reached items) (line ∷ rest) ≡ record { members = []; fault = Some fault }
+    unfolding good_from
+    good_stops rest =
+        let same : fault_at_line (input_of lines) line.number kind ≡ fault = ap (λ input. fault_at_line input line.number kind) same_input ∙ sym is in
+        rw (says, same) refl
+
+    good_known : (all : List TextLine) → take (length (buffered_in lines)) all ≡ buffered_in lines → AreNumbered (suc (lines_given lines)) all
+        → good_from (sequence_format full) (input_of lines) reached all ≡ with_members members (record { members = []; fault = Some fault })
+    good_known all e n =
+        let front = front_of (before ++ line ∷ []) more all (subst (λ l. take (length l) all ≡ l) parts e) in
+        let whole : all ≡ before ++ line ∷ front.0 = front.1 ∙ append_assoc before (line ∷ []) front.0 in
+        let size : length items ≡ length before = sym (say_count full reached before items say) in
+        let left_is : drop (length items) all ≡ line ∷ front.0 = ap (λ k. drop k all) size ∙ ap (drop (length before)) whole ∙ drop-append_seam before (line ∷ front.0) in
+        sym (good_said (sequence_format full) (input_of lines) (suc (lines_given lines)) reached all items n (subst (λ l. LinesSay (sequence_format full) reached l items) (sym whole) (say_lines full reached before (line ∷ front.0) items say)))
+        ∙ ap (λ l. with_members members (good_from (sequence_format full) (input_of lines) (state_behind (sequence_format full) reached items) l)) left_is
+        ∙ ap (with_members members) (good_stops front.0)
+
+    whole_by : (good : Option (Good SequenceLine)) (all : Option (List TextLine)) → IfSome all (λ all. take (length (buffered_in lines)) all ≡ buffered_in lines) → IfSome all (AreNumbered (suc (lines_given lines)))
+        → ComeFirst good past (option_map (good_from (sequence_format full) (input_of lines) reached) all) → IfSome good (λ good. (good.members ≡ past ++ members) × (good.fault ≡ Some fault))
+    whole_by None all e n c = tt
+    whole_by (Some good) None e n c = absurd c
+    whole_by (Some good) (Some all) e n c =
+        let known = good_known all e n in (
+          c.0 ∙ ap (λ (g : Good SequenceLine). past ++ g.members) known ∙ ap (λ l. past ++ l) (append-nil members),
+          c.1 ∙ ap (λ (g : Good SequenceLine). g.fault) known,
+        )
+
+    whole : IfSome (good_coming left old) (λ good. (good.members ≡ past ++ members) × (good.fault ≡ Some fault))
+    whole =
+        whole_by (good_coming left old) (lines_left left lines) (is_prefix left lines) (left_numbered left end lines)
+        (subst (ComeFirst (good_coming left old) past) (good_lines reached [] lines g.clear) g.come)
+
+    clear : line_fault new ≡ None
+    clear = takes.fault_is ∙ g.clear
+
+    bytes_then : (bytes : List ℕ) × Hands left old.below bytes new
+    bytes_then = (g.bytes.0 ++ [], hands_both left old.below lines new g.bytes.0 [] g.bytes.1 takes.hands)
+
+    -- so it stops there
+    pub refuses : (Kinds : Kind → Type 0) → Kinds kind → StopsAfter left failed end old Kinds (past ++ members) fault refused
+    refuses Kinds of_kind = record {
+      bytes = bytes_then;
+      cause = inl (record {
+        whole = whole;
+        line = line.number;
+        kind = kind;
+        is = is;
+        of_kind = of_kind;
+        served = ap failed takes.source_is ∙ g.served;
+        within = (takes.kept g.kept).within clear;
+      });
+    }
+
+    lines_then : IfSome (lines_left left old.below) (λ all. lines_left left new ≡ Some (drop (lines_given new) all))
+    lines_then =
+        lines_on (lines_left left old.below) (lines_left left lines) (lines_left left new) (lines_given lines) (lines_given new) (omega (arith, given_is)) g.lines
+        (drops_pass (lines_left left lines) (lines_left left new) _ (lines_given new - lines_given lines) takes.left_is (omega (arith, takes.given, are.given, are.feeds)))
+
+    held_block : length (held new) ≤ block_size
+    held_block = takes.near (some_bytes consumed.bytes (buffered_bytes lines) (omega (arith, are.feeds, length-append before (line ∷ []))))
+
+    behind_by : (good : Option (Good SequenceLine)) → IfSome good (λ good. (good.members ≡ past ++ members) × (good.fault ≡ Some fault))
+        → IfSome good (λ good. (rest : List (Member SequenceLine)) × (good.members ≡ (past ++ members) ++ rest) × IsBeyond count (record { members = rest; fault = good.fault }))
+    behind_by None w = tt
+    behind_by (Some good) w = (
+      [],
+      w.0 ∙ sym (append-nil (past ++ members)),
+      record {
+        members = All-nil (λ (m : Member SequenceLine). count < m.line);
+        fault = subst (λ o. IfSome o (IsFaultBeyond count)) (sym w.1) (subst (IsFaultBeyond count) (sym is) (let low : count < line.number = omega (arith, number_is) in low));
+      },
+    )
+
+    begins_by : (good : Option (Good SequenceLine)) → IfSome good (λ good. (good.members ≡ past ++ members) × (good.fault ≡ Some fault))
+        → IfSome good (λ good. (rest : List (Member SequenceLine)) × (good.members ≡ (past ++ members) ++ rest))
+    begins_by None w = tt
+    begins_by (Some good) w = ([], w.0 ∙ sym (append-nil (past ++ members)))
+
+    low_then : All (λ m. m.line ≤ count) (past ++ members)
+    low_then =
+        All-append (λ (m : Member SequenceLine). m.line ≤ count) past members (up_to (lines_given lines) count past (omega arith) g.behind) (members_low (lines_given lines) items)
+
+    pub refuses_read : IsReadFor left failed end old (past ++ members) (past ++ members) refused
+    refuses_read = record {
+      to = record {
+        count = count;
+        near = near_all (lines_left left old.below) (lines_left left new) (left (source_of new)) (lines_given new) (suc count) given_is lines_then
+            (sound_near left end new (record { end = (takes.kept g.kept).end; within = (takes.kept g.kept).within; near = λ none. held_block }) clear);
+        behind = behind_by (good_coming left old) whole;
+      };
+      low = low_then;
+      high = up_to count (suc count) (past ++ members) (omega arith) low_then;
+      begins = begins_by (good_coming left old) whole;
+    }

@@ -3,6 +3,7 @@ use Rattle.bt_lines.proofs.ReadsLemmas.{reads_same}
 use Rattle.bt_bed.proofs.TokenLemmas.{token_is}
 use Rattle.bt_tool.proofs.CursorLemmas.{lines_consumed}
 use Rattle.bt_tool.proofs.LineMembers.{has_taken}
+use Rattle.bt_tool.proofs.PairStops.{first_fails}
 use Rattle.bt_tool.proofs.masking.give_buffered.Goals as goal
 
 pub consume-requires : goal.consume-requires
