@@ -138,8 +138,8 @@ count_by (suc n) none = omega arith
 pub some_lines : {S : Type 0} (reader : LineReader S) (consumed : ConsumedLines) (count : ℕ) → TakenLines reader consumed count → (consumed.bytes ≡ 0 → ⊥) → 0 < count
 some_lines reader consumed count are some =
     count_by count (λ none.
-        let gone : take consumed.bytes (buffered_bytes reader) ≡ [] = fed_none (take consumed.bytes (buffered_bytes reader)) are.taken.fed (are.feeds ∙ none) in
-        some (omega (arith, ap length gone, length-take consumed.bytes (buffered_bytes reader), are.taken.within)))
+    let gone : take consumed.bytes (buffered_bytes reader) ≡ [] = fed_none (take consumed.bytes (buffered_bytes reader)) are.taken.fed (are.feeds ∙ none) in
+    some (omega (arith, ap length gone, length-take consumed.bytes (buffered_bytes reader), are.taken.within)))
 
 -- and where none were, none were
 pub no_lines : {S : Type 0} (reader : LineReader S) (consumed : ConsumedLines) (count : ℕ) → TakenLines reader consumed count → consumed.bytes ≡ 0 → count ≡ 0

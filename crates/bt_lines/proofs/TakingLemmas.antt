@@ -371,8 +371,16 @@ module _ {S : Type 0} (left : S → Option (List ℕ)) (old new : LineReader S) 
       let plain : open_at old.state ≡ false = closed_by old.state (sym (ap told_at same_state) ∙ e) in
       let was : held old ≡ complete old.buffer ++ unread old.buffer = old_held left old new n same_state same_source more lines behind fed plain in
       let is : held new ≡ drop n (complete old.buffer) ++ unread old.buffer = new_held left old new n same_state same_source more lines behind fed plain in
-      omega (arith, more, ap line_feeds was, ap line_feeds is, line_feeds-append (complete old.buffer) (unread old.buffer), line_feeds-append (drop n (complete old.buffer)) (unread old.buffer),
-      ap line_feeds (take-append-drop n (complete old.buffer)), line_feeds-append (take n (complete old.buffer)) (drop n (complete old.buffer)))
+      omega (
+        arith,
+        more,
+        ap line_feeds was,
+        ap line_feeds is,
+        line_feeds-append (complete old.buffer) (unread old.buffer),
+        line_feeds-append (drop n (complete old.buffer)) (unread old.buffer),
+        ap line_feeds (take-append-drop n (complete old.buffer)),
+        line_feeds-append (take n (complete old.buffer)) (drop n (complete old.buffer)),
+      )
 
   over_none : Consumes (left old.source) (left new.source) []
   over_none = rw same_source (Consumes-nil (left old.source))

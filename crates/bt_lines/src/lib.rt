@@ -70,6 +70,10 @@ mod block_tests;
 #[cfg(test)]
 mod device_tests;
 #[cfg(test)]
+mod drawn;
+#[cfg(test)]
 mod example;
+#[cfg(test)]
+mod output_tests;
 #[cfg(test)]
 mod tests;

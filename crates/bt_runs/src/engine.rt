@@ -55,7 +55,8 @@ pub trait Engine {
             result self.new out.new.output }
         ensures memory { IsWanted wants fault self.old (feature_lent bed.now) result }
     {
-        let mut one = Single::new(*bed);
+        // No engine asks for the line.
+        let mut one = Single::new(*bed, 0);
         self.feed_batch(&mut one, out)
     }
 

@@ -11,24 +11,9 @@ use Rattle.bt_lines.specs.declared.line_reader.LineReader.{LineReader}
 use Rattle.bt_lines.proofs.ReaderLemmas.{hands_both}
 use Rattle.bt_lines.proofs.TextLemmas.{line_feeds-append, lines_are_numbered}
 use Rattle.bt_lines.specs.Names.{told}
-use Rattle.bt_bed.specs.Good.{Good, Member, ends_with, with_member}
+use Rattle.bt_bed.specs.Good.{Good, Member, ends_with}
 use Rattle.bt_bed.specs.GoodLines.{IsBeyond}
-use Rattle.bt_bed.specs.Reading.{Remains}
 use Rattle.bt_tool.specs.Passed.{ComeFirst}
-
--- the first member of what is to come was passed
-pub come_more : {A : Type 0} (old now peeked next : Option (Good A)) (past : List (Member A)) (m : Member A)
-    → ComeFirst old past now → Remains now peeked
-    → IfSome now (λ good. (rest : List (Member A)) × (good.members ≡ m ∷ rest))
-    → option_map (with_member m) next ≡ peeked → ComeFirst old (past ++ m ∷ []) next
-come_more None now peeked next past m c r f a = tt
-come_more (Some o) None peeked next past m c r f a = absurd c
-come_more (Some o) (Some n) None next past m c r f a = absurd r
-come_more (Some o) (Some n) (Some p) None past m c r f a = cc
-come_more (Some o) (Some n) (Some p) (Some x) past m c r f a =
-    let same : with_member m x ≡ p = cc in
-    let is : with_member m x ≡ n = same ∙ r in
-    (c.0 ∙ ap (λ g. past ++ g.members) (sym is) ∙ sym (append_assoc past (m ∷ []) x.members), c.1 ∙ ap (λ g. g.fault) (sym is))
 
 pub come_none : {A : Type 0} (good : Option (Good A)) → ComeFirst good [] good
 come_none None = tt
@@ -49,13 +34,6 @@ pub begins_with : {A : Type 0} (old now : Option (Good A)) (past : List (Member 
 begins_with None now past c = tt
 begins_with (Some o) None past c = absurd c
 begins_with (Some o) (Some n) past c = (n.members, c.0)
-
-pub begins_more : {A : Type 0} (old now : Option (Good A)) (past : List (Member A)) (m : Member A) → ComeFirst old past now
-    → IfSome now (λ good. (rest : List (Member A)) × (good.members ≡ m ∷ rest))
-    → IfSome old (λ good. (rest : List (Member A)) × (good.members ≡ (past ++ m ∷ []) ++ rest))
-begins_more None now past m c f = tt
-begins_more (Some o) None past m c f = absurd c
-begins_more (Some o) (Some n) past m c f = (f.0, c.0 ∙ ap (λ l. past ++ l) f.1 ∙ sym (append_assoc past (m ∷ []) f.0))
 
 -- and those that are still to come lie behind so many lines
 pub begins_beyond : {A : Type 0} (old now : Option (Good A)) (past : List (Member A)) (count : ℕ) → ComeFirst old past now

@@ -1,8 +1,8 @@
 -- What was taken of a reader's members and written of them so far, whatever they are, and what is so where the reading stops; and so feeding an engine with the records of a reader.
-use Rattle.std.proofs.Common.{◌≡◌, ℕ, ◌+◌, ◌<◌, ◌≤◌, Bool, true, List, [], ◌∷◌, ◌++◌, length, Option, None, Some, Ok, Err, refl, sym, ap, ◌∙◌, subst, append-nil, append_assoc, length-append, arith, inl, inr}
-use Rattle.std.specs.Prelude.{◌⊎◌, IfSome}
+use Rattle.std.proofs.Common.{◌≡◌, ℕ, suc, ◌+◌, ◌<◌, ◌≤◌, Bool, true, List, [], ◌∷◌, ◌++◌, length, Option, None, Some, Ok, Err, refl, sym, ap, ◌∙◌, subst, append-nil, append_assoc, length-append, arith, inl, inr}
+use Rattle.std.specs.Prelude.{◌⊎◌, ◌≢◌, IfSome}
 use Rattle.std.proofs.lemmas.List.{map-append}
-use Rattle.std.proofs.lemmas.List.Elements.{All-push}
+use Rattle.std.proofs.lemmas.List.Elements.{All-cons, All-head, All-nil, All-tail}
 use Rattle.std.specs.Io.KnownBytes.{Appends}
 use Rattle.bt_lines.proofs.PuttingLemmas.{grows_nothing}
 use Rattle.bt_lines.proofs.OutputLemmas.{grows_both}
@@ -10,34 +10,32 @@ use Rattle.bt_lines.specs.Fault.{Told, write_failed, no_memory}
 use Rattle.bt_lines.specs.Lines.{TextLine}
 use Rattle.bt_lines.specs.Output.{Output, HoldsBlock, IsFrontOf, Grows, block_size}
 use Rattle.bt_lines.specs.Putting.{WorksAsBefore, PutsRest, CutsRest}
-use Rattle.bt_lines.specs.Reader.{Hands, fault_kept as line_fault}
+use Rattle.bt_lines.specs.Reader.{Hands, fault_kept as line_fault, lines_given}
 use Rattle.bt_lines.specs.declared.fault.Kind.{Kind}
-use Rattle.bt_bed.specs.Feature.{Feature, interval_of, intervals_of}
+use Rattle.bt_lines.specs.declared.fault.Fault.{Fault}
 use Rattle.bt_lines.specs.Names.{told}
+use Rattle.bt_bed.specs.Feature.{Feature, interval_of, intervals_of}
 use Rattle.bt_bed.specs.Good.{Format, Member}
 use Rattle.bt_bed.specs.GoodBed.{bed_format}
 use Rattle.bt_bed.specs.Sorting.{sorting_of}
 use Rattle.bt_bed.proofs.NeighbourLemmas.{wrong_of_bed}
+use Rattle.bt_bed.proofs.TogetherLemmas.{placed_front}
 use Rattle.bt_bed.specs.LineKind.{IsBedKind}
-use Rattle.bt_bed.specs.Interval.{AreNonEmpty}
-use Rattle.bt_bed.specs.Order.{Order}
-use Rattle.bt_bed.specs.Locus.{Locus}
-use Rattle.bt_bed.specs.Reading.{MemberReader, good_coming}
-use Rattle.bt_bed.specs.Records.{PassesRecord, order_in, last_locus, view_of}
+use Rattle.bt_bed.specs.Interval.{AreNonEmpty, Interval}
+use Rattle.bt_bed.specs.Order.{IsTotal, Order}
+use Rattle.bt_bed.specs.Locus.{ArePlaced, Locus}
+use Rattle.bt_bed.specs.Reading.{AreSaid, MemberReader, good_coming, members_from}
+use Rattle.bt_bed.specs.Records.{below, buffered_in, last_locus, order_in, view_of}
 use Rattle.bt_bed.specs.declared.order.ChromOrder.{Ghosts}
 use Rattle.bt_bed.specs.declared.records.Records.{Records}
+use Rattle.bt_runs.specs.Engine.{Feeds as EngineFeeds, NotTaken, TakesEach}
 use Rattle.bt_tool.specs.Telling.{IsPutTo}
-use Rattle.bt_lines.specs.declared.fault.Fault.{Fault}
-use Rattle.bt_runs.specs.Engine.{Feeds as EngineFeeds, NotTaken}
-use Rattle.bt_bed.specs.Reading.{Advances}
 use Rattle.bt_tool.specs.Feeding.{AreInOrder, GoesOn, IsFresh, PutsLines, Took, TookButBlock, FeedsAll, FeedsUpTo}
-use Rattle.bt_tool.specs.Passed.{IsAhead, IsOver, IsStopped, Passes, member_items}
-use Rattle.bt_tool.specs.SweepLoop.{IsPlaced}
-use Rattle.bt_tool.specs.Turns.{HasAhead, HasEnded, HasStopped}
-use Rattle.bt_tool.proofs.ComeLemmas.{begins_more, begins_with}
-use Rattle.bt_tool.proofs.MemberLemmas.{ahead_at, bytes_more, ended_at, passes_all, passes_more, passes_start, passes_stop, read_after, read_for, stopped_at}
-use Rattle.bt_tool.proofs.PassedLemmas.{is_ahead, is_over, is_stopped, line_going, member_ahead, placed_more, placed_next, placed_start}
-use Rattle.bt_tool.proofs.StopLemmas.{StopsBehind}
+use Rattle.bt_tool.specs.FeedsBuffered.{FailsAmong, TakesBuffered}
+use Rattle.bt_tool.specs.Passed.{HasTaken, IsFilled, IsOver, IsReadFor, IsStopped, Passes, member_items}
+use Rattle.bt_tool.proofs.ComeLemmas.{begins_with}
+use Rattle.bt_tool.proofs.MemberLemmas.{bytes_more, items_take, passes_all, passes_end, passes_fill, passes_start, passes_stop, passes_take, read_alone, read_at_stop, read_before, read_here}
+use Rattle.bt_tool.proofs.PassedLemmas.{line_going, said_in_order}
 
 -- a sink that took a front of the lines took a front of all
 pub front_all : (took : Option (List ℕ)) (put : Option (List ℕ)) (before done lines whole : List ℕ) → whole ≡ done ++ lines → put ≡ Some (before ++ done) → IsFrontOf took put lines → IsFrontOf took (Some (before ++ whole)) []
@@ -129,7 +127,6 @@ took_lines out grown lines puts block = record {
 -- members of a reader were taken, and what they settle was written
 pub record Fed {S A State : Type 0} (settled : List A → List ℕ) (left : S → Option (List ℕ)) (failed end : S → Bool) (old : MemberReader S A State) (out : Output) (past : List (Member A)) (now : MemberReader S A State) (grown : Output) : Type 0 where
   pub passes : Passes left failed end old past now
-  pub none_ahead : now.ahead ≡ None
   pub grows : Grows out.took grown.took
   pub puts : PutsLines out (settled (member_items past)) grown
   pub works : WorksAsBefore out grown
@@ -140,7 +137,6 @@ pub fed_none : {S A State : Type 0} (settled : List A → List ℕ) (left : S �
     → Fed settled left failed end old out [] old out
 fed_none settled left failed end old out fresh clear nothing block = record {
   passes = passes_start left failed end old fresh clear;
-  none_ahead = fresh.none_ahead;
   grows = grows_nothing out.took;
   puts = λ before e. e ∙ ap Some (sym (ap (λ l. before ++ l) nothing ∙ append-nil before));
   works = record { served = refl; sink_served = refl; put = grows_nothing out.put; block = λ h. h };
@@ -152,16 +148,20 @@ module _ {S A State : Type 0} (settled : List A → List ℕ) (Kinds : Kind → 
   abbrev UpTo : Told → MemberReader S A State → Output → Type 0
   UpTo fault new later = FeedsUpTo settled Kinds Sorted left failed end old out fault new later
 
-  -- these members were taken, of which some may be behind those, where the reading stops
-  taken : (given : List (Member A)) (new : MemberReader S A State) (later : Output) → (bytes : List ℕ) × Hands left now.below bytes new.below → Sorted (member_items given)
-      → (count : ℕ) × StopsBehind left now count new.below → GoesOn grown later → Took settled Kinds Sorted left failed end old out given new later
-  taken given new later hands sorted stops goes = record {
+  -- one more member is buffered
+  pub fed_fill : (new : MemberReader S A State) → IsFilled left failed end now new → Fed settled left failed end old out past new grown
+  fed_fill new fills = record { passes = passes_fill left failed end old past now g.passes new fills; grows = g.grows; puts = g.puts; works = g.works; block = g.block }
+
+  -- these members were taken where the reading stops
+  taken : (new : MemberReader S A State) → (bytes : List ℕ) × Hands left now.below bytes new.below → Sorted (member_items past) → IsReadFor left failed end old past past new
+      → Took settled Kinds Sorted left failed end old out past new grown
+  taken new hands sorted read = record {
     bytes = bytes_more left failed end old past now g.passes new hands;
     sorted = sorted;
-    grows = grows_both out.took grown.took later.took g.grows goes.took;
+    grows = g.grows;
     before = past;
-    read = read_for left failed end old past now g.passes new stops;
-    kept = took_later out grown later (settled (member_items past)) g.grows goes (took_lines out grown (settled (member_items past)) g.puts g.block);
+    read = read;
+    kept = took_lines out grown (settled (member_items past)) g.puts g.block;
   }
 
   -- the reading stops: at the end of the input
@@ -169,13 +169,13 @@ module _ {S A State : Type 0} (settled : List A → List ℕ) (Kinds : Kind → 
       → FeedsAll settled Kinds Sorted left failed end Stands old out new grown
   fed_all Stands new over sorted stands = record {
     past = past;
-    took = taken past new grown over.ends.stays.bytes sorted (ended_at left failed end old past now g.passes g.none_ahead new over) (goes_same grown);
+    took = taken new over.ends.stays.bytes sorted (read_here left failed end old past new (passes_end left failed end old past now g.passes new over));
     whole = passes_all left failed end old past now g.passes new over;
     stands = stands;
     puts = g.puts;
     works = g.works;
     served = over.ends.served ∙ g.passes.served;
-    within = (over.sound g.passes.sound).within (over.clear over.ends.goes);
+    within = (over.kept g.passes.kept).within (over.clear over.ends.goes);
   }
 
   -- or at a fault
@@ -186,7 +186,7 @@ module _ {S A State : Type 0} (settled : List A → List ℕ) (Kinds : Kind → 
       let stops = passes_stop left failed end old past now g.passes Kinds of_format new fault stopped in
       record {
         past = past;
-        took = taken past new grown stopped.answers.stays.bytes sorted (stopped_at left failed end old past now g.passes g.none_ahead new fault stopped) (goes_same grown);
+        took = taken new stopped.answers.stays.bytes sorted (read_at_stop left failed end old past now g.passes new fault stopped);
         begins = begins_with (good_coming left old) (good_coming left now) past g.passes.come;
         cause = elim stops.cause [
           | inl wrong ↦ inl (record { behind = inl wrong; puts = g.puts; works = g.works })
@@ -202,211 +202,235 @@ module _ {S A State : Type 0} (settled : List A → List ℕ) (Kinds : Kind → 
         exact = λ other. g.puts;
       }
 
-  -- the output went on, with no more lines
-  pub fed_same : (later : Output) → Appends grown.put later.put [] → WorksAsBefore grown later → Grows grown.took later.took → Fed settled left failed end old out past now later
-  fed_same later appends works grows = record {
-    passes = g.passes;
-    none_ahead = g.none_ahead;
-    grows = grows_both out.took grown.took later.took g.grows grows;
-    puts = λ before e. text_grows grown.put later.put before (settled (member_items past)) [] (settled (member_items past)) (sym (append-nil (settled (member_items past)))) appends (g.puts before e);
-    works = works_both out grown later g.works works;
-    block = works.block g.block;
+-- members were taken, what those before the last one settle was written, and the last one failed
+module _ {S A State : Type 0} (settled : List A → List ℕ) (Kinds : Kind → Type 0) (Sorted : List A → Type 0) (left : S → Option (List ℕ)) (failed end : S → Bool) (old : MemberReader S A State) (out : Output)
+    (past : List (Member A)) (now : MemberReader S A State) (g : Passes left failed end old past now) (xs : List A) (a : A) (new : MemberReader S A State) (has : HasTaken left failed end now (xs ++ a ∷ []) new)
+    (through : Output) (grows_through : Grows out.took through.took) (puts_through : PutsLines out (settled (member_items past ++ xs)) through) (works_through : WorksAsBefore out through) (block : HoldsBlock through.took through.put)
+    (sorted : Sorted ((member_items past ++ xs) ++ a ∷ [])) where
+  abbrev from : ℕ
+  from = suc (lines_given now.below)
+
+  abbrev before : List (Member A)
+  before = past ++ members_from from xs
+
+  abbrev given : List (Member A)
+  given = past ++ members_from from (xs ++ a ∷ [])
+
+  before_items : member_items before ≡ member_items past ++ xs
+  before_items = items_take past from xs
+
+  given_items : member_items given ≡ (member_items past ++ xs) ++ a ∷ []
+  given_items = items_take past from (xs ++ a ∷ []) ∙ sym (append_assoc (member_items past) xs (a ∷ []))
+
+  passes_given : Passes left failed end old given new
+  passes_given = passes_take left failed end old past now g (xs ++ a ∷ []) new has
+
+  begins_given : IfSome (good_coming left old) (λ good. (rest : List (Member A)) × (good.members ≡ given ++ rest))
+  begins_given = begins_with (good_coming left old) (good_coming left new) given passes_given.come
+
+  puts_before : PutsLines out (settled (member_items before)) through
+  puts_before = rw before_items puts_through
+
+  -- what is settled with it couldn't be written
+  pub fails_writing : (fault : Told) (later : Output) (lines : List ℕ) → settled ((member_items past ++ xs) ++ a ∷ []) ≡ settled (member_items past ++ xs) ++ lines → fault ≡ write_failed
+      → IsFrontOf later.took through.put lines → later.has_failed ≡ true → later.sink_has_failed ≡ true → Grows through.took later.took → FeedsUpTo settled Kinds Sorted left failed end old out fault new later
+  fails_writing fault later lines more is front fails sink grows = record {
+    past = given;
+    took = record {
+      bytes = passes_given.bytes;
+      sorted = rw given_items sorted;
+      grows = grows_both out.took through.took later.took grows_through grows;
+      before = before;
+      read = read_alone (read_before left failed end old past now g xs a new has);
+      kept = took_later out through later (settled (member_items before)) grows_through (goes_failed through later grows fails) (took_lines out through (settled (member_items before)) puts_before block);
+    };
+    begins = begins_given;
+    cause = inr (inr (record {
+      is = is;
+      cuts = record {
+        front = λ bytes e. front_all later.took through.put bytes (settled (member_items before)) lines (settled (member_items given)) (ap settled given_items ∙ more ∙ ap (λ l. settled l ++ lines) (sym before_items)) (puts_before bytes e) front;
+        failed = fails;
+        sink_failed = sink;
+      };
+      served = passes_given.served;
+    }));
+    exact = λ other. absurd (other is);
   }
 
-  -- a member is ahead
-  module _ (m : Member A) (peeked : MemberReader S A State) (ahead : IsAhead left failed end now m peeked) (sorted : Sorted (member_items (past ++ m ∷ []))) where
-    took_next : (later : Output) → GoesOn grown later → Took settled Kinds Sorted left failed end old out (past ++ m ∷ []) peeked later
-    took_next later goes = taken (past ++ m ∷ []) peeked later ahead.read.stays.bytes sorted (ahead_at left failed end old past now g.passes g.none_ahead m peeked ahead) goes
-
-    begins_next : IfSome (good_coming left old) (λ good. (rest : List (Member A)) × (good.members ≡ (past ++ m ∷ []) ++ rest))
-    begins_next = begins_more (good_coming left old) (good_coming left now) past m g.passes.come ahead.read.first
-
-    -- what is settled with it couldn't be written
-    pub fails_writing : (fault : Told) (later : Output) (lines : List ℕ) → settled (member_items (past ++ m ∷ [])) ≡ settled (member_items past) ++ lines → fault ≡ write_failed
-        → IsFrontOf later.took grown.put lines → later.has_failed ≡ true → later.sink_has_failed ≡ true → Grows grown.took later.took → UpTo fault peeked later
-    fails_writing fault later lines more is front fails sink grows = record {
-      past = past ++ m ∷ [];
-      took = took_next later (goes_failed grown later grows fails);
-      begins = begins_next;
-      cause = inr (inr (record {
-        is = is;
-        cuts = record {
-          front = λ before e. front_all later.took grown.put before (settled (member_items past)) lines (settled (member_items (past ++ m ∷ []))) more (g.puts before e) front;
-          failed = fails;
-          sink_failed = sink;
+  -- what is settled with it was put, but memory ran out with it
+  pub fails_growing : (fault : Told) (later : Output) (lines : List ℕ) → settled ((member_items past ++ xs) ++ a ∷ []) ≡ settled (member_items past ++ xs) ++ lines → fault ≡ no_memory
+      → Appends through.put later.put lines → WorksAsBefore through later → Grows through.took later.took → FeedsUpTo settled Kinds Sorted left failed end old out fault new later
+  fails_growing fault later lines more is appends works grows =
+      let puts : PutsLines out (settled (member_items given)) later =
+      λ bytes e. text_grows through.put later.put bytes (settled (member_items before)) lines (settled (member_items given)) (ap settled given_items ∙ more ∙ ap (λ l. settled l ++ lines) (sym before_items)) appends (puts_before bytes e) in
+      record {
+        past = given;
+        took = record {
+          bytes = passes_given.bytes;
+          sorted = rw given_items sorted;
+          grows = grows_both out.took through.took later.took grows_through grows;
+          before = given;
+          read = read_here left failed end old given new passes_given;
+          kept = took_lines out later (settled (member_items given)) puts (works.block block);
         };
-        served = ahead.read.served ∙ g.passes.served;
-      }));
-      exact = λ other. absurd (other is);
-    }
+        begins = begins_given;
+        cause = inr (inl (record {
+          lacks = record { is = is; served = passes_given.served };
+          puts = puts;
+          works = works_both out through later works_through works;
+        }));
+        exact = λ other. puts;
+      }
 
-    -- what is settled with it was put
-    puts_next : (later : Output) (lines : List ℕ) → settled (member_items (past ++ m ∷ [])) ≡ settled (member_items past) ++ lines → Appends grown.put later.put lines
-        → PutsLines out (settled (member_items (past ++ m ∷ []))) later
-    puts_next later lines more appends = λ before e. text_grows grown.put later.put before (settled (member_items past)) lines (settled (member_items (past ++ m ∷ []))) more appends (g.puts before e)
+-- ---- an engine that is given records one after another
 
-    -- but memory ran out with it
-    pub fails_growing : (fault : Told) (later : Output) (lines : List ℕ) → settled (member_items (past ++ m ∷ [])) ≡ settled (member_items past) ++ lines → fault ≡ no_memory
-        → Appends grown.put later.put lines → WorksAsBefore grown later → Grows grown.took later.took → UpTo fault peeked later
-    fails_growing fault later lines more is appends works grows =
-        let puts = puts_next later lines more appends in
-        record {
-          past = past ++ m ∷ [];
-          took = record {
-            bytes = bytes_more left failed end old past now g.passes peeked ahead.read.stays.bytes;
-            sorted = sorted;
-            grows = grows_both out.took grown.took later.took g.grows grows;
-            before = past ++ m ∷ [];
-            read = read_after left failed end old past now g.passes g.none_ahead m peeked ahead;
-            kept = took_lines out later (settled (member_items (past ++ m ∷ []))) puts (works.block g.block);
-          };
-          begins = begins_next;
-          cause = inr (inl (record {
-            lacks = record { is = is; served = ahead.read.served ∙ g.passes.served };
-            puts = puts;
-            works = works_both out grown later g.works works;
-          }));
-          exact = λ other. puts;
-        }
+-- it stands after these, and the lines that they settle were put
+pub record EngineAt {E : Type 0} (Stands : E → List Feature → E → Type 0) (settled : E → List Feature → List ℕ) (first : E) (out : Output) (past : List Feature) (engine : E) (grown : Output) : Type 0 where
+  pub stands : Stands first past engine
+  pub grows : Grows out.took grown.took
+  pub puts : PutsLines out (settled first past) grown
+  pub works : WorksAsBefore out grown
+  pub block : HoldsBlock grown.took grown.put
 
-    -- it was taken and passed, and what is settled with it was written
-    pub fed_more : (next : MemberReader S A State) (later : Output) (lines : List ℕ) → Advances left peeked next → settled (member_items (past ++ m ∷ [])) ≡ settled (member_items past) ++ lines
-        → Appends grown.put later.put lines → WorksAsBefore grown later → Grows grown.took later.took → Fed settled left failed end old out (past ++ m ∷ []) next later
-    fed_more next later lines advances more appends works grows = record {
-      passes = passes_more left failed end old past now g.passes m peeked ahead next advances;
-      none_ahead = advances.none_ahead;
-      grows = grows_both out.took grown.took later.took g.grows grows;
-      puts = puts_next later lines more appends;
-      works = works_both out grown later g.works works;
-      block = works.block g.block;
-    }
+full_front : (front rest : List Interval) → AreNonEmpty (front ++ rest) → AreNonEmpty front
+full_front [] rest full = All-nil (λ (r : Interval). r.start < r.stop)
+full_front (r ∷ front) rest full =
+    All-cons (λ (r : Interval). r.start < r.stop) r front (All-head (λ (r : Interval). r.start < r.stop) r (front ++ rest) full) (full_front front rest (All-tail (λ (r : Interval). r.start < r.stop) r (front ++ rest) full))
 
-module _ {S O : Type 0} {ghosts : Ghosts O} (settled : List Feature → List ℕ) (Stands : List Feature → Type 0) (left : S → Option (List ℕ)) (failed end : S → Bool) where
+-- the first of records that are in order are
+pub order_front : (order : Order) (front rest : List Feature) → AreInOrder order (front ++ rest) → AreInOrder order front
+order_front order front rest sorted =
+    let parts : intervals_of (front ++ rest) ≡ intervals_of front ++ intervals_of rest = map-append interval_of front rest in (
+      placed_front order (intervals_of front) (intervals_of rest) (subst (ArePlaced order) parts sorted.0),
+      full_front (intervals_of front) (intervals_of rest) (subst AreNonEmpty parts sorted.1),
+    )
+
+module _ {E : Type 0} (MayTake : E → List Feature → Type 0) (Stands : E → List Feature → E → Type 0) (engine_fault : E → Option Told) (settled : E → List Feature → List ℕ) (Quiet : E → List Feature → Feature → Type 0) (first : E) (out : Output)
+    (order : Order) (takes : (past : List Feature) → ArePlaced order (intervals_of past) → AreNonEmpty (intervals_of past) → MayTake first past) where
+  abbrev At : List Feature → E → Output → Type 0
+  At = EngineAt Stands settled first out
+
+  may_take : (past : List Feature) (r : Feature) (more : List Feature) → AreInOrder order (past ++ r ∷ more) → MayTake first (past ++ r ∷ [])
+  may_take past r more sorted =
+      let one = order_front order (past ++ r ∷ []) more (subst (AreInOrder order) (sym (append_assoc past (r ∷ []) more)) sorted) in
+      takes (past ++ r ∷ []) one.0 one.1
+
+  pub at_each : (past records : List Feature) (engine fed : E) (grown later : Output) → AreInOrder order (past ++ records) → At past engine grown
+      → TakesEach MayTake Stands engine_fault settled Quiet engine grown records fed later → At (past ++ records) fed later
+  at_each past [] engine fed grown later sorted at t = rw (append-nil past, t.0, t.1) at
+  at_each past (r ∷ records) engine fed grown later sorted at t =
+      let may = may_take past r records sorted in
+      let fed_one = t.2 in
+      let puts = fed_one.answers.puts first past at.stands may in
+      subst (λ (l : List Feature). At l fed later) (append_assoc past (r ∷ []) records)
+      (at_each (past ++ r ∷ []) records t.0 fed t.1 later (subst (AreInOrder order) (sym (append_assoc past (r ∷ []) records)) sorted)
+      (record {
+        stands = fed_one.answers.stands first past at.stands may;
+        grows = grows_both out.took grown.took (t.1).took at.grows fed_one.grows;
+        puts = λ before e. text_grows grown.put (t.1).put before (settled first past) puts.bytes (settled first (past ++ r ∷ [])) puts.goes_on puts.appends (at.puts before e);
+        works = works_both out grown t.1 at.works fed_one.answers.works;
+        block = fed_one.answers.works.block at.block;
+      })
+      t.3)
+
+-- ---- the run
+
+module _ {S O E : Type 0} {ghosts : Ghosts O} (MayTake : E → List Feature → Type 0) (Stands : E → List Feature → E → Type 0) (engine_fault : E → Option Told) (settled : E → List Feature → List ℕ) (first : E)
+    (left : S → Option (List ℕ)) (failed end : S → Bool) (old : Records S O ghosts) (out : Output) where
   -- the records so far were taken
-  pub record Going (old : Records S O ghosts) (out : Output) (now : Records S O ghosts) (grown : Output) : Type 0 where
+  pub record Going (now : Records S O ghosts) (engine : E) (grown : Output) : Type 0 where
     pub past : List (Member Feature)
-    pub fed : Fed settled left failed end (view_of old) out past (view_of now) grown
-    pub placed : IsPlaced old past now
-    pub full : AreNonEmpty (intervals_of (member_items past))
-    pub stands : Stands (member_items past)
+    pub fed : Fed (settled first) left failed end (view_of old) out past (view_of now) grown
+    pub order : order_in now ≡ order_in old
+    pub stands : Stands first (member_items past) engine
 
-module _ {S O : Type 0} {ghosts : Ghosts O} (settled : List Feature → List ℕ) (Stands : List Feature → Type 0) (left : S → Option (List ℕ)) (failed end : S → Bool) (old : Records S O ghosts) (out : Output) (now : Records S O ghosts) (grown : Output)
-    (is_bed : (view_of old).format ≡ bed_format (sorting_of (order_in old))) (g : Going settled Stands left failed end old out now grown) where
-  abbrev order : Order
-  order = order_in old
-
-  -- after the last record
-  pub feeds_all : (new : Records S O ghosts) → HasEnded left failed end now new → FeedsAll settled (IsBedKind order) (AreInOrder order) left failed end Stands (view_of old) out (view_of new) grown
-  feeds_all new ended =
-      fed_all settled (IsBedKind order) (AreInOrder order) left failed end (view_of old) out g.past (view_of now) grown g.fed Stands (view_of new)
-      (is_over left failed end now new ended) (g.placed.placed, g.full) g.stands
-
-  -- the reader told a fault
-  pub stops_reading : (new : Records S O ghosts) (fault : Told) → HasStopped left failed end now fault new → FeedsUpTo settled (IsBedKind order) (AreInOrder order) left failed end (view_of old) out fault (view_of new) grown
-  stops_reading new fault stopped =
-      fed_up_to settled (IsBedKind order) (AreInOrder order) left failed end (view_of old) out g.past (view_of now) grown g.fed
-      (λ state line kind says. wrong_of_bed order state line.text kind (ap (λ (f : Format Feature (Option Locus)). f.says state line) (sym is_bed) ∙ says))
-      (view_of new) fault (is_stopped left failed end now new fault stopped) (g.placed.placed, g.full)
-
-  -- a record is ahead
-  module _ (peeked : Records S O ghosts) (r : Feature) (ahead : HasAhead left failed end now r peeked) where
-    abbrev next_member : Member Feature
-    next_member = member_ahead left failed end now peeked r ahead
-
-    abbrev with_next : List (Member Feature)
-    with_next = g.past ++ next_member ∷ []
-
-    items_more : member_items with_next ≡ member_items g.past ++ r ∷ []
-    items_more = map-append (λ m. m.item) g.past (next_member ∷ [])
-
-    -- the records so far and the next one
-    full_more : AreNonEmpty (intervals_of (member_items with_next))
-    full_more =
-        rw (ap intervals_of items_more ∙ map-append interval_of (member_items g.past) (r ∷ []))
-        (All-push (λ r. r.start < r.stop) (intervals_of (member_items g.past)) (interval_of r) g.full ahead.gives.feature.non_empty)
-
-    sorted_more : AreInOrder order (member_items with_next)
-    sorted_more = (placed_next left failed end old g.past now g.placed r peeked ahead, full_more)
-
-    -- the same, of the records alone
-    pub sorted_items : AreInOrder order (member_items g.past ++ r ∷ [])
-    sorted_items = subst (AreInOrder order) items_more sorted_more
-
-    goes_on : (bytes : List ℕ) → settled (member_items g.past ++ r ∷ []) ≡ settled (member_items g.past) ++ bytes → settled (member_items with_next) ≡ settled (member_items g.past) ++ bytes
-    goes_on bytes e = ap settled items_more ∙ e
-
-    abbrev UpToIt : Told → Output → Type 0
-    UpToIt fault later = FeedsUpTo settled (IsBedKind order) (AreInOrder order) left failed end (view_of old) out fault (view_of peeked) later
-
-    -- the engine failed to write
-    pub stops_writing : (fault : Told) (later : Output) → fault ≡ write_failed
-        → CutsRest (settled (member_items g.past)) (settled (member_items g.past ++ r ∷ [])) grown later
-        → later.has_failed ≡ true → later.sink_has_failed ≡ true → Grows grown.took later.took → UpToIt fault later
-    stops_writing fault later is cuts fails sink grows =
-        fails_writing settled (IsBedKind order) (AreInOrder order) left failed end (view_of old) out g.past (view_of now) grown g.fed next_member (view_of peeked) (is_ahead left failed end now peeked r ahead) sorted_more
-        fault later cuts.bytes (goes_on cuts.bytes cuts.goes_on) is cuts.front fails sink grows
-
-    -- the engine found no memory
-    pub stops_growing : (fault : Told) (later : Output) → fault ≡ no_memory
-        → PutsRest (settled (member_items g.past)) (settled (member_items g.past ++ r ∷ [])) grown later
-        → WorksAsBefore grown later → Grows grown.took later.took → UpToIt fault later
-    stops_growing fault later is puts works grows =
-        fails_growing settled (IsBedKind order) (AreInOrder order) left failed end (view_of old) out g.past (view_of now) grown g.fed next_member (view_of peeked) (is_ahead left failed end now peeked r ahead) sorted_more
-        fault later puts.bytes (goes_on puts.bytes puts.goes_on) is puts.appends works grows
-
-    -- the record was taken and passed
-    pub going_more : (Next : List Feature → Type 0) (next : Records S O ghosts) (later : Output) → PassesRecord left peeked next
-        → Next (member_items g.past ++ r ∷ [])
-        → PutsRest (settled (member_items g.past)) (settled (member_items g.past ++ r ∷ [])) grown later
-        → WorksAsBefore grown later → Grows grown.took later.took → Going settled Next left failed end old out next later
-    going_more Next next later passes stands puts works grows = record {
-      past = with_next;
-      fed = fed_more settled (IsBedKind order) (AreInOrder order) left failed end (view_of old) out g.past (view_of now) grown g.fed next_member (view_of peeked) (is_ahead left failed end now peeked r ahead) sorted_more
-          (view_of next) later puts.bytes passes.passes (goes_on puts.bytes puts.goes_on) puts.appends works grows;
-      placed = placed_more left failed end old g.past now g.placed r peeked ahead next passes;
-      full = full_more;
-      stands = subst Next (sym items_more) stands;
-    }
-
--- before the first record
-module _ {S O : Type 0} {ghosts : Ghosts O} (settled : List Feature → List ℕ) (Stands : List Feature → Type 0) (left : S → Option (List ℕ)) (failed end : S → Bool) (old : Records S O ghosts) (out : Output) where
-  pub going_start : IsFresh left end (view_of old) → last_locus old ≡ None → Stands [] → settled [] ≡ [] → HoldsBlock out.took out.put
-      → Going settled Stands left failed end old out old out
-  going_start fresh none_last stands nothing block = record {
+  -- before the first record
+  pub going_start : IsFresh left end (view_of old) → Stands first [] first → settled first [] ≡ [] → HoldsBlock out.took out.put → Going old first out
+  going_start fresh stands nothing block = record {
     past = [];
-    fed = fed_none settled left failed end (view_of old) out fresh (line_going old fresh.going) nothing block;
-    placed = placed_start left failed end old none_last;
-    full = λ k d h. absurd (omega arith);
+    fed = fed_none (settled first) left failed end (view_of old) out fresh (line_going old fresh.going) nothing block;
+    order = refl;
     stands = stands;
   }
 
--- the engine wasn't given the record
-module _ {S O E : Type 0} {ghosts : Ghosts O} (MayTake : E → List Feature → Type 0) (Stands : E → List Feature → E → Type 0) (engine_fault : E → Option Told) (settled : E → List Feature → List ℕ) (first engine : E)
-    (left : S → Option (List ℕ)) (failed end : S → Bool) (old : Records S O ghosts) (out : Output) (now : Records S O ghosts) (grown : Output)
-    (is_bed : (view_of old).format ≡ bed_format (sorting_of (order_in old)))
-    (g : Going (settled first) (λ past. Stands first past engine) left failed end old out now grown)
-    (peeked : Records S O ghosts) (r : Feature) (ahead : HasAhead left failed end now r peeked) where
-  abbrev UpToHere : Told → Output → Type 0
-  UpToHere fault later = FeedsUpTo (settled first) (IsBedKind (order_in old)) (AreInOrder (order_in old)) left failed end (view_of old) out fault (view_of peeked) later
+  module _ (is_bed : (view_of old).format ≡ bed_format (sorting_of (order_in old))) (total : IsTotal (order_in old)) (none_last : last_locus old ≡ None)
+      (takes : (past : List Feature) → ArePlaced (order_in old) (intervals_of past) → AreNonEmpty (intervals_of past) → MayTake first past)
+      (now : Records S O ghosts) (engine : E) (grown : Output) (g : Going now engine grown) where
+    abbrev UpTo : Told → Records S O ghosts → Output → Type 0
+    UpTo fault new later = FeedsUpTo (settled first) (IsBedKind (order_in old)) (AreInOrder (order_in old)) left failed end (view_of old) out fault (view_of new) later
 
-  stops_not_taken : (fault : Told) (new : E) (later : Output) → MayTake first (member_items g.past ++ r ∷ []) → engine_fault engine ≡ None → Grows grown.took later.took
-      → NotTaken MayTake Stands engine_fault settled engine r grown fault new later → UpToHere fault later
-  stops_not_taken fault new later takes going grows (inl again) = absurd (let apart : None ≡ Some fault = sym going ∙ again.is in cc)
-  stops_not_taken fault new later takes going grows (inr (inl fails)) =
-      stops_writing (settled first) (λ past. Stands first past engine) left failed end old out now grown is_bed g peeked r ahead fault later fails.is
-      (fails.cuts first (member_items g.past) g.stands takes) fails.failed fails.sink_failed grows
-  stops_not_taken fault new later takes going grows (inr (inr runs_out)) =
-      stops_growing (settled first) (λ past. Stands first past engine) left failed end old out now grown is_bed g peeked r ahead fault later runs_out.is
-      (runs_out.puts first (member_items g.past) g.stands takes) runs_out.works grows
+    in_order : (past : List (Member Feature)) (new : MemberReader S Feature (Option Locus)) → Passes left failed end (view_of old) past new → AreInOrder (order_in old) (member_items past)
+    in_order past new passes =
+        said_in_order (order_in old) (member_items past) total
+        (subst (λ (f : Format Feature (Option Locus)). AreSaid f None (member_items past)) is_bed (subst (λ (s : Option Locus). AreSaid (view_of old).format s (member_items past)) none_last passes.said))
 
-  pub stops_feeding : {A : Type 0} (Quiet : E → List Feature → Feature → Type 0) (fault : Fault) (new : E) (later : Output) → MayTake first (member_items g.past ++ r ∷ [])
-      → EngineFeeds MayTake Stands engine_fault settled engine r grown {A = A} Quiet (Err fault) new later → UpToHere (told fault) later
-  stops_feeding Quiet fault new later takes fed =
-      stops_not_taken (told fault) new later takes (fed.going first (member_items g.past) g.stands) fed.grows fed.answers
+    -- a record is buffered
+    pub going_fill : (new : Records S O ghosts) → IsFilled left failed end (view_of now) (view_of new) → order_in new ≡ order_in now → Going new engine grown
+    going_fill new fills same = record {
+      past = g.past;
+      fed = fed_fill (settled first) (IsBedKind (order_in old)) (AreInOrder (order_in old)) left failed end (view_of old) out g.past (view_of now) grown g.fed (view_of new) fills;
+      order = same ∙ g.order;
+      stands = g.stands;
+    }
 
-  pub goes_feeding : {A : Type 0} (Quiet : E → List Feature → Feature → Type 0) (done : A) (new : E) (later : Output) (next : Records S O ghosts) → MayTake first (member_items g.past ++ r ∷ [])
-      → EngineFeeds MayTake Stands engine_fault settled engine r grown Quiet (Ok done) new later → PassesRecord left peeked next
-      → Going (settled first) (λ past. Stands first past new) left failed end old out next later
-  goes_feeding Quiet done new later next takes fed passes =
-      going_more (settled first) (λ past. Stands first past engine) left failed end old out now grown is_bed g peeked r ahead (λ past. Stands first past new) next later passes
-      (fed.answers.stands first (member_items g.past) g.stands takes) (fed.answers.puts first (member_items g.past) g.stands takes) fed.answers.works fed.grows
+    -- after the last record
+    pub feeds_all : (new : Records S O ghosts) → IsOver left failed end (view_of now) (view_of new)
+        → FeedsAll (settled first) (IsBedKind (order_in old)) (AreInOrder (order_in old)) left failed end (λ past. Stands first past engine) (view_of old) out (view_of new) grown
+    feeds_all new over =
+        fed_all (settled first) (IsBedKind (order_in old)) (AreInOrder (order_in old)) left failed end (view_of old) out g.past (view_of now) grown g.fed (λ past. Stands first past engine) (view_of new) over
+        (in_order g.past (view_of now) g.fed.passes) g.stands
+
+    -- the reader reported a fault
+    pub stops_reading : (new : Records S O ghosts) (fault : Told) → IsStopped left failed end (view_of now) fault (view_of new) → UpTo fault new grown
+    stops_reading new fault stopped =
+        fed_up_to (settled first) (IsBedKind (order_in old)) (AreInOrder (order_in old)) left failed end (view_of old) out g.past (view_of now) grown g.fed
+        (λ state line kind says. wrong_of_bed (order_in old) state line.text kind (ap (λ (f : Format Feature (Option Locus)). f.says state line) (sym is_bed) ∙ says))
+        (view_of new) fault stopped (in_order g.past (view_of now) g.fed.passes)
+
+    at_now : EngineAt Stands settled first out (member_items g.past) engine grown
+    at_now = record { stands = g.stands; grows = g.fed.grows; puts = g.fed.puts; works = g.fed.works; block = g.fed.block }
+
+    -- the records that were buffered were taken
+    pub going_taken : (Quiet : E → List Feature → Feature → Type 0) (new : Records S O ghosts) (fed : E) (later : Output) → TakesBuffered left failed end MayTake Stands engine_fault settled Quiet now engine grown new fed later → Going new fed later
+    going_taken Quiet new fed later t =
+        let passes = passes_take left failed end (view_of old) g.past (view_of now) g.fed.passes (buffered_in now) (view_of new) t.takes in
+        let items = items_take g.past (suc (lines_given (below now))) (buffered_in now) in
+        let at = at_each MayTake Stands engine_fault settled Quiet first out (order_in old) takes (member_items g.past) (buffered_in now) engine fed grown later
+        (subst (AreInOrder (order_in old)) items (in_order (g.past ++ members_from (suc (lines_given (below now))) (buffered_in now)) (view_of new) passes)) at_now t.taken in
+        record {
+          past = g.past ++ members_from (suc (lines_given (below now))) (buffered_in now);
+          fed = record { passes = passes; grows = at.grows; puts = rw items at.puts; works = at.works; block = at.block };
+          order = t.order ∙ g.order;
+          stands = rw items at.stands;
+        }
+
+    -- one of them wasn't
+    module _ (Quiet : E → List Feature → Feature → Type 0) (fault : Fault) (new : Records S O ghosts) (fed : E) (later : Output) (f : FailsAmong left failed end MayTake Stands engine_fault settled Quiet now engine grown fault new fed later) where
+      abbrev records : List Feature
+      records = f.records
+
+      abbrev past_items : List Feature
+      past_items = member_items g.past
+
+      sorted_given : AreInOrder (order_in old) ((past_items ++ records) ++ f.r ∷ [])
+      sorted_given =
+          subst (AreInOrder (order_in old)) (items_take g.past (suc (lines_given (below now))) (records ++ f.r ∷ []) ∙ sym (append_assoc past_items records (f.r ∷ [])))
+          (in_order (g.past ++ members_from (suc (lines_given (below now))) (records ++ f.r ∷ [])) (view_of new) (passes_take left failed end (view_of old) g.past (view_of now) g.fed.passes (records ++ f.r ∷ []) (view_of new) f.takes))
+
+      at_mid : EngineAt Stands settled first out (past_items ++ records) f.mid f.through
+      at_mid = at_each MayTake Stands engine_fault settled Quiet first out (order_in old) takes past_items records engine f.mid grown f.through (order_front (order_in old) (past_items ++ records) (f.r ∷ []) sorted_given) at_now f.taken
+
+      not_taken : MayTake first ((past_items ++ records) ++ f.r ∷ []) → engine_fault f.mid ≡ None → Grows (f.through).took later.took → NotTaken MayTake Stands engine_fault settled f.mid f.r f.through (told fault) fed later → UpTo (told fault) new later
+      not_taken may going grows (inl again) = absurd (let apart : None ≡ Some (told fault) = sym going ∙ again.is in cc)
+      not_taken may going grows (inr (inl fails)) =
+          let cuts = fails.cuts first (past_items ++ records) at_mid.stands may in
+          fails_writing (settled first) (IsBedKind (order_in old)) (AreInOrder (order_in old)) left failed end (view_of old) out g.past (view_of now) g.fed.passes records f.r (view_of new) f.takes
+          f.through at_mid.grows at_mid.puts at_mid.works at_mid.block sorted_given (told fault) later cuts.bytes cuts.goes_on fails.is cuts.front fails.failed fails.sink_failed grows
+      not_taken may going grows (inr (inr out_of)) =
+          let puts = out_of.puts first (past_items ++ records) at_mid.stands may in
+          fails_growing (settled first) (IsBedKind (order_in old)) (AreInOrder (order_in old)) left failed end (view_of old) out g.past (view_of now) g.fed.passes records f.r (view_of new) f.takes
+          f.through at_mid.grows at_mid.puts at_mid.works at_mid.block sorted_given (told fault) later puts.bytes puts.goes_on out_of.is puts.appends out_of.works grows
+
+      pub stops_feeding : UpTo (told fault) new later
+      stops_feeding =
+          not_taken (takes ((past_items ++ records) ++ f.r ∷ []) sorted_given.0 sorted_given.1) (f.fails.going first (past_items ++ records) at_mid.stands) f.fails.grows f.fails.answers

@@ -70,4 +70,3 @@ pub mod PartMaskLaws
 pub mod PartOwnGenomes
 pub mod PartSuffice
 pub mod OwnFailureLemmas
-pub mod AheadLemmas

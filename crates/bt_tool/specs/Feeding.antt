@@ -61,7 +61,7 @@ module _ {S A State : Type 0} (left : S → Option (List ℕ)) (end : S → Bool
   pub record IsFresh (reader : MemberReader S A State) : Type 0 where
     pub none_given : (lines_given reader.below ≡ 0) × (bytes_taken reader.below ≡ 0)
         × (feeds_taken reader.below ≡ 0)
-    pub none_ahead : reader.ahead ≡ None
+    pub none_buffered : reader.buffered ≡ []
     pub going : reader.fault ≡ None
     pub sound : IsSound left end reader.below
 

@@ -20,18 +20,17 @@ pub mod Telling
 pub mod OwnReads
 pub mod Flushing
 pub mod Feeding
+pub mod FeedsBuffered
 pub mod ConvertReport
 pub mod ConvertSteps
 pub mod Writing
 pub mod SweepReport
 pub mod MaskReport
-pub mod Turns
 pub mod Passed
 pub mod Pair
 pub mod PairEnds
 pub mod PairComes
 pub mod SweepLoop
-pub mod MaskTurns
 pub mod MaskLoop
 pub mod Coming
 pub mod Behaviour
@@ -44,4 +43,3 @@ pub mod SplitLaws
 pub mod GenomeSplitLaws
 pub mod MaskSplitLaws
 pub mod OwnGenomeLaws
-pub mod Ahead

@@ -1,10 +1,10 @@
 -- What a reader of members has passed, and why it stops.
 use Rattle.std.specs.Prelude.{◌≡◌, ℕ, suc, ◌+◌, ◌^◌, ◌<◌, ◌≤◌, ◌⊎◌, ⊤, All, Bool, true, List, []}
-use Rattle.std.specs.Prelude.{◌∷◌, ◌++◌, drop, length, map, Option, Some, None, IfSome}
+use Rattle.std.specs.Prelude.{◌∷◌, ◌++◌, drop, length, map, Option, Some, None, IfSome, IsSome}
 use Rattle.bt_lines.specs.Fault.{Told, read_failed, no_memory}
 use Rattle.bt_lines.specs.Lines.{bytes_in}
 use Rattle.bt_lines.specs.Output.{block_size}
-use Rattle.bt_lines.specs.Reader.{CutsOff, Hands, IsSound, IsUnread, source_of, input_of}
+use Rattle.bt_lines.specs.Reader.{CutsOff, Hands, IsKept, IsUnread, source_of, input_of}
 use Rattle.bt_lines.specs.Reader.{bytes_taken}
 use Rattle.bt_lines.specs.Reader.{fault_kept as line_fault, lines_given, lines_left}
 use Rattle.bt_lines.specs.declared.fault.Input.{Input}
@@ -13,8 +13,8 @@ use Rattle.bt_lines.specs.declared.line_reader.LineReader.{LineReader}
 use Rattle.bt_bed.specs.Good.{Format, Good, Member}
 use Rattle.bt_bed.specs.GoodLines.{IsBeyond}
 use Rattle.bt_bed.specs.LineKind.{fault_at_line}
-use Rattle.bt_bed.specs.Reading.{AnswersFault, EndsMembers, GivesMember, IsSaidBehind, MemberReader}
-use Rattle.bt_bed.specs.Reading.{good_coming}
+use Rattle.bt_bed.specs.Reading.{AnswersFault, AreSaid, EndsMembers, GivesMember, MemberReader}
+use Rattle.bt_bed.specs.Reading.{Takes, ahead_in, good_coming, state_behind}
 
 -- these members came first of what was to come, and the others are still to come
 abbrev pub ComeFirst : {A : Type 0} → Option (Good A) → List (Member A) → Option (Good A) → Type 0
@@ -26,22 +26,11 @@ ComeFirst (Some old) past (Some now) = (old.members ≡ past ++ now.members) × 
 abbrev pub member_items : {A : Type 0} → List (Member A) → List A
 member_items members = map (λ m. m.item) members
 
--- what is known after these items
-abbrev pub state_behind : {A State : Type 0} → Format A State → State → List A → State
-state_behind format state [] = state
-state_behind format state (item ∷ items) = state_behind format (format.after state item) items
-
--- each of these items is what a line says after those before it
-abbrev pub AreSaid : {A State : Type 0} → Format A State → State → List A → Type 0
-AreSaid format state [] = ⊤
-AreSaid format state (item ∷ items) =
-    IsSaidBehind format state item × AreSaid format (format.after state item) items
-
 -- a reader of lines as one of their members, where so much is known after those that were given
 abbrev pub lines_read : {S A State : Type 0} → Format A State → State → LineReader S
     → MemberReader S A State
 lines_read format state lines =
-    record { format = format; below = lines; state = state; ahead = None; fault = line_fault lines }
+    record { format = format; below = lines; state = state; buffered = []; fault = line_fault lines }
 
 -- a failed read that is kept is of the reads since then: the last of them failed, whatever the
 -- source did before, or the text is too long
@@ -62,27 +51,39 @@ IsKeptBelow reader lines =
     → line_fault lines ≡ Some (read_failed input line)
 
 module _ {S A State : Type 0} (left : S → Option (List ℕ)) (failed end : S → Bool) where
-  -- the reader has a member ahead
-  pub record IsAhead (old : MemberReader S A State) (m : Member A)
-      (peeked : MemberReader S A State) : Type 0 where
-    pub read : GivesMember left failed old m peeked
-    pub sound : IsSound left end old.below → IsSound left end peeked.below
-    pub clear : peeked.fault ≡ None → line_fault peeked.below ≡ None
+  -- the member ahead is the first of those still to come
+  abbrev pub AheadComes : MemberReader S A State → Type 0
+  AheadComes reader = (m : Member A) → ahead_in reader ≡ Some m
+      → IfSome (good_coming left reader) (λ good. (rest : List (Member A)) × (good.members ≡ m ∷ rest))
+
+  -- the reader has a member buffered
+  pub record IsFilled (old new : MemberReader S A State) : Type 0 where
+    pub m : Member A
+    pub gives : GivesMember left failed old m new
+    pub kept : IsKept left end old.below → IsKept left end new.below
+    pub clear : new.fault ≡ None → line_fault new.below ≡ None
+
+  -- members that were buffered are taken
+  pub record HasTaken (old : MemberReader S A State) (taken : List A)
+      (new : MemberReader S A State) : Type 0 where
+    pub takes : Takes left end old taken new
+    pub clear : new.fault ≡ None → line_fault new.below ≡ None
+    pub ahead : AheadComes new
 
   -- it has given all members
   pub record IsOver (old new : MemberReader S A State) : Type 0 where
     pub ends : EndsMembers left failed old new
-    pub sound : IsSound left end old.below → IsSound left end new.below
+    pub kept : IsKept left end old.below → IsKept left end new.below
     pub clear : new.fault ≡ None → line_fault new.below ≡ None
 
-  -- it tells a fault
+  -- it reports a fault
   pub record IsStopped (old : MemberReader S A State) (fault : Told)
       (new : MemberReader S A State) : Type 0 where
     pub answers : AnswersFault left failed end old fault new
-    pub sound : IsSound left end old.below → IsSound left end new.below
+    pub kept : IsKept left end old.below → IsKept left end new.below
 
   module _ (old : MemberReader S A State) where
-    -- these members were passed, and one more may be ahead
+    -- these members were passed, and more may be buffered
     pub record Passes (past : List (Member A)) (now : MemberReader S A State) : Type 0 where
       pub format : now.format ≡ old.format
       pub bytes : (bytes : List ℕ) × Hands left old.below bytes now.below
@@ -90,14 +91,17 @@ module _ {S A State : Type 0} (left : S → Option (List ℕ)) (failed end : S �
       pub state : now.state ≡ state_behind old.format old.state (member_items past)
       pub come : ComeFirst (good_coming left old) past (good_coming left now)
       pub behind : All (λ m. m.line ≤ lines_given now.below) past
-      pub ahead_low : IfSome now.ahead (λ m. m.line ≤ lines_given now.below)
       -- the lines left are those after the lines given
       pub lines : IfSome (lines_left left old.below)
           (λ lines. lines_left left now.below ≡ Some (drop (lines_given now.below) lines))
       pub going : now.fault ≡ None
       pub clear : line_fault now.below ≡ None
-      pub sound : IsSound left end now.below
+      pub kept : IsKept left end now.below
       pub served : failed (source_of now.below) ≡ failed (source_of old.below)
+      pub ahead : IsSome (good_coming left old) → AheadComes now
+      -- of known bytes, those after the lines given and one line more are left, but for a block at most
+      pub near : IfSome (lines_left left old.below) (λ lines. IfSome (left (source_of now.below))
+          (λ rest. bytes_in (drop (suc (lines_given now.below)) lines) ≤ length rest + block_size))
 
     -- How far the input was read: so many lines, one more and a block at most, and what is good
     -- after these members stands after so many lines.

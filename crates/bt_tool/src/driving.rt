@@ -1,6 +1,6 @@
 //! Feeding an engine with the records of an input.
 
-ghost use Rattle.std.specs.Prelude.{◌≡◌, [], List, None, option_map};
+ghost use Rattle.std.specs.Prelude.{◌≡◌, [], IsSome, List, None, option_map};
 ghost use Rattle.bt_lines.specs.Names.{told};
 ghost use Rattle.bt_lines.specs.Output.{HoldsBlock};
 ghost use Rattle.bt_lines.specs.Reader.{HasRead};
@@ -9,23 +9,19 @@ ghost use Rattle.bt_bed.specs.Interval.{AreNonEmpty};
 ghost use Rattle.bt_bed.specs.Order.{IsTotal};
 ghost use Rattle.bt_bed.specs.Locus.{ArePlaced};
 ghost use Rattle.bt_bed.specs.GoodBed.{bed_format};
-ghost use Rattle.bt_bed.specs.Records.{below, last_locus, order_in, view_of};
+ghost use Rattle.bt_bed.specs.Records.{below, last_locus, line_ahead, order_in, view_of};
 ghost use Rattle.bt_bed.specs.Sorting.{sorting_of};
 ghost use Rattle.bt_runs.specs.Settling.{SettledBegins, SettledStays};
 ghost use Rattle.bt_tool.specs.Writing.{WritesRecords};
 ghost use Rattle.bt_tool.specs.Feeding.{FeedsRecords, IsFresh};
-ghost use Rattle.bt_tool.specs.Ahead.{FeedsAhead};
+ghost use Rattle.bt_tool.specs.FeedsBuffered.{FeedsBuffered};
 ghost use Rattle.bt_tool.specs.Passed.{KeepsOwnFault};
 ghost use Rattle.bt_tool.specs.OwnReads.{AnswersNoRead, IsOwnFailure, ReadsServe, TellsNoRead, TellsOwnReads};
 
-use crate::pace::Pace;
 use bt_bed::{ChromOrder, Records};
 use bt_lines::{Fault, Input, LineReader, Out, Sink, Source};
 use bt_runs::Engine;
 use std::alloc::Global;
-
-// How many records that stand whole are worth the question.
-const ENOUGH: u64 = 2;
 
 // Feeds an engine that has taken no record with all records of a reader.
 fn feed_all<S: Source, O: ChromOrder, E: Engine, K: Sink>(
@@ -47,40 +43,26 @@ fn feed_all<S: Source, O: ChromOrder, E: Engine, K: Sink>(
     ensures reads { AnswersNoRead result → HasRead S.is_read (below records.old) (below records.new) }
     ensures own_failure { KeepsOwnFault S.is_read (below records.old) (view_of records.new) }
 {
-    let mut pace = Pace::new(ENOUGH);
-    loop {
-        feed_whole(&mut pace, records, engine, out)?;
-        match records.peek()? {
-            Some(record) => engine.feed(&record, out)?,
-            None => return Ok(()),
-        }
-        records.advance();
+    while records.fill()? {
+        feed_buffered(records, engine, out)?;
     }
+    Ok(())
 }
 
-// Feeds an engine with records that stand whole in what was read ahead, if it takes them so, where it is time to ask
-// for them. The one that it fails at was passed too.
-fn feed_whole<S: Source, O: ChromOrder, E: Engine, K: Sink>(
-    pace: &mut Pace,
+// Feeds an engine with the records that are buffered. One that it fails at is consumed too.
+fn feed_buffered<S: Source, O: ChromOrder, E: Engine, K: Sink>(
     records: &mut Records<'_, S, O>,
     engine: &mut E,
     out: &mut Out<K>,
 ) -> Result<(), Fault>
-    ensures { FeedsAhead S.left S.has_failed S.end_told S.is_read E.takes E.stands E.fault E.settled E.quiet
+    requires { IsSome (line_ahead records.old) }
+    ensures { FeedsBuffered S.left S.has_failed S.end_told E.takes E.stands E.fault E.settled E.quiet
         records.old engine.old out.old.output result records.new engine.new out.new.output }
 {
-    let before = records.lines();
-    if !pace.is_due(before) {
-        return Ok(());
-    }
-    let Some(mut whole) = records.whole() else {
-        pace.note(before, before);
-        return Ok(());
-    };
-    let fed = engine.feed_batch(&mut whole, out);
-    let passed = whole.passed();
-    records.pass(passed);
-    pace.note(before, records.lines());
+    let mut batch = records.buffered();
+    let fed = engine.feed_batch(&mut batch, out);
+    let consumed = batch.consumed();
+    records.consume(consumed);
     fed
 }
 

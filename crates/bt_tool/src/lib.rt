@@ -34,7 +34,6 @@ mod names;
 pub mod option_laws;
 mod options;
 mod outcome;
-mod pace;
 mod plan_type;
 mod running;
 pub mod split_laws;
