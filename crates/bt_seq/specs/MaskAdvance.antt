@@ -11,7 +11,7 @@ use Rattle.bt_lines.specs.declared.buffered_lines.BufferedLines.{BufferedLines}
 use Rattle.bt_lines.specs.declared.fault.Fault.{Fault}
 use Rattle.bt_seq.specs.GivenLines.{PassesLines}
 use Rattle.bt_seq.specs.MaskSettles.{GoesOn}
-use Rattle.bt_seq.specs.MaskStage.{MaskStage, want_at}
+use Rattle.bt_seq.specs.MaskStage.{IsNext, MaskStage, want_at}
 use Rattle.bt_seq.specs.MaskStanding.{MaskStandsAt}
 use Rattle.bt_seq.specs.MaskState.{Masking}
 use Rattle.bt_seq.specs.MaskSteps.{FailsToHoldRecord, FailsToWriteLine, FailsWithLine, LacksSequence, RefusesLine}
@@ -42,6 +42,7 @@ module _ (how : MaskHow) (full : Bool) where
     pub stage : MaskStage
     pub bytes : List ℕ
     pub goes_on : GoesOn how full old lines [] stage bytes
+    pub ahead_is : stage.ahead ≡ old.ahead
     pub fails : FailsToAdd out bytes fault grown
 
   -- the next line failed, or the next lines that nothing masks
@@ -92,9 +93,15 @@ pub record GivesLines {A : Type 0} (old : Masking) (lines : BufferedLines) (out 
 
 module _ {C : Type 0} (gives : C → List Feature → C → Type 0) (line_at : C → ℕ)
     (has_ended : C → Type 0) where
-  -- the record ahead, if one is known to be, comes next
+  -- whatever record comes next, it is the one ahead, if one is known to be
   abbrev pub ComesNext : Option Feature → C → Type 0
-  ComesNext ahead records = (r : Feature) → ahead ≡ Some r → (later : C) × gives records (r ∷ []) later
+  ComesNext ahead records = (r : Feature) (later : C) → gives records (r ∷ []) later → IsNext ahead r
+
+  -- the record ahead is the one that was, or it comes next after those that were taken
+  abbrev pub ComesAfter : Option Feature → C → List Feature → Option Feature → Type 0
+  ComesAfter was records taken ahead = (r : Feature) → ahead ≡ Some r
+      → ((was ≡ Some r) × (taken ≡ []))
+      ⊎ ((before : C) × (later : C) × gives records taken before × gives before (r ∷ []) later)
 
   -- what is asked for isn't there
   abbrev pub StopsAt : MaskWant → BufferedLines → C → Type 0
@@ -103,7 +110,7 @@ module _ {C : Type 0} (gives : C → List Feature → C → Type 0) (line_at : C
   StopsAt Nothing lines records = ⊤
 
   module _ (how : MaskHow) (full : Bool) (old : MaskStage) (lines : List TextLine)
-      (taken : List Feature) (out : Output) where
+      (taken : List Feature) (out : Output) (from : C) where
     -- what was given last failed: lines, or the record that comes next
     pub record FailsBehind (fault : Told) (records : C) (grown : Output) : Type 0 where
       pub before : List TextLine
@@ -113,6 +120,7 @@ module _ {C : Type 0} (gives : C → List Feature → C → Type 0) (line_at : C
       pub through : Output
       pub comes : HasCome how full old before taken out mask through
       pub ahead : ComesNext comes.stage.ahead records
+      pub ahead_is : ComesAfter old.ahead from taken comes.stage.ahead
       pub fails : ((want_at comes.stage ≡ Line)
           × FailsAtLines how full comes.stage failing through fault grown)
           ⊎ ((r : Feature) × (later : C) × (failing ≡ []) × (want_at comes.stage ≡ Bed)
@@ -124,7 +132,7 @@ module _ {C : Type 0} (gives : C → List Feature → C → Type 0) (line_at : C
     abbrev pub BothCome : {A : Type 0} → Result A Fault → Masking → C → Output → Type 0
     BothCome (Ok done) new records grown =
         (comes : HasCome how full old lines taken out new grown)
-        × ComesNext comes.stage.ahead records
+        × ComesNext comes.stage.ahead records × ComesAfter old.ahead from taken comes.stage.ahead
     BothCome (Err fault) new records grown =
         (new.want ≡ Nothing) × FailsBehind (told fault) records grown
 
@@ -138,7 +146,7 @@ module _ {C : Type 0} (gives : C → List Feature → C → Type 0) (line_at : C
     pub given : gives records taken records_left
     pub comes : (how : MaskHow) (full : Bool) (stage : MaskStage) → MaskStandsAt how full stage old
         → ComesNext stage.ahead records
-        → BothCome how full stage texts taken out answer new records_left grown
+        → BothCome how full stage texts taken out records answer new records_left grown
 
   -- the next record was given, or none is there
   pub record GivesRecord {A : Type 0} (old : Masking) (records : C) (out : Output)
@@ -147,7 +155,7 @@ module _ {C : Type 0} (gives : C → List Feature → C → Type 0) (line_at : C
     pub given : gives records taken left
     pub comes : (how : MaskHow) (full : Bool) (stage : MaskStage) → MaskStandsAt how full stage old
         → ComesNext stage.ahead records
-        → BothCome how full stage [] taken out answer new left grown
+        → BothCome how full stage [] taken out records answer new left grown
 
 -- how much may be given: it falls with each line and each record
 abbrev pub left_to_give : {C : Type 0} → (C → ℕ) → Masking → BufferedLines → C → ℕ
