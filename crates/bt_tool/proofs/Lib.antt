@@ -9,6 +9,7 @@ pub mod PassedLemmas
 pub mod MemberLemmas
 pub mod CursorLemmas
 pub mod LineMembers
+pub mod MaskGiven
 pub mod MaskedLemmas
 pub mod MaskFacts
 pub mod MaskKinds
@@ -20,7 +21,6 @@ pub mod SweepPassing
 pub mod SweepFacts
 pub mod SweepLimits
 pub mod MaskStart
-pub mod MaskTurnLemmas
 pub mod CameMembers
 pub mod PairMet
 pub mod PairNear

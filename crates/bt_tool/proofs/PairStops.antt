@@ -26,7 +26,7 @@ use Rattle.bt_tool.proofs.ComeLemmas.{begins_with, up_to}
 use Rattle.bt_tool.proofs.FeedLemmas.{goes_failed, goes_same, goes_works, took_later, took_lines, works_both}
 use Rattle.bt_tool.proofs.MemberLemmas.{bytes_more, passes_all, passes_end, passes_stop, read_at_stop, read_here}
 use Rattle.bt_tool.proofs.PairSettles.{settles_end}
-use Rattle.bt_tool.proofs.PairTurns.{first_waits, grown_puts, none_pushed, read_same, seen_alone, settles_ended}
+use Rattle.bt_tool.proofs.PairTurns.{all_written, first_waits, grown_puts, none_pushed, read_same, seen_alone, settles_ended}
 use Rattle.bt_tool.proofs.SeenLemmas.{cuts_more, if_known, items_begin, items_first, seen_items}
 
 begins_more : {A : Type 0} (old : Good A) (now : Option (Good A)) (past : List (Member A)) (m : Member A) → ComeFirst (Some old) past now → IfSome now (λ good. (rest : List (Member A)) × (good.members ≡ m ∷ rest))

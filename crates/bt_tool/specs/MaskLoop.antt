@@ -5,7 +5,7 @@ use Rattle.std.specs.List.{list_any}
 use Rattle.bt_lines.specs.Fault.{Told}
 use Rattle.bt_lines.specs.Names.{told}
 use Rattle.bt_lines.specs.Output.{Output}
-use Rattle.bt_lines.specs.Reader.{input_of}
+use Rattle.bt_lines.specs.Reader.{has_ended, input_of}
 use Rattle.bt_lines.specs.declared.fault.Input.TheVariants.{First}
 use Rattle.bt_lines.specs.declared.fault.Fault.{Fault}
 use Rattle.bt_lines.specs.declared.line_reader.LineReader.{LineReader}
@@ -116,6 +116,7 @@ module _ {A B : Type 0} (a_left : A → Option (List ℕ)) (a_failed a_end : A �
           first second grown
       -- the record ahead, if one is known to be, is the next one
       pub kept_ahead : (r : Feature) → stage.ahead ≡ Some r → item_ahead second ≡ Some r
+      pub lines_over : stage.lines_ended ≡ true → has_ended first.below ≡ true
 
 -- what giving an engine all that it asks for does
 abbrev pub FinishesMask : {A B T : Type 0} → (A → Option (List ℕ)) → (A → Bool) → (A → Bool)
