@@ -11,6 +11,7 @@ pub mod CursorLemmas
 pub mod LineMembers
 pub mod MaskGiven
 pub mod MaskedLemmas
+pub mod MaskAdvanced
 pub mod MaskFacts
 pub mod MaskKinds
 pub mod SweptLemmas

@@ -322,7 +322,7 @@ module _ {A B : Type 0} (a_left : A → Option (List ℕ)) (a_failed a_end : A �
         fails_at_end a waits fault now fails = (
           first,
           refl,
-          stop.fails_at_end making pair run.out (stage_of stage) s.past_first s.past_second first second grown s.comes asks_for (λ known. tt) (asked (s.stands.waits a waits).lines) goes a waits fault second_now now over fails,
+          stop.fails_at_end making pair run.out (stage_of stage) s.past_first s.past_second first second grown s.comes asks_for (λ known. tt) a waits (asked (s.stands.waits a waits).lines) goes fault second_now now over fails,
           λ input line e. e,
         )
 
@@ -331,13 +331,13 @@ module _ {A B : Type 0} (a_left : A → Option (List ℕ)) (a_failed a_end : A �
       stops_by None e fault second_now stopped = (
         first,
         refl,
-        stop.stops_behind making pair run.out (stage_of stage) s.past_first s.past_second first second grown s.comes asks_for (λ known. tt) wrong_second goes (lines_done e) (none_lacks e) fault second_now stopped,
+        stop.stops_behind making pair run.out (stage_of stage) s.past_first s.past_second first second grown s.comes asks_for (λ known. tt) (lines_done e) wrong_second goes (none_lacks e) fault second_now stopped,
         λ input line e. e,
       )
       stops_by (Some a) e fault second_now stopped = (
         first,
         refl,
-        stop.stops_second making pair run.out (stage_of stage) s.past_first s.past_second first second grown s.comes asks_for (λ known. tt) wrong_second (asked (s.stands.waits a e).lines) goes a e (λ known none. undecided a e) fault second_now stopped,
+        stop.stops_second making pair run.out (stage_of stage) s.past_first s.past_second first second grown s.comes asks_for (λ known. tt) a e wrong_second (asked (s.stands.waits a e).lines) goes (λ known none. undecided a e) fault second_now stopped,
         λ input line e. e,
       )
 

@@ -4,6 +4,9 @@ use Rattle.bt_bed.proofs.TokenLemmas.{token_is}
 use Rattle.bt_tool.proofs.CursorLemmas.{lines_consumed}
 use Rattle.bt_tool.proofs.LineMembers.{has_taken}
 use Rattle.bt_tool.proofs.PairStops.{first_fails}
+use Rattle.bt_tool.proofs.MaskGiven.{settles_given}
+use Rattle.bt_tool.proofs.MaskedLemmas.{finishes}
+use Rattle.bt_tool.proofs.MaskAdvanced.{items_from}
 use Rattle.bt_tool.proofs.masking.give_buffered.Goals as goal
 
 pub consume-requires : goal.consume-requires
