@@ -31,7 +31,7 @@ use Rattle.bt_bed.specs.declared.records.Records.{Records}
 use Rattle.bt_runs.specs.Engine.{Feeds as EngineFeeds, NotTaken, TakesEach}
 use Rattle.bt_tool.specs.Telling.{IsPutTo}
 use Rattle.bt_tool.specs.Feeding.{AreInOrder, GoesOn, IsFresh, PutsLines, Took, TookButBlock, FeedsAll, FeedsUpTo}
-use Rattle.bt_tool.specs.FeedsBuffered.{FailsAmong, TakesBuffered}
+use Rattle.bt_tool.specs.FeedsBuffered.{FailsAmong, FeedsBuffered, TakesBuffered}
 use Rattle.bt_tool.specs.Passed.{HasTaken, IsFilled, IsOver, IsReadFor, IsStopped, Passes, member_items}
 use Rattle.bt_tool.proofs.ComeLemmas.{begins_with}
 use Rattle.bt_tool.proofs.MemberLemmas.{bytes_more, items_take, passes_all, passes_end, passes_fill, passes_start, passes_stop, passes_take, read_alone, read_at_stop, read_before, read_here}
@@ -356,8 +356,8 @@ module _ {S O E : Type 0} {ghosts : Ghosts O} (MayTake : E → List Feature → 
   module _ (is_bed : (view_of old).format ≡ bed_format (sorting_of (order_in old))) (total : IsTotal (order_in old)) (none_last : last_locus old ≡ None)
       (takes : (past : List Feature) → ArePlaced (order_in old) (intervals_of past) → AreNonEmpty (intervals_of past) → MayTake first past)
       (now : Records S O ghosts) (engine : E) (grown : Output) (g : Going now engine grown) where
-    abbrev UpTo : Told → Records S O ghosts → Output → Type 0
-    UpTo fault new later = FeedsUpTo (settled first) (IsBedKind (order_in old)) (AreInOrder (order_in old)) left failed end (view_of old) out fault (view_of new) later
+    abbrev StopsUpTo : Told → Records S O ghosts → Output → Type 0
+    StopsUpTo fault new later = FeedsUpTo (settled first) (IsBedKind (order_in old)) (AreInOrder (order_in old)) left failed end (view_of old) out fault (view_of new) later
 
     in_order : (past : List (Member Feature)) (new : MemberReader S Feature (Option Locus)) → Passes left failed end (view_of old) past new → AreInOrder (order_in old) (member_items past)
     in_order past new passes =
@@ -381,7 +381,7 @@ module _ {S O E : Type 0} {ghosts : Ghosts O} (MayTake : E → List Feature → 
         (in_order g.past (view_of now) g.fed.passes) g.stands
 
     -- the reader reported a fault
-    pub stops_reading : (new : Records S O ghosts) (fault : Told) → IsStopped left failed end (view_of now) fault (view_of new) → UpTo fault new grown
+    pub stops_reading : (new : Records S O ghosts) (fault : Told) → IsStopped left failed end (view_of now) fault (view_of new) → StopsUpTo fault new grown
     stops_reading new fault stopped =
         fed_up_to (settled first) (IsBedKind (order_in old)) (AreInOrder (order_in old)) left failed end (view_of old) out g.past (view_of now) grown g.fed
         (λ state line kind says. wrong_of_bed (order_in old) state line.text kind (ap (λ (f : Format Feature (Option Locus)). f.says state line) (sym is_bed) ∙ says))
@@ -420,7 +420,7 @@ module _ {S O E : Type 0} {ghosts : Ghosts O} (MayTake : E → List Feature → 
       at_mid : EngineAt Stands settled first out (past_items ++ records) f.mid f.through
       at_mid = at_each MayTake Stands engine_fault settled Quiet first out (order_in old) takes past_items records engine f.mid grown f.through (order_front (order_in old) (past_items ++ records) (f.r ∷ []) sorted_given) at_now f.taken
 
-      not_taken : MayTake first ((past_items ++ records) ++ f.r ∷ []) → engine_fault f.mid ≡ None → Grows (f.through).took later.took → NotTaken MayTake Stands engine_fault settled f.mid f.r f.through (told fault) fed later → UpTo (told fault) new later
+      not_taken : MayTake first ((past_items ++ records) ++ f.r ∷ []) → engine_fault f.mid ≡ None → Grows (f.through).took later.took → NotTaken MayTake Stands engine_fault settled f.mid f.r f.through (told fault) fed later → StopsUpTo (told fault) new later
       not_taken may going grows (inl again) = absurd (let apart : None ≡ Some (told fault) = sym going ∙ again.is in cc)
       not_taken may going grows (inr (inl fails)) =
           let cuts = fails.cuts first (past_items ++ records) at_mid.stands may in
@@ -431,6 +431,14 @@ module _ {S O E : Type 0} {ghosts : Ghosts O} (MayTake : E → List Feature → 
           fails_growing (settled first) (IsBedKind (order_in old)) (AreInOrder (order_in old)) left failed end (view_of old) out g.past (view_of now) g.fed.passes records f.r (view_of new) f.takes
           f.through at_mid.grows at_mid.puts at_mid.works at_mid.block sorted_given (told fault) later puts.bytes puts.goes_on out_of.is puts.appends out_of.works grows
 
-      pub stops_feeding : UpTo (told fault) new later
+      pub stops_feeding : StopsUpTo (told fault) new later
       stops_feeding =
           not_taken (takes ((past_items ++ records) ++ f.r ∷ []) sorted_given.0 sorted_given.1) (f.fails.going first (past_items ++ records) at_mid.stands) f.fails.grows f.fails.answers
+
+-- an engine that stands after records has failed at one
+pub failed_among : {S O E : Type 0} {g : Ghosts O} {left : S → Option (List ℕ)} {failed end : S → Bool} {MayTake : E → List Feature → Type 0} {Stands : E → List Feature → E → Type 0}
+    {engine_fault : E → Option Told} {settled : E → List Feature → List ℕ} {Quiet : E → List Feature → Feature → Type 0} {old : Records S O g} {engine : E} {out : Output} {fault : Fault} {new : Records S O g} {fed : E} {grown : Output}
+    → FeedsBuffered left failed end MayTake Stands engine_fault settled Quiet old engine out {A = Unit {0}} (Err fault) new fed grown → (first : E) (past : List Feature) → Stands first past engine
+    → FailsAmong left failed end MayTake Stands engine_fault settled Quiet old engine out fault new fed grown
+failed_among (inl f) first past stands = f
+failed_among (inr spent) first past stands = absurd (spent first past stands)

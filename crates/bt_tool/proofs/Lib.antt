@@ -4,6 +4,7 @@ pub mod GivenLemmas
 pub mod Reading
 pub mod ComeLemmas
 pub mod FeedLemmas
+pub mod BufferedLemmas
 pub mod FractionLemmas
 pub mod PassedLemmas
 pub mod MemberLemmas

@@ -7,12 +7,17 @@ use Rattle.bt_lines.proofs.ReadsLemmas.{memory_no_read}
 use Rattle.bt_lines.specs.Fault.{Told, no_memory, read_failed}
 use Rattle.std.proofs.lemmas.Bool.{false≢true}
 use Rattle.std.specs.Io.KnownBytes.{Consumes}
-use Rattle.bt_lines.specs.Reader.{Hands, IsKept, IsSound, bytes_left, end_told, fault_kept as line_fault, held, left_at, source_of, input_of, lines_given, lines_left}
+use Rattle.bt_lines.specs.Reader.{Hands, IsKept, IsSound, bytes_left, end_told, fault_kept as line_fault, has_ended, held, left_at, source_of, input_of, lines_given, lines_left}
 use Rattle.bt_lines.specs.Lines.{AreNumbered, TextLine, bytes_in, lines_from}
 use Rattle.bt_lines.specs.Output.{block_size}
 use Rattle.bt_lines.specs.declared.fault.Input.{Input}
 use Rattle.bt_lines.specs.declared.fault.Kind.{Kind}
 use Rattle.bt_lines.specs.declared.line_reader.LineReader.{LineReader}
+use Rattle.bt_lines.specs.declared.line_reader.State.{State}
+use Rattle.bt_lines.specs.declared.line_reader.State.TheVariants.{Ended, LastLine, NoMemory, ReadFailed, Reading, TooLong}
+use Rattle.bt_lines.specs.ReadBuffer.{complete, unread}
+use Rattle.bt_lines.specs.ReaderState.{ended_at, lends_at, open_at, told_at}
+use Rattle.bt_lines.specs.Shape.{held_at}
 use Rattle.bt_lines.proofs.ReaderLemmas.{hands_none, hands_both, sound_near}
 use Rattle.bt_lines.proofs.TextLemmas.{bytes_in-append}
 use Rattle.bt_bed.specs.Good.{Format, Good, Member, ends_with, good_from}
@@ -107,13 +112,13 @@ known_map : {A B : Type 0} (f : A → B) (o : Option A) → IsSome (option_map f
 known_map f None k = absurd (false≢true k)
 known_map f (Some x) k = refl
 
-left_known : (told : Bool) (held : List ℕ) (left : Option (List ℕ)) → IsSome left → IsSome (left_at told held left)
-left_known true held left k = map_known (λ (bytes : List ℕ). []) left k
-left_known false held left k = map_known (λ (bytes : List ℕ). held ++ bytes) left k
+left_known : (told : Bool) (bytes : List ℕ) (left : Option (List ℕ)) → IsSome left → IsSome (left_at told bytes left)
+left_known true bytes left k = map_known (λ (rest : List ℕ). bytes) left k
+left_known false bytes left k = map_known (λ (rest : List ℕ). bytes ++ rest) left k
 
-known_left : (told : Bool) (held : List ℕ) (left : Option (List ℕ)) → IsSome (left_at told held left) → IsSome left
-known_left true held left k = known_map (λ (bytes : List ℕ). []) left k
-known_left false held left k = known_map (λ (bytes : List ℕ). held ++ bytes) left k
+known_left : (told : Bool) (bytes : List ℕ) (left : Option (List ℕ)) → IsSome (left_at told bytes left) → IsSome left
+known_left true bytes left k = known_map (λ (rest : List ℕ). bytes) left k
+known_left false bytes left k = known_map (λ (rest : List ℕ). bytes ++ rest) left k
 
 consumes_known : (a b : Option (List ℕ)) (bytes : List ℕ) → Consumes a b bytes → IsSome a → IsSome b
 consumes_known None b bytes c k = absurd (false≢true k)
@@ -134,16 +139,35 @@ bytes_known left old new bytes hands k =
     consumes_known (left (source_of old)) (left (source_of new)) bytes hands.left_over
     (known_left (end_told old) (held old) (left (source_of old)) (known_map _ _ k))
 
-none_left_by : (told : Bool) (number : ℕ) (held : List ℕ) (left : Option (List ℕ)) → told ≡ true → IsSome left → option_map (lines_from number) (left_at told held left) ≡ Some []
-unfolding lines_from
-none_left_by false number held left e k = absurd (false≢true e)
-none_left_by true number held None e k = absurd (false≢true k)
-none_left_by true number held (Some x) e k = refl
+-- after the last line nothing is held
+none_held : (is_open : Bool) (complete rest : List ℕ) → is_open ≡ false → complete ≡ [] → rest ≡ [] → held_at is_open complete rest ≡ []
+none_held true complete rest o c r = cc
+none_held false complete rest o c r = ap (λ (l : List ℕ). l ++ rest) c ∙ r
 
--- once the end was told, no line is left
-none_left_told : {S : Type 0} (left : S → Option (List ℕ)) (reader : LineReader S) → end_told reader ≡ true → IsSome (left (source_of reader)) → lines_left left reader ≡ Some []
+ended_state : (state : State) → ended_at state ≡ true → (open_at state ≡ false) × (lends_at state ≡ false) × (told_at state ≡ true)
+ended_state Reading e = absurd (false≢true e)
+ended_state LastLine e = absurd (false≢true e)
+ended_state Ended e = (refl, refl, refl)
+ended_state ReadFailed e = absurd (false≢true e)
+ended_state TooLong e = absurd (false≢true e)
+ended_state NoMemory e = absurd (false≢true e)
+
+ended_held : {S : Type 0} (reader : LineReader S) → has_ended reader ≡ true → held reader ≡ []
+unfolding has_ended held
+ended_held reader e =
+    let at = ended_state reader.state e in
+    none_held (open_at reader.state) (complete reader.buffer) (unread reader.buffer) at.0 (reader.quiet at.1) (reader.last.none_behind at.2)
+
+none_left_by : (told : Bool) (number : ℕ) (bytes : List ℕ) (left : Option (List ℕ)) → told ≡ true → bytes ≡ [] → IsSome left → option_map (lines_from number) (left_at told bytes left) ≡ Some []
+unfolding lines_from
+none_left_by false number bytes left e h k = absurd (false≢true e)
+none_left_by true number bytes None e h k = absurd (false≢true k)
+none_left_by true number bytes (Some x) e h k = ap (λ (l : List ℕ). Some (lines_from number l)) h
+
+-- once the end was reached, no line is left
+none_left_told : {S : Type 0} (left : S → Option (List ℕ)) (reader : LineReader S) → end_told reader ≡ true → has_ended reader ≡ true → IsSome (left (source_of reader)) → lines_left left reader ≡ Some []
 unfolding bytes_left
-none_left_told left reader e k = none_left_by (end_told reader) (suc (lines_given reader)) (held reader) (left (source_of reader)) e k
+none_left_told left reader e ended k = none_left_by (end_told reader) (suc (lines_given reader)) (held reader) (left (source_of reader)) e (ended_held reader ended) k
 
 lines_end : (old new : Option (List TextLine)) (count : ℕ) → (IsSome old → new ≡ Some []) → IfSome old (λ lines. drop count lines ≡ []) → IfSome old (λ lines. new ≡ Some (drop count lines))
 lines_end None new count e d = tt
@@ -327,7 +351,7 @@ module _ {S A State : Type 0} (left : S → Option (List ℕ)) (failed end : S �
       behind = up_to (lines_given now.below) (lines_given new.below) past ended.ends.rises g.behind;
       lines = lines_on (lines_left left old.below) (lines_left left now.below) (lines_left left new.below) (lines_given now.below) (lines_given new.below) ended.ends.rises g.lines
           (lines_end (lines_left left now.below) (lines_left left new.below) (lines_given new.below - lines_given now.below)
-          (λ k. none_left_told left new.below ended.ends.told (bytes_known left now.below new.below ended.ends.stays.bytes.0 ended.ends.stays.bytes.1 k)) ended.ends.lines);
+          (λ k. none_left_told left new.below ended.ends.told ended.ends.ends (bytes_known left now.below new.below ended.ends.stays.bytes.0 ended.ends.stays.bytes.1 k)) ended.ends.lines);
       state = ended.ends.state ∙ g.state;
       going = ended.ends.goes;
       clear = ended.clear ended.ends.goes;
@@ -429,6 +453,7 @@ module _ {S A State : Type 0} (left : S → Option (List ℕ)) (failed end : S �
     all_is = ap (λ (l : List (Member A)). past ++ l) (members_last from xs a) ∙ sym (append_assoc past (members_from from xs) (m ∷ []))
 
     pub read_before : IsReadFor left failed end old before (past ++ members_from from (xs ++ a ∷ [])) new
+    unfolding lines_given read_here
     read_before =
         let p = passes_take past now g (xs ++ a ∷ []) new has in
         let size = length-append xs (a ∷ []) in

@@ -1,6 +1,6 @@
 //! Feeding an engine with the records of an input.
 
-ghost use Rattle.std.specs.Prelude.{◌≡◌, [], IsSome, List, None, option_map};
+ghost use Rattle.std.specs.Prelude.{◌≡◌, [], List, None, option_map};
 ghost use Rattle.bt_lines.specs.Names.{told};
 ghost use Rattle.bt_lines.specs.Output.{HoldsBlock};
 ghost use Rattle.bt_lines.specs.Reader.{HasRead};
@@ -9,7 +9,7 @@ ghost use Rattle.bt_bed.specs.Interval.{AreNonEmpty};
 ghost use Rattle.bt_bed.specs.Order.{IsTotal};
 ghost use Rattle.bt_bed.specs.Locus.{ArePlaced};
 ghost use Rattle.bt_bed.specs.GoodBed.{bed_format};
-ghost use Rattle.bt_bed.specs.Records.{below, last_locus, line_ahead, order_in, view_of};
+ghost use Rattle.bt_bed.specs.Records.{below, last_locus, order_in, view_of};
 ghost use Rattle.bt_bed.specs.Sorting.{sorting_of};
 ghost use Rattle.bt_runs.specs.Settling.{SettledBegins, SettledStays};
 ghost use Rattle.bt_tool.specs.Writing.{WritesRecords};
@@ -55,7 +55,6 @@ fn feed_buffered<S: Source, O: ChromOrder, E: Engine, K: Sink>(
     engine: &mut E,
     out: &mut Out<K>,
 ) -> Result<(), Fault>
-    requires { IsSome (line_ahead records.old) }
     ensures { FeedsBuffered S.left S.has_failed S.end_told E.takes E.stands E.fault E.settled E.quiet
         records.old engine.old out.old.output result records.new engine.new out.new.output }
 {

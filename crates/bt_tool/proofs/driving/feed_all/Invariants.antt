@@ -6,8 +6,8 @@ use Rattle.bt_tool.proofs.driving.feed_all.Given as goal
 -- the records so far were taken
 abbrev pub invariant-loop-records : goal.invariant-loop-records
 invariant-loop-records g l =
-    Going (g.E.Engine.settled l.initial.engine) (λ past. g.E.Engine.stands l.initial.engine past l.engine)
-    g.S.Source.left g.S.Source.has_failed g.S.Source.end_told l.initial.records l.initial.out.output l.records l.out.output
+    Going g.E.Engine.takes g.E.Engine.stands g.E.Engine.fault g.E.Engine.settled l.initial.engine
+    g.S.Source.left g.S.Source.has_failed g.S.Source.end_told l.initial.records l.initial.out.output l.records l.engine l.out.output
     × HasRead g.S.Source.is_read (below l.initial.records) (below l.records)
 
 abbrev pub decreases-loop-records : goal.decreases-loop-records
