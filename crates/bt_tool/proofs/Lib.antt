@@ -13,6 +13,7 @@ pub mod LineMembers
 pub mod MaskGiven
 pub mod MaskedLemmas
 pub mod MaskAdvanced
+pub mod MaskBoth
 pub mod MaskFacts
 pub mod MaskKinds
 pub mod SweptLemmas

@@ -170,8 +170,8 @@ module _ {A B : Type 0} (a_left : A → Option (List ℕ)) (a_failed a_end : A �
             (ap (members_from (suc (lines_given lines))) (none_long items (omega (arith, say_count run.full at texts items say_here, ap length none))), refl)
 
         -- the engine stands there
-        pub come_on : (masked : Masking) (now : Output) → MaskStandsAt run.how run.full final masked → Grown grown bytes now → Going (state_behind (sequence_format run.full) at items) new second_now masked now
-        come_on masked now stands puts = record {
+        pub come_on : (masked : Masking) (now : Output) → MaskStandsAt run.how run.full final masked → Grown grown bytes now → (going : Going (state_behind (sequence_format run.full) at items) new second_now masked now) × (going.stage ≡ final)
+        come_on masked now stands puts = (record {
           past_first = s.past_first ++ more_first;
           past_second = s.past_second ++ more_second;
           stage = final;
@@ -181,7 +181,7 @@ module _ {A B : Type 0} (a_left : A → Option (List ℕ)) (a_failed a_end : A �
               bytes now (λ known. subst (λ (b : Bool). Settles rule final.written (s.comes.bytes ++ bytes) (final.taken ++ option_to_list (item_ahead second_now)) b) (sym goes.bed_ended_is) (settled known)) puts;
           kept_ahead = kept;
           lines_over = λ e. takes.ended_is ∙ s.lines_over (sym goes.lines_ended_is ∙ e);
-        }
+        }, refl)
 
         -- what is settled wasn't all written
         pub fails_write : (puts rest : List ℕ) → bytes ≡ puts ++ rest → (through now : Output) (fault : Told) → Grown grown puts through → FailsToAdd through rest fault now → EndsAt (Some fault) new second_now now

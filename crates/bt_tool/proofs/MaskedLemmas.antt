@@ -2,11 +2,12 @@
 use Rattle.std.proofs.Common.{◌≡◌, ℕ, suc, Bool, true, false, cond, not, ◌||◌, List, [], ◌∷◌, ◌++◌, length, Option, None, Some, Err, refl, sym, ap, ◌∙◌, subst, append-nil, append_assoc, option_to_list, arith, inl, inr}
 use Rattle.std.specs.Prelude.{◌⊎◌, IfSome, IsSome, IsTrue, is_some, option_map}
 use Rattle.std.proofs.lemmas.Bool.{false≢true, or_left, or_right}
+use Rattle.std.proofs.lemmas.List.{map-append}
 use Rattle.bt_lines.specs.Fault.{Told, read_failed}
 use Rattle.bt_lines.specs.Lines.{TextLine}
 use Rattle.bt_lines.specs.Output.{Output}
 use Rattle.bt_lines.specs.Putting.{FailsToAdd, Grown}
-use Rattle.bt_lines.specs.Reader.{GivesEnd, GivesFault, IsKept, MakesLine, has_ended}
+use Rattle.bt_lines.specs.Reader.{GivesEnd, GivesFault, IsKept, MakesLine, has_ended, lines_given}
 use Rattle.bt_lines.specs.declared.fault.Input.{Input}
 use Rattle.bt_lines.specs.declared.fault.Input.TheVariants.{Second}
 use Rattle.bt_lines.specs.declared.fault.Kind.{Kind}
@@ -14,10 +15,13 @@ use Rattle.bt_lines.specs.declared.fault.Kind.TheVariants.{NoSequence}
 use Rattle.bt_lines.specs.declared.line_reader.LineReader.{LineReader}
 use Rattle.bt_bed.specs.Feature.{Feature}
 use Rattle.bt_bed.specs.Good.{Format, Good, Member}
-use Rattle.bt_bed.specs.GoodBlocks.{block_format}
+use Rattle.bt_bed.specs.GoodBlocks.{AreInBlocks, block_format}
 use Rattle.bt_bed.specs.LineKind.{fault_at_line}
 use Rattle.bt_bed.specs.Locus.{Locus}
-use Rattle.bt_bed.specs.Reading.{MemberReader, ahead_in, state_behind}
+use Rattle.bt_bed.specs.Reading.{MemberReader, ahead_in, first_from, good_coming, state_behind}
+use Rattle.bt_seq.proofs.MaskFrontLemmas.{decided_stays}
+use Rattle.bt_seq.specs.MaskAdvance.{FailsAtRecord}
+use Rattle.bt_seq.specs.MaskFronts.{LineBefore}
 use Rattle.bt_seq.proofs.MaskMetLemmas.{first_is_told, lack_none}
 use Rattle.bt_seq.specs.MaskStage.{MaskStage, given, line_given_last, reached, reached_by, want_of, with_bed_ended, with_lines_ended}
 use Rattle.bt_seq.specs.MaskStanding.{IsOpen, MaskStandsAt}
@@ -27,18 +31,19 @@ use Rattle.bt_seq.specs.Owners.{left_after}
 use Rattle.bt_seq.specs.Sequences.{Reached, SequenceLine, line_says, sequence_format}
 use Rattle.bt_seq.specs.declared.mask_how.MaskHow.{MaskHow}
 use Rattle.bt_seq.specs.declared.mask_want.MaskWant.TheVariants.{Line as WantLine, Bed as WantBed, Nothing}
-use Rattle.bt_tool.specs.Feeding.{member_items}
+use Rattle.bt_tool.specs.Feeding.{ComeFirst, member_items}
 use Rattle.bt_tool.specs.MaskReport.{is_fasta_kind, is_mask_kind}
 use Rattle.bt_tool.specs.MaskLoop.{AreOwned, MaskRun, leaves_some, line_members, mask_making, mask_pair, nothing_reached, stage_of}
 use Rattle.bt_tool.specs.MaskTurns.{Ends, GoesOnAt}
-use Rattle.bt_tool.specs.Pair.{Making, Pair, item_ahead}
+use Rattle.bt_tool.specs.Pair.{Making, Pair, Settles, item_ahead}
 use Rattle.bt_tool.specs.PairComes.{Comes, Stage}
-use Rattle.bt_tool.specs.PairEnds.{AsksFor}
+use Rattle.bt_tool.specs.PairEnds.{AsksFor, IsKnown}
 use Rattle.bt_tool.specs.Passed.{IsFilled, IsOver, IsStopped}
 use Rattle.bt_tool.proofs.LineMembers.{gives_over, gives_unread, passes_made, wrong_is_text}
 use Rattle.bt_tool.proofs.MaskGiven.{ahead_first, first_of}
 use Rattle.bt_tool.proofs.MaskKinds.{says_of_blocks}
 use Rattle.bt_tool.proofs.MemberLemmas.{read_here}
+use Rattle.bt_tool.proofs.PairSettles.{settles_with}
 use Rattle.bt_tool.proofs.PairStops as stop
 use Rattle.bt_tool.proofs.PairTurns as turned
 
@@ -343,6 +348,83 @@ module _ {A B : Type 0} (a_left : A → Option (List ℕ)) (a_failed a_end : A �
 
       pub stops_records : (fault : Told) (second_now : MemberReader B Feature (Option Locus)) → IsStopped b_left b_failed b_end second fault second_now → EndsAt (Some fault) lines second_now grown
       stops_records fault second_now stopped = stops_by stage.waiting refl fault second_now stopped
+
+    -- a record is buffered, and failed
+    module _ (wants : mask.want ≡ WantBed) (r : Feature) (behind : List Feature) (buffered : second.buffered ≡ r ∷ behind) where
+      abbrev m : Member Feature
+      m = record { line = suc (lines_given second.below); item = r }
+
+      next : item_ahead second ≡ Some r
+      next = ahead_first second ∙ ap first_of buffered
+
+      m_ahead : ahead_in second ≡ Some m
+      m_ahead = ap (first_from (suc (lines_given second.below))) buffered
+
+      seen : stage.taken ++ option_to_list (item_ahead second) ≡ stage.taken ++ r ∷ []
+      seen = ap (λ (o : Option Feature). stage.taken ++ option_to_list o) next
+
+      -- where it decides the waiting line, that stays as it is
+      settles_decided : (a : SequenceLine) → decided a (stage.taken ++ r ∷ []) ≡ true → LineBefore run.how a stage.taken r → IsKnown pair
+          → Settles making (stage.written ++ a ∷ []) (s.comes.bytes ++ masked_line run.how stage.taken a) (stage.taken ++ option_to_list (item_ahead second)) stage.bed_ended
+      settles_decided a decides settled known =
+          settles_with making stage.written s.comes.bytes (stage.taken ++ option_to_list (item_ahead second)) stage.bed_ended a (masked_line run.how stage.taken a) (s.comes.settles known)
+          (λ rest ordered.
+          let front : (stage.taken ++ option_to_list (item_ahead second)) ++ rest ≡ (stage.taken ++ r ∷ []) ++ rest = ap (λ (l : List Feature). l ++ rest) seen in
+          let parts : (stage.taken ++ option_to_list (item_ahead second)) ++ rest ≡ stage.taken ++ r ∷ rest = front ∙ append_assoc stage.taken (r ∷ []) rest in (
+            ap (decided a) front ∙ decided_stays a (stage.taken ++ r ∷ []) rest decides,
+            ap (λ (l : List Feature). masked_line run.how l a) parts ∙ settled rest (subst AreInBlocks parts ordered),
+          ))
+
+      unowned_by : (none : stage.waiting ≡ None) → left_after (reached stage).names (stage.taken ++ r ∷ []) ≡ None → left_after (names_of stage.written) (member_items (s.past_second ++ m ∷ [])) ≡ None
+      unowned_by none e =
+          ap (λ (l : List (List ℕ)). left_after l (member_items (s.past_second ++ m ∷ []))) (names_alone none)
+          ∙ ap (left_after (reached stage).names) (map-append (λ (x : Member Feature). x.item) s.past_second (m ∷ []) ∙ ap (λ (l : List Feature). l ++ r ∷ []) (sym s.comes.all_taken)) ∙ e
+
+      begins_by : (old now : Option (Good Feature)) → (IsSome old → IfSome now (λ good. (rest : List (Member Feature)) × (good.members ≡ m ∷ rest))) → ComeFirst old s.past_second now
+          → IfSome old (λ good. (rest : List (Member Feature)) × (good.members ≡ (s.past_second ++ m ∷ []) ++ rest))
+      begins_by None now first come = tt
+      begins_by (Some old) None first come = absurd come
+      begins_by (Some old) (Some now) first come =
+          let f = first refl in
+          (f.0, come.0 ∙ ap (λ l. s.past_second ++ l) f.1 ∙ sym (append_assoc s.past_second (m ∷ []) f.0))
+
+      fails_by : (o : Option SequenceLine) → stage.waiting ≡ o → (fault : Told) (now : Output) → FailsAtRecord run.how run.full o stage r (suc (lines_given second.below)) grown fault now → EndsAt (Some fault) lines second now
+      fails_by None none fault now lacks = (
+        first,
+        refl,
+        rw lacks.same_output
+            (stop.ends_rest making pair run.out (stage_of stage) s.past_first s.past_second first second grown s.comes asks_for (λ known. tt) (lines_done wants none) second
+            (λ some. absurd (false≢true (ap is_some (sym s.comes.second_passes.going) ∙ some))) s.comes.second_passes.bytes s.past_second (Some fault)
+            (inr (inr (
+              fault,
+              refl,
+              record {
+                line = m.line;
+                kind = NoSequence;
+                is = lacks.is;
+                of_kind = refl;
+                told = told_by (names_of stage.written) (good_coming b_left run.records) s.past_second m fault lacks.is (owned_alone none) (unowned_by none lacks.unowned)
+                    (begins_by (good_coming b_left run.records) (good_coming b_left second) (λ known. s.comes.second_passes.ahead known m m_ahead) s.comes.second_passes.come);
+                serves = record { served = s.comes.second_passes.served; within = s.comes.second_passes.kept.within s.comes.second_passes.clear };
+              },
+            )))),
+        λ input line e. e,
+      )
+      fails_by (Some a) waits fault now (inl writes) = (
+        first,
+        refl,
+        stop.fails_waiting making pair run.out (stage_of stage) s.past_first s.past_second first second grown s.comes asks_for (λ known. tt) a waits (masked_line run.how stage.taken a) (settles_decided a writes.decides writes.settled) fault now writes.fails,
+        λ input line e. e,
+      )
+      fails_by (Some a) waits fault now (inr holds) = (
+        first,
+        refl,
+        rw holds.same_output (stop.lacks_memory making pair run.out (stage_of stage) s.past_first s.past_second first second grown s.comes asks_for (λ known. tt) fault holds.is),
+        λ input line e. e,
+      )
+
+      pub fails_record : (fault : Told) (now : Output) → FailsAtRecord run.how run.full stage.waiting stage r (suc (lines_given second.below)) grown fault now → EndsAt (Some fault) lines second now
+      fails_record fault now fails = fails_by stage.waiting refl fault now fails
 
     -- both inputs have ended
     pub finishes : mask.want ≡ Nothing → EndsAt None lines second grown
