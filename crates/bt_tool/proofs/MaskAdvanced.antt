@@ -145,7 +145,7 @@ module _ {A B : Type 0} (a_left : A → Option (List ℕ)) (a_failed a_end : A �
       taken_now : final.taken ≡ stage.taken ++ member_items more_second
       taken_now = goes.taken_is ∙ ap (λ l. stage.taken ++ l) (sym (items_from (suc (lines_given second.below)) taken))
 
-      settled : IsKnown both → Settles rule final.written (s.comes.bytes ++ bytes) (final.taken ++ option_to_list (item_ahead second_now)) stage.bed_ended
+      pub settled : IsKnown both → Settles rule final.written (s.comes.bytes ++ bytes) (final.taken ++ option_to_list (item_ahead second_now)) stage.bed_ended
       settled known =
           rw (goes.written_is, goes.taken_is, ahead_first second_now)
           (settles_given run.how run.full stage.written s.comes.bytes bytes stage final texts taken second_now.buffered (settled_now known) goes none_more (λ r e. sym (ahead_first second_now) ∙ kept r e))

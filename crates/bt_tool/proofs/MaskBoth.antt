@@ -1,11 +1,11 @@
 -- Lemmas on a turn of masking in which lines and records were given together.
 use Rattle.std.proofs.Common.{◌≡◌, ℕ, zero, suc, ◌-◌, drop, length-take, ◌+◌, ◌*◌, ◌≤◌, ◌<◌, Bool, true, false, List, [], ◌∷◌, ◌++◌, length, take, Option, None, Some, Result, Ok, Err, refl, sym, ap, ◌∙◌, subst, append-nil, append_assoc, option_to_list, arith, inl, inr}
-use Rattle.std.specs.Prelude.{◌⊎◌, is_some, nat_eq, option_map}
+use Rattle.std.specs.Prelude.{◌⊎◌, OnOk, is_some, nat_eq, option_map}
 use Rattle.std.proofs.lemmas.Bool.{false≢true}
 use Rattle.bt_lines.proofs.BufferLemmas.{fed_none}
 use Rattle.bt_lines.proofs.TextLemmas.{bytes_in-lines, whole_count}
 use Rattle.bt_lines.specs.Buffered.{BeginsLines, buffered_lines, lines_in, rest_in}
-use Rattle.bt_lines.specs.Fault.{Told}
+use Rattle.bt_lines.specs.Fault.{Told, no_memory}
 use Rattle.bt_lines.specs.Lines.{AreNumbered, TextLine, bytes_in, line_feeds, lines_from}
 use Rattle.bt_lines.specs.Names.{told}
 use Rattle.bt_lines.specs.Output.{Output}
@@ -22,8 +22,9 @@ use Rattle.bt_bed.specs.Locus.{Locus}
 use Rattle.bt_bed.specs.Reading.{MemberReader, room, state_behind}
 use Rattle.bt_bed.specs.declared.batch.Batch.{Batch}
 use Rattle.bt_seq.proofs.SettleLemmas.{goes_more, line_goes}
+use Rattle.bt_seq.proofs.StandLemmas.{wants_line}
 use Rattle.bt_seq.specs.GivenLines.{SayEach}
-use Rattle.bt_seq.specs.MaskAdvance.{BothCome, ComesAfter, ComesNext, FailsAtLines, FailsBehind, FailsToCopy, HasCome, StopsAt}
+use Rattle.bt_seq.specs.MaskAdvance.{BothCome, ComesAfter, ComesNext, FailsAtLines, FailsAtRecord, FailsBehind, HasCome, StopsAt}
 use Rattle.bt_seq.specs.MaskSettles.{GoesOn}
 use Rattle.bt_seq.specs.MaskStage.{IsNext, MaskStage, given, is_written_at_once, reached, want_at, want_of, with_line}
 use Rattle.bt_seq.specs.MaskStanding.{MaskStandsAt, kept_line}
@@ -33,11 +34,12 @@ use Rattle.bt_seq.specs.Sequences.{Reached, SequenceLine, sequence_format}
 use Rattle.bt_seq.specs.declared.mask_how.MaskHow.{MaskHow}
 use Rattle.bt_seq.specs.declared.mask_want.MaskWant.{MaskWant}
 use Rattle.bt_seq.specs.declared.mask_want.MaskWant.TheVariants.{Line as WantLine, Bed as WantBed, Nothing}
-use Rattle.bt_tool.specs.MaskLoop.{MaskRun}
+use Rattle.bt_tool.specs.MaskLoop.{MaskRun, mask_making}
 use Rattle.bt_tool.specs.MaskTurns.{Ends, Gives, GoesOnAt, IsThere, asks, left_to_ask}
-use Rattle.bt_tool.specs.Pair.{item_ahead}
+use Rattle.bt_tool.specs.Pair.{Settles, item_ahead}
+use Rattle.bt_tool.specs.PairComes.{Stage}
 use Rattle.bt_tool.specs.Passed.{HasTaken}
-use Rattle.bt_tool.proofs.MaskAdvanced.{come_on, fails_write, lacks_room, refuses_line}
+use Rattle.bt_tool.proofs.MaskAdvanced.{come_on, fails_write, items_from, lacks_room, refuses_line, settled}
 use Rattle.bt_tool.proofs.MaskGiven.{ahead_first, first_of}
 use Rattle.bt_tool.proofs.MaskedLemmas.{fails_record}
 
@@ -235,3 +237,112 @@ module _ {A B : Type 0} (a_left : A → Option (List ℕ)) (a_failed a_end : A �
       fails_copying fails =
           fails_write a_left a_failed a_end b_left b_failed b_end run at lines second mask out s new over consumed takes taken second_now has texts final (comes.bytes ++ bytes) all_go kept_final (lines_in last_lines) parts numbered are comes.bytes bytes refl
           behind.through now fault comes.puts fails
+
+    -- a line failed
+    module _ (wants : want_at comes.stage ≡ WantLine) where
+      none_waits : comes.stage.waiting ≡ None
+      none_waits = (wants_line comes.stage.waiting comes.stage.lines_ended comes.stage.bed_ended wants).0
+
+      module _ (line : TextLine) (one : behind.failing ≡ line ∷ []) where
+        texts_are : texts ≡ behind.before ++ line ∷ []
+        texts_are = behind.parts ∙ ap (λ l. behind.before ++ l) one
+
+        refuses_one : RefusesLine run.how run.full comes.stage line behind.through fault now → EndsAt (Some fault) now
+        refuses_one refuses =
+            rw refuses.same_output
+            (refuses_line a_left a_failed a_end b_left b_failed b_end run at lines second mask out s new over consumed takes taken second_now has behind.before comes.stage comes.bytes comes.goes_on kept line (lines_in last_lines)
+            (parts ∙ ap (λ l. l ++ lines_in last_lines) texts_are) (subst (AreNumbered (suc (lines_given lines))) texts_are numbered) (subst (λ (l : List TextLine). TakenLines lines consumed (length l)) texts_are are)
+            none_waits refuses.kind refuses.says fault refuses.is behind.through comes.puts)
+
+        module _ (fails : FailsWithLine run.how run.full comes.stage line behind.through fault now) where
+          with_it : GoesOn run.how run.full comes.stage behind.failing [] (with_line comes.stage fails.item) (bytes_with run.how comes.stage fails.item)
+          with_it =
+              subst (λ (l : List TextLine). GoesOn run.how run.full comes.stage l [] (with_line comes.stage fails.item) (bytes_with run.how comes.stage fails.item)) (sym one)
+              (line_goes run.how run.full comes.stage line fails.item none_waits fails.says)
+
+          ahead_same : (b : Bool) → is_written_at_once comes.stage fails.item ≡ b → (with_line comes.stage fails.item).ahead ≡ comes.stage.ahead
+          ahead_same true e = rw e refl
+          ahead_same false e = rw e refl
+
+          same_ahead : (with_line comes.stage fails.item).ahead ≡ comes.stage.ahead
+          same_ahead = ahead_same (is_written_at_once comes.stage fails.item) refl
+
+          -- it waits where memory ran out
+          abbrev mid : Stage SequenceLine Feature
+          mid = record {
+            written = comes.stage.written;
+            waiting = Some fails.item;
+            taken = comes.stage.taken;
+            first_ended = comes.stage.lines_ended;
+            second_ended = comes.stage.bed_ended;
+          }
+
+          with_given : (b : Bool) → is_written_at_once comes.stage fails.item ≡ b → given (with_line comes.stage fails.item) ≡ comes.stage.written ++ fails.item ∷ []
+          with_given true e = rw e (ap (λ (o : Option SequenceLine). (comes.stage.written ++ fails.item ∷ []) ++ option_to_list o) none_waits ∙ append-nil (comes.stage.written ++ fails.item ∷ []))
+          with_given false e = rw e refl
+
+          whole : GoesOn run.how run.full s.stage texts taken (with_line comes.stage fails.item) (comes.bytes ++ bytes_with run.how comes.stage fails.item)
+          whole = all_go (with_line comes.stage fails.item) (bytes_with run.how comes.stage fails.item) with_it same_ahead
+
+          kept_whole : (r : Feature) → (with_line comes.stage fails.item).ahead ≡ Some r → item_ahead second_now ≡ Some r
+          kept_whole r e = kept r (sym same_ahead ∙ e)
+
+          lacks_one : fault ≡ no_memory → EndsAt (Some fault) behind.through
+          lacks_one is =
+              lacks_room a_left a_failed a_end b_left b_failed b_end run at lines second mask out s new over consumed takes taken second_now has texts (with_line comes.stage fails.item) (comes.bytes ++ bytes_with run.how comes.stage fails.item) whole kept_whole
+              (lines_in last_lines) parts numbered are mid comes.goes_on.newly
+              (record {
+                given_is = sym (with_given (is_written_at_once comes.stage fails.item) refl) ∙ whole.given_is ∙ ap (λ l. given s.stage ++ l) (sym (items_from (suc (lines_given lines)) whole.items));
+                written_is = comes.goes_on.written_is;
+                taken_is = comes.goes_on.taken_is ∙ ap (λ l. s.stage.taken ++ l) (sym (items_from (suc (lines_given second.below)) taken));
+                first_is = comes.goes_on.lines_ended_is;
+                second_is = comes.goes_on.bed_ended_is;
+              })
+              comes.bytes behind.through
+              (λ known. subst (λ (b : Bool). Settles (mask_making run.how) comes.stage.written (s.comes.bytes ++ comes.bytes) (comes.stage.taken ++ option_to_list (item_ahead second_now)) b) (sym comes.goes_on.bed_ended_is)
+              (settled a_left a_failed a_end b_left b_failed b_end run at lines second mask out s new over consumed takes taken second_now has behind.before comes.stage comes.bytes comes.goes_on kept known)) comes.puts fault is
+
+          fails_one : EndsAt (Some fault) now
+          fails_one = elim fails.fails [
+            | inl adds ↦ fails_copying (with_line comes.stage fails.item) (bytes_with run.how comes.stage fails.item) with_it same_ahead adds
+            | inr ran ↦ rw ran.1 (lacks_one ran.0)
+          ]
+
+      fails_lines : FailsAtLines run.how run.full comes.stage behind.failing behind.through fault now → EndsAt (Some fault) now
+      fails_lines (inl (line, one, inl refuses)) = refuses_one line one refuses
+      fails_lines (inl (line, one, inr fails)) = fails_one line one fails
+      fails_lines (inr copies) = fails_copying copies.stage copies.bytes copies.goes_on copies.ahead_is copies.fails
+
+    -- the record that comes next failed
+    module _ (r : Feature) (later : Batch) (none : behind.failing ≡ []) (wants : want_at comes.stage ≡ WantBed) (passes : Passes last_beds (r ∷ []) later) where
+      before_is : texts ≡ behind.before
+      before_is = behind.parts ∙ ap (λ l. behind.before ++ l) none ∙ append-nil behind.before
+
+      number_is : line_in later ≡ suc (lines_given second_now.below)
+      unfolding line_in cursor_in
+      number_is = omega (arith, passes.lines.given, gave.lines.given, lent_at, has.takes.given)
+
+      fails_next : FailsAtRecord run.how run.full comes.stage.waiting comes.stage r (line_in later) behind.through fault now → EndsAt (Some fault) now
+      fails_next fails =
+          let here =
+          come_on a_left a_failed a_end b_left b_failed b_end run at lines second mask out s new over consumed takes taken second_now has behind.before comes.stage comes.bytes comes.goes_on kept (lines_in last_lines)
+          (parts ∙ ap (λ l. l ++ lines_in last_lines) before_is) (subst (AreNumbered (suc (lines_given lines))) before_is numbered) (subst (λ (l : List TextLine). TakenLines lines consumed (length l)) before_is are) behind.mask behind.through comes.stands comes.puts in
+          fails_record a_left a_failed a_end b_left b_failed b_end run (state_behind (sequence_format run.full) at comes.goes_on.items) new second_now behind.mask behind.through here.0 (comes.stands.want_is ∙ wants) r (left later)
+          (sym left_then ∙ passes.left_is) fault now
+          (subst (λ (n : ℕ). FailsAtRecord run.how run.full here.0.stage.waiting here.0.stage r n behind.through fault now) number_is
+          (subst (λ (stage : MaskStage). FailsAtRecord run.how run.full stage.waiting stage r (line_in later) behind.through fault now) (sym here.1) fails))
+
+    fails_both : ((want_at comes.stage ≡ WantLine) × FailsAtLines run.how run.full comes.stage behind.failing behind.through fault now)
+        ⊎ ((r : Feature) × (later : Batch) × (behind.failing ≡ []) × (want_at comes.stage ≡ WantBed) × Passes last_beds (r ∷ []) later × FailsAtRecord run.how run.full comes.stage.waiting comes.stage r (line_in later) behind.through fault now)
+        → EndsAt (Some fault) now
+    fails_both (inl at_lines) = fails_lines at_lines.0 at_lines.1
+    fails_both (inr at_record) = fails_next at_record.0 at_record.1 at_record.2 at_record.3 at_record.4 at_record.5
+
+    pub failed_both : EndsAt (Some fault) now
+    failed_both = fails_both behind.fails
+
+  -- what the answer says
+  pub gives_both : {T : Type 0} (answer : Result T Fault) (masked : Masking) (now : Output) → BothCome Passes line_in HasEnded run.how run.full s.stage texts taken out first_beds answer masked last_beds now
+      → OnOk answer (StopsAt Passes line_in HasEnded masked.want last_lines last_beds) → Gives a_left a_failed a_end b_left b_failed b_end run lines second mask answer new second_now masked now
+  gives_both (Ok done) masked now both stops = gave_both masked now both.0 stops both.2 done
+  gives_both (Err fault) masked now both stops = failed_both (told fault) now both.1

@@ -6,7 +6,7 @@ use Rattle.bt_tool.proofs.LineMembers.{has_taken}
 use Rattle.bt_tool.proofs.PairStops.{first_fails}
 use Rattle.bt_tool.proofs.MaskGiven.{settles_given}
 use Rattle.bt_tool.proofs.MaskedLemmas.{finishes}
-use Rattle.bt_tool.proofs.MaskBoth.{gave_both}
+use Rattle.bt_tool.proofs.MaskBoth.{gives_both}
 use Rattle.bt_tool.proofs.masking.give_buffered.Goals as goal
 
 pub consume-requires : goal.consume-requires
