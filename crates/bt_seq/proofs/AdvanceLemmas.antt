@@ -20,7 +20,7 @@ use Rattle.bt_seq.proofs.SettleLemmas.{decided_goes, goes_more, goes_nowhere, li
 use Rattle.bt_seq.proofs.StandLemmas.{wants_bed, wants_line}
 use Rattle.bt_seq.specs.CopyThrough.{CopiesThrough, StayEach, passed_all}
 use Rattle.bt_seq.specs.GivenLines.{PassesLines}
-use Rattle.bt_seq.specs.MaskAdvance.{BothCome, ComesNext, FailsAtRecord, GivesBoth, GivesLines, GivesRecord, HasCome, LinesCome, asks_more, left_to_give}
+use Rattle.bt_seq.specs.MaskAdvance.{BothCome, ComesAfter, ComesNext, FailsAtRecord, GivesBoth, GivesLines, GivesRecord, HasCome, LinesCome, asks_more, left_to_give}
 use Rattle.bt_seq.specs.MaskSettles.{GoesOn}
 use Rattle.bt_seq.specs.MaskStage.{IsNext, MaskStage, is_written_at_once, reached, want_of, with_decided, with_line, with_record}
 use Rattle.bt_seq.specs.MaskStanding.{MaskStandsAt}
@@ -229,7 +229,7 @@ module _ (old : Masking) (lines : BufferedLines) (out : Output) (wants : old.wan
             comes = come_nowhere how full stage old out stands;
             ahead_is = refl;
             asks = sym stands.want_is ∙ wants;
-            fails = inr (record { stage = c.now; bytes = flat_map spelled copies.texts; goes_on = c.goes; fails = copies.writes.1 });
+            fails = inr (record { stage = c.now; bytes = flat_map spelled copies.texts; goes_on = c.goes; ahead_is = c.ahead; fails = copies.writes.1 });
           },
         );
   }
@@ -239,12 +239,16 @@ module _ {C : Type 0} (gives : C → List Feature → C → Type 0) (line_at : C
     (gives_none : (cursor : C) → gives cursor [] cursor)
     (gives_more : (old mid new : C) (xs ys : List Feature) → gives old xs mid → gives mid ys new → gives old (xs ++ ys) new)
     (gives_same : (old mid new : C) (x y : Feature) (ys : List Feature) → gives old (x ∷ []) mid → gives old (y ∷ ys) new → x ≡ y) where
+  -- where none was taken, the one ahead is the one that was
+  after_none : (ahead : Option Feature) (records : C) → ComesAfter gives line_at has_ended ahead records [] ahead
+  after_none ahead records r e = inl (e, refl)
+
   -- no record comes next
   pub gave_none : {A : Type 0} (done : A) (old : Masking) (records : C) (out : Output) → GivesRecord gives line_at has_ended old records out (Ok done) old records out
   gave_none done old records out = record {
     taken = [];
     given = gives_none records;
-    comes = λ how full stage stands ahead. (come_nowhere how full stage old out stands, ahead);
+    comes = λ how full stage stands ahead. (come_nowhere how full stage old out stands, ahead, after_none stage.ahead records);
   }
 
   -- one does, and was given
@@ -280,7 +284,7 @@ module _ {C : Type 0} (gives : C → List Feature → C → Type 0) (line_at : C
       took_by new grown waits none (Some a) e = let t = waits how full stage a stands e is_next in (t.same_output, t.stands)
 
       come_taken : (new : Masking) (grown : Output) → Waits (Ok Yes) new grown → NoneWaits (Ok Yes) new grown
-          → BothCome gives line_at has_ended how full stage [] (r ∷ []) out (Ok (tt {0})) new later grown
+          → BothCome gives line_at has_ended how full stage [] (r ∷ []) out records (Ok (tt {0})) new later grown
       come_taken new grown waits none =
           let t = took_by new grown waits none stage.waiting refl in (
             record {
@@ -291,10 +295,11 @@ module _ {C : Type 0} (gives : C → List Feature → C → Type 0) (line_at : C
               puts = subst (λ (o : Output). Grown out [] o) (sym t.0) (grown_none out);
             },
             λ next further gives_it. tt,
+            λ next e. absurd (let apart : None ≡ Some next = e in cc),
           )
 
       come_left : (new : Masking) (grown : Output) → Waits (Ok No) new grown → NoneWaits (Ok No) new grown → (o : Option SequenceLine) → stage.waiting ≡ o
-          → BothCome gives line_at has_ended how full stage [] [] out (Ok (tt {0})) new records grown
+          → BothCome gives line_at has_ended how full stage [] [] out records (Ok (tt {0})) new records grown
       come_left new grown waits none None e = absurd (none how full stage stands e is_next)
       come_left new grown waits none (Some a) e =
           let t = waits how full stage a stands e is_next in (
@@ -306,6 +311,7 @@ module _ {C : Type 0} (gives : C → List Feature → C → Type 0) (line_at : C
               puts = t.puts;
             },
             left_ahead,
+            λ next e. inr (records, later, gives_none records, let same : r ≡ next = cc in subst (λ (x : Feature). gives records (x ∷ []) later) same given),
           )
 
       fails_by : (fault : Fault) (new : Masking) (grown : Output) → Waits (Err fault) new grown → NoneWaits (Err fault) new grown → (o : Option SequenceLine) → stage.waiting ≡ o
@@ -314,7 +320,7 @@ module _ {C : Type 0} (gives : C → List Feature → C → Type 0) (line_at : C
       fails_by fault new grown waits none (Some a) e = waits how full stage a stands e is_next
 
       come_failed : (fault : Fault) (new : Masking) (grown : Output) → Waits (Err fault) new grown → NoneWaits (Err fault) new grown
-          → BothCome gives line_at has_ended how full stage [] [] out {A = Unit {0}} (Err fault) new records grown
+          → BothCome gives line_at has_ended how full stage [] [] out records {A = Unit {0}} (Err fault) new records grown
       come_failed fault new grown waits none =
           let f = fails_by fault new grown waits none stage.waiting refl in (
             f.0,
@@ -326,6 +332,7 @@ module _ {C : Type 0} (gives : C → List Feature → C → Type 0) (line_at : C
               through = out;
               comes = come_nowhere how full stage old out stands;
               ahead = ahead;
+              ahead_is = after_none stage.ahead records;
               fails = inr (
                 r,
                 later,
@@ -349,8 +356,8 @@ module _ {C : Type 0} (gives : C → List Feature → C → Type 0) (line_at : C
   -- what giving lines or a record does is what giving both does
   module _ (records : C) {A : Type 0} (old new : Masking) (lines left : BufferedLines) (out grown : Output) where
     lift_lines : (answer : Result A Fault) (texts : List TextLine) (how : MaskHow) (full : Bool) (stage : MaskStage) → ComesNext gives line_at has_ended stage.ahead records
-        → LinesCome how full stage texts out answer new grown → BothCome gives line_at has_ended how full stage texts [] out answer new records grown
-    lift_lines (Ok done) texts how full stage ahead c = (c.0, subst (λ (o : Option Feature). ComesNext gives line_at has_ended o records) (sym c.1) ahead)
+        → LinesCome how full stage texts out answer new grown → BothCome gives line_at has_ended how full stage texts [] out records answer new records grown
+    lift_lines (Ok done) texts how full stage ahead c = (c.0, subst (λ (o : Option Feature). ComesNext gives line_at has_ended o records) (sym c.1) ahead, λ r e. inl (sym c.1 ∙ e, refl))
     lift_lines (Err fault) texts how full stage ahead c = (
       c.0,
       record {
@@ -361,6 +368,7 @@ module _ {C : Type 0} (gives : C → List Feature → C → Type 0) (line_at : C
         through = c.1.through;
         comes = c.1.comes;
         ahead = subst (λ (o : Option Feature). ComesNext gives line_at has_ended o records) (sym c.1.ahead_is) ahead;
+        ahead_is = λ r e. inl (sym c.1.ahead_is ∙ e, refl);
         fails = inl (c.1.asks, c.1.fails);
       },
     )
@@ -390,23 +398,33 @@ module _ {C : Type 0} (gives : C → List Feature → C → Type 0) (line_at : C
     passes = none_pass lines;
     taken = [];
     given = gives_none records;
-    comes = λ how full stage stands ahead. (come_nowhere how full stage old out stands, ahead);
+    comes = λ how full stage stands ahead. (come_nowhere how full stage old out stands, ahead, after_none stage.ahead records);
   }
 
   -- what is given further
   module _ {A : Type 0} (done : A) (old mid new : Masking) (lines between left : BufferedLines) (records passing last : C) (out through grown : Output)
       (first : GivesBoth gives line_at has_ended old lines records out (Ok done) mid between passing through) where
+    after_both : (was mid_ahead ahead : Option Feature) (taken : List Feature) → ComesAfter gives line_at has_ended was records first.taken mid_ahead → ComesAfter gives line_at has_ended mid_ahead passing taken ahead
+        → ComesAfter gives line_at has_ended was records (first.taken ++ taken) ahead
+    after_both was mid_ahead ahead taken f c r e = elim (c r e) [
+      | inl same ↦ elim (f r same.0) [
+        | inl none ↦ inl (none.0, ap (λ (l : List Feature). l ++ taken) none.1 ∙ same.1)
+        | inr there ↦ inr (there.0, there.1, subst (λ (l : List Feature). gives records l there.0) (sym (append-nil first.taken) ∙ ap (λ (l : List Feature). first.taken ++ l) (sym same.1)) there.2, there.3)
+      ]
+      | inr there ↦ inr (there.0, there.1, gives_more records passing there.0 first.taken taken first.given there.2, there.3)
+    ]
+
     more_come : {B D : Type 0} (b : B) (d : D) (texts : List TextLine) (taken : List Feature) (how : MaskHow) (full : Bool) (stage : MaskStage)
-        → (f : BothCome gives line_at has_ended how full stage first.texts first.taken out (Ok done) mid passing through)
-        → BothCome gives line_at has_ended how full f.0.stage texts taken through (Ok b) new last grown
-        → BothCome gives line_at has_ended how full stage (first.texts ++ texts) (first.taken ++ taken) out (Ok d) new last grown
+        → (f : BothCome gives line_at has_ended how full stage first.texts first.taken out records (Ok done) mid passing through)
+        → BothCome gives line_at has_ended how full f.0.stage texts taken through passing (Ok b) new last grown
+        → BothCome gives line_at has_ended how full stage (first.texts ++ texts) (first.taken ++ taken) out records (Ok d) new last grown
     more_come b d texts taken how full stage f c =
-        (come_more how full stage first.texts texts first.taken taken out through grown mid new f.0 c.0, c.1)
+        (come_more how full stage first.texts texts first.taken taken out through grown mid new f.0 c.0, c.1, after_both stage.ahead f.0.stage.ahead c.0.stage.ahead taken f.2 c.2)
 
     more_fail : (fault : Fault) (texts : List TextLine) (taken : List Feature) (how : MaskHow) (full : Bool) (stage : MaskStage)
-        → (f : BothCome gives line_at has_ended how full stage first.texts first.taken out (Ok done) mid passing through)
-        → BothCome gives line_at has_ended how full f.0.stage texts taken through {A = Unit {0}} (Err fault) new last grown
-        → BothCome gives line_at has_ended how full stage (first.texts ++ texts) (first.taken ++ taken) out {A = Unit {0}} (Err fault) new last grown
+        → (f : BothCome gives line_at has_ended how full stage first.texts first.taken out records (Ok done) mid passing through)
+        → BothCome gives line_at has_ended how full f.0.stage texts taken through passing {A = Unit {0}} (Err fault) new last grown
+        → BothCome gives line_at has_ended how full stage (first.texts ++ texts) (first.taken ++ taken) out records {A = Unit {0}} (Err fault) new last grown
     more_fail fault texts taken how full stage f c = (
       c.0,
       record {
@@ -417,6 +435,7 @@ module _ {C : Type 0} (gives : C → List Feature → C → Type 0) (line_at : C
         through = c.1.through;
         comes = come_more how full stage first.texts c.1.before first.taken taken out through c.1.through mid c.1.mask f.0 c.1.comes;
         ahead = c.1.ahead;
+        ahead_is = after_both stage.ahead f.0.stage.ahead c.1.comes.stage.ahead taken f.2 c.1.ahead_is;
         fails = c.1.fails;
       },
     )

@@ -42,6 +42,7 @@ module _ (how : MaskHow) (full : Bool) where
     pub stage : MaskStage
     pub bytes : List ℕ
     pub goes_on : GoesOn how full old lines [] stage bytes
+    pub ahead_is : stage.ahead ≡ old.ahead
     pub fails : FailsToAdd out bytes fault grown
 
   -- the next line failed, or the next lines that nothing masks
@@ -96,6 +97,12 @@ module _ {C : Type 0} (gives : C → List Feature → C → Type 0) (line_at : C
   abbrev pub ComesNext : Option Feature → C → Type 0
   ComesNext ahead records = (r : Feature) (later : C) → gives records (r ∷ []) later → IsNext ahead r
 
+  -- the record ahead is the one that was, or it comes next after those that were taken
+  abbrev pub ComesAfter : Option Feature → C → List Feature → Option Feature → Type 0
+  ComesAfter was records taken ahead = (r : Feature) → ahead ≡ Some r
+      → ((was ≡ Some r) × (taken ≡ []))
+      ⊎ ((before : C) × (later : C) × gives records taken before × gives before (r ∷ []) later)
+
   -- what is asked for isn't there
   abbrev pub StopsAt : MaskWant → BufferedLines → C → Type 0
   StopsAt Line lines records = lines_in lines ≡ []
@@ -103,7 +110,7 @@ module _ {C : Type 0} (gives : C → List Feature → C → Type 0) (line_at : C
   StopsAt Nothing lines records = ⊤
 
   module _ (how : MaskHow) (full : Bool) (old : MaskStage) (lines : List TextLine)
-      (taken : List Feature) (out : Output) where
+      (taken : List Feature) (out : Output) (from : C) where
     -- what was given last failed: lines, or the record that comes next
     pub record FailsBehind (fault : Told) (records : C) (grown : Output) : Type 0 where
       pub before : List TextLine
@@ -113,6 +120,7 @@ module _ {C : Type 0} (gives : C → List Feature → C → Type 0) (line_at : C
       pub through : Output
       pub comes : HasCome how full old before taken out mask through
       pub ahead : ComesNext comes.stage.ahead records
+      pub ahead_is : ComesAfter old.ahead from taken comes.stage.ahead
       pub fails : ((want_at comes.stage ≡ Line)
           × FailsAtLines how full comes.stage failing through fault grown)
           ⊎ ((r : Feature) × (later : C) × (failing ≡ []) × (want_at comes.stage ≡ Bed)
@@ -124,7 +132,7 @@ module _ {C : Type 0} (gives : C → List Feature → C → Type 0) (line_at : C
     abbrev pub BothCome : {A : Type 0} → Result A Fault → Masking → C → Output → Type 0
     BothCome (Ok done) new records grown =
         (comes : HasCome how full old lines taken out new grown)
-        × ComesNext comes.stage.ahead records
+        × ComesNext comes.stage.ahead records × ComesAfter old.ahead from taken comes.stage.ahead
     BothCome (Err fault) new records grown =
         (new.want ≡ Nothing) × FailsBehind (told fault) records grown
 
@@ -138,7 +146,7 @@ module _ {C : Type 0} (gives : C → List Feature → C → Type 0) (line_at : C
     pub given : gives records taken records_left
     pub comes : (how : MaskHow) (full : Bool) (stage : MaskStage) → MaskStandsAt how full stage old
         → ComesNext stage.ahead records
-        → BothCome how full stage texts taken out answer new records_left grown
+        → BothCome how full stage texts taken out records answer new records_left grown
 
   -- the next record was given, or none is there
   pub record GivesRecord {A : Type 0} (old : Masking) (records : C) (out : Output)
@@ -147,7 +155,7 @@ module _ {C : Type 0} (gives : C → List Feature → C → Type 0) (line_at : C
     pub given : gives records taken left
     pub comes : (how : MaskHow) (full : Bool) (stage : MaskStage) → MaskStandsAt how full stage old
         → ComesNext stage.ahead records
-        → BothCome how full stage [] taken out answer new left grown
+        → BothCome how full stage [] taken out records answer new left grown
 
 -- how much may be given: it falls with each line and each record
 abbrev pub left_to_give : {C : Type 0} → (C → ℕ) → Masking → BufferedLines → C → ℕ

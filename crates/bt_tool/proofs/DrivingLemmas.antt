@@ -25,7 +25,7 @@ use Rattle.bt_bed.specs.Order.{Order, IsTotal}
 use Rattle.bt_bed.specs.Locus.{ArePlaced}
 use Rattle.bt_bed.specs.Reading.{MemberReader, good_coming}
 use Rattle.bt_bed.specs.SortedReader.{view_with}
-use Rattle.bt_bed.specs.Records.{below, fault_kept, line_ahead, order_in, view_of}
+use Rattle.bt_bed.specs.Records.{below, buffered_in, fault_kept, order_in, view_of}
 use Rattle.bt_lines.specs.Names.{told}
 use Rattle.bt_lines.specs.Putting.{CutsRest, PutsRest}
 use Rattle.bt_lines.specs.declared.fault.Fault.{Fault}
@@ -53,21 +53,17 @@ items_both : {A : Type 0} (past rest : List (Member A)) → member_items (past +
 items_both past rest = map-append (λ m. m.item) past rest
 
 -- the beginning of a run's input, from a reader that has given nothing and a reader of records over it
-pub none_of : {A B : Type 0} (f : A → B) (o : Option A) → option_map f o ≡ None → o ≡ None
-none_of f None e = refl
-none_of f (Some x) e = cc
-
 module _ {S O : Type 0} {ghosts : Ghosts O} where
   pub sorted_start : (records : Records S O ghosts) → (view_of records).format ≡ bed_format (sorting_of (order_in records))
   unfolding view_of view_with order_in
   sorted_start records = refl
 
   pub fresh_start : (left : S → Option (List ℕ)) (end : S → Bool) (reader : LineReader S) (records : Records S O ghosts) → below records ≡ reader
-      → lines_given reader ≡ 0 → bytes_taken reader ≡ 0 → feeds_taken reader ≡ 0 → fault_kept records ≡ None → line_ahead records ≡ None → IsSound left end reader
+      → lines_given reader ≡ 0 → bytes_taken reader ≡ 0 → feeds_taken reader ≡ 0 → fault_kept records ≡ None → buffered_in records ≡ [] → IsSound left end reader
       → IsFresh left end (view_of records)
-  fresh_start left end reader records is given taken fed going ahead sound = record {
+  fresh_start left end reader records is given taken fed going none sound = record {
     none_given = (ap lines_given is ∙ given, ap bytes_taken is ∙ taken, ap feeds_taken is ∙ fed);
-    none_ahead = none_of (λ m. m.line) (view_of records).ahead ahead;
+    none_buffered = none;
     going = going;
     sound = subst (IsSound left end) (sym is) sound;
   }

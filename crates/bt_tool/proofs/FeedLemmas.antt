@@ -31,7 +31,7 @@ use Rattle.bt_bed.specs.declared.records.Records.{Records}
 use Rattle.bt_runs.specs.Engine.{Feeds as EngineFeeds, NotTaken, TakesEach}
 use Rattle.bt_tool.specs.Telling.{IsPutTo}
 use Rattle.bt_tool.specs.Feeding.{AreInOrder, GoesOn, IsFresh, PutsLines, Took, TookButBlock, FeedsAll, FeedsUpTo}
-use Rattle.bt_tool.specs.FeedsBuffered.{FailsAmong, TakesBuffered}
+use Rattle.bt_tool.specs.FeedsBuffered.{FailsAmong, FeedsBuffered, TakesBuffered}
 use Rattle.bt_tool.specs.Passed.{HasTaken, IsFilled, IsOver, IsReadFor, IsStopped, Passes, member_items}
 use Rattle.bt_tool.proofs.ComeLemmas.{begins_with}
 use Rattle.bt_tool.proofs.MemberLemmas.{bytes_more, items_take, passes_all, passes_end, passes_fill, passes_start, passes_stop, passes_take, read_alone, read_at_stop, read_before, read_here}
@@ -434,3 +434,11 @@ module _ {S O E : Type 0} {ghosts : Ghosts O} (MayTake : E → List Feature → 
       pub stops_feeding : StopsUpTo (told fault) new later
       stops_feeding =
           not_taken (takes ((past_items ++ records) ++ f.r ∷ []) sorted_given.0 sorted_given.1) (f.fails.going first (past_items ++ records) at_mid.stands) f.fails.grows f.fails.answers
+
+-- an engine that stands after records has failed at one
+pub failed_among : {S O E : Type 0} {g : Ghosts O} {left : S → Option (List ℕ)} {failed end : S → Bool} {MayTake : E → List Feature → Type 0} {Stands : E → List Feature → E → Type 0}
+    {engine_fault : E → Option Told} {settled : E → List Feature → List ℕ} {Quiet : E → List Feature → Feature → Type 0} {old : Records S O g} {engine : E} {out : Output} {fault : Fault} {new : Records S O g} {fed : E} {grown : Output}
+    → FeedsBuffered left failed end MayTake Stands engine_fault settled Quiet old engine out {A = Unit {0}} (Err fault) new fed grown → (first : E) (past : List Feature) → Stands first past engine
+    → FailsAmong left failed end MayTake Stands engine_fault settled Quiet old engine out fault new fed grown
+failed_among (inl f) first past stands = f
+failed_among (inr spent) first past stands = absurd (spent first past stands)

@@ -8,8 +8,13 @@ pub mod BufferedLemmas
 pub mod FractionLemmas
 pub mod PassedLemmas
 pub mod MemberLemmas
+pub mod BlockMembers
+pub mod CursorLemmas
 pub mod LineMembers
+pub mod MaskGiven
 pub mod MaskedLemmas
+pub mod MaskAdvanced
+pub mod MaskBoth
 pub mod MaskFacts
 pub mod MaskKinds
 pub mod SweptLemmas
@@ -20,7 +25,6 @@ pub mod AdvanceLemmas
 pub mod SweepFacts
 pub mod SweepLimits
 pub mod MaskStart
-pub mod MaskTurnLemmas
 pub mod CameMembers
 pub mod PairMet
 pub mod PairNear

@@ -53,7 +53,7 @@ needed_behind : (lines : List SequenceLine) (past rest : List (Member Feature)) 
 needed_behind lines past rest h = needed_from lines [] past rest h
 
 -- who leave one of some lines undecided, leave one of more
-asked_of : (given extra : List SequenceLine) (records : List Feature) → IsTrue (leaves_some given records) → IsTrue (leaves_some (given ++ extra) records)
+pub asked_of : (given extra : List SequenceLine) (records : List Feature) → IsTrue (leaves_some given records) → IsTrue (leaves_some (given ++ extra) records)
 asked_of given extra records some =
     list_any-append (λ line. not (decided line records)) given extra ∙ or_left (leaves_some given records) (leaves_some extra records) some
 

@@ -2,7 +2,7 @@
 use Rattle.std.proofs.Common.{◌≡◌, ℕ, Bool, true, false, ◌&&◌, ◌||◌, List, [], ◌∷◌, ◌++◌, Option, None, Some, refl, sym, ap, ◌∙◌, subst, append-nil, append_assoc, flat_map, option_to_list}
 use Rattle.std.specs.Prelude.{IsSome, is_none, option_map}
 use Rattle.std.specs.List.{list_all}
-use Rattle.std.proofs.lemmas.Bool.{false≢true, and_from, or_left}
+use Rattle.std.proofs.lemmas.Bool.{false≢true, and_from, or_left, or_right}
 use Rattle.std.proofs.lemmas.Grind.{flat_map-append}
 use Rattle.std.proofs.lemmas.List.Folds.{list_all-append}
 use Rattle.bt_bed.specs.Good.{Member}
@@ -33,6 +33,18 @@ module _ {X Y : Type 0} (making : Making X Y) where
   pub settles_close : (written : List X) (bytes : List ℕ) (seen : List Y) → Settles making written bytes seen false → Settles making written bytes seen true
   settles_close written bytes seen s = record {
     whatever = λ second fault ordered may. s.whatever second fault ordered (record { begins = may.begins; all = λ e. absurd (false≢true e) });
+  }
+
+  -- one more member of the first is decided by those seen, and its bytes stay whatever follows them in order
+  pub settles_with : (written : List X) (bytes : List ℕ) (seen : List Y) (ended : Bool) (a : X) (more : List ℕ) → Settles making written bytes seen ended
+      → ((rest : List Y) → making.InOrder (seen ++ rest) → (making.decided a (seen ++ rest) ≡ true) × (making.bytes a (seen ++ rest) ≡ more))
+      → Settles making (written ++ a ∷ []) (bytes ++ more) seen ended
+  settles_with written bytes seen ended a more s stays = record {
+    whatever = λ second fault ordered may.
+        let here = stays may.begins.0 (subst making.InOrder may.begins.1 ordered) in
+        one_more (λ x. is_none fault || making.decided x second) (λ x. making.bytes x second) written a bytes more (s.whatever second fault ordered may)
+        (or_right (is_none fault) (making.decided a second) (ap (making.decided a) may.begins.1 ∙ here.0))
+        (ap (making.bytes a) may.begins.1 ∙ here.1);
   }
 
   -- further members of the first are decided and have these bytes, whatever the second still has

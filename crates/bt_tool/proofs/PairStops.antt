@@ -211,21 +211,25 @@ module _ {A B X Y U V : Type 0} (making : Making X Y) (pair : Pair A B X Y U V) 
       near_now : Near first second grown
       near_now = near_by first second grown wrote_now no_more refl beside_now
 
-      -- the first input stopped after these members and further ones, all of which were written
-      module _ (going : stage.first_ended ≡ false) (more_first : List (Member X)) (more : List ℕ) (none : stage.waiting ≡ None)
-          (settles : IsKnown pair → Settles making (stage.written ++ member_items more_first) (s.bytes ++ more) (stage.taken ++ option_to_list (item_ahead second)) stage.second_ended)
-          (fits_now : IsKnown pair → making.Fits (given stage ++ member_items more_first) past_second) (asks_first : AsksFor making pair out (past_first ++ more_first) second)
+      -- further members of both were taken, then the first input stopped: all members of it were written
+      module _ (going : stage.first_ended ≡ false) (more_first : List (Member X)) (more_second : List (Member Y)) (second_now : MemberReader B Y V)
+          (takes_second : TakesFurther pair.b_left pair.b_failed pair.b_end pair.second past_second more_second second second_now) (ended : stage.second_ended ≡ true → (more_second ≡ []) × (second_now.buffered ≡ [])) (more : List ℕ)
+          (settles : IsKnown pair → Settles making (given stage ++ member_items more_first) (s.bytes ++ more) ((stage.taken ++ member_items more_second) ++ option_to_list (item_ahead second_now)) stage.second_ended)
+          (fits_now : IsKnown pair → making.Fits (given stage ++ member_items more_first) (past_second ++ more_second)) (asks_first : AsksFor making pair out (past_first ++ more_first) second_now)
           (fault : Told) (first_now : MemberReader A X U) (stops : StopsAfter pair.a_left pair.a_failed pair.a_end pair.first making.first_kinds (past_first ++ more_first) fault first_now)
           (read : IsReadFor pair.a_left pair.a_failed pair.a_end pair.first (past_first ++ more_first) (past_first ++ more_first) first_now)
           (now : Output) (adds : Grown grown more now) where
         abbrev written : List X
-        written = stage.written ++ member_items more_first
+        written = given stage ++ member_items more_first
 
         all_written_now : written ≡ member_items (past_first ++ more_first)
-        all_written_now = ap (λ l. l ++ member_items more_first) (all_written making pair out stage past_first past_second first second grown s none) ∙ sym (map-append (λ m. m.item) past_first more_first)
+        all_written_now = ap (λ l. l ++ member_items more_first) s.all_given ∙ sym (map-append (λ m. m.item) past_first more_first)
 
-        all_given_now : given stage ++ member_items more_first ≡ member_items (past_first ++ more_first)
-        all_given_now = ap (λ l. l ++ member_items more_first) s.all_given ∙ sym (map-append (λ m. m.item) past_first more_first)
+        taken_now : stage.taken ++ member_items more_second ≡ member_items (past_second ++ more_second)
+        taken_now = ap (λ l. l ++ member_items more_second) s.all_taken ∙ sym (map-append (λ m. m.item) past_second more_second)
+
+        serves_now : Serves pair.b_failed pair.second second_now
+        serves_now = record { served = takes_second.passes.served; within = takes_second.passes.kept.within takes_second.passes.clear }
 
         puts_now : PutsLines out (s.bytes ++ more) now
         puts_now = grown_puts out grown now s.bytes more s.puts adds
@@ -233,25 +237,29 @@ module _ {A B X Y U V : Type 0} (making : Making X Y) (pair : Pair A B X Y U V) 
         grows_now : Grows out.took now.took
         grows_now = grows_both out.took grown.took now.took s.grows adds.grows
 
-        wrote_first : Wrote making pair out written (s.bytes ++ more) first_now second now
+        wrote_first : Wrote making pair out written (s.bytes ++ more) first_now second_now now
         wrote_first =
-            wrote_by past_second second second s.second_passes (none_low second s.second_passes.going) s.second_passes.bytes first_now stops.bytes written (s.bytes ++ more) stage.second_ended now
-            (λ known. subst (λ (l : List Y). Settles making written (s.bytes ++ more) (l ++ option_to_list (item_ahead second)) stage.second_ended) s.all_taken (settles known))
-            (begins_items (past_first ++ more_first) written [] (sym all_written_now ∙ sym (append-nil written)) read.begins) ended_now grows_now (given stage ++ member_items more_first)
-            (begins_items (past_first ++ more_first) (given stage ++ member_items more_first) [] (sym all_given_now ∙ sym (append-nil (given stage ++ member_items more_first))) read.begins) fits_now
+            wrote_by (past_second ++ more_second) second_now second_now takes_second.passes (none_low second_now takes_second.passes.going) takes_second.passes.bytes first_now stops.bytes written (s.bytes ++ more) stage.second_ended now
+            (λ known. subst (λ (l : List Y). Settles making written (s.bytes ++ more) (l ++ option_to_list (item_ahead second_now)) stage.second_ended) taken_now (settles known))
+            (begins_items (past_first ++ more_first) written [] (sym all_written_now ∙ sym (append-nil written)) read.begins)
+            (λ e. let none = ended e in (
+              subst (AreAll pair.b_left pair.b_failed pair.b_end pair.second) (sym (append-nil past_second) ∙ ap (λ (l : List (Member Y)). past_second ++ l) (sym none.0)) (s.second_all e).0,
+              ap (λ (l : List Y). first_from (suc (lines_given second_now.below)) l) none.1,
+            ))
+            grows_now written (begins_items (past_first ++ more_first) written [] (sym all_written_now ∙ sym (append-nil written)) read.begins) fits_now
 
-        stops_why : Why making pair out written (s.bytes ++ more) (given stage ++ member_items more_first) stage.second_ended first_now second (Some fault) now
+        stops_why : Why making pair out written (s.bytes ++ more) written stage.second_ended first_now second_now (Some fault) now
         stops_why =
             let works = works_both out grown now s.works (grown_works grown now more adds) in
             elim stops.cause [
-              | inl wrong ↦ inl (inl (fault, refl, record { past = past_first ++ more_first; all = all_written_now; all_given = all_given_now; cause = inl wrong; serves = second_serves }), puts_now, works)
+              | inl wrong ↦ inl (inl (fault, refl, record { past = past_first ++ more_first; all = all_written_now; all_given = all_written_now; cause = inl wrong; serves = serves_now }), puts_now, works)
               | inr other ↦ elim other [
-                | inl unread ↦ inl (inl (fault, refl, record { past = past_first ++ more_first; all = all_written_now; all_given = all_given_now; cause = inr unread; serves = second_serves }), puts_now, works)
+                | inl unread ↦ inl (inl (fault, refl, record { past = past_first ++ more_first; all = all_written_now; all_given = all_written_now; cause = inr unread; serves = serves_now }), puts_now, works)
                 | inr ran ↦ inr (inl (ap Some ran.is, puts_now))
               ]
             ]
 
-        pub first_fails : Ends (Some fault) first_now second now
+        pub first_fails : Ends (Some fault) first_now second_now now
         unfolding wrote_first wrote_by
         first_fails = record {
           written = written;
@@ -281,10 +289,12 @@ module _ {A B X Y U V : Type 0} (making : Making X Y) (pair : Pair A B X Y U V) 
           let same : past_first ≡ past_first ++ [] = sym (append-nil past_first) in
           let stops = passes_stop pair.a_left pair.a_failed pair.a_end pair.first past_first first s.first_passes making.first_kinds wrong first_now fault stopped in
           let read = read_at_stop pair.a_left pair.a_failed pair.a_end pair.first past_first first s.first_passes first_now fault stopped in
-          first_fails going [] [] none
-          (λ known. subst (λ (w : List X). Settles making w (s.bytes ++ []) (stage.taken ++ option_to_list (item_ahead second)) stage.second_ended) (sym (append-nil stage.written))
-          (subst (λ (l : List ℕ). Settles making stage.written l (stage.taken ++ option_to_list (item_ahead second)) stage.second_ended) (sym (append-nil s.bytes)) (s.settles known)))
-          (λ known. subst (λ (l : List X). making.Fits l past_second) (sym (append-nil (given stage))) (fits known))
+          let alone : given stage ++ [] ≡ stage.written = append-nil (given stage) ∙ ap (λ (o : Option X). stage.written ++ option_to_list o) none ∙ append-nil stage.written in
+          let bytes : s.bytes ++ [] ≡ s.bytes = append-nil s.bytes in
+          let taken : stage.taken ++ [] ≡ stage.taken = append-nil stage.taken in
+          first_fails going [] [] second (takes_none pair.b_left pair.b_failed pair.b_end pair.second past_second second s.second_passes) (λ e. (refl, (s.second_all e).1)) []
+          (λ known. rw (alone, bytes, taken) (s.settles known))
+          (λ known. subst (λ (l : List X). making.Fits l (past_second ++ [])) (sym (append-nil (given stage))) (subst (λ (l : List (Member Y)). making.Fits (given stage) l) (sym (append-nil past_second)) (fits known)))
           (subst (λ (l : List (Member X)). AsksFor making pair out l second) same (asks going)) fault first_now
           (subst (λ (l : List (Member X)). StopsAfter pair.a_left pair.a_failed pair.a_end pair.first making.first_kinds l fault first_now) same stops)
           (subst (λ (l : List (Member X)). IsReadFor pair.a_left pair.a_failed pair.a_end pair.first l l first_now) same read) grown (grown_none grown)

@@ -6,7 +6,8 @@ use Rattle.std.proofs.lemmas.List.{map-append}
 use Rattle.std.proofs.lemmas.List.Elements.{All-push}
 use Rattle.bt_lines.specs.Fault.{Told}
 use Rattle.bt_lines.specs.Names.{told}
-use Rattle.bt_lines.specs.Reader.{fault_kept as line_fault, lines_given}
+use Rattle.bt_lines.specs.Reader.{HasRead, bytes_taken, fault_kept as line_fault, lines_given, source_of}
+use Rattle.bt_lines.proofs.ReadsLemmas.{counts_none}
 use Rattle.bt_lines.specs.declared.fault.Fault.{Fault}
 use Rattle.bt_bed.specs.Feature.{Feature, interval_of, intervals_of}
 use Rattle.bt_bed.specs.SortedReader.{view_with}
@@ -52,7 +53,7 @@ first_is {A} from (x ∷ xs) m rest e =
     let same : record { line = from; item = x } ≡ m = cc in
     (members_from (suc from) xs ++ rest, ap (λ (m : Member A). m ∷ (members_from (suc from) xs ++ rest)) same)
 
-comes_next : {A : Type 0} (from given : ℕ) (now next : Option (Good A)) (taken left : List A) (m : Member A) → given ≡ from + length taken
+pub comes_next : {A : Type 0} (from given : ℕ) (now next : Option (Good A)) (taken left : List A) (m : Member A) → given ≡ from + length taken
     → IfSome now (λ good. (rest : List (Member A)) × (good.members ≡ members_from from (taken ++ left) ++ rest)) → option_map (with_members (members_from from taken)) next ≡ now
     → first_from given left ≡ Some m → IfSome next (λ good. (rest : List (Member A)) × (good.members ≡ m ∷ rest))
 comes_next from given now None taken left m at b e f = tt
@@ -90,6 +91,12 @@ module _ {S O : Type 0} {ghosts : Ghosts O} (left : S → Option (List ℕ)) (fa
             (subst (λ (l : List Feature). IfSome (good_coming left (view_of now)) (λ good. (rest : List (Member Feature)) × (good.members ≡ members_from (suc (lines_given (below now))) l ++ rest))) t.buffered comes)
             t.good is;
       }
+
+-- taking members reads nothing
+pub taken_reads : {S A State : Type 0} (IsRead : S → Option ℕ → S → Type 0) (left : S → Option (List ℕ)) (failed end : S → Bool) (old : MemberReader S A State) (taken : List A) (new : MemberReader S A State) → HasTaken left failed end old taken new
+    → HasRead IsRead old.below new.below
+taken_reads IsRead left failed end old taken new has =
+    counts_none IsRead (source_of old.below) (source_of new.below) (bytes_taken old.below) (bytes_taken new.below) has.takes.source (omega (arith, has.takes.hands.counted))
 
 -- ---- the order of records that were passed
 

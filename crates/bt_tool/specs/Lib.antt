@@ -33,6 +33,7 @@ pub mod PairEnds
 pub mod PairComes
 pub mod SweepLoop
 pub mod MaskLoop
+pub mod MaskTurns
 pub mod Coming
 pub mod Behaviour
 pub mod Report

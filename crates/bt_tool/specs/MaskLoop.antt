@@ -5,11 +5,13 @@ use Rattle.std.specs.List.{list_any}
 use Rattle.bt_lines.specs.Fault.{Told}
 use Rattle.bt_lines.specs.Names.{told}
 use Rattle.bt_lines.specs.Output.{Output}
+use Rattle.bt_lines.specs.Reader.{has_ended, input_of}
+use Rattle.bt_lines.specs.declared.fault.Input.TheVariants.{First}
 use Rattle.bt_lines.specs.declared.fault.Fault.{Fault}
 use Rattle.bt_lines.specs.declared.line_reader.LineReader.{LineReader}
 use Rattle.bt_bed.specs.Feature.{Feature}
 use Rattle.bt_bed.specs.Good.{Member}
-use Rattle.bt_bed.specs.GoodBlocks.{AreInBlocks}
+use Rattle.bt_bed.specs.GoodBlocks.{AreInBlocks, block_format}
 use Rattle.bt_bed.specs.Locus.{Locus}
 use Rattle.bt_bed.specs.Reading.{MemberReader}
 use Rattle.bt_seq.specs.MaskStage.{MaskStage}
@@ -67,6 +69,20 @@ stage_of stage = record {
   second_ended = stage.bed_ended;
 }
 
+-- before the first header
+abbrev pub nothing_reached : Reached
+nothing_reached = record { names = []; bases = 0 }
+
+-- where masking began
+pub record MaskRun (A B : Type 0) : Type 0 where
+  pub how : MaskHow
+  pub full : Bool
+  pub lines : LineReader A
+  pub records : MemberReader B Feature (Option Locus)
+  pub out : Output
+  pub first : input_of lines ≡ First
+  pub blocks : records.format ≡ block_format
+
 module _ {A B : Type 0} (a_left : A → Option (List ℕ)) (a_failed a_end : A → Bool)
     (b_left : B → Option (List ℕ)) (b_failed b_end : B → Bool)
     (how : MaskHow) (full : Bool) (old_first : MemberReader A SequenceLine Reached)
@@ -98,8 +114,9 @@ module _ {A B : Type 0} (a_left : A → Option (List ℕ)) (a_failed a_end : A �
       pub stands : MaskStandsAt how full stage mask
       pub comes : Comes (mask_making how) mask_pair out (stage_of stage) past_first past_second
           first second grown
-      pub kept_ahead : (r : Feature) → stage.bed_ended ≡ false → stage.ahead ≡ Some r
-          → item_ahead second ≡ Some r
+      -- the record ahead, if one is known to be, is the next one
+      pub kept_ahead : (r : Feature) → stage.ahead ≡ Some r → item_ahead second ≡ Some r
+      pub lines_over : stage.lines_ended ≡ true → has_ended first.below ≡ true
 
 -- what giving an engine all that it asks for does
 abbrev pub FinishesMask : {A B T : Type 0} → (A → Option (List ℕ)) → (A → Bool) → (A → Bool)
@@ -110,11 +127,11 @@ FinishesMask {A} {B} {T} a_left a_failed a_end b_left b_failed b_end how full ol
     out (Ok done) first second grown =
     (members : MemberReader A SequenceLine Reached) × (members.below ≡ first)
     × MaskEnds a_left a_failed a_end b_left b_failed b_end how full
-    (line_members full (record { names = []; bases = 0 }) old_first) old_second out None members
+    (line_members full nothing_reached old_first) old_second out None members
     second grown × IsKeptBelow members first
 FinishesMask {A} {B} {T} a_left a_failed a_end b_left b_failed b_end how full old_first old_second
     out (Err fault) first second grown =
     (members : MemberReader A SequenceLine Reached) × (members.below ≡ first)
     × MaskEnds a_left a_failed a_end b_left b_failed b_end how full
-    (line_members full (record { names = []; bases = 0 }) old_first) old_second out
+    (line_members full nothing_reached old_first) old_second out
     (Some (told fault)) members second grown × IsKeptBelow members first
