@@ -8,6 +8,7 @@ pub mod BufferedLemmas
 pub mod FractionLemmas
 pub mod PassedLemmas
 pub mod MemberLemmas
+pub mod LinePassing
 pub mod LineMembers
 pub mod MaskedLemmas
 pub mod MaskFacts
