@@ -10,6 +10,7 @@ pub mod PassedLemmas
 pub mod MemberLemmas
 pub mod BlockMembers
 pub mod CursorLemmas
+pub mod LinePassing
 pub mod LineMembers
 pub mod MaskGiven
 pub mod MaskedLemmas
