@@ -182,8 +182,11 @@ module _ {A B O : Type 0} {g : Ghosts O} (a_left : A → Option (List ℕ)) (a_f
       (subst (λ (l : List Feature). list_all (λ x. decided order x l) later.written ≡ true) (sym items)
       (((comes.settles known_now).whatever (member_items past_second ++ m.item ∷ []) (Some no_memory) with_m
       (record {
-        begins = ([], sym (append-nil (member_items past_second ++ m.item ∷ [])) ∙ ap (λ (l : List Feature). (l ++ m.item ∷ []) ++ []) (sym comes.all_taken)
-            ∙ ap (λ (o : Option (Member Feature)). (later.taken ++ option_to_list (option_map (λ m. m.item) o)) ++ []) (sym ahead));
+        begins = (
+          [],
+          sym (append-nil (member_items past_second ++ m.item ∷ [])) ∙ ap (λ (l : List Feature). (l ++ m.item ∷ []) ++ []) (sym comes.all_taken)
+              ∙ ap (λ (o : Option (Member Feature)). (later.taken ++ option_to_list (option_map (λ m. m.item) o)) ++ []) (sym ahead),
+        );
         all = λ e. absurd (false≢true (sym going ∙ e));
       })).0))
       undecided held (subst (λ (l : List Feature). has_room limit (length (filter (is_held last) l)) ≡ false) comes.all_taken full))
