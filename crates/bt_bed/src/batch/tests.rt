@@ -71,7 +71,10 @@ fn none_is_buffered_before_fill_and_at_the_end(rt: HostRuntime) -> Result<(), Fa
     let after = records.buffered().first().is_none();
     let has_ended = !records.fill()? && records.buffered().first().is_none();
     let _ = records.into_reader().into_source();
-    assert_eq!(rt; (before, is_one, after, has_ended), (true, true, true, true));
+    assert_eq!(rt;
+        (before, is_one, after, has_ended),
+        (true, true, true, true)
+    );
     Ok(())
 }
 
