@@ -8,6 +8,7 @@ pub mod BufferedLemmas
 pub mod FractionLemmas
 pub mod PassedLemmas
 pub mod MemberLemmas
+pub mod BlockMembers
 pub mod CursorLemmas
 pub mod LineMembers
 pub mod MaskGiven

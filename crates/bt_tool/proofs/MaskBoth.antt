@@ -144,7 +144,7 @@ module _ {A B : Type 0} (a_left : A → Option (List ℕ)) (a_failed a_end : A �
   EndsAt fault grown = Ends a_left a_failed a_end b_left b_failed b_end run fault new second_now grown
 
   -- the record ahead is the next one that is given
-  pub comes_next : ComesNext Passes line_in HasEnded s.stage.ahead first_beds
+  comes_next : ComesNext Passes line_in HasEnded s.stage.ahead first_beds
   comes_next r later passes = next_is second second_now first_beds last_beds lent s.stage.ahead s.kept_ahead r later passes
 
   kept_then : (ahead : Option Feature) → ComesAfter Passes line_in HasEnded s.stage.ahead first_beds taken ahead → (r : Feature) → ahead ≡ Some r → item_ahead second_now ≡ Some r
@@ -203,7 +203,7 @@ module _ {A B : Type 0} (a_left : A → Option (List ℕ)) (a_failed a_end : A �
         let less : left_to_ask new second_now masked < left_to_ask lines second mask = omega (arith, less_room, has.takes.shrinks, most, e) in
         (omega (arith, less), λ there. less)
 
-    pub gave_both : ComesAfter Passes line_in HasEnded s.stage.ahead first_beds taken final.ahead → {T : Type 0} (done : T) → Gives a_left a_failed a_end b_left b_failed b_end run lines second mask (Ok done) new second_now masked now
+    gave_both : ComesAfter Passes line_in HasEnded s.stage.ahead first_beds taken final.ahead → {T : Type 0} (done : T) → Gives a_left a_failed a_end b_left b_failed b_end run lines second mask (Ok done) new second_now masked now
     gave_both after done =
         let few = few_by (length texts + length taken) refl in (
           (
@@ -338,11 +338,11 @@ module _ {A B : Type 0} (a_left : A → Option (List ℕ)) (a_failed a_end : A �
     fails_both (inl at_lines) = fails_lines at_lines.0 at_lines.1
     fails_both (inr at_record) = fails_next at_record.0 at_record.1 at_record.2 at_record.3 at_record.4 at_record.5
 
-    pub failed_both : EndsAt (Some fault) now
+    failed_both : EndsAt (Some fault) now
     failed_both = fails_both behind.fails
 
   -- what the answer says
-  pub gives_both : {T : Type 0} (answer : Result T Fault) (masked : Masking) (now : Output) → BothCome Passes line_in HasEnded run.how run.full s.stage texts taken out first_beds answer masked last_beds now
+  pub gives_both : {T : Type 0} (answer : Result T Fault) (masked : Masking) (now : Output) → (ComesNext Passes line_in HasEnded s.stage.ahead first_beds → BothCome Passes line_in HasEnded run.how run.full s.stage texts taken out first_beds answer masked last_beds now)
       → OnOk answer (StopsAt Passes line_in HasEnded masked.want last_lines last_beds) → Gives a_left a_failed a_end b_left b_failed b_end run lines second mask answer new second_now masked now
-  gives_both (Ok done) masked now both stops = gave_both masked now both.0 stops both.2 done
-  gives_both (Err fault) masked now both stops = failed_both (told fault) now both.1
+  gives_both (Ok done) masked now come stops = let both = come comes_next in gave_both masked now both.0 stops both.2 done
+  gives_both (Err fault) masked now come stops = let both = come comes_next in failed_both (told fault) now both.1

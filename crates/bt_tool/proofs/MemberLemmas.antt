@@ -407,7 +407,7 @@ module _ {S A State : Type 0} (left : S → Option (List ℕ)) (failed end : S �
       }
 
     -- how far the input was read
-    pub read_here : IsReadFor left failed end old past past now
+    unfoldable pub read_here : IsReadFor left failed end old past past now
     read_here = record {
       to = record {
         count = lines_given now.below;

@@ -53,7 +53,7 @@ first_is {A} from (x ∷ xs) m rest e =
     let same : record { line = from; item = x } ≡ m = cc in
     (members_from (suc from) xs ++ rest, ap (λ (m : Member A). m ∷ (members_from (suc from) xs ++ rest)) same)
 
-comes_next : {A : Type 0} (from given : ℕ) (now next : Option (Good A)) (taken left : List A) (m : Member A) → given ≡ from + length taken
+pub comes_next : {A : Type 0} (from given : ℕ) (now next : Option (Good A)) (taken left : List A) (m : Member A) → given ≡ from + length taken
     → IfSome now (λ good. (rest : List (Member A)) × (good.members ≡ members_from from (taken ++ left) ++ rest)) → option_map (with_members (members_from from taken)) next ≡ now
     → first_from given left ≡ Some m → IfSome next (λ good. (rest : List (Member A)) × (good.members ≡ m ∷ rest))
 comes_next from given now None taken left m at b e f = tt
