@@ -18,6 +18,7 @@ pub mod MaskAdvanced
 pub mod MaskBoth
 pub mod MaskFacts
 pub mod MaskKinds
+pub mod SweepSettles
 pub mod SweptLemmas
 pub mod SweepRounds
 pub mod RestLemmas
