@@ -1,6 +1,6 @@
 -- Lemmas on a turn of masking in which an input is read on: a line or a record is buffered, or its end is given.
 use Rattle.std.proofs.Common.{◌≡◌, ℕ, suc, ◌+◌, ◌*◌, ◌≤◌, ◌<◌, Bool, true, false, List, [], ◌∷◌, length, Option, None, Some, Result, Ok, Err, refl, sym, ap, ◌∙◌, subst, arith, inl, inr}
-use Rattle.std.specs.Prelude.{is_some, option_map}
+use Rattle.std.specs.Prelude.{◌⊎◌, is_some, option_map}
 use Rattle.bt_lines.specs.Fault.{Told}
 use Rattle.bt_lines.specs.Names.{told}
 use Rattle.bt_lines.specs.Output.{Output}
@@ -48,6 +48,11 @@ at_end waits want e = ap (asks waits) e
 some_there : (line : ℕ) (records : List Feature) (m : Member Feature) → first_from line records ≡ Some m → 0 < length records
 some_there line [] m e = absurd (let apart : None ≡ Some m = e in cc)
 some_there line (r ∷ records) m e = omega arith
+
+-- a turn makes what is asked for less
+pub turn_falls : (before filled after : ℕ) (There : Type 0) → (filled < before) ⊎ ((filled ≤ before) × There) → after ≤ filled → (There → after < filled) → after < before
+turn_falls before filled after There (inl less) few some = omega (arith, less, few)
+turn_falls before filled after There (inr at) few some = omega (arith, at.0, some at.1)
 
 module _ {A B : Type 0} (a_left : A → Option (List ℕ)) (a_failed a_end : A → Bool) (b_left : B → Option (List ℕ)) (b_failed b_end : B → Bool) (run : MaskRun A B) (at : Reached) (lines : LineReader A)
     (second : MemberReader B Feature (Option Locus)) (mask : Masking) (out : Output) (s : GoesOnAt a_left a_failed a_end b_left b_failed b_end run at lines second mask out) where
