@@ -1,9 +1,9 @@
 -- Lemmas on the next record of a batch.
-use Rattle.std.proofs.Common.{◌≡◌, ℕ, ◌+◌, ◌<◌, ◌≤◌, Bool, true, false, List, [], ◌∷◌, length, take, drop, get_or, Option, Some, None, Ok, refl, sym, ap, ◌∙◌, subst, arith, nat_lt}
+use Rattle.std.proofs.Common.{◌≡◌, ◌<◌, ◌≤◌, true, false, List, [], ◌∷◌, drop, Option, Some, None, sym, ap, ◌∙◌, arith, nat_lt}
 use Rattle.std.proofs.lemmas.Bool.Decides.{nat_tests}
 use Rattle.std.specs.Prelude.{IfNone}
 use Rattle.bt_lines.specs.Buffered.{lines_in, lines_after, line_of, rest_in}
-use Rattle.bt_lines.specs.FirstLine.{Cut, Shown, line_shown}
+use Rattle.bt_lines.specs.FirstLine.{Cut, line_shown}
 use Rattle.bt_lines.specs.Lines.{TextLine}
 use Rattle.bt_lines.specs.declared.buffered_lines.LineText.{LineText}
 use Rattle.bt_bed.proofs.RunLemmas.{placed_there, placed_below, placed_elsewhere, run_none, run_some}

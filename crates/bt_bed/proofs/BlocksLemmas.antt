@@ -1,6 +1,6 @@
 -- Lemmas on the reader of records in blocks.
 use Rattle.std.proofs.Common.{◌≡◌, ℕ, suc, Bool, true, false, List, [], ◌∷◌, Option, Some, None, Ok, Err, take, refl, sym, ap, ◌∙◌, subst}
-use Rattle.std.specs.Prelude.{IfSome, IfNone, IsSome, Result, option_map}
+use Rattle.std.specs.Prelude.{IfSome, IfNone, Result, option_map}
 use Rattle.bt_lines.specs.Reader.{lines_given}
 use Rattle.bt_lines.specs.declared.fault.Fault.{Fault}
 use Rattle.bt_bed.proofs.GoodBedLemmas.{line_said}

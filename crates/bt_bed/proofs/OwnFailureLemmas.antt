@@ -5,7 +5,7 @@ use Rattle.std.proofs.lemmas.Bool.{false≢true}
 use Rattle.bt_lines.proofs.ReadsLemmas.{some_is, tells_no_memory, tells_read, tells_then}
 use Rattle.bt_lines.specs.Fault.{Told, no_memory, read_failed}
 use Rattle.bt_lines.specs.Names.{told}
-use Rattle.bt_lines.specs.Reader.{HasRead, TellsReads, TellsOwnFailure as LineTellsOwnFailure, fault_kept as line_fault}
+use Rattle.bt_lines.specs.Reader.{HasRead, TellsOwnFailure as LineTellsOwnFailure, fault_kept as line_fault}
 use Rattle.bt_lines.specs.declared.fault.Fault.{Fault}
 use Rattle.bt_lines.specs.declared.fault.Input.{Input}
 use Rattle.bt_lines.specs.declared.fault.Kind.{Kind}

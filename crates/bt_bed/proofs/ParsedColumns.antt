@@ -1,8 +1,8 @@
 -- Lemmas on the first columns of a line that was parsed.
-use Rattle.std.proofs.Common.{◌≡◌, ℕ, suc, ◌+◌, ◌<◌, ◌≤◌, Bool, true, false, List, [], ◌∷◌, ◌++◌, length, take, drop, Option, Some, None, Result, Ok, Err, refl, sym, ap, ◌∙◌, subst, arith, append_assoc, length-append, ltb, bytes_eq, eqb, inl, inr}
+use Rattle.std.proofs.Common.{◌≡◌, ℕ, ◌+◌, ◌<◌, true, false, List, [], ◌∷◌, ◌++◌, length, take, drop, Option, Some, None, Result, Ok, Err, refl, sym, ap, ◌∙◌, subst, arith, append_assoc, length-append, ltb, eqb, inl, inr}
 use Rattle.std.specs.Prelude.{IfSome}
 use Rattle.std.proofs.lemmas.Bool.{cases_lt, false≢true}
-use Rattle.std.proofs.lemmas.List.{drop_all, drop_at, take_all}
+use Rattle.std.proofs.lemmas.List.{drop_at, take_all}
 use Rattle.std.proofs.lemmas.List.Splits.{slice_split_none}
 use Rattle.bt_lines.proofs.ColumnLemmas.{IsColumn, cut_at}
 use Rattle.bt_lines.specs.Lines.{pieces}
@@ -16,10 +16,9 @@ use Rattle.bt_lines.specs.declared.fault.Kind.{Kind}
 use Rattle.bt_bed.proofs.FeatureLemmas.{IsWhole, of_whole, record_said, said_is_feature, said_stands}
 use Rattle.bt_bed.proofs.FirstColumnLemmas.{cut_by, name_ends}
 use Rattle.bt_bed.specs.Feature.{Feature}
-use Rattle.bt_bed.specs.FirstColumns.{AreBounds, BeginsWithName, EndsFirst, EndsName, Leads}
+use Rattle.bt_bed.specs.FirstColumns.{AreBounds, BeginsWithName, EndsFirst, EndsName}
 use Rattle.bt_bed.specs.Header.{is_header}
 use Rattle.bt_bed.specs.Record.{IsName, columns_in, columns_say, record_of}
-use Rattle.bt_bed.specs.declared.leading.Leading.{Leading}
 
 behind_name : (name rest : List ℕ) → drop (length name + 1) (name ++ 9 ∷ rest) ≡ rest
 behind_name name rest =

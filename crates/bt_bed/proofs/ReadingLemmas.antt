@@ -1,6 +1,6 @@
 -- Lemmas on a step of a reader of members, whatever the lines say.
-use Rattle.std.proofs.Common.{◌≡◌, ℕ, suc, ◌+◌, ◌-◌, ◌^◌, ◌<◌, ◌≤◌, Bool, true, false, List, [], ◌∷◌, ◌++◌, drop, take, length, Option, Some, None, Ok, Err, refl, sym, ap, ◌∙◌, subst, arith, inl, inr}
-use Rattle.std.specs.Prelude.{◌⊎◌, IsSome, IfSome, is_some, option_map}
+use Rattle.std.proofs.Common.{◌≡◌, ℕ, suc, ◌-◌, ◌^◌, ◌<◌, ◌≤◌, Bool, true, false, List, [], ◌∷◌, ◌++◌, drop, take, length, Option, Some, None, Ok, Err, refl, sym, ap, ◌∙◌, subst, arith, inl, inr}
+use Rattle.std.specs.Prelude.{◌⊎◌, IsSome, IfSome, option_map}
 use Rattle.std.proofs.lemmas.Bool.{false≢true}
 use Rattle.bt_lines.proofs.ReaderLemmas.{not_told}
 use Rattle.bt_lines.specs.Fault.{Told, read_failed, no_memory}
@@ -17,7 +17,7 @@ use Rattle.bt_lines.proofs.TakingLemmas.{given_below, is_prefix, next_below}
 use Rattle.bt_bed.specs.Good.{with_member, Format, Good, Member, ends_with, good, good_from}
 use Rattle.bt_bed.specs.GoodLines.{IsBeyond}
 use Rattle.bt_bed.specs.LineKind.{fault_at_line, is_of_line}
-use Rattle.bt_bed.specs.Reading.{AreSaid, MemberReader, Remains, IsSaidBehind, ahead_in, first_from, good_behind, good_coming, with_members, Stays, Takes, GivesMember, EndsMembers, LineIsWrong, RunsOut, Cause, AnswersFault}
+use Rattle.bt_bed.specs.Reading.{MemberReader, Remains, first_from, good_behind, good_coming, with_members, Stays, Takes, GivesMember, EndsMembers, LineIsWrong, RunsOut, Cause, AnswersFault}
 
 pub remains_same : {A : Type 0} (a : Option (Good A)) → Remains a a
 remains_same None = tt

@@ -3,7 +3,6 @@ use Rattle.std.proofs.Common.{◌≡◌, ℕ, suc, Bool, true, false, List, [], 
 use Rattle.std.specs.Prelude.{IfSome, IsSome, IsTrue, IfNone, Result, option_map}
 use Rattle.std.specs.Option.{ForSome}
 use Rattle.std.proofs.lemmas.Bool.{false≢true}
-use Rattle.bt_lines.specs.Names.{told}
 use Rattle.bt_lines.specs.Reader.{input_of, lines_given, lines_left, fault_kept as line_fault}
 use Rattle.bt_lines.specs.declared.fault.Fault.{Fault}
 use Rattle.bt_lines.specs.declared.line_reader.LineReader.{LineReader}
@@ -19,9 +18,9 @@ use Rattle.bt_bed.specs.GoodBed.{bed_format, line_says, locus_at}
 use Rattle.bt_bed.specs.Neighbours.{last_in}
 use Rattle.bt_bed.specs.Order.{Order, IsTotal}
 use Rattle.bt_bed.specs.Locus.{Locus, IsUpTo}
-use Rattle.bt_bed.specs.Reading.{EndsMembers, Fills, FillAnswers as MembersAnswers, GivesMember, MemberReader, Takes, TellsOwnFailure, ahead_in, first_from, good_coming}
+use Rattle.bt_bed.specs.Reading.{Fills, FillAnswers as MembersAnswers, GivesMember, Takes, TellsOwnFailure, first_from, good_coming}
 use Rattle.bt_bed.specs.Record.{IsFeature}
-use Rattle.bt_bed.specs.Records.{Answers, FillAnswers, FillsRecords, GivesRecord, PassesRecord, PeeksRecord, TakesRecords, buffered_in, order_in, view_of}
+use Rattle.bt_bed.specs.Records.{Answers, FillAnswers, FillsRecords, GivesRecord, PassesRecord, TakesRecords, buffered_in, order_in, view_of}
 use Rattle.bt_bed.specs.Run.{is_some_left}
 use Rattle.bt_bed.specs.Sorting.{Sorting, sorting_of}
 use Rattle.bt_bed.specs.declared.bed.BedRef.{BedRef}

@@ -1,6 +1,6 @@
 -- Lemmas on records that lines say one after another, and on what is good of such lines.
-use Rattle.std.proofs.Common.{◌≡◌, ℕ, suc, ◌+◌, ◌≤◌, Bool, true, false, cond, List, [], ◌∷◌, ◌++◌, length, take, drop, Option, Some, None, Result, Ok, Err, refl, sym, ap, ◌∙◌, subst, arith, bytes_eq, nat_lt}
-use Rattle.std.specs.Prelude.{⊤, ◌&&◌, not, IfSome, IsTrue, option_map}
+use Rattle.std.proofs.Common.{◌≡◌, ℕ, suc, ◌≤◌, Bool, true, false, cond, List, [], ◌∷◌, ◌++◌, length, take, drop, Option, Some, None, Result, Ok, Err, refl, sym, ap, ◌∙◌, subst, arith, bytes_eq, nat_lt}
+use Rattle.std.specs.Prelude.{⊤, ◌&&◌, not, IsTrue}
 use Rattle.bt_bed.specs.SortedReader.{are_in_order}
 use Rattle.std.proofs.lemmas.Bool.{false≢true}
 use Rattle.std.proofs.lemmas.Bool.Decides.{nat_tests}
@@ -11,10 +11,10 @@ use Rattle.bt_lines.specs.declared.fault.Kind.{Kind}
 use Rattle.bt_lines.specs.declared.fault.Kind.TheVariants.{OutOfOrder, UnknownChrom}
 use Rattle.bt_bed.proofs.GoodBedLemmas.{line_said}
 use Rattle.bt_bed.specs.Feature.{Feature}
-use Rattle.bt_bed.specs.Good.{Format, Good, Member, good_from}
-use Rattle.bt_bed.specs.GoodBed.{bed_format, in_order, line_says, locus_at, said_after}
+use Rattle.bt_bed.specs.Good.{Format, good_from}
+use Rattle.bt_bed.specs.GoodBed.{bed_format, line_says, locus_at, said_after}
 use Rattle.bt_bed.specs.Locus.{Locus}
-use Rattle.bt_bed.specs.Reading.{AreSaid, IsSaidBehind, members_from, state_behind, with_members}
+use Rattle.bt_bed.specs.Reading.{AreSaid, members_from, state_behind, with_members}
 use Rattle.bt_bed.specs.Record.{record_of}
 use Rattle.bt_bed.specs.Run.{last_start, placed_on, record_on, run_of, run_then}
 use Rattle.bt_bed.specs.Sorting.{Sorting, falls_in}
@@ -137,12 +137,14 @@ run_says sorting state name start (line ∷ lines) (r ∷ records) e said =
     let first = first_of_run name start (line ∷ lines) r records e in
     let same : first.line ≡ line = same_line first.line first.more first.lines_are in
     let more : first.more ≡ lines = same_more first.line first.more first.lines_are in
-    let says : record_of line.text ≡ Ok (Some r) = subst (λ (l : TextLine). record_of l.text ≡ Ok (Some r)) same first.says in
-    (says_again sorting state line.text said.0.0.text r said.0.1 says,
-     run_says sorting (Some (locus_at r)) name r.start lines records (subst (λ l. run_of name r.start l ≡ records) more first.rest) said.1)
+    let says : record_of line.text ≡ Ok (Some r) = subst (λ (l : TextLine). record_of l.text ≡ Ok (Some r)) same first.says in (
+      says_again sorting state line.text said.0.0.text r said.0.1 says,
+      run_says sorting (Some (locus_at r)) name r.start lines records (subst (λ l. run_of name r.start l ≡ records) more first.rest) said.1,
+    )
   where
     same_line : (x : TextLine) (xs : List TextLine) → line ∷ lines ≡ x ∷ xs → x ≡ line
     same_line x xs h = cc
+
     same_more : (x : TextLine) (xs : List TextLine) → line ∷ lines ≡ x ∷ xs → xs ≡ lines
     same_more x xs h = cc
 
@@ -162,9 +164,10 @@ pub run_is_said : (sorting : Sorting) (name : List ℕ) (start : ℕ) (lines : L
 run_is_said sorting name start lines [] known e = tt
 run_is_said sorting name start lines (r ∷ records) known e =
     let first = first_of_run name start lines r records e in
-    let place : ◌≡◌ {A = Locus} (record { chrom = name; start = r.start }) (locus_at r) = ap (λ (n : List ℕ). record { chrom = n; start = r.start }) (sym first.chrom) in
-    ((first.line, says_on sorting name start first.line.text r known first.says first.chrom first.above),
-     subst (λ (p : Locus). AreSaid (bed_format sorting) (Some p) records) place (run_is_said sorting name r.start first.more records known first.rest))
+    let place : ◌≡◌ {A = Locus} (record { chrom = name; start = r.start }) (locus_at r) = ap (λ (n : List ℕ). record { chrom = n; start = r.start }) (sym first.chrom) in (
+      (first.line, says_on sorting name start first.line.text r known first.says first.chrom first.above),
+      subst (λ (p : Locus). AreSaid (bed_format sorting) (Some p) records) place (run_is_said sorting name r.start first.more records known first.rest),
+    )
 
 -- what is left of a run behind some of its records
 pub run_behind : (name : List ℕ) (start : ℕ) (lines : List TextLine) (records more : List Feature) → run_of name start lines ≡ records ++ more

@@ -1,14 +1,13 @@
 -- Lemmas on a reader of sorted records.
-use Rattle.std.proofs.Common.{◌≡◌, ℕ, suc, ◌+◌, ◌-◌, ◌<◌, ◌≤◌, Bool, true, false, List, [], ◌∷◌, ◌++◌, length, take, drop, Option, Some, None, Ok, Err, refl, sym, ap, ◌∙◌, subst, arith, inl, inr, length-take, take-append-drop}
-use Rattle.std.specs.Prelude.{◌⊎◌, if◌then◌else◌, IfSome, IsSome, IsTrue, is_some, option_map}
+use Rattle.std.proofs.Common.{◌≡◌, ℕ, suc, ◌+◌, ◌-◌, ◌<◌, ◌≤◌, Bool, true, false, List, [], ◌∷◌, ◌++◌, length, take, drop, Option, Some, None, Ok, refl, sym, ap, ◌∙◌, subst, arith, length-take, take-append-drop}
+use Rattle.std.specs.Prelude.{if◌then◌else◌, IfSome, IsTrue, is_some, option_map}
 use Rattle.std.specs.Option.{ForSome}
 use Rattle.std.proofs.lemmas.Bool.{false≢true}
 use Rattle.bt_lines.proofs.TakingLemmas.{is_prefix}
 use Rattle.bt_lines.specs.Buffered.{buffered_lines}
-use Rattle.bt_lines.specs.Fault.{Told}
-use Rattle.bt_lines.specs.Lines.{AreNumbered, TextLine, line_feeds, lines_from}
+use Rattle.bt_lines.specs.Lines.{AreNumbered, TextLine, lines_from}
 use Rattle.bt_lines.specs.Names.{told}
-use Rattle.bt_lines.specs.Reader.{DropsLines, TakenLines, TakesLines, bytes_left, buffered_bytes, buffered_in as lines_buffered, end_told, fault_kept as line_fault, held, input_of, is_open, left_at, lines_given, lines_left, source_of}
+use Rattle.bt_lines.specs.Reader.{DropsLines, TakesLines, bytes_left, buffered_bytes, buffered_in as lines_buffered, end_told, fault_kept as line_fault, held, input_of, is_open, left_at, lines_given, lines_left, source_of}
 use Rattle.bt_lines.specs.declared.fault.Input.{Input}
 use Rattle.bt_lines.specs.declared.line_reader.LineReader.{LineReader}
 use Rattle.bt_bed.proofs.CameLemmas.{drops_pass, left_numbered, some_bytes}
@@ -247,7 +246,7 @@ module _ {S Q : Type 0} (left : S → Option (List ℕ)) (end : S → Bool) (sor
       let say = run_says sorting state (name_in sorted.neighbours) (start_in sorted.neighbours) (lines_buffered reader) (buffered_in sorted) is said in
       let all = say_all format state (lines_buffered reader) (buffered_in sorted) (lines_left left reader) (is_prefix left reader) say in
       subst (λ own. IfSome (option_map (good_behind format (input_of reader) own state) (lines_left left reader))
-          (λ good. (rest : List (Member Feature)) × (good.members ≡ members_from (suc (lines_given reader)) (buffered_in sorted) ++ rest)))
+      (λ good. (rest : List (Member Feature)) × (good.members ≡ members_from (suc (lines_given reader)) (buffered_in sorted) ++ rest)))
       (sym (placed.going (ap is_some_left e)))
       (begins_good format (input_of reader) state (suc (lines_given reader)) (buffered_in sorted) (lines_left left reader) (left_numbered left end reader) all)
 

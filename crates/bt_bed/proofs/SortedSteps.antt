@@ -1,12 +1,11 @@
 -- Lemmas on how a reader of sorted records reads on.
-use Rattle.std.proofs.Common.{◌≡◌, ℕ, suc, ◌+◌, ◌<◌, Bool, true, false, List, [], ◌∷◌, length, Option, Some, None, Result, Ok, Err, refl, sym, ap, ◌∙◌, subst, inl, inr}
+use Rattle.std.proofs.Common.{◌≡◌, ℕ, suc, Bool, true, false, List, [], ◌∷◌, Option, Some, None, Result, Ok, Err, refl, sym, ap, ◌∙◌, subst, inl, inr}
 use Rattle.std.specs.Prelude.{◌⊎◌, option_map}
 use Rattle.bt_lines.specs.Fault.{Told}
 use Rattle.bt_lines.specs.Lines.{TextLine}
 use Rattle.bt_lines.specs.Names.{told}
-use Rattle.bt_lines.specs.Reader.{GivesEnd, GivesFault, HasRead, IsKept, MakesLine, buffered_bytes, buffered_in as lines_buffered, bytes_taken, fault_kept as line_fault, input_of, lines_given, source_of}
+use Rattle.bt_lines.specs.Reader.{GivesEnd, GivesFault, HasRead, IsKept, MakesLine, buffered_in as lines_buffered, bytes_taken, fault_kept as line_fault, input_of, lines_given, source_of}
 use Rattle.bt_lines.specs.declared.fault.Fault.{Fault}
-use Rattle.bt_lines.specs.declared.fault.Place.{Place}
 use Rattle.bt_lines.specs.declared.line_reader.LineReader.{LineReader}
 use Rattle.bt_bed.proofs.CameLemmas.{LineCame, line_came}
 use Rattle.bt_bed.proofs.NeighbourLemmas.{says_of_line}
@@ -20,8 +19,7 @@ use Rattle.bt_lines.proofs.ReadsLemmas.{counts_none, has_read_then, reads_same}
 use Rattle.bt_lines.proofs.TakingLemmas.{next_bytes, next_number}
 use Rattle.std.proofs.lemmas.Bool.{false≢true}
 use Rattle.bt_bed.specs.Feature.{Feature}
-use Rattle.bt_bed.specs.Good.{or_else}
-use Rattle.bt_bed.specs.GoodBed.{bed_format, line_says}
+use Rattle.bt_bed.specs.GoodBed.{bed_format}
 use Rattle.bt_bed.specs.LineKind.{fault_at_line}
 use Rattle.bt_bed.specs.Locus.{Locus}
 use Rattle.bt_bed.specs.Neighbours.{KeepsLast, LineUnkept, LineWrong, last_in, name_in, start_in}
@@ -176,7 +174,6 @@ module _ {S Q : Type 0} (left : S → Option (List ℕ)) (failed end : S → Boo
 
   -- what was read until then
   module _ {mid new : SortedReader S Q} (rules : Sorting) (IsRead : S → Option ℕ → S → Type 0) (old : LineReader S) (read : HasRead IsRead old mid.reader) where
-
     pub read_record : TakesFirst left end rules mid (Ok true) new → HasRead IsRead old new.reader
     read_record taken = has_read_then IsRead old mid.reader new.reader read (reads_same IsRead mid.reader new.reader taken.takes.same)
 

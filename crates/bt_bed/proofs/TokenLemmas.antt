@@ -1,5 +1,5 @@
 -- What was consumed of a batch that a reader lent is a token that it takes.
-use Rattle.std.proofs.Common.{◌≡◌, ℕ, ◌+◌, ◌-◌, ◌≤◌, Bool, true, false, List, [], ◌∷◌, ◌++◌, Option, Some, None, length, take, drop, refl, sym, ap, ◌∙◌, subst, arith, length-append, length-take}
+use Rattle.std.proofs.Common.{◌≡◌, ◌+◌, ◌-◌, Bool, true, false, List, [], ◌∷◌, ◌++◌, Option, Some, None, length, take, drop, refl, sym, ap, ◌∙◌, subst, arith, length-append, length-take}
 use Rattle.std.specs.Prelude.{IfNone, IfSome}
 use Rattle.std.proofs.Math.Seq.{take-append_seam}
 use Rattle.std.proofs.lemmas.Bool.{false≢true}
@@ -7,9 +7,9 @@ use Rattle.std.proofs.lemmas.List.{drop_at, length-drop}
 use Rattle.bt_lines.proofs.BufferLemmas.{fed_none}
 use Rattle.bt_lines.proofs.PassingLemmas.{lines_taken}
 use Rattle.bt_lines.specs.Buffered.{PassesLines, rest_in}
-use Rattle.bt_lines.specs.Reader.{TakenLines, buffered_bytes, lines_given}
+use Rattle.bt_lines.specs.Reader.{TakenLines, lines_given}
 use Rattle.bt_lines.specs.declared.buffered_lines.BufferedLines.{BufferedLines}
-use Rattle.bt_bed.specs.Batch.{IsWhere, Passes, cursor_in, left, start_in}
+use Rattle.bt_bed.specs.Batch.{IsWhere, Passes, cursor_in, left}
 use Rattle.bt_bed.specs.Feature.{Feature}
 use Rattle.bt_bed.specs.Neighbours.{start_in as start_of}
 use Rattle.bt_bed.specs.RawRecord.{record_in}

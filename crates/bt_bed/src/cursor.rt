@@ -6,8 +6,8 @@ ghost use Rattle.bt_bed.specs.declared.bed.BedRef.{BedRef};
 
 use crate::batch::Batch;
 use crate::bed::BedRef;
-use crate::record::Record;
 use crate::raw_record::RawRecord;
+use crate::record::Record;
 
 /// Records of one chromosome in order, of which the first are consumed: those that a reader has buffered
 /// ([`Batch`]), or one ([`Single`]).

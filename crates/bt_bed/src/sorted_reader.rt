@@ -77,7 +77,11 @@ impl<S: Source, Q: Sorted + Drop> SortedReader<S, Q> {
     {
         let lines = self.reader.buffered();
         if !self.is_ahead {
-            return Batch::new(lines.none(), self.neighbours.name(), self.neighbours.start());
+            return Batch::new(
+                lines.none(),
+                self.neighbours.name(),
+                self.neighbours.start(),
+            );
         }
         Batch::new(lines, self.neighbours.name(), self.neighbours.start())
     }

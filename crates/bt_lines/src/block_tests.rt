@@ -1,7 +1,7 @@
 //! Lines round the borders of blocks.
 
 use crate::drawn::{Draws, drawn_text, long_line};
-use crate::{BLOCK, Input, LineEnd, LineReader, ScriptSource, Source};
+use crate::{BLOCK, Input, Line, LineEnd, LineReader, ScriptSource, Source};
 use std::alloc::{AllocError, Global};
 use std::test::Fail;
 
@@ -157,23 +157,47 @@ fn drawn_texts_by_a_plain_split(rt: HostRuntime) -> Result<(), Fail> {
     Ok(())
 }
 
+// A line's text and how it ends.
+type Want = (&'static [u8], LineEnd);
+
+fn is_wanted(line: Option<Line<'_>>, want: Option<Want>) -> bool {
+    match (line, want) {
+        (Some(line), Some(want)) => line.text == want.0 && line.ending == want.1,
+        (None, None) => true,
+        _ => false,
+    }
+}
+
+// Whether these two lines, or none, are the next ones that are buffered. They are consumed.
+fn takes_two<S: Source>(
+    reader: &mut LineReader<S>,
+    first: Option<Want>,
+    second: Option<Want>,
+) -> bool {
+    let mut lines = reader.buffered();
+    let is_first = is_wanted(lines.next(), first);
+    let is_second = is_wanted(lines.next(), second);
+    let consumed = lines.consumed();
+    reader.consume(consumed);
+    is_first && is_second
+}
+
 #[test]
 fn buffered_lines_are_given_in_order(rt: HostRuntime) -> Result<(), Fail> {
     let source = ScriptSource::new(b"a\nbc\r\n\nd\n", BLOCK, None);
     let mut reader = LineReader::new(rt.alloc(), source, Input::First);
     let is_filled = reader.fill()?;
-    let mut lines = reader.buffered();
-    let first = matches!(lines.next(), Some(line) if line.text == b"a".as_slice());
-    let second =
-        matches!(lines.next(), Some(line) if line.text == b"bc".as_slice() && line.ending == LineEnd::CrLf);
-    let consumed = lines.consumed();
-    reader.consume(consumed);
+    let are_given = takes_two(
+        &mut reader,
+        Some((b"a", LineEnd::Lf)),
+        Some((b"bc", LineEnd::CrLf)),
+    );
     let given = reader.lines();
     let third = matches!(reader.next()?, Some(line) if line.text.is_empty() && line.number == 3);
     let is_still_filled = reader.fill()?;
     let rest = reader.buffered().rest() == b"d\n".as_slice();
     let _ = reader.into_source();
-    assert!(rt; is_filled && first && second && third && is_still_filled && rest);
+    assert!(rt; is_filled && are_given && third && is_still_filled && rest);
     assert_eq!(rt; given, 2);
     Ok(())
 }
@@ -188,15 +212,10 @@ fn a_last_line_is_buffered(rt: HostRuntime) -> Result<(), Fail> {
     );
     let is_first = matches!(reader.next()?, Some(line) if line.text == b"a".as_slice());
     let is_filled = reader.fill()?;
-    let mut lines = reader.buffered();
-    let is_last =
-        matches!(lines.next(), Some(line) if line.text == b"b".as_slice() && line.ending == LineEnd::Cr);
-    let is_none = lines.next().is_none();
-    let consumed = lines.consumed();
-    reader.consume(consumed);
+    let is_last = takes_two(&mut reader, Some((b"b", LineEnd::Cr)), None);
     let has_ended = !reader.fill()? && reader.next()?.is_none();
     let _ = reader.into_source();
-    assert!(rt; is_first && is_filled && is_last && is_none && has_ended);
+    assert!(rt; is_first && is_filled && is_last && has_ended);
     Ok(())
 }
 

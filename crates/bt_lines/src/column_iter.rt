@@ -32,7 +32,7 @@ impl<'a> Iterator for Columns<'a> {
 fn first_column(text: &[u8]) -> (&[u8], Option<&[u8]>)
     ensures { pieces 9 text.now ≡ result.0.now ∷ columns_of_rest result.1 }
 {
-    match text.find_byte(b'\t') {
+    match text.find(b"\t") {
         Some(end) => (&text[..end], Some(&text[end + 1..])),
         None => (text, None),
     }

@@ -1,33 +1,43 @@
 //! The first byte of a value among some bytes, as a line feed or a tab.
 
-ghost use Rattle.std.specs.Prelude.{◌≡◌};
-ghost use Rattle.bt_lines.specs.Newline.{IsBefore, IsFirstFeed, IsFirstOf};
+ghost use Rattle.std.specs.Prelude.{◌≡◌, ◌≤◌, length, take};
+ghost use Rattle.bt_lines.specs.Newline.{IsBefore, IsFirstFeed, IsFirstOf, Lacks};
 
 use memchr::memchr;
 
 // How many bytes are looked at at once.
 const NEAR: usize = 32;
 
-// Where the first line feed of a text stands. Most lines end in the first sixty-four bytes.
+// Where the first line feed of a text stands.
 #[inline(always)]
 pub(crate) fn find_newline(text: &[u8]) -> Option<usize>
     ensures { IsFirstFeed text.now result }
 {
-    if let Some(near) = text.first_chunk::<NEAR>() {
-        if let Some(at) = find_near(b'\n', near) {
-            return Some(at);
-        }
-        if let Some(next) = text[NEAR..].first_chunk::<NEAR>() {
-            if let Some(at) = find_near(b'\n', next) {
-                return Some(NEAR + at);
-            }
-        }
-    }
-    let length = late_length(b'\n', text);
+    let length = line_length(text);
     if length < text.len() {
         return Some(length);
     }
     None
+}
+
+// How many bytes come before the first line feed, or in all. Most lines end in the first sixty-four bytes.
+#[inline(always)]
+fn line_length(text: &[u8]) -> usize
+    ensures { IsBefore 10 text.now result }
+{
+    let Some(near) = text.first_chunk::<NEAR>() else {
+        return late_length(b'\n', text, 0);
+    };
+    if let Some(at) = find_near(b'\n', near) {
+        return at;
+    }
+    let Some(next) = text[NEAR..].first_chunk::<NEAR>() else {
+        return late_length(b'\n', text, NEAR);
+    };
+    if let Some(at) = find_near(b'\n', next) {
+        return NEAR + at;
+    }
+    late_length(b'\n', text, 2 * NEAR)
 }
 
 /// How many bytes come before the first of this value, or in all: most often less than thirty-two.
@@ -35,20 +45,23 @@ pub(crate) fn find_newline(text: &[u8]) -> Option<usize>
 pub fn length_before(byte: u8, text: &[u8]) -> usize
     ensures { IsBefore byte text.now result }
 {
-    if let Some(near) = text.first_chunk::<NEAR>() {
-        if let Some(at) = find_near(byte, near) {
-            return at;
-        }
+    let Some(near) = text.first_chunk::<NEAR>() else {
+        return late_length(byte, text, 0);
+    };
+    if let Some(at) = find_near(byte, near) {
+        return at;
     }
-    late_length(byte, text)
+    late_length(byte, text, NEAR)
 }
 
-// The same wherever it stands. It gives a number, for which no room is made where it is called.
+// The same where it isn't among the first bytes, so many. It gives a number, for which no room is made where it is called.
 #[inline(never)]
-fn late_length(byte: u8, text: &[u8]) -> usize
+fn late_length(byte: u8, text: &[u8], from: usize) -> usize
+    requires within { from ≤ length text.now }
+    requires clear { Lacks byte (take from text.now) }
     ensures { IsBefore byte text.now result }
 {
-    let mut at = 0;
+    let mut at = from;
     while let Some(near) = text[at..].first_chunk::<NEAR>() {
         if let Some(place) = find_near(byte, near) {
             return at + place;

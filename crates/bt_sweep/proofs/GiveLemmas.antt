@@ -279,6 +279,7 @@ module _ {A V : Type 0} (a_gives : A → List Feature → A → Type 0) (a_ended
     next = d.next;
     comes = d.comes;
     settles = d.settles;
+    each = d.each;
     leaves = d.leaves;
     stands = d.stands;
     puts = d.puts;
@@ -301,6 +302,7 @@ module _ {A V : Type 0} (a_gives : A → List Feature → A → Type 0) (a_ended
     next = b.next;
     comes = b.comes;
     settles = b.settles;
+    each = b.each;
     through = b.through;
     puts = b.puts;
     cause = elim b.cause [

@@ -1,6 +1,6 @@
 -- Lemmas on records of both inputs that are joined.
-use Rattle.std.proofs.Common.{◌≡◌, ◌<◌, inl, inr, ℕ, true, false, List, [], ◌∷◌, ◌++◌, Option, Some, None, refl, sym, ap, ◌∙◌, subst, append-nil, append_assoc, option_to_list, bytes_eq, length, ltb}
-use Rattle.std.specs.Prelude.{All}
+use Rattle.std.proofs.Common.{◌≡◌, ◌<◌, ◌≤◌, inl, inr, ℕ, true, false, List, [], ◌∷◌, ◌++◌, Option, Some, None, refl, sym, ap, ◌∙◌, subst, append-nil, append_assoc, option_to_list, bytes_eq, length, ltb}
+use Rattle.std.specs.Prelude.{All, IfSome}
 use Rattle.std.specs.List.{list_all}
 use Rattle.std.proofs.lemmas.Bool.{and_from, and_parts, ltb-true, or_left, or_right}
 use Rattle.std.proofs.lemmas.List.Folds.{list_any-append}
@@ -16,7 +16,7 @@ use Rattle.bt_bed.specs.Order.{Order, IsTotal}
 use Rattle.bt_sweep.specs.Deciding.{decided, decides}
 use Rattle.bt_sweep.specs.Held.{CanHit}
 use Rattle.bt_sweep.specs.IntersectLines.{intersect, lines_for}
-use Rattle.bt_sweep.specs.Joining.{AreDecided, AreDecidedOn, Behind, Breaks, CannotBeHeld, CutsOff, EndUpTo, GoesTo, JoinsSo, Keeps, LeavesLast, LeavesOn, LieOn, WaitsOn, Writes, WritesSo}
+use Rattle.bt_sweep.specs.Joining.{AreDecided, AreDecidedOn, Behind, Breaks, CannotBeHeld, CutsOff, EndUpTo, GoesTo, JoinsSo, Keeps, LeavesLast, LeavesOn, LieOn, TakenEach, TakenFor, WaitsOn, Writes, WritesSo}
 use Rattle.bt_sweep.specs.Relating.{GivesKnown}
 use Rattle.bt_sweep.specs.Standing.{held_for, is_held, last_given}
 use Rattle.bt_sweep.specs.StateSteps.{CannotHold, has_room_in, holding}
@@ -54,6 +54,29 @@ leaves_push : (seconds : List Feature) (b a : Feature) → b.chrom ≡ a.chrom �
 leaves_push seconds b a on before_end order total known before x e =
     let same : b ≡ x = same_some b x (sym (last_given-push seconds b) ∙ ap last_given e ∙ last_given-push before x) in
     subst (λ (f : Feature). decides order a f ≡ false) same (undecided_beside order total a b known on before_end)
+
+-- ---- the records of the second input, each taken for one of the first
+
+taken_wider : (order : Order) (limit : Option ℕ) (as_given more taken : List Feature) (b : Feature) → TakenFor order limit as_given taken b → TakenFor order limit (as_given ++ more) taken b
+taken_wider order limit as_given more taken b t = record {
+  before = t.before;
+  a = t.a;
+  after = t.after ++ more;
+  parts = ap (λ (l : List Feature). l ++ more) t.parts ∙ append_assoc t.before (t.a ∷ t.after) more;
+  settled = t.settled;
+  undecided = t.undecided;
+  within = t.within;
+}
+
+each_wider : (order : Order) (limit : Option ℕ) (as_given more taken seconds : List Feature) → TakenEach order limit as_given taken seconds → TakenEach order limit (as_given ++ more) taken seconds
+each_wider order limit as_given more taken [] each = tt
+each_wider order limit as_given more taken (b ∷ seconds) each = (taken_wider order limit as_given more taken b each.0, each_wider order limit as_given more (taken ++ b ∷ []) seconds each.1)
+
+each_push : (order : Order) (limit : Option ℕ) (as_given : List Feature) (b : Feature) (taken seconds : List Feature) → TakenEach order limit as_given taken seconds → TakenFor order limit as_given (taken ++ seconds) b
+    → TakenEach order limit as_given taken (seconds ++ b ∷ [])
+each_push order limit as_given b taken [] each last = (subst (λ (l : List Feature). TakenFor order limit as_given l b) (append-nil taken) last, tt)
+each_push order limit as_given b taken (x ∷ seconds) each last =
+    (each.0, each_push order limit as_given b (taken ++ x ∷ []) seconds each.1 (subst (λ (l : List Feature). TakenFor order limit as_given l b) (sym (append_assoc taken (x ∷ []) seconds)) last))
 
 -- ---- one run behind another
 
@@ -120,6 +143,7 @@ module _ {A B : Type 0} (a_gives : A → List Feature → A → Type 0) (a_ended
       next = None;
       comes = tt;
       settles = settles;
+      each = λ order shape rule limit before taken total kept pg pt. tt;
       goes = λ order shape rule limit before taken total kept pg pt. subst (λ (t : List Feature). Keeps order shape rule limit (before ++ first ∷ []) t old) (sym (append-nil taken)) kept;
       writes = λ order shape rule limit before taken total kept pg pt. grown_none out;
     },
@@ -165,6 +189,7 @@ module _ {A B : Type 0} (a_gives : A → List Feature → A → Type 0) (a_ended
           next = Some b;
           comes = (after, gives_b);
           settles = both_settled w.newly w.end;
+          each = λ order shape rule limit before taken total kept pg pt. each_wider order limit (first ∷ j.firsts) w.firsts taken j.seconds (j.each order shape rule limit before taken total kept (front_of order before first j.firsts w.firsts pg) pt);
           goes = behind_same first j.firsts j.seconds j.newly cur j.are old s j.goes w.firsts (λ order shape rule limit as_given taken. Keeps order shape rule limit as_given taken s2) w.goes;
           writes = writes_both first j.firsts j.seconds j.newly cur j.are old s j.goes out grown now j.writes w.firsts w.newly w.writes;
         },
@@ -183,6 +208,7 @@ module _ {A B : Type 0} (a_gives : A → List Feature → A → Type 0) (a_ended
         are = are_both first j.firsts j.newly cur cut.firsts cut.newly (cut.last ∷ []) j.are cut.are;
         next = Some b;
         comes = (after, gives_b);
+        each = λ order shape rule limit before taken total kept pg pt. each_wider order limit (first ∷ j.firsts) cut.firsts taken j.seconds (j.each order shape rule limit before taken total kept (front_of order before first j.firsts cut.firsts pg) pt);
         settles = both_settled cut.newly (end_front cur.chrom b.start cut.newly (cut.last ∷ []) cut.end);
         through = cut.through;
         writes = writes_both first j.firsts j.seconds j.newly cur j.are old s j.goes out grown cut.through j.writes cut.firsts cut.newly cut.writes;
@@ -210,6 +236,22 @@ module _ {A B : Type 0} (a_gives : A → List Feature → A → Type 0) (a_ended
           next = None;
           comes = tt;
           settles = subst (λ (l : List Feature). Decided j.newly l) (sym (append-nil (j.seconds ++ b ∷ []))) settled_by;
+          each = λ order shape rule limit before taken total kept pg pt.
+              let both : taken ++ (j.seconds ++ b ∷ []) ≡ (taken ++ j.seconds) ++ b ∷ [] = sym (append_assoc taken j.seconds (b ∷ [])) in
+              let front = front_placed order (taken ++ j.seconds) (b ∷ []) (subst (λ (l : List Feature). ArePlaced order (intervals_of l)) both pt) in
+              let k = subst (λ (g : List Feature). Keeps order shape rule limit g (taken ++ j.seconds) s) (split_last before first j.firsts j.newly cur j.are) (j.goes order shape rule limit before taken total kept pg front) in
+              let known_first = (placed_back order before (first ∷ j.firsts) pg).0 in
+              let undecided = undecided_beside order total cur b (subst (λ (c : List ℕ). order.knows c ≡ true) (sym j.waits.0) known_first) (on ∙ sym j.waits.0) before_end in
+              let next = keeps_taken order shape rule limit (before ++ j.newly) cur (taken ++ j.seconds) s k b undecided room in
+              each_push order limit (first ∷ j.firsts) b taken j.seconds (j.each order shape rule limit before taken total kept pg front) (record {
+                before = j.newly;
+                a = cur;
+                after = [];
+                parts = j.are;
+                settled = subst (λ (l : List Feature). AreDecided order j.newly l) both (decided_behind order j.newly taken (j.seconds ++ b ∷ []) (settled_by order total known_first));
+                undecided = undecided;
+                within = subst (λ (l : List Feature). IfSome limit (λ most. length l ≤ most)) (keeps_held order shape rule limit (before ++ j.newly) cur ((taken ++ j.seconds) ++ b ∷ []) (holding s cur b) next) next.within;
+              });
           goes = λ order shape rule limit before taken total kept pg pt.
               let both : taken ++ (j.seconds ++ b ∷ []) ≡ (taken ++ j.seconds) ++ b ∷ [] = sym (append_assoc taken j.seconds (b ∷ [])) in
               let front = front_placed order (taken ++ j.seconds) (b ∷ []) (subst (λ (l : List Feature). ArePlaced order (intervals_of l)) both pt) in
@@ -254,6 +296,7 @@ module _ {A B : Type 0} (a_gives : A → List Feature → A → Type 0) (a_ended
         next = j.next;
         comes = j.comes;
         settles = j.settles;
+        each = j.each;
         through = grown;
         writes = j.writes;
         cause = inr (record {

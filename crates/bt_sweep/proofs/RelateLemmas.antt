@@ -1,5 +1,5 @@
 -- Lemmas on records of the second input on one chromosome beside those of the first on one.
-use Rattle.std.proofs.Common.{◌≡◌, inl, inr, ℕ, Bool, true, false, not, ◌&&◌, cond, List, [], ◌∷◌, ◌++◌, Option, Some, None, Ok, Err, Result, refl, sym, ap, ◌∙◌, subst, append-nil, append_assoc, arith, filter, ltb, option_map, option_to_list}
+use Rattle.std.proofs.Common.{◌≡◌, inl, inr, ℕ, Bool, true, false, not, ◌&&◌, cond, List, [], ◌∷◌, ◌++◌, Option, Some, None, Ok, Err, Result, refl, sym, ap, ◌∙◌, subst, append-nil, append_assoc, arith, filter, length, ◌≤◌, ltb, option_map, option_to_list}
 use Rattle.std.specs.Prelude.{All, IfSome}
 use Rattle.std.specs.List.{list_all}
 use Rattle.std.specs.declared.cmp.Ordering.{Ordering}
@@ -19,7 +19,7 @@ use Rattle.bt_sweep.specs.Advancing.{IsThis, Settles}
 use Rattle.bt_sweep.specs.Deciding.{decided, decides}
 use Rattle.bt_sweep.specs.Held.{CanHit}
 use Rattle.bt_sweep.specs.IntersectLines.{intersect, lines_for}
-use Rattle.bt_sweep.specs.Joining.{AreDecided, AreDecidedOn, Behind, BehindFor, CannotBeHeld, ComesNext, GoesToFor, StopsAt, EndUpTo, Joins, Keeps, LeavesLast, LeavesOn, LieOn, WaitsOn, SkipsAll, WritesUpTo}
+use Rattle.bt_sweep.specs.Joining.{AreDecided, AreDecidedOn, Behind, BehindFor, CannotBeHeld, ComesNext, GoesToFor, StopsAt, EndUpTo, Joins, Keeps, LeavesLast, LeavesOn, LieOn, TakenEach, WaitsOn, SkipsAll, WritesUpTo}
 use Rattle.bt_sweep.specs.Relating.{Compares, EndsWhile, Relates}
 use Rattle.bt_sweep.specs.Standing.{HoldsFor, is_held}
 use Rattle.bt_sweep.specs.SweepState.{Sweeping}
@@ -30,6 +30,7 @@ use Rattle.bt_sweep.specs.declared.shape.Shape.{Shape}
 use Rattle.bt_sweep.proofs.DecidingLemmas.{decides_from}
 use Rattle.bt_sweep.proofs.HoldLemmas.{holds_b}
 use Rattle.bt_sweep.proofs.JoinLemmas.{end_front, joins_first, leaves_none}
+use Rattle.bt_sweep.proofs.KeepLemmas.{keeps_held}
 
 lie_last : (name : List ℕ) (before : List Feature) (b : Feature) → LieOn name (before ++ b ∷ []) → b.chrom ≡ name
 lie_last name [] b on = on.0
@@ -88,6 +89,20 @@ module _ {A B R : Type 0} (a_gives : A → List Feature → A → Type 0) (a_end
       let j = joins_first a_gives a_ended a_none a_more b_gives (EndsWhile b_ended old.phase) b_line b_none b_more old first from_a from_b out (IsThis order) (Settles order old.phase) (inr refl) hits in
       (j.0, ended, leaves_none order j.0.seconds first j.2)
 
+  keeps_one : (name : List ℕ) (b : Feature) (other : Order) (shape : Shape) (rule : HitRule) (limit : Option ℕ) (before taken : List Feature) → IsThis order other → order.compare name first.chrom ≡ Less → b.chrom ≡ name
+      → Keeps other shape rule limit (before ++ first ∷ []) taken old → Keeps other shape rule limit (before ++ first ∷ []) (taken ++ b ∷ []) old
+  keeps_one name b other shape rule limit before taken this compared on kept =
+      subst (λ (o : Order). Keeps o shape rule limit (before ++ first ∷ []) (taken ++ b ∷ []) old) (sym this)
+      (let k = subst (λ (o : Order). Keeps o shape rule limit (before ++ first ∷ []) taken old) this kept in
+      let all : Keeps order shape rule limit (before ++ first ∷ []) (taken ++ b ∷ []) old = record {
+        shape_is = k.shape_is;
+        rule_is = k.rule_is;
+        limit_is = k.limit_is;
+        holds = holds_before order total first known name compared before taken old.held (b ∷ []) (on, tt) k.holds;
+        within = k.within;
+      } in
+      all)
+
   keeps_before : (name : List ℕ) (seconds : List Feature) → order.compare name first.chrom ≡ Less → LieOn name seconds → GoesToFor (IsThis order) first [] seconds old old
   keeps_before name seconds compared on other shape rule limit before taken this kept pg pt =
       subst (λ (o : Order). Keeps o shape rule limit (before ++ first ∷ []) (taken ++ seconds) old) (sym this)
@@ -100,6 +115,24 @@ module _ {A B R : Type 0} (a_gives : A → List Feature → A → Type 0) (a_end
         within = k.within;
       } in
       all)
+
+  -- each was taken for the first
+  each_before : (name : List ℕ) (seconds : List Feature) (other : Order) (shape : Shape) (rule : HitRule) (limit : Option ℕ) (before taken : List Feature) → IsThis order other → order.compare name first.chrom ≡ Less → LieOn name seconds
+      → Keeps other shape rule limit (before ++ first ∷ []) taken old → TakenEach other limit (first ∷ []) taken seconds
+  each_before name [] other shape rule limit before taken this compared on kept = tt
+  each_before name (b ∷ seconds) other shape rule limit before taken this compared on kept =
+      let next = keeps_one name b other shape rule limit before taken this compared on.0 kept in (
+        record {
+          before = [];
+          a = first;
+          after = [];
+          parts = refl;
+          settled = refl;
+          undecided = subst (λ (o : Order). decides o first b ≡ false) (sym this) (undecided_before order total first known name compared b on.0);
+          within = subst (λ (l : List Feature). IfSome limit (λ most. length l ≤ most)) (keeps_held other shape rule limit before first (taken ++ b ∷ []) old next) next.within;
+        },
+        each_before name seconds other shape rule limit before (taken ++ b ∷ []) this compared on.1 next,
+      )
 
   -- they lie before
   pub decides_before : (name : List ℕ) (to_b : B) → Lies name Less → SkipsAll b_gives b_ended name from_b to_b → Decides (Ok (Some r)) old from_a to_b out
@@ -115,6 +148,7 @@ module _ {A B R : Type 0} (a_gives : A → List Feature → A → Type 0) (a_end
       next = None;
       comes = tt;
       settles = inr refl;
+      each = λ other shape rule limit before taken this kept pg pt. each_before name skip.seconds other shape rule limit before taken this lies.compared skip.on kept;
       goes = keeps_before name skip.seconds lies.compared skip.on;
       writes = λ other shape rule limit before taken this kept pg pt. grown_none out;
     },
@@ -152,6 +186,7 @@ module _ {A B R : Type 0} (a_gives : A → List Feature → A → Type 0) (a_end
       next = j.next;
       comes = j.comes;
       settles = inr (j.settles order total known);
+      each = λ other shape rule limit before taken this kept pg pt. j.each other shape rule limit before taken (subst IsTotal (sym this) total) kept pg pt;
       goes = to_this j.firsts j.seconds (λ order shape rule limit as_given taken. Keeps order shape rule limit as_given taken new) j.goes;
       writes = to_this j.firsts j.seconds (λ order shape rule limit as_given taken. Grown out (intersect shape rule j.newly taken) grown) j.writes;
     },
@@ -169,6 +204,7 @@ module _ {A B R : Type 0} (a_gives : A → List Feature → A → Type 0) (a_end
     next = b.next;
     comes = b.comes;
     settles = inr (b.settles order total known);
+    each = λ other shape rule limit before taken this kept pg pt. b.each other shape rule limit before taken (subst IsTotal (sym this) total) kept pg pt;
     through = b.through;
     writes = to_this b.firsts b.seconds (λ order shape rule limit as_given taken. Grown out (intersect shape rule b.newly taken) b.through) b.writes;
     cause = elim b.cause [
@@ -222,6 +258,7 @@ module _ {A B R : Type 0} (a_gives : A → List Feature → A → Type 0) (a_end
       next = next_of name behind;
       comes = comes_of name behind;
       settles = settles_of name behind w.newly w.end;
+      each = λ other shape rule limit before taken this kept pg pt. tt;
       goes = to_this w.firsts [] (λ order shape rule limit as_given taken. Keeps order shape rule limit as_given taken new) w.goes;
       writes = to_this w.firsts [] (λ order shape rule limit as_given taken. Grown out (intersect shape rule w.newly taken) grown) w.writes;
     },
@@ -238,6 +275,7 @@ module _ {A B R : Type 0} (a_gives : A → List Feature → A → Type 0) (a_end
     are = cut.are;
     next = next_of name behind;
     comes = comes_of name behind;
+    each = λ other shape rule limit before taken this kept pg pt. tt;
     settles = settles_of name behind cut.newly (end_front first.chrom max_number cut.newly (cut.last ∷ []) cut.end);
     through = cut.through;
     writes = to_this cut.firsts [] (λ order shape rule limit as_given taken. Grown out (intersect shape rule cut.newly taken) cut.through) cut.writes;

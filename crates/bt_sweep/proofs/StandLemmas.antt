@@ -14,7 +14,7 @@ use Rattle.bt_bed.specs.Single.{GivesSingle, single_left}
 use Rattle.bt_bed.specs.declared.cursor.Single.{Single}
 use Rattle.bt_sweep.specs.Advancing.{Advances, AdvancesSo, AtEach, FailsAt, IsThis, Settles, StopsFor, stage_after}
 use Rattle.bt_sweep.specs.IntersectLines.{intersect, lines_for}
-use Rattle.bt_sweep.specs.Joining.{BehindFor, Breaks, CannotBeHeld, JoinsSo, Keeps, LeavesLast}
+use Rattle.bt_sweep.specs.Joining.{BehindFor, Breaks, CannotBeHeld, JoinsSo, Keeps, LeavesLast, TakenEach, TakesEachFor}
 use Rattle.bt_sweep.specs.Standing.{HoldsFor, Stage, StandsAt, given, phase_of}
 use Rattle.bt_sweep.specs.StateSteps.{KeepsOne, held_with}
 use Rattle.bt_sweep.specs.SweepState.{Sweeping, is_over, want_in, want_of}
@@ -105,6 +105,16 @@ module _ (order : Order) (old mid : Sweeping) (first : Feature) (pre : List Feat
       ∙ append_assoc stage.written (option_to_list old.current) (pre ++ firsts)
       ∙ ap (λ (l : List Feature). stage.written ++ l) (sym (append_assoc (option_to_list old.current) pre firsts) ∙ ap (λ (l : List Feature). l ++ firsts) pre_is)
 
+  each_given : (firsts : List Feature) → option_to_list old.current ++ (pre ++ firsts) ≡ first ∷ firsts
+  each_given firsts = sym (append_assoc (option_to_list old.current) pre firsts) ∙ ap (λ (l : List Feature). l ++ firsts) pre_is
+
+  each_from : (firsts seconds : List Feature) → TakesEachFor (IsThis order) first firsts seconds mid
+      → AtEach order old (pre ++ firsts) seconds (λ shape rule limit stage. TakenEach order limit (option_to_list old.current ++ (pre ++ firsts)) stage.taken seconds)
+  each_from firsts seconds each shape rule limit stage st pg pt =
+      let pg' = subst (λ (l : List Feature). ArePlaced order (intervals_of l)) (given_more shape rule limit stage st firsts) pg in
+      let front = front_placed order (stage.written ++ first ∷ []) firsts (subst (λ (l : List Feature). ArePlaced order (intervals_of l)) (sym (append_assoc stage.written (first ∷ []) firsts)) pg') in
+      subst (λ (l : List Feature). TakenEach order limit l stage.taken seconds) (sym (each_given firsts)) (each order shape rule limit stage.written stage.taken refl (keeps shape rule limit stage st front) pg' pt)
+
   at_each : (firsts seconds : List Feature) (P : Order → Shape → HitRule → Option ℕ → List Feature → List Feature → Type 0) → BehindFor (IsThis order) first firsts seconds mid P
       → AtEach order old (pre ++ firsts) seconds (λ shape rule limit stage. P order shape rule limit (stage.written ++ first ∷ firsts) (stage.taken ++ seconds))
   at_each firsts seconds P behind shape rule limit stage st pg pt =
@@ -146,6 +156,7 @@ module _ (order : Order) (old mid : Sweeping) (first : Feature) (pre : List Feat
       next = j.next;
       comes = j.comes;
       settles = subst (λ (p : Phase). Settles order p j.newly (j.seconds ++ option_to_list j.next)) phase j.settles;
+      each = each_from j.firsts j.seconds j.each;
       leaves = subst (λ (n : Sweeping). IfSome n.current (LeavesLast order j.seconds)) (sym is) leaves;
       stands = λ shape rule limit stage st pg pt.
           stands_from shape rule limit stage j.firsts j.seconds j.newly waiting new final st
@@ -167,6 +178,7 @@ module _ (order : Order) (old mid : Sweeping) (first : Feature) (pre : List Feat
       next = b.next;
       comes = b.comes;
       settles = subst (λ (p : Phase). Settles order p b.newly (b.seconds ++ option_to_list b.next)) phase b.settles;
+      each = each_from b.firsts b.seconds b.each;
       through = b.through;
       puts = at_each b.firsts b.seconds (λ order shape rule limit as_given taken. Grown out (intersect shape rule b.newly taken) b.through) b.writes;
       cause = elim b.cause [
@@ -201,6 +213,7 @@ module _ (order : Order) (old mid : Sweeping) (first : Feature) (pre : List Feat
       next = j.next;
       comes = j.comes;
       settles = subst (λ (p : Phase). Settles order p j.newly (j.seconds ++ option_to_list j.next)) phase j.settles;
+      each = each_from j.firsts j.seconds j.each;
       through = grown;
       puts = at_each j.firsts j.seconds (λ order shape rule limit as_given taken. Grown out (intersect shape rule j.newly taken) grown) j.writes;
       cause = inr (inr (record { is = is; same_output = refl }));
@@ -249,6 +262,7 @@ module _ {U V : Type 0} (u_gives : U → List Feature → U → Type 0) (u_ended
     next = None;
     comes = tt;
     settles = inr refl;
+    each = λ shape rule limit stage st pg pt. tt;
     leaves = leaves_nothing old.current;
     stands = λ shape rule limit stage st pg pt. same_stands shape rule limit stage st;
     puts = λ shape rule limit stage st pg pt. grown_none out;

@@ -10,7 +10,7 @@ use Rattle.bt_bed.specs.Feature.{Feature, intervals_of}
 use Rattle.bt_bed.specs.Locus.{ArePlaced}
 use Rattle.bt_bed.specs.Order.{Order}
 use Rattle.bt_sweep.specs.IntersectLines.{intersect, lines_for}
-use Rattle.bt_sweep.specs.Joining.{AreDecided, CannotBeHeld, ComesNext, LeavesLast}
+use Rattle.bt_sweep.specs.Joining.{AreDecided, CannotBeHeld, ComesNext, LeavesLast, TakenEach}
 use Rattle.bt_sweep.specs.Standing.{Stage, StandsAt, given}
 use Rattle.bt_sweep.specs.SweepState.{Sweeping, want_in}
 use Rattle.bt_sweep.specs.declared.hit_rule.HitRule.{HitRule}
@@ -66,6 +66,10 @@ module _ {U V : Type 0} (a_gives : U → List Feature → U → Type 0) (a_ended
     pub next : Option Feature
     pub comes : ComesNext b_gives to_b next
     pub settles : Settles order old.phase newly (seconds ++ option_to_list next)
+    -- each was taken for one that those taken leave undecided, within the limit
+    pub each : AtEach order old firsts seconds
+        (λ shape rule limit stage. TakenEach order limit (option_to_list old.current ++ firsts)
+        stage.taken seconds)
     -- the record of the second input that was taken last leaves the one that waits undecided
     pub leaves : IfSome new.current (LeavesLast order seconds)
     pub stands : AtEach order old firsts seconds
@@ -117,6 +121,10 @@ module _ {U V : Type 0} (a_gives : U → List Feature → U → Type 0) (a_ended
     pub next : Option Feature
     pub comes : ComesNext b_gives to_b next
     pub settles : Settles order old.phase newly (seconds ++ option_to_list next)
+    -- each was taken for one that those taken leave undecided, within the limit
+    pub each : AtEach order old firsts seconds
+        (λ shape rule limit stage. TakenEach order limit (option_to_list old.current ++ firsts)
+        stage.taken seconds)
     pub through : Output
     pub puts : PutsEach order old firsts seconds newly out through
     pub cause : FailsToWrite firsts seconds newly last to_b through fault grown next

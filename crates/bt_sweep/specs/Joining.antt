@@ -1,5 +1,5 @@
 -- What runs of steps over records of both inputs come to. Callers know them by `Advancing`.
-use Rattle.std.specs.Prelude.{◌≡◌, ◌⊎◌, ℕ, ◌<◌, ◌≤◌, ⊤, true, false, All, IfSome, List, [], ◌∷◌, ◌++◌, Option}
+use Rattle.std.specs.Prelude.{◌≡◌, ◌⊎◌, ℕ, ◌<◌, ◌≤◌, ⊤, true, false, All, IfSome, List, [], ◌∷◌, ◌++◌, Option, filter}
 use Rattle.std.specs.Prelude.{None, Some, Result, Ok, Err, length, option_map, option_to_list}
 use Rattle.std.specs.List.{list_all}
 use Rattle.bt_lines.specs.Fault.{Told, no_memory}
@@ -17,7 +17,7 @@ use Rattle.bt_bed.specs.Order.{Order, IsTotal}
 use Rattle.bt_sweep.specs.Deciding.{decided, decides}
 use Rattle.bt_sweep.specs.Held.{CanHit}
 use Rattle.bt_sweep.specs.IntersectLines.{intersect, lines_for}
-use Rattle.bt_sweep.specs.Standing.{HoldsFor, held_for}
+use Rattle.bt_sweep.specs.Standing.{HoldsFor, held_for, is_held}
 use Rattle.bt_sweep.specs.Steps.{has_room}
 use Rattle.bt_sweep.specs.SweepState.{Sweeping}
 use Rattle.bt_sweep.specs.declared.hit_rule.HitRule.{HitRule}
@@ -79,6 +79,37 @@ abbrev pub Cuts : Feature → List Feature → List Feature → Sweeping → Fea
     → Type 0
 Cuts = CutsFor IsTotal
 
+-- the records of the second input decide each
+abbrev pub AreDecided : Order → List Feature → List Feature → Type 0
+AreDecided order as_given bs = list_all (λ a. decided order a bs) as_given ≡ true
+
+-- a record of the second input was taken while one of these of the first was the first that those taken
+-- leave undecided, and no more of them were held for it then than the limit allows
+pub record TakenFor (order : Order) (limit : Option ℕ) (as_given taken : List Feature) (b : Feature)
+    : Type 0 where
+  pub before : List Feature
+  pub a : Feature
+  pub after : List Feature
+  pub parts : as_given ≡ before ++ a ∷ after
+  pub settled : AreDecided order before (taken ++ b ∷ [])
+  pub undecided : decides order a b ≡ false
+  pub within : IfSome limit (λ most. length (filter (is_held a) (taken ++ b ∷ [])) ≤ most)
+
+-- so was each of these, one after another
+abbrev pub TakenEach : Order → Option ℕ → List Feature → List Feature → List Feature → Type 0
+TakenEach order limit as_given taken [] = ⊤
+TakenEach order limit as_given taken (b ∷ more) =
+    TakenFor order limit as_given taken b × TakenEach order limit as_given (taken ++ b ∷ []) more
+
+-- the same in such orders, wherever it stands with `first` given last
+abbrev pub TakesEachFor : (Order → Type 0) → Feature → List Feature → List Feature → Sweeping → Type 0
+TakesEachFor For first firsts seconds old =
+    (order : Order) (shape : Shape) (rule : HitRule) (limit : Option ℕ) (before taken : List Feature)
+    → For order → Keeps order shape rule limit (before ++ first ∷ []) taken old
+    → ArePlaced order (intervals_of (before ++ first ∷ firsts))
+    → ArePlaced order (intervals_of (taken ++ seconds))
+    → TakenEach order limit (first ∷ firsts) taken seconds
+
 -- each lies on the chromosome
 abbrev pub LieOn : List ℕ → List Feature → Type 0
 LieOn name [] = ⊤
@@ -88,10 +119,6 @@ LieOn name (b ∷ more) = (b.chrom ≡ name) × LieOn name more
 abbrev pub EndUpTo : List ℕ → ℕ → List Feature → Type 0
 EndUpTo name place [] = ⊤
 EndUpTo name place (a ∷ more) = (a.chrom ≡ name) × (a.stop ≤ place) × EndUpTo name place more
-
--- the records of the second input decide each
-abbrev pub AreDecided : Order → List Feature → List Feature → Type 0
-AreDecided order as_given bs = list_all (λ a. decided order a bs) as_given ≡ true
 
 -- the record that waits lies on the chromosome, and those that are held can hit it
 abbrev pub WaitsOn : List ℕ → List Feature → Option Feature → Type 0
@@ -174,6 +201,7 @@ module _ {A B : Type 0} (a_gives : A → List Feature → A → Type 0) (a_ended
     pub next : Option Feature
     pub comes : ComesNext b_gives to_b next
     pub settles : Settles newly (seconds ++ option_to_list next)
+    pub each : TakesEachFor For first firsts seconds old
     pub goes : GoesToFor For first firsts seconds old new
     pub writes : WritesFor For first firsts seconds old newly out grown
 
@@ -213,6 +241,7 @@ module _ {A B : Type 0} (a_gives : A → List Feature → A → Type 0) (a_ended
     pub next : Option Feature
     pub comes : ComesNext b_gives to_b next
     pub settles : Settles newly (seconds ++ option_to_list next)
+    pub each : TakesEachFor For first firsts seconds old
     pub through : Output
     pub writes : WritesFor For first firsts seconds old newly out through
     pub cause : CutsLines firsts seconds newly last to_b through fault grown next

@@ -10,7 +10,7 @@ use Rattle.bt_lines.specs.Fault.{Told, read_failed}
 use Rattle.bt_lines.specs.Lines.{TextLine, text_lines}
 use Rattle.bt_lines.specs.Output.{Output, HoldsBlock}
 use Rattle.bt_lines.specs.Putting.{Grown, WorksAsBefore}
-use Rattle.bt_lines.specs.Reader.{GivesEnd, GivesFault, GivesLine, IsSound, source_of, input_of, bytes_taken, fault_kept, feeds_taken, lines_given, lines_left}
+use Rattle.bt_lines.specs.Reader.{GivesEnd, GivesFault, GivesLine, IsKept, IsSound, source_of, input_of, bytes_taken, fault_kept, feeds_taken, lines_given, lines_left}
 use Rattle.bt_lines.specs.declared.fault.Input.{Input}
 use Rattle.bt_lines.specs.declared.fault.Input.TheVariants.{First}
 use Rattle.bt_lines.specs.declared.line_reader.LineReader.{LineReader}
@@ -29,13 +29,15 @@ use Rattle.bt_tool.specs.ConvertSteps.{LineRefused, LineUnwritten, LineWritten, 
 use Rattle.bt_tool.specs.Behaviour.{of_bamtobed, of_members}
 use Rattle.bt_tool.specs.Writing.{WritesAlone}
 use Rattle.bt_tool.specs.Feeding.{FeedsAll, FeedsUpTo, IsFresh}
-use Rattle.bt_tool.specs.Passed.{IsAhead, IsStopped, KeepsOwnFault, member_items}
+use Rattle.bt_tool.specs.Passed.{IsStopped, KeepsOwnFault, Passes, member_items}
 use Rattle.bt_tool.specs.RecordReport.{report_by}
 use Rattle.bt_tool.specs.OwnReads.{IsOwnFailure, TellsOwnReads}
 use Rattle.bt_tool.specs.Written.{Written}
 use Rattle.bt_tool.proofs.DrivingLemmas.{drives_all, drives_fault}
-use Rattle.bt_tool.proofs.FeedLemmas.{Fed, fails_writing, fed_all, fed_more, fed_none, fed_same, fed_up_to, goes_same}
-use Rattle.bt_bed.proofs.ReadingLemmas.{Going as Steps, advanced, going_end, going_member, going_more, going_start as steps_start, going_unread, going_wrong, good_at_first}
+use Rattle.bt_tool.proofs.FeedLemmas.{Fed, fails_writing, fed_all, fed_none, fed_up_to, goes_same, text_grows, works_both}
+use Rattle.bt_tool.proofs.LinePassing.{came, passes_none, passes_some, read_line}
+use Rattle.bt_lines.proofs.OutputLemmas.{grows_both}
+use Rattle.bt_bed.proofs.ReadingLemmas.{Going as Steps, going_end, going_start as steps_start, going_unread, going_wrong, good_at_first}
 use Rattle.bt_tool.proofs.CameMembers.{BeginsAt}
 use Rattle.bt_tool.proofs.FaultLemmas.{line_no_read}
 use Rattle.bt_tool.proofs.OwnFailureLemmas.{feeds_own}
@@ -45,6 +47,9 @@ use Rattle.bt_tool.proofs.WritingLemmas.{alone_writes}
 abbrev member_on : TextLine → Alignment → Member Alignment
 member_on line a = record { line = line.number; item = a }
 
+kept_of : {S : Type 0} (left : S → Option (List ℕ)) (end : S → Bool) (reader : LineReader S) → IsSound left end reader → IsKept left end reader
+kept_of left end reader sound = record { end = sound.end; within = sound.within }
+
 module _ {S : Type 0} (split cigar : Bool) (left : S → Option (List ℕ)) (failed end : S → Bool) where
   abbrev lines_of : List Alignment → List ℕ
   lines_of = alignment_lines split cigar
@@ -52,58 +57,53 @@ module _ {S : Type 0} (split cigar : Bool) (left : S → Option (List ℕ)) (fai
   abbrev Any : List Alignment → Type 0
   Any past = ⊤
 
-  -- the lines so far were read, and their alignments written; those behind the last alignment say none
+  -- the lines so far were read, and their alignments written
   pub record Going (old : LineReader S) (out : Output) (now : LineReader S) (grown : Output) : Type 0 where
     pub past : List (Member Alignment)
-    pub reader : MemberReader S Alignment ⊤
-    pub fed : Fed lines_of left failed end (sam_reader old) out past reader grown
-    pub steps : Steps left failed end reader (sam_reader now)
+    pub fed : Fed lines_of left failed end (sam_reader old) out past (sam_reader now) grown
     pub sound : IsSound left end now
 
   module _ (old : LineReader S) (out : Output) where
     pub going_start : IsFresh left end (sam_reader old) → HoldsBlock out.took out.put → Going old out old out
-    going_start fresh block = record {
-      past = [];
-      reader = sam_reader old;
-      fed = fed_none lines_of left failed end (sam_reader old) out fresh fresh.going refl block;
-      steps = steps_start left failed end (sam_reader old) refl refl;
-      sound = fresh.sound;
-    }
+    going_start fresh block = record { past = []; fed = fed_none lines_of left failed end (sam_reader old) out fresh fresh.going refl block; sound = fresh.sound }
 
     module _ (now : LineReader S) (grown : Output) (g : Going old out now grown) where
       abbrev UpTo : Told → MemberReader S Alignment ⊤ → Output → Type 0
       UpTo fault new later = FeedsUpTo lines_of (IsOneOf is_sam_kind) Any left failed end (sam_reader old) out fault new later
 
+      abbrev steps : Steps left failed end (sam_reader now) (sam_reader now)
+      steps = steps_start left failed end (sam_reader now) refl refl
+
       -- after the last line
       pub converts_all : (new : LineReader S) → GivesEnd left failed now new → (IsSound left end now → IsSound left end new)
           → FeedsAll lines_of (IsOneOf is_sam_kind) Any left failed end Any (sam_reader old) out (sam_reader new) grown
       converts_all new ends sound =
-          fed_all lines_of (IsOneOf is_sam_kind) Any left failed end (sam_reader old) out g.past g.reader grown g.fed Any (sam_reader new)
+          fed_all lines_of (IsOneOf is_sam_kind) Any left failed end (sam_reader old) out g.past (sam_reader now) grown g.fed Any (sam_reader new)
           (record {
-            ends = going_end left failed end g.reader (sam_reader now) (sam_reader new) g.steps ends refl refl (record { state = refl; format = refl }) (λ same kept. ap sam_reader same);
-            sound = λ was. sound g.sound;
+            ends = going_end left failed end (sam_reader now) (sam_reader now) (sam_reader new) steps ends refl refl (record { state = refl; format = refl }) (λ same fault. ap sam_reader same);
+            kept = λ was. kept_of left end new (sound g.sound);
             clear = λ e. e;
           }) tt tt
 
-      up_to : (new : MemberReader S Alignment ⊤) (fault : Told) → IsStopped left failed end g.reader fault new → UpTo fault new grown
+      up_to : (new : MemberReader S Alignment ⊤) (fault : Told) → IsStopped left failed end (sam_reader now) fault new → UpTo fault new grown
       up_to new fault stopped =
-          fed_up_to lines_of (IsOneOf is_sam_kind) Any left failed end (sam_reader old) out g.past g.reader grown g.fed (λ state line kind says. wrong_kinds line.text kind says) new fault stopped tt
+          fed_up_to lines_of (IsOneOf is_sam_kind) Any left failed end (sam_reader old) out g.past (sam_reader now) grown g.fed (λ state line kind says. wrong_kinds line.text kind says) new fault stopped tt
 
-      -- the reader told a fault
+      -- the reader reported a fault
       pub stops_reading : (new : LineReader S) (fault : Told) → GivesFault left failed now fault new → (IsSound left end now → IsSound left end new) → UpTo fault (sam_reader new) grown
       stops_reading new fault gives sound =
           up_to (sam_reader new) fault (record {
-            answers = going_unread left failed end g.reader (sam_reader now) (sam_reader new) fault g.steps gives gives.kept refl (record { state = refl; format = refl }) (λ same kept. ap sam_reader same);
-            sound = λ was. sound g.sound;
+            answers = going_unread left failed end (sam_reader now) (sam_reader now) (sam_reader new) fault steps gives gives.kept refl (record { state = refl; format = refl }) (λ same fault. ap sam_reader same);
+            kept = λ was. kept_of left end new (sound g.sound);
           })
 
       -- a line was given
       module _ (new : LineReader S) (line : TextLine) (gives : GivesLine left failed now line new) (sound : IsSound left end now → IsSound left end new) where
-        abbrev pub stopped_at : Told → MemberReader S Alignment ⊤
-        stopped_at fault = record { format = sam_format; below = new; state = tt; ahead = None; fault = Some fault }
+        kept : IsKept left end now → IsKept left end new
+        kept was = kept_of left end new (sound g.sound)
 
-        abbrev pub with_ahead : Alignment → MemberReader S Alignment ⊤
-        with_ahead a = record { format = sam_format; below = new; state = tt; ahead = Some (member_on line a); fault = fault_kept new }
+        abbrev pub stopped_at : Told → MemberReader S Alignment ⊤
+        stopped_at fault = record { format = sam_format; below = new; state = tt; buffered = []; fault = Some fault }
 
         -- it is at fault
         pub stops_at_line : (fault : Told) (later : Output) → LineRefused (input_of old) line grown fault later → UpTo fault (stopped_at fault) later
@@ -111,53 +111,50 @@ module _ {S : Type 0} (split cigar : Bool) (left : S → Option (List ℕ)) (fai
             let of_sam = wrong_kinds line.text refused.kind refused.says in
             subst (λ o. UpTo fault (stopped_at fault) o) (sym refused.unchanged)
             (up_to (stopped_at fault) fault (record {
-              answers = going_wrong left failed end g.reader (sam_reader now) (stopped_at fault) line fault refused.kind g.steps gives refl refl (record { state = refl; format = refl }) sound refused.says
+              answers = going_wrong left failed end (sam_reader now) (sam_reader now) (stopped_at fault) line fault refused.kind steps (came left failed now new line gives) refl refl (record { state = refl; format = refl }) kept refused.says
                   (kinds_of_lines refused.kind of_sam) (refused.is ∙ ap (λ i. fault_at_line i line.number refused.kind) (sym g.fed.passes.bytes.1.same_input));
-              sound = λ was. sound g.sound;
+              kept = kept;
             }))
 
-        ahead : (a : Alignment) → alignment_of line.text ≡ Ok (Some a) → IsAhead left failed end g.reader (member_on line a) (with_ahead a)
-        ahead a says = record {
-          read = going_member left failed end g.reader (sam_reader now) (with_ahead a) line a g.steps gives sound says refl refl (record { state = refl; format = refl });
-          sound = λ was. sound g.sound;
-          clear = λ e. e;
-        }
+        pushed : (a : Alignment) → lines_of (member_items g.past ++ a ∷ []) ≡ lines_of (member_items g.past) ++ bed_lines split cigar a
+        pushed a = flat_map-append (bed_lines split cigar) (member_items g.past) (a ∷ []) ∙ ap (λ l. lines_of (member_items g.past) ++ l) (append-nil (bed_lines split cigar a))
 
-        pushed : (a : Alignment) → lines_of (member_items (g.past ++ member_on line a ∷ [])) ≡ lines_of (member_items g.past) ++ bed_lines split cigar a
-        pushed a =
-            ap lines_of (map-append (λ m. m.item) g.past (member_on line a ∷ [])) ∙ flat_map-append (bed_lines split cigar) (member_items g.past) (a ∷ [])
-            ∙ ap (λ l. lines_of (member_items g.past) ++ l) (append-nil (bed_lines split cigar a))
+        with_it : (a : Alignment) → alignment_of line.text ≡ Ok (Some a) → Passes left failed end (sam_reader old) (g.past ++ member_on line a ∷ []) (sam_reader new)
+        with_it a says = passes_some left failed end (sam_reader old) (sam_reader now) g.past g.fed.passes (sam_reader new) line gives kept refl refl gives.goes a says refl
 
         -- the lines of its alignment couldn't be written
         pub stops_writing : (converting : Converting) → converting.split ≡ split → converting.with_cigar ≡ cigar → (fault : Told) (later : Output) → (unwritten : LineUnwritten converting line grown fault later)
-            → UpTo fault (with_ahead unwritten.said) later
+            → UpTo fault (sam_reader new) later
         stops_writing converting same same_cigar fault later unwritten =
             let a = unwritten.said in
             let fails = unwritten.fails.puts in
             let lines = bed_lines converting.split converting.with_cigar a in
             let is : lines ≡ bed_lines split cigar a = ap (λ s. bed_lines s converting.with_cigar a) same ∙ ap (λ c. bed_lines split c a) same_cigar in
-            fails_writing lines_of (IsOneOf is_sam_kind) Any left failed end (sam_reader old) out g.past g.reader grown g.fed (member_on line a) (with_ahead a) (ahead a unwritten.says) tt fault later lines
+            fails_writing lines_of (IsOneOf is_sam_kind) Any left failed end (sam_reader old) out g.past (g.past ++ member_on line a ∷ []) a (map-append (λ m. m.item) g.past (member_on line a ∷ [])) (sam_reader new) (with_it a unwritten.says)
+            (read_line left failed end (sam_reader old) (sam_reader now) g.past g.fed.passes (sam_reader new) line gives kept refl refl gives.goes a unwritten.says refl)
+            grown g.fed.grows g.fed.puts g.fed.works g.fed.block tt fault later lines
             (pushed a ∙ ap (λ l. lines_of (member_items g.past) ++ l) (sym is)) fails.is fails.front fails.failed fails.sink_failed fails.grows
 
-        works_with : (bytes : List ℕ) (later : Output) → Grown grown bytes later → WorksAsBefore grown later
-        works_with bytes later writes = record { served = writes.served; sink_served = writes.sink_served; put = (bytes, writes.appends); block = writes.block }
+        -- what is settled with these members was put
+        goes_with : (past : List (Member Alignment)) (bytes : List ℕ) (later : Output) → Passes left failed end (sam_reader old) past (sam_reader new) → lines_of (member_items past) ≡ lines_of (member_items g.past) ++ bytes → Grown grown bytes later
+            → Going old out new later
+        goes_with past bytes later passes more writes = record {
+          past = past;
+          fed = record {
+            passes = passes;
+            grows = grows_both out.took grown.took later.took g.fed.grows writes.grows;
+            puts = λ before e. text_grows grown.put later.put before (lines_of (member_items g.past)) bytes (lines_of (member_items past)) more writes.appends (g.fed.puts before e);
+            works = works_both out grown later g.fed.works (record { served = writes.served; sink_served = writes.sink_served; put = (bytes, writes.appends); block = writes.block });
+            block = writes.block g.fed.block;
+          };
+          sound = sound g.sound;
+        }
 
         goes_by : (said : Option Alignment) (later : Output) → alignment_of line.text ≡ Ok said → Grown grown (lines_if split cigar said) later → Going old out new later
-        goes_by None later says writes = record {
-          past = g.past;
-          reader = g.reader;
-          fed = fed_same lines_of (IsOneOf is_sam_kind) Any left failed end (sam_reader old) out g.past g.reader grown g.fed later writes.appends (works_with [] later writes) writes.grows;
-          steps = going_more left failed end g.reader (sam_reader now) (sam_reader new) line g.steps gives sound says refl refl (record { state = refl; format = refl });
-          sound = sound g.sound;
-        }
-        goes_by (Some a) later says writes = record {
-          past = g.past ++ member_on line a ∷ [];
-          reader = sam_reader new;
-          fed = fed_more lines_of (IsOneOf is_sam_kind) Any left failed end (sam_reader old) out g.past g.reader grown g.fed (member_on line a) (with_ahead a) (ahead a says) tt (sam_reader new) later (bed_lines split cigar a)
-              (advanced left failed end (with_ahead a) (sam_reader new) (member_on line a) refl refl refl refl refl refl) (pushed a) writes.appends (works_with (bed_lines split cigar a) later writes) writes.grows;
-          steps = steps_start left failed end (sam_reader new) refl refl;
-          sound = sound g.sound;
-        }
+        goes_by None later says writes =
+            goes_with g.past [] later (passes_none left failed end (sam_reader old) (sam_reader now) g.past g.fed.passes (sam_reader new) line gives kept refl refl gives.goes says refl) (sym (append-nil (lines_of (member_items g.past)))) writes
+        goes_by (Some a) later says writes =
+            goes_with (g.past ++ member_on line a ∷ []) (bed_lines split cigar a) later (with_it a says) (ap lines_of (map-append (λ m. m.item) g.past (member_on line a ∷ [])) ∙ pushed a) writes
 
         -- what it says was written
         pub going_line : (converting after : Converting) → converting.split ≡ split → converting.with_cigar ≡ cigar → (later : Output) → LineWritten converting line grown after later → Going old out new later

@@ -204,78 +204,57 @@ module _ {S A State : Type 0} (settled : List A → List ℕ) (Kinds : Kind → 
 
 -- members were taken, what those before the last one settle was written, and the last one failed
 module _ {S A State : Type 0} (settled : List A → List ℕ) (Kinds : Kind → Type 0) (Sorted : List A → Type 0) (left : S → Option (List ℕ)) (failed end : S → Bool) (old : MemberReader S A State) (out : Output)
-    (past : List (Member A)) (now : MemberReader S A State) (g : Passes left failed end old past now) (xs : List A) (a : A) (new : MemberReader S A State) (has : HasTaken left failed end now (xs ++ a ∷ []) new)
-    (through : Output) (grows_through : Grows out.took through.took) (puts_through : PutsLines out (settled (member_items past ++ xs)) through) (works_through : WorksAsBefore out through) (block : HoldsBlock through.took through.put)
-    (sorted : Sorted ((member_items past ++ xs) ++ a ∷ [])) where
-  abbrev from : ℕ
-  from = suc (lines_given now.below)
-
-  abbrev before : List (Member A)
-  before = past ++ members_from from xs
-
-  abbrev given : List (Member A)
-  given = past ++ members_from from (xs ++ a ∷ [])
-
-  before_items : member_items before ≡ member_items past ++ xs
-  before_items = items_take past from xs
-
-  given_items : member_items given ≡ (member_items past ++ xs) ++ a ∷ []
-  given_items = items_take past from (xs ++ a ∷ []) ∙ sym (append_assoc (member_items past) xs (a ∷ []))
-
-  passes_given : Passes left failed end old given new
-  passes_given = passes_take left failed end old past now g (xs ++ a ∷ []) new has
-
+    (before given : List (Member A)) (a : A) (items : member_items given ≡ member_items before ++ a ∷ []) (new : MemberReader S A State) (passes : Passes left failed end old given new) (read : IsReadFor left failed end old before given new)
+    (through : Output) (grows_through : Grows out.took through.took) (puts_through : PutsLines out (settled (member_items before)) through) (works_through : WorksAsBefore out through) (block : HoldsBlock through.took through.put)
+    (sorted : Sorted (member_items before ++ a ∷ [])) where
   begins_given : IfSome (good_coming left old) (λ good. (rest : List (Member A)) × (good.members ≡ given ++ rest))
-  begins_given = begins_with (good_coming left old) (good_coming left new) given passes_given.come
-
-  puts_before : PutsLines out (settled (member_items before)) through
-  puts_before = rw before_items puts_through
+  begins_given = begins_with (good_coming left old) (good_coming left new) given passes.come
 
   -- what is settled with it couldn't be written
-  pub fails_writing : (fault : Told) (later : Output) (lines : List ℕ) → settled ((member_items past ++ xs) ++ a ∷ []) ≡ settled (member_items past ++ xs) ++ lines → fault ≡ write_failed
+  pub fails_writing : (fault : Told) (later : Output) (lines : List ℕ) → settled (member_items before ++ a ∷ []) ≡ settled (member_items before) ++ lines → fault ≡ write_failed
       → IsFrontOf later.took through.put lines → later.has_failed ≡ true → later.sink_has_failed ≡ true → Grows through.took later.took → FeedsUpTo settled Kinds Sorted left failed end old out fault new later
   fails_writing fault later lines more is front fails sink grows = record {
     past = given;
     took = record {
-      bytes = passes_given.bytes;
-      sorted = rw given_items sorted;
+      bytes = passes.bytes;
+      sorted = rw items sorted;
       grows = grows_both out.took through.took later.took grows_through grows;
       before = before;
-      read = read_alone (read_before left failed end old past now g xs a new has);
-      kept = took_later out through later (settled (member_items before)) grows_through (goes_failed through later grows fails) (took_lines out through (settled (member_items before)) puts_before block);
+      read = read_alone read;
+      kept = took_later out through later (settled (member_items before)) grows_through (goes_failed through later grows fails) (took_lines out through (settled (member_items before)) puts_through block);
     };
     begins = begins_given;
     cause = inr (inr (record {
       is = is;
       cuts = record {
-        front = λ bytes e. front_all later.took through.put bytes (settled (member_items before)) lines (settled (member_items given)) (ap settled given_items ∙ more ∙ ap (λ l. settled l ++ lines) (sym before_items)) (puts_before bytes e) front;
+        front = λ bytes e. front_all later.took through.put bytes (settled (member_items before)) lines (settled (member_items given)) (ap settled items ∙ more) (puts_through bytes e) front;
         failed = fails;
         sink_failed = sink;
       };
-      served = passes_given.served;
+      served = passes.served;
     }));
     exact = λ other. absurd (other is);
   }
 
   -- what is settled with it was put, but memory ran out with it
-  pub fails_growing : (fault : Told) (later : Output) (lines : List ℕ) → settled ((member_items past ++ xs) ++ a ∷ []) ≡ settled (member_items past ++ xs) ++ lines → fault ≡ no_memory
+  pub fails_growing : (fault : Told) (later : Output) (lines : List ℕ) → settled (member_items before ++ a ∷ []) ≡ settled (member_items before) ++ lines → fault ≡ no_memory
       → Appends through.put later.put lines → WorksAsBefore through later → Grows through.took later.took → FeedsUpTo settled Kinds Sorted left failed end old out fault new later
   fails_growing fault later lines more is appends works grows =
       let puts : PutsLines out (settled (member_items given)) later =
-      λ bytes e. text_grows through.put later.put bytes (settled (member_items before)) lines (settled (member_items given)) (ap settled given_items ∙ more ∙ ap (λ l. settled l ++ lines) (sym before_items)) appends (puts_before bytes e) in
+      λ bytes e. text_grows through.put later.put bytes (settled (member_items before)) lines (settled (member_items given)) (ap settled items ∙ more) appends (puts_through bytes e) in
       record {
         past = given;
         took = record {
-          bytes = passes_given.bytes;
-          sorted = rw given_items sorted;
+          bytes = passes.bytes;
+          sorted = rw items sorted;
           grows = grows_both out.took through.took later.took grows_through grows;
           before = given;
-          read = read_here left failed end old given new passes_given;
+          read = read_here left failed end old given new passes;
           kept = took_lines out later (settled (member_items given)) puts (works.block block);
         };
         begins = begins_given;
         cause = inr (inl (record {
-          lacks = record { is = is; served = passes_given.served };
+          lacks = record { is = is; served = passes.served };
           puts = puts;
           works = works_both out through later works_through works;
         }));
@@ -406,34 +385,50 @@ module _ {S O E : Type 0} {ghosts : Ghosts O} (MayTake : E → List Feature → 
 
     -- one of them wasn't
     module _ (Quiet : E → List Feature → Feature → Type 0) (fault : Fault) (new : Records S O ghosts) (fed : E) (later : Output) (f : FailsAmong left failed end MayTake Stands engine_fault settled Quiet now engine grown fault new fed later) where
-      abbrev records : List Feature
-      records = f.records
+      abbrev from : ℕ
+      from = suc (lines_given (below now))
 
-      abbrev past_items : List Feature
-      past_items = member_items g.past
+      abbrev before : List (Member Feature)
+      before = g.past ++ members_from from f.records
 
-      sorted_given : AreInOrder (order_in old) ((past_items ++ records) ++ f.r ∷ [])
-      sorted_given =
-          subst (AreInOrder (order_in old)) (items_take g.past (suc (lines_given (below now))) (records ++ f.r ∷ []) ∙ sym (append_assoc past_items records (f.r ∷ [])))
-          (in_order (g.past ++ members_from (suc (lines_given (below now))) (records ++ f.r ∷ [])) (view_of new) (passes_take left failed end (view_of old) g.past (view_of now) g.fed.passes (records ++ f.r ∷ []) (view_of new) f.takes))
+      abbrev given : List (Member Feature)
+      given = g.past ++ members_from from (f.records ++ f.r ∷ [])
 
-      at_mid : EngineAt Stands settled first out (past_items ++ records) f.mid f.through
-      at_mid = at_each MayTake Stands engine_fault settled Quiet first out (order_in old) takes past_items records engine f.mid grown f.through (order_front (order_in old) (past_items ++ records) (f.r ∷ []) sorted_given) at_now f.taken
+      before_items : member_items before ≡ member_items g.past ++ f.records
+      before_items = items_take g.past from f.records
 
-      not_taken : MayTake first ((past_items ++ records) ++ f.r ∷ []) → engine_fault f.mid ≡ None → Grows (f.through).took later.took → NotTaken MayTake Stands engine_fault settled f.mid f.r f.through (told fault) fed later → StopsUpTo (told fault) new later
+      given_items : member_items given ≡ member_items before ++ f.r ∷ []
+      given_items = items_take g.past from (f.records ++ f.r ∷ []) ∙ sym (append_assoc (member_items g.past) f.records (f.r ∷ [])) ∙ ap (λ (l : List Feature). l ++ f.r ∷ []) (sym before_items)
+
+      passes : Passes left failed end (view_of old) given (view_of new)
+      passes = passes_take left failed end (view_of old) g.past (view_of now) g.fed.passes (f.records ++ f.r ∷ []) (view_of new) f.takes
+
+      sorted_given : AreInOrder (order_in old) (member_items before ++ f.r ∷ [])
+      sorted_given = subst (AreInOrder (order_in old)) given_items (in_order given (view_of new) passes)
+
+      at_mid : EngineAt Stands settled first out (member_items before) f.mid f.through
+      at_mid =
+          subst (λ (l : List Feature). EngineAt Stands settled first out l f.mid f.through) (sym before_items)
+          (at_each MayTake Stands engine_fault settled Quiet first out (order_in old) takes (member_items g.past) f.records engine f.mid grown f.through
+          (subst (AreInOrder (order_in old)) before_items (order_front (order_in old) (member_items before) (f.r ∷ []) sorted_given)) at_now f.taken)
+
+      read : IsReadFor left failed end (view_of old) before given (view_of new)
+      read = read_before left failed end (view_of old) g.past (view_of now) g.fed.passes f.records f.r (view_of new) f.takes
+
+      not_taken : MayTake first (member_items before ++ f.r ∷ []) → engine_fault f.mid ≡ None → Grows (f.through).took later.took → NotTaken MayTake Stands engine_fault settled f.mid f.r f.through (told fault) fed later → StopsUpTo (told fault) new later
       not_taken may going grows (inl again) = absurd (let apart : None ≡ Some (told fault) = sym going ∙ again.is in cc)
       not_taken may going grows (inr (inl fails)) =
-          let cuts = fails.cuts first (past_items ++ records) at_mid.stands may in
-          fails_writing (settled first) (IsBedKind (order_in old)) (AreInOrder (order_in old)) left failed end (view_of old) out g.past (view_of now) g.fed.passes records f.r (view_of new) f.takes
+          let cuts = fails.cuts first (member_items before) at_mid.stands may in
+          fails_writing (settled first) (IsBedKind (order_in old)) (AreInOrder (order_in old)) left failed end (view_of old) out before given f.r given_items (view_of new) passes read
           f.through at_mid.grows at_mid.puts at_mid.works at_mid.block sorted_given (told fault) later cuts.bytes cuts.goes_on fails.is cuts.front fails.failed fails.sink_failed grows
       not_taken may going grows (inr (inr out_of)) =
-          let puts = out_of.puts first (past_items ++ records) at_mid.stands may in
-          fails_growing (settled first) (IsBedKind (order_in old)) (AreInOrder (order_in old)) left failed end (view_of old) out g.past (view_of now) g.fed.passes records f.r (view_of new) f.takes
+          let puts = out_of.puts first (member_items before) at_mid.stands may in
+          fails_growing (settled first) (IsBedKind (order_in old)) (AreInOrder (order_in old)) left failed end (view_of old) out before given f.r given_items (view_of new) passes read
           f.through at_mid.grows at_mid.puts at_mid.works at_mid.block sorted_given (told fault) later puts.bytes puts.goes_on out_of.is puts.appends out_of.works grows
 
       pub stops_feeding : StopsUpTo (told fault) new later
       stops_feeding =
-          not_taken (takes ((past_items ++ records) ++ f.r ∷ []) sorted_given.0 sorted_given.1) (f.fails.going first (past_items ++ records) at_mid.stands) f.fails.grows f.fails.answers
+          not_taken (takes (member_items before ++ f.r ∷ []) sorted_given.0 sorted_given.1) (f.fails.going first (member_items before) at_mid.stands) f.fails.grows f.fails.answers
 
 -- an engine that stands after records has failed at one
 pub failed_among : {S O E : Type 0} {g : Ghosts O} {left : S → Option (List ℕ)} {failed end : S → Bool} {MayTake : E → List Feature → Type 0} {Stands : E → List Feature → E → Type 0}

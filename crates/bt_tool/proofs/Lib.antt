@@ -10,6 +10,7 @@ pub mod PassedLemmas
 pub mod MemberLemmas
 pub mod BlockMembers
 pub mod CursorLemmas
+pub mod LinePassing
 pub mod LineMembers
 pub mod MaskGiven
 pub mod MaskedLemmas
@@ -18,11 +19,12 @@ pub mod MaskBoth
 pub mod MaskFills
 pub mod MaskFacts
 pub mod MaskKinds
+pub mod SweepSettles
 pub mod SweptLemmas
+pub mod SweepRounds
 pub mod RestLemmas
 pub mod SeenLemmas
-pub mod SweepTurns
-pub mod SweepPassing
+pub mod AdvanceLemmas
 pub mod SweepFacts
 pub mod SweepLimits
 pub mod MaskStart

@@ -30,7 +30,7 @@ use Rattle.bt_tool.proofs.FaultLemmas.{line_no_read}
 use Rattle.bt_tool.proofs.ComeLemmas.{begins_beyond, begins_with, come_none, cuts_both, lines_on, near_from_start, none_passed, up_to, whole_with}
 use Rattle.bt_tool.proofs.StopLemmas.{StopsBehind, beyond_less, beyond_now, stops_faulty}
 
-nothing_ahead : {S A State : Type 0} (reader : MemberReader S A State) (m : Member A) → reader.buffered ≡ [] → ahead_in reader ≡ Some m → ⊥
+pub nothing_ahead : {S A State : Type 0} (reader : MemberReader S A State) (m : Member A) → reader.buffered ≡ [] → ahead_in reader ≡ Some m → ⊥
 nothing_ahead reader m none is = let apart : None ≡ Some m = sym (ap (first_from (suc (lines_given reader.below))) none) ∙ is in cc
 
 one_ahead : {A : Type 0} {ahead : Option (Member A)} {m x : Member A} → ahead ≡ Some m → ahead ≡ Some x → m ≡ x
@@ -46,12 +46,12 @@ still_first (Some now) (Some new) m r f k = (f.0, ap (λ g. g.members) r ∙ f.1
 -- ---- lists of items and of members
 
 -- what is known after these items and others
-state_more : {A State : Type 0} (format : Format A State) (state : State) (items more : List A)
+pub state_more : {A State : Type 0} (format : Format A State) (state : State) (items more : List A)
     → state_behind format state (items ++ more) ≡ state_behind format (state_behind format state items) more
 state_more format state [] more = refl
 state_more format state (x ∷ items) more = state_more format (format.after state x) items more
 
-said_more : {A State : Type 0} (format : Format A State) (state : State) (items more : List A) → AreSaid format state items
+pub said_more : {A State : Type 0} (format : Format A State) (state : State) (items more : List A) → AreSaid format state items
     → AreSaid format (state_behind format state items) more → AreSaid format state (items ++ more)
 said_more format state [] more said next = next
 said_more format state (x ∷ items) more said next = (said.0, said_more format (format.after state x) items more said.1 next)
@@ -79,7 +79,7 @@ members_last {A} from (x ∷ xs) a =
     (members_last (suc from) xs a ∙ ap (λ (n : ℕ). members_from (suc from) xs ++ record { line = n; item = a } ∷ []) (let same : suc from + length xs ≡ from + length (x ∷ xs) = omega arith in same))
 
 -- members were taken from the front of what was to come
-come_taken : {A : Type 0} (old now next : Option (Good A)) (past taken : List (Member A)) → ComeFirst old past now
+pub come_taken : {A : Type 0} (old now next : Option (Good A)) (past taken : List (Member A)) → ComeFirst old past now
     → option_map (with_members taken) next ≡ now → ComeFirst old (past ++ taken) next
 come_taken None now next past taken c e = tt
 come_taken (Some o) None next past taken c e = absurd c
@@ -218,7 +218,7 @@ near_start (Some lines) (Some rest) given e h =
     omega arith
 
 -- more lines leave no more
-near_more : (lines : Option (List TextLine)) (rest : Option (List ℕ)) (count more : ℕ) → IfSome lines (λ lines. IfSome rest (λ rest. bytes_in (drop count lines) ≤ length rest + block_size))
+pub near_more : (lines : Option (List TextLine)) (rest : Option (List ℕ)) (count more : ℕ) → IfSome lines (λ lines. IfSome rest (λ rest. bytes_in (drop count lines) ≤ length rest + block_size))
     → IfSome lines (λ lines. IfSome rest (λ rest. bytes_in (drop (count + more) lines) ≤ length rest + block_size))
 near_more None rest count more h = tt
 near_more (Some lines) None count more h = tt
@@ -242,7 +242,7 @@ near_none (Some start) (Some now) (Some rest) given count h p e =
     omega (arith, ap bytes_in last)
 
 -- of the lines after those given, at most a block was taken
-near_given : (start now : Option (List TextLine)) (rest : Option (List ℕ)) (given : ℕ) → IfSome start (λ lines. now ≡ Some (drop given lines))
+pub near_given : (start now : Option (List TextLine)) (rest : Option (List ℕ)) (given : ℕ) → IfSome start (λ lines. now ≡ Some (drop given lines))
     → IfSome now (λ lines. IfSome rest (λ rest. bytes_in lines ≤ length rest + block_size))
     → IfSome start (λ lines. IfSome rest (λ rest. bytes_in (drop given lines) ≤ length rest + block_size))
 near_given None now rest given p n = tt
@@ -253,7 +253,7 @@ near_given (Some start) (Some now) (Some rest) given p n =
     omega (arith, ap bytes_in is, n)
 
 -- the last of some members lies behind those lines too, and so does what comes after it
-behind_last : {A : Type 0} (count : ℕ) (old : Option (Good A)) (past : List (Member A)) (m : Member A) → suc count ≡ m.line
+pub behind_last : {A : Type 0} (count : ℕ) (old : Option (Good A)) (past : List (Member A)) (m : Member A) → suc count ≡ m.line
     → IfSome old (λ good. (rest : List (Member A)) × (good.members ≡ (past ++ m ∷ []) ++ rest) × IsBeyond (suc count) (record { members = rest; fault = good.fault }))
     → IfSome old (λ good. (rest : List (Member A)) × (good.members ≡ past ++ rest) × IsBeyond count (record { members = rest; fault = good.fault }))
 behind_last count None past m at b = tt

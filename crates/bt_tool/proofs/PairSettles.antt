@@ -7,7 +7,8 @@ use Rattle.std.proofs.lemmas.Grind.{flat_map-append}
 use Rattle.std.proofs.lemmas.List.Folds.{list_all-append}
 use Rattle.bt_bed.specs.Good.{Member}
 use Rattle.bt_bed.specs.Reading.{GivesMember, MemberReader, ahead_in}
-use Rattle.bt_tool.specs.Pair.{Making, Settles}
+use Rattle.bt_lines.specs.Fault.{Told}
+use Rattle.bt_tool.specs.Pair.{Making, MayCome, Settles}
 
 -- one more member is decided and has these bytes
 one_more : {X : Type 0} (test : X → Bool) (write : X → List ℕ) (written : List X) (a : X) (bytes more : List ℕ) → (list_all test written ≡ true) × (flat_map write written ≡ bytes)
@@ -22,13 +23,13 @@ module _ {X Y : Type 0} (making : Making X Y) where
   settles_nothing seen ended = record { whatever = λ second fault ordered may. (refl, refl) }
 
   -- one more member of the second input is seen
-  settles_seen : (written : List X) (bytes : List ℕ) (seen more : List Y) → Settles making written bytes seen false → Settles making written bytes (seen ++ more) false
+  pub settles_seen : (written : List X) (bytes : List ℕ) (seen more : List Y) → Settles making written bytes seen false → Settles making written bytes (seen ++ more) false
   settles_seen written bytes seen more s = record {
     whatever = λ second fault ordered may. s.whatever second fault ordered
         (record { begins = (more ++ may.begins.0, may.begins.1 ∙ append_assoc seen more may.begins.0); all = λ e. absurd (false≢true e) });
   }
 
-  -- none comes behind those seen
+  -- none comes after those seen
   pub settles_close : (written : List X) (bytes : List ℕ) (seen : List Y) → Settles making written bytes seen false → Settles making written bytes seen true
   settles_close written bytes seen s = record {
     whatever = λ second fault ordered may. s.whatever second fault ordered (record { begins = may.begins; all = λ e. absurd (false≢true e) });
@@ -44,6 +45,21 @@ module _ {X Y : Type 0} (making : Making X Y) where
         one_more (λ x. is_none fault || making.decided x second) (λ x. making.bytes x second) written a bytes more (s.whatever second fault ordered may)
         (or_right (is_none fault) (making.decided a second) (ap (making.decided a) may.begins.1 ∙ here.0))
         (ap (making.bytes a) may.begins.1 ∙ here.1);
+  }
+
+  -- more members of the first are decided and have these bytes, whatever the second still has
+  pub settles_list : (written newly : List X) (bytes more : List ℕ) (seen : List Y) (ended : Bool) → Settles making written bytes seen ended
+      → ((second : List Y) (fault : Option Told) → making.InOrder second → MayCome seen ended second fault
+      → (list_all (λ x. is_none fault || making.decided x second) newly ≡ true) × (flat_map (λ x. making.bytes x second) newly ≡ more))
+      → Settles making (written ++ newly) (bytes ++ more) seen ended
+  settles_list written newly bytes more seen ended s now = record {
+    whatever = λ second fault ordered may.
+        let was = s.whatever second fault ordered may in
+        let here = now second fault ordered may in (
+          list_all-append (λ x. is_none fault || making.decided x second) written newly
+              ∙ and_from (list_all (λ x. is_none fault || making.decided x second) written) (list_all (λ x. is_none fault || making.decided x second) newly) was.0 here.0,
+          flat_map-append (λ x. making.bytes x second) written newly ∙ ap (λ l. l ++ flat_map (λ x. making.bytes x second) newly) was.1 ∙ ap (λ l. bytes ++ l) here.1,
+        );
   }
 
   -- the second input has ended

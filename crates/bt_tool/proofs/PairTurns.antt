@@ -41,7 +41,7 @@ push_front (z ∷ a) (w ∷ b) x y e =
     cc
 
 -- the items of members that are on lines one after another
-items_from : {A : Type 0} (line : ℕ) (items : List A) → member_items (members_from line items) ≡ items
+pub items_from : {A : Type 0} (line : ℕ) (items : List A) → member_items (members_from line items) ≡ items
 items_from line [] = refl
 items_from line (x ∷ items) = ap (λ l. x ∷ l) (items_from (suc line) items)
 
@@ -75,7 +75,7 @@ module _ {S A State : Type 0} (left : S → Option (List ℕ)) (failed end : S �
   }
 
 -- a list is empty, or has a last element
-last_of : {A : Type 0} (xs : List A) → (xs ≡ []) ⊎ ((front : List A) × (x : A) × (xs ≡ front ++ x ∷ []))
+pub last_of : {A : Type 0} (xs : List A) → (xs ≡ []) ⊎ ((front : List A) × (x : A) × (xs ≡ front ++ x ∷ []))
 last_of [] = inl refl
 last_of {A} (x ∷ xs) =
     elim (last_of xs) [
@@ -83,7 +83,7 @@ last_of {A} (x ∷ xs) =
       | inr some ↦ inr (x ∷ some.0, some.1, ap (λ (l : List A). x ∷ l) some.2)
     ]
 
-cancel_front : {A : Type 0} (front a b : List A) → front ++ a ≡ front ++ b → a ≡ b
+pub cancel_front : {A : Type 0} (front a b : List A) → front ++ a ≡ front ++ b → a ≡ b
 cancel_front [] a b e = e
 cancel_front (x ∷ front) a b e = cancel_front front a b (let rest : front ++ a ≡ front ++ b = cc in rest)
 
@@ -187,7 +187,7 @@ module _ {A B X Y U V : Type 0} (making : Making X Y) (pair : Pair A B X Y U V) 
       near_first = s.near_first;
     }
 
-    -- further members of both were taken, after their ends none, and these bytes were put for those that are written now
+    -- more members of both were taken, after their ends none, and these bytes were put for those that are written now
     module _ (more_first : List (Member X)) (more_second : List (Member Y)) (first_now : MemberReader A X U) (second_now : MemberReader B Y V)
         (takes : TakesFurther pair.a_left pair.a_failed pair.a_end pair.first past_first more_first first first_now)
         (takes_second : TakesFurther pair.b_left pair.b_failed pair.b_end pair.second past_second more_second second second_now)

@@ -1,5 +1,5 @@
 -- Lemmas on the beginning of a sweep over two readers.
-use Rattle.std.proofs.Common.{◌≡◌, ℕ, Bool, List, [], Option, None, ap, ◌∙◌}
+use Rattle.std.proofs.Common.{◌≡◌, ℕ, Bool, List, [], Option, None, ap, ◌∙◌, refl}
 use Rattle.std.specs.Prelude.{option_map}
 use Rattle.bt_lines.specs.Lines.{text_lines}
 use Rattle.bt_lines.specs.Output.{Output, HoldsBlock}
@@ -20,9 +20,9 @@ use Rattle.bt_sweep.specs.declared.shape.Shape.{Shape}
 use Rattle.bt_tool.specs.Feeding.{IsFresh}
 use Rattle.bt_tool.specs.SweepLoop.{Sweeps, records_pair, sweep_making}
 use Rattle.bt_tool.proofs.CameMembers.{BeginsAt}
-use Rattle.bt_tool.proofs.MemberLemmas.{passes_start, read_start}
+use Rattle.bt_tool.proofs.MemberLemmas.{passes_start}
 use Rattle.bt_tool.proofs.PairTurns.{comes_start}
-use Rattle.bt_tool.proofs.PassedLemmas.{line_going, placed_start}
+use Rattle.bt_tool.proofs.PassedLemmas.{line_going}
 use Rattle.bt_tool.proofs.SweepLimits.{within_start}
 
 module _ {A B O : Type 0} {g : Ghosts O} (a_left : A → Option (List ℕ)) (a_failed a_end : A → Bool) (b_left : B → Option (List ℕ)) (b_failed b_end : B → Bool)
@@ -37,11 +37,12 @@ module _ {A B O : Type 0} {g : Ghosts O} (a_left : A → Option (List ℕ)) (a_f
     stage = first_stage;
     stands = stands;
     comes = comes_start (sweep_making (order_in first) shape rule limit) (records_pair a_left a_failed a_end b_left b_failed b_end first second) out
-        (passes_start a_left a_failed a_end (view_of first) fresh (line_going first fresh.going)) fresh.none_ahead
-        (passes_start b_left b_failed b_end (view_of second) fresh_second (line_going second fresh_second.going))
-        (read_start b_left b_failed b_end (view_of second) fresh_second (line_going second fresh_second.going)) block;
-    first_placed = placed_start a_left a_failed a_end first none;
-    second_placed = placed_start b_left b_failed b_end second none_second;
+        (passes_start a_left a_failed a_end (view_of first) fresh (line_going first fresh.going))
+        (passes_start b_left b_failed b_end (view_of second) fresh_second (line_going second fresh_second.going)) block;
+    first_order = refl;
+    second_order = refl;
+    first_begins = none;
+    second_begins = none_second;
     fits = λ known. within_start (order_in first) limit [];
   }
 

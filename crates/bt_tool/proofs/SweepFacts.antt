@@ -20,7 +20,7 @@ use Rattle.bt_tool.proofs.PairNear.{AreNeeded, least_by, not_all, skip_by, take_
 
 module _ (order : Order) where
   -- who leaves one of some records undecided, leaves one of more undecided
-  leaves_more : (as_given extra taken : List Feature) → IsTrue (list_all (leaves_some order as_given) taken) → IsTrue (list_all (leaves_some order (as_given ++ extra)) taken)
+  pub leaves_more : (as_given extra taken : List Feature) → IsTrue (list_all (leaves_some order as_given) taken) → IsTrue (list_all (leaves_some order (as_given ++ extra)) taken)
   leaves_more as_given extra [] h = refl
   leaves_more as_given extra (b ∷ bs) h =
       let here = (and_parts (leaves_some order as_given b) (list_all (leaves_some order as_given) bs) h).0 in

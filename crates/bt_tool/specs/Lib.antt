@@ -26,6 +26,7 @@ pub mod ConvertSteps
 pub mod Writing
 pub mod SweepReport
 pub mod MaskReport
+pub mod SweepSteps
 pub mod Passed
 pub mod Pair
 pub mod PairEnds

@@ -1,6 +1,6 @@
 -- How far a sweep over two readers has come, and how it ends.
-use Rattle.std.specs.Prelude.{◌≡◌, ℕ, ◌≤◌, Bool, true, List, ◌++◌, Option, Some, None, Result, Ok, Err}
-use Rattle.std.specs.Prelude.{⊤, [], IsTrue, option_map}
+use Rattle.std.specs.Prelude.{◌≡◌, ◌⊎◌, ℕ, ◌≤◌, ◌<◌, All, Bool, true, List, ◌++◌, Option, Some, None, Result, Ok, Err}
+use Rattle.std.specs.Prelude.{⊤, [], IsTrue, option_to_list}
 use Rattle.std.specs.List.{list_all}
 use Rattle.bt_lines.specs.Fault.{Told, read_failed}
 use Rattle.bt_lines.specs.Lines.{TextLine}
@@ -12,11 +12,10 @@ use Rattle.bt_lines.specs.declared.fault.Input.{Input}
 use Rattle.bt_lines.specs.declared.fault.Kind.{Kind}
 use Rattle.bt_bed.specs.Feature.{Feature, intervals_of}
 use Rattle.bt_bed.specs.Good.{Member}
-use Rattle.bt_bed.specs.Interval.{last_of}
 use Rattle.bt_bed.specs.LineKind.{IsBedKind}
-use Rattle.bt_bed.specs.Locus.{ArePlaced, Locus, locus_of}
+use Rattle.bt_bed.specs.Locus.{ArePlaced, Locus}
 use Rattle.bt_bed.specs.Order.{Order}
-use Rattle.bt_bed.specs.Reading.{MemberReader}
+use Rattle.bt_bed.specs.Reading.{MemberReader, ahead_in}
 use Rattle.bt_bed.specs.Records.{last_locus, order_in, view_of}
 use Rattle.bt_bed.specs.declared.order.ChromOrder.{Ghosts}
 use Rattle.bt_bed.specs.declared.records.Records.{Records}
@@ -29,7 +28,6 @@ use Rattle.bt_sweep.specs.declared.hit_rule.HitRule.{HitRule}
 use Rattle.bt_sweep.specs.declared.shape.Shape.{Shape}
 use Rattle.bt_sweep.specs.declared.want.Want.TheVariants.{Nothing}
 use Rattle.bt_tool.specs.SweepReport.{IsSweptKind, bytes_up_to, decider}
-use Rattle.bt_tool.specs.Feeding.{member_items}
 use Rattle.bt_tool.specs.Pair.{Making, Pair}
 use Rattle.bt_tool.specs.PairComes.{Comes, Stage as PairStage}
 use Rattle.bt_tool.specs.PairEnds.{Finishes, IsKnown}
@@ -70,13 +68,6 @@ stage_of stage = record {
   second_ended = stage.b_ended;
 }
 
--- these records were passed in an order of the chromosomes
-pub record IsPlaced {S O : Type 0} {g : Ghosts O} (old : Records S O g) (past : List (Member Feature))
-    (now : Records S O g) : Type 0 where
-  pub order : order_in now ≡ order_in old
-  pub placed : ArePlaced (order_in old) (intervals_of (member_items past))
-  pub last : last_locus now ≡ option_map locus_of (last_of (intervals_of (member_items past)))
-
 module _ {A B O : Type 0} {g : Ghosts O} (a_left : A → Option (List ℕ)) (a_failed a_end : A → Bool)
     (b_left : B → Option (List ℕ)) (b_failed b_end : B → Bool)
     (old_first : Records A O g) (old_second : Records B O g) where
@@ -112,12 +103,15 @@ module _ {A B O : Type 0} {g : Ghosts O} (a_left : A → Option (List ℕ)) (a_f
     pub comes : Comes (sweep_making order shape rule limit)
         (records_pair a_left a_failed a_end b_left b_failed b_end old_first old_second) out
         (stage_of stage) past_first past_second (view_of first) (view_of second) grown
-    pub first_placed : IsPlaced old_first past_first first
-    pub second_placed : IsPlaced old_second past_second second
+    -- they go by the order from the beginning
+    pub first_order : order_in first ≡ order_in old_first
+    pub second_order : order_in second ≡ order_in old_second
+    pub first_begins : last_locus old_first ≡ None
+    pub second_begins : last_locus old_second ≡ None
     pub fits : IsKnown (records_pair a_left a_failed a_end b_left b_failed b_end old_first old_second)
         → AreWithin order limit (given stage) past_second
 
-  -- what giving a sweep all that it asks for does
+  -- what giving a sweep all that it needs does
   abbrev pub SweepsOrStops : {T : Type 0} → Result T Fault → Records A O g → Records B O g
       → Sweeping → Output → Type 0
   SweepsOrStops (Ok done) first second sweep grown =
@@ -137,14 +131,14 @@ module _ {S A State : Type 0} (left : S → Option (List ℕ)) (failed end : S �
     pub more : List (Member A)
     pub passes : Passes left failed end old (past ++ more) new
     pub all : AreAll left failed end old (past ++ more)
-    pub rises : lines_given before.below ≤ lines_given new.below
 
-  -- a fault lies behind some of them
+  -- a fault lies after some of them
   pub record ChecksUpTo (Kinds : Kind → Type 0) (fault : Told)
       (new : MemberReader S A State) : Type 0 where
     pub more : List (Member A)
     pub stops : StopsAfter left failed end old Kinds (past ++ more) fault new
-    pub rises : lines_given before.below ≤ lines_given new.below
+    -- those that were passed and the one ahead are on the lines given
+    pub low : All (λ m. m.line ≤ lines_given new.below) (past ++ option_to_list (ahead_in before))
     pub before_end : end_told before.below ≡ true → (input : Input) (line : ℕ)
         → fault ≡ read_failed input line → ⊥
 
@@ -174,6 +168,8 @@ module _ {S A State : Type 0} (left : S → Option (List ℕ)) (failed end : S �
   pub record IsReadOn : Type 0 where
     pub bytes : (bytes : List ℕ) × Hands left before.below bytes now.below
     pub rises : lines_given before.below ≤ lines_given now.below
+    -- the member that was ahead is passed, if any is
+    pub moves : (now ≡ before) ⊎ (lines_given before.below < lines_given now.below)
     pub going : before.fault ≡ None → now.fault ≡ None
     pub passes : (old : MemberReader S A State) (past : List (Member A))
         → Passes left failed end old past before

@@ -63,12 +63,18 @@ fn none_is_buffered_before_fill_and_at_the_end(rt: HostRuntime) -> Result<(), Fa
     let order = ByteOrder;
     let mut records = records_of(rt.alloc(), b"chr1\t2\t4", &order);
     let before = records.buffered().first().is_none();
-    let is_one = records.fill()? && records.buffered().first().is_some();
+    if !records.fill()? {
+        return Err("a record".into());
+    }
+    let is_one = records.buffered().first().is_some();
     records.advance();
     let after = records.buffered().first().is_none();
     let has_ended = !records.fill()? && records.buffered().first().is_none();
     let _ = records.into_reader().into_source();
-    assert_eq!(rt; (before, is_one, after, has_ended), (true, true, true, true));
+    assert_eq!(rt;
+        (before, is_one, after, has_ended),
+        (true, true, true, true)
+    );
     Ok(())
 }
 

@@ -33,7 +33,7 @@ fn collect<S: Source>(
     records: &mut Records<'_, S, Genome>,
 ) -> Result<(Vec<Found>, Option<Fault>), AllocError> {
     let mut found = Vec::new(alloc);
-    loop {
+    for _ in 0..100 {
         let first = match records.peek() {
             Ok(Some(bed)) => seen(genome, 0, bed),
             Ok(None) => return Ok((found, None)),
@@ -48,6 +48,7 @@ fn collect<S: Source>(
         }
         records.advance();
     }
+    Ok((found, None))
 }
 
 // Whether a text that comes in pieces of this many bytes, and fails after the good ones, gives

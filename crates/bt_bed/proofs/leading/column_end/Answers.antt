@@ -1,4 +1,3 @@
-use Rattle.std.proofs.Common.{arith}
 use Rattle.bt_bed.proofs.ParsedColumns.{alone_ends}
 use Rattle.bt_bed.proofs.leading.column_end.Goals as goal
 

@@ -37,14 +37,14 @@ returns-in_err-line-clause-reads g c =
     let gives = rw c.in_err-line.was at c.next.follows.holds-at-none in
     let now = c.loop-line.invariant in
     passed_on (λ r. AnswersNoRead r → HasRead g.S.Source.is_read c.args.lines.now c.next.follows.lender-at-none) c.from_residual.result c.in_err-line.field-0.0 c.from_residual.ensures.1
-    (λ never. has_read_then g.S.Source.is_read c.args.lines.now c.loop-line.lines c.next.follows.lender-at-none now.read ((gives.own_failure (now.going.steps.going now.going.fed.passes.going)).read never))
+    (λ never. has_read_then g.S.Source.is_read c.args.lines.now c.loop-line.lines c.next.follows.lender-at-none now.read ((gives.own_failure now.going.fed.passes.going).read never))
 
 pub returns-in_err-line-clause-own_failure : goal.returns-in_err-line-clause-own_failure
 returns-in_err-line-clause-own_failure g c =
     let gives = rw c.in_err-line.was at c.next.follows.holds-at-none in
     let now = c.loop-line.invariant in
     own_then g.S.Source.is_read c.args.lines.now c.loop-line.lines _ _ now.read
-    (line_told_kept g.S.Source.is_read c.loop-line.lines c.next.follows.lender-at-none c.in_err-line.field-0.0 gives.answers.kept (now.going.steps.going now.going.fed.passes.going) gives.own_failure)
+    (line_told_kept g.S.Source.is_read c.loop-line.lines c.next.follows.lender-at-none c.in_err-line.field-0.0 gives.answers.kept now.going.fed.passes.going gives.own_failure)
 
 pub loop-line-smaller : goal.loop-line-smaller
 loop-line-smaller g c =

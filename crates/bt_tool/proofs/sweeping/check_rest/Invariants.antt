@@ -4,10 +4,10 @@ use Rattle.bt_tool.specs.SweepLoop.{IsReadOn}
 use Rattle.bt_tool.proofs.sweeping.check_rest.Given as goal
 
 -- the records so far were passed
-abbrev pub invariant-loop-record : goal.invariant-loop-record
-invariant-loop-record g l =
+abbrev pub invariant-loop-second : goal.invariant-loop-second
+invariant-loop-second g l =
     IsReadOn g.B.Source.left g.B.Source.has_failed g.B.Source.end_told (view_of l.initial.second) (view_of l.second)
     × HasRead g.B.Source.is_read (below l.initial.second) (below l.second)
 
-abbrev pub decreases-loop-record : goal.decreases-loop-record
-decreases-loop-record g l = room l.second
+abbrev pub decreases-loop-second : goal.decreases-loop-second
+decreases-loop-second g l = room l.second

@@ -1,4 +1,4 @@
-use Rattle.std.proofs.Common.{arith, refl, sym, ◌∙◌}
+use Rattle.std.proofs.Common.{true, refl, sym, ◌∙◌}
 use Rattle.bt_lines.proofs.ReadsLemmas.{has_read_then, reads_same}
 use Rattle.bt_lines.specs.Reader.{HasRead}
 use Rattle.bt_bed.specs.Records.{below, order_in}
@@ -6,172 +6,150 @@ use Rattle.bt_bed.proofs.ResultLemmas.{passed_on}
 use Rattle.bt_sweep.specs.SweepView.{order_of, state_of}
 use Rattle.bt_tool.specs.SweepLoop.{SweepsOrStops}
 use Rattle.bt_tool.specs.OwnReads.{AnswersNoRead}
-use Rattle.bt_tool.proofs.SweepPassing.{goes_both, goes_on, stops_on}
-use Rattle.bt_tool.proofs.SweepTurns.{second_stops, turns_second}
 use Rattle.bt_tool.proofs.OwnFailureLemmas.{none_kept, own_then}
+use Rattle.bt_tool.proofs.SweepRounds.{failed_both, fill_stops, filled, gave_both, own_advanced, own_stopped, reads_failed, reads_filled, reads_given, reads_stopped, round_is_less, still_done}
 use Rattle.bt_tool.proofs.sweeping.sweep_all.Goals as goal
 
-pub loop-first_pace-smaller-in-Continue-1 : goal.loop-first_pace-smaller-in-Continue-1
-loop-first_pace-smaller-in-Continue-1 g c =
-    let was = c.loop-first_pace.invariant in
-    (goes_on g.A.Source.left g.A.Source.has_failed g.A.Source.end_told g.A.Source.is_read g.B.Source.left g.B.Source.has_failed g.B.Source.end_told (state_of c.args.sweep.now).shape (state_of c.args.sweep.now).rule (state_of c.args.sweep.now).limit c.args.first.now c.args.second.now c.args.out.now.output
-    c.requires.total c.requires.second c.requires.sorted c.requires.sorted_second c.loop-first_pace.second (order_of c.loop-first_pace.sweep) was.1 c.in_ok-turn_firsts-in-A.field-0 c.loop-first_pace.first c.turn_firsts.new.first (state_of c.loop-first_pace.sweep) (state_of c.turn_firsts.new.sweep) c.loop-first_pace.out.output c.turn_firsts.new.out.output was.0 (sym c.want.ensures.is ∙ c.in-A.is) c.in_ok-turn_firsts-in-A.ensures.turns).1
-
-pub loop-first_pace-preserved-in-Continue-1 : goal.loop-first_pace-preserved-in-Continue-1
-loop-first_pace-preserved-in-Continue-1 g c =
-    let was = c.loop-first_pace.invariant in (
-      (goes_on g.A.Source.left g.A.Source.has_failed g.A.Source.end_told g.A.Source.is_read g.B.Source.left g.B.Source.has_failed g.B.Source.end_told (state_of c.args.sweep.now).shape (state_of c.args.sweep.now).rule (state_of c.args.sweep.now).limit c.args.first.now c.args.second.now c.args.out.now.output
-          c.requires.total c.requires.second c.requires.sorted c.requires.sorted_second c.loop-first_pace.second (order_of c.loop-first_pace.sweep) was.1 c.in_ok-turn_firsts-in-A.field-0 c.loop-first_pace.first c.turn_firsts.new.first (state_of c.loop-first_pace.sweep) (state_of c.turn_firsts.new.sweep) c.loop-first_pace.out.output c.turn_firsts.new.out.output was.0 (sym c.want.ensures.is ∙ c.in-A.is) c.in_ok-turn_firsts-in-A.ensures.turns).0,
-      c.turn_firsts.ensures.order ∙ was.1,
-      has_read_then g.A.Source.is_read (below c.args.first.now) (below c.loop-first_pace.first) (below c.turn_firsts.new.first) was.2 (c.in_ok-turn_firsts-in-A.ensures.reads was.0.comes.first_passes.going tt),
-      was.3,
-    )
-
-pub returns-in_err-turn_firsts-in-A-clause-sweeps : goal.returns-in_err-turn_firsts-in-A-clause-sweeps
-returns-in_err-turn_firsts-in-A-clause-sweeps g c =
-    let was = c.loop-first_pace.invariant in
-    passed_on (λ r. SweepsOrStops g.A.Source.left g.A.Source.has_failed g.A.Source.end_told g.B.Source.left g.B.Source.has_failed g.B.Source.end_told (order_in c.args.first.now) (state_of c.args.sweep.now).shape (state_of c.args.sweep.now).rule (state_of c.args.sweep.now).limit c.args.first.now c.args.second.now c.args.out.now.output r c.turn_firsts.new.first c.loop-first_pace.second (state_of c.turn_firsts.new.sweep) c.turn_firsts.new.out.output)
-    c.from_residual.result c.in_err-turn_firsts-in-A.field-0.0 c.from_residual.ensures.1
-    (stops_on g.A.Source.left g.A.Source.has_failed g.A.Source.end_told g.A.Source.is_read g.B.Source.left g.B.Source.has_failed g.B.Source.end_told (state_of c.args.sweep.now).shape (state_of c.args.sweep.now).rule (state_of c.args.sweep.now).limit c.args.first.now c.args.second.now c.args.out.now.output
-    c.requires.total c.requires.second c.requires.sorted c.requires.sorted_second c.loop-first_pace.second (order_of c.loop-first_pace.sweep) was.1 c.in_err-turn_firsts-in-A.field-0.0 c.loop-first_pace.first c.turn_firsts.new.first (state_of c.loop-first_pace.sweep) (state_of c.turn_firsts.new.sweep) c.loop-first_pace.out.output c.turn_firsts.new.out.output
-    was.0 (sym c.want.ensures.is ∙ c.in-A.is) c.in_err-turn_firsts-in-A.ensures.turns)
-
-pub loop-first_pace-smaller : goal.loop-first_pace-smaller
-loop-first_pace-smaller g c =
-    let was = c.loop-first_pace.invariant in
-    let wants = sym c.want.ensures.is ∙ c.in-B.is in
-    let behind = goes_both g.A.Source.left g.A.Source.has_failed g.A.Source.end_told g.A.Source.is_read g.B.Source.left g.B.Source.has_failed g.B.Source.end_told g.B.Source.is_read (state_of c.args.sweep.now).shape (state_of c.args.sweep.now).rule (state_of c.args.sweep.now).limit c.args.first.now c.args.second.now c.args.out.now.output
-    c.requires.total c.requires.second c.requires.sorted c.requires.sorted_second (order_of c.loop-first_pace.sweep) was.1 c.loop-first_pace.out.output c.loop-first_pace.first c.take_both.new.first c.loop-first_pace.second c.take_both.new.second (state_of c.loop-first_pace.sweep) (state_of c.take_both.new.sweep) was.0 wants c.take_both.ensures.gives in
-    omega (
-      arith,
-      behind.1,
-      (turns_second g.A.Source.left g.A.Source.has_failed g.A.Source.end_told g.B.Source.left g.B.Source.has_failed g.B.Source.end_told (state_of c.args.sweep.now).shape (state_of c.args.sweep.now).rule (state_of c.args.sweep.now).limit c.args.first.now c.args.second.now c.args.out.now.output
-          c.requires.total c.requires.second c.requires.sorted c.requires.sorted_second c.take_both.new.first c.take_both.new.second (state_of c.take_both.new.sweep) c.loop-first_pace.out.output (order_of c.take_both.new.sweep) (c.take_both.ensures.order ∙ was.1) behind.0
-          c.take_both.ensures.want c.turn_second.new.second (state_of c.turn_second.new.sweep) c.turn_second.new.out.output c.in_ok-turn_second-in-B.ensures.turns).1,
-    )
-
-pub loop-first_pace-preserved : goal.loop-first_pace-preserved
-loop-first_pace-preserved g c =
-    let was = c.loop-first_pace.invariant in
-    let wants = sym c.want.ensures.is ∙ c.in-B.is in
-    let behind = goes_both g.A.Source.left g.A.Source.has_failed g.A.Source.end_told g.A.Source.is_read g.B.Source.left g.B.Source.has_failed g.B.Source.end_told g.B.Source.is_read (state_of c.args.sweep.now).shape (state_of c.args.sweep.now).rule (state_of c.args.sweep.now).limit c.args.first.now c.args.second.now c.args.out.now.output
-    c.requires.total c.requires.second c.requires.sorted c.requires.sorted_second (order_of c.loop-first_pace.sweep) was.1 c.loop-first_pace.out.output c.loop-first_pace.first c.take_both.new.first c.loop-first_pace.second c.take_both.new.second (state_of c.loop-first_pace.sweep) (state_of c.take_both.new.sweep) was.0 wants c.take_both.ensures.gives in
-    let read = has_read_then g.B.Source.is_read (below c.args.second.now) (below c.loop-first_pace.second) (below c.take_both.new.second) was.3 behind.3 in (
-      (turns_second g.A.Source.left g.A.Source.has_failed g.A.Source.end_told g.B.Source.left g.B.Source.has_failed g.B.Source.end_told (state_of c.args.sweep.now).shape (state_of c.args.sweep.now).rule (state_of c.args.sweep.now).limit c.args.first.now c.args.second.now c.args.out.now.output
-          c.requires.total c.requires.second c.requires.sorted c.requires.sorted_second c.take_both.new.first c.take_both.new.second (state_of c.take_both.new.sweep) c.loop-first_pace.out.output (order_of c.take_both.new.sweep) (c.take_both.ensures.order ∙ was.1) behind.0
-          c.take_both.ensures.want c.turn_second.new.second (state_of c.turn_second.new.sweep) c.turn_second.new.out.output c.in_ok-turn_second-in-B.ensures.turns).0,
-      c.turn_second.ensures.order ∙ c.take_both.ensures.order ∙ was.1,
-      has_read_then g.A.Source.is_read (below c.args.first.now) (below c.loop-first_pace.first) (below c.take_both.new.first) was.2 behind.2,
-      has_read_then g.B.Source.is_read (below c.args.second.now) (below c.take_both.new.second) (below c.turn_second.new.second) read (c.in_ok-turn_second-in-B.ensures.reads behind.0.comes.second_passes.going tt),
-    )
-
-pub returns-in_err-turn_second-in-B-clause-sweeps : goal.returns-in_err-turn_second-in-B-clause-sweeps
-returns-in_err-turn_second-in-B-clause-sweeps g c =
-    let was = c.loop-first_pace.invariant in
-    let wants = sym c.want.ensures.is ∙ c.in-B.is in
-    let behind = goes_both g.A.Source.left g.A.Source.has_failed g.A.Source.end_told g.A.Source.is_read g.B.Source.left g.B.Source.has_failed g.B.Source.end_told g.B.Source.is_read (state_of c.args.sweep.now).shape (state_of c.args.sweep.now).rule (state_of c.args.sweep.now).limit c.args.first.now c.args.second.now c.args.out.now.output
-    c.requires.total c.requires.second c.requires.sorted c.requires.sorted_second (order_of c.loop-first_pace.sweep) was.1 c.loop-first_pace.out.output c.loop-first_pace.first c.take_both.new.first c.loop-first_pace.second c.take_both.new.second (state_of c.loop-first_pace.sweep) (state_of c.take_both.new.sweep) was.0 wants c.take_both.ensures.gives in
-    passed_on (λ r. SweepsOrStops g.A.Source.left g.A.Source.has_failed g.A.Source.end_told g.B.Source.left g.B.Source.has_failed g.B.Source.end_told (order_in c.args.first.now) (state_of c.args.sweep.now).shape (state_of c.args.sweep.now).rule (state_of c.args.sweep.now).limit c.args.first.now c.args.second.now c.args.out.now.output r c.take_both.new.first c.turn_second.new.second (state_of c.turn_second.new.sweep) c.turn_second.new.out.output)
-    c.from_residual-in_err-turn_second-in-B.result c.in_err-turn_second-in-B.field-0.0 c.from_residual-in_err-turn_second-in-B.ensures.1
-    (second_stops g.A.Source.left g.A.Source.has_failed g.A.Source.end_told g.B.Source.left g.B.Source.has_failed g.B.Source.end_told (state_of c.args.sweep.now).shape (state_of c.args.sweep.now).rule (state_of c.args.sweep.now).limit c.args.first.now c.args.second.now c.args.out.now.output
-    c.requires.total c.requires.second c.requires.sorted c.requires.sorted_second c.take_both.new.first c.take_both.new.second (state_of c.take_both.new.sweep) c.loop-first_pace.out.output (order_of c.take_both.new.sweep) (c.take_both.ensures.order ∙ was.1) behind.0
-    c.take_both.ensures.want c.in_err-turn_second-in-B.field-0.0 c.turn_second.new.second (state_of c.turn_second.new.sweep) c.turn_second.new.out.output c.in_err-turn_second-in-B.ensures.turns)
-
-pub returns-in_err-turn_firsts-in-A-clause-own_failure : goal.returns-in_err-turn_firsts-in-A-clause-own_failure
-returns-in_err-turn_firsts-in-A-clause-own_failure g c =
-    let was = c.loop-first_pace.invariant in
-    let read = was.2 in
-    own_then g.A.Source.is_read (below c.args.first.now) (below c.loop-first_pace.first) _ _ read (c.turn_firsts.ensures.own_failure was.0.comes.first_passes.going)
-
-pub returns-in_err-turn_firsts-in-A-clause-own_failure_second : goal.returns-in_err-turn_firsts-in-A-clause-own_failure_second
-returns-in_err-turn_firsts-in-A-clause-own_failure_second g c =
-    let was = c.loop-first_pace.invariant in
-    none_kept g.B.Source.is_read _ _ _ was.0.comes.second_passes.going
-
-pub returns-in_err-turn_second-in-B-clause-own_failure : goal.returns-in_err-turn_second-in-B-clause-own_failure
-returns-in_err-turn_second-in-B-clause-own_failure g c =
-    let was = c.loop-first_pace.invariant in
-    let wants = sym c.want.ensures.is ∙ c.in-B.is in
-    let behind = goes_both g.A.Source.left g.A.Source.has_failed g.A.Source.end_told g.A.Source.is_read g.B.Source.left g.B.Source.has_failed g.B.Source.end_told g.B.Source.is_read (state_of c.args.sweep.now).shape (state_of c.args.sweep.now).rule (state_of c.args.sweep.now).limit c.args.first.now c.args.second.now c.args.out.now.output
-    c.requires.total c.requires.second c.requires.sorted c.requires.sorted_second (order_of c.loop-first_pace.sweep) was.1 c.loop-first_pace.out.output c.loop-first_pace.first c.take_both.new.first c.loop-first_pace.second c.take_both.new.second (state_of c.loop-first_pace.sweep) (state_of c.take_both.new.sweep) was.0 wants c.take_both.ensures.gives in
-    none_kept g.A.Source.is_read _ _ _ behind.0.comes.first_passes.going
-
-pub returns-in_err-turn_second-in-B-clause-own_failure_second : goal.returns-in_err-turn_second-in-B-clause-own_failure_second
-returns-in_err-turn_second-in-B-clause-own_failure_second g c =
-    let was = c.loop-first_pace.invariant in
-    let wants = sym c.want.ensures.is ∙ c.in-B.is in
-    let behind = goes_both g.A.Source.left g.A.Source.has_failed g.A.Source.end_told g.A.Source.is_read g.B.Source.left g.B.Source.has_failed g.B.Source.end_told g.B.Source.is_read (state_of c.args.sweep.now).shape (state_of c.args.sweep.now).rule (state_of c.args.sweep.now).limit c.args.first.now c.args.second.now c.args.out.now.output
-    c.requires.total c.requires.second c.requires.sorted c.requires.sorted_second (order_of c.loop-first_pace.sweep) was.1 c.loop-first_pace.out.output c.loop-first_pace.first c.take_both.new.first c.loop-first_pace.second c.take_both.new.second (state_of c.loop-first_pace.sweep) (state_of c.take_both.new.sweep) was.0 wants c.take_both.ensures.gives in
-    let read = has_read_then g.B.Source.is_read (below c.args.second.now) (below c.loop-first_pace.second) (below c.take_both.new.second) was.3 behind.3 in
-    own_then g.B.Source.is_read (below c.args.second.now) (below c.take_both.new.second) _ _ read (c.turn_second.ensures.own_failure behind.0.comes.second_passes.going)
-
-pub returns-in-Nothing-clause-own_failure : goal.returns-in-Nothing-clause-own_failure
-returns-in-Nothing-clause-own_failure g c = none_kept g.A.Source.is_read _ _ _ c.loop-first_pace.invariant.0.comes.first_passes.going
-
-pub returns-in-Nothing-clause-own_failure_second : goal.returns-in-Nothing-clause-own_failure_second
-returns-in-Nothing-clause-own_failure_second g c = none_kept g.B.Source.is_read _ _ _ c.loop-first_pace.invariant.0.comes.second_passes.going
-
-pub loop-first_pace-init : goal.loop-first_pace-init
-loop-first_pace-init g c = (
+pub loop-first-init : goal.loop-first-init
+loop-first-init g c = (
   c.requires.starts,
   c.requires.sweep,
   reads_same g.A.Source.is_read (below c.args.first.now) (below c.args.first.now) refl,
   reads_same g.B.Source.is_read (below c.args.second.now) (below c.args.second.now) refl,
 )
 
-pub returns-in_err-turn_firsts-in-A-clause-reads_first : goal.returns-in_err-turn_firsts-in-A-clause-reads_first
-returns-in_err-turn_firsts-in-A-clause-reads_first g c =
-    let was = c.loop-first_pace.invariant in
-    let read = was.2 in
-    passed_on (λ r. AnswersNoRead r → HasRead g.A.Source.is_read (below c.args.first.now) (below c.turn_firsts.new.first)) c.from_residual.result c.in_err-turn_firsts-in-A.field-0.0 c.from_residual.ensures.1
-    (λ never. has_read_then g.A.Source.is_read (below c.args.first.now) (below c.loop-first_pace.first) (below c.turn_firsts.new.first) read (c.in_err-turn_firsts-in-A.ensures.reads was.0.comes.first_passes.going never))
+pub advance_both-requires-clause-order : goal.advance_both-requires-clause-order
+advance_both-requires-clause-order g c =
+    let f = filled g.A.Source.left g.A.Source.has_failed g.A.Source.end_told g.A.Source.is_read g.B.Source.left g.B.Source.has_failed g.B.Source.end_told g.B.Source.is_read (state_of c.args.sweep.now).shape (state_of c.args.sweep.now).rule (state_of c.args.sweep.now).limit c.args.first.now c.args.second.now c.args.out.now.output c.requires.total c.requires.second c.requires.sorted c.requires.sorted_second c.loop-first.first c.loop-first.second (state_of c.loop-first.sweep) c.loop-first.out.output (order_of c.loop-first.sweep) c.loop-first.invariant.1 c.loop-first.invariant.0 c.fill_wanted.new.first c.fill_wanted.new.second (state_of c.fill_wanted.new.sweep) c.fill_wanted.new.out.output (rw c.if-branch.true at c.in_ok-fill_wanted.ensures.fills) in
+    c.fill_wanted.ensures.order ∙ c.loop-first.invariant.1 ∙ sym f.going.first_order
 
-pub returns-in_err-turn_firsts-in-A-clause-reads_second : goal.returns-in_err-turn_firsts-in-A-clause-reads_second
-returns-in_err-turn_firsts-in-A-clause-reads_second g c =
-    let was = c.loop-first_pace.invariant in
-    λ never. was.3
+pub advance_both-requires-clause-second : goal.advance_both-requires-clause-second
+advance_both-requires-clause-second g c =
+    let f = filled g.A.Source.left g.A.Source.has_failed g.A.Source.end_told g.A.Source.is_read g.B.Source.left g.B.Source.has_failed g.B.Source.end_told g.B.Source.is_read (state_of c.args.sweep.now).shape (state_of c.args.sweep.now).rule (state_of c.args.sweep.now).limit c.args.first.now c.args.second.now c.args.out.now.output c.requires.total c.requires.second c.requires.sorted c.requires.sorted_second c.loop-first.first c.loop-first.second (state_of c.loop-first.sweep) c.loop-first.out.output (order_of c.loop-first.sweep) c.loop-first.invariant.1 c.loop-first.invariant.0 c.fill_wanted.new.first c.fill_wanted.new.second (state_of c.fill_wanted.new.sweep) c.fill_wanted.new.out.output (rw c.if-branch.true at c.in_ok-fill_wanted.ensures.fills) in
+    c.fill_wanted.ensures.order ∙ c.loop-first.invariant.1 ∙ sym c.requires.second ∙ sym f.going.second_order
 
-pub returns-in_err-turn_second-in-B-clause-reads_first : goal.returns-in_err-turn_second-in-B-clause-reads_first
-returns-in_err-turn_second-in-B-clause-reads_first g c =
-    let was = c.loop-first_pace.invariant in
-    let wants = sym c.want.ensures.is ∙ c.in-B.is in
-    let behind = goes_both g.A.Source.left g.A.Source.has_failed g.A.Source.end_told g.A.Source.is_read g.B.Source.left g.B.Source.has_failed g.B.Source.end_told g.B.Source.is_read (state_of c.args.sweep.now).shape (state_of c.args.sweep.now).rule (state_of c.args.sweep.now).limit c.args.first.now c.args.second.now c.args.out.now.output
-    c.requires.total c.requires.second c.requires.sorted c.requires.sorted_second (order_of c.loop-first_pace.sweep) was.1 c.loop-first_pace.out.output c.loop-first_pace.first c.take_both.new.first c.loop-first_pace.second c.take_both.new.second (state_of c.loop-first_pace.sweep) (state_of c.take_both.new.sweep) was.0 wants c.take_both.ensures.gives in
-    λ never. has_read_then g.A.Source.is_read (below c.args.first.now) (below c.loop-first_pace.first) (below c.take_both.new.first) was.2 behind.2
+pub returns-in_err-fill_wanted-clause-sweeps : goal.returns-in_err-fill_wanted-clause-sweeps
+returns-in_err-fill_wanted-clause-sweeps g c =
+    passed_on (λ r. SweepsOrStops g.A.Source.left g.A.Source.has_failed g.A.Source.end_told g.B.Source.left g.B.Source.has_failed g.B.Source.end_told (order_in c.args.first.now) (state_of c.args.sweep.now).shape (state_of c.args.sweep.now).rule (state_of c.args.sweep.now).limit c.args.first.now c.args.second.now c.args.out.now.output r c.fill_wanted.new.first c.fill_wanted.new.second (state_of c.fill_wanted.new.sweep) c.fill_wanted.new.out.output)
+    c.from_residual.result c.in_err-fill_wanted.field-0.0 c.from_residual.ensures.1
+    (fill_stops g.A.Source.left g.A.Source.has_failed g.A.Source.end_told g.A.Source.is_read g.B.Source.left g.B.Source.has_failed g.B.Source.end_told g.B.Source.is_read (state_of c.args.sweep.now).shape (state_of c.args.sweep.now).rule (state_of c.args.sweep.now).limit c.args.first.now c.args.second.now c.args.out.now.output c.requires.total c.requires.second c.requires.sorted c.requires.sorted_second c.loop-first.first c.loop-first.second (state_of c.loop-first.sweep) c.loop-first.out.output (order_of c.loop-first.sweep) c.loop-first.invariant.1 c.loop-first.invariant.0 c.in_err-fill_wanted.field-0.0 c.fill_wanted.new.first c.fill_wanted.new.second (state_of c.fill_wanted.new.sweep) c.fill_wanted.new.out.output c.in_err-fill_wanted.ensures.fills)
 
-pub returns-in_err-turn_second-in-B-clause-reads_second : goal.returns-in_err-turn_second-in-B-clause-reads_second
-returns-in_err-turn_second-in-B-clause-reads_second g c =
-    let was = c.loop-first_pace.invariant in
-    let wants = sym c.want.ensures.is ∙ c.in-B.is in
-    let behind = goes_both g.A.Source.left g.A.Source.has_failed g.A.Source.end_told g.A.Source.is_read g.B.Source.left g.B.Source.has_failed g.B.Source.end_told g.B.Source.is_read (state_of c.args.sweep.now).shape (state_of c.args.sweep.now).rule (state_of c.args.sweep.now).limit c.args.first.now c.args.second.now c.args.out.now.output
-    c.requires.total c.requires.second c.requires.sorted c.requires.sorted_second (order_of c.loop-first_pace.sweep) was.1 c.loop-first_pace.out.output c.loop-first_pace.first c.take_both.new.first c.loop-first_pace.second c.take_both.new.second (state_of c.loop-first_pace.sweep) (state_of c.take_both.new.sweep) was.0 wants c.take_both.ensures.gives in
-    let read = has_read_then g.B.Source.is_read (below c.args.second.now) (below c.loop-first_pace.second) (below c.take_both.new.second) was.3 behind.3 in
-    passed_on (λ r. AnswersNoRead r → HasRead g.B.Source.is_read (below c.args.second.now) (below c.turn_second.new.second)) c.from_residual-in_err-turn_second-in-B.result c.in_err-turn_second-in-B.field-0.0 c.from_residual-in_err-turn_second-in-B.ensures.1
-    (λ never. has_read_then g.B.Source.is_read (below c.args.second.now) (below c.take_both.new.second) (below c.turn_second.new.second) read (c.in_err-turn_second-in-B.ensures.reads behind.0.comes.second_passes.going never))
+pub returns-in_err-fill_wanted-clause-reads_first : goal.returns-in_err-fill_wanted-clause-reads_first
+returns-in_err-fill_wanted-clause-reads_first g c =
+    passed_on (λ r. AnswersNoRead r → HasRead g.A.Source.is_read (below c.args.first.now) (below c.fill_wanted.new.first)) c.from_residual.result c.in_err-fill_wanted.field-0.0 c.from_residual.ensures.1
+    (λ never. has_read_then g.A.Source.is_read (below c.args.first.now) (below c.loop-first.first) (below c.fill_wanted.new.first) c.loop-first.invariant.2
+    (reads_stopped g.A.Source.left g.A.Source.has_failed g.A.Source.end_told g.A.Source.is_read g.B.Source.left g.B.Source.has_failed g.B.Source.end_told g.B.Source.is_read (order_of c.loop-first.sweep) c.loop-first.first c.loop-first.second (state_of c.loop-first.sweep) c.loop-first.out.output c.loop-first.invariant.0.comes.first_passes.going c.loop-first.invariant.0.comes.second_passes.going c.in_err-fill_wanted.field-0.0 c.fill_wanted.new.first c.fill_wanted.new.second (state_of c.fill_wanted.new.sweep) c.fill_wanted.new.out.output c.in_err-fill_wanted.ensures.fills never).0)
 
-pub returns-in-Nothing-clause-reads_first : goal.returns-in-Nothing-clause-reads_first
-returns-in-Nothing-clause-reads_first g c = λ never. c.loop-first_pace.invariant.2
+pub returns-in_err-fill_wanted-clause-reads_second : goal.returns-in_err-fill_wanted-clause-reads_second
+returns-in_err-fill_wanted-clause-reads_second g c =
+    passed_on (λ r. AnswersNoRead r → HasRead g.B.Source.is_read (below c.args.second.now) (below c.fill_wanted.new.second)) c.from_residual.result c.in_err-fill_wanted.field-0.0 c.from_residual.ensures.1
+    (λ never. has_read_then g.B.Source.is_read (below c.args.second.now) (below c.loop-first.second) (below c.fill_wanted.new.second) c.loop-first.invariant.3
+    (reads_stopped g.A.Source.left g.A.Source.has_failed g.A.Source.end_told g.A.Source.is_read g.B.Source.left g.B.Source.has_failed g.B.Source.end_told g.B.Source.is_read (order_of c.loop-first.sweep) c.loop-first.first c.loop-first.second (state_of c.loop-first.sweep) c.loop-first.out.output c.loop-first.invariant.0.comes.first_passes.going c.loop-first.invariant.0.comes.second_passes.going c.in_err-fill_wanted.field-0.0 c.fill_wanted.new.first c.fill_wanted.new.second (state_of c.fill_wanted.new.sweep) c.fill_wanted.new.out.output c.in_err-fill_wanted.ensures.fills never).1)
 
-pub returns-in-Nothing-clause-reads_second : goal.returns-in-Nothing-clause-reads_second
-returns-in-Nothing-clause-reads_second g c = λ never. c.loop-first_pace.invariant.3
+pub returns-in_err-fill_wanted-clause-own_failure : goal.returns-in_err-fill_wanted-clause-own_failure
+returns-in_err-fill_wanted-clause-own_failure g c =
+    own_then g.A.Source.is_read (below c.args.first.now) (below c.loop-first.first) _ _ c.loop-first.invariant.2
+    (own_stopped g.A.Source.left g.A.Source.has_failed g.A.Source.end_told g.A.Source.is_read g.B.Source.left g.B.Source.has_failed g.B.Source.end_told g.B.Source.is_read (order_of c.loop-first.sweep) c.loop-first.first c.loop-first.second (state_of c.loop-first.sweep) c.loop-first.out.output c.loop-first.invariant.0.comes.first_passes.going c.loop-first.invariant.0.comes.second_passes.going c.in_err-fill_wanted.field-0.0 c.fill_wanted.new.first c.fill_wanted.new.second (state_of c.fill_wanted.new.sweep) c.fill_wanted.new.out.output c.in_err-fill_wanted.ensures.fills).0
 
-pub turn_firsts-requires-clause-second : goal.turn_firsts-requires-clause-second
-turn_firsts-requires-clause-second g c =
-    let was = c.loop-first_pace.invariant in
-    was.1 ∙ sym c.requires.second ∙ sym was.0.second_placed.order
+pub returns-in_err-fill_wanted-clause-own_failure_second : goal.returns-in_err-fill_wanted-clause-own_failure_second
+returns-in_err-fill_wanted-clause-own_failure_second g c =
+    own_then g.B.Source.is_read (below c.args.second.now) (below c.loop-first.second) _ _ c.loop-first.invariant.3
+    (own_stopped g.A.Source.left g.A.Source.has_failed g.A.Source.end_told g.A.Source.is_read g.B.Source.left g.B.Source.has_failed g.B.Source.end_told g.B.Source.is_read (order_of c.loop-first.sweep) c.loop-first.first c.loop-first.second (state_of c.loop-first.sweep) c.loop-first.out.output c.loop-first.invariant.0.comes.first_passes.going c.loop-first.invariant.0.comes.second_passes.going c.in_err-fill_wanted.field-0.0 c.fill_wanted.new.first c.fill_wanted.new.second (state_of c.fill_wanted.new.sweep) c.fill_wanted.new.out.output c.in_err-fill_wanted.ensures.fills).1
 
-pub turn_firsts-requires-clause-order : goal.turn_firsts-requires-clause-order
-turn_firsts-requires-clause-order g c =
-    let was = c.loop-first_pace.invariant in
-    was.1 ∙ sym was.0.first_placed.order
+pub loop-first-smaller : goal.loop-first-smaller
+loop-first-smaller g c =
+    let fills = rw c.if-branch.true at c.in_ok-fill_wanted.ensures.fills in
+    let f = filled g.A.Source.left g.A.Source.has_failed g.A.Source.end_told g.A.Source.is_read g.B.Source.left g.B.Source.has_failed g.B.Source.end_told g.B.Source.is_read (state_of c.args.sweep.now).shape (state_of c.args.sweep.now).rule (state_of c.args.sweep.now).limit c.args.first.now c.args.second.now c.args.out.now.output c.requires.total c.requires.second c.requires.sorted c.requires.sorted_second c.loop-first.first c.loop-first.second (state_of c.loop-first.sweep) c.loop-first.out.output (order_of c.loop-first.sweep) c.loop-first.invariant.1 c.loop-first.invariant.0 c.fill_wanted.new.first c.fill_wanted.new.second (state_of c.fill_wanted.new.sweep) c.fill_wanted.new.out.output fills in
+    let same = c.fill_wanted.ensures.order ∙ c.loop-first.invariant.1 in
+    let read = reads_filled g.A.Source.left g.A.Source.has_failed g.A.Source.end_told g.A.Source.is_read g.B.Source.left g.B.Source.has_failed g.B.Source.end_told g.B.Source.is_read (order_of c.loop-first.sweep) c.loop-first.first c.loop-first.second (state_of c.loop-first.sweep) c.loop-first.out.output true c.fill_wanted.new.first c.fill_wanted.new.second (state_of c.fill_wanted.new.sweep) c.fill_wanted.new.out.output fills in
+    let gives = c.in_ok-advance_both.ensures.advances in
+    round_is_less g.A.Source.left g.A.Source.has_failed g.A.Source.end_told g.A.Source.is_read g.B.Source.left g.B.Source.has_failed g.B.Source.end_told g.B.Source.is_read (state_of c.args.sweep.now).shape (state_of c.args.sweep.now).rule (state_of c.args.sweep.now).limit c.args.first.now c.args.second.now c.args.out.now.output c.requires.total c.requires.second c.requires.sorted c.requires.sorted_second c.loop-first.first c.loop-first.second (state_of c.loop-first.sweep) c.loop-first.out.output (order_of c.loop-first.sweep) c.loop-first.invariant.1 c.loop-first.invariant.0 c.fill_wanted.new.first c.advance_both.new.first c.fill_wanted.new.second c.advance_both.new.second (state_of c.fill_wanted.new.sweep) (state_of c.advance_both.new.sweep) c.fill_wanted.new.out.output c.advance_both.new.out.output f
+    (rw c.fill_wanted.ensures.order at gives)
+    (still_done g.A.Source.left g.A.Source.has_failed g.A.Source.end_told g.A.Source.is_read g.B.Source.left g.B.Source.has_failed g.B.Source.end_told g.B.Source.is_read (state_of c.args.sweep.now).shape (state_of c.args.sweep.now).rule (state_of c.args.sweep.now).limit c.args.first.now c.args.second.now c.args.out.now.output c.requires.total c.requires.second c.requires.sorted c.requires.sorted_second c.fill_wanted.new.first c.fill_wanted.new.second (state_of c.fill_wanted.new.sweep) c.fill_wanted.new.out.output (order_of c.fill_wanted.new.sweep) same f.going c.advance_both.new.first c.advance_both.new.second (state_of c.advance_both.new.sweep) c.advance_both.new.out.output gives)
 
-pub turn_second-requires-clause-order : goal.turn_second-requires-clause-order
-turn_second-requires-clause-order g c =
-    let was = c.loop-first_pace.invariant in
-    let wants = sym c.want.ensures.is ∙ c.in-B.is in
-    let behind = goes_both g.A.Source.left g.A.Source.has_failed g.A.Source.end_told g.A.Source.is_read g.B.Source.left g.B.Source.has_failed g.B.Source.end_told g.B.Source.is_read (state_of c.args.sweep.now).shape (state_of c.args.sweep.now).rule (state_of c.args.sweep.now).limit c.args.first.now c.args.second.now c.args.out.now.output
-    c.requires.total c.requires.second c.requires.sorted c.requires.sorted_second (order_of c.loop-first_pace.sweep) was.1 c.loop-first_pace.out.output c.loop-first_pace.first c.take_both.new.first c.loop-first_pace.second c.take_both.new.second (state_of c.loop-first_pace.sweep) (state_of c.take_both.new.sweep) was.0 wants c.take_both.ensures.gives in
-    c.take_both.ensures.order ∙ was.1 ∙ sym c.requires.second ∙ sym behind.0.second_placed.order
+pub loop-first-preserved : goal.loop-first-preserved
+loop-first-preserved g c =
+    let fills = rw c.if-branch.true at c.in_ok-fill_wanted.ensures.fills in
+    let f = filled g.A.Source.left g.A.Source.has_failed g.A.Source.end_told g.A.Source.is_read g.B.Source.left g.B.Source.has_failed g.B.Source.end_told g.B.Source.is_read (state_of c.args.sweep.now).shape (state_of c.args.sweep.now).rule (state_of c.args.sweep.now).limit c.args.first.now c.args.second.now c.args.out.now.output c.requires.total c.requires.second c.requires.sorted c.requires.sorted_second c.loop-first.first c.loop-first.second (state_of c.loop-first.sweep) c.loop-first.out.output (order_of c.loop-first.sweep) c.loop-first.invariant.1 c.loop-first.invariant.0 c.fill_wanted.new.first c.fill_wanted.new.second (state_of c.fill_wanted.new.sweep) c.fill_wanted.new.out.output fills in
+    let same = c.fill_wanted.ensures.order ∙ c.loop-first.invariant.1 in
+    let read = reads_filled g.A.Source.left g.A.Source.has_failed g.A.Source.end_told g.A.Source.is_read g.B.Source.left g.B.Source.has_failed g.B.Source.end_told g.B.Source.is_read (order_of c.loop-first.sweep) c.loop-first.first c.loop-first.second (state_of c.loop-first.sweep) c.loop-first.out.output true c.fill_wanted.new.first c.fill_wanted.new.second (state_of c.fill_wanted.new.sweep) c.fill_wanted.new.out.output fills in
+    let gives = c.in_ok-advance_both.ensures.advances in
+    let given = reads_given g.A.Source.left g.A.Source.has_failed g.A.Source.end_told g.A.Source.is_read g.B.Source.left g.B.Source.has_failed g.B.Source.end_told g.B.Source.is_read (order_of c.fill_wanted.new.sweep) c.fill_wanted.new.first c.fill_wanted.new.second (state_of c.fill_wanted.new.sweep) c.fill_wanted.new.out.output c.advance_both.new.first c.advance_both.new.second (state_of c.advance_both.new.sweep) c.advance_both.new.out.output gives in (
+      gave_both g.A.Source.left g.A.Source.has_failed g.A.Source.end_told g.A.Source.is_read g.B.Source.left g.B.Source.has_failed g.B.Source.end_told g.B.Source.is_read (state_of c.args.sweep.now).shape (state_of c.args.sweep.now).rule (state_of c.args.sweep.now).limit c.args.first.now c.args.second.now c.args.out.now.output c.requires.total c.requires.second c.requires.sorted c.requires.sorted_second c.fill_wanted.new.first c.fill_wanted.new.second (state_of c.fill_wanted.new.sweep) c.fill_wanted.new.out.output (order_of c.fill_wanted.new.sweep) same f.going c.advance_both.new.first c.advance_both.new.second (state_of c.advance_both.new.sweep) c.advance_both.new.out.output gives,
+      c.advance_both.ensures.order ∙ same,
+      has_read_then g.A.Source.is_read (below c.args.first.now) (below c.fill_wanted.new.first) (below c.advance_both.new.first) (has_read_then g.A.Source.is_read (below c.args.first.now) (below c.loop-first.first) (below c.fill_wanted.new.first) c.loop-first.invariant.2 read.0) given.0,
+      has_read_then g.B.Source.is_read (below c.args.second.now) (below c.fill_wanted.new.second) (below c.advance_both.new.second) (has_read_then g.B.Source.is_read (below c.args.second.now) (below c.loop-first.second) (below c.fill_wanted.new.second) c.loop-first.invariant.3 read.1) given.1,
+    )
 
-pub take_both-requires : goal.take_both-requires
-take_both-requires g c = record { want = sym c.want.ensures.is ∙ c.in-B.is }
+pub returns-in_err-advance_both-clause-sweeps : goal.returns-in_err-advance_both-clause-sweeps
+returns-in_err-advance_both-clause-sweeps g c =
+    let fills = rw c.if-branch.true at c.in_ok-fill_wanted.ensures.fills in
+    let f = filled g.A.Source.left g.A.Source.has_failed g.A.Source.end_told g.A.Source.is_read g.B.Source.left g.B.Source.has_failed g.B.Source.end_told g.B.Source.is_read (state_of c.args.sweep.now).shape (state_of c.args.sweep.now).rule (state_of c.args.sweep.now).limit c.args.first.now c.args.second.now c.args.out.now.output c.requires.total c.requires.second c.requires.sorted c.requires.sorted_second c.loop-first.first c.loop-first.second (state_of c.loop-first.sweep) c.loop-first.out.output (order_of c.loop-first.sweep) c.loop-first.invariant.1 c.loop-first.invariant.0 c.fill_wanted.new.first c.fill_wanted.new.second (state_of c.fill_wanted.new.sweep) c.fill_wanted.new.out.output fills in
+    let same = c.fill_wanted.ensures.order ∙ c.loop-first.invariant.1 in
+    let read = reads_filled g.A.Source.left g.A.Source.has_failed g.A.Source.end_told g.A.Source.is_read g.B.Source.left g.B.Source.has_failed g.B.Source.end_told g.B.Source.is_read (order_of c.loop-first.sweep) c.loop-first.first c.loop-first.second (state_of c.loop-first.sweep) c.loop-first.out.output true c.fill_wanted.new.first c.fill_wanted.new.second (state_of c.fill_wanted.new.sweep) c.fill_wanted.new.out.output fills in
+    passed_on (λ r. SweepsOrStops g.A.Source.left g.A.Source.has_failed g.A.Source.end_told g.B.Source.left g.B.Source.has_failed g.B.Source.end_told (order_in c.args.first.now) (state_of c.args.sweep.now).shape (state_of c.args.sweep.now).rule (state_of c.args.sweep.now).limit c.args.first.now c.args.second.now c.args.out.now.output r c.advance_both.new.first c.advance_both.new.second (state_of c.advance_both.new.sweep) c.advance_both.new.out.output)
+    c.from_residual-in_err-advance_both.result c.in_err-advance_both.field-0.0 c.from_residual-in_err-advance_both.ensures.1
+    (failed_both g.A.Source.left g.A.Source.has_failed g.A.Source.end_told g.A.Source.is_read g.B.Source.left g.B.Source.has_failed g.B.Source.end_told g.B.Source.is_read (state_of c.args.sweep.now).shape (state_of c.args.sweep.now).rule (state_of c.args.sweep.now).limit c.args.first.now c.args.second.now c.args.out.now.output c.requires.total c.requires.second c.requires.sorted c.requires.sorted_second c.fill_wanted.new.first c.fill_wanted.new.second (state_of c.fill_wanted.new.sweep) c.fill_wanted.new.out.output (order_of c.fill_wanted.new.sweep) same f.going c.in_err-advance_both.field-0.0 c.advance_both.new.first c.advance_both.new.second c.advance_both.new.out.output c.in_err-advance_both.ensures.advances)
+
+pub returns-in_err-advance_both-clause-reads_first : goal.returns-in_err-advance_both-clause-reads_first
+returns-in_err-advance_both-clause-reads_first g c =
+    let fills = rw c.if-branch.true at c.in_ok-fill_wanted.ensures.fills in
+    let f = filled g.A.Source.left g.A.Source.has_failed g.A.Source.end_told g.A.Source.is_read g.B.Source.left g.B.Source.has_failed g.B.Source.end_told g.B.Source.is_read (state_of c.args.sweep.now).shape (state_of c.args.sweep.now).rule (state_of c.args.sweep.now).limit c.args.first.now c.args.second.now c.args.out.now.output c.requires.total c.requires.second c.requires.sorted c.requires.sorted_second c.loop-first.first c.loop-first.second (state_of c.loop-first.sweep) c.loop-first.out.output (order_of c.loop-first.sweep) c.loop-first.invariant.1 c.loop-first.invariant.0 c.fill_wanted.new.first c.fill_wanted.new.second (state_of c.fill_wanted.new.sweep) c.fill_wanted.new.out.output fills in
+    let same = c.fill_wanted.ensures.order ∙ c.loop-first.invariant.1 in
+    let read = reads_filled g.A.Source.left g.A.Source.has_failed g.A.Source.end_told g.A.Source.is_read g.B.Source.left g.B.Source.has_failed g.B.Source.end_told g.B.Source.is_read (order_of c.loop-first.sweep) c.loop-first.first c.loop-first.second (state_of c.loop-first.sweep) c.loop-first.out.output true c.fill_wanted.new.first c.fill_wanted.new.second (state_of c.fill_wanted.new.sweep) c.fill_wanted.new.out.output fills in
+    passed_on (λ r. AnswersNoRead r → HasRead g.A.Source.is_read (below c.args.first.now) (below c.advance_both.new.first)) c.from_residual-in_err-advance_both.result c.in_err-advance_both.field-0.0 c.from_residual-in_err-advance_both.ensures.1
+    (λ never. has_read_then g.A.Source.is_read (below c.args.first.now) (below c.fill_wanted.new.first) (below c.advance_both.new.first) (has_read_then g.A.Source.is_read (below c.args.first.now) (below c.loop-first.first) (below c.fill_wanted.new.first) c.loop-first.invariant.2 read.0)
+    (reads_failed g.A.Source.left g.A.Source.has_failed g.A.Source.end_told g.A.Source.is_read g.B.Source.left g.B.Source.has_failed g.B.Source.end_told g.B.Source.is_read (order_of c.fill_wanted.new.sweep) c.fill_wanted.new.first c.fill_wanted.new.second (state_of c.fill_wanted.new.sweep) c.fill_wanted.new.out.output c.in_err-advance_both.field-0.0 c.advance_both.new.first c.advance_both.new.second (state_of c.advance_both.new.sweep) c.advance_both.new.out.output c.in_err-advance_both.ensures.advances).0)
+
+pub returns-in_err-advance_both-clause-reads_second : goal.returns-in_err-advance_both-clause-reads_second
+returns-in_err-advance_both-clause-reads_second g c =
+    let fills = rw c.if-branch.true at c.in_ok-fill_wanted.ensures.fills in
+    let f = filled g.A.Source.left g.A.Source.has_failed g.A.Source.end_told g.A.Source.is_read g.B.Source.left g.B.Source.has_failed g.B.Source.end_told g.B.Source.is_read (state_of c.args.sweep.now).shape (state_of c.args.sweep.now).rule (state_of c.args.sweep.now).limit c.args.first.now c.args.second.now c.args.out.now.output c.requires.total c.requires.second c.requires.sorted c.requires.sorted_second c.loop-first.first c.loop-first.second (state_of c.loop-first.sweep) c.loop-first.out.output (order_of c.loop-first.sweep) c.loop-first.invariant.1 c.loop-first.invariant.0 c.fill_wanted.new.first c.fill_wanted.new.second (state_of c.fill_wanted.new.sweep) c.fill_wanted.new.out.output fills in
+    let same = c.fill_wanted.ensures.order ∙ c.loop-first.invariant.1 in
+    let read = reads_filled g.A.Source.left g.A.Source.has_failed g.A.Source.end_told g.A.Source.is_read g.B.Source.left g.B.Source.has_failed g.B.Source.end_told g.B.Source.is_read (order_of c.loop-first.sweep) c.loop-first.first c.loop-first.second (state_of c.loop-first.sweep) c.loop-first.out.output true c.fill_wanted.new.first c.fill_wanted.new.second (state_of c.fill_wanted.new.sweep) c.fill_wanted.new.out.output fills in
+    passed_on (λ r. AnswersNoRead r → HasRead g.B.Source.is_read (below c.args.second.now) (below c.advance_both.new.second)) c.from_residual-in_err-advance_both.result c.in_err-advance_both.field-0.0 c.from_residual-in_err-advance_both.ensures.1
+    (λ never. has_read_then g.B.Source.is_read (below c.args.second.now) (below c.fill_wanted.new.second) (below c.advance_both.new.second) (has_read_then g.B.Source.is_read (below c.args.second.now) (below c.loop-first.second) (below c.fill_wanted.new.second) c.loop-first.invariant.3 read.1)
+    (reads_failed g.A.Source.left g.A.Source.has_failed g.A.Source.end_told g.A.Source.is_read g.B.Source.left g.B.Source.has_failed g.B.Source.end_told g.B.Source.is_read (order_of c.fill_wanted.new.sweep) c.fill_wanted.new.first c.fill_wanted.new.second (state_of c.fill_wanted.new.sweep) c.fill_wanted.new.out.output c.in_err-advance_both.field-0.0 c.advance_both.new.first c.advance_both.new.second (state_of c.advance_both.new.sweep) c.advance_both.new.out.output c.in_err-advance_both.ensures.advances).1)
+
+pub returns-in_err-advance_both-clause-own_failure : goal.returns-in_err-advance_both-clause-own_failure
+returns-in_err-advance_both-clause-own_failure g c =
+    let fills = rw c.if-branch.true at c.in_ok-fill_wanted.ensures.fills in
+    let f = filled g.A.Source.left g.A.Source.has_failed g.A.Source.end_told g.A.Source.is_read g.B.Source.left g.B.Source.has_failed g.B.Source.end_told g.B.Source.is_read (state_of c.args.sweep.now).shape (state_of c.args.sweep.now).rule (state_of c.args.sweep.now).limit c.args.first.now c.args.second.now c.args.out.now.output c.requires.total c.requires.second c.requires.sorted c.requires.sorted_second c.loop-first.first c.loop-first.second (state_of c.loop-first.sweep) c.loop-first.out.output (order_of c.loop-first.sweep) c.loop-first.invariant.1 c.loop-first.invariant.0 c.fill_wanted.new.first c.fill_wanted.new.second (state_of c.fill_wanted.new.sweep) c.fill_wanted.new.out.output fills in
+    let same = c.fill_wanted.ensures.order ∙ c.loop-first.invariant.1 in
+    let read = reads_filled g.A.Source.left g.A.Source.has_failed g.A.Source.end_told g.A.Source.is_read g.B.Source.left g.B.Source.has_failed g.B.Source.end_told g.B.Source.is_read (order_of c.loop-first.sweep) c.loop-first.first c.loop-first.second (state_of c.loop-first.sweep) c.loop-first.out.output true c.fill_wanted.new.first c.fill_wanted.new.second (state_of c.fill_wanted.new.sweep) c.fill_wanted.new.out.output fills in
+    own_then g.A.Source.is_read (below c.args.first.now) (below c.fill_wanted.new.first) _ _ (has_read_then g.A.Source.is_read (below c.args.first.now) (below c.loop-first.first) (below c.fill_wanted.new.first) c.loop-first.invariant.2 read.0)
+    (own_advanced g.A.Source.left g.A.Source.has_failed g.A.Source.end_told g.A.Source.is_read g.B.Source.left g.B.Source.has_failed g.B.Source.end_told g.B.Source.is_read (order_of c.fill_wanted.new.sweep) c.fill_wanted.new.first c.fill_wanted.new.second (state_of c.fill_wanted.new.sweep) c.fill_wanted.new.out.output f.going.comes.first_passes.going f.going.comes.second_passes.going c.in_err-advance_both.field-0.0 c.advance_both.new.first c.advance_both.new.second (state_of c.advance_both.new.sweep) c.advance_both.new.out.output c.in_err-advance_both.ensures.advances).0
+
+pub returns-in_err-advance_both-clause-own_failure_second : goal.returns-in_err-advance_both-clause-own_failure_second
+returns-in_err-advance_both-clause-own_failure_second g c =
+    let fills = rw c.if-branch.true at c.in_ok-fill_wanted.ensures.fills in
+    let f = filled g.A.Source.left g.A.Source.has_failed g.A.Source.end_told g.A.Source.is_read g.B.Source.left g.B.Source.has_failed g.B.Source.end_told g.B.Source.is_read (state_of c.args.sweep.now).shape (state_of c.args.sweep.now).rule (state_of c.args.sweep.now).limit c.args.first.now c.args.second.now c.args.out.now.output c.requires.total c.requires.second c.requires.sorted c.requires.sorted_second c.loop-first.first c.loop-first.second (state_of c.loop-first.sweep) c.loop-first.out.output (order_of c.loop-first.sweep) c.loop-first.invariant.1 c.loop-first.invariant.0 c.fill_wanted.new.first c.fill_wanted.new.second (state_of c.fill_wanted.new.sweep) c.fill_wanted.new.out.output fills in
+    let same = c.fill_wanted.ensures.order ∙ c.loop-first.invariant.1 in
+    let read = reads_filled g.A.Source.left g.A.Source.has_failed g.A.Source.end_told g.A.Source.is_read g.B.Source.left g.B.Source.has_failed g.B.Source.end_told g.B.Source.is_read (order_of c.loop-first.sweep) c.loop-first.first c.loop-first.second (state_of c.loop-first.sweep) c.loop-first.out.output true c.fill_wanted.new.first c.fill_wanted.new.second (state_of c.fill_wanted.new.sweep) c.fill_wanted.new.out.output fills in
+    own_then g.B.Source.is_read (below c.args.second.now) (below c.fill_wanted.new.second) _ _ (has_read_then g.B.Source.is_read (below c.args.second.now) (below c.loop-first.second) (below c.fill_wanted.new.second) c.loop-first.invariant.3 read.1)
+    (own_advanced g.A.Source.left g.A.Source.has_failed g.A.Source.end_told g.A.Source.is_read g.B.Source.left g.B.Source.has_failed g.B.Source.end_told g.B.Source.is_read (order_of c.fill_wanted.new.sweep) c.fill_wanted.new.first c.fill_wanted.new.second (state_of c.fill_wanted.new.sweep) c.fill_wanted.new.out.output f.going.comes.first_passes.going f.going.comes.second_passes.going c.in_err-advance_both.field-0.0 c.advance_both.new.first c.advance_both.new.second (state_of c.advance_both.new.sweep) c.advance_both.new.out.output c.in_err-advance_both.ensures.advances).1
+
+pub returns-clause-sweeps : goal.returns-clause-sweeps
+returns-clause-sweeps g c =
+    let none = rw c.if-branch.false at c.in_ok-fill_wanted.ensures.fills in
+    rw (none.same_first, none.same_second, none.same_sweep, none.same_output) (c.loop-first.invariant.0, none.wants)
+
+pub returns-clause-reads_first : goal.returns-clause-reads_first
+returns-clause-reads_first g c = λ never.
+    let none = rw c.if-branch.false at c.in_ok-fill_wanted.ensures.fills in
+    rw none.same_first c.loop-first.invariant.2
+
+pub returns-clause-reads_second : goal.returns-clause-reads_second
+returns-clause-reads_second g c = λ never.
+    let none = rw c.if-branch.false at c.in_ok-fill_wanted.ensures.fills in
+    rw none.same_second c.loop-first.invariant.3
+
+pub returns-clause-own_failure : goal.returns-clause-own_failure
+returns-clause-own_failure g c =
+    let none = rw c.if-branch.false at c.in_ok-fill_wanted.ensures.fills in
+    none_kept g.A.Source.is_read _ _ _ (rw none.same_first c.loop-first.invariant.0.comes.first_passes.going)
+
+pub returns-clause-own_failure_second : goal.returns-clause-own_failure_second
+returns-clause-own_failure_second g c =
+    let none = rw c.if-branch.false at c.in_ok-fill_wanted.ensures.fills in
+    none_kept g.B.Source.is_read _ _ _ (rw none.same_second c.loop-first.invariant.0.comes.second_passes.going)

@@ -1,4 +1,4 @@
-use Rattle.std.proofs.Common.{◌∷◌, ◌++◌, [], refl, sym, ap, ◌∙◌}
+use Rattle.std.proofs.Common.{◌∷◌, refl, sym, ap, ◌∙◌}
 use Rattle.bt_bed.specs.Batch.{chrom_in, cursor_in, left, left_behind, start_in}
 use Rattle.bt_bed.specs.RawRecord.{record_in}
 use Rattle.bt_bed.specs.Run.{run_of}

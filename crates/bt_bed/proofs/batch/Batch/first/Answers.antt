@@ -1,4 +1,3 @@
-use Rattle.std.proofs.Common.{arith}
 use Rattle.bt_bed.proofs.BatchLemmas.{none_below, none_elsewhere, none_holds, stands_first}
 use Rattle.bt_bed.proofs.RunLemmas.{run_nil}
 use Rattle.bt_bed.specs.Batch.{chrom_in, cursor_in, left, start_in}

@@ -1,4 +1,4 @@
-use Rattle.std.proofs.Common.{◌≡◌, ◌∙◌, ◌+◌, arith, drop, length, length-drop, refl, sym, subst, take}
+use Rattle.std.proofs.Common.{◌≡◌, ◌∙◌, ◌+◌, arith, length, length-drop, refl, sym, subst, take}
 use Rattle.std.specs.Prelude.{IfSome}
 use Rattle.bt_lines.specs.FirstLine.{line_shown}
 use Rattle.bt_lines.specs.Number.{value_of}

@@ -1,4 +1,4 @@
-use Rattle.std.proofs.Common.{◌≡◌, ◌∙◌, ◌+◌, ◌≤◌, ◌<◌, ap, arith, length, refl, sym, take}
+use Rattle.std.proofs.Common.{◌≡◌, ◌∙◌, ◌<◌, ap, arith, length, refl, take}
 use Rattle.bt_lines.specs.Buffered.{rest_in}
 use Rattle.bt_lines.specs.FirstLine.{line_shown}
 use Rattle.bt_bed.proofs.ColumnsLemmas.{line_bounds, line_named}

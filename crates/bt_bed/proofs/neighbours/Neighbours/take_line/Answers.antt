@@ -1,4 +1,4 @@
-use Rattle.std.proofs.Common.{◌≡◌, refl, inl, inr, Some, Ok, None}
+use Rattle.std.proofs.Common.{refl, inl, inr, Some, None}
 use Rattle.bt_bed.proofs.SaidLemmas.{bed_of_line, wrong_is_of_line}
 use Rattle.bt_bed.proofs.NeighbourLemmas.{says_nothing, says_wrong, says_misplaced, says_record}
 use Rattle.bt_bed.specs.Bed.{feature_lent}

@@ -1,4 +1,4 @@
-use Rattle.std.proofs.Common.{◌≡◌, [], true, List, ◌∙◌, ap, sym}
+use Rattle.std.proofs.Common.{◌≡◌, [], List, ◌∙◌, ap, sym}
 use Rattle.std.proofs.lemmas.Bool.{false≢true}
 use Rattle.bt_bed.proofs.SortedSteps.{name_is_record}
 use Rattle.bt_bed.specs.Feature.{Feature}
