@@ -137,10 +137,10 @@ module _ (n m at : ℕ) (bytes : List ℕ) (fed : is_fed bytes ≡ true) (within
         )
       ])
 
-  feeds_text : line_feeds text ≡ 0 
+  feeds_text : line_feeds text ≡ 0
   feeds_text = elim (fed_last bytes fed) [
     | inl none ↦ rw none refl
-    | inr f ↦ 
+    | inr f ↦
         let size : length bytes - 1 ≡ length f.0 = omega (arith, ap length f.1, length-append f.0 (10 ∷ [])) in
         let is : text ≡ f.0 = ap (λ k. take k bytes) size ∙ ap (take (length f.0)) f.1 ∙ take-append_seam f.0 (10 ∷ []) in
         let feed : line_feeds (10 ∷ []) ≡ 1 = refl in

@@ -171,17 +171,20 @@ module _ {A B : Type 0} (a_left : A → Option (List ℕ)) (a_failed a_end : A �
 
         -- the engine stands there
         pub come_on : (masked : Masking) (now : Output) → MaskStandsAt run.how run.full final masked → Grown grown bytes now → (going : Going (state_behind (sequence_format run.full) at items) new second_now masked now) × (going.stage ≡ final)
-        come_on masked now stands puts = (record {
-          past_first = s.past_first ++ more_first;
-          past_second = s.past_second ++ more_second;
-          stage = final;
-          stands = stands;
-          comes = turned.goes_on rule both run.out (stage_of stage) s.past_first s.past_second (line_members run.full at lines) second grown s.comes more_first more_second first_now second_now takes_first takes_second ended_first ended_second goes.newly (stage_of final)
-              (record { given_is = given_now; written_is = goes.written_is; taken_is = taken_now; first_is = goes.lines_ended_is; second_is = goes.bed_ended_is })
-              bytes now (λ known. subst (λ (b : Bool). Settles rule final.written (s.comes.bytes ++ bytes) (final.taken ++ option_to_list (item_ahead second_now)) b) (sym goes.bed_ended_is) (settled known)) puts;
-          kept_ahead = kept;
-          lines_over = λ e. takes.ended_is ∙ s.lines_over (sym goes.lines_ended_is ∙ e);
-        }, refl)
+        come_on masked now stands puts = (
+          record {
+            past_first = s.past_first ++ more_first;
+            past_second = s.past_second ++ more_second;
+            stage = final;
+            stands = stands;
+            comes = turned.goes_on rule both run.out (stage_of stage) s.past_first s.past_second (line_members run.full at lines) second grown s.comes more_first more_second first_now second_now takes_first takes_second ended_first ended_second goes.newly (stage_of final)
+                (record { given_is = given_now; written_is = goes.written_is; taken_is = taken_now; first_is = goes.lines_ended_is; second_is = goes.bed_ended_is })
+                bytes now (λ known. subst (λ (b : Bool). Settles rule final.written (s.comes.bytes ++ bytes) (final.taken ++ option_to_list (item_ahead second_now)) b) (sym goes.bed_ended_is) (settled known)) puts;
+            kept_ahead = kept;
+            lines_over = λ e. takes.ended_is ∙ s.lines_over (sym goes.lines_ended_is ∙ e);
+          },
+          refl,
+        )
 
         -- what is settled wasn't all written
         pub fails_write : (puts rest : List ℕ) → bytes ≡ puts ++ rest → (through now : Output) (fault : Told) → Grown grown puts through → FailsToAdd through rest fault now → EndsAt (Some fault) new second_now now

@@ -83,7 +83,7 @@ come_back old (x ∷ xs) buffered ended records fault none may = record {
   begins = (
     (xs ++ option_to_list (first_of buffered)) ++ may.begins.0,
     may.begins.1 ∙ ap (λ (l : List Feature). l ++ may.begins.0) (ap (λ (l : List Feature). l ++ option_to_list (first_of buffered)) (sym (append_assoc old (x ∷ []) xs)) ∙ append_assoc (old ++ x ∷ []) xs (option_to_list (first_of buffered)))
-    ∙ append_assoc (old ++ x ∷ []) (xs ++ option_to_list (first_of buffered)) may.begins.0,
+        ∙ append_assoc (old ++ x ∷ []) (xs ++ option_to_list (first_of buffered)) may.begins.0,
   );
   all = λ e. let gone : x ∷ xs ≡ [] = none e in cc;
 }
@@ -99,12 +99,11 @@ module _ (how : MaskHow) (full : Bool) where
         let here : MayCome (new.taken ++ option_to_list (first_of buffered)) new.bed_ended records fault =
         subst (λ (b : Bool). MayCome (new.taken ++ option_to_list (first_of buffered)) b records fault) (sym goes.bed_ended_is)
         (subst (λ (l : List Feature). MayCome (l ++ option_to_list (first_of buffered)) stage.bed_ended records fault) (sym goes.taken_is) may) in
-        let follow = may_follow new (first_of buffered) kept (λ e. ap first_of (over (sym goes.bed_ended_is ∙ e)).1) records fault here in
-        (
+        let follow = may_follow new (first_of buffered) kept (λ e. ap first_of (over (sym goes.bed_ended_is ∙ e)).1) records fault here in (
           list_all-append (λ x. is_none fault || decided x records) written goes.newly
-          ∙ and_from (list_all (λ x. is_none fault || decided x records) written) (list_all (λ x. is_none fault || decided x records) goes.newly) was.0 (newly_by new.bed_ended refl records fault here follow),
+              ∙ and_from (list_all (λ x. is_none fault || decided x records) written) (list_all (λ x. is_none fault || decided x records) goes.newly) was.0 (newly_by new.bed_ended refl records fault here follow),
           flat_map-append (λ x. masked_line how records x) written goes.newly ∙ ap (λ l. l ++ flat_map (λ x. masked_line how records x) goes.newly) was.1
-          ∙ ap (λ l. bytes ++ l) (goes.settles.bytes_are records ordered follow),
+              ∙ ap (λ l. bytes ++ l) (goes.settles.bytes_are records ordered follow),
         );
   }
     where

@@ -119,7 +119,6 @@ told_by : (names : List (List ℕ)) (good : Option (Good Feature)) (past : List 
 told_by names None past m fault is owned unowned begins = tt
 told_by names (Some good) past m fault is owned unowned begins = lacks_told names good.members past m owned unowned begins ∙ ap Some (sym is)
 
-
 -- a record that was ahead still is
 kept_filled : {S State : Type 0} (left : S → Option (List ℕ)) (failed end : S → Bool) (now new : MemberReader S Feature State) (r : Feature) → item_ahead now ≡ Some r → IsFilled left failed end now new → item_ahead new ≡ Some r
 kept_filled {S} {State} left failed end now new r was filled = ap (λ (x : MemberReader S Feature State). item_ahead x) (filled.gives.again (some_ahead (ahead_in now) r was)) ∙ was
