@@ -1,16 +1,14 @@
 -- Lemmas on lines that were consumed of those buffered: the lines that are left tell how many bytes they had.
-use Rattle.std.proofs.Common.{◌≡◌, ℕ, zero, suc, ◌+◌, ◌-◌, ◌<◌, ◌≤◌, Bool, true, false, nat_eq, List, [], ◌∷◌, ◌++◌, length, take, drop, refl, sym, ap, ◌∙◌, subst, append_assoc, append-nil, length-append, length-take, length-drop, arith, inl, inr}
+use Rattle.std.proofs.Common.{◌≡◌, ℕ, zero, suc, ◌+◌, ◌-◌, ◌≤◌, Bool, true, false, nat_eq, List, [], ◌∷◌, ◌++◌, length, take, drop, refl, sym, ap, ◌∙◌, subst, append_assoc, append-nil, length-append, length-take, length-drop, arith, inl, inr}
 use Rattle.std.specs.Prelude.{◌⊎◌, All, flat_map}
-use Rattle.std.proofs.Math.Seq.{drop-append_seam, drop-length, take-append_seam, take-length}
-use Rattle.std.proofs.lemmas.Bool.Decides.{nat_tests}
+use Rattle.std.proofs.Math.Seq.{drop-append_seam, take-append_seam, take-length}
 use Rattle.std.proofs.lemmas.List.{take-append-drop}
 use Rattle.std.proofs.lemmas.List.Elements.{All-cons, All-head, All-nil, All-tail}
 use Rattle.bt_lines.proofs.BufferLemmas.{fed_clear, fed_drop, fed_last, fed_none, fed_push}
 use Rattle.bt_lines.proofs.LinesLemmas.{lines_from-fed, lines_from-last, lines_from-nil, spelled-fed}
 use Rattle.bt_lines.proofs.PassingLemmas.{lines_taken}
-use Rattle.bt_lines.proofs.TextLemmas.{by_lines, lines_are_numbered, whole_lines_are_numbered, bytes_in-append, bytes_in-lines, line_feeds-append, line_feeds-fed, line_feeds-none, whole_count, whole_lines_from-fed, whole_lines_from-last}
+use Rattle.bt_lines.proofs.TextLemmas.{by_lines, lines_are_numbered, whole_lines_are_numbered, bytes_in-lines, line_feeds-append, line_feeds-fed, whole_count, whole_lines_from-fed, whole_lines_from-last}
 use Rattle.bt_lines.specs.Buffered.{BeginsLines, IsWhere, PassesLines, buffered_lines, lines_in, rest_in}
-use Rattle.bt_lines.specs.LentLine.{NoLineFeed}
 use Rattle.bt_lines.specs.Lines.{AreNumbered, TextLine, bytes_in, fed_line, last_line, line_feeds, lines_from, spelled, whole_lines_from}
 use Rattle.bt_lines.specs.Reader.{TakenLines, buffered_bytes, is_open, lines_given}
 use Rattle.bt_lines.specs.Shape.{IsLast, is_fed}

@@ -1,5 +1,5 @@
 -- Lemmas on what lines and records that were given to a masking engine settle.
-use Rattle.std.proofs.Common.{◌≡◌, ℕ, Bool, true, false, ◌&&◌, ◌||◌, cond, List, [], ◌∷◌, ◌++◌, Option, None, Some, refl, sym, ap, ◌∙◌, subst, append-nil, append_assoc, flat_map, option_to_list}
+use Rattle.std.proofs.Common.{◌≡◌, ℕ, Bool, true, false, ◌||◌, cond, List, [], ◌∷◌, ◌++◌, Option, None, Some, refl, sym, ap, ◌∙◌, subst, append-nil, append_assoc, flat_map, option_to_list}
 use Rattle.std.specs.Prelude.{is_none, option_map}
 use Rattle.std.specs.List.{list_all}
 use Rattle.std.proofs.lemmas.Bool.{false≢true, and_from, and_parts, or_left, or_right}
@@ -9,7 +9,6 @@ use Rattle.bt_lines.specs.Fault.{Told}
 use Rattle.bt_lines.specs.Lines.{TextLine}
 use Rattle.bt_bed.specs.Feature.{Feature}
 use Rattle.bt_bed.specs.Good.{Member}
-use Rattle.bt_bed.specs.GoodBlocks.{AreInBlocks}
 use Rattle.bt_bed.specs.Reading.{MemberReader, first_from}
 use Rattle.bt_seq.specs.MaskSettles.{GoesOn, MayFollow, seen_at}
 use Rattle.bt_seq.specs.MaskStage.{MaskStage}
