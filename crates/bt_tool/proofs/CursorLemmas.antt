@@ -16,7 +16,7 @@ use Rattle.bt_lines.specs.declared.buffered_lines.BufferedLines.{BufferedLines}
 use Rattle.bt_lines.specs.declared.buffered_lines.ConsumedLines.{ConsumedLines}
 use Rattle.bt_lines.specs.declared.line_reader.LineReader.{LineReader}
 
--- behind a piece and its line feed complete lines go on
+-- after a piece and its line feed complete lines go on
 fed_behind : (piece rest : List ℕ) → is_fed (piece ++ 10 ∷ rest) ≡ true → is_fed rest ≡ true
 fed_behind piece rest fed =
     let parts : drop (length (piece ++ 10 ∷ [])) (piece ++ 10 ∷ rest) ≡ rest =
@@ -194,7 +194,7 @@ numbered_front : (number : ℕ) (texts more : List TextLine) → AreNumbered num
 numbered_front number [] more are = tt
 numbered_front number (line ∷ lines) more are = (are.0, numbered_front (suc number) lines more are.1)
 
--- what a reader lent, and what was consumed of it
+-- the lines that a reader has buffered, and what was consumed of them
 module _ {S : Type 0} (reader : LineReader S) (first last : BufferedLines) (texts : List TextLine)
     (begins : BeginsLines (buffered_bytes reader) (lines_given reader) (is_open reader) first)
     (left_is : lines_in first ≡ texts ++ lines_in last) (all_is : last.all ≡ first.all) (given : last.lines ≡ first.lines + length texts) (open_is : last.is_open ≡ first.is_open) where

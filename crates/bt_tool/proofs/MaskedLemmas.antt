@@ -71,11 +71,11 @@ none_by (Some x) e = absurd (false≢true (sym e))
 pub unnamed_decided : (line : SequenceLine) (records : List Feature) → is_unnamed line.names ≡ true → decided line records ≡ true
 unnamed_decided line records e = or_left (is_unnamed line.names) _ e
 
--- a line behind one isn't decided by no record
+-- a line after it isn't decided where there is no record
 pub named_open : (line : SequenceLine) → is_unnamed line.names ≡ false → decided line [] ≡ false
 named_open line e = ap (λ b. b || false) e
 
--- how far the lines given have come is what is known behind them
+-- how far the lines given have come is what is known after them
 reached_said : (full : Bool) (line : SequenceLine) (lines : List SequenceLine) (state : Reached)
     → state_behind (sequence_format full) state (line ∷ lines) ≡ reached_by (line_given_last (line ∷ lines))
 reached_said full line [] state = refl
