@@ -19,7 +19,7 @@ use Rattle.bt_bed.specs.Reading.{MemberReader, members_from, state_behind}
 use Rattle.bt_seq.specs.GivenLines.{SayEach}
 use Rattle.bt_seq.specs.MaskSettles.{GoesOn}
 use Rattle.bt_seq.specs.MaskStanding.{MaskStandsAt}
-use Rattle.bt_seq.specs.MaskStage.{MaskStage, given, is_written_at_once, reached, with_line}
+use Rattle.bt_seq.specs.MaskStage.{MaskStage, given, reached}
 use Rattle.bt_seq.specs.MaskState.{Masking}
 use Rattle.bt_seq.specs.Sequences.{Reached, SequenceLine, line_says, sequence_format}
 use Rattle.bt_tool.specs.Feeding.{member_items}
@@ -57,11 +57,6 @@ both_none (x ∷ xs) ys e = cc
 
 alone : {A : Type 0} (items : List A) (o : Option A) → o ≡ None → items ++ option_to_list o ≡ items
 alone items o none = ap (λ o. items ++ option_to_list o) none ∙ append-nil items
-
--- giving a line leaves the record ahead
-ahead_by : (stage : MaskStage) (item : SequenceLine) (b : Bool) → is_written_at_once stage item ≡ b → (with_line stage item).ahead ≡ stage.ahead
-ahead_by stage item true e = rw e refl
-ahead_by stage item false e = rw e refl
 
 asked_more : (lines more : List SequenceLine) (records : List Feature) → (records ≡ []) ⊎ IsTrue (leaves_some lines records) → (records ≡ []) ⊎ IsTrue (leaves_some (lines ++ more) records)
 asked_more lines more records (inl none) = inl none

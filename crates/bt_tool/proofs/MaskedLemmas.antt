@@ -67,11 +67,7 @@ none_by : (o : Option SequenceLine) → is_some o ≡ false → o ≡ None
 none_by None e = refl
 none_by (Some x) e = absurd (false≢true (sym e))
 
--- a line before the first header is decided, whatever comes
-pub unnamed_decided : (line : SequenceLine) (records : List Feature) → is_unnamed line.names ≡ true → decided line records ≡ true
-unnamed_decided line records e = or_left (is_unnamed line.names) _ e
-
--- a line after it isn't decided where there is no record
+-- a line after the first header isn't decided where there is no record
 pub named_open : (line : SequenceLine) → is_unnamed line.names ≡ false → decided line [] ≡ false
 named_open line e = ap (λ b. b || false) e
 
