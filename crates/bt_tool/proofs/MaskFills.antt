@@ -1,32 +1,29 @@
 -- Lemmas on a turn of masking in which an input is read on: a line or a record is buffered, or its end is given.
-use Rattle.std.proofs.Common.{◌≡◌, ℕ, suc, ◌+◌, ◌*◌, ◌≤◌, ◌<◌, Bool, true, false, List, [], ◌∷◌, length, Option, None, Some, Result, Ok, Err, refl, sym, ap, ◌∙◌, subst, arith, inl, inr}
-use Rattle.std.specs.Prelude.{◌⊎◌, is_some, option_map}
-use Rattle.bt_lines.specs.Fault.{Told}
+use Rattle.std.proofs.Common.{◌≡◌, ℕ, ◌≤◌, ◌<◌, Bool, true, false, List, [], ◌∷◌, length, Option, None, Some, Ok, Err, refl, sym, ap, ◌∙◌, subst, arith, inl, inr}
+use Rattle.std.specs.Prelude.{◌⊎◌, is_some}
 use Rattle.bt_lines.specs.Names.{told}
 use Rattle.bt_lines.specs.Output.{Output}
-use Rattle.bt_lines.specs.Putting.{FailsToAdd, Grown}
-use Rattle.bt_lines.specs.Reader.{FillsLines, GivesEnd, IsKept, MakesLine, buffered_bytes}
+use Rattle.bt_lines.specs.Reader.{GivesEnd, IsKept, MakesLine}
 use Rattle.bt_lines.specs.declared.fault.Fault.{Fault}
 use Rattle.bt_lines.specs.declared.line_reader.LineReader.{LineReader}
 use Rattle.bt_bed.proofs.CameLemmas.{same_room}
 use Rattle.bt_bed.specs.Feature.{Feature}
 use Rattle.bt_bed.specs.Good.{Member}
 use Rattle.bt_bed.specs.Locus.{Locus}
-use Rattle.bt_bed.specs.Reading.{MemberReader, ahead_in, first_from}
-use Rattle.bt_seq.specs.MaskStage.{MaskStage, want_of, with_bed_ended, with_lines_ended}
+use Rattle.bt_bed.specs.Reading.{MemberReader, first_from}
+use Rattle.bt_seq.specs.MaskStage.{want_of, with_lines_ended}
 use Rattle.bt_seq.specs.MaskStanding.{MaskStandsAt}
 use Rattle.bt_seq.specs.MaskSteps.{EndsCheck, EndsRecords}
 use Rattle.bt_seq.specs.MaskState.{Masking}
 use Rattle.bt_seq.specs.Sequences.{Reached, SequenceLine}
-use Rattle.bt_seq.specs.declared.mask_how.MaskHow.{MaskHow}
 use Rattle.bt_seq.specs.declared.mask_want.MaskWant.{MaskWant}
 use Rattle.bt_seq.specs.declared.mask_want.MaskWant.TheVariants.{Line as WantLine, Bed as WantBed, Nothing}
 use Rattle.bt_tool.specs.MaskLoop.{MaskRun}
-use Rattle.bt_tool.specs.MaskTurns.{Fills, GoesOnAt, IsThere, asks, left_to_ask}
-use Rattle.bt_tool.specs.Passed.{IsFilled, IsOver, IsStopped}
+use Rattle.bt_tool.specs.MaskTurns.{Fills, GoesOnAt, IsThere, asks}
+use Rattle.bt_tool.specs.Passed.{IsFilled, IsOver}
 use Rattle.bt_tool.proofs.LineMembers.{gives_over}
 use Rattle.bt_tool.proofs.MaskBoth.{asks_few, waits_is}
-use Rattle.bt_tool.proofs.MaskedLemmas.{ends_alone, ends_lines, ends_waiting, fails_at_end, line_made, lines_done, none_waits, record_made, stops_lines, stops_records}
+use Rattle.bt_tool.proofs.MaskedLemmas.{ends_alone, ends_lines, ends_waiting, fails_at_end, line_made, lines_done, none_waits, record_made}
 
 -- what is asked for at some points
 at_line : (waits : Bool) (want : MaskWant) → want ≡ WantLine → asks waits want ≡ 2

@@ -1,16 +1,15 @@
-use Rattle.std.proofs.Common.{sym, refl, ap, ◌∙◌, Ok, Err}
+use Rattle.std.proofs.Common.{sym, refl, ◌∙◌}
 use Rattle.bt_lines.specs.Names.{told}
-use Rattle.bt_lines.specs.Reader.{HasRead, fault_kept as line_fault}
+use Rattle.bt_lines.specs.Reader.{HasRead}
 use Rattle.bt_lines.proofs.ReadsLemmas.{reads_same}
 use Rattle.bt_bed.specs.Blocks.{below, view_of}
 use Rattle.bt_bed.proofs.ResultLemmas.{passed_on}
-use Rattle.bt_seq.specs.declared.mask_want.MaskWant.TheVariants.{Line as WantLine, Bed as WantBed, Nothing}
 use Rattle.bt_tool.specs.MaskTurns.{Fills}
 use Rattle.bt_tool.specs.OwnReads.{AnswersNoRead}
 use Rattle.bt_tool.proofs.BlockMembers.{block_filled, block_over, block_stopped}
 use Rattle.bt_tool.proofs.MaskFills.{line_filled, lines_ended, record_filled, records_ended, records_unended}
 use Rattle.bt_tool.proofs.MaskedLemmas.{stops_lines, stops_records}
-use Rattle.bt_tool.proofs.OwnFailureLemmas.{line_told_kept, none_kept, told_kept}
+use Rattle.bt_tool.proofs.OwnFailureLemmas.{line_told_kept, told_kept}
 use Rattle.bt_tool.proofs.masking.fill_wanted.Goals as goal
 
 pub returns-in_err-fill-in-Line-clause-fills : goal.returns-in_err-fill-in-Line-clause-fills
