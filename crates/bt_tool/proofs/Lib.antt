@@ -16,6 +16,7 @@ pub mod MaskGiven
 pub mod MaskedLemmas
 pub mod MaskAdvanced
 pub mod MaskBoth
+pub mod MaskFills
 pub mod MaskFacts
 pub mod MaskKinds
 pub mod SweepSettles
