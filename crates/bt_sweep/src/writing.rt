@@ -1,12 +1,14 @@
 //! The lines of one record.
 
-ghost use Rattle.std.specs.Prelude.{◌≡◌, ◌∷◌, [], ◌<◌, All, cond, decimal, flat_map, option_copied, option_to_list, take};
+ghost use Rattle.std.specs.Prelude.{◌≡◌, ◌∷◌, [], ◌<◌, All, IsTrue, cond, decimal, not, flat_map, option_copied, option_to_list, take};
 ghost use Rattle.bt_lines.specs.Putting.{Adds, Puts};
 ghost use Rattle.bt_bed.specs.Bed.{feature_lent};
 ghost use Rattle.bt_bed.specs.Record.{bed_text, cut_to};
 ghost use Rattle.bt_sweep.specs.Held.{AreOn, AreRising, CanHit};
-ghost use Rattle.bt_sweep.specs.Hits.{hits_among, shared_bases};
-ghost use Rattle.bt_sweep.specs.IntersectLines.{hit_line, line_with, lines_for, lines_of};
+ghost use Rattle.std.specs.List.{list_any};
+ghost use Rattle.bt_sweep.specs.Hits.{hits, hits_among, shared_bases};
+ghost use Rattle.bt_sweep.specs.IntersectLines.{hit_line, line_with, lines_for};
+ghost use Rattle.bt_sweep.specs.StateSteps.{NeedsHit};
 
 use crate::held::Held;
 use crate::hit::{count_started_hits, is_any_hit, is_hit};
@@ -18,14 +20,9 @@ use crate::written::{Written, put_written};
 use bt_bed::{BedRef, Rec, put_bed, put_cut};
 use bt_lines::{Fault, Out, Sink, put_number};
 
-// Puts the line that a record has in this shape where nothing hits it, if it has one. It doesn't allocate.
-#[inline(always)]
-pub(crate) fn put_unmatched<K: Sink>(
-    shape: Shape,
-    a: &Written<'_>,
-    out: &mut Out<K>,
-) -> Result<(), Fault>
-    ensures { Adds out.old.output (lines_of shape (feature_lent a.now.bed) []) result out.new.output }
+// Whether a record that nothing hits has no line in this shape.
+pub(crate) fn needs_hit(shape: Shape) -> bool
+    ensures { IsTrue result → NeedsHit shape }
 {
     match shape {
         Shape::Cut
@@ -33,10 +30,8 @@ pub(crate) fn put_unmatched<K: Sink>(
         | Shape::CutAndB
         | Shape::OrigBoth
         | Shape::Overlap
-        | Shape::Once => Ok(()),
-        Shape::Missing | Shape::Whole => put_where(true, a, out),
-        Shape::Pieces => put_where(a.bed.start < a.bed.stop, a, out),
-        Shape::Count => put_counted(a, 0, out),
+        | Shape::Once => true,
+        Shape::Missing | Shape::Whole | Shape::Pieces | Shape::Count => false,
     }
 }
 
@@ -62,12 +57,40 @@ pub(crate) fn put_lines<H: Held, K: Sink>(
             put_counted(a, count_started_hits(rule, bed, held, count) as u64, out)
         }
         Shape::Once => put_where(is_any_hit(rule, bed, held), a, out),
-        Shape::Missing | Shape::Whole => put_where(!is_any_hit(rule, bed, held), a, out),
+        Shape::Missing | Shape::Whole => put_where(is_unmatched(rule, bed, held), a, out),
         Shape::Cut | Shape::OrigA | Shape::CutAndB | Shape::OrigBoth | Shape::Overlap => {
             put_hits(shape, rule, a, held, count_started(held, bed.stop), out)
         }
-        Shape::Pieces => put_pieces(rule, bed, held, count_started(held, bed.stop), out),
+        Shape::Pieces => put_left(rule, a, held, out),
     }
+}
+
+// Returns true if none of these hits the record.
+#[inline(always)]
+fn is_unmatched<H: Held>(rule: HitRule, a: &BedRef<'_>, held: &H) -> bool
+    requires { AreOn a.now.chrom.now (H.records held.now) }
+    ensures { AreRising (H.records held.now) → result ≡ not (list_any (hits rule (feature_lent a.now)) (H.records held.now)) }
+{
+    held.len() == 0 || !is_any_hit(rule, a, held)
+}
+
+// Puts what is left of a record by those of these that hit it.
+#[inline(always)]
+fn put_left<H: Held, K: Sink>(
+    rule: HitRule,
+    a: &Written<'_>,
+    held: &H,
+    out: &mut Out<K>,
+) -> Result<(), Fault>
+    requires { AreOn a.now.bed.chrom.now (H.records held.now) }
+    ensures { AreRising (H.records held.now)
+        → Adds out.old.output (lines_for Shape.Pieces rule (feature_lent a.now.bed) (H.records held.now)) result out.new.output }
+{
+    let bed = &a.bed;
+    if held.len() == 0 {
+        return put_where(bed.start < bed.stop, a, out);
+    }
+    put_pieces(rule, bed, held, count_started(held, bed.stop), out)
 }
 
 // Puts a line for each of so many held records from the first that hits the record.
