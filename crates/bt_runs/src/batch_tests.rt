@@ -6,7 +6,7 @@ ghost use Rattle.std.specs.Prelude.{◌<◌};
 use crate::engine::Engine;
 use crate::testing::{expect_same, feed_line, genome, holds};
 use crate::{Complement, Coverage, Merge, MergeStrand};
-use bt_bed::{ByteOrder, Records, Strand};
+use bt_bed::{ByteOrder, Record, Records, Strand};
 use bt_lines::{Fault, Input, LineReader, Out, ScriptSink, ScriptSource, Sink};
 use std::alloc::{AllocError, Global};
 use std::process::Abort;
@@ -133,11 +133,9 @@ fn feed_buffered<E: Engine, K: Sink>(
         Some(first) => engine.feed(&first, out)?,
     }
     records.advance();
-    let Some(mut whole) = records.whole() else {
-        return Ok(false);
-    };
-    engine.feed_batch(&mut whole, out)?;
-    Ok(whole.next().is_none())
+    let mut batch = records.buffered();
+    engine.feed_batch(&mut batch, out)?;
+    Ok(batch.next().is_none())
 }
 
 // Two engines that have taken no record: one is fed with several records a call, the other with one.
@@ -248,15 +246,13 @@ fn next_start<K: Sink>(
         Some(first) => merge.feed(&first, out)?,
     }
     records.advance();
-    let Some(mut whole) = records.whole() else {
-        return Ok(None);
-    };
-    if merge.feed_batch(&mut whole, out).is_ok() {
+    let mut batch = records.buffered();
+    if merge.feed_batch(&mut batch, out).is_ok() {
         return Ok(None);
     }
-    match whole.next() {
+    match batch.next() {
         None => Ok(None),
-        Some(bed) => Ok(Some(bed.start)),
+        Some(record) => Ok(Some(record.start())),
     }
 }
 

@@ -201,3 +201,7 @@ module _ (rule : HitRule) (a : Feature) where
   walked held rises =
       let found = hits_among rule a held in
       sym (walk_lines a a.start a.stop found) ∙ ap (flat_map (piece_line a)) (walk_finds a found (hits_within held) (rising_filter (hits rule a) 0 held rises))
+
+-- a record that nothing hits is one piece, if it has a base
+pub walked_alone : (a : Feature) → gap_lines a a.start a.stop ≡ flat_map (piece_line a) (pieces a [])
+walked_alone a = sym (walk_lines a a.start a.stop []) ∙ ap (flat_map (piece_line a)) (walk_finds a [] tt tt)

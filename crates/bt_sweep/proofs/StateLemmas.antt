@@ -1,18 +1,19 @@
 -- Lemmas on what a sweep keeps.
-use Rattle.std.proofs.Common.{◌≡◌, ◌<◌, ℕ, Bool, true, false, cond, List, [], ◌∷◌, ◌++◌, length, Option, Some, None, Result, Ok, Err, refl, sym, ◌∙◌, subst, ltb, arith, filter}
+use Rattle.std.proofs.Common.{◌≡◌, ◌<◌, ℕ, Bool, true, false, cond, List, [], ◌∷◌, ◌++◌, length, Option, Some, None, Result, Ok, Err, refl, sym, ap, ◌∙◌, subst, ltb, arith, filter}
 use Rattle.std.specs.Prelude.{All, IfSome, OnOk, OnErr, slice_index_or}
 use Rattle.std.specs.List.{AllByRecursion}
 use Rattle.std.specs.Result.{is_err}
 use Rattle.std.proofs.lemmas.Bool.{false≢true, ltb-true}
 use Rattle.std.proofs.lemmas.List.Elements.{All-filter, All-push, All-from_recursion, recursion_from_All}
 use Rattle.bt_lines.specs.Output.{Output}
-use Rattle.bt_lines.specs.Putting.{Grown}
-use Rattle.bt_lines.proofs.PuttingLemmas.{grown_none}
+use Rattle.bt_lines.specs.Putting.{Adds}
+use Rattle.bt_lines.specs.declared.fault.Fault.{Fault}
+use Rattle.bt_sweep.specs.Hits.{hits_among}
 use Rattle.bt_bed.specs.Feature.{Feature}
 use Rattle.bt_bed.proofs.NameLemmas.{same_name}
 use Rattle.bt_sweep.specs.Held.{AreReady, AreTogether, CanHit, CanHitAt}
-use Rattle.bt_sweep.specs.IntersectLines.{lines_for}
-use Rattle.bt_sweep.specs.StateSteps.{NeedsHit, are_on}
+use Rattle.bt_sweep.specs.IntersectLines.{lines_for, lines_of}
+use Rattle.bt_sweep.specs.StateSteps.{are_on}
 use Rattle.bt_sweep.specs.SweepState.{Sweeping}
 use Rattle.bt_sweep.specs.declared.hit_rule.HitRule.{HitRule}
 use Rattle.bt_sweep.specs.declared.shape.Shape.{Shape}
@@ -70,12 +71,15 @@ pub on_ok_of : {T E : Type 0} {P : Type 0} (r : Result T E) → is_err r ≡ fal
 on_ok_of (Ok done) e h = h
 on_ok_of (Err f) e h = absurd (false≢true (sym e))
 
-none_of : (shape : Shape) (rule : HitRule) (a : Feature) (held : List Feature) → NeedsHit shape → length held ≡ 0 → lines_for shape rule a held ≡ []
-unfolding lines_for
-none_of shape rule a [] needs none = needs a
-none_of shape rule a (b ∷ held) needs none = absurd (omega arith)
+no_items : {A : Type 0} (items : List A) → length items ≡ 0 → items ≡ []
+no_items [] e = refl
+no_items (x ∷ items) e = absurd (omega arith)
 
--- a record has no line, since nothing is held
-pub writes_none : (inside now : Sweeping) (a : Feature) (out : Output) → inside ≡ now → NeedsHit inside.shape → length inside.held ≡ 0 → Grown out (lines_for now.shape now.rule a now.held) out
-writes_none inside now a out e needs none =
-    rw (← e) (subst (λ (l : List ℕ). Grown out l out) (sym (none_of inside.shape inside.rule a inside.held needs none)) (grown_none out))
+-- where nothing is held, the lines are those that a record has alone
+pub unmatched_adds : {T : Type 0} (inside now : Sweeping) (a : Feature) (out grown : Output) (r : Result T Fault) → inside ≡ now → length inside.held ≡ 0 → Adds out (lines_of inside.shape a []) r grown
+    → Adds out (lines_for now.shape now.rule a now.held) r grown
+unfolding lines_for
+unmatched_adds {T} inside now a out grown r e none adds =
+    let held : now.held ≡ [] = ap (λ (s : Sweeping). s.held) (sym e) ∙ no_items inside.held none in
+    subst (λ (l : List Feature). Adds out (lines_of now.shape a (hits_among now.rule a l)) r grown) (sym held)
+    (subst (λ (s : Sweeping). Adds out (lines_of s.shape a []) r grown) e adds)

@@ -24,10 +24,6 @@ are_on (b ∷ held) name = bytes_eq b.chrom name
 abbrev pub held_with : List Feature → Feature → List Feature
 held_with held a = cond (are_on held a.chrom) (filter (λ b. nat_lt a.start b.stop) held) []
 
--- a record that nothing hits has no line in this shape
-abbrev pub NeedsHit : Shape → Type 0
-NeedsHit shape = (a : Feature) → lines_of shape a [] ≡ []
-
 -- the sweep with b held, where a or a later record can be hit by it
 abbrev pub holding : Sweeping → Feature → Feature → Sweeping
 holding old a b = record old { held = old.held ++ filter (is_held a) (b ∷ []) }

@@ -16,7 +16,7 @@ use crate::hit_rule::HitRule;
 use crate::phase::Phase;
 use crate::shape::Shape;
 use crate::want::Want;
-use crate::writing::{needs_hit, put_lines};
+use crate::writing::{put_lines, put_unmatched};
 use crate::written::Written;
 use bt_bed::{Cursor, Rec, Record, at_line, is_same_name};
 use bt_lines::{Fault, Input, Kind, Out, Place, Sink, no_memory};
@@ -199,14 +199,24 @@ impl<H: Held> State<H> {
         ensures puts { AreRising self.old.held
             → Adds out.old.output (lines_for self.old.shape self.old.rule (R.feature a.now) self.old.held) result out.new.output }
     {
-        if needs_hit(self.shape) && self.held.len() == 0 {
-            return Ok(());
-        }
-        let put = put_lines(self.shape, self.rule, &Written::of(a), &self.held, out);
+        let put = self.put_against(a, out);
         if put.is_err() {
             self.phase = Phase::Over;
         }
         put
+    }
+
+    // The same, whatever comes of it.
+    #[inline(always)]
+    fn put_against<R: Record, K: Sink>(&self, a: &R, out: &mut Out<K>) -> Result<(), Fault>
+        requires { All (CanHit (R.feature a.now)) self.now.held }
+        ensures { AreRising self.now.held
+            → Adds out.old.output (lines_for self.now.shape self.now.rule (R.feature a.now) self.now.held) result out.new.output }
+    {
+        if self.held.len() == 0 {
+            return put_unmatched(self.shape, &Written::of(a), out);
+        }
+        put_lines(self.shape, self.rule, &Written::of(a), &self.held, out)
     }
 
     // Takes a record of the second input, which stands on a line and leaves this one of the first undecided: it is held

@@ -1,13 +1,12 @@
 //! The lines of one record.
 
-ghost use Rattle.std.specs.Prelude.{◌≡◌, ◌∷◌, [], ◌<◌, All, IsTrue, cond, decimal, flat_map, option_copied, option_to_list, take};
+ghost use Rattle.std.specs.Prelude.{◌≡◌, ◌∷◌, [], ◌<◌, All, cond, decimal, flat_map, option_copied, option_to_list, take};
 ghost use Rattle.bt_lines.specs.Putting.{Adds, Puts};
 ghost use Rattle.bt_bed.specs.Bed.{feature_lent};
 ghost use Rattle.bt_bed.specs.Record.{bed_text, cut_to};
 ghost use Rattle.bt_sweep.specs.Held.{AreOn, AreRising, CanHit};
 ghost use Rattle.bt_sweep.specs.Hits.{hits_among, shared_bases};
-ghost use Rattle.bt_sweep.specs.IntersectLines.{hit_line, line_with, lines_for};
-ghost use Rattle.bt_sweep.specs.StateSteps.{NeedsHit};
+ghost use Rattle.bt_sweep.specs.IntersectLines.{hit_line, line_with, lines_for, lines_of};
 
 use crate::held::Held;
 use crate::hit::{count_started_hits, is_any_hit, is_hit};
@@ -19,9 +18,14 @@ use crate::written::{Written, put_written};
 use bt_bed::{BedRef, Rec, put_bed, put_cut};
 use bt_lines::{Fault, Out, Sink, put_number};
 
-// Whether a record that nothing hits has no line in this shape.
-pub(crate) fn needs_hit(shape: Shape) -> bool
-    ensures { IsTrue result → NeedsHit shape }
+// Puts the line that a record has in this shape where nothing hits it, if it has one. It doesn't allocate.
+#[inline(always)]
+pub(crate) fn put_unmatched<K: Sink>(
+    shape: Shape,
+    a: &Written<'_>,
+    out: &mut Out<K>,
+) -> Result<(), Fault>
+    ensures { Adds out.old.output (lines_of shape (feature_lent a.now.bed) []) result out.new.output }
 {
     match shape {
         Shape::Cut
@@ -29,8 +33,10 @@ pub(crate) fn needs_hit(shape: Shape) -> bool
         | Shape::CutAndB
         | Shape::OrigBoth
         | Shape::Overlap
-        | Shape::Once => true,
-        Shape::Missing | Shape::Whole | Shape::Pieces | Shape::Count => false,
+        | Shape::Once => Ok(()),
+        Shape::Missing | Shape::Whole => put_where(true, a, out),
+        Shape::Pieces => put_where(a.bed.start < a.bed.stop, a, out),
+        Shape::Count => put_counted(a, 0, out),
     }
 }
 

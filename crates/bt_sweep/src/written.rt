@@ -59,29 +59,28 @@ pub(crate) fn put_written<K: Sink>(
 #[cfg(test)]
 mod tests {
     use super::*;
-    use bt_bed::{Genome, RecordLine, Records};
+    use bt_bed::{Genome, Records};
     use bt_lines::{Input, LineReader, ScriptSink, ScriptSource};
     use std::test::Fail;
 
-    // Puts the record of a line, with the line at hand and without it.
-    fn put_both_ways<K: Sink>(line: &RecordLine<'_>, out: &mut Out<K>) -> Result<(), Fault> {
-        put_written(&Written::of(line), b"\n", out)?;
-        put_written(&Written::of_bed(line.bed()), b"\n", out)
+    // Puts a record with its line at hand and without it.
+    fn put_both_ways<R: Record, K: Sink>(record: &R, out: &mut Out<K>) -> Result<(), Fault> {
+        put_written(&Written::of(record), b"\n", out)?;
+        put_written(&Written::of_bed(record.bed()), b"\n", out)
     }
 
-    // Puts the two records behind the one that the reader has passed.
+    // Puts the two records after the first of those that are buffered.
     fn put_two<K: Sink>(
         records: &Records<'_, ScriptSource<'_>, Genome>,
         out: &mut Out<K>,
     ) -> Result<(), Fault> {
-        let Some(mut whole) = records.whole() else {
+        let mut batch = records.buffered();
+        let _ = batch.next();
+        let (Some(second), Some(third)) = (batch.next(), batch.next()) else {
             return Ok(());
         };
-        let (Some(first), Some(second)) = (whole.next_line(), whole.next_line()) else {
-            return Ok(());
-        };
-        put_both_ways(&first, out)?;
         put_both_ways(&second, out)?;
+        put_both_ways(&third, out)?;
         out.flush()
     }
 
@@ -97,9 +96,8 @@ mod tests {
             Input::First,
         );
         let mut records = Records::new(rt.alloc(), lines, &genome);
-        if records.peek()?.is_some() {
-            records.advance();
-        }
+        let is_some = records.fill()?;
+        assert!(rt; is_some);
         let mut out = Out::new(ScriptSink::new(rt.alloc(), 7, None));
         let put = put_two(&records, &mut out);
         let _ = records.into_reader().into_source();

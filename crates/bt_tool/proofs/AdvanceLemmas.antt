@@ -1,11 +1,10 @@
 -- Lemmas on records that a sweep is given of what two readers have buffered.
-use Rattle.std.proofs.Common.{◌≡◌, inl, inr, ℕ, suc, ◌+◌, ◌<◌, Bool, true, false, ◌&&◌, not, List, [], ◌∷◌, ◌++◌, Option, None, Some, Ok, Err, Result, refl, sym, ap, ◌∙◌, subst, arith, length, append-nil, append_assoc, option_to_list, take}
+use Rattle.std.proofs.Common.{◌≡◌, inl, inr, ℕ, suc, ◌<◌, Bool, true, false, ◌&&◌, not, List, [], ◌∷◌, ◌++◌, Option, None, Some, Ok, Err, Result, refl, sym, ap, ◌∙◌, subst, arith, length, append-nil, append_assoc, option_to_list, take}
 use Rattle.std.specs.Option.{ForSome}
-use Rattle.std.specs.Prelude.{◌⊎◌, IfSome, IsTrue, option_map}
+use Rattle.std.specs.Prelude.{IfSome, IsTrue, option_map}
 use Rattle.std.specs.List.{list_all}
 use Rattle.std.proofs.lemmas.Bool.{false≢true, and_from, and_parts}
 use Rattle.std.proofs.lemmas.List.{map-append}
-use Rattle.bt_lines.specs.Fault.{Told}
 use Rattle.bt_lines.specs.Names.{told}
 use Rattle.bt_lines.specs.Output.{Output}
 use Rattle.bt_lines.specs.Reader.{lines_given}
@@ -17,7 +16,7 @@ use Rattle.bt_bed.specs.Interval.{Interval, last_of}
 use Rattle.bt_bed.specs.Locus.{ArePlaced, IsUpTo, Locus, locus_of}
 use Rattle.bt_bed.specs.Order.{IsTotal, Order}
 use Rattle.bt_bed.specs.GoodBed.{bed_format, locus_at}
-use Rattle.bt_bed.specs.Reading.{BeginsComing, MemberReader, ahead_in, first_from, state_behind}
+use Rattle.bt_bed.specs.Reading.{BeginsComing, ahead_in, first_from, state_behind}
 use Rattle.bt_bed.specs.Records.{IsTaken, Lends, TakesRecords, below, buffered_in, count_in, order_in, view_of}
 use Rattle.bt_bed.specs.SortedReader.{are_in_order, view_with}
 use Rattle.bt_bed.specs.Sorting.{Sorting, falls_in, sorting_of}
@@ -28,7 +27,7 @@ use Rattle.bt_bed.specs.declared.records.Records.{Records}
 use Rattle.bt_bed.proofs.SortingLemmas.{sorted_up_to}
 use Rattle.bt_bed.proofs.TogetherLemmas.{grows_placed, last_of-push}
 use Rattle.bt_bed.proofs.TokenLemmas.{taken_are, token_is}
-use Rattle.bt_sweep.specs.Advancing.{AdvancesOn, AdvancesSo, AtEach, FailsAt, HasWritten, Settles, StopsFor}
+use Rattle.bt_sweep.specs.Advancing.{AdvancesOn, Settles, StopsFor}
 use Rattle.bt_sweep.specs.Deciding.{decided}
 use Rattle.bt_sweep.specs.Joining.{CannotBeHeld, ComesNext}
 use Rattle.bt_sweep.specs.Relating.{GivesKnown}
@@ -39,7 +38,7 @@ use Rattle.bt_sweep.specs.declared.want.Want.TheVariants.{A as WantA, B as WantB
 use Rattle.bt_sweep.proofs.KeepLemmas.{decided_before}
 use Rattle.bt_tool.specs.Pair.{item_ahead}
 use Rattle.bt_tool.specs.Passed.{HasTaken}
-use Rattle.bt_tool.specs.SweepSteps.{AdvancesBoth, FailsAmong, FailsToTake, GivesBoth, NotBuffered, TakesBoth}
+use Rattle.bt_tool.specs.SweepSteps.{AdvancesBoth, NotBuffered, TakesBoth}
 use Rattle.bt_tool.proofs.PairTurns.{cancel_front}
 use Rattle.bt_tool.proofs.PassedLemmas.{has_taken}
 
@@ -64,7 +63,7 @@ module _ {S O : Type 0} {g : Ghosts O} (now : Records S O g) (batch : Batch) (le
   unfolding view_of order_in
   in_order = now.placed.in_order
 
-  -- the chromosome of each record that a reader lends is known
+  -- the chromosome of each record that a reader gives is known
   pub known_batch : (order : Order) → order ≡ order_in now → GivesKnown Passes order batch
   known_batch order same records to passes =
       subst (λ (o : Order). list_all (λ r. o.knows r.chrom) records ≡ true) (sym same)
@@ -110,7 +109,7 @@ module _ {S O : Type 0} {g : Ghosts O} (now : Records S O g) (batch : Batch) (le
       unfolding line_in cursor_in
       line_then b after next = omega (arith, next.lines.given, passes.lines.given, given_is, taken_of.takes.given)
 
--- ---- the record ahead is in order behind those that were passed
+-- ---- the record ahead is in order after those that were passed
 
 -- where the last of records stands
 state_last : (order : Order) (past before : List Feature) (last : Option Locus) → last ≡ option_map locus_of (last_of (intervals_of before))

@@ -74,7 +74,7 @@ module _ {G : Type 0} (left : G → Option (List ℕ)) (failed end : G → Bool)
 
     unread_text : EntryUnread left failed end old new fault → (handed : Handed) → Reads left failed genome after handed → chromosomes_of (Some handed) ≡ Err fault
     unread_text unread handed reads =
-        let cut = unread.fails.cut sound in
+        let cut = unread.fails.cut (record { end = sound.end; within = sound.within }) in
         let texts = cut_text left failed genome after old new source ended fresh handed reads unfed cut in
         let front = take (2 ^ 63 - 1) reads.bytes in
         let size : lines_given new - lines_given old ≡ line_feeds front = omega (arith, texts.given, none_given) in

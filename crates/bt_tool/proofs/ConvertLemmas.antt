@@ -187,7 +187,7 @@ module _ {S : Type 0} (split cigar : Bool) (left : S → Option (List ℕ)) (fai
     bytes = taken;
     feeds = fed;
     lines = lines;
-    good = good_at_first left failed end (sam_reader reader) refl going refl ∙ ap (λ i. option_map (good sam_format i) (lines_left left reader)) input ∙ ap (option_map (good sam_format First)) lines;
+    good = good_at_first left failed end (sam_reader reader) going refl ∙ ap (λ i. option_map (good sam_format i) (lines_left left reader)) input ∙ ap (option_map (good sam_format First)) lines;
   }
 
   more_lines : (past more : List Alignment) → ⊤ → (rest : List ℕ) × (alignment_lines split cigar (past ++ more) ≡ alignment_lines split cigar past ++ rest)

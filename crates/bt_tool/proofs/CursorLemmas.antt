@@ -1,16 +1,14 @@
 -- Lemmas on lines that were consumed of those buffered: the lines that are left tell how many bytes they had.
-use Rattle.std.proofs.Common.{◌≡◌, ℕ, zero, suc, ◌+◌, ◌-◌, ◌<◌, ◌≤◌, Bool, true, false, nat_eq, List, [], ◌∷◌, ◌++◌, length, take, drop, refl, sym, ap, ◌∙◌, subst, append_assoc, append-nil, length-append, length-take, length-drop, arith, inl, inr}
+use Rattle.std.proofs.Common.{◌≡◌, ℕ, zero, suc, ◌+◌, ◌-◌, ◌≤◌, Bool, true, false, nat_eq, List, [], ◌∷◌, ◌++◌, length, take, drop, refl, sym, ap, ◌∙◌, subst, append_assoc, append-nil, length-append, length-take, length-drop, arith, inl, inr}
 use Rattle.std.specs.Prelude.{◌⊎◌, All, flat_map}
-use Rattle.std.proofs.Math.Seq.{drop-append_seam, drop-length, take-append_seam, take-length}
-use Rattle.std.proofs.lemmas.Bool.Decides.{nat_tests}
+use Rattle.std.proofs.Math.Seq.{drop-append_seam, take-append_seam, take-length}
 use Rattle.std.proofs.lemmas.List.{take-append-drop}
 use Rattle.std.proofs.lemmas.List.Elements.{All-cons, All-head, All-nil, All-tail}
 use Rattle.bt_lines.proofs.BufferLemmas.{fed_clear, fed_drop, fed_last, fed_none, fed_push}
 use Rattle.bt_lines.proofs.LinesLemmas.{lines_from-fed, lines_from-last, lines_from-nil, spelled-fed}
 use Rattle.bt_lines.proofs.PassingLemmas.{lines_taken}
-use Rattle.bt_lines.proofs.TextLemmas.{by_lines, lines_are_numbered, whole_lines_are_numbered, bytes_in-append, bytes_in-lines, line_feeds-append, line_feeds-fed, line_feeds-none, whole_count, whole_lines_from-fed, whole_lines_from-last}
+use Rattle.bt_lines.proofs.TextLemmas.{by_lines, lines_are_numbered, whole_lines_are_numbered, bytes_in-lines, line_feeds-append, line_feeds-fed, whole_count, whole_lines_from-fed, whole_lines_from-last}
 use Rattle.bt_lines.specs.Buffered.{BeginsLines, IsWhere, PassesLines, buffered_lines, lines_in, rest_in}
-use Rattle.bt_lines.specs.LentLine.{NoLineFeed}
 use Rattle.bt_lines.specs.Lines.{AreNumbered, TextLine, bytes_in, fed_line, last_line, line_feeds, lines_from, spelled, whole_lines_from}
 use Rattle.bt_lines.specs.Reader.{TakenLines, buffered_bytes, is_open, lines_given}
 use Rattle.bt_lines.specs.Shape.{IsLast, is_fed}
@@ -18,7 +16,7 @@ use Rattle.bt_lines.specs.declared.buffered_lines.BufferedLines.{BufferedLines}
 use Rattle.bt_lines.specs.declared.buffered_lines.ConsumedLines.{ConsumedLines}
 use Rattle.bt_lines.specs.declared.line_reader.LineReader.{LineReader}
 
--- behind a piece and its line feed complete lines go on
+-- after a piece and its line feed complete lines go on
 fed_behind : (piece rest : List ℕ) → is_fed (piece ++ 10 ∷ rest) ≡ true → is_fed rest ≡ true
 fed_behind piece rest fed =
     let parts : drop (length (piece ++ 10 ∷ [])) (piece ++ 10 ∷ rest) ≡ rest =
@@ -137,10 +135,10 @@ module _ (n m at : ℕ) (bytes : List ℕ) (fed : is_fed bytes ≡ true) (within
         )
       ])
 
-  feeds_text : line_feeds text ≡ 0 
+  feeds_text : line_feeds text ≡ 0
   feeds_text = elim (fed_last bytes fed) [
     | inl none ↦ rw none refl
-    | inr f ↦ 
+    | inr f ↦
         let size : length bytes - 1 ≡ length f.0 = omega (arith, ap length f.1, length-append f.0 (10 ∷ [])) in
         let is : text ≡ f.0 = ap (λ k. take k bytes) size ∙ ap (take (length f.0)) f.1 ∙ take-append_seam f.0 (10 ∷ []) in
         let feed : line_feeds (10 ∷ []) ≡ 1 = refl in
@@ -196,7 +194,7 @@ numbered_front : (number : ℕ) (texts more : List TextLine) → AreNumbered num
 numbered_front number [] more are = tt
 numbered_front number (line ∷ lines) more are = (are.0, numbered_front (suc number) lines more are.1)
 
--- what a reader lent, and what was consumed of it
+-- the lines that a reader has buffered, and what was consumed of them
 module _ {S : Type 0} (reader : LineReader S) (first last : BufferedLines) (texts : List TextLine)
     (begins : BeginsLines (buffered_bytes reader) (lines_given reader) (is_open reader) first)
     (left_is : lines_in first ≡ texts ++ lines_in last) (all_is : last.all ≡ first.all) (given : last.lines ≡ first.lines + length texts) (open_is : last.is_open ≡ first.is_open) where

@@ -16,8 +16,10 @@ pub mod MaskGiven
 pub mod MaskedLemmas
 pub mod MaskAdvanced
 pub mod MaskBoth
+pub mod MaskFills
 pub mod MaskFacts
 pub mod MaskKinds
+pub mod SweepSettles
 pub mod SweptLemmas
 pub mod SweepRounds
 pub mod RestLemmas

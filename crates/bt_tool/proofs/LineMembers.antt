@@ -1,6 +1,6 @@
 -- Lemmas on a reader of lines as one of lines of sequences.
-use Rattle.std.proofs.Common.{◌≡◌, ℕ, zero, suc, ◌+◌, ◌-◌, ◌<◌, ◌≤◌, Bool, true, false, cond, List, [], ◌∷◌, ◌++◌, length, take, drop, Option, None, Some, Result, Ok, Err, refl, sym, ap, ◌∙◌, subst, append_assoc, append-nil, length-append, arith, inl, inr}
-use Rattle.std.specs.Prelude.{All, IfSome, IsSome, option_map}
+use Rattle.std.proofs.Common.{◌≡◌, ℕ, zero, suc, ◌+◌, ◌-◌, ◌<◌, ◌≤◌, Bool, true, false, cond, List, [], ◌∷◌, ◌++◌, length, take, drop, Option, None, Some, Ok, Err, refl, sym, ap, ◌∙◌, subst, append_assoc, append-nil, length-append, arith, inl}
+use Rattle.std.specs.Prelude.{All, IfSome, option_map}
 use Rattle.std.proofs.Math.Seq.{drop-append_seam}
 use Rattle.std.proofs.lemmas.List.{drop-drop}
 use Rattle.std.proofs.lemmas.List.Elements.{All-append, All-nil}
@@ -9,9 +9,8 @@ use Rattle.bt_lines.proofs.TakingLemmas.{is_prefix, near_next}
 use Rattle.bt_lines.specs.Fault.{Told}
 use Rattle.bt_lines.specs.Lines.{AreNumbered, TextLine, bytes_in, line_feeds, lines_from}
 use Rattle.bt_lines.specs.Output.{block_size}
-use Rattle.bt_lines.specs.Reader.{DropsLines, GivesEnd, GivesFault, Hands, IsKept, MakesLine, SameLines, TakenLines, TakesLines, buffered_bytes, buffered_in, bytes_left, bytes_taken, end_told, fault_kept as line_fault, held, input_of, left_at, lines_given, lines_left, source_of}
+use Rattle.bt_lines.specs.Reader.{DropsLines, GivesEnd, GivesFault, Hands, IsKept, MakesLine, SameLines, TakenLines, TakesLines, buffered_bytes, buffered_in, bytes_left, end_told, fault_kept as line_fault, held, input_of, left_at, lines_given, lines_left, source_of}
 use Rattle.bt_lines.specs.declared.buffered_lines.ConsumedLines.{ConsumedLines}
-use Rattle.bt_lines.specs.declared.fault.Input.{Input}
 use Rattle.bt_lines.specs.declared.fault.Kind.{Kind}
 use Rattle.bt_lines.specs.declared.fault.Kind.TheVariants.{TextBeforeHeader}
 use Rattle.bt_lines.specs.declared.line_reader.LineReader.{LineReader}
@@ -21,7 +20,7 @@ use Rattle.bt_bed.proofs.SaidRuns.{LinesSay, good_said, say_front}
 use Rattle.bt_bed.specs.Good.{Good, Member, good_from}
 use Rattle.bt_bed.specs.GoodLines.{IsBeyond, IsFaultBeyond}
 use Rattle.bt_bed.specs.LineKind.{fault_at_line}
-use Rattle.bt_bed.specs.Reading.{AreSaid, MemberReader, ahead_in, first_from, good_behind, good_coming, members_from, state_behind, with_members}
+use Rattle.bt_bed.specs.Reading.{AreSaid, MemberReader, first_from, good_behind, good_coming, members_from, state_behind, with_members}
 use Rattle.bt_seq.specs.GivenLines.{SayEach}
 use Rattle.bt_seq.specs.Sequences.{Reached, SequenceLine, is_header, line_says, may_stand, sequence_format}
 use Rattle.bt_tool.specs.MaskLoop.{line_members}

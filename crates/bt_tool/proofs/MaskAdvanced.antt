@@ -1,8 +1,6 @@
 -- Lemmas on lines and records that were given to a masking engine together, over two readers.
-use Rattle.std.proofs.Common.{◌≡◌, ℕ, suc, ◌+◌, ◌≤◌, ◌<◌, Bool, true, false, List, [], ◌∷◌, ◌++◌, length, take, Option, None, Some, Err, refl, sym, ap, ◌∙◌, subst, append-nil, append_assoc, option_to_list, arith, inl, inr}
-use Rattle.std.specs.Prelude.{◌⊎◌, IfSome, IsSome, IsTrue, is_some, option_map}
-use Rattle.std.proofs.lemmas.Bool.{false≢true}
-use Rattle.std.proofs.lemmas.List.{map-append}
+use Rattle.std.proofs.Common.{◌≡◌, ℕ, suc, Bool, true, false, List, [], ◌∷◌, ◌++◌, length, Option, None, Some, Err, refl, sym, ap, ◌∙◌, subst, append-nil, option_to_list, arith, inl, inr}
+use Rattle.std.specs.Prelude.{◌⊎◌, IsTrue}
 use Rattle.bt_lines.specs.Fault.{Told, no_memory, read_failed}
 use Rattle.bt_lines.specs.Lines.{AreNumbered, TextLine}
 use Rattle.bt_lines.specs.Output.{Output}
@@ -10,7 +8,7 @@ use Rattle.bt_lines.specs.Putting.{FailsToAdd, Grown}
 use Rattle.bt_lines.specs.Reader.{TakenLines, TakesLines, buffered_in, has_ended, input_of, lines_given}
 use Rattle.bt_lines.specs.declared.buffered_lines.ConsumedLines.{ConsumedLines}
 use Rattle.bt_lines.specs.declared.fault.Input.{Input}
-use Rattle.bt_lines.specs.declared.fault.Input.TheVariants.{First, Second}
+use Rattle.bt_lines.specs.declared.fault.Input.TheVariants.{First}
 use Rattle.bt_lines.specs.declared.fault.Kind.{Kind}
 use Rattle.bt_lines.specs.declared.line_reader.LineReader.{LineReader}
 use Rattle.bt_bed.specs.Feature.{Feature}
@@ -18,29 +16,25 @@ use Rattle.bt_bed.specs.Good.{Format, Member}
 use Rattle.bt_bed.specs.LineKind.{fault_at_line, is_of_line}
 use Rattle.bt_bed.specs.Locus.{Locus}
 use Rattle.bt_bed.specs.Reading.{MemberReader, members_from, state_behind}
-use Rattle.bt_seq.proofs.SettleLemmas.{goes_more, line_goes}
 use Rattle.bt_seq.specs.GivenLines.{SayEach}
-use Rattle.bt_seq.specs.MaskAdvance.{FailsAtLines, HasCome}
 use Rattle.bt_seq.specs.MaskSettles.{GoesOn}
 use Rattle.bt_seq.specs.MaskStanding.{MaskStandsAt}
-use Rattle.bt_seq.specs.MaskStage.{MaskStage, given, is_written_at_once, reached, want_at, with_line}
-use Rattle.bt_seq.specs.MaskSteps.{FailsWithLine, RefusesLine, bytes_with}
+use Rattle.bt_seq.specs.MaskStage.{MaskStage, given, reached}
 use Rattle.bt_seq.specs.MaskState.{Masking}
 use Rattle.bt_seq.specs.Sequences.{Reached, SequenceLine, line_says, sequence_format}
-use Rattle.bt_seq.specs.declared.mask_want.MaskWant.TheVariants.{Line as WantLine}
 use Rattle.bt_tool.specs.Feeding.{member_items}
 use Rattle.bt_tool.specs.MaskReport.{is_fasta_kind}
 use Rattle.bt_tool.specs.MaskLoop.{MaskRun, leaves_some, line_members, nothing_reached, stage_of}
 use Rattle.bt_tool.specs.MaskTurns.{Ends, GoesOnAt}
 use Rattle.bt_tool.specs.Pair.{Making, Pair, Settles, item_ahead}
-use Rattle.bt_tool.specs.PairComes.{Comes, Follows, Stage, TakesFurther}
+use Rattle.bt_tool.specs.PairComes.{Follows, Stage, TakesFurther}
 use Rattle.bt_tool.specs.PairEnds.{AsksFor, IsKnown}
 use Rattle.bt_tool.specs.Passed.{HasTaken}
 use Rattle.bt_tool.proofs.FaultLemmas.{line_no_read}
 use Rattle.bt_tool.proofs.LineMembers.{has_taken, known_members, passes_known, refused, refuses, refuses_read, say_count, wrong_is_text}
 use Rattle.bt_tool.proofs.MaskFacts.{asked_of}
 use Rattle.bt_tool.proofs.MaskGiven.{ahead_first, first_of, settles_given}
-use Rattle.bt_tool.proofs.MaskedLemmas.{asked, asks_for, come_so_far, first, making, pair, reached_behind}
+use Rattle.bt_tool.proofs.MaskedLemmas.{asked, asks_for, come_so_far, making, pair, reached_behind}
 use Rattle.bt_tool.proofs.PairStops as stop
 use Rattle.bt_tool.proofs.PairTurns as turned
 use Rattle.bt_lines.proofs.ReadsLemmas.{some_is}
@@ -63,11 +57,6 @@ both_none (x ∷ xs) ys e = cc
 
 alone : {A : Type 0} (items : List A) (o : Option A) → o ≡ None → items ++ option_to_list o ≡ items
 alone items o none = ap (λ o. items ++ option_to_list o) none ∙ append-nil items
-
--- giving a line leaves the record ahead
-ahead_by : (stage : MaskStage) (item : SequenceLine) (b : Bool) → is_written_at_once stage item ≡ b → (with_line stage item).ahead ≡ stage.ahead
-ahead_by stage item true e = rw e refl
-ahead_by stage item false e = rw e refl
 
 asked_more : (lines more : List SequenceLine) (records : List Feature) → (records ≡ []) ⊎ IsTrue (leaves_some lines records) → (records ≡ []) ⊎ IsTrue (leaves_some (lines ++ more) records)
 asked_more lines more records (inl none) = inl none
@@ -171,17 +160,20 @@ module _ {A B : Type 0} (a_left : A → Option (List ℕ)) (a_failed a_end : A �
 
         -- the engine stands there
         pub come_on : (masked : Masking) (now : Output) → MaskStandsAt run.how run.full final masked → Grown grown bytes now → (going : Going (state_behind (sequence_format run.full) at items) new second_now masked now) × (going.stage ≡ final)
-        come_on masked now stands puts = (record {
-          past_first = s.past_first ++ more_first;
-          past_second = s.past_second ++ more_second;
-          stage = final;
-          stands = stands;
-          comes = turned.goes_on rule both run.out (stage_of stage) s.past_first s.past_second (line_members run.full at lines) second grown s.comes more_first more_second first_now second_now takes_first takes_second ended_first ended_second goes.newly (stage_of final)
-              (record { given_is = given_now; written_is = goes.written_is; taken_is = taken_now; first_is = goes.lines_ended_is; second_is = goes.bed_ended_is })
-              bytes now (λ known. subst (λ (b : Bool). Settles rule final.written (s.comes.bytes ++ bytes) (final.taken ++ option_to_list (item_ahead second_now)) b) (sym goes.bed_ended_is) (settled known)) puts;
-          kept_ahead = kept;
-          lines_over = λ e. takes.ended_is ∙ s.lines_over (sym goes.lines_ended_is ∙ e);
-        }, refl)
+        come_on masked now stands puts = (
+          record {
+            past_first = s.past_first ++ more_first;
+            past_second = s.past_second ++ more_second;
+            stage = final;
+            stands = stands;
+            comes = turned.goes_on rule both run.out (stage_of stage) s.past_first s.past_second (line_members run.full at lines) second grown s.comes more_first more_second first_now second_now takes_first takes_second ended_first ended_second goes.newly (stage_of final)
+                (record { given_is = given_now; written_is = goes.written_is; taken_is = taken_now; first_is = goes.lines_ended_is; second_is = goes.bed_ended_is })
+                bytes now (λ known. subst (λ (b : Bool). Settles rule final.written (s.comes.bytes ++ bytes) (final.taken ++ option_to_list (item_ahead second_now)) b) (sym goes.bed_ended_is) (settled known)) puts;
+            kept_ahead = kept;
+            lines_over = λ e. takes.ended_is ∙ s.lines_over (sym goes.lines_ended_is ∙ e);
+          },
+          refl,
+        )
 
         -- what is settled wasn't all written
         pub fails_write : (puts rest : List ℕ) → bytes ≡ puts ++ rest → (through now : Output) (fault : Told) → Grown grown puts through → FailsToAdd through rest fault now → EndsAt (Some fault) new second_now now

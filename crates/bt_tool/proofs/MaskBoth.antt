@@ -1,15 +1,15 @@
 -- Lemmas on a turn of masking in which lines and records were given together.
-use Rattle.std.proofs.Common.{◌≡◌, ℕ, zero, suc, ◌-◌, drop, length-take, ◌+◌, ◌*◌, ◌≤◌, ◌<◌, Bool, true, false, List, [], ◌∷◌, ◌++◌, length, take, Option, None, Some, Result, Ok, Err, refl, sym, ap, ◌∙◌, subst, append-nil, append_assoc, option_to_list, arith, inl, inr}
+use Rattle.std.proofs.Common.{◌≡◌, ℕ, zero, suc, ◌-◌, drop, length-take, ◌+◌, ◌≤◌, ◌<◌, Bool, true, false, List, [], ◌∷◌, ◌++◌, length, take, Option, None, Some, Result, Ok, Err, refl, sym, ap, ◌∙◌, subst, append-nil, append_assoc, option_to_list, arith, inl, inr}
 use Rattle.std.specs.Prelude.{◌⊎◌, OnOk, is_some, nat_eq, option_map}
 use Rattle.std.proofs.lemmas.Bool.{false≢true}
 use Rattle.bt_lines.proofs.BufferLemmas.{fed_none}
 use Rattle.bt_lines.proofs.TextLemmas.{bytes_in-lines, whole_count}
-use Rattle.bt_lines.specs.Buffered.{BeginsLines, buffered_lines, lines_in, rest_in}
+use Rattle.bt_lines.specs.Buffered.{BeginsLines, buffered_lines, lines_in}
 use Rattle.bt_lines.specs.Fault.{Told, no_memory}
-use Rattle.bt_lines.specs.Lines.{AreNumbered, TextLine, bytes_in, line_feeds, lines_from}
+use Rattle.bt_lines.specs.Lines.{AreNumbered, TextLine, bytes_in}
 use Rattle.bt_lines.specs.Names.{told}
 use Rattle.bt_lines.specs.Output.{Output}
-use Rattle.bt_lines.specs.Putting.{FailsToAdd, Grown}
+use Rattle.bt_lines.specs.Putting.{FailsToAdd}
 use Rattle.bt_lines.specs.Reader.{TakenLines, TakesLines, buffered_bytes, buffered_in, has_ended, is_open, lines_given, room as line_room}
 use Rattle.bt_lines.specs.Shape.{IsLast, is_fed}
 use Rattle.bt_lines.specs.declared.buffered_lines.BufferedLines.{BufferedLines}
@@ -19,7 +19,7 @@ use Rattle.bt_lines.specs.declared.line_reader.LineReader.{LineReader}
 use Rattle.bt_bed.specs.Batch.{HasEnded, Passes, cursor_in, left, line_in}
 use Rattle.bt_bed.specs.Feature.{Feature}
 use Rattle.bt_bed.specs.Locus.{Locus}
-use Rattle.bt_bed.specs.Reading.{MemberReader, room, state_behind}
+use Rattle.bt_bed.specs.Reading.{MemberReader, state_behind}
 use Rattle.bt_bed.specs.declared.batch.Batch.{Batch}
 use Rattle.bt_seq.proofs.SettleLemmas.{goes_more, line_goes}
 use Rattle.bt_seq.proofs.StandLemmas.{wants_line}

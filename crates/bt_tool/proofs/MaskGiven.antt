@@ -1,5 +1,5 @@
 -- Lemmas on what lines and records that were given to a masking engine settle.
-use Rattle.std.proofs.Common.{◌≡◌, ℕ, Bool, true, false, ◌&&◌, ◌||◌, cond, List, [], ◌∷◌, ◌++◌, Option, None, Some, refl, sym, ap, ◌∙◌, subst, append-nil, append_assoc, flat_map, option_to_list}
+use Rattle.std.proofs.Common.{◌≡◌, ℕ, Bool, true, false, ◌||◌, cond, List, [], ◌∷◌, ◌++◌, Option, None, Some, refl, sym, ap, ◌∙◌, subst, append-nil, append_assoc, flat_map, option_to_list}
 use Rattle.std.specs.Prelude.{is_none, option_map}
 use Rattle.std.specs.List.{list_all}
 use Rattle.std.proofs.lemmas.Bool.{false≢true, and_from, and_parts, or_left, or_right}
@@ -9,7 +9,6 @@ use Rattle.bt_lines.specs.Fault.{Told}
 use Rattle.bt_lines.specs.Lines.{TextLine}
 use Rattle.bt_bed.specs.Feature.{Feature}
 use Rattle.bt_bed.specs.Good.{Member}
-use Rattle.bt_bed.specs.GoodBlocks.{AreInBlocks}
 use Rattle.bt_bed.specs.Reading.{MemberReader, first_from}
 use Rattle.bt_seq.specs.MaskSettles.{GoesOn, MayFollow, seen_at}
 use Rattle.bt_seq.specs.MaskStage.{MaskStage}
@@ -43,7 +42,7 @@ all_decided fault records (line ∷ lines) e =
     let both = and_parts (decided line records) (list_all (λ line. decided line records) lines) e in
     and_from (is_none fault || decided line records) (list_all (λ x. is_none fault || decided x records) lines) (or_right (is_none fault) (decided line records) both.0) (all_decided fault records lines both.1)
 
--- what may come behind those that a reader has taken and the one ahead, follows what the engine has seen
+-- what may come after those that a reader has taken and the one ahead, follows what the engine has seen
 module _ (stage : MaskStage) (next : Option Feature) (kept : (r : Feature) → stage.ahead ≡ Some r → next ≡ Some r) (over : stage.bed_ended ≡ true → next ≡ None)
     (records : List Feature) (fault : Option Told) (may : MayCome (stage.taken ++ option_to_list next) stage.bed_ended records fault) where
   follows_by : (ended : Bool) (ahead : Option Feature) → stage.bed_ended ≡ ended → stage.ahead ≡ ahead → MayFollow stage records
@@ -74,7 +73,7 @@ module _ (stage : MaskStage) (next : Option Feature) (kept : (r : Feature) → s
   pub may_follow : MayFollow stage records
   may_follow = follows_by stage.bed_ended stage.ahead refl refl
 
--- what may come behind more records may come behind fewer
+-- what may come after more records may come after fewer
 pub come_back : (old taken buffered : List Feature) (ended : Bool) (records : List Feature) (fault : Option Told) → (ended ≡ true → taken ≡ []) → MayCome ((old ++ taken) ++ option_to_list (first_of buffered)) ended records fault
     → MayCome (old ++ option_to_list (first_of (taken ++ buffered))) ended records fault
 come_back old [] buffered ended records fault none may =
@@ -83,7 +82,7 @@ come_back old (x ∷ xs) buffered ended records fault none may = record {
   begins = (
     (xs ++ option_to_list (first_of buffered)) ++ may.begins.0,
     may.begins.1 ∙ ap (λ (l : List Feature). l ++ may.begins.0) (ap (λ (l : List Feature). l ++ option_to_list (first_of buffered)) (sym (append_assoc old (x ∷ []) xs)) ∙ append_assoc (old ++ x ∷ []) xs (option_to_list (first_of buffered)))
-    ∙ append_assoc (old ++ x ∷ []) (xs ++ option_to_list (first_of buffered)) may.begins.0,
+        ∙ append_assoc (old ++ x ∷ []) (xs ++ option_to_list (first_of buffered)) may.begins.0,
   );
   all = λ e. let gone : x ∷ xs ≡ [] = none e in cc;
 }
@@ -99,12 +98,11 @@ module _ (how : MaskHow) (full : Bool) where
         let here : MayCome (new.taken ++ option_to_list (first_of buffered)) new.bed_ended records fault =
         subst (λ (b : Bool). MayCome (new.taken ++ option_to_list (first_of buffered)) b records fault) (sym goes.bed_ended_is)
         (subst (λ (l : List Feature). MayCome (l ++ option_to_list (first_of buffered)) stage.bed_ended records fault) (sym goes.taken_is) may) in
-        let follow = may_follow new (first_of buffered) kept (λ e. ap first_of (over (sym goes.bed_ended_is ∙ e)).1) records fault here in
-        (
+        let follow = may_follow new (first_of buffered) kept (λ e. ap first_of (over (sym goes.bed_ended_is ∙ e)).1) records fault here in (
           list_all-append (λ x. is_none fault || decided x records) written goes.newly
-          ∙ and_from (list_all (λ x. is_none fault || decided x records) written) (list_all (λ x. is_none fault || decided x records) goes.newly) was.0 (newly_by new.bed_ended refl records fault here follow),
+              ∙ and_from (list_all (λ x. is_none fault || decided x records) written) (list_all (λ x. is_none fault || decided x records) goes.newly) was.0 (newly_by new.bed_ended refl records fault here follow),
           flat_map-append (λ x. masked_line how records x) written goes.newly ∙ ap (λ l. l ++ flat_map (λ x. masked_line how records x) goes.newly) was.1
-          ∙ ap (λ l. bytes ++ l) (goes.settles.bytes_are records ordered follow),
+              ∙ ap (λ l. bytes ++ l) (goes.settles.bytes_are records ordered follow),
         );
   }
     where

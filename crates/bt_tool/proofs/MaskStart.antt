@@ -1,13 +1,13 @@
 -- Lemmas on the beginning of masking over two readers.
 use Rattle.std.proofs.Common.{◌≡◌, ℕ, Bool, false, List, [], Option, None, Some, refl, sym, ap, ◌∙◌, subst}
 use Rattle.std.specs.Prelude.{option_map}
-use Rattle.bt_tool.proofs.DrivingLemmas.{none_of}
+use Rattle.std.proofs.lemmas.Bool.{false≢true}
 use Rattle.bt_lines.specs.Lines.{text_lines}
 use Rattle.bt_lines.specs.Output.{Output, HoldsBlock}
 use Rattle.bt_lines.specs.Reader.{IsSound, bytes_taken, fault_kept as line_fault, feeds_taken, input_of, lines_given, lines_left, source_of}
 use Rattle.bt_lines.specs.declared.fault.Input.{Input}
 use Rattle.bt_lines.specs.declared.line_reader.LineReader.{LineReader}
-use Rattle.bt_bed.specs.Blocks.{below, fault_kept, good_left, line_ahead, view_of}
+use Rattle.bt_bed.specs.Blocks.{below, buffered_in, fault_kept, good_left, view_of}
 use Rattle.bt_bed.specs.SortedReader.{view_with}
 use Rattle.bt_bed.specs.Feature.{Feature}
 use Rattle.bt_bed.specs.Good.{good}
@@ -23,22 +23,18 @@ use Rattle.bt_seq.specs.Sequences.{Reached, SequenceLine, sequence_format}
 use Rattle.bt_seq.specs.declared.mask_how.MaskHow.{MaskHow}
 use Rattle.bt_tool.specs.Feeding.{IsFresh}
 use Rattle.bt_lines.specs.Fault.{Told}
-use Rattle.bt_tool.specs.MaskLoop.{MaskEnds, Masks, line_members, mask_making, mask_pair}
+use Rattle.bt_tool.specs.MaskLoop.{MaskEnds, Masks, line_members, mask_making, mask_pair, nothing_reached}
 use Rattle.bt_tool.specs.Passed.{IsKeptBelow}
 use Rattle.bt_tool.proofs.CameMembers.{BeginsAt}
-use Rattle.bt_tool.proofs.LineMembers.{blocks_going}
-use Rattle.bt_tool.proofs.MemberLemmas.{passes_start, read_start}
+use Rattle.bt_tool.proofs.BlockMembers.{blocks_going}
+use Rattle.bt_tool.proofs.MemberLemmas.{passes_start}
 use Rattle.bt_tool.proofs.PairTurns.{comes_start}
-
--- before the first header
-abbrev pub nothing_reached : Reached
-nothing_reached = record { names = []; bases = 0 }
 
 -- a reader of lines that has given nothing
 module _ {S : Type 0} (left : S → Option (List ℕ)) (end : S → Bool) (full : Bool) (first : S) (input : Input) (reader : LineReader S) (source : source_of reader ≡ first) (same : input_of reader ≡ input)
     (taken : bytes_taken reader ≡ 0) (fed : feeds_taken reader ≡ 0) (given : lines_given reader ≡ 0) (going : line_fault reader ≡ None) (lines : lines_left left reader ≡ option_map text_lines (left first)) where
   pub fresh_lines : IsSound left end reader → IsFresh left end (line_members full nothing_reached reader)
-  fresh_lines sound = record { none_given = (given, taken, fed); none_ahead = refl; going = going; sound = sound }
+  fresh_lines sound = record { none_given = (given, taken, fed); none_buffered = refl; going = going; sound = sound }
 
   pub begin_lines : BeginsAt left (sequence_format full) input first (line_members full nothing_reached reader)
   begin_lines = record {
@@ -47,7 +43,7 @@ module _ {S : Type 0} (left : S → Option (List ℕ)) (end : S → Bool) (full 
     bytes = taken;
     feeds = fed;
     lines = lines;
-    good = good_at_first left (λ s. false) end (line_members full nothing_reached reader) refl going refl
+    good = good_at_first left (λ s. false) end (line_members full nothing_reached reader) going refl
         ∙ ap (λ i. option_map (good (sequence_format full) i) (lines_left left reader)) same ∙ ap (option_map (good (sequence_format full) input)) lines;
   }
 
@@ -58,10 +54,10 @@ blocks_format records = refl
 -- a reader of records that has given nothing
 module _ {S : Type 0} (left : S → Option (List ℕ)) (end : S → Bool) (first : S) (input : Input) (reader : LineReader S) (records : Blocks S) (is : below records ≡ reader) (source : source_of reader ≡ first) (same : input_of reader ≡ input)
     (taken : bytes_taken reader ≡ 0) (fed : feeds_taken reader ≡ 0) (given : lines_given reader ≡ 0) (going : line_fault reader ≡ None) (lines : lines_left left reader ≡ option_map text_lines (left first)) where
-  pub fresh_blocks : fault_kept records ≡ line_fault reader → line_ahead records ≡ None → IsSound left end reader → IsFresh left end (view_of records)
-  fresh_blocks kept ahead sound = record {
+  pub fresh_blocks : fault_kept records ≡ line_fault reader → buffered_in records ≡ [] → IsSound left end reader → IsFresh left end (view_of records)
+  fresh_blocks kept none sound = record {
     none_given = (ap lines_given is ∙ given, ap bytes_taken is ∙ taken, ap feeds_taken is ∙ fed);
-    none_ahead = none_of (λ m. m.line) (view_of records).ahead ahead;
+    none_buffered = none;
     going = kept ∙ going;
     sound = subst (IsSound left end) (sym is) sound;
   }
@@ -88,10 +84,10 @@ module _ {A B : Type 0} (a_left : A → Option (List ℕ)) (a_failed a_end : A �
     stage = first_stage;
     stands = stands;
     comes = comes_start (mask_making how) (mask_pair a_left a_failed a_end b_left b_failed b_end how full (line_members full nothing_reached lines) (view_of records)) out
-        (passes_start a_left a_failed a_end (line_members full nothing_reached lines) fresh going) refl
-        (passes_start b_left b_failed b_end (view_of records) fresh_second (blocks_going records kept))
-        (read_start b_left b_failed b_end (view_of records) fresh_second (blocks_going records kept)) block;
-    kept_ahead = λ r open_bed e. absurd (let apart : None ≡ Some r = e in cc);
+        (passes_start a_left a_failed a_end (line_members full nothing_reached lines) fresh going)
+        (passes_start b_left b_failed b_end (view_of records) fresh_second (blocks_going records kept)) block;
+    kept_ahead = λ r e. absurd (let apart : None ≡ Some r = e in cc);
+    lines_over = λ e. absurd (false≢true e);
   }
 
 module _ {A B : Type 0} (a_left : A → Option (List ℕ)) (a_failed a_end : A → Bool) (b_left : B → Option (List ℕ)) (b_failed b_end : B → Bool) where
@@ -101,7 +97,7 @@ module _ {A B : Type 0} (a_left : A → Option (List ℕ)) (a_failed a_end : A �
       → HoldsBlock out.took out.put → (mask : Masking) → MaskStandsAt how full first_stage mask
       → Masks a_left a_failed a_end b_left b_failed b_end mask.how mask.full (line_members mask.full nothing_reached lines) (view_of records) out (line_members mask.full nothing_reached lines) (view_of records) mask out
   masks_as_new how full lines records out own fresh going fresh_second kept block mask stands =
-      masks_start a_left a_failed a_end b_left b_failed b_end mask.how mask.full lines records out (record { none_given = fresh.none_given; none_ahead = refl; going = going; sound = fresh.sound }) going fresh_second kept block mask
+      masks_start a_left a_failed a_end b_left b_failed b_end mask.how mask.full lines records out (record { none_given = fresh.none_given; none_buffered = refl; going = going; sound = fresh.sound }) going fresh_second kept block mask
       (subst (λ (h : MaskHow). MaskStandsAt h mask.full first_stage mask) (sym stands.how_is) (subst (λ (f : Bool). MaskStandsAt how f first_stage mask) (sym stands.full_is) stands))
 
   -- and how it ends

@@ -1,21 +1,20 @@
 -- Lemmas on how far a masking engine over two readers has come: what it asks for, and what its inputs still have then.
-use Rattle.std.proofs.Common.{◌≡◌, ℕ, suc, Bool, true, false, cond, not, ◌||◌, List, [], ◌∷◌, ◌++◌, length, Option, None, Some, Err, refl, sym, ap, ◌∙◌, subst, append-nil, append_assoc, option_to_list, arith, inl, inr}
+use Rattle.std.proofs.Common.{◌≡◌, ℕ, suc, Bool, true, false, not, ◌||◌, List, [], ◌∷◌, ◌++◌, Option, None, Some, Err, refl, sym, ap, ◌∙◌, subst, append-nil, append_assoc, option_to_list, inl, inr}
 use Rattle.std.specs.Prelude.{◌⊎◌, IfSome, IsSome, IsTrue, is_some, option_map}
 use Rattle.std.proofs.lemmas.Bool.{false≢true, or_left, or_right}
 use Rattle.std.proofs.lemmas.List.{map-append}
-use Rattle.bt_lines.specs.Fault.{Told, read_failed}
+use Rattle.bt_lines.specs.Fault.{Told}
 use Rattle.bt_lines.specs.Lines.{TextLine}
 use Rattle.bt_lines.specs.Output.{Output}
 use Rattle.bt_lines.specs.Putting.{FailsToAdd, Grown}
-use Rattle.bt_lines.specs.Reader.{GivesEnd, GivesFault, IsKept, MakesLine, has_ended, lines_given}
-use Rattle.bt_lines.specs.declared.fault.Input.{Input}
+use Rattle.bt_lines.specs.Reader.{GivesEnd, GivesFault, IsKept, MakesLine, lines_given}
 use Rattle.bt_lines.specs.declared.fault.Input.TheVariants.{Second}
 use Rattle.bt_lines.specs.declared.fault.Kind.{Kind}
 use Rattle.bt_lines.specs.declared.fault.Kind.TheVariants.{NoSequence}
 use Rattle.bt_lines.specs.declared.line_reader.LineReader.{LineReader}
 use Rattle.bt_bed.specs.Feature.{Feature}
 use Rattle.bt_bed.specs.Good.{Format, Good, Member}
-use Rattle.bt_bed.specs.GoodBlocks.{AreInBlocks, block_format}
+use Rattle.bt_bed.specs.GoodBlocks.{AreInBlocks}
 use Rattle.bt_bed.specs.LineKind.{fault_at_line}
 use Rattle.bt_bed.specs.Locus.{Locus}
 use Rattle.bt_bed.specs.Reading.{MemberReader, ahead_in, first_from, good_coming, state_behind}
@@ -29,14 +28,12 @@ use Rattle.bt_seq.specs.Masked.{decided, is_unnamed, masked_line, names_of, no_s
 use Rattle.bt_seq.specs.MaskState.{Masking}
 use Rattle.bt_seq.specs.Owners.{left_after}
 use Rattle.bt_seq.specs.Sequences.{Reached, SequenceLine, line_says, sequence_format}
-use Rattle.bt_seq.specs.declared.mask_how.MaskHow.{MaskHow}
 use Rattle.bt_seq.specs.declared.mask_want.MaskWant.TheVariants.{Line as WantLine, Bed as WantBed, Nothing}
 use Rattle.bt_tool.specs.Feeding.{ComeFirst, member_items}
 use Rattle.bt_tool.specs.MaskReport.{is_fasta_kind, is_mask_kind}
 use Rattle.bt_tool.specs.MaskLoop.{AreOwned, MaskRun, leaves_some, line_members, mask_making, mask_pair, nothing_reached, stage_of}
 use Rattle.bt_tool.specs.MaskTurns.{Ends, GoesOnAt}
 use Rattle.bt_tool.specs.Pair.{Making, Pair, Settles, item_ahead}
-use Rattle.bt_tool.specs.PairComes.{Comes, Stage}
 use Rattle.bt_tool.specs.PairEnds.{AsksFor, IsKnown}
 use Rattle.bt_tool.specs.Passed.{IsFilled, IsOver, IsStopped}
 use Rattle.bt_tool.proofs.LineMembers.{gives_over, gives_unread, passes_made, wrong_is_text}
@@ -70,15 +67,11 @@ none_by : (o : Option SequenceLine) → is_some o ≡ false → o ≡ None
 none_by None e = refl
 none_by (Some x) e = absurd (false≢true (sym e))
 
--- a line before the first header is decided, whatever comes
-pub unnamed_decided : (line : SequenceLine) (records : List Feature) → is_unnamed line.names ≡ true → decided line records ≡ true
-unnamed_decided line records e = or_left (is_unnamed line.names) _ e
-
--- a line behind one isn't decided by no record
+-- a line after the first header isn't decided where there is no record
 pub named_open : (line : SequenceLine) → is_unnamed line.names ≡ false → decided line [] ≡ false
 named_open line e = ap (λ b. b || false) e
 
--- how far the lines given have come is what is known behind them
+-- how far the lines given have come is what is known after them
 reached_said : (full : Bool) (line : SequenceLine) (lines : List SequenceLine) (state : Reached)
     → state_behind (sequence_format full) state (line ∷ lines) ≡ reached_by (line_given_last (line ∷ lines))
 reached_said full line [] state = refl
@@ -118,7 +111,6 @@ told_by : (names : List (List ℕ)) (good : Option (Good Feature)) (past : List 
     → IfSome good (λ good. (rest : List (Member Feature)) × (good.members ≡ (past ++ m ∷ []) ++ rest)) → IfSome good (λ good. no_sequence names good.members ≡ Some fault)
 told_by names None past m fault is owned unowned begins = tt
 told_by names (Some good) past m fault is owned unowned begins = lacks_told names good.members past m owned unowned begins ∙ ap Some (sym is)
-
 
 -- a record that was ahead still is
 kept_filled : {S State : Type 0} (left : S → Option (List ℕ)) (failed end : S → Bool) (now new : MemberReader S Feature State) (r : Feature) → item_ahead now ≡ Some r → IsFilled left failed end now new → item_ahead new ≡ Some r

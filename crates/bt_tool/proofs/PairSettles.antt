@@ -29,7 +29,7 @@ module _ {X Y : Type 0} (making : Making X Y) where
         (record { begins = (more ++ may.begins.0, may.begins.1 ∙ append_assoc seen more may.begins.0); all = λ e. absurd (false≢true e) });
   }
 
-  -- none comes behind those seen
+  -- none comes after those seen
   pub settles_close : (written : List X) (bytes : List ℕ) (seen : List Y) → Settles making written bytes seen false → Settles making written bytes seen true
   settles_close written bytes seen s = record {
     whatever = λ second fault ordered may. s.whatever second fault ordered (record { begins = may.begins; all = λ e. absurd (false≢true e) });
@@ -47,7 +47,7 @@ module _ {X Y : Type 0} (making : Making X Y) where
         (ap (making.bytes a) may.begins.1 ∙ here.1);
   }
 
-  -- further members of the first are decided and have these bytes, whatever the second still has
+  -- more members of the first are decided and have these bytes, whatever the second still has
   pub settles_list : (written newly : List X) (bytes more : List ℕ) (seen : List Y) (ended : Bool) → Settles making written bytes seen ended
       → ((second : List Y) (fault : Option Told) → making.InOrder second → MayCome seen ended second fault
       → (list_all (λ x. is_none fault || making.decided x second) newly ≡ true) × (flat_map (λ x. making.bytes x second) newly ≡ more))

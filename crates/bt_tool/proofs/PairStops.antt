@@ -1,9 +1,8 @@
 -- Lemmas on how a run over two readers of members stops.
 use Rattle.std.proofs.Common.{◌≡◌, ℕ, suc, ◌+◌, ◌≤◌, Bool, true, false, List, [], ◌∷◌, ◌++◌, Option, None, Some, Err, refl, sym, ap, ◌∙◌, subst, append-nil, append_assoc, option_to_list, inl, inr, drop, length}
-use Rattle.std.specs.Prelude.{◌⊎◌, All, IfSome, IsSome, is_some, option_map}
+use Rattle.std.specs.Prelude.{◌⊎◌, All, IfSome, IsSome, is_some}
 use Rattle.std.proofs.lemmas.Bool.{false≢true}
 use Rattle.std.proofs.lemmas.List.{map-append}
-use Rattle.std.proofs.lemmas.List.Elements.{All-push}
 use Rattle.bt_lines.proofs.OutputLemmas.{grows_both}
 use Rattle.bt_lines.proofs.PuttingLemmas.{grown_none, grown_works}
 use Rattle.bt_lines.specs.Fault.{Told, no_memory, read_failed}
@@ -20,11 +19,11 @@ use Rattle.bt_bed.specs.Reading.{MemberReader, ahead_in, first_from, good_coming
 use Rattle.bt_tool.specs.Feeding.{ComeFirst, CutsLines, GoesOn, PutsLines, member_items}
 use Rattle.bt_tool.specs.Pair.{Making, Pair, Serves, Settles, item_ahead}
 use Rattle.bt_tool.specs.PairComes.{Comes, Stage, TakesFurther, given}
-use Rattle.bt_tool.specs.PairEnds.{AsksFor, Finishes, HasNoMore, IsKnown, LastTold, SecondFails, StaysNear, Why, Wrote}
+use Rattle.bt_tool.specs.PairEnds.{AsksFor, Finishes, IsKnown, LastTold, SecondFails, StaysNear, Why, Wrote}
 use Rattle.bt_tool.specs.Passed.{AreAll, IsOver, IsReadFor, IsReadTo, IsStopped, Passes, StopsAfter}
 use Rattle.bt_tool.proofs.ComeLemmas.{begins_with, up_to}
-use Rattle.bt_tool.proofs.FeedLemmas.{goes_failed, goes_same, goes_works, took_later, took_lines, works_both}
-use Rattle.bt_tool.proofs.MemberLemmas.{bytes_more, passes_all, passes_end, passes_stop, read_at_stop, read_here}
+use Rattle.bt_tool.proofs.FeedLemmas.{goes_failed, goes_same, took_later, took_lines, works_both}
+use Rattle.bt_tool.proofs.MemberLemmas.{passes_all, passes_end, passes_stop, read_at_stop, read_here}
 use Rattle.bt_tool.proofs.PairSettles.{settles_end}
 use Rattle.bt_tool.proofs.PairTurns.{all_written, first_waits, grown_puts, none_pushed, read_same, seen_alone, settles_ended}
 use Rattle.bt_tool.proofs.SeenLemmas.{cuts_more, if_known, items_begin, items_first, seen_items}
@@ -77,7 +76,7 @@ module _ {A B X Y U V : Type 0} (making : Making X Y) (pair : Pair A B X Y U V) 
   begins_items : (past : List (Member X)) (written rest : List X) → member_items past ≡ written ++ rest → IfSome (good_coming pair.a_left pair.first) (λ good. (rest : List (Member X)) × (good.members ≡ past ++ rest)) → BeginsWith written
   begins_items past written rest e begins = items_first (good_coming pair.a_left pair.first) written rest (items_begin (good_coming pair.a_left pair.first) past written rest e begins)
 
-  -- what was written, by the second reader where it stands, and what was read of it later
+  -- what was written, by the second reader where it is, and what was read of it later
   wrote_by : (past : List (Member Y)) (now new : MemberReader B Y V) → Passes pair.b_left pair.b_failed pair.b_end pair.second past now
       → (IsSome new.fault → All (λ m. m.line ≤ lines_given new.below) (past ++ option_to_list (ahead_in now)))
       → HandsSecond new → (first : MemberReader A X U) → HandsFirst first → (written : List X) (bytes : List ℕ) (ended : Bool) (grown : Output)
@@ -114,7 +113,7 @@ module _ {A B X Y U V : Type 0} (making : Making X Y) (pair : Pair A B X Y U V) 
     reached_items : (given_first : List (Member X)) → given stage ≡ member_items given_first → making.Asks (given stage) stage.taken → making.Asks (member_items given_first) (member_items past_second)
     reached_items given_first e asks = subst (λ (l : List X). making.Asks l (member_items past_second)) e (subst (λ (l : List Y). making.Asks (given stage) l) s.all_taken asks)
 
-    -- of the second input was taken what the first asks for
+    -- of the second input was taken what the first needs
     pub asks_now : making.Asks (given stage) stage.taken → AsksFor making pair out past_first second
     asks_now asks = record {
       past = past_second;
@@ -133,7 +132,7 @@ module _ {A B X Y U V : Type 0} (making : Making X Y) (pair : Pair A B X Y U V) 
     asks_same : (past : List (Member X)) (second_now : MemberReader B Y V) → source_of second_now.below ≡ source_of second.below → AsksFor making pair out past second → AsksFor making pair out past second_now
     asks_same past second_now same asks = record { past = asks.past; reached = asks.reached; near = λ known. read_to_same asks.past second_now same (asks.near known) }
 
-    -- it still is after further members were taken of both
+    -- it still is after more members were taken of both
     pub asks_then : making.Asks (given stage) stage.taken → ((more : List X) → making.Asks (given stage) stage.taken → making.Asks (given stage ++ more) stage.taken)
         → (more_first : List (Member X)) (more_second : List (Member Y)) (second_now : MemberReader B Y V) → TakesFurther pair.b_left pair.b_failed pair.b_end pair.second past_second more_second second second_now
         → AsksFor making pair out (past_first ++ more_first) second_now
@@ -211,7 +210,7 @@ module _ {A B X Y U V : Type 0} (making : Making X Y) (pair : Pair A B X Y U V) 
       near_now : Near first second grown
       near_now = near_by first second grown wrote_now no_more refl beside_now
 
-      -- further members of both were taken, then the first input stopped: all members of it were written
+      -- more members of both were taken, then the first input stopped: all members of it were written
       module _ (going : stage.first_ended ≡ false) (more_first : List (Member X)) (more_second : List (Member Y)) (second_now : MemberReader B Y V)
           (takes_second : TakesFurther pair.b_left pair.b_failed pair.b_end pair.second past_second more_second second second_now) (ended : stage.second_ended ≡ true → (more_second ≡ []) × (second_now.buffered ≡ [])) (more : List ℕ)
           (settles : IsKnown pair → Settles making (given stage ++ member_items more_first) (s.bytes ++ more) ((stage.taken ++ member_items more_second) ++ option_to_list (item_ahead second_now)) stage.second_ended)
@@ -311,7 +310,7 @@ module _ {A B X Y U V : Type 0} (making : Making X Y) (pair : Pair A B X Y U V) 
         exact = λ stops. s.puts;
       }
 
-      -- further members of both were taken, and some lines that are settled then weren't all written
+      -- more members of both were taken, and some lines that are settled then weren't all written
       pub fails_to_write : (more_first : List (Member X)) (more_second : List (Member Y)) (first_now : MemberReader A X U) (second_now : MemberReader B Y V)
           → TakesFurther pair.a_left pair.a_failed pair.a_end pair.first past_first more_first first first_now
           → TakesFurther pair.b_left pair.b_failed pair.b_end pair.second past_second more_second second second_now
@@ -552,7 +551,7 @@ module _ {A B X Y U V : Type 0} (making : Making X Y) (pair : Pair A B X Y U V) 
               ]
             ]
 
-        -- behind the last member of the first the second couldn't give one
+        -- after the last member of the first the second couldn't give one
         pub stops_behind : ((state : V) (line : TextLine) (kind : Kind) → pair.second.format.says state line ≡ Err kind → making.second_kinds kind)
             → stage.second_ended ≡ false → making.last stage.written past_second ≡ None
             → (fault : Told) (second_now : MemberReader B Y V) → IsStopped pair.b_left pair.b_failed pair.b_end second fault second_now → Ends (Some fault) first second_now grown

@@ -187,7 +187,7 @@ module _ {A B X Y U V : Type 0} (making : Making X Y) (pair : Pair A B X Y U V) 
       near_first = s.near_first;
     }
 
-    -- further members of both were taken, after their ends none, and these bytes were put for those that are written now
+    -- more members of both were taken, after their ends none, and these bytes were put for those that are written now
     module _ (more_first : List (Member X)) (more_second : List (Member Y)) (first_now : MemberReader A X U) (second_now : MemberReader B Y V)
         (takes : TakesFurther pair.a_left pair.a_failed pair.a_end pair.first past_first more_first first first_now)
         (takes_second : TakesFurther pair.b_left pair.b_failed pair.b_end pair.second past_second more_second second second_now)

@@ -1,5 +1,5 @@
 -- Lemmas on the members that were seen and on the lines that were put, where a run stops.
-use Rattle.std.proofs.Common.{◌≡◌, ℕ, List, [], ◌∷◌, ◌++◌, Option, None, Some, refl, sym, ap, ◌∙◌, subst, append-nil, append_assoc, option_to_list}
+use Rattle.std.proofs.Common.{◌≡◌, ℕ, List, [], ◌∷◌, ◌++◌, Option, None, Some, refl, sym, ap, ◌∙◌, append-nil, append_assoc, option_to_list}
 use Rattle.std.specs.Prelude.{IfSome, IsSome, option_map}
 use Rattle.std.proofs.lemmas.List.{map-append}
 use Rattle.bt_lines.specs.Fault.{Told}

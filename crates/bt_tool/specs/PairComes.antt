@@ -24,8 +24,8 @@ pub record Stage (X Y : Type 0) : Type 0 where
 abbrev pub given : {X Y : Type 0} → Stage X Y → List X
 given stage = stage.written ++ option_to_list stage.waiting
 
--- from one stage on further members of the first input were given, some of those given were written,
--- and further members of the second were taken
+-- from one stage on more members of the first input were given, some of those given were written,
+-- and more members of the second were taken
 pub record Follows {X Y : Type 0} (old : Stage X Y) (firsts newly : List X) (seconds : List Y)
     (new : Stage X Y) : Type 0 where
   pub given_is : given new ≡ given old ++ firsts
@@ -34,7 +34,7 @@ pub record Follows {X Y : Type 0} (old : Stage X Y) (firsts newly : List X) (sec
   pub first_is : new.first_ended ≡ old.first_ended
   pub second_is : new.second_ended ≡ old.second_ended
 
--- a reader that had passed some members passed further ones, and read nothing
+-- a reader that had passed some members passed more of them, and read nothing
 pub record TakesFurther {S A State : Type 0} (left : S → Option (List ℕ)) (failed end : S → Bool)
     (old : MemberReader S A State) (past more : List (Member A))
     (now new : MemberReader S A State) : Type 0 where
@@ -67,7 +67,7 @@ module _ {A B X Y U V : Type 0} (making : Making X Y) (pair : Pair A B X Y U V) 
     pub works : WorksAsBefore out grown
     pub block : HoldsBlock grown.took grown.put
     pub grows : Grows out.took grown.took
-    -- the first input was read as far as the members written ask for
+    -- the first input was read as far as the members written need
     pub near_first : (past : List (Member X)) × (member_items past ≡ stage.written)
         × (read : IsReadFor pair.a_left pair.a_failed pair.a_end pair.first past past_first first)
         × (stage.first_ended ≡ true → HasNoMore pair first read.to.count)

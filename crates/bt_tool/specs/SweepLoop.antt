@@ -28,7 +28,6 @@ use Rattle.bt_sweep.specs.declared.hit_rule.HitRule.{HitRule}
 use Rattle.bt_sweep.specs.declared.shape.Shape.{Shape}
 use Rattle.bt_sweep.specs.declared.want.Want.TheVariants.{Nothing}
 use Rattle.bt_tool.specs.SweepReport.{IsSweptKind, bytes_up_to, decider}
-use Rattle.bt_tool.specs.Feeding.{member_items}
 use Rattle.bt_tool.specs.Pair.{Making, Pair}
 use Rattle.bt_tool.specs.PairComes.{Comes, Stage as PairStage}
 use Rattle.bt_tool.specs.PairEnds.{Finishes, IsKnown}
@@ -112,7 +111,7 @@ module _ {A B O : Type 0} {g : Ghosts O} (a_left : A → Option (List ℕ)) (a_f
     pub fits : IsKnown (records_pair a_left a_failed a_end b_left b_failed b_end old_first old_second)
         → AreWithin order limit (given stage) past_second
 
-  -- what giving a sweep all that it asks for does
+  -- what giving a sweep all that it needs does
   abbrev pub SweepsOrStops : {T : Type 0} → Result T Fault → Records A O g → Records B O g
       → Sweeping → Output → Type 0
   SweepsOrStops (Ok done) first second sweep grown =
@@ -133,7 +132,7 @@ module _ {S A State : Type 0} (left : S → Option (List ℕ)) (failed end : S �
     pub passes : Passes left failed end old (past ++ more) new
     pub all : AreAll left failed end old (past ++ more)
 
-  -- a fault lies behind some of them
+  -- a fault lies after some of them
   pub record ChecksUpTo (Kinds : Kind → Type 0) (fault : Told)
       (new : MemberReader S A State) : Type 0 where
     pub more : List (Member A)

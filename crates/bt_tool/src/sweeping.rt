@@ -152,9 +152,9 @@ fn read_both<A: Source, B: Source, O: ChromOrder, H: Held, K: Sink>(
 }
 
 /// Sweeps two inputs, in an order of their chromosomes, and writes the lines of this shape by this rule of
-/// what hits a record. Where there is a limit, no more records of the second are held than so many. It
+/// what hits a record. If there is a limit, no more records of the second are held than it allows. It
 /// gives the sources back, and the fault that the run ends with, if there is one. The second input is read
-/// no further than the records of the first ask for, and where those are all written, to its end.
+/// only as far as the records of the first need, and once those are all written, to its end.
 pub(crate) fn sweep<A: Source, B: Source, O: ChromOrder, K: Sink>(
     alloc: Global,
     order: &O,

@@ -1,4 +1,4 @@
-use Rattle.std.proofs.Common.{sym, ap, ◌∙◌}
+use Rattle.std.proofs.Common.{sym, ◌∙◌}
 use Rattle.bt_lines.proofs.BufferedLemmas.{begins_lines}
 use Rattle.bt_lines.proofs.ReadsLemmas.{counts_none}
 use Rattle.bt_lines.specs.Reader.{bytes_taken, source_of}

@@ -8,9 +8,9 @@ use Rattle.bt_bed.specs.GoodBlocks.{block_format}
 use Rattle.bt_bed.proofs.GoodBlocksLemmas.{good_in_blocks}
 use Rattle.bt_seq.specs.Sequences.{sequence_format}
 use Rattle.bt_tool.specs.MaskReport.{mask_reaches, mask_settles}
-use Rattle.bt_tool.specs.MaskLoop.{line_members, mask_making, mask_pair}
+use Rattle.bt_tool.specs.MaskLoop.{line_members, mask_making, mask_pair, nothing_reached}
 use Rattle.bt_tool.proofs.MaskFacts.{mask_limits, mask_needs}
-use Rattle.bt_tool.proofs.MaskStart.{as_asked, begin_blocks, begin_lines, blocks_format, fresh_blocks, fresh_lines, masks_as_new, nothing_reached}
+use Rattle.bt_tool.proofs.MaskStart.{as_asked, begin_blocks, begin_lines, blocks_format, fresh_blocks, fresh_lines, masks_as_new}
 use Rattle.bt_tool.proofs.PairMet.{writes_both}
 use Rattle.bt_tool.proofs.PairNear.{near_both}
 use Rattle.bt_tool.proofs.OwnFailureLemmas.{both_own, kept_below, served_of, tells_nothing}
@@ -26,7 +26,7 @@ mask_all-masked-requires-clause-starts g c =
     let records = c.new-records.ensures in
     masks_as_new g.A.Source.left g.A.Source.has_failed g.A.Source.end_told g.B.Source.left g.B.Source.has_failed g.B.Source.end_told c.args.how c.args.full c.new-lines.result c.new-records.result c.args.out.now.output c.new-mask.result.full
     (fresh_lines g.A.Source.left g.A.Source.end_told c.new-mask.result.full c.args.first First c.new-lines.result reader.source reader.input reader.none_taken.0 reader.none_fed reader.none_given reader.going.0 reader.lines reader.sound) reader.going.0
-    (fresh_blocks g.B.Source.left g.B.Source.end_told c.args.second Second c.new.result c.new-records.result records.below reader_2.source reader_2.input reader_2.none_taken.0 reader_2.none_fed reader_2.none_given reader_2.going.0 reader_2.lines records.fault records.none_ahead reader_2.sound)
+    (fresh_blocks g.B.Source.left g.B.Source.end_told c.args.second Second c.new.result c.new-records.result records.below reader_2.source reader_2.input reader_2.none_taken.0 reader_2.none_fed reader_2.none_given reader_2.going.0 reader_2.lines records.fault records.none_buffered reader_2.sound)
     (records.fault ∙ reader_2.going.0) c.requires c.new-mask.result c.new-mask.ensures.stands
 
 pub returns-in-Ok-clause-written : goal.returns-in-Ok-clause-written

@@ -1,18 +1,27 @@
-use Rattle.std.specs.Prelude.{[]}
-use Rattle.bt_lines.specs.Reader.{HasRead}
+use Rattle.std.specs.Prelude.{◌≡◌}
+use Rattle.bt_lines.specs.Reader.{HasRead, input_of}
+use Rattle.bt_lines.specs.declared.fault.Input.TheVariants.{First}
 use Rattle.bt_bed.specs.Blocks.{below, view_of}
-use Rattle.bt_seq.specs.Sequences.{Reached}
-use Rattle.bt_tool.specs.MaskLoop.{Masks, line_members}
-use Rattle.bt_tool.proofs.MaskTurnLemmas.{left_to_ask}
+use Rattle.bt_bed.specs.GoodBlocks.{block_format}
+use Rattle.bt_tool.specs.MaskTurns.{GoesOn, left_to_ask}
 use Rattle.bt_tool.proofs.masking.mask_all.Given as goal
 
 -- the lines and the records so far were given
-abbrev pub invariant-loop-pace : goal.invariant-loop-pace
-invariant-loop-pace g l =
-    (reached : Reached) × Masks g.A.Source.left g.A.Source.has_failed g.A.Source.end_told g.B.Source.left g.B.Source.has_failed g.B.Source.end_told l.initial.mask.how l.initial.mask.full
-    (line_members l.initial.mask.full (record { names = []; bases = 0 }) l.initial.lines) (view_of l.initial.records) l.initial.out.output
-    (line_members l.initial.mask.full reached l.lines) (view_of l.records) l.mask l.out.output
+abbrev pub invariant-loop-lines : goal.invariant-loop-lines
+invariant-loop-lines g l =
+    (first : input_of l.initial.lines ≡ First) × (blocks : (view_of l.initial.records).format ≡ block_format)
+    × GoesOn g.A.Source.left g.A.Source.has_failed g.A.Source.end_told g.B.Source.left g.B.Source.has_failed g.B.Source.end_told
+    (record {
+      how = l.initial.mask.how;
+      full = l.initial.mask.full;
+      lines = l.initial.lines;
+      records = view_of l.initial.records;
+      out = l.initial.out.output;
+      first = first;
+      blocks = blocks;
+    })
+    l.lines (view_of l.records) l.mask l.out.output
     × HasRead g.A.Source.is_read l.initial.lines l.lines × HasRead g.B.Source.is_read (below l.initial.records) (below l.records)
 
-abbrev pub decreases-loop-pace : goal.decreases-loop-pace
-decreases-loop-pace g l = left_to_ask l.lines (view_of l.records) l.mask
+abbrev pub decreases-loop-lines : goal.decreases-loop-lines
+decreases-loop-lines g l = left_to_ask l.lines (view_of l.records) l.mask

@@ -1,4 +1,3 @@
-use Rattle.std.proofs.Common.{sym, ◌∙◌}
 use Rattle.bt_sweep.specs.SweepView.{order_of, state_of}
 use Rattle.bt_tool.proofs.AdvanceLemmas.{advances_both, batch_taken, first_passed, known_batch, second_passed}
 use Rattle.bt_tool.proofs.sweeping.advance_both.Goals as goal

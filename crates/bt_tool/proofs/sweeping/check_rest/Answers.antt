@@ -1,4 +1,4 @@
-use Rattle.std.proofs.Common.{Bool, true, false, refl, subst, sym}
+use Rattle.std.proofs.Common.{refl}
 use Rattle.bt_lines.proofs.ReadsLemmas.{has_read_then, reads_same}
 use Rattle.bt_lines.specs.Reader.{HasRead}
 use Rattle.bt_lines.specs.Names.{told}
@@ -9,7 +9,7 @@ use Rattle.bt_tool.specs.SweepLoop.{ReadsRest}
 use Rattle.bt_tool.specs.OwnReads.{AnswersNoRead}
 use Rattle.bt_tool.proofs.PassedLemmas.{is_filled, is_over, is_stopped}
 use Rattle.bt_tool.proofs.RestLemmas.{reads_start, reads_more, reads_end, reads_stop, reads_taken}
-use Rattle.bt_tool.proofs.OwnFailureLemmas.{none_kept, own_then, told_kept}
+use Rattle.bt_tool.proofs.OwnFailureLemmas.{own_then, told_kept}
 use Rattle.bt_tool.proofs.sweeping.check_rest.Goals as goal
 
 pub loop-second-init : goal.loop-second-init

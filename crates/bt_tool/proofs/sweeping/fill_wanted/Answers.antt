@@ -1,4 +1,4 @@
-use Rattle.std.proofs.Common.{Bool, false, inl, inr, refl, sym, ◌∙◌}
+use Rattle.std.proofs.Common.{false, inr, refl, sym, ◌∙◌}
 use Rattle.bt_bed.proofs.ResultLemmas.{passed_on}
 use Rattle.bt_sweep.specs.SweepView.{order_of, state_of}
 use Rattle.bt_tool.specs.SweepSteps.{FillsWanted}
