@@ -41,7 +41,7 @@ SYNOPSIS = re.compile(r"^    (?:dunekettle-)?bedtools (\w+ .*\b(?:FILE|FASTA)\b.
 SYNOPSES = ("docs/COMMANDS.md", "README.md")
 
 # Where README.md says in how many files and lines the report is defined, and the file that names the others.
-DEFINITIONS = re.compile(r"definitions that it names: (\d+) files with some ([\d,]+) lines")
+DEFINITIONS = re.compile(r"definitions that it names: (\d+) files with about ([\d,]+) lines")
 REPORT = TOP / "crates" / "bt_tool" / "specs" / "Report.antt"
 
 # Where ARCHITECTURE.md lists these files: from one line to another.
@@ -154,7 +154,7 @@ def lines_of(definition):
 
 def as_said(files):
     """The words of README.md on these files, whose lines are rounded to tens."""
-    return f"definitions that it names: {len(files)} files with some {round(sum(map(lines_of, files)), -1):,} lines"
+    return f"definitions that it names: {len(files)} files with about {round(sum(map(lines_of, files)), -1):,} lines"
 
 
 def as_list(files):
