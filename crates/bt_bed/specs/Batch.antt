@@ -1,10 +1,10 @@
 -- The records that a batch has left.
-use Rattle.std.specs.Prelude.{◌≡◌, ℕ, List, [], ◌∷◌, ◌++◌, drop, length}
+use Rattle.std.specs.Prelude.{◌≡◌, ℕ, List, [], ◌∷◌, ◌++◌, drop, length, take}
 use Rattle.bt_lines.specs.Buffered.{IsWhere as IsLineWhere, PassesLines, lines_in, rest_in}
 use Rattle.bt_lines.specs.FirstLine.{Cut, Shown}
 use Rattle.bt_lines.specs.declared.buffered_lines.BufferedLines.{BufferedLines}
 use Rattle.bt_bed.specs.Feature.{Feature}
-use Rattle.bt_bed.specs.RawRecord.{record_in}
+use Rattle.bt_bed.specs.RawRecord.{record_in, text_in}
 use Rattle.bt_bed.specs.Run.{is_some_left, last_start, run_of}
 use Rattle.bt_bed.specs.declared.batch.Batch.{Batch}
 use Rattle.bt_bed.specs.declared.batch.Consumed.{Consumed}
@@ -26,6 +26,10 @@ start_in batch = batch.start
 unfoldable pub line_in : Batch → ℕ
 line_in batch = batch.lines.lines
 
+-- the bytes of the lines that were consumed
+unfoldable pub consumed_in : Batch → List ℕ
+consumed_in batch = take batch.lines.at batch.lines.all.now
+
 -- the records that are left
 unfoldable pub left : Batch → List Feature
 left batch = run_of batch.name.now batch.start (lines_in batch.lines)
@@ -39,6 +43,7 @@ pub record StandsFirst (batch : Batch) (r : RawRecord) : Type 0 where
   pub left_is : left batch ≡ record_in r ∷ left_behind batch (record_in r).start
   pub line : Shown
   pub cut : Cut (rest_in (cursor_in batch)) line
+  pub text_is : text_in r ≡ line.text
   pub size_is : line.size ≡ r.size
 
 -- the records were given, one after another, and are consumed

@@ -1,5 +1,5 @@
 -- What a line says of which a record's start and end were read.
-use Rattle.std.specs.Prelude.{◌≡◌, ◌+◌, ℕ, List, Some, Ok, drop, take}
+use Rattle.std.specs.Prelude.{◌≡◌, ◌+◌, ◌++◌, ◌∷◌, ℕ, List, [], Some, Ok, cond, drop, length, nat_lt, take}
 use Rattle.bt_lines.specs.FirstLine.{Shown}
 use Rattle.bt_bed.specs.Feature.{Feature}
 use Rattle.bt_bed.specs.Record.{bed_text, columns_in, record_of, strand_of}
@@ -8,6 +8,10 @@ use Rattle.bt_bed.specs.declared.raw_record.RawRecord.{RawRecord}
 -- the text of the line
 unfoldable pub text_in : RawRecord → List ℕ
 text_in raw = raw.text.now
+
+-- the bytes of the line, with its end
+unfoldable pub raw_in : RawRecord → List ℕ
+raw_in raw = raw.text.now ++ cond (nat_lt (length raw.text.now + 1) raw.size) (13 ∷ 10 ∷ []) (10 ∷ [])
 
 -- what stands behind its third column
 unfoldable pub kept_in : RawRecord → List ℕ

@@ -29,3 +29,7 @@ pub record HasNone (one : Single) : Type 0 where
 -- how many there are
 abbrev pub single_room : Single → ℕ
 single_room one = length (single_left one)
+
+-- no line of it is buffered
+abbrev pub no_lines : Single → List ℕ
+no_lines one = []

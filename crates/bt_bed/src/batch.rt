@@ -42,12 +42,12 @@ pub struct Consumed {
 
 #[tactic(auto, unfolding(crate::specs::Batch::left, crate::specs::Batch::left_behind, crate::specs::Batch::chrom_in, crate::specs::Batch::start_in, crate::specs::Batch::line_in, crate::specs::Batch::cursor_in, crate::specs::RawRecord::text_in))]
 impl<'a> Batch<'a> {
-    ghost use Rattle.std.specs.Prelude.{◌≡◌, ◌<◌, ◌≤◌, ◌∷◌, [], IfNone, IfSome, false, length, slice_range};
+    ghost use Rattle.std.specs.Prelude.{◌≡◌, ◌<◌, ◌≤◌, ◌∷◌, ◌++◌, [], IfNone, IfSome, false, length, take};
     ghost use Rattle.bt_lines.specs.Buffered.{lines_in, rest_in};
     ghost use Rattle.bt_lines.specs.FirstLine.{Cut, line_shown};
-    ghost use Rattle.bt_bed.specs.Batch.{IsWhere, Passes, StandsFirst, chrom_in, cursor_in, left, line_in, start_in};
+    ghost use Rattle.bt_bed.specs.Batch.{IsWhere, Passes, StandsFirst, chrom_in, consumed_in, cursor_in, left, line_in, start_in};
     ghost use Rattle.bt_bed.specs.FirstColumns.{IsRecordName};
-    ghost use Rattle.bt_bed.specs.RawRecord.{IsOnLine, record_in};
+    ghost use Rattle.bt_bed.specs.RawRecord.{IsOnLine, raw_in, record_in};
     ghost use Rattle.bt_bed.specs.Record.{record_of};
     ghost use Rattle.bt_bed.specs.Run.{is_on, run_of};
 
@@ -72,6 +72,7 @@ impl<'a> Batch<'a> {
     pub fn next(&mut self) -> Option<RawRecord<'a>>
         ensures some { IfSome result (λ r. Passes self.old (record_in r ∷ []) self.new) }
         ensures on { IfSome result (λ r. (record_in r).chrom ≡ chrom_in self.old) }
+        ensures line { IfSome result (λ r. consumed_in self.new ≡ consumed_in self.old ++ raw_in r) }
         ensures none { IfNone result (left self.old ≡ []) }
         ensures unchanged { IfNone result (self.new ≡ self.old) }
     {
@@ -157,7 +158,8 @@ impl<'a> Batch<'a> {
     #[inline(always)]
     pub fn consume(&mut self, raw: &RawRecord<'a>)
         requires { StandsFirst self.old raw.now }
-        ensures { Passes self.old (record_in raw.now ∷ []) self.new }
+        ensures passes { Passes self.old (record_in raw.now ∷ []) self.new }
+        ensures line { consumed_in self.new ≡ consumed_in self.old ++ raw_in raw.now }
     {
         self.lines.consume(raw.size);
         self.start = raw.start.value;
@@ -182,17 +184,17 @@ impl<'a> Batch<'a> {
     /// How many bytes of lines were consumed.
     #[inline(always)]
     pub fn offset(&self) -> usize
-        ensures { result ≡ (cursor_in self.now).at }
+        ensures { result ≡ length (consumed_in self.now) }
     {
         self.lines.offset()
     }
 
-    /// The lines between two offsets.
+    /// The bytes that were consumed between two offsets.
     #[inline(always)]
     pub fn between(&self, from: usize, to: usize) -> &'a [u8]
         requires ordered { from ≤ to }
-        requires within { to ≤ length (cursor_in self.now).all.now }
-        ensures { result.now ≡ slice_range (cursor_in self.now).all.now from to }
+        requires within { to ≤ length (consumed_in self.now) }
+        ensures { take to (consumed_in self.now) ≡ take from (consumed_in self.now) ++ result.now }
     {
         self.lines.between(from, to)
     }

@@ -1,6 +1,6 @@
 //! Records that come one after another, on one chromosome.
 
-ghost use Rattle.std.specs.Prelude.{◌≡◌, ◌∷◌, ◌++◌, ◌<◌, ℕ, ⊤, [], List, Some, IfSome, IfNone, false, refl, true};
+ghost use Rattle.std.specs.Prelude.{◌≡◌, ◌∷◌, ◌++◌, ◌<◌, ◌≤◌, ℕ, ⊤, [], List, length, take, Some, IfSome, IfNone, false, refl, true};
 ghost use Rattle.bt_bed.specs.Feature.{Feature};
 ghost use Rattle.bt_bed.specs.declared.bed.BedRef.{BedRef};
 
@@ -29,6 +29,9 @@ pub trait Cursor: Copy {
     // The line of the record that was consumed last.
     ghost line: { Self → ℕ };
 
+    // The bytes of the lines that were consumed.
+    ghost consumed: { Self → List ℕ };
+
     /// The chromosome of the records.
     fn chrom(&self) -> &[u8]
         ensures { result.now ≡ name self.now };
@@ -37,11 +40,22 @@ pub trait Cursor: Copy {
     fn line(&self) -> u64
         ensures { result ≡ line self.now };
 
+    /// How many bytes of lines were consumed.
+    fn offset(&self) -> usize
+        ensures { result ≡ length (consumed self.now) };
+
+    /// The bytes that were consumed between two offsets.
+    fn between(&self, from: usize, to: usize) -> &[u8]
+        requires ordered { from ≤ to }
+        requires within { to ≤ length (consumed self.now) }
+        ensures { take to (consumed self.now) ≡ take from (consumed self.now) ++ result.now };
+
     /// The next record, which is consumed.
     fn next(&mut self) -> Option<Self::Record>
         ensures some { IfSome result (λ r. gives self.old (Self.Record.feature r ∷ []) self.new) }
         ensures on { IfSome result (λ r. (Self.Record.feature r).chrom ≡ name self.old) }
         ensures same { name self.new ≡ name self.old }
+        ensures line { IfSome result (λ r. consumed self.new ≡ consumed self.old ++ Self.Record.raw r) }
         ensures shrinks { IfSome result (λ r. room self.new < room self.old) }
         ensures none { IfNone result (has_ended self.old) }
         ensures unchanged { IfNone result (self.new ≡ self.old) };
@@ -110,7 +124,7 @@ impl<'a> Single<'a> {
 #[tactic(auto, unfolding(crate::specs::Single::single_left, crate::specs::Single::single_name, crate::specs::Single::single_line))]
 impl<'a> Cursor for Single<'a> {
     ghost use Rattle.bt_bed.specs.CursorLaws.{single_gives_more, single_gives_none, single_gives_same};
-    ghost use Rattle.bt_bed.specs.Single.{GivesSingle, HasNone, single_line, single_name, single_room};
+    ghost use Rattle.bt_bed.specs.Single.{GivesSingle, HasNone, no_lines, single_line, single_name, single_room};
 
     type Record = BedRef<'a>;
 
@@ -124,12 +138,22 @@ impl<'a> Cursor for Single<'a> {
 
     ghost line = { single_line };
 
+    ghost consumed = { no_lines };
+
     fn chrom(&self) -> &[u8] {
         self.chrom
     }
 
     fn line(&self) -> u64 {
         self.line
+    }
+
+    fn offset(&self) -> usize {
+        0
+    }
+
+    fn between(&self, _from: usize, _to: usize) -> &[u8] {
+        &[]
     }
 
     #[inline(always)]
@@ -147,7 +171,7 @@ impl<'a> Cursor for Single<'a> {
 }
 
 impl<'a> Cursor for Batch<'a> {
-    ghost use Rattle.bt_bed.specs.Batch.{HasEnded, Passes, batch_room, chrom_in, line_in};
+    ghost use Rattle.bt_bed.specs.Batch.{HasEnded, Passes, batch_room, chrom_in, consumed_in, line_in};
     ghost use Rattle.bt_bed.specs.CursorLaws.{batch_gives_more, batch_gives_none, batch_gives_same};
 
     type Record = RawRecord<'a>;
@@ -162,12 +186,24 @@ impl<'a> Cursor for Batch<'a> {
 
     ghost line = { line_in };
 
+    ghost consumed = { consumed_in };
+
     fn chrom(&self) -> &[u8] {
         self.chrom()
     }
 
     fn line(&self) -> u64 {
         self.line()
+    }
+
+    #[inline(always)]
+    fn offset(&self) -> usize {
+        self.offset()
+    }
+
+    #[inline(always)]
+    fn between(&self, from: usize, to: usize) -> &[u8] {
+        self.between(from, to)
     }
 
     #[inline(always)]

@@ -1,10 +1,10 @@
 //! What a record is to those that take records.
 
-ghost use Rattle.std.specs.Prelude.{◌≡◌, IfSome};
+ghost use Rattle.std.specs.Prelude.{◌≡◌, ◌∷◌, ◌++◌, ℕ, List, [], IfSome, IsTrue};
 ghost use Rattle.bt_bed.specs.Bed.{feature_lent};
 ghost use Rattle.bt_bed.specs.Feature.{Feature};
 ghost use Rattle.bt_bed.specs.Record.{IsFeature, bed_text};
-ghost use Rattle.bt_bed.specs.RawRecord.{record_in};
+ghost use Rattle.bt_bed.specs.RawRecord.{raw_in, record_in};
 
 use crate::bed::BedRef;
 use crate::kept_strand::kept_strand;
@@ -15,6 +15,9 @@ use crate::strand::Strand;
 pub trait Record: Copy {
     // The record.
     ghost feature: { Self → Feature };
+
+    // The bytes of its line with its end, if it stands on one that is buffered.
+    ghost raw: { Self → List ℕ };
 
     /// The record with its columns.
     fn bed(&self) -> BedRef<'_>
@@ -29,9 +32,13 @@ pub trait Record: Copy {
         ensures is { result ≡ (feature self.now).stop }
         ensures said { IsFeature (feature self.now) };
 
-    /// Its text, where that is at hand as the record is written.
+    /// Its text, if it is buffered as the record is written.
     fn written(&self) -> Option<&[u8]>
         ensures { IfSome result (λ text. text.now ≡ bed_text (feature self.now)) };
+
+    /// True only if its buffered line, with its end, is what is written for it.
+    fn is_canonical(&self) -> bool
+        ensures { IsTrue result → raw self.now ≡ bed_text (feature self.now) ++ 10 ∷ [] };
 
     /// Its strand.
     fn strand(&self) -> Strand
@@ -40,6 +47,8 @@ pub trait Record: Copy {
 
 impl<'a> Record for BedRef<'a> {
     ghost feature = { feature_lent };
+
+    ghost raw = { λ bed. [] };
 
     #[inline(always)]
     fn bed(&self) -> BedRef<'_> {
@@ -62,14 +71,21 @@ impl<'a> Record for BedRef<'a> {
     }
 
     #[inline(always)]
+    fn is_canonical(&self) -> bool {
+        false
+    }
+
+    #[inline(always)]
     fn strand(&self) -> Strand {
         self.strand
     }
 }
 
-#[tactic(auto, unfolding(crate::specs::RawRecord::record_in, crate::specs::RawRecord::kept_in))]
+#[tactic(auto, unfolding(crate::specs::RawRecord::record_in, crate::specs::RawRecord::raw_in, crate::specs::RawRecord::text_in, crate::specs::RawRecord::kept_in))]
 impl<'a> Record for RawRecord<'a> {
     ghost feature = { record_in };
+
+    ghost raw = { raw_in };
 
     #[inline(always)]
     fn bed(&self) -> BedRef<'_> {
@@ -93,6 +109,11 @@ impl<'a> Record for RawRecord<'a> {
         } else {
             None
         }
+    }
+
+    #[inline(always)]
+    fn is_canonical(&self) -> bool {
+        self.size == self.text.len() + 1 && self.is_as_written()
     }
 
     #[inline(always)]
