@@ -1,10 +1,10 @@
--- Lists of spans that stand apart: two that cover the same positions are one.
+-- Lists of spans with gaps between them: two that cover the same positions are equal.
 use Rattle.std.proofs.Common.{◌≡◌, ℕ, ◌+◌, ◌≤◌, inl, inr, List, [], ◌∷◌, refl, ap₂, arith, IsTrue}
 use Rattle.std.proofs.lemmas.Bool.{cases_lt}
 use Rattle.bt_bed.specs.Interval.{Span}
 use Rattle.bt_bed.specs.Stretches.{IsCovered, AreApartFrom, AreStretchesOf, stretches_are_one}
 
--- what spans cover stands at or past their first position
+-- the positions that spans cover are at or after their first position
 pub covered_from : (first : ℕ) (xs : List Span) (p : ℕ) → AreApartFrom first xs → IsCovered xs p → first ≤ p
 covered_from first [] p apart c = absurd c
 covered_from first (x ∷ xs) p apart (inl w) = omega arith
@@ -45,7 +45,7 @@ tail_within f x y xs ys a e within p c =
 pub same_span : (x y : Span) → x.start ≡ y.start → x.stop ≡ y.stop → x ≡ y
 same_span x y s e = let make : ℕ → ℕ → Span = λ a b. record { start = a; stop = b } in ap₂ make s e
 
--- two lists that stand apart and cover the same positions are one list
+-- two lists of spans with gaps that cover the same positions are equal
 pub same_apart : (f g : ℕ) (xs ys : List Span) → AreApartFrom f xs → AreApartFrom g ys → IsWithin xs ys → IsWithin ys xs → xs ≡ ys
 same_apart f g [] [] a b to back = refl
 same_apart f g [] (y ∷ ys) a b to back = absurd (back y.start (inl (omega arith, b.1)))

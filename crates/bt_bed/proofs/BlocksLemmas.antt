@@ -42,7 +42,7 @@ module _ {S : Type 0} (left : S → Option (List ℕ)) (failed end : S → Bool)
   unfolding view_of view_with
   fills_blocks IsRead old new result there own = record { answers = filled old new result there.answers; own_failure = own; kept = there.kept }
 
-  -- the first record that is buffered is lent
+  -- the first buffered record is returned
   pub peeked : (old new : Blocks S) (done : Bool) (lent : Option BedRef) → FillAnswers left failed end old (Ok done) new
       → IfSome lent (λ bed. (more : List Feature) × (buffered_in new ≡ feature_lent bed ∷ more)) → IfNone lent (buffered_in new ≡ []) → Answers left failed end old (Ok lent) new
   peeked old new true None answers some none = absurd (none_is (suc (lines_given (view_of new).below)) (buffered_in new) _ none answers.1.read.ahead)

@@ -120,7 +120,7 @@ module _ {S : Type 0} (left : S → Option (List ℕ)) (end : S → Bool) where
     kept = λ kept. kept;
   }
 
-  -- the lines that are left are numbered behind those given
+  -- the lines that are left are numbered on from those given
   pub left_numbered : (reader : LineReader S) → IfSome (lines_left left reader) (AreNumbered (suc (lines_given reader)))
   left_numbered reader = numbered_by (suc (lines_given reader)) (bytes_left left reader)
 
@@ -129,7 +129,7 @@ module _ {S : Type 0} (left : S → Option (List ℕ)) (end : S → Bool) where
   first_drops (Some lines) line None h = absurd h
   first_drops (Some lines) line (Some rest) h = rw h refl
 
-  -- of known bytes, those behind one line more are left
+  -- of known bytes, those after one more line are left
   pub near_came : (old new : LineReader S) → Came old new → IsNear left old new
   near_came old new q =
       near_pass (lines_left left old) (lines_left left new) (left (source_of new)) (lines_given new - lines_given old) 1 (suc (lines_given new) - lines_given old) q.lines (omega (arith, q.least)) (near_next left new)
@@ -153,7 +153,7 @@ module _ {S : Type 0} (left : S → Option (List ℕ)) (end : S → Bool) where
       kept = λ was. kept (p.kept was);
     }
 
-    -- a line couldn't be read: of known bytes, those behind it are left
+    -- a line couldn't be read: of known bytes, those after it are left
     pub near_fault : (fault : Told) → GivesFault left failed now fault new → fault_kept now ≡ None → IsNear left old new
     near_fault fault gives going =
         near_pass (lines_left left old) (lines_left left now) (left (source_of new)) (lines_given now - lines_given old) (suc (lines_given new) - lines_given now) (suc (lines_given new) - lines_given old) p.lines

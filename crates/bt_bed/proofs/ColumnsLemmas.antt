@@ -1,4 +1,4 @@
--- Lemmas on the first columns of a line that are scanned where they stand.
+-- Lemmas on the first columns of a line that are scanned in the buffer.
 use Rattle.std.proofs.Common.{◌≡◌, ℕ, ◌+◌, ◌-◌, ◌*◌, ◌<◌, ◌≤◌, true, List, length, take, drop, get_or, Some, sym, ap, ◌∙◌, subst, arith, length-drop}
 use Rattle.std.proofs.lemmas.List.{drop-drop, drop-take, get_or-drop, get_or-take, length-take-le, take-take}
 use Rattle.std.proofs.lemmas.Slice.Eq.{bytes_eq-Decides}
@@ -51,10 +51,10 @@ module _ (bytes name : List ℕ) (start stop : Leading) (has : HasColumns bytes 
   name_tab : get_or bytes (length name) 0 ≡ 9
   name_tab = ap (λ l. get_or l (length name) 0) has.named ∙ get_or-append_seam name 9 (drop (length name + 1) bytes) 0
 
-  -- the text of a line that stands there
+  -- the text of a line that begins there
   module _ (text : List ℕ) (past : length name + start.end + stop.end + 2 ≤ length text) (front : take (length text) bytes ≡ text)
       (last_tab : length name + start.end + stop.end + 2 < length text → get_or text (length name + start.end + stop.end + 2) 0 ≡ 9) where
-    -- a front of it
+    -- a prefix of it
     front_is : (n : ℕ) → n ≤ length name + start.end + stop.end + 2 → take n text ≡ take n bytes
     front_is n small = ap (take n) (sym front) ∙ take-take n (length text) bytes (omega arith)
 

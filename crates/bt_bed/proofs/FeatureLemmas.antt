@@ -37,7 +37,7 @@ pub columns_in_kept : (columns : List (List ℕ)) → AllByRecursion IsColumn co
 columns_in_kept [] h = refl
 columns_in_kept (x ∷ xs) h = kept_is_cut x xs h.0 h.1
 
--- the feature of a name, a start, an end and the columns behind them
+-- the feature of a name, a start, an end and the columns after them
 abbrev pub whole : List ℕ → ℕ → ℕ → List (List ℕ) → Feature
 whole chrom start stop rest = record { chrom = chrom; start = start; stop = stop; strand = strand_of rest; rest = kept_columns rest }
 
@@ -95,7 +95,7 @@ said_is_feature text f e =
     subst IsFeature m.whole_is.same
     (whole_is_feature m.chrom f.start f.stop m.rest (record { some = m.whole_is.some; one_column = columns.0 }) m.whole_is.below (value_at_most m.stop f.stop m.whole_is.stop_is) columns.1.1.1)
 
--- a text is the name, what stands behind its tab, and what is kept
+-- a text is the name, what follows its tab, and what is kept
 pub said_stands : (text : List ℕ) (f : Feature) → columns_say (pieces 9 text) ≡ Ok f → (between : List ℕ) × (text ≡ (f.chrom ++ 9 ∷ between) ++ f.rest)
 said_stands text f e =
     let m = columns_made (pieces 9 text) f e in
@@ -145,7 +145,7 @@ pub three_say : (text a b c : List ℕ) (rest : List (List ℕ)) (bounds : ℕ �
     → feature_between a (Ok bounds) rest ≡ feature_of a (value_of b) (value_of c) rest → columns_say (pieces 9 text) ≡ Ok (whole a bounds.0 bounds.1 rest)
 three_say text a b c rest bounds cut found = ap columns_say cut ∙ sym found
 
--- the feature that is made of a name, of what was found of its start and end, and of what stands behind its columns, is what the text says
+-- the feature made of a name, of the start and end that were found, and of what follows their columns is what the text says
 pub made_is_said : (text a b c : List ℕ) (rest : List (List ℕ)) (bounds : ℕ × ℕ) (strand : Strand) (kept : List ℕ) → pieces 9 text ≡ a ∷ b ∷ c ∷ rest
     → feature_between a (Ok bounds) rest ≡ feature_of a (value_of b) (value_of c) rest → strand ≡ strand_of (columns_in kept) → kept ≡ drop (length a + length b + length c + 2) text
     → Ok (record { chrom = a; start = bounds.0; stop = bounds.1; strand = strand; rest = kept }) ≡ columns_say (pieces 9 text)

@@ -116,7 +116,7 @@ begins_below text lead begins =
     let below : digits_value 10 (take lead.end text) < 10 ^ length (take lead.end text) = digits_below (take lead.end text) begins.digits in
     rw begins.value (subst (λ (n : ℕ). digits_value 10 (take lead.end text) < 10 ^ n) size below)
 
--- what stands behind three columns stands behind so many bytes
+-- what follows three columns, by the count of bytes before it
 pub rest_stands : (text first second kept : List ℕ) (a b c : ℕ) → first ≡ drop (a + 1) text
     → second ≡ drop (b + 1) first
     → kept ≡ drop c second → drop (a + b + c + 2) text ≡ kept
@@ -127,7 +127,7 @@ rest_stands text first second kept a b c f s k =
     ap (λ (m : ℕ). drop m text) whole ∙ sym (drop-drop c (a + 1 + (b + 1)) text)
     ∙ ap (drop c) behind ∙ sym k
 
--- the feature of two columns that are its bounds, and of what stands behind them
+-- the feature of two columns that are its bounds, and of what follows them
 pub bounds_say : (text rest : List ℕ) (name : ℕ) (start stop : Leading) (strand : Strand) → EndsName text name → AreBounds text name start stop → rest ≡ drop (name + start.end + stop.end + 2) text
     → strand ≡ strand_of (columns_in rest)
     → Ok (record { chrom = take name text; start = start.value; stop = stop.value; strand = strand; rest = rest }) ≡ columns_say (pieces 9 text)
@@ -142,7 +142,7 @@ bounds_within text name start stop ends bounds =
     let inside = ends.within in
     omega (arith, bounds.inside, bounds.second.within, length-drop (name + 1) text, length-drop (start.end + 1) (drop (name + 1) text))
 
--- a text that has a name and a tab at its front
+-- a text that begins with a name and a tab
 pub name_in_front : (text name : List ℕ) → length name < length text → get_or text (length name) 0 ≡ 9 → bytes_eq name (take (length name) text) ≡ true → BeginsWithName text name
 name_in_front text name within tab same =
     let front : name ≡ take (length name) text = (bytes_eq-Decides name (take (length name) text)).0 same in

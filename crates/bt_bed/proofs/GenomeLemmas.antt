@@ -133,7 +133,7 @@ first_with input count number names (Ok (Some entry)) whole taken low h beyond =
     err_behind count entry (Ok entries) beyond = tt
     err_behind count entry (Err fault) beyond = beyond
 
--- where the fault, if there is one, lies behind the first lines, these have none
+-- if the fault, if there is one, lies after the first lines, these have none
 pub first_entries_from : (input : Input) (more count number : ℕ) (names : List (List ℕ)) (lines : List TextLine) → suc count ≡ number + more → AreNumbered number lines
     → IfErr (genome_from input names lines) (IsFaultBeyond count) → (entries : List Entry) × (genome_from input names (take more lines) ≡ Ok entries)
 unfolding genome_from

@@ -20,7 +20,7 @@ use Rattle.bt_bed.proofs.GoodLemmas.{ascend_from, first_from, within_from}
 use Rattle.bt_bed.proofs.SaidLemmas.{said_features}
 use Rattle.bt_bed.proofs.SortingLemmas.{sorted_up_to}
 
--- a record that a line says behind the last place: its chromosome is known, and its place doesn't fall
+-- a record that a line says after the last place: its chromosome is known, and its place doesn't fall
 pub record Said (sorting : Sorting) (last : Option Locus) (text : List ℕ) (r : Feature) : Type 0 where
   pub known : IsTrue (sorting.knows r.chrom)
   pub stays : falls_in sorting last (locus_at r) ≡ false
@@ -42,13 +42,13 @@ pub line_said : (sorting : Sorting) (last : Option Locus) (text : List ℕ) (r :
 unfolding line_says
 line_said sorting last text r e = said_by_record sorting last text (record_of text) r refl e
 
--- the records come behind the last place
+-- the records come after the last place
 abbrev Follow : Order → Option Locus → List Feature → Type 0
 Follow order None rs = Unit {0}
 Follow order (Some last) [] = Unit {0}
 Follow order (Some last) (r ∷ rs) = IsUpTo order last (locus_at r)
 
--- the records are in order, and behind the last place
+-- the records are in order, and after the last place
 record Placed (order : Order) (last : Option Locus) (rs : List Feature) : Type 0 where
   placed : ArePlaced order (intervals_of rs)
   behind : Follow order last rs
@@ -112,7 +112,7 @@ non_empty_from input sorting last (line ∷ lines) =
 pub non_empty_good : good_are_non_empty
 non_empty_good input order handed = non_empty_from input (sorting_of order) None (lines_handed handed)
 
--- they stand on the lines of the text
+-- each is on a line of the text
 pub good_on_lines : good_stand_on_lines
 good_on_lines input order text =
     let lines = text_lines text in

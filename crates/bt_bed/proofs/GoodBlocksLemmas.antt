@@ -25,7 +25,7 @@ block_up_to (Some last) place stays = λ one.
     let not_below : nat_lt place.start last.start ≡ false = subst (λ b. cond b (nat_lt place.start last.start) false ≡ false) same stays in
     grind (arith, nat_tests)
 
--- the records come behind the last place
+-- the records come after the last place
 abbrev Follow : Option Locus → List Feature → Type 0
 Follow last [] = Unit {0}
 Follow last (r ∷ rs) = IfSome last (λ l. IsBlockUpTo l (locus_at r))

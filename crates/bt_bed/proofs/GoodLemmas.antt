@@ -36,7 +36,7 @@ module _ {A State : Type 0} (format : Format A State) (input : Input) where
   within_with last number state (Ok (Some item)) rest n h =
       All-cons (λ m. m.line ≤ last) (record { line = number; item = item }) (rest (format.after state item)).members n (h (format.after state item))
 
-  -- and none stands behind the last of them
+  -- and none is on a line after the last of them
   pub within_from : (last number : ℕ) (state : State) (lines : List TextLine) → AreNumbered number lines → number + length lines ≤ suc last → All (λ m. m.line ≤ last) (good_from format input state lines).members
   unfolding good_from
   within_from last number state [] n e = All-nil (λ m. m.line ≤ last)
@@ -63,14 +63,14 @@ module _ {A State : Type 0} (format : Format A State) (input : Input) where
       let same = n.0 in
       fault_with count line.number state (format.says state line) (λ now. good_from format input now lines) (omega arith) (λ now. fault_from count (suc number) now lines (omega arith) n.1)
 
-  -- what is good of lines behind the first so many lies behind them
+  -- what is good of the lines after the first `count` is on lines after `count`
   pub beyond_from : (count : ℕ) (state : State) (lines : List TextLine) → AreNumbered (suc count) lines → IsBeyond count (good_from format input state lines)
   beyond_from count state lines n = record {
     members = ascending_beyond count (suc count) (good_from format input state lines).members (omega arith) (ascend_from format input (suc count) state lines n);
     fault = fault_from count (suc count) state lines (omega arith) n;
   }
 
--- members from behind a line on have none up to it
+-- members on lines after a line have none up to it
 none_up_to : {A : Type 0} (count : ℕ) (past rest : List (Member A)) → AreAscending (suc count) (past ++ rest) → All (λ m. m.line ≤ count) past → past ≡ []
 none_up_to count [] rest asc up = refl
 none_up_to {A} count (m ∷ ms) rest asc up =
@@ -102,7 +102,7 @@ module _ {A State : Type 0} (format : Format A State) (input : Input) where
       let more : (whole now).members ≡ ms ++ rest = cc in
       rw (h now ms more f (All-tail (λ (m : Member A). m.line ≤ count) m ms up)) (ap (λ (m : Member A). record { members = m ∷ ms; fault = None }) same)
 
-  -- what is good of the first lines are the members up to the last of these, where the others stand behind it
+  -- what is good of the first lines are the members up to the last of these, if the others are after it
   pub first_from : (more count number : ℕ) (state : State) (lines : List TextLine) (past rest : List (Member A)) (fault : Option Told) → suc count ≡ number + more → AreNumbered number lines
       → (good_from format input state lines).members ≡ past ++ rest → (good_from format input state lines).fault ≡ fault
       → All (λ m. m.line ≤ count) past → IsBeyond count (record { members = rest; fault = fault })

@@ -52,7 +52,7 @@ numbered_by : (n : ℕ) (bytes : Option (List ℕ)) → IfSome (option_map (line
 numbered_by n None = tt
 numbered_by n (Some bytes) = lines_are_numbered n bytes
 
--- the first n bytes of two texts, where the first of these is no longer
+-- the first n bytes of two texts, if the first text has at most n
 front_of_both : (first second : List ℕ) (n m : ℕ) → n ≡ length first + m → take n (first ++ second) ≡ first ++ take m second
 front_of_both first second n m e = rw e (take-append-add first second m)
 
@@ -72,7 +72,7 @@ module _ {S : Type 0} (left : S → Option (List ℕ)) (end : S → Bool) where
     sound = λ sound. sound;
   }
 
-  -- the lines that are left are numbered behind those given
+  -- the lines that are left are numbered on from those given
   pub left_numbered : (reader : LineReader S) → IfSome (lines_left left reader) (AreNumbered (suc (lines_given reader)))
   left_numbered reader = numbered_by (suc (lines_given reader)) (bytes_left left reader)
 
@@ -85,7 +85,7 @@ module _ {S : Type 0} (left : S → Option (List ℕ)) (end : S → Bool) where
       sound = λ was. sound (p.sound was);
     }
 
-    -- a line couldn't be read: of known bytes, those behind it are left
+    -- a line couldn't be read: of known bytes, those after it are left
     pub near_fault : (fault : Told) → GivesFault left failed now fault new → fault_kept now ≡ None → IsNear left old new
     near_fault fault gives going =
         near_pass (lines_left left old) (lines_left left now) (left (source_of new)) (lines_given now - lines_given old) (suc (lines_given new) - lines_given now) (suc (lines_given new) - lines_given old) p.lines
@@ -106,7 +106,7 @@ module _ {S : Type 0} (left : S → Option (List ℕ)) (end : S → Bool) where
           given = rw front (omega (arith, line_feeds-append p.bytes.0 (take (2 ^ 63 - 1 - bytes_taken now) cut.bytes)));
         }
 
-  -- of known bytes, those behind the lines given are left, and so those behind one more
+  -- of known bytes, those after the lines given are left, and so those after one more
   pub near_line : (old new : LineReader S) → Passed old new → fault_kept new ≡ None → IsSound left end old → IsNear left old new
   near_line old new p going sound =
       near_pass (lines_left left old) (lines_left left new) (left (source_of new)) (lines_given new - lines_given old) 1 (suc (lines_given new) - lines_given old) p.lines

@@ -53,7 +53,7 @@ pub word_alone : (text word rest : List ℕ) → All IsOfWord word → bytes_eq 
     → true ≡ bytes_eq (first_word text) word
 word_alone text word rest h same e short = rw (stripped text word rest same e) (alone word rest h short)
 
--- a text that goes on behind a word
+-- a text that goes on after a word
 pub word_ended : (text word rest : List ℕ) → All IsOfWord word → bytes_eq (take (length word) text) word ≡ true → rest ≡ drop (length word) text → 1 ≤ length rest
     → ends_word (get_or rest 0 0) ≡ bytes_eq (first_word text) word
 word_ended text word rest h same e some = rw (stripped text word rest same e) (ended word rest h some)
@@ -68,7 +68,7 @@ word_before_tab [] left right = of_word 9 left true refl ∙ sym (of_word 9 righ
 word_before_tab (byte ∷ name) left right =
     more_of_word byte (name ++ 9 ∷ left) (name ++ 9 ∷ right) (ends_word byte) refl (word_before_tab name left right)
 
--- whether a text is a header is told by what stands before its first tab
+-- whether a text is a header depends only on what comes before its first tab
 pub header_before_tab : (name left right : List ℕ) → is_header (name ++ 9 ∷ left) ≡ is_header (name ++ 9 ∷ right)
 header_before_tab [] left right = ap (λ l. eqb 9 35 || is_header_word l) (word_before_tab [] left right)
 header_before_tab (byte ∷ name) left right = ap (λ l. eqb byte 35 || is_header_word l) (word_before_tab (byte ∷ name) left right)

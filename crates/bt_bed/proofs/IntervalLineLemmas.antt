@@ -12,7 +12,7 @@ use Rattle.bt_bed.specs.Interval.{Interval}
 use Rattle.bt_lines.specs.Span.{span_text}
 use Rattle.bt_bed.specs.IntervalLine.{interval_line, interval_lines}
 
--- the name, and what stands behind it
+-- the name, and what follows it
 pub line_parts : (r : Interval) → r.chrom ++ span_text r.start r.stop 10 ≡ interval_line r
 line_parts r =
     let tab = codes "\t" in
@@ -43,7 +43,7 @@ pub was_cut : {A : Type 0} (old new : Output) (bytes : List ℕ) (result : Resul
 was_cut old new bytes (Ok done) p e = absurd (false≢true (sym e))
 was_cut old new bytes (Err fault) p e = subst (λ t. FailsToPut old bytes t new) p.is p
 
--- what stands from an offset on in a text of 43 bytes is put
+-- what a text of 43 bytes has from an offset on is put
 pub puts_text : {A : Type 0} (old new : Output) (name text behind : List ℕ) (first : ℕ) (result : Result A Fault) → length text ≡ 43 → drop first text ≡ behind
     → Puts old (name ++ take (43 - first) (drop first text)) result new → Puts old (name ++ behind) result new
 puts_text old new name text behind first result size is p =

@@ -8,7 +8,7 @@ use Rattle.bt_lines.specs.Lines.{pieces}
 use Rattle.bt_lines.proofs.ColumnLemmas.{IsColumn, IsInside}
 use Rattle.bt_bed.specs.Record.{kept_columns}
 
--- a column and those behind it, each with a tab before it
+-- a column and those after it, each with a tab before it
 joined : (x : List ℕ) (xs : List (List ℕ)) → join_with_byte 9 (x ∷ xs) ≡ x ++ kept_columns xs
 joined x [] = sym (append-nil x)
 joined x (y ∷ ys) = rw (joined y ys) refl

@@ -1,4 +1,4 @@
--- Lemmas on the name of a chromosome and the tab behind it as one number.
+-- Lemmas on the name of a chromosome and the tab after it as one number.
 use Rattle.std.proofs.Common.{◌≡◌, ℕ, zero, suc, ◌+◌, ◌-◌, ◌*◌, ◌/◌, ◌%◌, ◌^◌, ◌<◌, ◌≤◌, List, [], ◌∷◌, ◌++◌, length, take, drop, get_or, inl, inr, refl, sym, ap, ◌∙◌, arith, append_assoc}
 use Rattle.std.proofs.Math.Nat.{add-mul-mod_self_right, eq_of_mul-eq-mul_left, mod-add-div, pow-succ'}
 use Rattle.std.proofs.lemmas.Bool.{cases_lt}
@@ -27,7 +27,7 @@ worth_is (a ∷ b ∷ c ∷ d ∷ e ∷ f ∷ g ∷ []) n = omega arith
 worth_is (a ∷ b ∷ c ∷ d ∷ e ∷ f ∷ g ∷ h ∷ []) n = omega arith
 worth_is (a ∷ b ∷ c ∷ d ∷ e ∷ f ∷ g ∷ h ∷ i ∷ rest) n = absurd (omega arith)
 
--- what the bytes behind a place add to the number
+-- what the bytes after an offset add to the number
 worth_parts : (front rest : List ℕ) → worth (front ++ rest) ≡ worth front + worth rest * 256 ^ length front
 worth_parts [] rest = omega arith
 worth_parts (x ∷ front) rest =
@@ -46,7 +46,7 @@ lost_rest a b f k n is =
     let sum : (a + b * k) * f ≡ a * f + b * n = omega (arith, ap (λ (m : ℕ). b * m) is) in
     ap (λ (m : ℕ). m % n) sum ∙ add-mul-mod_self_right (a * f) b n
 
--- bytes whose numbers differ by a multiple of a power of 256 begin with the same bytes, so many
+-- bytes whose numbers differ by a multiple of 256 ^ k have the same first k bytes
 front_same : (k : ℕ) (a b : List ℕ) (p q : ℕ) → ((i : ℕ) → get_or a i 0 < 256) → ((i : ℕ) → get_or b i 0 < 256)
     → k ≤ length a → k ≤ length b → worth a + p * 256 ^ k ≡ worth b + q * 256 ^ k → take k a ≡ take k b
 front_same zero a b p q fit other m n e = refl

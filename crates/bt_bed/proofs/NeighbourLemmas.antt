@@ -1,4 +1,4 @@
--- Lemmas on what a line says behind the last place, and on the chromosome of the record ahead.
+-- Lemmas on what a line says after the last place, and on the chromosome of the record ahead.
 use Rattle.std.proofs.Common.{◌≡◌, ℕ, ◌≤◌, Bool, true, false, cond, List, Option, Some, None, Result, Ok, Err, refl, sym, ap, ◌∙◌, subst, arith, bytes_eq}
 use Rattle.std.specs.Prelude.{◌&&◌, IsTrue, is_some, nat_lt}
 use Rattle.bt_lines.specs.declared.fault.Kind.{Kind}
@@ -38,7 +38,7 @@ kind_of_order false falls r kind e = same_kind {T = Option Feature} (Err Unknown
 kind_of_order true true r kind e = same_kind {T = Option Feature} (Err OutOfOrder) OutOfOrder kind refl e refl
 kind_of_order true false r kind e = cc
 
--- what is wrong with a record behind the last place is of a line
+-- what is wrong with a record after the last place is a fault of a line
 pub misplaced_is_of_line : (sorting : Sorting) (last : Option Locus) (r : Feature) (kind : Kind) → in_order sorting last r ≡ Err kind → is_bed_kind kind ≡ true
 misplaced_is_of_line sorting last r kind e = kind_of_order (sorting.knows r.chrom) (falls_in sorting last (locus_at r)) r kind e
 
@@ -84,7 +84,7 @@ pub held_other : (name chrom : List ℕ) (last : Option ℕ) → is_some last &&
 held_other name chrom None e = refl
 held_other name chrom (Some start) e = rw e refl
 
--- a record that fits behind the last one doesn't start below
+-- a record that fits after the last one doesn't start below it
 pub fits_above : (sorting : Sorting) (last : Option Locus) (r : Feature) → falls_in sorting last (locus_at r) ≡ false → start_after last r.chrom ≤ r.start
 fits_above sorting None r e = omega arith
 fits_above sorting (Some place) r e = by (bytes_eq place.chrom r.chrom) e

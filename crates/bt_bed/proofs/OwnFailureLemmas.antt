@@ -1,4 +1,4 @@
--- Lemmas on failed reads that are told for the first time.
+-- Lemmas on failed reads that are reported for the first time.
 use Rattle.std.proofs.Common.{◌≡◌, ℕ, List, Option, Some, None, Err, ap, sym, subst, ◌∙◌, true, inl, inr}
 use Rattle.std.specs.Prelude.{◌⊎◌}
 use Rattle.std.proofs.lemmas.Bool.{false≢true}
@@ -37,7 +37,7 @@ module _ (T : Type 0) {S : Type 0} (IsRead : S → Option ℕ → S → Type 0) 
     pub line_is_own : (place : Place) (kind : Kind) → is_of_line kind ≡ true → told fault ≡ fault_at_line place.input place.line kind → TellsOwnFailure {T = T} IsRead before old (Err fault) new
     line_is_own place kind of_line is none = tells_read IsRead old new (Some (told fault)) (λ input line e. line_no_read place kind input line of_line (sym is ∙ some_is (told fault) (read_failed input line) e)) read
 
-    -- nor does want of memory
+    -- nor does running out of memory
     pub memory_is_own : told fault ≡ no_memory → TellsOwnFailure {T = T} IsRead before old (Err fault) new
     memory_is_own is none = tells_no_memory IsRead old new (told fault) is read
 
@@ -51,6 +51,6 @@ module _ (T : Type 0) {S : Type 0} (IsRead : S → Option ℕ → S → Type 0) 
     refused_is_own place text table (inl refused) = line_is_own place refused.kind (genome_of_line refused.kind (refused_at_place (names_of table) text refused.kind refused.says)) refused.is
     refused_is_own place text table (inr unkept) = memory_is_own unkept.is
 
-  -- what the reader of lines tells is told on
+  -- what the reader of lines reports is passed on
   pub read_is_own : (now : LineReader S) → HasRead IsRead old now → (before ≡ None → line_fault now ≡ None) → LineTellsOwnFailure {A = Option Line} IsRead now (Err fault) new → TellsOwnFailure {T = T} IsRead before old (Err fault) new
   read_is_own now so_far going own none = tells_then IsRead old now new (Some (told fault)) so_far (own (going none))

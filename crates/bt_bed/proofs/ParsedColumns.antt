@@ -61,7 +61,7 @@ module _ (text name : List ℕ) (r : Feature) (says : record_of text ≡ Ok (Som
   cut_name : pieces 9 text ≡ take (length name) text ∷ pieces 9 first
   cut_name = cut_at text (length name) parsed_name.within parsed_name.tab parsed_name.column
 
-  -- the second column has a tab behind it
+  -- a tab follows the second column
   module _ (a : ℕ) (ends : EndsFirst first a) where
     pub parsed_inside : a < length first
     parsed_inside = elim (cases_lt a (length first)) [

@@ -50,12 +50,12 @@ column_written : (text : List ℕ) (lead : Leading) → Leads text lead → lead
 column_written text lead leads small no_zero =
     digits_written (take lead.end text) lead.value leads.value small (λ zero. no_zero (sym (get_or-take lead.end text 0 0 (some_digits lead.end text lead.value leads.value)) ∙ zero))
 
--- a text is its first column, the tab behind that and the rest
+-- a text is its first column, the tab after that and the rest
 cut_there : (text : List ℕ) (end : ℕ) → end < length text → get_or text end 0 ≡ 9 → text ≡ take end text ++ 9 ∷ drop (end + 1) text
 cut_there text end inside tab =
     sym (take-append-drop end text) ∙ ap (λ (l : List ℕ). take end text ++ l) (drop_more text end 0 inside ∙ ap (λ (b : ℕ). b ∷ drop (end + 1) text) tab)
 
--- a byte of the third column stands there
+-- the third column has a first byte
 pub column_begins : (line : RawRecord) → line.name + 1 + line.start.end + 1 < length line.text.now
 column_begins line =
     let first = drop (line.name + 1) line.text.now in
@@ -64,7 +64,7 @@ column_begins line =
     let within = line.bounds.second.within in
     omega (arith, length-drop (line.name + 1) line.text.now, length-drop (line.start.end + 1) first)
 
--- where no number begins with a zero, the record is written as the line stands
+-- if no number begins with a zero, the record is written as its line is
 pub written_so : (line : RawRecord) (r : Feature) → record_of line.text.now ≡ Ok (Some r) → (get_or line.text.now (line.name + 1) 0 ≡ 48 → ⊥) → (get_or line.text.now (line.name + 1 + line.start.end + 1) 0 ≡ 48 → ⊥) → bed_text r ≡ line.text.now
 unfolding text_in record_in kept_in
 written_so line r said start stop =

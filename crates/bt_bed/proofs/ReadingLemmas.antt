@@ -148,7 +148,7 @@ module _ {S A State : Type 0} (left : S → Option (List ℕ)) (failed end : S �
     pub served : failed (source_of now.below) ≡ failed (source_of old.below)
     pub shrinks : line_room now.below ≤ line_room old.below
 
-  -- the reader of lines moved, and no more is known behind it
+  -- the reader of lines moved, and nothing more is known after it
   pub record Follows (now new : MemberReader S A State) : Type 0 where
     pub state : new.state ≡ now.state
     pub format : new.format ≡ now.format
@@ -190,7 +190,7 @@ module _ {S A State : Type 0} (left : S → Option (List ℕ)) (failed end : S �
     passed_more : (now new : MemberReader S A State) (line : TextLine) → Going old now → LineCame left failed now.below line new.below → (IsKept left end now.below → IsKept left end new.below) → Came left end old.below new.below
     passed_more now new line g gives sound = came_line left end failed old.below now.below new.below g.passed line gives sound
 
-    -- what is still to come lies behind the lines given
+    -- what is still to come lies after the lines given
     beyond : (now : MemberReader S A State) → Going old now → line_fault now.below ≡ None → IfSome (good_coming left old) (IsBeyond (lines_given now.below))
     beyond now g going =
         remains_if (good_coming left old) (good_coming left now) (IsBeyond (lines_given now.below)) g.good

@@ -11,11 +11,11 @@ use Rattle.bt_lines.specs.Span.{span_text}
 use Rattle.bt_bed.specs.IntervalLine.{bounds_text}
 use Rattle.bt_bed.specs.Record.{bed_text}
 
--- what stands behind a name, without its line feed
+-- what follows a name, without its line feed
 pub span_is_bounds : (start stop end : ℕ) → span_text start stop end ≡ bounds_text start stop ++ end ∷ []
 span_is_bounds start stop end = simp append_assoc
 
--- the line feed is the last byte of what stands behind a name
+-- the line feed is the last byte of what follows a name
 pub bounds_before_feed : (text : List ℕ) (first start stop : ℕ) → length text ≡ 43 → drop first text ≡ span_text start stop 10 → take (42 - first) (drop first text) ≡ bounds_text start stop
 bounds_before_feed text first start stop l e =
     let bounds = bounds_text start stop in
@@ -34,7 +34,7 @@ module _ (r : Feature) (end : List ℕ) where
   front_parts : (r.chrom ++ bounds_text r.start r.stop) ++ (r.rest ++ end) ≡ bed_text r ++ end
   front_parts = append_assoc r.chrom (bounds_text r.start r.stop) (r.rest ++ end) ∙ record_parts r end
 
-  -- a record without further columns, and a byte that ends it
+  -- a record without other columns, and a byte that ends it
   pub bare_parts : (byte : ℕ) → r.rest ≡ [] → end ≡ byte ∷ [] → r.chrom ++ span_text r.start r.stop byte ≡ bed_text r ++ end
   bare_parts byte bare one =
       ap (λ l. r.chrom ++ l) (span_is_bounds r.start r.stop byte) ∙ sym (append_assoc r.chrom (bounds_text r.start r.stop) (byte ∷ []))
@@ -45,7 +45,7 @@ module _ (r : Feature) (end : List ℕ) where
   cut_in_front old new fault p =
       subst (λ bytes. FailsToPut old bytes fault new) front_parts (fails_before old new (r.chrom ++ bounds_text r.start r.stop) (r.rest ++ end) fault p)
 
-  -- or behind them, or put whole
+  -- or after them, or put in full
   pub puts_record : {A : Type 0} (old mid new : Output) (result : Result A Fault) → PutsAll old (r.chrom ++ bounds_text r.start r.stop) mid → Puts mid (r.rest ++ end) result new
       → Puts old (bed_text r ++ end) result new
   puts_record old mid new result p q =

@@ -33,7 +33,7 @@ for_if : {A : Type 0} (o : Option A) (P : A → Type 0) → ForSome o P → IfSo
 for_if None P h = tt
 for_if (Some x) P h = h x refl
 
--- what is known of a record that a line says behind the last one
+-- what is known of a record that a line says after the last one
 pub record BehindLast (order : Order) (last : Option Locus) (r : Feature) : Type 0 where
   pub feature : IsFeature r
   pub known : IsTrue (order.knows r.chrom)
@@ -78,7 +78,7 @@ module _ {S O : Type 0} {g : Ghosts O} (left : S → Option (List ℕ)) (failed 
   filled old new (Ok false) total ends = ends
   filled old new (Err fault) total answers = answers
 
-  -- the first record that is buffered is lent
+  -- the first buffered record is returned
   pub peeked : (old new : Records S O g) (done : Bool) (lent : Option BedRef) → FillAnswers left failed end old (Ok done) new
       → IfSome lent (λ bed. (more : List Feature) × (buffered_in new ≡ feature_lent bed ∷ more)) → IfNone lent (buffered_in new ≡ []) → Answers left failed end old (Ok lent) new
   peeked old new true None answers some none = absurd (none_is (suc (lines_given (view_of new).below)) (buffered_in new) _ none answers.1.read.ahead)

@@ -87,7 +87,7 @@ said_feature text f e = said_is_feature text f (record_said text f e).1
 pub written_feature : written_are_read
 written_feature f is header = columns_of_line (bed_text f) header ∙ ap not_skipped (text_says f is)
 
--- what stands behind a tab doesn't change the first word
+-- what follows a tab doesn't change the first word
 until_tab : (chrom tail : List ℕ) → first_word (chrom ++ 9 ∷ tail) ≡ first_word chrom
 until_tab [] tail = refl
 until_tab (byte ∷ chrom) tail =

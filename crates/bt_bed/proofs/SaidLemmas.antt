@@ -1,4 +1,4 @@
--- Lemmas on what a line says by itself.
+-- Lemmas on what a line says on its own.
 use Rattle.std.proofs.Common.{◌≡◌, ℕ, Bool, true, false, cond, List, [], ◌∷◌, Option, Some, None, Result, Ok, Err, refl, sym, subst}
 use Rattle.std.specs.Prelude.{nat_lt}
 use Rattle.std.proofs.lemmas.Bool.{false≢true}
@@ -44,12 +44,12 @@ of_text : (skipped : Bool) (columns : List (List ℕ)) (kind : Kind) → cond sk
 of_text true columns kind e = cc
 of_text false columns kind e = of_answer (columns_say columns) kind e (of_columns columns)
 
--- what is wrong with a line by itself is of a record
+-- what is wrong with a line on its own is a fault of a record
 pub wrong_is_of_record : (text : List ℕ) (kind : Kind) → Err kind ≡ record_of text → is_record_kind kind ≡ true
 unfolding record_of
 wrong_is_of_record text kind e = of_text (is_header text) (pieces 9 text) kind (sym e)
 
--- a fault of a record by itself is one of a BED line
+-- a fault of a record on its own is one of a BED line
 pub bed_of_record : (kind : Kind) → is_record_kind kind ≡ true → is_bed_kind kind ≡ true
 bed_of_record TooFewColumns e = e
 bed_of_record EmptyName e = e
@@ -58,7 +58,7 @@ bed_of_record BadStop e = e
 bed_of_record EmptyFeature e = e
 bed_of_record kind e = absurd (false≢true e)
 
--- so what is wrong with a line by itself is of a line
+-- so what is wrong with a line on its own is a fault of a line
 pub wrong_is_of_line : (text : List ℕ) (kind : Kind) → Err kind ≡ record_of text → is_bed_kind kind ≡ true
 wrong_is_of_line text kind e = bed_of_record kind (wrong_is_of_record text kind e)
 

@@ -42,7 +42,7 @@ module _ {A State : Type 0} (format : Format A State) (input : Input) where
       ∙ sym (said_one state line lines item say.0)
 
 module _ {A State : Type 0} (format : Format A State) where
-  -- what a front of lines says the lines say
+  -- what the first lines say, all lines say
   pub say_front : (state : State) (front all : List TextLine) (items : List A) → take (length front) all ≡ front → LinesSay format state front items → LinesSay format state all items
   say_front state front all [] e say = tt
   say_front state [] all (item ∷ items) e say = absurd say
@@ -52,7 +52,7 @@ module _ {A State : Type 0} (format : Format A State) where
       let rest : take (length front) all ≡ front = cc in
       (ap (format.says state) same ∙ say.0, say_front (format.after state item) front all items rest say.1)
 
-  -- and of what they say a front
+  -- and they say the first of it
   pub say_fewer : (state : State) (lines : List TextLine) (items more : List A) → LinesSay format state lines (items ++ more) → LinesSay format state lines items
   say_fewer state lines [] more say = tt
   say_fewer state [] (item ∷ items) more say = absurd say
@@ -109,7 +109,7 @@ first_of_run name start (line ∷ lines) r items e =
     let is = record_on_is name start line.text r head.0 in
     record { line = line; more = lines; lines_are = refl; says = is.0; chrom = is.1; above = is.2; rest = head.1 }
 
--- what a line says behind a place depends on its record alone
+-- what a line says after a place depends on its record alone
 said_after_is : (sorting : Sorting) (state : Option Locus) (said : Result (Option Feature) Kind) (r : Feature) → said_after sorting state said ≡ Ok (Some r) → said ≡ Ok (Some r)
 said_after_is sorting state (Err kind) r e = cc
 said_after_is sorting state (Ok None) r e = cc
@@ -125,7 +125,7 @@ unfolding line_says
 says_again sorting state text other r said e =
     ap (said_after sorting state) (e ∙ sym (said_after_is sorting state (record_of other) r said)) ∙ said
 
--- the lines of a run say its records, where each is said behind those before it
+-- the lines of a run say its records, if each is said after those before it
 pub run_says : (sorting : Sorting) (state : Option Locus) (name : List ℕ) (start : ℕ) (lines : List TextLine) (records : List Feature) → run_of name start lines ≡ records → AreSaid (bed_format sorting) state records
     → LinesSay (bed_format sorting) state lines records
 run_says sorting state name start lines [] e said = tt
@@ -158,7 +158,7 @@ says_on sorting name start text r known says on above =
     let test : nat_lt r.start start ≡ false = grind (arith, nat_tests) in
     ap (said_after sorting (Some (record { chrom = name; start = start }))) says ∙ rw (knows, one, test) refl
 
--- the records of a run are said behind the place that it begins at
+-- the records of a run are said after the place that it begins at
 pub run_is_said : (sorting : Sorting) (name : List ℕ) (start : ℕ) (lines : List TextLine) (records : List Feature) → IsTrue (sorting.knows name) → run_of name start lines ≡ records
     → AreSaid (bed_format sorting) (Some (record { chrom = name; start = start })) records
 run_is_said sorting name start lines [] known e = tt
@@ -169,7 +169,7 @@ run_is_said sorting name start lines (r ∷ records) known e =
       subst (λ (p : Locus). AreSaid (bed_format sorting) (Some p) records) place (run_is_said sorting name r.start first.more records known first.rest),
     )
 
--- what is left of a run behind some of its records
+-- what is left of a run after some of its records
 pub run_behind : (name : List ℕ) (start : ℕ) (lines : List TextLine) (records more : List Feature) → run_of name start lines ≡ records ++ more
     → run_of name (last_start start records) (drop (length records) lines) ≡ more
 run_behind name start lines [] more e = e
@@ -184,7 +184,7 @@ run_behind name start (line ∷ lines) (r ∷ records) more e =
     same_more : (x : TextLine) (xs : List TextLine) → line ∷ lines ≡ x ∷ xs → xs ≡ lines
     same_more x xs h = cc
 
--- the place behind some records of a run
+-- the place after some records of a run
 pub place_behind : (sorting : Sorting) (state : Option Locus) (name : List ℕ) (start : ℕ) (lines : List TextLine) (r : Feature) (records more : List Feature) → run_of name start lines ≡ r ∷ (records ++ more)
     → state_behind (bed_format sorting) state (r ∷ records) ≡ Some (record { chrom = name; start = last_start start (r ∷ records) })
 place_behind sorting state name start lines r [] more e =

@@ -4,7 +4,7 @@ use Rattle.std.proofs.lemmas.Bool.{cases_Bool, cases_eq, cond-true, cond-false, 
 use Rattle.bt_bed.specs.Interval.{Span}
 use Rattle.bt_bed.specs.Stretches.{IsCovered, AreApartFrom, with_position, stretches_from, scan_finds_stretches}
 
--- the list stands apart from a position on, and covers just the position and what the other list covers
+-- the list has a gap before each span from a position on, and covers just the position and what the other list covers
 record AddsPosition (p : ℕ) (xs ys : List Span) : Type 0 where
   apart : AreApartFrom p ys
   within : (q : ℕ) → IsCovered ys q → (q ≡ p) ⊎ IsCovered xs q

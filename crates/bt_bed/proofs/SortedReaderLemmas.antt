@@ -47,7 +47,7 @@ unfolding bytes_left
 still_unknown left old new same none =
     unknown_by (left (source_of old)) (left (source_of new)) (end_told old) (end_told new) (held old) (held new) (suc (lines_given old)) (suc (lines_given new)) (ap left same) none
 
--- what is good behind items that were taken
+-- what is good after items that were taken
 taken_good : {A State : Type 0} (format : Format A State) (input : Input) (state : State) (number : ℕ) (items : List A) (a b : Option (List TextLine)) → IfSome a (AreNumbered number) → IfSome a (λ all. LinesSay format state all items)
     → (a ≡ None → b ≡ None) → DropsLines a (length items) b
     → option_map (with_members (members_from number items)) (option_map (good_behind format input None (state_behind format state items)) b) ≡ option_map (good_behind format input None state) a

@@ -36,7 +36,7 @@ no_tabs : (xs : List ℕ) → prefix_len (λ x. not (is_tab x)) xs ≡ length xs
 no_tabs [] e = refl
 no_tabs (x ∷ xs) e = none_fails (is_tab x) _ (length xs) _ (prefix_len-le-length (λ y. not (is_tab y)) xs) (omega arith) (no_tabs xs)
 
--- the first tab of so many bytes stands here
+-- the first tab of these n bytes is here
 record IsTabAmong (text : List ℕ) (i n at : ℕ) : Type 0 where
   inside : at < n
   tab : get_or text (i + at) 0 ≡ 9
@@ -66,7 +66,7 @@ column_by text n within none = λ k d h.
     let below : k < n = omega (arith, length-take n text) in
     ap (λ (b : ℕ). eqb b 9) (get_or-take n text k d below) ∙ none k d below
 
--- the first tab, and the first of those behind it
+-- the first tab, and the first of those after it
 second_tab_is : (text : List ℕ) (n tabs first others second : ℕ) → n ≤ length text → n ≤ 16
     → tabs ≡ mask_l (map is_tab (chunk 0 n text)) → 0 < tabs
     → first ≡ count_trailing_zeros 64 tabs
@@ -104,7 +104,7 @@ second_tab_is text n tabs first others second room short is some at rest more ne
 two_times : (n : ℕ) → n * 2 ^ 1 + bit_and 0 1 ≡ 2 * n
 two_times n = omega arith
 
--- so many bytes that are no tabs
+-- `count` bytes that are no tabs
 abbrev blank : ℕ → List ℕ
 blank zero = []
 blank (suc count) = 0 ∷ blank count
@@ -113,7 +113,7 @@ blank_length : (count : ℕ) (xs : List ℕ) → length (blank count ++ xs) ≡ 
 blank_length zero xs = omega arith
 blank_length (suc count) xs = let rest = blank_length count xs in omega arith
 
--- twice a number, so many times
+-- a number, doubled `count` times
 abbrev doubled : ℕ → ℕ → ℕ
 doubled zero n = n
 doubled (suc count) n = 2 * doubled count n
@@ -130,7 +130,7 @@ run_padded : (count : ℕ) (xs : List ℕ) → prefix_len (λ x. not (is_tab x))
 run_padded zero xs = omega arith
 run_padded (suc count) xs = let rest = run_padded count xs in omega arith
 
--- a mask without its lowest bit is that of the bytes behind the first tab
+-- a mask without its lowest bit is that of the bytes after the first tab
 cleared_by : (b : Bool) (m run : ℕ) → (0 < m → bit_and m (m - 1) ≡ doubled (suc run) (m / 2 ^ suc run)) → 0 < cond b 1 0 + 2 * m
     → bit_and (cond b 1 0 + 2 * m) (cond b 1 0 + 2 * m - 1) ≡ doubled (suc (cond b 0 (suc run))) ((cond b 1 0 + 2 * m) / 2 ^ suc (cond b 0 (suc run)))
 cleared_by true m run more some =
@@ -162,7 +162,7 @@ cleared (x ∷ xs) some =
     subst (λ n. bit_and (mask_l (map is_tab (x ∷ xs))) (mask_l (map is_tab (x ∷ xs)) - 1) ≡ doubled (suc n) (mask_l (map is_tab (x ∷ xs)) / 2 ^ suc n))
     (sym (run_by x xs)) (cleared_by (is_tab x) (mask_l (map is_tab xs)) (prefix_len (λ y. not (is_tab y)) xs) (cleared xs) some)
 
--- the second of the tabs of so many bytes is the lowest bit that is left of the mask
+-- the second of the tabs of these n bytes is the lowest bit that is left of the mask
 pub second_tab_left : (text : List ℕ) (n tabs others : ℕ) → n ≤ length text → n ≤ 16
     → tabs ≡ mask_l (map is_tab (chunk 0 n text)) → tabs < 18446744073709551616
     → others ≡ bit_and tabs ((tabs + 18446744073709551615) % 18446744073709551616) → 0 < others
@@ -194,8 +194,8 @@ second_tab_left text n tabs others room short is fits taken left =
     ∙ (λ i. plus i + sym (ap (count_trailing_zeros 64) mask ∙ trailing_mask_l is_tab 64 behind (omega arith) (subst (λ n. 0 < n) mask some_more)) i) in
     subst (CutsTwo text) (sym second) (second_tab_is text n tabs first more (count_trailing_zeros 64 more) room short is some refl (ap (λ k. tabs / 2 ^ k) plus) some_more refl)
 
--- the tabs of sixteen bytes without those before an index, which is one of them or stands behind
--- them
+-- the tabs of sixteen bytes without those before an index, which is in these bytes or just
+-- after them
 pub tabs_from : (text : List ℕ) (begin from tabs : ℕ) → begin ≤ from → from ≤ begin + 16
     → tabs ≡ mask_l (map is_tab (take 16 (drop begin text))) / 2 ^ (from - begin)
     → tabs ≡ mask_l (map is_tab (chunk 0 (begin + 16 - from) (drop from text)))

@@ -95,7 +95,7 @@ unfolding plus
 plus_cond n true o = let same : n ≡ n + 0 = omega arith in ap Some same
 plus_cond n false o = plus_suc n o
 
--- where a name stands among the keys, counted from n, is its rank counted from n
+-- the position of a name among the keys, counted from n, is its rank counted from n
 placed_from : (chromosomes : List (Vec ℕ Global × ℕ)) (name : List ℕ) (n : ℕ)
     → position_from (λ key. bytes_eq name key.items) n (keys_of chromosomes) ≡ plus n (rank_of (genome_names (map entry_seen chromosomes)) name)
 unfolding plus
@@ -188,7 +188,7 @@ continues_end input (Some old) (Some now) from to front c e =
     let all : old ≡ c.0 = c.1 ∙ ap (λ lines. c.0 ++ lines) e ∙ append-nil c.0 in
     ap (λ lines. genome_of input lines) all ∙ c.3
 
--- a line that is at fault behind those given
+-- a line that is at fault after those given
 fault_behind : (input : Input) (given : List TextLine) (front : List Entry) (line : TextLine) (lines : List TextLine) (kind : Kind) → genome_of input given ≡ Ok front
     → new_entry (genome_names front) (entry_of line.text) ≡ Err kind → genome_of input (given ++ line ∷ lines) ≡ Err (fault_at_line input line.number kind)
 fault_behind input given front line lines kind good e =
@@ -380,7 +380,7 @@ some_length [] rank size all e = cc
 some_length (first ∷ others) zero size all e = let is : first.1 ≡ size = cc in subst (λ n. 0 < n) is (All-head (λ (chromosome : Vec ℕ Global × ℕ). 0 < chromosome.1) first others all)
 some_length (first ∷ others) (suc rank) size all e = some_length others rank size (All-tail (λ (chromosome : Vec ℕ Global × ℕ). 0 < chromosome.1) first others all) e
 
--- a chromosome behind others that have bases
+-- a chromosome after others that have bases
 pub entries_non_empty : (chromosomes : List (Vec ℕ Global × ℕ)) (name : Vec ℕ Global) (size : ℕ) (text : List ℕ) → name.items ≡ text → is_among (genome_names (map entry_seen chromosomes)) text ≡ false → All (λ chromosome. 0 < chromosome.1) chromosomes → 0 < size
     → All (λ chromosome. 0 < chromosome.1) (insert_entry (λ a b. bytes_eq a.items b.items) chromosomes name size)
 entries_non_empty chromosomes name size text is new all some =

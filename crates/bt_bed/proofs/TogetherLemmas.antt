@@ -1,4 +1,4 @@
--- Lemmas on records that stand together, and on records in a total order of their chromosomes.
+-- Lemmas on contiguous records, and on records in a total order of their chromosomes.
 use Rattle.std.proofs.Common.{◌≡◌, ℕ, ◌≤◌, ◌⊎◌, inl, inr, List, [], ◌∷◌, ◌++◌, refl, sym, ap, ◌∙◌, subst, true, false, bytes_eq, Some}
 use Rattle.std.specs.Prelude.{IsTrue}
 use Rattle.std.specs.declared.cmp.Ordering.TheVariants.{Less, Equal}

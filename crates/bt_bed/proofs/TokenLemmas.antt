@@ -1,4 +1,4 @@
--- What was consumed of a batch that a reader lent is a token that it takes.
+-- What was consumed of a batch that a reader gave is a token that it takes.
 use Rattle.std.proofs.Common.{◌≡◌, ◌+◌, ◌-◌, Bool, true, false, List, [], ◌∷◌, ◌++◌, Option, Some, None, length, take, drop, refl, sym, ap, ◌∙◌, subst, arith, length-append, length-take}
 use Rattle.std.specs.Prelude.{IfNone, IfSome}
 use Rattle.std.proofs.Math.Seq.{take-append_seam}
@@ -63,7 +63,7 @@ module _ {S Q : Type 0} (sorted : SortedReader S Q) (first last : Batch) (record
   lines_are : TakenLines sorted.reader consumed.lines (length records)
   lines_are = taken_by (is_some_left (buffered_in sorted)) refl
 
-  -- so many were consumed
+  -- as many were consumed as there are records
   pub count_is : count_in sorted consumed ≡ length records
   count_is = omega (arith, lines_are.given)
 

@@ -1,4 +1,4 @@
--- The records that a reader of lines has buffered behind a last record.
+-- The records that a reader of lines has buffered after a last record.
 use Rattle.std.specs.Prelude.{Bool, List, [], if◌then◌else◌}
 use Rattle.bt_lines.specs.Reader.{buffered_in}
 use Rattle.bt_lines.specs.declared.line_reader.LineReader.{LineReader}

@@ -34,7 +34,7 @@ consumed_in batch = take batch.lines.at batch.lines.all.now
 unfoldable pub left : Batch → List Feature
 left batch = run_of batch.name.now batch.start (lines_in batch.lines)
 
--- those behind the next one, which starts here
+-- those after the next one, which starts here
 unfoldable pub left_behind : Batch → ℕ → List Feature
 left_behind batch start = run_of batch.name.now start (drop 1 (lines_in batch.lines))
 

@@ -89,7 +89,7 @@ module _ {S : Type 0} where
   abbrev pub Lends : Blocks S → Batch → Type 0
   Lends blocks batch = LendsFrom blocks.sorted batch
 
-  -- so many of them were consumed
+  -- how many of them were consumed
   abbrev pub count_in : Blocks S → Consumed → ℕ
   count_in blocks consumed = count_from blocks.sorted consumed
 
@@ -97,7 +97,7 @@ module _ {S : Type 0} where
   abbrev pub IsTaken : Blocks S → Consumed → Type 0
   IsTaken blocks consumed = IsTakenIn blocks.sorted consumed
 
-  -- a call of `consume`: the first of those that are buffered are taken, so many, and nothing is read
+  -- a call of `consume`: the first `count` of those that are buffered are taken, and nothing is read
   pub record TakesBlocks (left : S → Option (List ℕ)) (end : S → Bool) (old : Blocks S)
       (count : ℕ) (new : Blocks S) : Type 0 where
     pub takes : Takes left end (view_of old) (take count (buffered_in old)) (view_of new)

@@ -29,7 +29,7 @@ pub single_gives_same : (old mid new : Single) (x y : Feature) (ys : List Featur
 single_gives_same old mid new x y ys first again =
     same_head x y (single_left mid) (ys ++ single_left new) (sym first.left ∙ again.left)
 
--- where the last of records starts behind others
+-- the start of the last of records after others
 last_start_more : (start : ℕ) (xs ys : List Feature) → last_start start (xs ++ ys) ≡ last_start (last_start start xs) ys
 last_start_more start [] ys = refl
 last_start_more start (x ∷ xs) ys = last_start_more x.start xs ys

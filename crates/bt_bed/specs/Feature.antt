@@ -1,4 +1,4 @@
--- Features of a BED file: where they lie, their strand, and the columns that are kept as they stood
+-- Features of a BED file: where they lie, their strand, and the columns that are kept as they are
 -- (UCSC BED description, fields chrom, chromStart, chromEnd and strand).
 use Rattle.std.specs.Prelude.{ℕ, List, map}
 use Rattle.bt_bed.specs.Interval.{Interval}

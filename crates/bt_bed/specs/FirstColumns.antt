@@ -47,14 +47,14 @@ pub record AreBounds (text : List ℕ) (name : ℕ) (start stop : Leading) : Typ
   pub second : Leads (drop (start.end + 1) (drop (name + 1) text)) stop
   pub below : start.value < stop.value
 
--- so many digits come first, at most twelve, and denote the number
+-- `lead.end` digits come first, at most twelve, and denote the number
 pub record BeginsWith (text : List ℕ) (lead : Leading) : Type 0 where
   pub within : lead.end ≤ length text
   pub short : lead.end ≤ 12
   pub digits : list_all is_ascii_digit (take lead.end text) ≡ true
   pub value : lead.value ≡ digits_value 10 (take lead.end text)
 
--- the bytes begin with this name, and behind it, each after a tab, with the digits of a start and of an end that is greater
+-- the bytes begin with this name, and after it come, each after a tab, the digits of a start and of a greater end
 pub record HasColumns (bytes name : List ℕ) (start stop : Leading) : Type 0 where
   pub named : BeginsWithName bytes name
   pub first : BeginsWith (drop (length name + 1) bytes) start
@@ -68,7 +68,7 @@ pub record HasColumns (bytes name : List ℕ) (start stop : Leading) : Type 0 wh
 abbrev pub is_tab : ℕ → Bool
 is_tab byte = byte == 9
 
--- the second tab stands here: it parts the first two columns from the others
+-- the second tab is here: it divides the first two columns from the others
 pub record CutsTwo (text : List ℕ) (at : ℕ) : Type 0 where
   pub within : at < length text
   pub first : List ℕ

@@ -1,4 +1,4 @@
--- The chromosomes of a genome file, in its order: a name, a tab and a length on each line, further
+-- The chromosomes of a genome file, in its order: a name, a tab and a length on each line, other
 -- columns ignored, so that an index of samtools faidx is one too. Blank lines and lines that begin
 -- with `#` are skipped (bedtools manual, genome file format).
 use Rattle.std.specs.Prelude.{◌≡◌, ℕ, Bool, true, ◌==◌, IfErr, List, [], ◌∷◌, ◌++◌, map, take}
@@ -94,7 +94,7 @@ abbrev pub genome_names_are_distinct : Type 0
 genome_names_are_distinct = (input : Input) (lines : List TextLine) (entries : List Entry)
     → genome_of input lines ≡ Ok entries → AreDistinct (genome_names entries)
 
--- where a text's fault, if it has one, lies behind the first so many lines, these have no fault
+-- if a text's fault, if it has one, lies after the first `count` lines, these have no fault
 abbrev pub first_lines_make_entries : Type 0
 first_lines_make_entries = (input : Input) (count : ℕ) (text : List ℕ)
     → IfErr (genome_of input (text_lines text)) (IsFaultBeyond count)

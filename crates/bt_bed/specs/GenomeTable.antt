@@ -121,7 +121,7 @@ module _ {S : Type 0} where
         (lines_given new - lines_given old) fault
     pub bytes : (bytes : List ℕ) × Hands left old bytes new
     -- of known bytes, those after the lines given and one line more are left,
-    -- but for a block at most
+    -- except at most a block
     pub near : fault_kept old ≡ None → IsSound left end old → IsNear left old new
 
   -- what an answer says

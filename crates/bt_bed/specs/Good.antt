@@ -8,7 +8,7 @@ use Rattle.bt_lines.specs.declared.fault.Input.{Input}
 use Rattle.bt_lines.specs.declared.fault.Kind.{Kind}
 use Rattle.bt_bed.specs.LineKind.{fault_at_line}
 
--- a member of an input, and the line that it stands on
+-- a member of an input, and the number of its line
 pub record Member (A : Type 0) : Type 0 where
   pub line : ℕ
   pub item : A

@@ -30,7 +30,7 @@ in_order sorting last r =
     then (if falls_in sorting last (locus_at r) then Err OutOfOrder else Ok (Some r))
     else Err UnknownChrom
 
--- what was said by itself, as it stands after the last place
+-- what a line says, given the last place
 abbrev pub said_after : Sorting → Option Locus → Result (Option Feature) Kind → Result
     (Option Feature) Kind
 said_after sorting last (Err kind) = Err kind
@@ -69,14 +69,14 @@ abbrev pub good_are_non_empty : Type 0
 good_are_non_empty = (input : Input) (order : Order) (handed : Handed)
     → AreNonEmpty (intervals_of (items_in (bed_good input order handed)))
 
--- the members of a text stand on its lines, one after another
+-- each member of a text is on a line of its own, in their order
 abbrev pub good_stand_on_lines : Type 0
 good_stand_on_lines = (input : Input) (order : Order) (text : List ℕ)
     → AreAscending 1 (good (bed_format (sorting_of order)) input (text_lines text)).members
     × All (λ m. m.line ≤ length (text_lines text))
     (good (bed_format (sorting_of order)) input (text_lines text)).members
 
--- Where the members of a text up to some line are these, and what else it has lies behind that
+-- If the members of a text up to some line are these, and what else it has lies after that
 -- line, they are what is good of its first lines.
 abbrev pub first_lines_have_the_first : Type 0
 first_lines_have_the_first = (input : Input) (order : Order) (count : ℕ) (text : List ℕ)

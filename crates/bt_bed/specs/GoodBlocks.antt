@@ -43,7 +43,7 @@ abbrev pub good_in_blocks_are_non_empty : Type 0
 good_in_blocks_are_non_empty = (input : Input) (handed : Handed)
     → AreNonEmpty (intervals_of (items_in (block_good input handed)))
 
--- the members of a text stand on its lines, one after another
+-- each member of a text is on a line of its own, in their order
 abbrev pub good_in_blocks_stand_on_lines : Type 0
 good_in_blocks_stand_on_lines = (input : Input) (text : List ℕ)
     → AreAscending 1 (good block_format input (text_lines text)).members

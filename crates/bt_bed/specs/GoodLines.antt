@@ -1,4 +1,4 @@
--- Which lines the members of an input stand on, and what is good of its first lines.
+-- Which lines the members of an input are on, and what is good of its first lines.
 use Rattle.std.specs.Prelude.{ℕ, suc, ◌<◌, ◌≤◌, ⊤, All, IfSome, List, [], ◌∷◌}
 use Rattle.bt_lines.specs.Fault.{Told}
 use Rattle.bt_bed.specs.Good.{Good, Member}
@@ -8,11 +8,11 @@ abbrev pub AreAscending : {A : Type 0} → ℕ → List (Member A) → Type 0
 AreAscending line [] = ⊤
 AreAscending line (m ∷ ms) = (line ≤ m.line) × AreAscending (suc m.line) ms
 
--- a fault's line, where it has one, comes after the first so many
+-- a fault's line, if it has one, comes after the first `count`
 abbrev pub IsFaultBeyond : ℕ → Told → Type 0
 IsFaultBeyond count fault = IfSome fault.place (λ place. count < place.line)
 
--- the members and the fault stand after the first so many lines
+-- the members and the fault are on lines after the first `count`
 pub record IsBeyond {A : Type 0} (count : ℕ) (good : Good A) : Type 0 where
   pub members : All (λ m. count < m.line) good.members
   pub fault : IfSome good.fault (IsFaultBeyond count)

@@ -1,5 +1,5 @@
 -- Lines of a BED file that aren't features: comments, and the lines that speak to a genome browser
--- (UCSC custom tracks description, browser lines and track lines). They may stand anywhere.
+-- (UCSC custom tracks description, browser lines and track lines). They may come anywhere.
 use Rattle.std.specs.Prelude.{ℕ, Bool, true, ◌==◌, ◌||◌, not, List, [], ◌∷◌, codes, bytes_eq}
 use Rattle.std.specs.List.{take_while}
 

@@ -1,4 +1,4 @@
--- The bytes of a text that is kept, whether they stand inside or in a buffer.
+-- The bytes of a text that is kept, inline or in a buffer.
 use Rattle.std.specs.Prelude.{ℕ, List}
 use Rattle.bt_bed.specs.declared.kept_text.Form.{Form}
 use Rattle.bt_bed.specs.declared.kept_text.Form.TheVariants.{Short, Long}

@@ -9,14 +9,14 @@ use Rattle.bt_lines.specs.declared.fault.Kind.TheVariants.{OutOfOrder, BadLength
 use Rattle.bt_lines.specs.declared.fault.Kind.TheVariants.{ReadFailed, WriteFailed, NoMemory}
 use Rattle.bt_bed.specs.Order.{Order}
 
--- a line can be at fault by what it says, and not by a device that failed or by want of memory
+-- whether a line can be at fault so by what it says, and not by a device that failed or by running out of memory
 abbrev pub is_of_line : Kind → Bool
 is_of_line ReadFailed = false
 is_of_line WriteFailed = false
 is_of_line NoMemory = false
 is_of_line _ = true
 
--- whether a line of a BED input can be at fault so by itself, whatever its chromosome and its place
+-- whether a line of a BED input can be at fault so on its own, whatever its chromosome and its place
 abbrev pub is_record_kind : Kind → Bool
 is_record_kind TooFewColumns = true
 is_record_kind EmptyName = true

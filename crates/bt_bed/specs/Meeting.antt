@@ -1,4 +1,4 @@
--- How two inputs meet: which lines are written, and which fault is told.
+-- How two inputs meet: which lines are written, and which fault is reported.
 --
 -- A member of the first input (a record, or a line of a sequence) is decided once nothing that may
 -- still come of the second input changes its lines.
@@ -15,10 +15,10 @@ pub record Rule (A L F : Type 0) : Type 0 where
   pub lines : A → List L
   -- its fault
   pub fault : Option F
-  -- what is told at last, where all members are written and the first input has no fault
+  -- what is reported at the end, when all members are written and the first input has no fault
   pub last : Option F
 
--- the lines that are written, and the fault that is told
+-- the lines that are written, and the fault that is reported
 pub record Met (L F : Type 0) : Type 0 where
   pub lines : List L
   pub fault : Option F
@@ -28,9 +28,9 @@ module _ {A L F : Type 0} where
   abbrev pub written : Rule A L F → List A → List L
   written rule members = flat_map rule.lines (take_while rule.decided members)
 
-  -- The good members of the first input, and its fault, meet the second input. Where a member isn't
-  -- decided, the lines of those before it are written and the second input's fault is told. Else
-  -- all lines are written, and the first input's fault is told, or what is told at last.
+  -- The good members of the first input, and its fault, meet the second input. If a member isn't
+  -- decided, the lines of those before it are written and the second input's fault is reported. Else
+  -- all lines are written, and the first input's fault is reported, or `last`.
   abbrev pub meet : Rule A L F → List A → Option F → Met L F
   meet rule members fault = if list_all rule.decided members
       then record { lines = flat_map rule.lines members; fault = option_or fault rule.last }
@@ -41,7 +41,7 @@ module _ {A L F : Type 0} where
   StaysDecided early late member = IsTrue (early.decided member)
       → IsTrue (late.decided member) × (early.lines member ≡ late.lines member)
 
--- what is written early begins what is written in the end, whichever fault is told
+-- what is written early begins what is written in the end, whichever fault is reported
 abbrev pub EarlyLinesBegin : (A L F : Type 0) → Type 0
 EarlyLinesBegin A L F = (early late : Rule A L F) (members more : List A) (fault : Option F)
     → All (StaysDecided early late) members

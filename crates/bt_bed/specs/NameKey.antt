@@ -1,4 +1,4 @@
--- The name of a chromosome and the tab behind it, as one number.
+-- The name of a chromosome and the tab after it, as one number.
 use Rattle.std.specs.Prelude.{◌≡◌, ℕ, ◌+◌, ◌*◌, ◌%◌, ◌^◌, ◌<◌, ◌≤◌, List, [], ◌∷◌, ◌++◌, get_or, length}
 use Rattle.std.specs.Int.{from_le_bytes, w64}
 use Rattle.bt_bed.specs.declared.name_key.NameKey.{NameKey}

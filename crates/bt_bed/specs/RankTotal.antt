@@ -1,4 +1,4 @@
--- The order of ranks is total. The proof stands here since the
+-- The order of ranks is total. The proof is here since the
 -- order of a genome cites it as its law.
 use Rattle.std.specs.Prelude.{◌≡◌, ℕ, zero, suc, Bool, true, false, cond, ◌⊎◌, List, [], ◌∷◌}
 use Rattle.std.specs.Prelude.{Option, Some, None, option_map, is_some, bytes_eq, refl}

@@ -13,7 +13,7 @@ text_in raw = raw.text.now
 unfoldable pub raw_in : RawRecord → List ℕ
 raw_in raw = raw.text.now ++ cond (nat_lt (length raw.text.now + 1) raw.size) (13 ∷ 10 ∷ []) (10 ∷ [])
 
--- what stands behind its third column
+-- what follows its third column
 unfoldable pub kept_in : RawRecord → List ℕ
 kept_in raw = drop (raw.name + raw.start.end + raw.stop.end + 2) raw.text.now
 
@@ -35,6 +35,6 @@ pub record IsOnLine (line : Shown) (name : List ℕ) (raw : RawRecord) : Type 0 
   pub says : record_of line.text ≡ Ok (Some (record_in raw))
   pub chrom : (record_in raw).chrom ≡ name
 
--- a record that a line of this text says is written as that stands
+-- a record that a line of this text says is written as the line is
 pub record IsAsWritten (text : List ℕ) : Type 0 where
   pub is : (r : Feature) → record_of text ≡ Ok (Some r) → bed_text r ≡ text

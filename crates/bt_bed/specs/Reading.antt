@@ -72,7 +72,7 @@ abbrev pub with_members : {A : Type 0} → List (Member A) → Good A → Good A
 with_members members good = record { members = members ++ good.members; fault = good.fault }
 
 module _ {S : Type 0} where
-  -- of known lines, those that were given are no longer left
+  -- of known lines, those that were given aren't left
   abbrev pub LinesPass : (S → Option (List ℕ)) → LineReader S → LineReader S → Type 0
   LinesPass left old new = IfSome (lines_left left old) (λ lines.
       lines_left left new ≡ Some (drop (lines_given new - lines_given old) lines))
@@ -84,12 +84,12 @@ module _ {S : Type 0} where
     pub cause : (failed (source_of new) ≡ true) ⊎ (2 ^ 63 ≤ bytes_taken new)
     -- it comes before the end
     pub before_end : end_told old ≡ false
-    -- the whole lines among the bytes taken in the call are those that were given
+    -- the complete lines among the bytes taken in the call are those that were given
     pub cut : IsKept left end old → CutsOff left old new
 
-  -- A failed read is told for the first time only where a read of this call failed, whatever the
-  -- source did before, or where the text is too long, by what its reads gave; else all reads of the
-  -- call served.
+  -- A failed read is reported for the first time only if a read of this call failed, whatever the
+  -- source did before, or if the text is too long by what its reads gave. Else all reads of the call
+  -- succeeded.
   abbrev pub TellsOwnFailure : {T : Type 0} → (S → Option ℕ → S → Type 0) → Option Told
       → LineReader S → Result T Fault → LineReader S → Type 0
   TellsOwnFailure IsRead before old (Ok done) new = HasRead IsRead old new
@@ -154,7 +154,7 @@ module _ {S A State : Type 0} where
     pub goes : new.fault ≡ old.fault
     pub stays : Stays left old new
     pub lines : LinesPass left old.below new.below
-    -- of known bytes, those after the lines given and its own are left, but for a block at most
+    -- of known bytes, those after the lines given and its own are left, except at most a block
     pub near : IsNear left old.below new.below
     pub shrinks : room new ≤ room old
 
@@ -175,7 +175,7 @@ module _ {S A State : Type 0} where
     -- once the end is reached, nothing more is read
     pub again : has_ended old.below ≡ true → new ≡ old
     pub served : failed (source_of new.below) ≡ failed (source_of old.below)
-    -- after a fault no end is told
+    -- after a fault no end is reported
     pub was_going : old.fault ≡ None
     pub goes : new.fault ≡ None
     pub stays : Stays left old new
@@ -197,7 +197,7 @@ module _ {S A State : Type 0} where
     -- after it at most a block is held
     pub near : length (held new.below) ≤ block_size
 
-  -- the lines that were given said nothing: what was still to come lies behind them
+  -- the lines that were given said nothing: what was still to come lies after them
   abbrev pub SaidNothing : (S → Option (List ℕ)) → MemberReader S A State → MemberReader S A State
       → Type 0
   SaidNothing left old new = IfSome (good_coming left old) (IsBeyond (lines_given new.below))
@@ -245,11 +245,11 @@ module _ {S A State : Type 0} where
     pub again : (before : Told) → old.fault ≡ Some before → (fault ≡ before) × (new ≡ old)
     pub first : old.fault ≡ None → Cause left failed end old fault new
     pub stays : Stays left old new
-    -- the lines that were given are no longer left, where the line read last could be read
+    -- the lines that were given aren't left, if the line read last could be read
     pub rises : lines_given old.below ≤ lines_given new.below
     pub lines : line_fault new.below ≡ None → LinesPass left old.below new.below
     -- of known bytes, those after the lines given and one line more are left,
-    -- but for a block at most
+    -- except at most a block
     pub near : old.fault ≡ None → IsKept left end old.below → IsNear left old.below new.below
 
   -- a member was made buffered
@@ -289,6 +289,6 @@ module _ {S A State : Type 0} where
     pub source : source_of new.below ≡ source_of old.below
     pub lines : LinesPass left old.below new.below
     pub kept : IsKept left end old.below → IsKept left end new.below
-    -- behind the lines at most a block is held
+    -- after the lines at most a block is held
     pub near : 0 < length taken → length (held new.below) ≤ block_size
     pub shrinks : room new + length taken ≤ room old

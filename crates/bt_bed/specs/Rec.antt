@@ -4,7 +4,7 @@ use Rattle.bt_bed.specs.Feature.{Feature}
 use Rattle.bt_bed.specs.Record.{IsFeature}
 use Rattle.bt_bed.specs.declared.strand.Strand.{Strand}
 
--- the feature whose name is the first bytes of a text, so many,
+-- the feature whose name is the first `name_len` bytes of a text,
 -- and whose kept columns are the others
 abbrev pub feature_in : List ℕ → ℕ → ℕ → ℕ → Strand → Feature
 feature_in text name_len start stop strand = record {
@@ -15,7 +15,7 @@ feature_in text name_len start stop strand = record {
   rest = drop name_len text;
 }
 
--- the name stands in the text, and the feature is one that a line can say
+-- the name is within the text, and the feature is one that a line can say
 pub record IsFeatureIn (text : List ℕ) (name_len start stop : ℕ) (strand : Strand) : Type 0 where
   pub within : name_len ≤ length text
   pub is : IsFeature (feature_in text name_len start stop strand)

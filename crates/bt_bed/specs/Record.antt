@@ -24,7 +24,7 @@ strand_named column =
     if bytes_eq column (codes "+") then Plus
     else (if bytes_eq column (codes "-") then Minus else Dot)
 
--- the strand of the columns from the fourth on: it stands in the sixth
+-- the strand of the columns from the fourth on: the sixth has it
 abbrev pub strand_of : List (List ℕ) → Strand
 strand_of [] = Dot
 strand_of (name ∷ []) = Dot
@@ -64,13 +64,13 @@ unfoldable pub record_of : List ℕ → Result (Option Feature) Kind
 record_of text = if is_header text then Ok None else not_skipped (columns_say (pieces 9 text))
 
 -- the bytes of a record, without a line end: start and end without leading zeros,
--- and the kept columns as they stood
+-- and the kept columns as they are
 abbrev pub bed_text : Feature → List ℕ
 bed_text feature =
     feature.chrom ++ codes "\t" ++ decimal feature.start ++ codes "\t" ++ decimal feature.stop
     ++ feature.rest
 
--- a record with another start and end, and all else as it stood
+-- a record with another start and end, and all else unchanged
 abbrev pub cut_to : ℕ → ℕ → Feature → Feature
 cut_to start stop feature =
     record {

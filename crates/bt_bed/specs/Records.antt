@@ -97,7 +97,7 @@ module _ {S O : Type 0} {g : Ghosts O} where
   abbrev pub Lends : Records S O g → Batch → Type 0
   Lends records batch = LendsFrom records.sorted batch
 
-  -- so many of them were consumed
+  -- how many of them were consumed
   abbrev pub count_in : Records S O g → Consumed → ℕ
   count_in records consumed = count_from records.sorted consumed
 
@@ -105,7 +105,7 @@ module _ {S O : Type 0} {g : Ghosts O} where
   abbrev pub IsTaken : Records S O g → Consumed → Type 0
   IsTaken records consumed = IsTakenIn records.sorted consumed
 
-  -- a call of `consume`: the first of those that are buffered are taken, so many, and nothing is read
+  -- a call of `consume`: the first `count` of those that are buffered are taken, and nothing is read
   pub record TakesRecords (left : S → Option (List ℕ)) (end : S → Bool) (old : Records S O g)
       (count : ℕ) (new : Records S O g) : Type 0 where
     pub takes : Takes left end (view_of old) (take count (buffered_in old)) (view_of new)

@@ -12,7 +12,7 @@ single_left one = option_to_list (option_map feature_lent one.bed)
 unfoldable pub single_name : Single → List ℕ
 single_name one = one.chrom.now
 
--- the line on which the record stands
+-- the number of the record's line
 unfoldable pub single_line : Single → ℕ
 single_line one = one.line
 

@@ -29,14 +29,14 @@ abbrev pub fault_in : {T : Type 0} → Result T Fault → Option Told
 fault_in (Ok done) = None
 fault_in (Err fault) = Some (told fault)
 
--- whether each of these records fits behind those before it
+-- whether each of these records fits after those before it
 abbrev pub are_in_order : Sorting → Option Locus → List Feature → Bool
 are_in_order sorting last [] = true
 are_in_order sorting last (r ∷ records) =
     sorting.knows r.chrom && not (falls_in sorting last (locus_at r))
     && are_in_order sorting (Some (locus_at r)) records
 
--- the chromosome of the last record is known, what is buffered fits behind it, and no fault is kept while a record is
+-- the chromosome of the last record is known, what is buffered fits after it, and no fault is kept while a record is
 pub record IsPlaced {S : Type 0} (sorting : Sorting)
     (reader : MemberReader S Feature (Option Locus)) : Type 0 where
   pub last : ForSome reader.state (λ place. IsTrue (sorting.knows place.chrom))
@@ -69,7 +69,7 @@ module _ {S Q : Type 0} where
   view_in sorting sorted = view_with sorting
       (option_map told sorted.fault) sorted.reader sorted.neighbours (buffered_in sorted)
 
-  -- the batch lends them
+  -- the batch has them
   pub record Lends (sorted : SortedReader S Q) (batch : Batch) : Type 0 where
     pub left_is : left_in batch ≡ buffered_in sorted
     pub start : start_of batch ≡ start_in sorted.neighbours
@@ -83,7 +83,7 @@ module _ {S Q : Type 0} where
   abbrev pub count_in : SortedReader S Q → Consumed → ℕ
   count_in sorted consumed = consumed.lines.lines - lines_given sorted.reader
 
-  -- so many were consumed of those that are buffered
+  -- `count` of those that are buffered were consumed
   pub record IsTaken (sorted : SortedReader S Q) (consumed : Consumed) : Type 0 where
     pub lines : TakenLines sorted.reader consumed.lines (count_in sorted consumed)
     pub within : count_in sorted consumed ≤ length (buffered_in sorted)

@@ -1,4 +1,4 @@
--- Records of which those of one chromosome stand together, whatever the order of the chromosomes.
+-- Records of which those of one chromosome are contiguous, whatever the order of the chromosomes.
 use Rattle.std.specs.Prelude.{◌≡◌, ℕ, ◌≤◌, Bool, false, ◌⊎◌, ◌||◌, ⊤, IsFalse, IfSome, ◌++◌, List}
 use Rattle.std.specs.Prelude.{[], ◌∷◌, bytes_eq}
 use Rattle.bt_bed.specs.Interval.{Interval, last_of}
@@ -17,12 +17,12 @@ IsFollowed r [] = ⊤
 IsFollowed r (s ∷ ss) =
     ((s.chrom ≡ r.chrom) × (r.start ≤ s.start)) ⊎ IsFalse (has_records r.chrom (s ∷ ss))
 
--- the records of one chromosome stand together, and their starts don't fall
+-- the records of one chromosome are contiguous, and their starts don't fall
 abbrev pub AreTogether : List Interval → Type 0
 AreTogether [] = ⊤
 AreTogether (r ∷ rs) = IsFollowed r rs × AreTogether rs
 
--- records in a total order of their chromosomes stand together
+-- in a total order of the chromosomes, the records of each are contiguous
 abbrev pub placed_are_together : Type 0
 placed_are_together =
     (order : Order) (records : List Interval) → IsTotal order → ArePlaced order records
@@ -35,7 +35,7 @@ together_grows =
     → IfSome (last_of past) (λ last. ((r.chrom ≡ last.chrom) × (last.start ≤ r.start))
     ⊎ IsFalse (has_records r.chrom past)) → AreTogether (past ++ r ∷ [])
 
--- the first of records that stand together stand together
+-- a prefix of contiguous records is contiguous
 abbrev pub fronts_stand_together : Type 0
 fronts_stand_together =
     (front rest : List Interval) → AreTogether (front ++ rest) → AreTogether front

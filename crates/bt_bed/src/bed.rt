@@ -6,9 +6,9 @@ ghost use Rattle.bt_bed.specs.Record.{IsName, columns_in, is_kept, strand_of};
 
 use crate::strand::Strand;
 
-/// A feature, which borrows its chromosome's name and its further columns. Its start is zero-based,
+/// A feature, which borrows its chromosome's name and its other columns. Its start is zero-based,
 /// and its end, here `stop`, isn't included (UCSC BED description, fields chrom, chromStart and
-/// chromEnd). `rest` has the columns from the fourth on as they stood, each with the tab before it:
+/// chromEnd). `rest` has the columns from the fourth on as they are, each with the tab before it:
 /// it is empty, or begins with a tab. `strand` is that of its sixth column.
 #[derive(Clone, Copy, Debug)]
 pub struct BedRef<'a> {

@@ -13,7 +13,7 @@ use std::alloc::Global;
 /// Reads the records of a BED input in blocks, and reports the first line at fault: one that isn't a
 /// feature, or starts before the record before it on the same chromosome. A block is a maximal run of
 /// records of one chromosome; the blocks come in any order, and a chromosome may have several. Header
-/// lines and blank lines are skipped. `fill` makes a record buffered, or the end, `buffered` lends the records, and
+/// lines and blank lines are skipped. `fill` makes a record buffered, or the end, `buffered` borrows the records, and
 /// `consume` takes some of them.
 #[derive(Drop)]
 pub struct Blocks<S> {
@@ -49,9 +49,9 @@ impl<S: Source> Blocks<S> {
     }
 
     /// Makes at least one record buffered, and returns true if there is one: there is none at the end of the input. It
-    /// reads nothing while one is buffered, and after a fault, which is answered again, and after the end. A line that
-    /// couldn't be read is reported before what is wrong with it, and want of memory for its chromosome's name after.
-    /// Memory is taken for the line, and where the chromosome is another than that of the record before.
+    /// reads nothing while one is buffered, after a fault, which is returned again, and after the end. A line that
+    /// couldn't be read is reported before what is wrong with it, and running out of memory for its chromosome's name
+    /// after. It allocates for the line, and if the chromosome is another than that of the record before.
     #[inline(always)]
     pub fn fill(&mut self) -> Result<bool, Fault>
         ensures { FillsBlocks S.left S.has_failed S.end_told S.is_read self.old result self.new }
@@ -67,7 +67,7 @@ impl<S: Source> Blocks<S> {
         self.sorted.buffered()
     }
 
-    /// Takes the records that were consumed of what [`Blocks::buffered`] lent. It reads nothing and takes no memory.
+    /// Takes the records that were consumed of what [`Blocks::buffered`] gave. It reads nothing and doesn't allocate.
     pub fn consume(&mut self, consumed: Consumed)
         requires { IsTaken self.old consumed }
         ensures { TakesBlocks S.left S.end_told self.old (count_in self.old consumed) self.new }

@@ -29,7 +29,7 @@ impl ChromOrder for ByteOrder {
     }
 }
 
-// Which of two names comes first. It stands apart, so that equal names are told without a call.
+// Which of two names comes first. Out of line, so that equal names need no call.
 #[inline(never)]
 fn compare_bytes(left: &[u8], right: &[u8]) -> Ordering
     ensures { result ≡ byte_order.compare left.now right.now }

@@ -9,12 +9,12 @@ use bt_lines::{Fault, Kind, LineReader, Place, Source, no_memory};
 use indexmap::IndexMap;
 use std::alloc::Global;
 
-/// The chromosomes of a genome file, each with its length in bases. They stand in the file's order,
+/// The chromosomes of a genome file, each with its length in bases. They are in the file's order,
 /// and a chromosome's rank is its index there, from 0 (bedtools manual, genome file format). A look-up
 /// by name is hashed.
 #[derive(Drop, Debug)]
 pub struct Genome {
-    // Always valid: each length is above 0, and a name stands once.
+    // Always valid: each length is above 0, and the names are distinct.
     lengths: IndexMap<Vec<u8>, u64>,
     ghost non_empty: { All (λ chromosome. 0 < chromosome.1) lengths.entries },
 }
@@ -37,15 +37,15 @@ impl Genome {
         }
     }
 
-    /// Reads a genome file to its end. Each line has a name, a tab and a length, and further columns
+    /// Reads a genome file to its end. Each line has a name, a tab and a length, and other columns
     /// are ignored, so that an index of `samtools faidx` serves too. Blank lines and lines that begin
     /// with `#` are skipped (bedtools manual, genome file format).
     ///
-    /// The first line at fault is reported, and nothing behind it is read: `TooFewColumns` where it has no
-    /// second column, else `EmptyName`, else `BadLength` where the length is 0 or no number, else
-    /// `RepeatedChrom` where a line before it has the name. Want of memory for the table comes after
+    /// The first line at fault is reported, and nothing after it is read: `TooFewColumns` if it has no
+    /// second column, else `EmptyName`, else `BadLength` if the length is 0 or no number, else
+    /// `RepeatedChrom` if a line before it has the name. Running out of memory for the table comes after
     /// these, and the reader's own faults, `ReadFailed` and `NoMemory`, before. A fault that the reader
-    /// had already is answered again.
+    /// had already is returned again.
     pub fn read<S: Source>(alloc: Global, reader: &mut LineReader<S>) -> Result<Genome, Fault>
         ensures { ReadsGenome S.left S.has_failed S.end_told S.is_read reader.old result reader.new }
     {

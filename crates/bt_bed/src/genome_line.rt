@@ -1,4 +1,4 @@
-//! What a line of a genome file says by itself.
+//! What a line of a genome file says on its own.
 
 ghost use Rattle.std.specs.Prelude.{◌≡◌};
 ghost use Rattle.bt_lines.specs.Lines.{pieces};
@@ -18,7 +18,7 @@ fn is_skipped(text: &[u8]) -> bool
     }
 }
 
-// What a line says by itself.
+// What a line says on its own.
 #[tactic(auto, unfolding(crate::specs::Genome::entry_of))]
 pub(crate) fn entry(text: &[u8]) -> Result<Option<EntryRef<'_>>, Kind>
     ensures { entry_said result ≡ entry_of text.now }

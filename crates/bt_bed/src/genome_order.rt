@@ -29,8 +29,7 @@ impl ChromOrder for Genome {
 }
 
 impl Genome {
-    // Which of two known chromosomes comes first. It stands apart, so that equal names are told
-    // without a call.
+    // Which of two known chromosomes comes first. Out of line, so that equal names need no call.
     #[inline(never)]
     fn compare_ranks(&self, left: &[u8], right: &[u8]) -> Ordering
         requires left { IsTrue ((rank_order (names_of self.now)).knows left.now) }

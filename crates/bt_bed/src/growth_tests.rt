@@ -1,5 +1,5 @@
 //! Growths that are refused, by `rt try --test --fail-alloc N -- refused_growth` for each N from 1. Each
-//! test checks what is left where its call was refused, and then ends with want of memory.
+//! test checks what is left when its call was refused, and then ends with out of memory.
 
 use crate::{BedRef, Genome, Rec, parse_bed, write_bed, write_cut};
 use bt_lines::{Input, LineReader, ScriptSource, no_memory};
@@ -11,7 +11,7 @@ const LINE: &[u8] = b"chr1\t7\t100\tn\t5\t+\tand more columns than stand inside"
 
 const PART: &[u8] = b"chr1\t30\t90\tn\t5\t+\tand more columns than stand inside";
 
-// A record whose text stands inside, one that is a byte too long for that, and a longer one.
+// A record whose text fits inline, one that is a byte too long for that, and a longer one.
 const GROWING: [&[u8]; 3] = [
     b"chr1\t1\t2\tshort",
     b"chr1\t3\t4\tn\t5\t+\twith one more byte in",
@@ -27,7 +27,7 @@ fn holds(rt: &impl Abort, it: bool, name: &str) {
     assert!(rt; it, "{name}");
 }
 
-// Where a record was written it stands behind what stood there, and else that stands alone.
+// If a record was written, it follows the text that was there; else that text is unchanged.
 fn is_behind(text: &[u8], written: Result<(), AllocError>, record: &[u8]) -> bool {
     match written {
         Ok(()) => text.strip_prefix(b"before ") == Some(record),
@@ -70,7 +70,7 @@ fn refused_growth_of_a_kept_record(rt: HostRuntime) -> Result<(), Fail> {
     Ok(())
 }
 
-// Makes a record the next one, or that behind its name alone.
+// Makes a record the next one, or the one after its name alone.
 fn become_next(rec: &mut Rec, next: &BedRef<'_>, has_name: bool) -> Result<(), AllocError> {
     if has_name || rec.as_bed().chrom != next.chrom {
         rec.copy_from(next)

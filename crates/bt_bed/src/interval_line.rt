@@ -42,8 +42,8 @@ pub(crate) fn put_ended<K: Sink>(
     Err(write_failed())
 }
 
-// Puts what `put_ended` puts where `Out::hold_span` does, and answers whether it did. It stands apart, so that the loops
-// over records stay small.
+// Puts what `put_ended` puts and returns true, if `Out::hold_span` does. Out of line, so that the loops over records
+// stay small.
 #[inline(never)]
 fn hold_ended<K: Sink>(chrom: &[u8], start: u64, stop: u64, end: u8, out: &mut Out<K>) -> bool
     ensures held { result ≡ true → PutsAll out.old.output (chrom.now ++ span_text start stop end) out.new.output }
@@ -82,7 +82,7 @@ pub(crate) fn put_columns<K: Sink>(
 }
 
 // Writes what follows the name, and a byte that ends it, so that it ends where the text does, and gives where it begins.
-// It stands apart, as `hold_ended` does.
+// Out of line, as `hold_ended` is.
 #[inline(never)]
 fn write_span(start: u64, stop: u64, end: u8, text: &mut [u8; ROOM]) -> usize
     ensures within { result ≤ ROOM }

@@ -32,7 +32,7 @@ fn third_column(text: &[u8], from: usize) -> Strand
     }
 }
 
-// The strand that the third column of a text names, wherever it stands.
+// The strand that the third column of a text names, whatever its offset.
 #[cold]
 #[inline(never)]
 fn late_column(text: &[u8]) -> Strand

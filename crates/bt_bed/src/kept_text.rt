@@ -10,11 +10,11 @@ use std::marker::Model;
 // So many bytes may be left over: a text that has more of them is cut off.
 const MOST_LEFT_OVER: usize = 4096;
 
-// So many bytes stand inside. A record that is kept takes 64 bytes with them, and most names and further columns fit.
+// How many bytes fit inline. A record that is kept has 64 bytes with them, and most names and other columns fit.
 const SHORT: usize = 31;
 
-// The bytes of a record that is kept, of which some at the end may mean nothing. A sweep keeps each record that it
-// holds: a short text stands inside, so that no memory is taken for it and none given back. A longer one is in a
+// The bytes of a record that is kept, of which some at the end may be unspecified. A sweep keeps each record that it
+// holds: a short text is inline, so that nothing is allocated or freed for it. A longer one is in a
 // buffer, which then serves for shorter texts too.
 #[derive(Debug, Drop)]
 pub(crate) struct KeptText {
@@ -40,7 +40,7 @@ impl Model for KeptText {
 }
 
 impl KeptText {
-    // Whether they stand in a buffer, which stays where a shorter text is put there.
+    // Whether they are in a buffer, which is kept when it gets a shorter text.
     pub(crate) fn has_buffer(&self) -> bool {
         match self.form {
             Form::Short(_) => false,
@@ -48,7 +48,7 @@ impl KeptText {
         }
     }
 
-    // Bytes that stand inside and mean nothing yet. It takes no memory.
+    // Bytes that are inline and unspecified yet. It doesn't allocate.
     pub(crate) fn new(alloc: Global) -> KeptText
         ensures { length result ≡ short_text }
     {
@@ -69,8 +69,8 @@ impl KeptText {
         }
     }
 
-    // Becomes a name and what stands after it, or where memory runs out stays as it was. A longer text mostly stays as
-    // long as it is: it answers how many bytes at its end mean nothing then.
+    // Becomes a name and what follows it; if memory runs out, it stays as it was. A longer text mostly keeps its length:
+    // the result is how many bytes at its end are unspecified then.
     pub(crate) fn fill(&mut self, name: &[u8], rest: &[u8]) -> Result<u32, AllocError>
         ensures within { IfOk result (λ left. left ≤ length self.new) }
         ensures filled { IfOk result (λ left. take (length self.new - left) self.new ≡ name.now ++ rest.now) }
@@ -87,8 +87,8 @@ impl KeptText {
         Ok(0)
     }
 
-    // Keeps its first bytes, so many, with others behind them, or where memory runs out stays as it was. It answers as
-    // `fill` does.
+    // Keeps its first `kept` bytes, with others after them; if memory runs out, it stays as it was. The result is that of
+    // `fill`.
     #[inline(always)]
     pub(crate) fn refill(&mut self, kept: usize, rest: &[u8]) -> Result<u32, AllocError>
         requires { kept ≤ length self.old }
@@ -107,7 +107,7 @@ impl KeptText {
         Ok(0)
     }
 
-    // Becomes a piece and another behind it, in a buffer, or where memory runs out stays as it was.
+    // Becomes a piece and another after it, in a buffer; if memory runs out, it stays as it was.
     #[inline(never)]
     fn replace(&mut self, piece: &[u8], next: &[u8]) -> Result<(), AllocError>
         ensures replaced { OnOk result (self.new ≡ piece.now ++ next.now) }
@@ -120,7 +120,7 @@ impl KeptText {
         Ok(())
     }
 
-    // Keeps its first bytes, so many, with a piece behind them and nothing else, in a buffer, or where memory runs out
+    // Keeps its first `kept` bytes, with a piece after them and nothing else, in a buffer; if memory runs out, it
     // stays as it was.
     #[inline(never)]
     fn replace_behind(&mut self, kept: usize, piece: &[u8]) -> Result<(), AllocError>
@@ -136,7 +136,7 @@ impl KeptText {
     }
 }
 
-// Writes two pieces over bytes from the first on, and answers how many are left over behind them. Where the pieces
+// Writes two pieces over the first bytes, and returns how many are left over after them. If the pieces
 // don't fit, or more than a few were left over, it writes none.
 #[inline(always)]
 fn put_both(bytes: &mut [u8], piece: &[u8], next: &[u8]) -> Option<u32>
@@ -152,7 +152,7 @@ fn put_both(bytes: &mut [u8], piece: &[u8], next: &[u8]) -> Option<u32>
     Some(left)
 }
 
-// Writes a piece over what stands behind the first bytes, so many. It answers as `put_both` does.
+// Writes a piece over what follows the first `kept` bytes. The result is that of `put_both`.
 #[inline(always)]
 fn put_behind(bytes: &mut [u8], kept: usize, piece: &[u8]) -> Option<u32>
     requires { kept ≤ length bytes.old }
@@ -167,7 +167,7 @@ fn put_behind(bytes: &mut [u8], kept: usize, piece: &[u8]) -> Option<u32>
     Some(left)
 }
 
-// How many of so many bytes are left over behind those that are used, if these fit in and only a few are.
+// How many of `len` bytes are left over after those that are used, if these fit in and only a few are.
 fn left_over(len: usize, used: usize) -> Option<u32>
     ensures { IfSome result (λ left. left + used ≡ len) }
 {
@@ -177,7 +177,7 @@ fn left_over(len: usize, used: usize) -> Option<u32>
     Some((len - used) as u32)
 }
 
-// Two pieces, one behind the other, for which memory is taken once.
+// Two pieces, concatenated, in one allocation.
 fn joined(alloc: Global, piece: &[u8], next: &[u8]) -> Result<Vec<u8>, AllocError>
     ensures { IfOk result (λ text. text.items ≡ piece.now ++ next.now) }
 {
@@ -187,7 +187,7 @@ fn joined(alloc: Global, piece: &[u8], next: &[u8]) -> Result<Vec<u8>, AllocErro
     Ok(text)
 }
 
-// Makes a text of a piece and what stands after it, or where memory runs out leaves it as it was.
+// Makes a text of a piece and what follows it; if memory runs out, it stays as it was.
 fn replace_all(text: &mut Vec<u8>, piece: &[u8], next: &[u8]) -> Result<(), AllocError>
     ensures filled { OnOk result (text.new.items ≡ piece.now ++ next.now) }
     ensures unchanged { OnErr result (text.new.items ≡ text.old.items) }
@@ -199,7 +199,7 @@ fn replace_all(text: &mut Vec<u8>, piece: &[u8], next: &[u8]) -> Result<(), Allo
     text.extend_from_slice(next)
 }
 
-// Puts a piece behind the first bytes of a text, so many, and nothing behind it, or where memory runs out leaves it as
+// Puts a piece after the first `kept` bytes of a text, and nothing after it; if memory runs out, the text stays as
 // it was.
 fn replace_from(text: &mut Vec<u8>, kept: usize, piece: &[u8]) -> Result<(), AllocError>
     requires { kept ≤ length text.old.items }

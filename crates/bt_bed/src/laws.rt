@@ -37,7 +37,7 @@ pub fn order_grows()
     ensures together_front { fronts_stand_together }
 {}
 
-/// In a total order of the chromosomes the records of each stand together.
+/// In a total order of the chromosomes the records of each are contiguous.
 pub fn order_gathers()
     ensures { placed_are_together }
 {}
@@ -48,7 +48,7 @@ pub fn good_records_are_in_order()
     ensures non_empty { good_are_non_empty }
 {}
 
-/// The good records of an input in blocks are in order in each of them, each has a base, and they stand
+/// The good records of an input in blocks are in order in each of them, each has a base, and they are
 /// on the lines of the text.
 pub fn good_blocks_are_in_order()
     ensures in_blocks { good_are_in_blocks }
@@ -56,7 +56,7 @@ pub fn good_blocks_are_in_order()
     ensures lines { good_in_blocks_stand_on_lines }
 {}
 
-/// The good records of a text stand on its lines, and those of its first lines are the first of them.
+/// The good records of a text are on its lines, and those of its first lines are the first of them.
 pub fn first_lines_have_the_first_records()
     ensures lines { good_stand_on_lines }
     ensures first { first_lines_have_the_first }

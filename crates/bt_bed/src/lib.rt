@@ -4,8 +4,8 @@
 //! keeps it; both are written whole or in parts ([`write_bed`], [`write_cut`], [`put_bed`],
 //! [`put_cut`]). [`Records`] reads the features of sorted input in an order of the chromosomes
 //! ([`ChromOrder`]), that of a [`Genome`] or of the bytes of their names ([`ByteOrder`]), and [`Blocks`]
-//! those of input in which only the records of a chromosome that stand together are sorted. Both lend the
-//! records that are buffered as a [`Batch`], and are told once what was consumed of it.
+//! those of input in which only contiguous records of a chromosome are sorted. Both give the
+//! records that are buffered as a [`Batch`], and `consume` then takes what was consumed of it.
 //!
 //! An example, which is the test in `example.rt`: the records of a source, in the order of a genome
 //! file that has `chr1` first.

@@ -1,19 +1,19 @@
-//! The name of a chromosome and the tab behind it, as one number.
+//! The name of a chromosome and the tab after it, as one number.
 
 ghost use Rattle.std.specs.Prelude.{◌≡◌, ◌*◌, ◌+◌, ◌-◌, ◌≤◌, ◌%◌, ◌^◌, [], ◌∷◌, ◌++◌, List, ℕ, IsTrue, length, take};
 ghost use Rattle.std.specs.Int.{from_le_bytes, w64};
 ghost use Rattle.bt_bed.specs.NameKey.{HasKey, IsKey};
 
-// The longest name that has a key: with the tab behind it it fills eight bytes.
+// The longest name that has a key: with the tab after it it fills eight bytes.
 pub(crate) const LONGEST_KEYED: usize = 7;
 
-// What tells the lines on a chromosome by one comparison: their first eight bytes as one number, from which those behind
-// the tab are taken. Of a longer name it means nothing.
+// What recognizes the lines on a chromosome by one comparison: their first eight bytes as one number, without those after
+// the tab. For a longer name it is unspecified.
 #[derive(Clone, Copy, Debug)]
 pub(crate) struct NameKey {
     // The name and the tab, as the upper bytes of a number.
     word: u64,
-    // What moves them there from the lower bytes, so that those behind them are lost.
+    // What moves them there from the lower bytes, so that those after them are lost.
     factor: u64,
 }
 

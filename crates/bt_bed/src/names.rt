@@ -36,7 +36,7 @@ fn is_same_text(left: &[u8], right: &[u8]) -> bool
     left == right
 }
 
-// The first four bytes of a name as one number, if it has so many.
+// The first four bytes of a name as one number, if it has that many.
 fn first_word(name: &[u8]) -> Option<u32>
     ensures { IfSome result (λ word. (4 ≤ length name.now)
         × (word ≡ from_le_bytes w32 (take 4 name.now))) }
@@ -44,7 +44,7 @@ fn first_word(name: &[u8]) -> Option<u32>
     Some(u32::from_le_bytes(*name.first_chunk::<4>()?))
 }
 
-// The last four bytes of a name as one number, if it has so many.
+// The last four bytes of a name as one number, if it has that many.
 fn last_word(name: &[u8]) -> Option<u32>
     ensures { IfSome result (λ word. (4 ≤ length name.now)
         × (word ≡ from_le_bytes w32 (drop (length name.now - 4) name.now))) }

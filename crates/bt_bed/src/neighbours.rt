@@ -8,7 +8,7 @@ use crate::sorted::Sorted;
 use bt_lines::{Fault, Kind, Place, no_memory};
 use std::alloc::Global;
 
-// What a further record is checked against. The names of chromosomes stand in buffers that are used again: a record on the
+// What the next record is checked against. The names of chromosomes are in buffers that are used again: a record on the
 // chromosome of the last one has the name of that, and another one its own in `ahead_name`, as long as it is ahead.
 #[derive(Drop)]
 pub(crate) struct Neighbours<Q> {
@@ -77,7 +77,7 @@ impl<Q: Sorted> Neighbours<Q> {
         self.last = Some(start);
     }
 
-    // Takes the line that follows the last record's, and answers whether it has a record. If it has, that
+    // Takes the line that follows the last record's, and returns true if it has a record, which
     // is ahead then.
     pub(crate) fn take_line(&mut self, place: Place, text: &[u8]) -> Result<bool, Fault>
         requires known { IsKnownLast (Q.sorting self.old.rule) (last_in self.old) }
@@ -106,8 +106,8 @@ impl<Q: Sorted> Neighbours<Q> {
         self.last.is_some() && is_same_name(self.last_name.as_slice(), chrom)
     }
 
-    // Whether a record fits behind the last one, or what is wrong with it. Its chromosome isn't looked
-    // up again where it is that of the last record.
+    // Whether a record fits after the last one, or what is wrong with it. Its chromosome isn't looked
+    // up again if it is that of the last record.
     fn check(&self, is_same: bool, bed: BedRef<'_>) -> Result<(), Kind>
         requires same { is_same ≡ goes_on self.now bed.chrom.now }
         requires known { IsKnownLast (Q.sorting self.now.rule) (last_in self.now) }

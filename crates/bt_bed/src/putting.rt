@@ -19,7 +19,7 @@ pub fn put_bed<K: Sink>(bed: &BedRef<'_>, end: &[u8], out: &mut Out<K>) -> Resul
 }
 
 /// Puts a record as [`put_bed`] does, with this start, which is zero-based, and this end, which isn't
-/// included, in the place of its own: a part of it, with its further columns. It takes no memory.
+/// included, instead of its own: a part of it, with its other columns. It doesn't allocate.
 pub fn put_cut<K: Sink>(
     bed: &BedRef<'_>,
     start: u64,
@@ -55,7 +55,7 @@ mod tests {
         out.flush()
     }
 
-    // Whether the lines are put, and what the sink took of them where it takes so many bytes.
+    // Whether the lines are put, and what the sink took of them if it takes `good` bytes.
     fn taken_by(rt: &HostRuntime, good: Option<usize>, want: &[u8]) -> bool {
         let (Ok(Some(a)), Ok(Some(b))) = (
             parse_bed(b"chr1\t010\t30\ta"),
@@ -76,7 +76,7 @@ mod tests {
         assert!(rt; taken_by(&rt, Some(9), b"chr1\t10\t1"));
     }
 
-    // Puts a record, its first half and the record again, with nothing behind it.
+    // Puts a record, its first half and the record again, with nothing after it.
     fn put_bare<K: Sink>(bed: &BedRef<'_>, out: &mut Out<K>) -> Result<(), Fault> {
         put_bed(bed, b"\t", out)?;
         put_cut(bed, 10, 15, b"\n", out)?;

@@ -9,19 +9,19 @@ use crate::strand::Strand;
 use std::alloc::{AllocError, Global};
 use std::marker::Model;
 
-/// A feature that owns its bytes: what a [`BedRef`] borrows. A short text stands inside it, and a longer
+/// A feature that owns its bytes: what a [`BedRef`] borrows. A short text is inline, and a longer
 /// one in a buffer. Contracts see the feature itself, so a list of records is a list of features.
 #[derive(Debug, Drop)]
 pub struct Rec {
-    // The chromosome's name, and behind it the columns from the fourth on, each with the tab before it. Behind these
-    // may stand bytes that mean nothing, as what is left of a longer record.
+    // The chromosome's name, and after it the columns from the fourth on, each with the tab before it. They may be followed
+    // by unspecified bytes, left of a longer record.
     text: KeptText,
     // How much of the text is the name. The fields below are always those of one feature.
     name_len: usize,
     start: u64,
     stop: u64,
     strand: Strand,
-    // How many bytes at the end of the text mean nothing.
+    // How many bytes at the end of the text are unspecified.
     left_over: u32,
 }
 
@@ -58,15 +58,15 @@ impl Rec {
         }
     }
 
-    /// Whether its name and further columns stand in a buffer, which it keeps as long as it is there: so once they were
-    /// too long to stand inside it.
+    /// Whether its name and other columns are in a buffer, which it keeps until it is dropped: so once they were
+    /// too long to be inline.
     #[inline]
     pub fn has_buffer(&self) -> bool {
         self.text.has_buffer()
     }
 
-    /// Becomes the record that is given, in the memory that it has: more is taken only where that is
-    /// too small for the name and the further columns. Where memory runs out, it stays as it was.
+    /// Becomes the record that is given, in the memory that it has: it allocates only if that is
+    /// too small for the name and the other columns. If memory runs out, it stays as it was.
     pub fn copy_from(&mut self, bed: &BedRef<'_>) -> Result<(), AllocError>
         ensures copied { OnOk result (self.new ≡ feature_lent bed.now) }
         ensures unchanged { OnErr result (self.new ≡ self.old) }
@@ -102,8 +102,8 @@ impl Rec {
 }
 
 impl BedRef<'_> {
-    /// The record with bytes of its own. Memory is taken once where its name and further columns are longer
-    /// than what stands inside a [`Rec`], and else none.
+    /// The record with bytes of its own. It allocates once if its name and other columns are longer
+    /// than what a [`Rec`] has inline, and else not.
     pub fn to_rec(&self, alloc: Global) -> Result<Rec, AllocError>
         ensures { IfOk result (λ rec. rec ≡ feature_lent self.now) }
     {
@@ -129,7 +129,7 @@ mod tests {
     // A line, and the start, the end, the strand and what is kept of its record.
     type Row = (&'static [u8], (u64, u64, Strand, &'static [u8]));
 
-    // Texts that stand inside, up to the longest of 31 bytes and the shortest that doesn't, and some in a buffer.
+    // Texts that are inline, up to the longest of 31 bytes and the shortest that isn't, and some in a buffer.
     const RECORDS: [Row; 9] = [
         (b"chr1\t10\t30\ta", (10, 30, Strand::Dot, b"\ta")),
         (b"chr1\t007\t9\tn\t0\t+", (7, 9, Strand::Plus, b"\tn\t0\t+")),
@@ -175,7 +175,7 @@ mod tests {
             && bed.rest == rest
     }
 
-    // The first line of a table whose record is lent otherwise once it is kept.
+    // The first line of a table whose record reads otherwise once it is kept.
     fn first_miskept(alloc: Global, rows: &[Row]) -> Result<Option<&'static [u8]>, AllocError> {
         for row in rows {
             let agrees = match parse_bed(row.0) {
@@ -189,7 +189,7 @@ mod tests {
         Ok(None)
     }
 
-    // The first line of a table whose record is lent otherwise once another has become it.
+    // The first line of a table whose record reads otherwise once another has become it.
     fn first_miscopied(rec: &mut Rec, rows: &[Row]) -> Result<Option<&'static [u8]>, AllocError> {
         for row in rows {
             if let Ok(Some(bed)) = parse_bed(row.0) {
@@ -202,7 +202,7 @@ mod tests {
         Ok(None)
     }
 
-    // The first line of a table whose record, which lies on the same chromosome, is lent otherwise once
+    // The first line of a table whose record, which lies on the same chromosome, reads otherwise once
     // it has become it.
     fn first_misfilled(rec: &mut Rec, rows: &[Row]) -> Result<Option<&'static [u8]>, AllocError> {
         for row in rows {

@@ -13,8 +13,8 @@ use std::alloc::Global;
 
 /// Reads the records of a BED input, and reports the first line at fault: one that isn't a feature, has
 /// a chromosome that the order doesn't know, or lies below the record before it, by chromosome and
-/// then by start. Header lines and blank lines are skipped. `fill` makes a record buffered, or the end, `buffered` lends
-/// the records, and `consume` takes some of them.
+/// then by start. Header lines and blank lines are skipped. `fill` makes a record buffered, or the end, `buffered`
+/// borrows the records, and `consume` takes some of them.
 #[derive(Drop)]
 pub struct Records<'o, S, O: ChromOrder> {
     // Always valid: `placed` says that it goes by the order.
@@ -55,9 +55,9 @@ impl<'o, S: Source, O: ChromOrder> Records<'o, S, O> {
     }
 
     /// Makes at least one record buffered, and returns true if there is one: there is none at the end of the input. It
-    /// reads nothing while one is buffered, and after a fault, which is answered again, and after the end. A line that
-    /// couldn't be read is reported before what is wrong with it, and want of memory for its chromosome's name after.
-    /// Memory is taken for the line, and where the chromosome is another than that of the record before.
+    /// reads nothing while one is buffered, after a fault, which is returned again, and after the end. A line that
+    /// couldn't be read is reported before what is wrong with it, and running out of memory for its chromosome's name
+    /// after. It allocates for the line, and if the chromosome is another than that of the record before.
     #[inline(always)]
     pub fn fill(&mut self) -> Result<bool, Fault>
         ensures { FillsRecords S.left S.has_failed S.end_told S.is_read self.old result self.new }
@@ -73,7 +73,7 @@ impl<'o, S: Source, O: ChromOrder> Records<'o, S, O> {
         self.sorted.buffered()
     }
 
-    /// Takes the records that were consumed of what [`Records::buffered`] lent. It reads nothing and takes no memory.
+    /// Takes the records that were consumed of what [`Records::buffered`] gave. It reads nothing and doesn't allocate.
     pub fn consume(&mut self, consumed: Consumed)
         requires { IsTaken self.old consumed }
         ensures { TakesRecords S.left S.end_told self.old (count_in self.old consumed) self.new }

@@ -17,7 +17,7 @@ use std::alloc::Global;
 pub(crate) struct SortedReader<S, Q> {
     reader: LineReader<S>,
     pub(crate) neighbours: Neighbours<Q>,
-    // Whether the reader's next line is known to say a record that fits behind the last one.
+    // Whether the reader's next line is known to say a record that fits after the last one.
     is_ahead: bool,
     // `None` until a line is at fault; then it stays.
     fault: Option<Fault>,
@@ -51,7 +51,7 @@ impl<S: Source, Q: Sorted + Drop> SortedReader<S, Q> {
         }
     }
 
-    // Makes at least one record buffered, and answers whether it did: it didn't at the end.
+    // Makes at least one record buffered, and returns true if there is one: there is none at the end.
     #[inline(always)]
     pub(crate) fn fill(&mut self) -> Result<bool, Fault>
         requires { IsPlaced (Q.sorting self.old.neighbours.rule)
@@ -96,7 +96,7 @@ impl<S: Source, Q: Sorted + Drop> SortedReader<S, Q> {
         Some(record.to_bed())
     }
 
-    // Takes the records that were consumed of what was lent.
+    // Takes the records that were consumed of what was given.
     pub(crate) fn consume(&mut self, consumed: Consumed)
         requires taken { IsTaken self.old consumed }
         requires placed { IsPlaced (Q.sorting self.old.neighbours.rule)

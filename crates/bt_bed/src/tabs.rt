@@ -9,8 +9,8 @@ use std::simd::prelude::*;
 // How many bytes are looked at at once.
 const WIDTH: usize = 16;
 
-// Where the second tab of a text after an index stands, counted from there, if that is one of the
-// sixteen bytes from there on. Where fewer follow, the last sixteen of the text are looked at, so that
+// The offset of the second tab of a text after an index, counted from there, if that is one of the
+// sixteen bytes from there on. If fewer follow, the last sixteen of the text are searched, so that
 // short and long columns take one way.
 #[inline]
 pub(crate) fn second_tab(text: &[u8], from: usize) -> Option<usize>

@@ -19,7 +19,7 @@ pub fn write_bed(bed: &BedRef<'_>, line: &mut Vec<u8>) -> Result<(), AllocError>
 }
 
 /// Adds the line of a record as [`write_bed`] does, with this start, which is zero-based, and this end,
-/// which isn't included, in the place of its own: a part of it, with its further columns. Where memory
+/// which isn't included, instead of its own: a part of it, with its other columns. If memory
 /// runs out, nothing is added.
 pub fn write_cut(
     bed: &BedRef<'_>,
@@ -103,7 +103,7 @@ mod tests {
         ),
     ];
 
-    // What stands after a sign that a record was written to.
+    // What follows a sign that a record was written to.
     fn written(
         alloc: Global,
         text: &[u8],

@@ -21,24 +21,24 @@ first_feed bytes (Some i) first =
     rw (get_or-take i bytes k d small, get_or_default bytes k d 0 (omega arith)) (false_from_ne_true _ (first.0.before k (omega arith) small)) in
     (below, sym (take-append-drop i bytes) ∙ ap (λ l. take i bytes ++ l) (drop_more bytes i 0 below ∙ ap (λ b. b ∷ drop (i + 1) bytes) is), clear)
 
--- the rest behind some bytes that were taken
+-- what is unread after some bytes were consumed
 pub consumed : (xs : List ℕ) (start end count : ℕ) → start + count ≤ end → slice_range xs (start + count) end ≡ drop count (slice_range xs start end)
 consumed xs start end count inside =
     let parts : end - start ≡ count + (end - (start + count)) = omega arith in
     sym (ap (λ j. drop count (take j (drop start xs))) parts ∙ drop-take count _ (drop start xs)
     ∙ ap (take (end - (start + count))) (drop-drop count start xs))
 
--- how many bytes a front has
+-- the length of a prefix
 pub length-front : (n : ℕ) (xs : List ℕ) → n ≤ length xs → n ≡ length (slice_range xs 0 n)
 length-front n xs fits =
     let same : n - 0 ≡ n = omega arith in
     sym (ap (λ k. length (take k xs)) same ∙ length-take-le n xs fits)
 
--- a part of a list is no longer than its ends are apart
+-- a range of a list is at most as long as the distance of its ends
 pub length-range-le : (xs : List ℕ) (start end : ℕ) → length (slice_range xs start end) ≤ end - start
 length-range-le xs start end = omega (arith, length-take (end - start) (drop start xs))
 
--- a block has room for so many
+-- the unread bytes fit into a block
 pub unread_fits : (buffer : ReadBuffer) → length (unread buffer) ≤ block_size
 unfolding unread
 unread_fits buffer = omega (arith, length-range-le buffer.bytes buffer.whole buffer.end, buffer.within)

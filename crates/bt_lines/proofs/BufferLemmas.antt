@@ -227,7 +227,7 @@ not_found bytes whole searched end w s clear nowhere =
     (All-append (λ b. eqb b 10 ≡ false) (slice_range bytes whole searched) (slice_range bytes searched end) clear.clear
     (λ k d h. rw (get_or_default (slice_range bytes searched end) k d 0 h) (false_from_ne_true _ (nowhere k (omega arith) h))))
 
--- ---- a part that was moved to the front
+-- ---- a range that was moved to the start
 
 pub front_moved : (bytes : List ℕ) (from end n : ℕ) → from ≤ end → end ≤ length bytes → n ≤ end - from
     → slice_range (paste bytes 0 (drop from bytes) (end - from)) 0 n ≡ slice_range bytes from (from + n)
@@ -255,7 +255,7 @@ front_to bytes moved from to end h k b e =
     ap (λ (l : List ℕ). slice_range l 0 (to - from)) e ∙ front_moved bytes from end (to - from) (omega arith) b (omega arith)
     ∙ ap (λ (n : ℕ). slice_range bytes from n) at
 
--- ---- bytes that were read behind the first ones
+-- ---- bytes that were read after the first ones
 
 pub record ReadsBehind (old new : List ℕ) (end count : ℕ) : Type 0 where
   pub size : length (slice_range new end (end + count)) ≡ count

@@ -37,7 +37,7 @@ zero_of : (n : ℕ) → (0 < n → ⊥) → n ≡ 0
 zero_of zero h = refl
 zero_of (suc n) h = absurd (h (omega arith))
 
--- bytes without a line feed have none in front
+-- if bytes have no line feed, neither has a prefix of them
 none_in_front : (xs ys all : List ℕ) → all ≡ xs ++ ys → NoLineFeed all → 0 < line_feeds xs → ⊥
 none_in_front xs ys all e clear h = omega (arith, h, line_feeds-none all clear, ap line_feeds e, line_feeds-append xs ys)
 
@@ -56,7 +56,7 @@ then_stopped : (stop : Stop) (left : Option (List ℕ)) (first mid last told : B
 then_stopped stop left first mid last told all same complete rest taken e f h = rw (e, ← f) h
 
 module _ {S : Type 0} (left : S → Option (List ℕ)) (failed told : S → Bool) where
-  -- the bytes so far stand after those that were held
+  -- the bytes read so far follow those that were held
   pub record ReadSoFar (old : S) (old_unread : List ℕ) (old_taken : ℕ) (new : S) (unread : List ℕ) (taken : ℕ) : Type 0 where
     pub bytes : List ℕ
     pub consumed : Consumes (left old) (left new) bytes
@@ -78,7 +78,7 @@ module _ {S : Type 0} (left : S → Option (List ℕ)) (failed told : S → Bool
   }
 
   module _ (old : S) (old_unread : List ℕ) (old_taken : ℕ) (mid : S) (unread : List ℕ) (taken : ℕ) (so_far : ReadSoFar old old_unread old_taken mid unread taken) where
-    -- a line feed stands among them
+    -- one of them is a line feed
     pub found_lines : (complete rest : List ℕ) → complete ++ rest ≡ unread → 0 < length complete → Buffers left failed told old old_unread old_taken LineFeed mid complete rest taken
     found_lines complete rest e some = record {
       bytes = so_far.bytes;

@@ -14,7 +14,7 @@ IsInside byte = eqb byte 9 ≡ false
 abbrev pub IsColumn : List ℕ → Type 0
 IsColumn column = All IsInside column
 
--- a column with a tab behind it is the first
+-- a column that a tab follows is the first
 pub cut_at : (text : List ℕ) (n : ℕ) → n < length text → get_or text n 0 ≡ 9 → IsColumn (take n text) → pieces 9 text ≡ take n text ∷ pieces 9 (drop (n + 1) text)
 cut_at text n within tab column =
     let there : drop n text ≡ 9 ∷ drop (n + 1) text = drop_more text n 0 within ∙ ap (λ b. b ∷ drop (n + 1) text) tab in

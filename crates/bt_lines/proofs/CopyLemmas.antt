@@ -7,7 +7,7 @@ use Rattle.std.proofs.lemmas.Slice.{take-put_mid}
 use Rattle.std.specs.Simd.Lanes.{chunk, put_chunk}
 use borrow.Rule.Slice.PartMut.{put_mid}
 
--- the first bytes and the last ones, so many, are all of it
+-- the first `width` bytes and the last `width` bytes cover the piece
 pub both_ends : (width : ℕ) (to piece : List ℕ) → length to ≡ length piece → width ≤ length piece → length piece ≤ 2 * width
     → put_chunk (length piece - width) (put_chunk 0 to (chunk 0 width piece)) (chunk (length piece - width) width piece) ≡ piece
 both_ends width to piece same low high =
@@ -48,7 +48,7 @@ few_copied (x ∷ y ∷ z ∷ []) (a ∷ b ∷ c ∷ []) same some few = refl
 few_copied (x ∷ y ∷ z ∷ []) (a ∷ b ∷ c ∷ d ∷ piece) same some few = absurd (omega arith)
 few_copied (x ∷ y ∷ z ∷ w ∷ to) piece same some few = absurd (omega arith)
 
--- two pieces are written behind the first bytes, one behind the other
+-- two pieces are written after the first bytes, the second after the first
 pub two_put : (bytes piece end : List ℕ) (len : ℕ) (k m : ℕ) → len + (length piece + length end) ≤ length bytes
     → take (len + length piece + length end) (put_mid (len + length piece) m (put_mid len k bytes piece) end) ≡ take len bytes ++ (piece ++ end)
 two_put bytes piece end len k m room =

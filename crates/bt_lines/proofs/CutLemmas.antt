@@ -42,7 +42,7 @@ pub lines_fit : (buffer : ReadBuffer) → buffer.is_spilled ≡ false → length
 unfolding complete unread
 lines_fit buffer e = lines_fit_by buffer.is_spilled buffer.spilled.items buffer.bytes buffer.start buffer.whole buffer.end e buffer.ordered (omega (arith, buffer.whole_searched, buffer.searched_within)) buffer.within
 
--- a line that stands alone is all
+-- if only one line is complete, it is all of the lines
 pub alone : (lines piece rest : List ℕ) → lines ≡ piece ++ 10 ∷ rest → NoLineFeed piece → line_feeds lines ≤ 1 → is_fed rest ≡ true → rest ≡ []
 alone lines piece rest e clear one fed = fed_none rest fed (omega (arith, one, ap line_feeds e, line_feeds-fed piece rest clear))
 

@@ -57,7 +57,7 @@ front_digits : (bytes : List ℕ) → list_all is_ascii_digit (take (prefix_len 
 front_digits [] = refl
 front_digits (byte ∷ bytes) = front_of bytes byte (prefix_len (λ b. not (is_other b)) bytes) (is_other byte) refl (front_digits bytes)
 
--- so many digits come first, and no more
+-- the first `count` bytes are digits, and the next one isn't
 pub record AreFront (bytes : List ℕ) (count : ℕ) : Type 0 where
   pub few : count ≤ length bytes
   pub digits : list_all is_ascii_digit (take count bytes) ≡ true

@@ -157,7 +157,7 @@ within_digits : (bytes : List ℕ) → AreWithin 48 57 bytes → list_all is_asc
 within_digits [] all = refl
 within_digits (byte ∷ bytes) all = rw (within_digit byte all.0 all.1, within_digits bytes all.2) refl
 
--- what is read of eight bytes, and the masks of so many
+-- what is read of eight bytes, and the masks of eight bytes
 pub record Eight (bytes : List ℕ) : Type 0 where
   pub word : from_le_bytes w64 bytes ≡ worth bytes
   uppers : worth (all_of 240 bytes) ≡ 17361641481138401520
@@ -367,7 +367,7 @@ value_of_eight_digits bytes n all =
     let is = eight_small bytes n all in
     value_of_digits bytes (omega arith) (within_digits bytes all) is.1
 
--- the first of eight bytes behind zeros' codes, so that they come last
+-- the first `count` of eight bytes, padded with zeros on the left
 pub record Behind (bytes : List ℕ) (count : ℕ) : Type 0 where
   pub padded : List ℕ
   pub size : length padded ≡ 8
@@ -543,7 +543,7 @@ ones_read bytes n all = (ones_of_digits bytes n all, (n, within_digits bytes all
 pub joined_value : (digits : List ℕ) (ones : ℕ) → AreOnes digits ones → value_in (pairs_in ones) ≡ digits_value 10 digits
 joined_value digits ones (n, all, is) = rw is ((eight_small digits n (digits_within digits all)).0)
 
--- the digits that come first, behind zeros
+-- the digits that come first, padded with zeros
 pub few_read : (bytes : List ℕ) (count : ℕ) (b : Behind bytes count) → list_all is_ascii_digit (take count bytes) ≡ true
     → (ones_in b.padded ≤ 651061555542690057) × AreOnes b.padded (ones_in b.padded)
 few_read bytes count b all = ones_read b.padded b.size (b.digits (digits_within (take count bytes) all))

@@ -52,7 +52,7 @@ none_left_at : (told : Bool) (held : List ℕ) (n : ℕ) (a : Option (List ℕ))
 none_left_at true held n a e none = none_told n a held none
 none_left_at false held n a e none = absurd (false≢true e)
 
--- no line is left once the end was told and nothing is held
+-- no line is left once the end was reported and nothing is held
 none_left_told : {S : Type 0} (left : S → Option (List ℕ)) (reader : LineReader S) → end_told reader ≡ true → held reader ≡ [] → IfSome (lines_left left reader) (λ lines. lines ≡ [])
 unfolding bytes_left
 none_left_told left reader e none = none_left_at (end_told reader) (held reader) (suc (lines_given reader)) (left (source_of reader)) e none

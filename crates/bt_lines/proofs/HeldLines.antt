@@ -1,4 +1,4 @@
--- Lemmas on bytes that are whole lines, one behind another.
+-- Lemmas on bytes that are concatenated complete lines.
 use Rattle.std.proofs.Common.{◌≡◌, ℕ, ◌≤◌, List, [], ◌∷◌, ◌++◌, length, drop, refl, sym, ap, ◌∙◌, arith, append_assoc, append-nil, eqb, length-append}
 use Rattle.std.proofs.lemmas.List.Splits.{slice_split_at}
 use Rattle.std.proofs.Math.Seq.{drop-append_seam}

@@ -53,11 +53,11 @@ last_end : (b : Bool) (piece stripped : List ℕ) → (b ≡ true → stripped +
 last_end true piece stripped with without = with refl
 last_end false piece stripped with without = append-nil stripped ∙ without refl
 
--- a line with a line feed, as it stood
+-- a line with a line feed, as the text has it
 pub spelled-fed : (n : ℕ) (piece : List ℕ) → spelled (fed_line n piece) ≡ piece ++ 10 ∷ []
 spelled-fed n piece = fed_end (ends_with_byte 13 piece) piece (strip_last 13 piece) (strip_last-push 13 piece) (strip_last-other 13 piece)
 
--- a last line, as it stood
+-- a last line, as the text has it
 pub spelled-last : (n : ℕ) (piece : List ℕ) → flat_map spelled (last_line n piece) ≡ piece
 spelled-last n [] = refl
 spelled-last n (byte ∷ bytes) =

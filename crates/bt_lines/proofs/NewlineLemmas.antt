@@ -13,7 +13,7 @@ feed_at value text xs ys n e clear size =
     let back : drop (n + 1) text ≡ ys = ap (drop (n + 1)) whole ∙ drop_at (xs ++ value ∷ []) ys (n + 1) (omega (arith, size, length-append xs (value ∷ []))) in
     (omega (arith, size, ap length e, length-append xs (value ∷ ys)), rw (front, back) e, rw front clear)
 
--- the next bytes, so many
+-- the next `n` bytes
 pub record Chunk (text : List ℕ) (at : ℕ) (near : List ℕ) (n : ℕ) : Type 0 where
   pub enough : n ≤ length (drop at text)
   pub same : near ≡ take n (drop at text)
@@ -27,7 +27,7 @@ chunk_of text at near n e h =
 pub chunk_first : (text near : List ℕ) (n : ℕ) → near ≡ take n text → n ≤ length text → Chunk text 0 near n
 chunk_first text near n e h = record { enough = h; same = e }
 
--- the first one behind some bytes that have none
+-- the first one, if some bytes before it have none
 module _ (value : ℕ) (text : List ℕ) (at : ℕ) (inside : at ≤ length text) (clear : Lacks value (take at text)) where
   pub feed_behind : (near : List ℕ) (n place : ℕ) → Chunk text at near n → IsFirstOf value near (Some place) → IsFirstOf value text (Some (at + place))
   feed_behind near n place chunk first =
@@ -47,7 +47,7 @@ module _ (value : ℕ) (text : List ℕ) (at : ℕ) (inside : at ≤ length text
   pub chunk_inside : (near : List ℕ) (n : ℕ) → Chunk text at near n → at + n ≤ length text
   chunk_inside near n chunk = omega (arith, chunk.enough, length-drop at text, inside)
 
--- so many come before it
+-- the count of bytes before it
 pub before_feed : (value : ℕ) (text : List ℕ) (n : ℕ) → IsFirstOf value text (Some n) → IsBefore value text n
 before_feed value text n first = record { within = omega (arith, first.0); clear = first.2; cut = λ h. first.1 }
 

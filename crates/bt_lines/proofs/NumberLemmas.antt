@@ -39,7 +39,7 @@ unfolding value_of
 value_of_other text i h other =
     sym (refused_second (ltb 0 (length text)) (list_all is_ascii_digit text) (leb (digits_value 10 text) 999999999999) (Some (digits_value 10 text)) None (list_all_at is_ascii_digit text i 0 h other))
 
--- a front of the digits denotes no more than all of them
+-- a prefix of the digits has at most the value of all of them
 front_le : (text : List ℕ) (i : ℕ) → digits_value 10 (take i text) ≤ digits_value 10 text
 front_le text i =
     let front = map digit_value (take i text) in
@@ -95,7 +95,7 @@ value_of_whole text i value some end e all small =
 pub digit_small : (b : ℕ) → is_ascii_digit b ≡ true → b - 48 ≤ 9
 digit_small b digit = grind (arith, nat_tests)
 
--- so many digits and one more
+-- one digit more than `i` digits
 pub value_below : (i value digit : ℕ) → value < 10 ^ i → digit ≤ 9 → value * 10 + digit < 10 ^ (i + 1)
 value_below i value digit below small = rw (add-one i, pow-suc 10 i) (omega (arith, below, small))
 
@@ -112,7 +112,7 @@ all_digits_in (byte ∷ bytes) all =
     let small : digit_value byte < 10 = rw (digit_is byte parts.0) (let most = digit_small byte parts.0 in omega arith) in
     (small, all_digits_in bytes parts.1)
 
--- so many digits denote less than this
+-- `n` digits have a value below 10 ^ n
 pub digits_below : (text : List ℕ) → list_all is_ascii_digit text ≡ true → digits_value 10 text < 10 ^ length text
 digits_below text all = digits_value-lt 10 text (all_digits_in text all)
 

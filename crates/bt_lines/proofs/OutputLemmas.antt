@@ -12,18 +12,18 @@ front_part (Some old) None (Some new) taken rest piece e p q = absurd p
 front_part (Some old) (Some mid) (Some new) taken rest piece e p q =
     (rest, ap (λ l. l ++ rest) (q ∙ p) ∙ append_assoc old taken rest ∙ ap (λ l. old ++ l) (sym e))
 
--- a further part was taken
+-- one more part was taken
 pub more_taken : (old mid new : Option (List ℕ)) (taken rest piece : List ℕ) (n : ℕ) → piece ≡ taken ++ rest → Appends old mid taken → Appends mid new (take n rest)
     → (piece ≡ (taken ++ take n rest) ++ drop n rest) × Appends old new (taken ++ take n rest)
 more_taken old mid new taken rest piece n e p q =
     (e ∙ ap (λ l. taken ++ l) (sym (take-append-drop n rest)) ∙ sym (append_assoc taken (take n rest) (drop n rest)), Appends-trans old mid new taken (take n rest) p q)
 
--- what was taken is a front of that and of what is held back
+-- what was taken is a prefix of itself and of what is held back
 pub front_held : (took : Option (List ℕ)) (held more : List ℕ) → IsFrontOf took (append_known took held) more
 front_held None held more = tt
 front_held (Some took) held more = (held ++ more, sym (append_assoc took held more))
 
--- a front of the first bytes of a piece is one of the piece
+-- a prefix of the first bytes of a piece is one of the piece
 pub front_first : (old new : Option (List ℕ)) (piece : List ℕ) (n : ℕ) → IsFrontOf new old (take n piece) → IsFrontOf new old piece
 front_first None None piece n h = tt
 front_first (Some old) None piece n h = tt
@@ -34,7 +34,7 @@ front_first (Some old) (Some new) piece n h = (
       ∙ ap (λ l. old ++ l) (take-append-drop n piece),
 )
 
--- a front of what is held back and of the first bytes of a piece
+-- a prefix of what is held back and of the first bytes of a piece
 pub front_filled : (old new : Option (List ℕ)) (held piece : List ℕ) (n : ℕ) → IsFrontOf new old (held ++ take n piece) → IsFrontOf new (append_known old held) piece
 front_filled None None held piece n h = tt
 front_filled (Some old) None held piece n h = tt

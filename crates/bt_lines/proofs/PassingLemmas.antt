@@ -19,7 +19,7 @@ fed_both_by : (xs ys : List ℕ) → is_fed xs ≡ true → (ys ≡ []) ⊎ ((fr
 fed_both_by xs ys fed (inl none) = ap (λ l. is_fed (xs ++ l)) none ∙ ap is_fed (append-nil xs) ∙ fed
 fed_both_by xs ys fed (inr f) = ap (λ l. is_fed (xs ++ l)) f.1 ∙ ap is_fed (sym (append_assoc xs f.0 (10 ∷ []))) ∙ fed_push (xs ++ f.0)
 
--- complete lines behind others
+-- complete lines after others
 fed_both : (xs ys : List ℕ) → is_fed xs ≡ true → is_fed ys ≡ true → is_fed (xs ++ ys) ≡ true
 fed_both xs ys fed more = fed_both_by xs ys fed (fed_last ys more)
 
@@ -95,7 +95,7 @@ module _ (old new : BufferedLines) (line : Shown) (cut : Cut (rest_in old) line)
     open_is = open_is;
   }
 
--- what was consumed of what a reader lent
+-- what was consumed of what a reader gave
 module _ {S : Type 0} (reader : LineReader S) (first last : BufferedLines) (consumed : ConsumedLines) (count : ℕ)
     (begins : BeginsLines (buffered_bytes reader) (lines_given reader) (is_open reader) first) (passes : PassesLines first count last) (is : IsWhere last consumed) where
   rest_first : rest_in first ≡ buffered_bytes reader

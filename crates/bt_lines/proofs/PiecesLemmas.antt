@@ -41,7 +41,7 @@ module _ (hay : List ℕ) (b : ℕ) where
       let at : k + zero ≡ k = omega arith in
       eq-eqb (slice_index hay k) b (ap (slice_index hay) (sym at) ∙ o.reads zero (omega arith))
 
-  -- where it first occurs the byte first stands
+  -- the needle's first match is the first such byte
   pub finds_byte : (found : Option ℕ) → FindsNeedle hay (b ∷ []) 0 found → IsFirstByte (is_byte b) hay found
   finds_byte None none = λ k low high e. none k low (omega (arith, high)) (byte_occurs k high e)
   finds_byte (Some at) first =

@@ -12,14 +12,14 @@ use Rattle.bt_lines.specs.Output.{Output, HoldsBlock, IsFrontOf, Grows, block_si
 use Rattle.bt_lines.specs.Putting.{WorksAsBefore, PutsAll, FailsToPut, Puts, Grown, FailsToAdd, Adds}
 use Rattle.bt_lines.specs.declared.fault.Fault.{Fault}
 
--- a front of the first bytes is a front of them and more
+-- a prefix of the first bytes is a prefix of them and more
 pub front_longer : (new old : Option (List ℕ)) (xs ys : List ℕ) → IsFrontOf new old xs → IsFrontOf new old (xs ++ ys)
 front_longer None old xs ys f = tt
 front_longer (Some new) None xs ys f = tt
 front_longer (Some new) (Some old) xs ys f =
     (f.0 ++ ys, sym (append_assoc new f.0 ys) ∙ ap (λ l. l ++ ys) f.1 ∙ append_assoc old xs ys)
 
--- a front of further bytes, behind some that were appended
+-- a prefix of bytes that follow some that were appended
 pub front_behind : (new old mid : Option (List ℕ)) (xs ys : List ℕ) → Appends old mid xs → IsFrontOf new mid ys → IsFrontOf new old (xs ++ ys)
 front_behind None old mid xs ys p f = tt
 front_behind (Some new) None mid xs ys p f = tt

@@ -37,7 +37,7 @@ hands_both left old mid new first second p q = record {
   told_stays = λ t. q.told_stays (p.told_stays t);
 }
 
--- behind the lines given, at most a block more than the source has
+-- after the lines given, at most a block more than the source has
 near_left : (told : Bool) (held : List ℕ) (n : ℕ) (left : Option (List ℕ)) (k : ℕ) → length held ≤ k
     → IfSome (option_map (lines_from n) (left_at told held left)) (λ lines. IfSome left (λ rest. bytes_in lines ≤ length rest + k))
 near_left true held n None k short = tt
@@ -45,7 +45,7 @@ near_left false held n None k short = tt
 near_left true held n (Some rest) k short = omega (arith, bytes_in-lines n held, short)
 near_left false held n (Some rest) k short = omega (arith, bytes_in-lines n (held ++ rest), length-append held rest)
 
--- of known bytes, those of the lines that are left are left at the source, but for a block at most
+-- of known bytes, those of the lines that are left are left at the source, except at most a block
 pub sound_near : {S : Type 0} (left : S → Option (List ℕ)) (told : S → Bool) (reader : LineReader S) → IsSound left told reader → fault_kept reader ≡ None
     → IfSome (lines_left left reader) (λ lines. IfSome (left (source_of reader)) (λ rest. bytes_in lines ≤ length rest + block_size))
 unfolding bytes_left

@@ -39,11 +39,11 @@ module _ {S : Type 0} (IsRead : S → Option ℕ → S → Type 0) where
     fails = two.fails;
   }
 
--- want of memory is no failed read
+-- out of memory is no failed read
 pub memory_no_read : (input : Input) (line : ℕ) → no_memory ≡ read_failed input line → ⊥
 memory_no_read input line e = let apart : OutOfMemory ≡ ReadFailed = ap (λ (f : Told). f.kind) e in cc
 
--- what is told is one fault
+-- only one fault is reported
 pub some_is : (one other : Told) → Some one ≡ Some other → one ≡ other
 some_is one other e = cc
 
@@ -87,11 +87,11 @@ module _ {S : Type 0} (IsRead : S → Option ℕ → S → Type 0) (a b c : Line
   unread_then one (inr past) = inr (has_read_then one past.0, past.1)
 
 module _ {S : Type 0} (IsRead : S → Option ℕ → S → Type 0) (old new : LineReader S) where
-  -- a failed read is told of one that failed
+  -- a failed read is reported only if one failed
   pub tells_unread : (fault : Told) (input : Input) (line : ℕ) → fault ≡ read_failed input line → IsUnread IsRead old new → TellsReads IsRead old (Some fault) new
   tells_unread fault input line is unread = record { unread = λ other at e. unread; read = λ never. absurd (never input line (ap Some is)) }
 
-  -- no failed read is told, and all served
+  -- no failed read is reported, and all succeeded
   pub tells_read : (fault : Option Told) → ((input : Input) (line : ℕ) → fault ≡ Some (read_failed input line) → ⊥) → HasRead IsRead old new → TellsReads IsRead old fault new
   tells_read fault never read = record { unread = λ input line e. absurd (never input line e); read = λ none. read }
 

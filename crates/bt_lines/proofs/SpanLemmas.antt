@@ -13,7 +13,7 @@ use borrow.Rule.Slice.PartMut.{put_mid}
 pub twenty_digits : (n : ℕ) → n < 2 ^ 64 → length (decimal n) ≤ 20
 twenty_digits n small = length-decimal-le 20 n (omega arith) (omega arith) small
 
--- from an offset on stands a span, and other bytes after it
+-- a span begins at an offset, and other bytes follow it
 pub record HasSpan (text : List ℕ) (first : ℕ) (span : List ℕ) : Type 0 where
   rest : List ℕ
   is : drop first text ≡ span ++ rest

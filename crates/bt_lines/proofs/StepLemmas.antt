@@ -54,7 +54,7 @@ goes reader e =
     let at = goes_at reader.state e reader.input reader.lines reader.taken in
     record { holds = rw at.0 refl; good = at.1; open_ended = at.2; untold = at.3; taken = at.4 }
 
--- a reader that was told the end
+-- a reader to which the end was reported
 pub record IsTold {S : Type 0} (reader : LineReader S) : Type 0 where
   pub good : fault_kept reader ≡ None
   pub is_told : end_told reader ≡ true
@@ -70,7 +70,7 @@ told_ended reader e = record { good = rw e refl; is_told = rw e refl; taken = rw
 
 -- ---- lines of known bytes
 
--- the first of them, behind the bytes that are held
+-- the first of them, after the bytes that are held
 first_of_known : (n : ℕ) (a b : Option (List ℕ)) (block bytes rest : List ℕ) (line : TextLine) → Consumes a b bytes
     → ((ys : List ℕ) → lines_from n ((block ++ bytes) ++ ys) ≡ line ∷ lines_from (suc n) (rest ++ ys))
     → GivesFirst (option_map (lines_from n) (prepend_known block a)) line (option_map (lines_from (suc n)) (prepend_known rest b))
@@ -93,7 +93,7 @@ same_known n (Some xs) None old new bytes c e = absurd c
 same_known n (Some xs) (Some ys) old new bytes c e =
     ap (λ l. Some (lines_from n l)) (ap (λ l. l ++ ys) e ∙ append_assoc old bytes ys ∙ ap (λ l. old ++ l) (sym c))
 
--- nor where the end is told
+-- nor when the end is reported
 same_at_end : (n : ℕ) (a b : Option (List ℕ)) (old new bytes : List ℕ) → Consumes a b bytes → IsAtEnd b → new ≡ old ++ bytes
     → SameLines (option_map (lines_from n) (prepend_known old a)) (option_map (lines_from n) (option_map (λ ys. new) b))
 same_at_end n None b old new bytes c end e = tt
@@ -101,7 +101,7 @@ same_at_end n (Some xs) None old new bytes c end e = absurd c
 same_at_end n (Some xs) (Some ys) old new bytes c end e =
     ap (λ l. Some (lines_from n l)) (e ∙ ap (λ l. old ++ l) (sym (c ∙ ap (λ l. bytes ++ l) end ∙ append-nil bytes)))
 
--- none is left where the end was told and nothing is held
+-- none is left once the end was reported and nothing is held
 pub none_told : (n : ℕ) (a : Option (List ℕ)) (held : List ℕ) → held ≡ [] → IfSome (option_map (lines_from n) (option_map (λ ys. held) a)) (λ lines. lines ≡ [])
 none_told n None held e = tt
 none_told n (Some xs) held e = ap (lines_from n) e ∙ lines_from-nil n
@@ -114,7 +114,7 @@ none_of_known n (Some xs) None block bytes c e none = absurd c
 none_of_known n (Some xs) (Some ys) block bytes c e none =
     ap (lines_from n) (ap (λ l. block ++ l) (c ∙ ap (λ l. bytes ++ l) e ∙ append-nil bytes) ∙ none) ∙ lines_from-nil n
 
--- those behind the first are what is left, but for what was taken behind a front without a line feed
+-- those after the first are what is left, except what was taken after a prefix without a line feed
 near_known : (n : ℕ) (a b : Option (List ℕ)) (block bytes front back : List ℕ) (k : ℕ) → NoLineFeed front → length back ≤ k → Consumes a b bytes → block ++ bytes ≡ front ++ back
     → IfSome (option_map (lines_from n) (prepend_known block a)) (λ lines. IfSome b (λ rest. bytes_in (drop 1 lines) ≤ length rest + k))
 near_known n None b block bytes front back k clear short c e = tt
@@ -348,7 +348,7 @@ some_fault fault e = false≢true (ap is_some e)
 some_place : {input : Input} {line : ℕ} → read_failed input line ≡ no_memory → ⊥
 some_place e = false≢true (sym (ap (λ fault. is_some fault.place) e))
 
--- a front of bytes that were joined, but for what stands behind
+-- a prefix of bytes that were joined, without the bytes after it
 front_of_joined : (block bytes text behind : List ℕ) → block ++ bytes ≡ text ++ behind → length behind ≤ length bytes → text ≡ block ++ take (length bytes - length behind) bytes
 front_of_joined block bytes text behind e short =
     let size : length text ≡ length block + (length bytes - length behind) =
@@ -356,7 +356,7 @@ front_of_joined block bytes text behind e short =
     sym (take-append_seam text behind) ∙ ap (take (length text)) (sym e) ∙ ap (λ k. take k (block ++ bytes)) size
     ∙ take-append-add block bytes (length bytes - length behind)
 
--- what was taken of the line has no line feed, but for what stands behind
+-- what was taken of the line has no line feed, except in the bytes after it
 module _ {S : Type 0} (left : S → Option (List ℕ)) (failed end : S → Bool) (old new : LineReader S) (bytes text behind : List ℕ) (fault : Fault) (was : Goes old) (no_line : line_feeds (held old) ≡ 0)
     (same : input_of new ≡ input_of old) (same_lines : lines_given new ≡ lines_given old) (consumed : Consumes (left (source_of old)) (left (source_of new)) bytes)
     (counted : bytes_taken new ≡ bytes_taken old + length bytes) (joined : held old ++ bytes ≡ text ++ behind) (clear : NoLineFeed text)

@@ -115,7 +115,7 @@ one_fed more n piece rest clear fed is =
     ap (λ l. drop (line_feeds (piece ++ 10 ∷ rest)) l) lines ∙ ap (λ k. drop k (fed_line n piece ∷ lines_from (suc n) (rest ++ more))) feeds
     ∙ is fed_rest ∙ ap (λ k. lines_from k more) count
 
--- those behind bytes that end with a line feed
+-- those after bytes that end with a line feed
 drop_fed : (more : List ℕ) (n : ℕ) (bytes : List ℕ) → is_fed bytes ≡ true → drop (line_feeds bytes) (lines_from n (bytes ++ more)) ≡ lines_from (n + line_feeds bytes) more
 drop_fed more = by_lines (λ n bytes. is_fed bytes ≡ true → drop (line_feeds bytes) (lines_from n (bytes ++ more)) ≡ lines_from (n + line_feeds bytes) more)
     (λ n piece clear fed. none_fed more n piece (fed_clear piece fed clear))
@@ -408,7 +408,7 @@ module _ {S : Type 0} (left : S → Option (List ℕ)) (old new : LineReader S) 
       let spaced = spaced_taken old.state (complete old.buffer) (unread old.buffer) 0 (length (held_at (open_at old.state) (complete old.buffer) (unread old.buffer))) n within (are_fed old.buffer).fed fed old.last old.quiet (omega arith) in
       omega (arith, ap length now, spaced)
 
--- ---- what stands behind the next line
+-- ---- what follows the next line
 
 near_all : (number : ℕ) (held : List ℕ) (told : Bool) (left : Option (List ℕ)) → length held ≤ block_size
     → IfSome (option_map (lines_from number) (left_at told held left)) (λ lines. IfSome left (λ rest. bytes_in (drop 1 lines) ≤ length rest + block_size))

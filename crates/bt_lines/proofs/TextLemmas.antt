@@ -41,31 +41,31 @@ pub line_feeds-fed : (piece rest : List ℕ) → NoLineFeed piece → line_feeds
 line_feeds-fed piece rest clear =
     omega (arith, length-slice_split (λ b. eqb b 10) rest, length-slice_split (λ b. eqb b 10) (piece ++ 10 ∷ rest), ap length (slice_split_at (λ b. eqb b 10) piece 10 rest clear refl))
 
--- ---- whole lines
+-- ---- complete lines
 
 whole-more : (n : ℕ) (piece : List ℕ) (rest : List (List ℕ)) → 0 < length rest → numbered_whole n (piece ∷ rest) ≡ fed_line n piece ∷ numbered_whole (suc n) rest
 whole-more n piece [] h = absurd (omega arith)
 whole-more n piece (next ∷ rest) h = refl
 
--- the first whole line
+-- the first complete line
 pub whole_lines_from-fed : (n : ℕ) (piece rest : List ℕ) → NoLineFeed piece → whole_lines_from n (piece ++ 10 ∷ rest) ≡ fed_line n piece ∷ whole_lines_from (suc n) rest
 unfolding whole_lines_from
 whole_lines_from-fed n piece rest clear =
     ap (numbered_whole n) (slice_split_at (λ b. eqb b 10) piece 10 rest clear refl)
     ∙ whole-more n piece (pieces 10 rest) (omega (arith, length-slice_split (λ b. eqb b 10) rest))
 
--- a text without a line feed has no whole line
+-- a text without a line feed has no complete line
 pub whole_lines_from-last : (n : ℕ) (piece : List ℕ) → NoLineFeed piece → whole_lines_from n piece ≡ []
 unfolding whole_lines_from
 whole_lines_from-last n piece clear = ap (numbered_whole n) (slice_split_none (λ b. eqb b 10) piece clear)
 
--- there are so many whole lines as line feeds
+-- there are as many complete lines as line feeds
 pub whole_count : (n : ℕ) (bytes : List ℕ) → length (whole_lines_from n bytes) ≡ line_feeds bytes
 whole_count = by_lines (λ n bytes. length (whole_lines_from n bytes) ≡ line_feeds bytes)
     (λ n piece clear. rw (whole_lines_from-last n piece clear, line_feeds-none piece clear) refl)
     (λ n piece rest clear is. rw (whole_lines_from-fed n piece rest clear, line_feeds-fed piece rest clear) (ap suc is))
 
--- the whole lines of a text are the first lines of each text that begins with it
+-- the complete lines of a text are the first lines of each text that begins with it
 pub whole_front : (n : ℕ) (bytes more : List ℕ) → take (line_feeds bytes) (lines_from n (bytes ++ more)) ≡ whole_lines_from n bytes
 whole_front n bytes more = by_lines (λ n bytes. take (line_feeds bytes) (lines_from n (bytes ++ more)) ≡ whole_lines_from n bytes)
     (λ n piece clear. rw (whole_lines_from-last n piece clear, line_feeds-none piece clear) refl)
@@ -86,7 +86,7 @@ lines_are_numbered = by_lines (λ n bytes. AreNumbered n (lines_from n bytes))
     (λ n piece clear. subst (AreNumbered n) (sym (lines_from-last n piece clear)) (last_is_numbered n piece))
     (λ n piece rest clear is. subst (AreNumbered n) (sym (lines_from-fed n piece rest clear)) (refl, is))
 
--- so do its whole lines
+-- so do its complete lines
 pub whole_lines_are_numbered : (n : ℕ) (bytes : List ℕ) → AreNumbered n (whole_lines_from n bytes)
 whole_lines_are_numbered = by_lines (λ n bytes. AreNumbered n (whole_lines_from n bytes))
     (λ n piece clear. subst (AreNumbered n) (sym (whole_lines_from-last n piece clear)) tt)
@@ -125,7 +125,7 @@ first_cut [] rest (byte ∷ front) back clear e = absurd (false≢true (sym (All
 first_cut (other ∷ piece) rest (byte ∷ front) back clear e =
     first_cut piece rest front back (All-tail (λ b. eqb b 10 ≡ false) byte front clear) (ap (drop 1) e)
 
--- behind a piece without a line feed: the lines but for the first have no more bytes than come there
+-- after a piece without a line feed: the lines except the first have at most the bytes that come there
 pub bytes_behind_first : (n : ℕ) (front back : List ℕ) → NoLineFeed front → bytes_in (drop 1 (lines_from n (front ++ back))) ≤ length back
 bytes_behind_first n front back clear = by_lines (λ n bytes. front ++ back ≡ bytes → bytes_in (drop 1 (lines_from n bytes)) ≤ length back)
     (λ n piece alone e. rw (lines_from-last n piece alone) (none n piece))

@@ -6,7 +6,7 @@ use Rattle.bt_lines.specs.Shape.{is_fed}
 use Rattle.bt_lines.specs.declared.buffered_lines.BufferedLines.{BufferedLines}
 use Rattle.bt_lines.specs.declared.buffered_lines.ConsumedLines.{ConsumedLines}
 
--- the lines of bytes, after so many lines, by whether the last byte is a line feed that was added
+-- the lines of bytes after `number` lines, by whether the last byte is a line feed that was added
 abbrev pub buffered_lines : Bool → ℕ → List ℕ → List TextLine
 buffered_lines false lines bytes = whole_lines_from (suc lines) bytes
 buffered_lines true lines bytes = lines_from (suc lines) (take (length bytes - 1) bytes)
@@ -19,7 +19,7 @@ rest_in cursor = drop cursor.at cursor.all.now
 unfoldable pub lines_in : BufferedLines → List TextLine
 lines_in cursor = buffered_lines cursor.is_open cursor.lines (rest_in cursor)
 
--- those after the first one, which has so many bytes
+-- those after the first one, whose length in bytes is given
 abbrev pub lines_after : BufferedLines → ℕ → List TextLine
 lines_after cursor size = buffered_lines cursor.is_open (cursor.lines + 1) (drop size (rest_in cursor))
 
@@ -45,7 +45,7 @@ pub record PassesLine (old : BufferedLines) (line : TextLine) (new : BufferedLin
   pub given : new.lines ≡ old.lines + 1
   pub open_is : new.is_open ≡ old.is_open
 
--- lines were consumed, so many
+-- `count` lines were consumed
 pub record PassesLines (old : BufferedLines) (count : ℕ) (new : BufferedLines) : Type 0 where
   pub left_is : lines_in new ≡ drop count (lines_in old)
   pub all_is : new.all ≡ old.all

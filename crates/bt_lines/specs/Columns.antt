@@ -15,13 +15,13 @@ columns_of_rest (Some rest) = pieces 9 rest.now
 abbrev pub columns_left : Columns → List (List ℕ)
 columns_left columns = columns_of_rest columns.rest
 
--- the first tab stands here
+-- the first tab is here
 pub record IsFirstTab (text : List ℕ) (at : ℕ) : Type 0 where
   pub within : at < length text
   pub tab : get_or text at 0 ≡ 9
   pub column : All (λ byte. (byte == 9) ≡ false) (take at text)
 
--- the first tab stands here, if there is one: it parts the first column from the others
+-- the offset of the first tab, if there is one: it divides the first column from the others
 abbrev pub CutAt : List ℕ → Option ℕ → Type 0
 CutAt text None = pieces 9 text ≡ text ∷ []
 CutAt text (Some at) = pieces 9 text ≡ take at text ∷ pieces 9 (drop (at + 1) text)

@@ -1,7 +1,7 @@
 -- Pieces that are copied by their first and their last bytes.
 use Rattle.std.specs.Prelude.{◌≡◌, ℕ, ◌*◌, ◌≤◌, ◌⊎◌}
 
--- a piece of so many bytes is copied without a call
+-- a piece of this length is copied without a call
 abbrev pub IsShort : ℕ → Type 0
 IsShort size = (1 ≤ size) × (size ≤ 64)
 
@@ -13,6 +13,6 @@ IsWide size = (4 ≤ size) × (size ≤ 64)
 abbrev pub IsEnd : ℕ → Type 0
 IsEnd size = (size ≡ 1) ⊎ IsWide size
 
--- the first bytes of a piece, so many, and as many of its last bytes are all of it
+-- the first bytes of a piece, this many, and as many of its last bytes are all of it
 abbrev pub Covers : ℕ → ℕ → Type 0
 Covers width size = (width ≤ size) × (size ≤ 2 * width)

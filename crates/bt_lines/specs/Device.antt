@@ -14,7 +14,7 @@ abbrev pub TellsFailure : Option ℕ → Bool → Bool → Type 0
 TellsFailure None had_failed has_failed = has_failed ≡ true
 TellsFailure (Some count) had_failed has_failed = (had_failed ≡ false) × (has_failed ≡ false)
 
--- Reads that served made the one source the other, and gave so many bytes in all.
+-- Reads that succeeded took the first source to the other, and gave this many bytes in all.
 pub data ReadsOn {S : Type 0} (IsRead : S → Option ℕ → S → Type 0) (first : S)
     : ℕ → S → Type 0 where
   begun : ReadsOn IsRead first 0 first

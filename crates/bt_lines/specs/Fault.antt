@@ -18,7 +18,7 @@ pub record Told : Type 0 where
   pub kind : Kind
   pub place : Option Place
 
--- a fault of this kind lies at a line of an input; a failed write and want of memory don't
+-- a fault of this kind lies at a line of an input; a failed write and running out of memory don't
 abbrev pub has_place : Kind → Bool
 has_place WriteFailed = false
 has_place NoMemory = false

@@ -1,10 +1,10 @@
--- Words on lines that are lent.
+-- Words on lines that are borrowed.
 use Rattle.std.specs.Prelude.{◌≡◌, ℕ, List, ◌∷◌, ◌==◌, false, Option, Some, None, ⊤}
 use Rattle.std.specs.List.{All}
 use Rattle.bt_lines.specs.Lines.{TextLine}
 use Rattle.bt_lines.specs.declared.line.Line.{Line}
 
--- a line that is lent, as the definitions have it
+-- a borrowed line, as the definitions have it
 abbrev pub line_seen : Line → TextLine
 line_seen line = record { number = line.number; text = line.text.now; ending = line.ending }
 

@@ -57,16 +57,16 @@ numbered_whole number (piece ∷ []) = []
 numbered_whole number (piece ∷ next ∷ rest) =
     fed_line number piece ∷ numbered_whole (suc number) (next ∷ rest)
 
--- the whole lines of a text that was cut off,
+-- the complete lines of a text that was cut off,
 -- all pieces but the last; the first has the number given
 unfoldable pub whole_lines_from : ℕ → List ℕ → List TextLine
 whole_lines_from number bytes = numbered_whole number (pieces 10 bytes)
 
--- the whole lines of a text that was cut off
+-- the complete lines of a text that was cut off
 abbrev pub whole_lines : List ℕ → List TextLine
 whole_lines bytes = whole_lines_from 1 bytes
 
--- how many line feeds some bytes have: so many whole lines they have
+-- how many line feeds some bytes have, which is how many complete lines they have
 abbrev pub line_feeds : List ℕ → ℕ
 line_feeds bytes = count_by (λ byte. byte == 10) bytes
 
@@ -77,7 +77,7 @@ end_bytes Lf = 10 ∷ []
 end_bytes CrLf = 13 ∷ 10 ∷ []
 end_bytes Cr = 13 ∷ []
 
--- a line as it stood in the text
+-- a line as the text has it
 abbrev pub spelled : TextLine → List ℕ
 spelled line = line.text ++ end_bytes line.ending
 

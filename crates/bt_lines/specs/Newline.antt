@@ -17,7 +17,7 @@ IsFirstOf value bytes (Some at) =
 abbrev pub IsFirstFeed : List ℕ → Option ℕ → Type 0
 IsFirstFeed bytes found = IsFirstOf 10 bytes found
 
--- so many bytes come before the first of this value, or there is none and they are all
+-- the count of bytes before the first of this value, or of all bytes if there is none
 pub record IsBefore (value : ℕ) (bytes : List ℕ) (count : ℕ) : Type 0 where
   pub within : count ≤ length bytes
   pub clear : Lacks value (take count bytes)

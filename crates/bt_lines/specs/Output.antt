@@ -24,12 +24,12 @@ pub record OutputOver (K : Type 0) : Type 0 where
 abbrev pub HoldsBlock : Option (List ℕ) → Option (List ℕ) → Type 0
 HoldsBlock took put = (held : List ℕ) × Appends took put held × (length held ≤ block_size)
 
--- new is a front of the known bytes old, with more bytes after them
+-- new is a prefix of the known bytes old, with more bytes after them
 abbrev pub IsFrontOf : Option (List ℕ) → Option (List ℕ) → List ℕ → Type 0
 IsFrontOf None old more = ⊤
 IsFrontOf (Some new) None more = ⊤
 IsFrontOf (Some new) (Some old) more = (rest : List ℕ) × (new ++ rest ≡ old ++ more)
 
--- known bytes stay at the front, and some may have come
+-- known bytes stay as they are, and some may have been appended
 abbrev pub Grows : Option (List ℕ) → Option (List ℕ) → Type 0
 Grows old new = (more : List ℕ) × Appends old new more

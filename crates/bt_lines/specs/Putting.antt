@@ -6,7 +6,7 @@ use Rattle.bt_lines.specs.Names.{told}
 use Rattle.bt_lines.specs.Output.{Output, HoldsBlock, IsFrontOf, Grows}
 use Rattle.bt_lines.specs.declared.fault.Fault.{Fault}
 
--- the output works as it did before: what was put is known as before,
+-- the output still works: what was put is known if it was,
 -- and at most a block of it is held back
 pub record WorksAsBefore (old new : Output) : Type 0 where
   pub served : new.has_failed ≡ old.has_failed
@@ -23,7 +23,7 @@ pub record PutsAll (old : Output) (bytes : List ℕ) (new : Output) : Type 0 whe
   pub served : new.has_failed ≡ false
   pub sink_served : new.sink_has_failed ≡ old.sink_has_failed
 
--- the bytes weren't all put: what the sink took is a front of them
+-- the bytes weren't all put: what the sink took is a prefix of them
 pub record FailsToPut (old : Output) (bytes : List ℕ) (fault : Told) (new : Output) : Type 0 where
   pub is : fault ≡ write_failed
   pub front : IsFrontOf new.took old.put bytes
@@ -64,7 +64,7 @@ module _ (before after : List ℕ) (old new : Output) where
     pub goes_on : after ≡ before ++ bytes
     pub appends : Appends old.put new.put bytes
 
-  -- they weren't all put: what the sink took is a front of them
+  -- they weren't all put: what the sink took is a prefix of them
   pub record CutsRest : Type 0 where
     pub bytes : List ℕ
     pub goes_on : after ≡ before ++ bytes

@@ -19,12 +19,12 @@ use Rattle.bt_lines.specs.declared.buffered_lines.ConsumedLines.{ConsumedLines}
 use Rattle.bt_lines.specs.declared.line.Line.{Line}
 use Rattle.bt_lines.specs.declared.line_reader.LineReader.{LineReader}
 
--- the bytes that come after the lines given: once the end was told, only those that are held
+-- the bytes that come after the lines given: once the end was reported, only those that are held
 abbrev pub left_at : Bool → List ℕ → Option (List ℕ) → Option (List ℕ)
 left_at true held left = option_map (λ bytes. held) left
 left_at false held left = prepend_known held left
 
--- the first lines are gone, so many, where they were known
+-- the first `count` lines are gone, if they were known
 abbrev pub DropsLines : Option (List TextLine) → ℕ → Option (List TextLine) → Type 0
 DropsLines None count new = ⊤
 DropsLines (Some lines) count new = new ≡ Some (drop count lines)
@@ -62,7 +62,7 @@ module _ {S : Type 0} where
   abbrev pub is_going : LineReader S → Bool
   is_going reader = going_at reader.state
 
-  -- whether it was told the end
+  -- whether the end was reported to it
   unfoldable pub end_told : LineReader S → Bool
   end_told reader = told_at reader.state
 
@@ -90,7 +90,7 @@ module _ {S : Type 0} where
   -- what holds of a reader at all times: `new` establishes it, and each call keeps it
   pub record IsSound (left : S → Option (List ℕ)) (told : S → Bool)
       (reader : LineReader S) : Type 0 where
-    -- a reader that was told the end has a source that told it, and none of the known bytes is left
+    -- once the end was reported to a reader, its source has reported it, and none of the known bytes is left
     pub end : end_told reader ≡ true
         → (told (source_of reader) ≡ true) × IsAtEnd (left (source_of reader))
     -- without a fault, fewer than 2^63 bytes were taken
@@ -110,10 +110,10 @@ module _ {S : Type 0} where
     pub left_over : Consumes (left (source_of old)) (left (source_of new)) bytes
     pub counted : bytes_taken new ≡ bytes_taken old + length bytes
     pub same_input : input_of new ≡ input_of old
-    -- line feeds are counted as bytes are, unless the end was told or the text passed the bound
+    -- line feeds are counted as bytes are, unless the end was reported or the text passed the bound
     pub fed : end_told new ≡ false → bytes_taken new < 2 ^ 63
         → feeds_taken new ≡ feeds_taken old + line_feeds bytes
-    -- an end that was told stays told
+    -- an end that was reported stays reported
     pub told_stays : end_told old ≡ true → end_told new ≡ true
 
   -- a line was given
@@ -125,7 +125,7 @@ module _ {S : Type 0} where
     pub bytes : (bytes : List ℕ) × Hands left old bytes new
         × (held old ++ bytes ≡ spelled line ++ held new)
     pub ahead : length (held new) ≤ block_size
-    -- nothing is read while a whole line is held
+    -- nothing is read while a complete line is held
     pub ready : 0 < line_feeds (held old) → source_of new ≡ source_of old
     pub number : line.number ≡ suc (lines_given old)
     -- the reader is at it
@@ -169,8 +169,8 @@ module _ {S : Type 0} where
     pub given : lines_given new
         ≡ feeds_taken old + line_feeds (take (2 ^ 63 - 1 - bytes_taken old) bytes)
 
-  -- of known bytes, those after the lines given and one line more are left,
-  -- but for at most a block
+  -- of known bytes, those after the lines given and one more line are left,
+  -- except at most a block
   abbrev pub IsNear : (S → Option (List ℕ)) → LineReader S → LineReader S → Type 0
   IsNear left old new =
       IfSome (lines_left left old) (λ lines. IfSome (left (source_of new)) (λ rest.
@@ -187,13 +187,13 @@ module _ {S : Type 0} where
     -- after the end no fault comes
     pub was_going : has_ended old ≡ false
     pub before_end : fault_kept old ≡ None → end_told old ≡ false
-    -- nor while a whole line is held
+    -- nor while a complete line is held
     pub no_line : fault_kept old ≡ None → line_feeds (held old) ≡ 0
     pub first : fault_kept old ≡ None → FailsToRead left failed old fault new ⊎ (fault ≡ no_memory)
     pub cut_off : fault_kept old ≡ None → fault ≡ read_failed (input_of old) (suc (lines_given old))
         → CutsOff left old new
     -- of known bytes, those after the line that couldn't be given are left,
-    -- but for at most a block
+    -- except at most a block
     pub near : fault_kept old ≡ None → IsNear left old new
     pub served : fault ≡ no_memory → failed (source_of new) ≡ failed (source_of old)
 
@@ -214,7 +214,7 @@ module _ {S : Type 0} where
   IsUnread IsRead old new = ReadsFail IsRead (source_of old) (source_of new)
       ⊎ (HasRead IsRead old new × (2 ^ 63 ≤ bytes_taken new))
 
-  -- of the reads in between a failed one is told exactly where one failed or the text is too long
+  -- a failed read is reported exactly if one of the reads in between failed or the text is too long
   pub record TellsReads (IsRead : S → Option ℕ → S → Type 0) (old : LineReader S)
       (fault : Option Told) (new : LineReader S) : Type 0 where
     pub unread : (input : Input) (line : ℕ) → fault ≡ Some (read_failed input line)
@@ -222,9 +222,9 @@ module _ {S : Type 0} where
     pub read : ((input : Input) (line : ℕ) → fault ≢ Some (read_failed input line))
         → HasRead IsRead old new
 
-  -- A failed read is told for the first time only where a read of this call failed, whatever the
-  -- source did before, or where the text is too long, by what its reads gave; else all reads of the
-  -- call served.
+  -- A failed read is reported for the first time only if a read of this call failed, whatever the
+  -- source did before, or if the text is too long by what its reads gave. Else all reads of the call
+  -- succeeded.
   abbrev pub TellsOwnFailure : {A : Type 0} → (S → Option ℕ → S → Type 0) → LineReader S
       → Result A Fault → LineReader S → Type 0
   TellsOwnFailure IsRead old (Ok done) new = HasRead IsRead old new
@@ -251,7 +251,7 @@ module _ {S : Type 0} where
   StepAnswers left failed old (Ok done) new = StepsTo left failed old (line_at new) new
   StepAnswers left failed old (Err fault) new = GivesFault left failed old (told fault) new
 
-  -- the same call of `next`, with the line held in place of lent
+  -- the same call of `next`, with the line held instead of borrowed
   pub record Stepped {A : Type 0} (left : S → Option (List ℕ)) (failed : S → Bool) (end : S → Bool)
       (old : LineReader S) (answer : Result A Fault) (new : LineReader S) : Type 0 where
     pub answers : StepAnswers left failed old answer new
@@ -286,7 +286,7 @@ module _ {S : Type 0} where
     pub bytes : (bytes : List ℕ) × Hands left old bytes new × (held new ≡ held old ++ bytes)
     pub same : SameLines (lines_left left old) (lines_left left new)
     pub counted : lines_given new ≡ lines_given old
-    -- nothing is read while a whole line is held
+    -- nothing is read while a complete line is held
     pub ready : 0 < line_feeds (held old) → source_of new ≡ source_of old
     pub served : failed (source_of new) ≡ failed (source_of old)
     pub was_going : (fault_kept old ≡ None) × (has_ended old ≡ false)
@@ -299,7 +299,7 @@ module _ {S : Type 0} where
   FillAnswers left failed old (Ok false) new = GivesEnd left failed old new
   FillAnswers left failed old (Err fault) new = GivesFault left failed old (told fault) new
 
-  -- what holds of a reader at all times, but for how much it has buffered
+  -- what holds of a reader at all times, except how much it has buffered
   pub record IsKept (left : S → Option (List ℕ)) (told : S → Bool) (reader : LineReader S) : Type 0 where
     pub end : end_told reader ≡ true
         → (told (source_of reader) ≡ true) × IsAtEnd (left (source_of reader))
@@ -334,7 +334,7 @@ module _ {S : Type 0} where
   IsPrefix left reader = IfSome (lines_left left reader) (λ lines.
       take (length (buffered_in reader)) lines ≡ buffered_in reader)
 
-  -- of known bytes, those after the next line are left at the source, but for a block at most
+  -- of known bytes, those after the next line are left at the source, except at most a block
   abbrev pub IsNearNext : (S → Option (List ℕ)) → LineReader S → Type 0
   IsNearNext left reader = IfSome (lines_left left reader) (λ lines. IfSome (left (source_of reader)) (λ rest.
       bytes_in (drop 1 lines) ≤ length rest + block_size))
@@ -346,7 +346,7 @@ module _ {S : Type 0} where
     pub lines : consumed.lines
         ≡ lines_given reader + line_feeds (take consumed.bytes (buffered_bytes reader))
 
-  -- so many lines were
+  -- `count` lines were
   pub record TakenLines (reader : LineReader S) (consumed : ConsumedLines) (count : ℕ) : Type 0 where
     pub taken : IsTaken reader consumed
     pub feeds : line_feeds (take consumed.bytes (buffered_bytes reader)) ≡ count
@@ -358,9 +358,9 @@ module _ {S : Type 0} where
   pub record TakesLines (left : S → Option (List ℕ)) (end : S → Bool) (old : LineReader S)
       (consumed : ConsumedLines) (new : LineReader S) : Type 0 where
     pub kept : IsKept left end old → IsKept left end new
-    -- behind the lines at most a block is held
+    -- after the lines at most a block is held
     pub near : 0 < consumed.bytes → length (held new) ≤ block_size
-    -- of the lines that were left so many are gone
+    -- of the lines that were left, the first `count` are gone
     pub left_is : DropsLines (lines_left left old)
         (line_feeds (take consumed.bytes (buffered_bytes old))) (lines_left left new)
     pub bytes : buffered_bytes new ≡ drop consumed.bytes (buffered_bytes old)

@@ -15,7 +15,7 @@ fault_at ReadFailed input number = Some (read_failed input (suc number))
 fault_at TooLong input number = Some (read_failed input (suc number))
 fault_at NoMemory input number = Some no_memory
 
--- whether the end was told
+-- whether the end was reported
 abbrev pub told_at : State → Bool
 told_at Reading = false
 told_at LastLine = true
@@ -69,7 +69,7 @@ going_at ReadFailed = false
 going_at TooLong = false
 going_at NoMemory = false
 
--- the text of the line that the reader is at, once it has given so many
+-- the text of the line that the reader is at, once it has given this many
 abbrev pub text_at : State → ℕ → List ℕ → Option (List ℕ)
 text_at Reading lines text = if nat_lt 0 lines then Some text else None
 text_at LastLine lines text = if nat_lt 0 lines then Some text else None

@@ -12,7 +12,7 @@ pub record Reading : Type 0 where
   pub has_failed : Bool
   pub end_told : Bool
 
--- a read of a script gave so many bytes, or failed and gave none
+-- a read of a script gave this many bytes, or failed and gave none
 abbrev pub IsScriptRead : Reading → Option ℕ → Reading → Type 0
 IsScriptRead before None after = (after.given ≡ before.given) × (after.has_failed ≡ true)
 IsScriptRead before (Some count) after =

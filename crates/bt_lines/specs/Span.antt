@@ -1,4 +1,4 @@
--- What stands behind a name at the beginning of a line: where an interval starts and stops (UCSC BED
+-- What follows a name at the beginning of a line: where an interval starts and stops (UCSC BED
 -- description, fields chromStart and chromEnd).
 use Rattle.std.specs.Prelude.{ℕ, List, [], ◌∷◌, ◌++◌, codes, decimal}
 

@@ -12,7 +12,7 @@ use Rattle.bt_lines.specs.declared.spill.Stop.{Stop}
 use Rattle.bt_lines.specs.declared.spill.Stop.TheVariants.{LineFeed, End, Failed, TooLong}
 use Rattle.bt_lines.specs.declared.spill.Stop.TheVariants.{NoMemory}
 
--- what came of asking for more bytes, with so many taken before
+-- the outcome of a request for more bytes, with this many taken before
 abbrev pub MoreComes : More → Option (List ℕ) → Bool → Bool → Bool → List ℕ → List ℕ → List ℕ → ℕ → Type 0
 MoreComes Bytes left was_failed is_failed told bytes old unread taken =
     (0 < length bytes) × (unread ≡ old ++ bytes) × (is_failed ≡ was_failed)
@@ -63,7 +63,7 @@ module _ {S : Type 0} (IsRead : S → Option ℕ → S → Type 0) where
   AreCounted TooLong old old_taken new taken = ReadsCounted IsRead old old_taken new (suc taken)
   AreCounted NoMemory old old_taken new taken = ReadsCounted IsRead old old_taken new taken
 
--- what was read of the line, what stands after it, and where the reading stopped
+-- what was read of the line, what follows it, and where the reading stopped
 abbrev pub StopsAt : Stop → Option (List ℕ) → Bool → Bool → Bool → List ℕ → List ℕ → List ℕ → ℕ → Type 0
 StopsAt LineFeed left was_failed is_failed told text behind unread taken =
     ((line : List ℕ) × NoLineFeed line × (text ≡ line ++ 10 ∷ [])) × (behind ≡ unread) × (is_failed ≡ was_failed)
@@ -77,14 +77,14 @@ StopsAt NoMemory left was_failed is_failed told text behind unread taken =
     NoLineFeed text × (behind ≡ unread) × (is_failed ≡ was_failed)
 
 module _ {S : Type 0} (left : S → Option (List ℕ)) (failed : S → Bool) (told : S → Bool) where
-  -- what was read after the lines, and the bytes read after that, were moved to a line but for some
+  -- what was read after the lines, and the bytes read after that, were moved to a line except `behind`
   pub record Fills (old : S) (old_unread : List ℕ) (old_taken : ℕ) (stop : Stop)
       (new : S) (unread text : List ℕ) (taken : ℕ) : Type 0 where
     pub bytes : List ℕ
     pub consumed : Consumes (left old) (left new) bytes
     pub counted : taken + uncounted stop ≡ old_taken + length bytes
     pub within : taken < 2 ^ 63
-    -- those that stand after the line
+    -- those that follow the line
     pub behind : List ℕ
     pub joined : old_unread ++ bytes ≡ text ++ behind
     pub stopped : StopsAt stop (left new) (failed old) (failed new) (told new) text behind unread taken

@@ -1,4 +1,4 @@
--- Bytes that are whole lines, one behind another.
+-- Bytes that are concatenated complete lines.
 use Rattle.std.specs.Prelude.{◌≡◌, ℕ, List, [], ◌∷◌, ◌++◌, flat_map, ⊤}
 use Rattle.bt_lines.specs.LentLine.{NoLineFeed}
 

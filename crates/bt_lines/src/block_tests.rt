@@ -27,7 +27,7 @@ fn is_one_line(alloc: Global, text: &[u8], step: usize, want: &[u8], ending: Lin
     is_given && has_ended && is_read
 }
 
-// Whether a line of so many bytes is given with each of these endings, in pieces of each size.
+// Whether a line of this many bytes is given with each of these endings, in pieces of each size.
 fn is_given_with(alloc: Global, length: usize, endings: &[Ending]) -> Result<bool, AllocError> {
     let want = long_line(alloc, length, b"")?;
     for (ending, kind) in endings {
@@ -58,7 +58,7 @@ fn one_line_across_the_border_of_a_block(rt: HostRuntime) -> Result<(), Fail> {
     Ok(())
 }
 
-// How many bytes of a text are read in blocks for so many lines, if there are so many.
+// How many bytes of a text are read in blocks for this many lines, if there are that many.
 fn read_for(alloc: Global, text: &[u8], lines: usize) -> Option<usize> {
     let mut reader = LineReader::new(alloc, ScriptSource::new(text, BLOCK, None), Input::First);
     let mut are_given = true;
@@ -89,7 +89,7 @@ fn nothing_is_read_while_a_whole_line_is_held(rt: HostRuntime) -> Result<(), Fai
     Ok(())
 }
 
-// The first line of a text by a plain search, and what stands behind it.
+// The first line of a text by a plain search, and what follows it.
 fn split_first(text: &[u8]) -> (&[u8], LineEnd, &[u8]) {
     let feed = text.iter().position(|byte| *byte == b'\n');
     let (piece, rest) = match feed {
@@ -138,7 +138,7 @@ fn first_missplit(alloc: Global, text: &[u8], steps: &[usize]) -> Option<usize> 
     None
 }
 
-// The same over so many drawn texts.
+// The same over this many drawn texts.
 fn first_missplit_of(alloc: Global, count: usize) -> Result<Option<usize>, AllocError> {
     let mut draws = Draws { state: 2026 };
     for _ in 0..count {

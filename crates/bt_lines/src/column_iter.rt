@@ -28,7 +28,7 @@ impl<'a> Iterator for Columns<'a> {
     }
 }
 
-// The first column of a text, and what stands after its tab, if it has one.
+// The first column of a text, and what follows its tab, if it has one.
 fn first_column(text: &[u8]) -> (&[u8], Option<&[u8]>)
     ensures { pieces 9 text.now ≡ result.0.now ∷ columns_of_rest result.1 }
 {

@@ -184,7 +184,7 @@ mod tests {
         b"abcdefghijklmnopqrstuvwxyz0123456789abcdefghijklmnopqrstuvwxyz0123456789",
     ];
 
-    // Whether a piece was copied behind the first byte of a text, with nothing beside it.
+    // Whether a piece was copied after the first byte of a text, and nothing else was changed.
     fn is_copied(text: &[u8; 80], piece: &[u8]) -> bool {
         let behind = &text[piece.len().min(72) + 1..];
         text[0] == b'.' && text.get(1..piece.len() + 1) == Some(piece) && behind[0] == b'.'

@@ -20,7 +20,7 @@ pub trait Source {
     // Whether a read has answered the end, by 0 to a block with room.
     ghost end_told: { Self → Bool };
 
-    // A read made the one source the other and gave so many bytes, or failed where there is no count.
+    // A read took the one source to the other and gave this many bytes, or failed if there is no count.
     // Only `read` gives it.
     ghost is_read: { Self → Option ℕ → Self → Type 0 };
 
@@ -51,7 +51,7 @@ pub trait Sink {
     // Whether it has passed on all that it took, by a flush at the latest.
     ghost is_flushed: { Self → Bool };
 
-    /// Takes a front of the bytes, at least one byte where there is one, and answers how many. An error
+    /// Takes a prefix of the bytes, at least one byte if there is one, and returns how many. An error
     /// takes none of them, and isn't tried again.
     fn write(&mut self, bytes: &[u8]) -> Result<usize, DeviceFailed>
         ensures within { IfOk result (λ n. n ≤ length bytes.now) }

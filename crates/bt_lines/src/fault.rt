@@ -6,7 +6,7 @@ ghost use Rattle.bt_lines.specs.Fault.{has_place, text_of};
 /// What went wrong.
 #[derive(Clone, Copy, Debug, PartialEq, Eq)]
 pub enum Kind {
-    /// A line has fewer columns than its format asks for.
+    /// A line has fewer columns than its format needs.
     TooFewColumns,
     /// The chromosome's name is empty.
     EmptyName,
@@ -40,7 +40,7 @@ pub enum Kind {
     NoSequence,
     /// More records of the second input would have to be held than the limit allows.
     TooManyHeld,
-    /// The input couldn't be read further, or is longer than 2^63 - 1 bytes.
+    /// No more of the input could be read, or it is longer than 2^63 - 1 bytes.
     ReadFailed,
     /// The output couldn't be written.
     WriteFailed,
@@ -49,7 +49,7 @@ pub enum Kind {
 }
 
 impl Kind {
-    /// Whether a fault of this kind lies at a line of an input. A failed write and want of memory
+    /// Whether a fault of this kind lies at a line of an input. A failed write and running out of memory
     /// don't.
     pub fn has_place(self) -> bool
         ensures { result ≡ has_place self }
@@ -102,7 +102,7 @@ pub struct Place {
     pub line: u64,
 }
 
-/// What ended a run. It has a place but for a failed write and for want of memory.
+/// What ended a run. It has a place, except for a failed write and for running out of memory.
 #[derive(Clone, Copy, Debug, PartialEq, Eq)]
 pub struct Fault {
     pub kind: Kind,

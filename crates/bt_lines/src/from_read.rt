@@ -9,10 +9,10 @@ use crate::device::{DeviceFailed, Source};
 use std::io::Read;
 
 /// A source over a reader. An error, an interrupted call among them, isn't tried again: once the
-/// reader has failed, it isn't asked any more.
+/// reader has failed, it isn't read again.
 #[derive(Drop, Debug)]
 pub struct FromRead<R> {
-    // Not asked any more once it has failed.
+    // Not read again once it has failed.
     reader: R,
     // Whether a read has failed; it stays so.
     has_failed: bool,

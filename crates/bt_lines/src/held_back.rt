@@ -95,7 +95,7 @@ impl HeldBack {
         self.len = stop;
     }
 
-    // Holds back lines too, each with this end in the place of its line feed, if there is room for all of them; else
+    // Holds back lines too, each with this end instead of its line feed, if there is room for all of them; else
     // nothing changes.
     #[inline(always)]
     pub(crate) fn append_lines(&mut self, lines: &[u8], end: &[u8]) -> bool
@@ -112,7 +112,7 @@ impl HeldBack {
         false
     }
 
-    // Holds back lines too, up to the first for which there is no room, and answers whether that is none.
+    // Holds back lines too, up to the first for which there is no room; returns true if there is room for all.
     #[inline(always)]
     fn append_each(&mut self, lines: &[u8], end: &[u8]) -> bool
         ensures held { result ≡ true → (texts : List (List ℕ)) → AreLines lines.now texts
@@ -154,7 +154,7 @@ impl HeldBack {
         self.len
     }
 
-    // Lets go of what stands behind so many bytes.
+    // Drops the bytes after the first `len`.
     fn cut_off(&mut self, len: usize)
         requires { len ≤ length self.old }
         ensures { self.new ≡ take len self.old }

@@ -13,12 +13,12 @@ pub fn lines_lose_nothing()
     ensures { (bytes : List ℕ) → flat_map spelled (text_lines bytes) ≡ bytes }
 {}
 
-/// A block has [`BLOCK`] bytes: so many a reader takes ahead at most, and an output holds back.
+/// A block has [`BLOCK`] bytes: a reader takes at most that many ahead, and an output holds back at most that many.
 pub fn a_block_has_so_many_bytes()
     ensures { BLOCK ≡ block_size }
 {}
 
-/// The whole lines of a text that was cut off are as many as its line feeds, and they are the first
+/// The complete lines of a text that was cut off are as many as its line feeds, and they are the first
 /// lines of each text that begins with it.
 pub fn whole_lines_come_first()
     ensures count { (bytes : List ℕ) → length (whole_lines bytes) ≡ line_feeds bytes }
@@ -26,7 +26,7 @@ pub fn whole_lines_come_first()
         → take (line_feeds bytes) (text_lines (bytes ++ more)) ≡ whole_lines bytes }
 {}
 
-/// The lines of a text are numbered from 1 on, and so are its whole lines.
+/// The lines of a text are numbered from 1 on, and so are its complete lines.
 pub fn lines_count_up()
     ensures lines { (bytes : List ℕ) → AreNumbered 1 (text_lines bytes) }
     ensures whole { (bytes : List ℕ) → AreNumbered 1 (whole_lines bytes) }

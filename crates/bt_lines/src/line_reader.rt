@@ -31,17 +31,17 @@ pub(crate) enum State {
     NoMemory,
 }
 
-/// Reads the lines of a source, a block of bytes at a time: `fill` makes a line buffered, or the end, `buffered` lends the
-/// lines, and `consume` takes some of them.
+/// Reads the lines of a source, a block of bytes at a time: `fill` makes a line buffered, or the end, `buffered` borrows
+/// the lines, and `consume` takes some of them.
 #[derive(Drop)]
 pub struct LineReader<S> {
-    // Not read any more after the end and after a fault.
+    // Not read after the end or a fault.
     source: S,
     // What the source is called in faults.
     input: Input,
     // What was read ahead, and the text of the last line.
     buffer: ReadBuffer,
-    // How the last line ended; it means nothing before the first.
+    // How the last line ended; unspecified before the first.
     ending: LineEnd,
     // How many lines were given.
     lines: u64,
@@ -113,7 +113,7 @@ impl<S: Source> LineReader<S> {
         BufferedLines::new(self.buffer.lines(), self.lines, self.is_open())
     }
 
-    /// Takes the lines that were consumed of what [`LineReader::buffered`] lent.
+    /// Takes the lines that were consumed of what [`LineReader::buffered`] gave.
     pub fn consume(&mut self, consumed: ConsumedLines)
         requires { IsTaken self.old consumed }
         ensures { TakesLines S.left S.end_told self.old consumed self.new }
@@ -236,8 +236,8 @@ impl<S: Source> LineReader<S> {
         true
     }
 
-    // Moves on where no whole line stands in the block, and answers whether it could. The fault isn't
-    // answered here: room for it would be cleared for each line, also for those that stand in the block.
+    // Moves on if no complete line is buffered; returns true if it could. The fault isn't returned: room for it would be
+    // cleared for each line, also for buffered ones.
     #[cold]
     #[inline(never)]
     fn moves_on(&mut self) -> bool

@@ -8,7 +8,7 @@ use memchr::memchr;
 // How many bytes are looked at at once.
 const NEAR: usize = 32;
 
-// Where the first line feed of a text stands.
+// Where the first line feed of a text is.
 #[inline(always)]
 pub(crate) fn find_newline(text: &[u8]) -> Option<usize>
     ensures { IsFirstFeed text.now result }
@@ -54,7 +54,7 @@ pub fn length_before(byte: u8, text: &[u8]) -> usize
     late_length(byte, text, NEAR)
 }
 
-// The same where it isn't among the first bytes, so many. It gives a number, for which no room is made where it is called.
+// The same when it isn't among the first `from` bytes. It returns a number, for which the caller makes no room.
 #[inline(never)]
 fn late_length(byte: u8, text: &[u8], from: usize) -> usize
     requires within { from ≤ length text.now }
@@ -74,7 +74,7 @@ fn late_length(byte: u8, text: &[u8], from: usize) -> usize
     at
 }
 
-// Where a byte first stands among thirty-two. This is the only call of `memchr`, which is inlined and folded into a few
+// Where a byte first occurs among thirty-two. This is the only call of `memchr`, which is inlined and folded into a few
 // instructions while there is no other.
 #[inline]
 fn find_near(byte: u8, bytes: &[u8; NEAR]) -> Option<usize>

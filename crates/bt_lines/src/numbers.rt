@@ -55,7 +55,7 @@ pub fn eight_digits(bytes: &[u8; 8]) -> Option<u64>
     ensures { result ≡ value_of bytes.now }
 {
     let ones = u64::from_le_bytes(*bytes) ^ ZEROS;
-    // A sum goes over into the next byte only where the upper half of its own byte isn't 0 before.
+    // A sum carries into the next byte only if the upper half of its own byte wasn't 0 before.
     if (ones | ones.wrapping_add(SIXES)) & UPPER_HALVES != 0 {
         return None;
     }
@@ -116,7 +116,7 @@ fn joined(ones: u64) -> u64
     fours % 0x1_0000 * 10_000 + fours / 0x1_0000_0000 % 0x1_0000
 }
 
-// The number of a text of more digits: they are too many but for leading zeros.
+// The number of a text of more digits: they are too many unless the first ones are zeros.
 fn long_number(text: &[u8]) -> Option<u64>
     requires { 0 < length text.now }
     ensures { result ≡ value_of text.now }

@@ -22,7 +22,7 @@ use std::marker::Model;
 /// answers that writing failed.
 #[derive(Drop)]
 pub struct Out<K: Sink> {
-    // Not written to any more once it has failed.
+    // Not written to after it has failed.
     sink: K,
     // What was put and not yet written; lost once the sink has failed.
     held: HeldBack,
@@ -109,8 +109,8 @@ impl<K: Sink> Out<K> {
         self.held.room()
     }
 
-    /// Puts a piece and a short one behind it, if no write has failed and there is room for both, and
-    /// answers whether it did; else nothing changes. It writes nothing to the sink.
+    /// Puts a piece and a short one after it and returns true, if no write has failed and there is room for
+    /// both; else nothing changes. It writes nothing to the sink.
     #[inline(always)]
     pub fn hold_both(&mut self, piece: &[u8], end: &[u8]) -> bool
         ensures held { result ≡ true → PutsAll self.old.output (piece.now ++ end.now) self.new.output }
@@ -125,8 +125,8 @@ impl<K: Sink> Out<K> {
         true
     }
 
-    /// Puts lines, each with this end in the place of its line feed, if no write has failed and there is room for them,
-    /// and answers whether it did; else nothing changes. It writes nothing to the sink.
+    /// Puts lines, each with this end instead of its line feed, and returns true, if no write has failed and there is room
+    /// for them; else nothing changes. It writes nothing to the sink.
     #[inline(always)]
     pub fn hold_lines(&mut self, lines: &[u8], end: &[u8]) -> bool
         ensures held { result ≡ true → (texts : List (List ℕ)) → AreLines lines.now texts
@@ -158,9 +158,9 @@ impl<K: Sink> Out<K> {
         true
     }
 
-    /// Puts a name, a start and a stop in the columns after it, and a byte that ends them, if no write has failed, the
-    /// name has 1 to 64 bytes, and there is room for it and 106 bytes more; returns true if it did, else nothing changes.
-    /// It writes nothing to the sink.
+    /// Puts a name, a start and a stop in the columns after it, and a byte that ends them, and returns true. If a write has
+    /// failed, the name doesn't have 1 to 64 bytes, or there is no room for it and 106 bytes more, it returns false and
+    /// nothing changes. It writes nothing to the sink.
     #[inline(always)]
     pub fn hold_span(&mut self, name: &[u8], start: u64, stop: u64, end: u8) -> bool
         ensures held { result ≡ true → PutsAll self.old.output (name.now ++ span_text start stop end) self.new.output }
@@ -218,9 +218,9 @@ impl<K: Sink> Out<K> {
     }
 }
 
-// Puts a piece for which there is no room behind the bytes that are held back: it fills their block up,
-// which goes to the sink, and so do the further whole blocks of the piece. So the sink is given whole
-// blocks until a flush, as long as it takes them whole.
+// Puts a piece for which there is no room after the bytes that are held back: it fills up their block,
+// which goes to the sink, as do the next full blocks of the piece. So until a flush the sink is given
+// full blocks, as long as it takes each in full.
 #[cold]
 #[inline(never)]
 fn put_across<K: Sink>(sink: &mut K, held: &mut HeldBack, piece: &[u8]) -> Result<(), DeviceFailed>

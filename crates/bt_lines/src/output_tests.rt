@@ -53,7 +53,7 @@ fn put_drawn(draws: &mut Draws, text: &[u8], output: &mut Out<ScriptSink>) -> Re
     Ok(())
 }
 
-// Whether a sink that takes so many bytes at once has six texts, put so, in their order.
+// Whether a sink that takes this many bytes at once has six texts, put so, in their order.
 fn are_put_in_order(alloc: Global, draws: &mut Draws, step: usize) -> Result<bool, Fail> {
     let mut output = Out::new(ScriptSink::new(alloc, step.max(1), None));
     let mut whole = Vec::new(alloc);
@@ -78,8 +78,8 @@ fn pieces_reach_the_sink_in_order(rt: HostRuntime) -> Result<(), Fail> {
     Ok(())
 }
 
-// Whether a sink that takes so many bytes of a text that is put in four pieces has the first ones, and the
-// failure is told from then on.
+// Whether a sink that takes this many bytes of a text that is put in four pieces has the first ones, and the
+// failure is reported from then on.
 fn takes_front(alloc: Global, text: &[u8], good: usize) -> bool {
     let mut output = Out::new(ScriptSink::new(alloc, 700, Some(good)));
     for (from, to) in [
@@ -124,7 +124,7 @@ fn a_block_that_failed_is_not_sent_again(rt: HostRuntime) -> Result<(), Fail> {
     Ok(())
 }
 
-// For how many bytes there is room behind so many, whether a line and its line feed are held back there, and how
+// How many bytes there is room for after `before` bytes, whether a line and its line feed are held back there, and how
 // many bytes the sink has then.
 fn held_behind(alloc: Global, before: usize) -> Result<(usize, bool, usize), Fail> {
     let mut output = Out::new(ScriptSink::new(alloc, BLOCK, None));
@@ -162,7 +162,7 @@ fn both_are_held_where_both_fit(rt: HostRuntime) -> Result<(), Fail> {
     Ok(())
 }
 
-// What the sink has of so many bytes and of two lines, with another end each, and whether the lines were held.
+// What the sink has of `before` bytes and of two lines, with another end each, and whether the lines were held.
 fn lines_behind(alloc: Global, before: usize) -> Result<(bool, Vec<u8>), Fail> {
     let mut output = Out::new(ScriptSink::new(alloc, BLOCK, None));
     output.put(long_line(alloc, before, b"")?.as_slice())?;
@@ -188,7 +188,7 @@ fn lines_are_held_with_another_end(rt: HostRuntime) -> Result<(), Fail> {
     Ok(())
 }
 
-// Whether a name, a start and a stop are held back behind so many bytes, and what the sink has of them then.
+// Whether a name, a start and a stop are held back after `before` bytes, and what the sink has of them then.
 fn span_behind(
     alloc: Global,
     before: usize,

@@ -41,7 +41,7 @@ pub fn put_both<K: Sink>(piece: &[u8], next: &[u8], out: &mut Out<K>) -> Result<
     Err(write_failed())
 }
 
-// Puts both where they are short and there is room for them, and answers whether it did.
+// Puts both and returns true, if they are short and there is room for them.
 #[inline(never)]
 fn hold_pieces<K: Sink>(piece: &[u8], next: &[u8], out: &mut Out<K>) -> bool
     ensures held { result ≡ true → PutsAll out.old.output (piece.now ++ next.now) out.new.output }

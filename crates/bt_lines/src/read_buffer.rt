@@ -24,7 +24,7 @@ pub(crate) struct ReadBuffer {
     start: usize,
     whole: usize,
     end: usize,
-    // Up to here no line feed stands after the lines.
+    // Up to here there is no line feed after the lines.
     searched: usize,
     // A line that is longer than the block, with a line feed.
     spilled: Vec<u8>,
@@ -94,7 +94,7 @@ impl ReadBuffer {
         &self.bytes[self.from..self.stop]
     }
 
-    // Takes bytes of the lines from the front.
+    // Takes bytes from the start of the lines.
     pub(crate) fn consume(&mut self, count: usize)
         requires { count ≤ length (complete self.old) }
         ensures lines { complete self.new ≡ drop count (complete self.old) }
@@ -104,7 +104,7 @@ impl ReadBuffer {
         self.start += count;
     }
 
-    // Takes a line from the front, and keeps the place of its text.
+    // Takes the first line, and keeps where its text is.
     #[inline(always)]
     pub(crate) fn take_line(&mut self, text: usize, line: usize)
         requires text { text ≤ line }
@@ -153,8 +153,8 @@ impl ReadBuffer {
         self.whole == self.end
     }
 
-    // Where no complete line is left, moves what was read after them to the front of the block, and reads up to `most`
-    // bytes behind it.
+    // If no complete line is left, moves what was read after them to the start of the block, and reads up to `most`
+    // bytes after it.
     pub(crate) fn read_more<S: Source>(
         &mut self,
         source: &mut S,
@@ -311,7 +311,7 @@ impl ReadBuffer {
         self.start = self.whole;
     }
 
-    // Moves what was read after the lines to the front of the block.
+    // Moves what was read after the lines to the start of the block.
     fn move_front(&mut self)
         ensures none { complete self.new ≡ [] }
         ensures unread { unread self.new ≡ unread self.old }
@@ -350,7 +350,7 @@ fn append_part(
     to.extend_from_slice(&bytes[from..stop])
 }
 
-// Reads up to `most` bytes behind the first ones.
+// Reads up to `most` bytes after the first ones.
 fn read_behind<S: Source>(
     source: &mut S,
     bytes: &mut [u8; BLOCK],

@@ -100,7 +100,7 @@ impl<'a> ScriptSource<'a> {
     }
 }
 
-// Copies the front of `from` to the front of `to`.
+// Copies as much of `from` as fits to the start of `to`.
 fn copy_front(from: &[u8], to: &mut [u8])
     requires { length from.now ≤ length to.old }
     ensures { take (length from.now) to.new ≡ from.now }

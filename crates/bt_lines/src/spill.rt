@@ -125,7 +125,7 @@ fn read_spilled<S: Source>(source: &mut S, buffer: &mut ReadBuffer, taken: &mut 
     }
 }
 
-// Asks for more bytes, and for one past the bound only once so many were taken.
+// Reads more bytes, and one past the bound only once the bound is reached.
 fn ask_more<S: Source>(source: &mut S, buffer: &mut ReadBuffer, taken: &mut u64) -> More
     requires counted { taken.old < 2 ^ 63 }
     requires none { complete buffer.old ≡ [] }

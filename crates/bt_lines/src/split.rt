@@ -13,7 +13,7 @@ pub fn columns(text: &[u8]) -> Columns<'_>
     Columns { rest: Some(text) }
 }
 
-/// Where the first tab of a text stands. It is looked for byte by byte, which for a short column takes
+/// Where the first tab of a text is. It is searched byte by byte, which for a short column takes
 /// less time than `find_byte`.
 #[inline]
 pub fn first_tab(text: &[u8]) -> Option<usize>

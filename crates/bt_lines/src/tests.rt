@@ -221,7 +221,7 @@ fn lines_of_texts(rt: HostRuntime) {
     assert_eq!(rt; first_misdivided_text(rt.alloc(), &TEXTS), None);
 }
 
-// Whether the next line is this one, and lent once more.
+// Whether the next line is this one, and is given once more.
 fn lends_again<S: Source>(
     reader: &mut LineReader<S>,
     number: u64,
@@ -237,8 +237,8 @@ fn lends_again<S: Source>(
     }
 }
 
-// Whether each line is lent once more, and none before the first and after the last, where the text comes in
-// pieces of so many bytes.
+// Whether each line is given once more, and none before the first and after the last, if the text comes in
+// pieces of this many bytes.
 fn are_lent_once_more(alloc: Global, step: usize) -> bool {
     let source = ScriptSource::new(b"a\r\nb", step.max(1), None);
     let mut reader = LineReader::new(alloc, source, Input::First);
@@ -256,7 +256,7 @@ fn the_line_given_is_lent_once_more(rt: HostRuntime) {
     assert!(rt; are_lent_once_more(rt.alloc(), 1) && are_lent_once_more(rt.alloc(), 7));
 }
 
-// Whether so many lines are given.
+// Whether this many lines are given.
 fn gives_some<S: Source>(reader: &mut LineReader<S>, count: u64) -> bool {
     for _ in 0..count {
         match reader.next() {
@@ -274,8 +274,8 @@ fn tells<S: Source>(reader: &mut LineReader<S>, want: Fault) -> bool {
     }
 }
 
-// Whether of a text with so many good bytes so many lines are given, and then the failed read is told,
-// also when it is asked for again.
+// Whether of a text with this many good bytes this many lines are given, and then the failed read is reported,
+// each time that a line is requested.
 fn fails_behind(alloc: Global, text: &[u8], good: usize, lines: u64) -> bool {
     let mut reader = LineReader::new(alloc, ScriptSource::new(text, 7, Some(good)), Input::Second);
     let are_given = gives_some(&mut reader, lines);
@@ -293,7 +293,7 @@ fn fails_behind(alloc: Global, text: &[u8], good: usize, lines: u64) -> bool {
     are_given && is_told && source.given() == good && source.failed()
 }
 
-// How many whole lines there are in so many bytes of the text.
+// How many complete lines the first 0, 1, .. bytes of the text have.
 const WHOLE_LINES: [u64; 8] = [0, 0, 0, 1, 1, 2, 2, 2];
 
 // The first number of good bytes, below as many as there are rows, at which it goes otherwise.
@@ -334,8 +334,8 @@ const WRITE_FAILED: Fault = Fault {
     place: None,
 };
 
-// Whether a sink that takes so many bytes, in pieces of this many, has the front of the whole, and a
-// failure is told where that isn't all.
+// Whether a sink that takes this many bytes, in pieces of this many, has the first bytes of the text, and a
+// failure is reported if that isn't all.
 fn takes_front(alloc: Global, step: usize, good: usize) -> bool {
     let (sink, told) = put_all(ScriptSink::new(alloc, step.max(1), Some(good)), &PIECES);
     let is_cut = good < WHOLE.len();

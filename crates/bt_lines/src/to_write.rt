@@ -8,10 +8,10 @@ use crate::device::{DeviceFailed, Sink};
 use std::io::Write;
 
 /// A sink over a writer. An error, an interrupted call among them, isn't tried again, and a write
-/// that takes none of a piece with bytes is a failure. Once failed, the writer isn't asked any more.
+/// that takes none of a piece with bytes is a failure. Once failed, the writer isn't written to again.
 #[derive(Drop, Debug)]
 pub struct ToWrite<W> {
-    // Not written to any more once it has failed.
+    // Not written to again once it has failed.
     writer: W,
     // Whether a call has failed; it stays so.
     has_failed: bool,

@@ -19,7 +19,7 @@ fn records_of<'o>(
     Records::new(alloc, lines, order)
 }
 
-// What a line says of its record, and whether that is written as it stands.
+// What a line says of its record, and whether that is written as the line is.
 fn is_line_of(line: RawRecord<'_>, text: &[u8], bounds: (u64, u64), is_as_written: bool) -> bool {
     line.text() == text
         && (line.start(), line.stop()) == bounds
@@ -78,7 +78,7 @@ fn none_is_buffered_before_fill_and_at_the_end(rt: HostRuntime) -> Result<(), Fa
     Ok(())
 }
 
-// Two lines, and the bounds of the record of the second one, if it stands in one batch with that of the first.
+// Two lines, and the bounds of the record of the second one, if it is in one batch with that of the first.
 type Pair = (&'static [u8], Option<(u64, u64)>);
 
 const PAIRS: [Pair; 27] = [

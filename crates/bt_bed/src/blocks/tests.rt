@@ -168,7 +168,7 @@ fn tells_what_is_wrong(rt: HostRuntime) -> Result<(), Fail> {
     Ok(())
 }
 
-// Whether each text gives that, in pieces of seven bytes, where so many of its bytes are good.
+// Whether each text gives that, in pieces of seven bytes, if this many of its bytes are good.
 fn are_read_cut(alloc: Global, rows: &[(usize, Row)]) -> bool {
     let mut are_read = true;
     for (good, row) in rows {

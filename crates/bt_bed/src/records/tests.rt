@@ -337,7 +337,7 @@ const LENT: [Lent; 4] = [
     (b"chr2", Strand::Dot, b"\t"),
 ];
 
-// Whether the record ahead is lent so, which is passed then.
+// Whether the record ahead is this one, which is consumed then.
 fn lends<S: Source>(records: &mut Records<'_, S, Genome>, want: Lent) -> bool {
     let agrees = match records.peek() {
         Ok(Some(bed)) => bed.chrom == want.0 && bed.strand == want.1 && bed.rest == want.2,
@@ -347,7 +347,7 @@ fn lends<S: Source>(records: &mut Records<'_, S, Genome>, want: Lent) -> bool {
     agrees
 }
 
-// Whether the records are lent so, one after another.
+// Whether the next records are these.
 fn lends_all<S: Source>(records: &mut Records<'_, S, Genome>, rows: &[Lent]) -> bool {
     for row in rows {
         if !lends(records, *row) {
@@ -369,7 +369,7 @@ fn lends_what_the_line_says(rt: HostRuntime) -> Result<(), Fail> {
     Ok(())
 }
 
-// Takes the records of the next batch, at most so many, and answers whether there was one.
+// Takes at most `most` records of the next batch, and returns true if there was one.
 fn take_batch<S: Source>(
     genome: &Genome,
     records: &mut Records<'_, S, Genome>,
@@ -391,7 +391,7 @@ fn take_batch<S: Source>(
     Ok(Ok(true))
 }
 
-// The records that are left, taken in batches of at most so many, and the fault.
+// The records that are left, taken in batches of at most `most`, and the fault.
 fn collect_batches<S: Source>(
     alloc: Global,
     genome: &Genome,
@@ -409,7 +409,7 @@ fn collect_batches<S: Source>(
     Ok((found, None))
 }
 
-// The first text of a table that gives other records or another fault in batches of at most so many, in pieces of
+// The first text of a table that gives other records or another fault in batches of at most `most`, in pieces of
 // seven bytes or in one.
 fn first_taken_otherwise(
     alloc: Global,

@@ -2,7 +2,7 @@ use Rattle.std.proofs.Common.{◌-◌, ◌≤◌, length, take}
 use Rattle.bt_lines.specs.Newline.{Lacks}
 use Rattle.bt_lines.proofs.newline.late_length.Given as goal
 
--- it does not stand in what was looked through
+-- it isn't in what was searched
 abbrev pub invariant-loop-near : goal.invariant-loop-near
 invariant-loop-near l = (l.at ≤ length l.text) × Lacks l.byte (take l.at l.text)
 

@@ -2,7 +2,7 @@ use Rattle.std.proofs.Common.{◌≡◌, ℕ, List, ◌++◌, length}
 use Rattle.std.specs.Io.KnownBytes.{Appends}
 use Rattle.bt_lines.proofs.output.write_whole.Given as goal
 
--- the sink has taken the piece but for the rest
+-- the sink has taken the piece except the rest
 abbrev pub invariant-loop-rest : goal.invariant-loop-rest
 invariant-loop-rest g l =
     (taken : List ℕ) × (l.piece ≡ taken ++ l.rest)
