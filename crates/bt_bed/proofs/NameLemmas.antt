@@ -36,7 +36,7 @@ words_same : (x y : List ℕ) → length x ≡ 4 → length y ≡ 4 → ((i : �
 words_same x y m n xs ys e = sym (le_bytes_4 x (from_le_bytes w32 x) m xs refl)
     ∙ le_bytes_4 y (from_le_bytes w32 x) n ys e
 
--- names of at most eight bytes with the same first four and last four bytes
+-- names of at most eight bytes whose first four bytes are the same, as are the last four
 ends_same : (a b : List ℕ) → length a ≡ length b → 4 ≤ length a → length a ≤ 8 → take 4 a ≡ take 4 b
     → drop (length a - 4) a ≡ drop (length b - 4) b → a ≡ b
 ends_same a b n some short first last =

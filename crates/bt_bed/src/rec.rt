@@ -13,8 +13,8 @@ use std::marker::Model;
 /// one in a buffer. Contracts see the feature itself, so a list of records is a list of features.
 #[derive(Debug, Drop)]
 pub struct Rec {
-    // The chromosome's name, and after it the columns from the fourth on, each with the tab before it. They may be followed
-    // by unspecified bytes, left of a longer record.
+    // The chromosome's name, and after it the columns from the fourth on, each with the tab before it. After these may come
+    // unspecified bytes, left of a longer record.
     text: KeptText,
     // How much of the text is the name. The fields below are always those of one feature.
     name_len: usize,

@@ -1,4 +1,6 @@
--- The runs of one chromosome are the stretches of its bridged positions, and the only list that is. With starts that don't fall one of them is open: the one that holds the start of the last record. What two lists of spans cover together stands first.
+-- The runs of one chromosome are the stretches of its bridged positions, and the only list that is.
+-- With starts that don't fall one of them is open: the one that holds the start of the last record.
+-- What two lists of spans together cover comes first.
 use Rattle.std.proofs.Common.{ℕ, ◌<◌, ◌≤◌, ◌⊎◌, inl, inr, List, [], ◌∷◌, ◌++◌, ◌≡◌, ◌+◌, ◌-◌, refl, arith, Bool, ◌&&◌, Decides, nat_le, nat_lt, leb-true, le-leb, max}
 use Rattle.bt_bed.specs.Interval.{Span}
 use Rattle.bt_bed.specs.Stretches.{IsCovered, AreApartFrom}
@@ -224,7 +226,7 @@ join_open gap spans last done run x o up full near = record {
   ];
 }
 
--- a span that starts further off ends the open run and begins the next
+-- a span that starts beyond the gap ends the open run and begins the next
 pub next_open : (gap : ℕ) (spans : List Span) (last : ℕ) (done : List Span) (run x : Span) → OneOpen gap spans last done run → x.start < x.stop → run.stop + gap < x.start → OneOpen gap (spans ++ x ∷ []) x.start (done ++ run ∷ []) x
 next_open gap spans last done run x o full far = record {
   joined = record {

@@ -1,10 +1,10 @@
 -- Items that come chromosome by chromosome, and are settled by the last record: those of the chromosomes before its own, and of its own those that are over by its start. Here it is proved, once for all engines, that what is settled stays, that it begins the whole, and what one more record adds.
 --
--- An engine says two things of one chromosome, in a `Form`: what its items are by the records on it (`part`), and which of them are over by the last record (`pick`). For its code it also says what it keeps while some aren't (`fresh`, `left`, `step`, `after`), and in a relation `At` how the items stand by the last start on the chromosome: those that are done, and what is kept. Then it owes three lemmas, the last fields of `Owes`:
+-- An engine says two things of one chromosome, in a `Form`: what its items are by the records on it (`part`), and which of them are over by the last record (`pick`). For its code it also says what it keeps while some aren't (`fresh`, `left`, `step`, `after`). A relation `At` says how the items are divided by the last start on the chromosome: those that are done, and what is kept. Then it owes three lemmas, the last fields of `Owes`:
 -- 1. `none`: a chromosome without records has its known items (`bare`), and nothing is done on it.
--- 2. `next`: one more record on it, at or behind the last start, adds to what is done what the step settles, and leaves what the step keeps.
+-- 2. `next`: one more record on it, at or after the last start, adds to what is done what the step settles, and leaves what the step keeps.
 -- 3. `divides`: the items are those that are done and those that are left; by the last start all of the first are over, and none of the others.
--- The other fields are a line each: a record elsewhere changes no item, and on the chromosomes before and behind the last record's all items are over, or none. `Written` and `Ordered` say that the definitions of the whole and of what is settled go by these parts, in an order of chromosomes.
+-- The other fields are a line each: a record elsewhere changes no item. On the chromosomes before the last record's all items are over, and on those after it none. `Written` and `Ordered` say that the definitions of the whole and of what is settled go by these parts, in an order of chromosomes.
 --
 -- It is given: what one more record settles and what is kept then, on the same chromosome or a later one (`goes_first`, `goes_on`, `goes_to`), which is what `feed` has to do; what is left for `finish` (`whole_left`); and `Settles` (`settling`), from which settled items stay and begin the whole (`SettlingLemmas`). `MergeForm`, `ComplementForm` and `CoverageForm` are the engines' forms; `SettledRuns` is what merge takes from here, and `Walks` what the two others do.
 use Rattle.std.proofs.Common.{◌≡◌, ◌⊎◌, ℕ, ◌<◌, ◌≤◌, inl, inr, List, [], ◌∷◌, ◌++◌, append_assoc, append-nil, refl, sym, ap, ap₂, ◌∙◌, subst, arith, length, length-append, map, filter, flat_map, Bool, true, false, bytes_eq, Some}
@@ -58,7 +58,7 @@ picks_by test = record {
 }
 
 module _ {K T S : Type 0} (f : Form K T S) where
-  -- the items of the chromosomes, one behind another
+  -- the items of the chromosomes, concatenated
   abbrev pub parts : List Feature → List K → List T
   parts past keys = flat_map (λ k. f.part k past) keys
 
@@ -109,7 +109,7 @@ module _ {K T S : Type 0} (f : Form K T S) (At : K → List Feature → ℕ → 
     pub nothing : f.settled [] ≡ []
     pub picks : (last : Interval) → Picks (f.pick last)
     pub elsewhere : (k : K) (past : List Feature) (r : Feature) → bytes_eq r.chrom (f.name k) ≡ false → f.part k (past ++ r ∷ []) ≡ f.part k past
-    -- the items of a chromosome before the last record's are over, and none of one behind it
+    -- the items of a chromosome before the last record's are over, and none of one after it
     pub is_before : (last : Interval) (k : K) (past : List Feature) → (rank_order names).compare (f.name k) last.chrom ≡ Less → f.pick last (f.part k past) ≡ f.part k past
     pub is_behind : (last : Interval) (k : K) (past : List Feature) → (rank_order names).compare (f.name k) last.chrom ≡ Greater → has_records (f.name k) (intervals_of past) ≡ false → f.pick last (f.part k past) ≡ []
     -- the three lemmas
@@ -178,7 +178,7 @@ module _ {K T S : Type 0} (f : Form K T S) (At : K → List Feature → ℕ → 
       parts_behind last past (k ∷ ks) all none =
           (owes.picks last).none (f.part k past) (parts f past ks) (owes.is_behind last k past all.0 none.0) (parts_behind last past ks all.1 none.1)
 
-      -- where the records stand, the items fall into three: those before and those done, those left, and those behind
+      -- the items fall into three: those of the chromosomes before and those done, those left, and those of the chromosomes after
       module _ (past : List Feature) (before : List K) (key : K) (after : List K) (state : S) (s : Standing past before key after state) where
         divided : Divides key past s.last s.done state
         divided = owes.divides key past s.last s.done state s.at s.stand.is s.stand.some
@@ -279,7 +279,7 @@ module _ {K T S : Type 0} (f : Form K T S) (At : K → List Feature → ℕ → 
             | inr g ↦ record { items = _; before = b.before ++ b.key ∷ g.middle; key = g.next; after = g.behind; state = _; moves = goes_to past r b.before b.key b.after b.state b.here g full }
           ]
 
-      -- so records in order stand somewhere
+      -- so records in order reach some chromosome
       has_begun : (past : List Feature) → Somewhere past → Begun past
       has_begun [] s = tt
       has_begun (q ∷ qs) s = s

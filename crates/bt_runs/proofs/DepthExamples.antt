@@ -35,7 +35,7 @@ behind_depths : (coverage false None genome behind ≡ deep 1 0 20 1 ∷ [])
 unfolding coverage depth_of begun_after ended_after settled_depths unfinished kept_records
 behind_depths = (refl, refl, refl, refl)
 
--- a record within, and one behind: what ends at the last start isn't settled
+-- a record within, and one after: what ends at the last start isn't settled
 abbrev within : List Feature
 within = on 1 0 10 Dot ∷ on 1 5 10 Dot ∷ on 1 10 15 Dot ∷ []
 

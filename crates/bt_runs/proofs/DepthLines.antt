@@ -21,7 +21,7 @@ use Rattle.bt_runs.specs.Walk.{Place, begun, entry_at, is_on, left_before, takin
 use Rattle.bt_runs.specs.declared.depths.DepthPlace.{DepthPlace}
 use Rattle.bt_runs.proofs.Walks.{going_to, step_goes}
 
--- the name, and what stands behind it
+-- the name, and what follows it
 pub line_parts : (r : DepthInterval) → r.chrom ++ depth_text r.start r.stop r.depth ≡ depth_line r
 line_parts r =
     let tab = codes "\t" in

@@ -154,7 +154,7 @@ module _ (old : Covering) where
     none : AfterEach may_take stands_after old r (λ first past. is_quiet first past r → depth_lines step.1 ≡ [])
     none first past stands taken q = absurd q
 
-    -- the coverage stands after the record too
+    -- the coverage is after the record too
     stands_next : (new : Covering) (grown : Output) → CountsRecord old r out new grown → AfterEach may_take stands_after old r (λ first past. stands_after first (past ++ r ∷ []) new)
     stands_next new grown c first past stands taken =
         let s = same first past stands in

@@ -56,7 +56,7 @@ one_ended : (u : ℕ → Option ℕ) (p : ℕ) (g : Option Begun) → ended_afte
 unfolding ended_after
 one_ended u p g = append-nil (next_ended p (u p) g)
 
--- what a turn ends, and what comes behind it
+-- what one step ends, and what comes after it
 pub turn_more : (u : ℕ → Option ℕ) (from at stop : ℕ) (g begun : Option Begun) (value : Option ℕ) → from ≤ at → at < stop → u at ≡ value → begun ≡ begun_after u from (at - from) g
     → (more : List Level) × (ended_after u from (stop - from) g ≡ (ended_after u from (at - from) g ++ next_ended at value begun) ++ more)
 turn_more u from at stop g begun value low up is same =

@@ -64,7 +64,7 @@ apart_settled : (settled_runs 2 (One Plus) apart ≡ [])
 unfolding merged settled_runs runs_of is_bridged stretches_from with_position
 apart_settled = (refl, refl)
 
--- each strand by itself: the finished run of the strand - waits behind the open one
+-- each strand separately: the finished run of the strand - waits for the open one
 abbrev of : Strand → Interval → StrandRun
 of strand run = record { strand = strand; run = run }
 

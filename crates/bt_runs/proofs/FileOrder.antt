@@ -112,7 +112,7 @@ filter_none : (names : List (List ℕ)) → filter (λ (n : List ℕ). false) na
 filter_none [] = refl
 filter_none (n ∷ ns) = filter_none ns
 
--- the test, or that the name is c, picks c where it stands among names that come before all others that pass
+-- the test, or that the name is c, picks c if it is among names that come before all others that pass
 pick_absent : (c : List ℕ) (q : List ℕ → Bool) (names : List (List ℕ)) → is_among names c ≡ false → filter (λ n. bytes_eq c n || q n) names ≡ filter q names
 pick_absent c q [] f = refl
 pick_absent c q (n ∷ ns) f =

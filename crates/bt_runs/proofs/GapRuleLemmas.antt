@@ -144,7 +144,7 @@ module _ (old : Complementing) (at : AreReached old.entries old.current) (out : 
     none : AfterEach may_take stands_after old r (λ first past. is_quiet first past r → step_lines ≡ [])
     none = quiet_adds_none may_take stands_after settled_lines old out step_lines held_count r next_lines
 
-    -- the complement stands after the record too
+    -- the complement is after the record too
     stands_next : AfterEach may_take stands_after old r (λ first past. stands_after first (past ++ r ∷ []) (with_record old r))
     stands_next first past stands taken =
         let s = same first past stands in
@@ -197,7 +197,7 @@ module _ (old : Complementing) (at : AreReached old.entries old.current) (out : 
     enters_here bases = λ r on result next later d. gap_taken r result next later (record { adds = d.adds; next = d.next })
 
     module _ (place : Place ℕ) (items : List Interval) (goes : going (gap_walk old.limit) old.entries old.current chrom ≡ (Some place, items)) where
-      -- the next one, behind what is left before it
+      -- the next one, after what is left before it
       pub enters_next : (bases : ℕ) (mid : Output) → is_on old.entries (Some place) chrom ≡ true → Grown out (interval_lines items) mid
           → Enters (Ok tt) (record { entries = old.entries; limit = old.limit; current = Some place; bases = bases }) mid
       enters_next bases mid at_place p = λ r on result next later d.

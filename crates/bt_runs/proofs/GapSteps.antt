@@ -1,4 +1,4 @@
--- What a complement keeps tells which chromosome its walk has reached, and up to where; so its exact step writes what the records settle. How what is left before a chromosome is put stands first.
+-- What a complement keeps shows which chromosome its walk has reached, and up to where; so its exact step writes what the records settle. The file begins with how what is left before a chromosome is put.
 use Rattle.std.proofs.Common.{◌≡◌, ℕ, List, [], ◌∷◌, ◌++◌, refl, ◌∙◌, subst, sym, min, flat_map, slice_range, append-nil, Bool, true, false, Option, Some, ◌≤◌, ap₂, arith, length, None}
 use Rattle.bt_bed.specs.Feature.{Feature, intervals_of}
 use Rattle.bt_bed.specs.Genome.{Entry, genome_names}

@@ -17,7 +17,7 @@ use Rattle.bt_runs.proofs.StrandSettling.{no_strand_runs}
 use Rattle.bt_runs.specs.Stranding as strands
 use Rattle.bt_runs.specs.declared.rule.Ruled.{Ruled}
 
--- a merge of one kind: it stands after records only where it began as one of that kind, and all that is said of the engine inside it is what is said of the merge
+-- a merge of one kind: it is after records only if it began as one of that kind, and all that is said of the engine inside it holds of the merge
 module _ {E : Type 0} (merge : E → Merging) (only : (first : Merging) (past : List Feature) (old : E) → stands_after first past (merge old) → (inner : E) × (merge inner ≡ first)) (old : E) where
   abbrev MayTake : E → List Feature → Type 0
   MayTake first past = may_take (merge first) past
@@ -178,7 +178,7 @@ none_last : {A : Type 0} (xs : List A) (x : A) → [] ≡ xs ++ x ∷ [] → ⊥
 none_last [] x e = cc
 none_last (y ∷ xs) x e = cc
 
--- a merge that has taken no record stands after none
+-- a merge that has taken no record is after none
 pub begun_stands : (gap : ℕ) (strand : MergeStrand) → StandsNew gap strand (merge_begun gap strand)
 begun_stands gap All = (record { same_gap = refl; same_strand = refl; kept = sym (none_kept gap All); on = λ front last e. absurd (none_last front last e) }, refl)
 begun_stands gap (One strand) = (record { same_gap = refl; same_strand = refl; kept = sym (none_kept gap (One strand)); on = λ front last e. absurd (none_last front last e) }, refl)

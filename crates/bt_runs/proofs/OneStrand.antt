@@ -35,7 +35,7 @@ same_strand Minus Minus t = refl
 same_strand Dot Dot t = refl
 same_strand a b t = absurd (false≢true t)
 
--- records that stand together: one before the next on its chromosome starts no further on
+-- contiguous records: one before the next on its chromosome doesn't start after it
 not_gone : (x r : Interval) (xs : List Interval) → x.chrom ≡ r.chrom → has_records x.chrom (xs ++ r ∷ []) ≡ false → ⊥
 not_gone x r xs e gone = false≢true (sym gone ∙ has_records-here x.chrom xs r (sym e))
 
@@ -172,7 +172,7 @@ module _ (gap : ℕ) (past : List Feature) (r : Feature) (taken : AreTaken (past
       ∙ grown_runs gap x done kept settled_passed (whole_taken gap strand past (taken_front past (r ∷ []) taken)).few
       ∙ ap (λ runs. map (joined gap x) runs ++ cond (list_any (is_open gap x) runs) [] (x ∷ [])) (sym all_one)
 
-  -- so one more record is joined to a run of its strand, or is a new one behind them
+  -- so one more record is joined to a run of its strand, or is a new one after them
   pub same_next : runs_of_strand gap (past ++ r ∷ []) r.strand ≡ map (joined_to gap r) (runs_of_strand gap past r.strand) ++ new_run (list_any (reaches gap r) (runs_of_strand gap past r.strand)) r
   same_next =
       let x = interval_of r in

@@ -46,7 +46,7 @@ stay_open position next (s ∷ ss) up all =
     let mine : next ≤ s.stop = All-head (λ s. next ≤ s.stop) s ss all in
     rw (le-leb position s.stop (omega arith)) (ap (λ l. s ∷ l) (stay_open position next ss up (All-tail (λ s. next ≤ s.stop) s ss all)))
 
--- of those that have started, the ones that are open behind a position cover it
+-- of those that have started, the ones that are open after a position cover it
 covers_started : (p : ℕ) (s : Span) → s.start ≤ p → covers p s ≡ nat_le (p + 1) s.stop
 covers_started p s started = elim (cases_lt p s.stop) [
   | inl l ↦ rw (le-leb s.start p started, lt-ltb p s.stop l, le-leb (p + 1) s.stop (omega arith)) refl
@@ -119,7 +119,7 @@ all_stay position (s ∷ ss) many = elim (cases_lt s.stop position) [
       rw (le-leb position s.stop left) (ap (λ l. s ∷ l) (all_stay position ss (omega arith)))
 ]
 
--- one that has ended leaves it, wherever it stands
+-- one that has ended leaves it, whatever its index
 pub one_dropped : (position i : ℕ) (items : List OpenSpan) (x : OpenSpan) → i < length items → x ≡ slice_index_or items i x → x.stop < position → still_open position (spans_open (remove items i)) ≡ still_open position (spans_open items)
 one_dropped position i [] x below is ended = absurd (omega arith)
 one_dropped position zero (s ∷ ss) x below is ended = rw (← is, lt-leb position x.stop ended) refl
@@ -130,7 +130,7 @@ one_dropped position (suc i) (s ∷ ss) x below is ended =
       | inr f ↦ rw f rest
     ]
 
--- all behind an index are open: where it is 0, all are
+-- all after an index are open: if it is 0, all are
 behind_all : (position : ℕ) (items : List OpenSpan) → All (λ s. position ≤ s.stop) items → still_open position (spans_open items) ≡ spans_open items
 behind_all position [] all = refl
 behind_all position (s ∷ ss) all =

@@ -1,4 +1,4 @@
--- Records that stand together are in the order in which their chromosomes come.
+-- Contiguous records are in the order in which their chromosomes come.
 use Rattle.std.proofs.Common.{◌≡◌, ℕ, suc, inl, inr, List, [], ◌∷◌, refl, sym, ap, ◌∙◌, subst, arith, true, false, bytes_eq, Option, Some, None, option_map}
 use Rattle.std.specs.Prelude.{is_some}
 use Rattle.std.specs.declared.cmp.Ordering.TheVariants.{Less}

@@ -1,4 +1,4 @@
--- Where the last run of each strand stands, as runs are added, joined and taken off, and what is written of those that a record passes.
+-- The place of each strand's last run, as runs are added, joined and taken off, and what is written of those that a record closes.
 use Rattle.std.proofs.Common.{◌≡◌, ℕ, ◌<◌, ◌≤◌, List, [], ◌∷◌, ◌++◌, refl, sym, ap, ◌∙◌, cond, get_or, length, set, arith, Bool, true, false, nat_lt, lt-ltb, le-ltb, Option, Some, None, zero, suc, ◌⊎◌, inl, inr, append_assoc, append-nil, not, ◌||◌, drop, Result, Err}
 use Rattle.std.specs.List.{slice_get}
 use Rattle.std.proofs.lemmas.Bool.{cond-true, cond-false, not_from_false, not_from_true, or_from, or_left, or_right}
@@ -20,7 +20,7 @@ use Rattle.bt_runs.specs.StrandRuns.{StrandRun, places_of}
 use Rattle.bt_runs.specs.Stranding.{strand_lines}
 use Rattle.bt_runs.proofs.StrandSettling.{take_ends, take_goes}
 
--- the place of the last element that passes, with one more element, and with one in the place of another
+-- the place of the last element that passes, with one more element, and with one replaced by another
 module _ {A : Type 0} (test : A → Bool) where
   pub last_place_pushed : (xs : List A) (y : A) → test y ≡ true → last_place test (xs ++ y ∷ []) ≡ Some (length xs)
   last_place_pushed [] y t = rw t refl

@@ -272,7 +272,7 @@ module _ (old : Stranding) (r : Feature) (out : Output) (runs : List PendingRun)
     enters_other (Err fault) next later (inl p) = absurd (p.some (ap (λ items. strand_lines (front_settled mid.gap items r)) none))
     enters_other (Err fault) next later (inr p) = inr (p.0, record { wanted = inr other; puts = puts_then later p.1.puts })
 
--- the kept runs, where one is at hand or none
+-- the kept runs, if one is in a local or none
 abbrev pub pending_in : OnlyRun → List PendingRun → List PendingRun
 pending_in only runs = cond only.is_any (run_at_hand only ∷ []) runs
 
@@ -349,7 +349,7 @@ module _ (gap : ℕ) (past : List Feature) (merge : Stranding) (stands : StandsA
   keeps_next : (r : Feature) → AreTaken (past ++ r ∷ []) → kept_strand_runs gap (past ++ r ∷ []) ≡ kept_with merge.gap merge.kept r
   keeps_next r taken = rw (stands.same_gap, stands.kept) (strand_next gap past r taken).kept
 
-  -- it stands after the record too
+  -- it is after the record too
   pub stands_next : (r : Feature) (out : Output) (new : Stranding) (grown : Output) → AreTaken (past ++ r ∷ []) → Takes merge r out new grown → StandsAfter gap (past ++ r ∷ []) new
   stands_next r out new grown taken takes = record {
     same_gap = takes.gap ∙ stands.same_gap;

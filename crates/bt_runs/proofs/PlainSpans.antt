@@ -31,7 +31,7 @@ covered_below end [] p all c = absurd c
 covered_below end (s ∷ ss) p all (inl w) = let h = All-head (λ s. s.stop ≤ end) s ss all in omega arith
 covered_below end (s ∷ ss) p all (inr w) = covered_below end ss p (All-tail (λ s. s.stop ≤ end) s ss all) w
 
--- the list stands apart, and covers just the position and what the other list covers
+-- the list has gaps between its spans, and covers just the position and what the other list covers
 pub record AddsNext (first p : ℕ) (xs ys : List Span) : Type 0 where
   pub apart : AreApartFrom first ys
   pub within : (q : ℕ) → IsCovered ys q → (q ≡ p) ⊎ IsCovered xs q

@@ -20,7 +20,7 @@ module _ {E : Type 0} (exact does : E → Feature → Output → Result (Unit {0
       (result : Result (Unit {0}) Fault) (next : E) (later : Output) → does now r out result next later → does mid r through result next later
 
   module _ {C : Type 0} (gives : C → List Feature → C → Type 0) (has_ended : C → Type 0) (is_on : E → List ℕ → Type 0) (old : E) (cursor : C) (out : Output) where
-    -- records were taken, and the next one is at hand: the rule, which has entered its chromosome, does with it what it did before
+    -- records were taken, and the next one is available: on its chromosome the rule does with it what it would have done before entering that
     pub record Following (name : List ℕ) (now : E) (grown : Output) (r : Feature) (ahead : C) : Type 0 where
       pub records : List Feature
       pub before : C
@@ -33,7 +33,7 @@ module _ {E : Type 0} (exact does : E → Feature → Output → Result (Unit {0
       pub each : DoesEach does old out records mid through
       pub does_so : DoesAs now grown mid through r
 
-    -- the first record is at hand
+    -- the first record is available
     pub begins_following : (name chrom : List ℕ) (now : E) (grown : Output) (r : Feature) (ahead : C) → gives cursor [] cursor → gives cursor (r ∷ []) ahead → r.chrom ≡ name → chrom ≡ name
         → is_on now chrom → EnterAnswers exact does old chrom out (Ok tt) now grown → Following name now grown r ahead
     begins_following name chrom now grown r ahead none first on same entered enters = record {
@@ -66,7 +66,7 @@ module _ {E : Type 0} (exact does : E → Feature → Output → Result (Unit {0
 
     module _ (more_given : (first mid last : C) (xs ys : List Feature) → gives first xs mid → gives mid ys last → gives first (xs ++ ys) last) (name : List ℕ) (now : E) (grown : Output) (r : Feature) (ahead : C)
         (f : Following name now grown r ahead) where
-      -- the record that was at hand was taken, and the next one is
+      -- the available record was taken, and the next one is available
       pub follows_on : (new : E) (later : Output) (next : Feature) (last : C) → does now r grown (Ok tt) new later → is_on new name → gives ahead (next ∷ []) last → next.chrom ≡ name
           → Following name new later next last
       follows_on new later next last done entered given on = record {

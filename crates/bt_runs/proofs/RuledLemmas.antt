@@ -76,7 +76,7 @@ module _ {E : Type 0} (takes : E → List Feature → Type 0) (stands : E → Li
       taken_each each.0 each.1 records new grown each.3,
     )
 
-    -- what ended the rule is a failed write, or want of memory
+    -- what ended the rule is a failed write, or out of memory
     pub ends_by : (old : E) (r : Feature) (out : Output) (fault : Fault) (new : E) (grown : Output) → does old r out (Err fault) new grown → (told fault ≡ write_failed) ⊎ (told fault ≡ no_memory)
     ends_by old r out fault new grown d = elim (feeds old r out (Err fault) new grown d).answers [
       | inl p ↦ inl p.is

@@ -22,7 +22,7 @@ module _ (order : Order) (total : IsTotal order) where
   stands_first name n ns less =
       ap (λ o. if is_lt o then name ∷ n ∷ ns else n ∷ put_in_order order name ns) less
 
-  -- a chromosome doesn't come again behind a later one
+  -- a chromosome doesn't come again after a later one
   gone : (r s : Interval) (ss : List Interval) → ArePlaced order (r ∷ s ∷ ss)
       → order.compare r.chrom s.chrom ≡ Less → has_records r.chrom (s ∷ ss) ≡ false
   gone r s ss placed less =

@@ -1,4 +1,4 @@
--- Chromosomes in an order, each once: where a name is found among them, and where records in that order stand: on the chromosome of the last record, with none on any behind it. The next record goes on there, or to a later chromosome.
+-- Chromosomes in an order, each once: where a name is found among them, and which of them records in that order have reached: the chromosome of the last record, with none on any after it. The next record goes on there, or to a later chromosome.
 use Rattle.std.proofs.Common.{◌≡◌, ℕ, suc, ◌+◌, ◌<◌, ◌≤◌, inl, inr, List, [], ◌∷◌, ◌++◌, append_assoc, refl, sym, ap, ◌∙◌, subst, arith, length, length-append, map, true, false, bytes_eq, Option, Some, None, option_map, ◌⊎◌, ◌||◌}
 use Rattle.std.specs.Prelude.{⊤, is_some}
 use Rattle.std.specs.Ordering.{nat_cmp}
@@ -64,7 +64,7 @@ among_both (x ∷ xs) ys name f =
     let rest = among_both xs ys name parts.1 in
     (or_from (bytes_eq x name) (is_among xs name) parts.0 rest.0, rest.1)
 
--- of two chromosomes of a list, the later one stands behind the other
+-- of two chromosomes of a list, the later one comes after the other
 pub record Later {K : Type 0} (before : List K) (e : K) (after before_other : List K) (other : K) (after_other : List K) : Type 0 where
   pub middle : List K
   pub front : before_other ≡ before ++ e ∷ middle
@@ -216,7 +216,7 @@ module _ {K : Type 0} (name : K → List ℕ) where
       (has_records-push (name k) records r (name_ne-sym (name k) r.chrom tests.0) ∙ n.0, none_other records r ks tests.1 n.1)
 
   module _ (keys : List K) where
-    -- the records reach this chromosome, the last one's, and none behind it
+    -- the records reach this chromosome, the last one's, and none after it
     pub record Stand (records : List Interval) (last : Interval) (before : List K) (key : K) (after : List K) : Type 0 where
       pub split : keys ≡ before ++ key ∷ after
       pub last_is : last_of records ≡ Some last
@@ -224,7 +224,7 @@ module _ {K : Type 0} (name : K → List ℕ) where
       pub some : has_records (name key) records ≡ true
       pub none_after : NoneOn records after
 
-    -- a record on a chromosome behind which there are none
+    -- a record on a chromosome after which there are none
     pub record Arrives (records : List Interval) (r : Interval) (before : List K) (key : K) (after : List K) : Type 0 where
       pub split : keys ≡ before ++ key ∷ after
       pub is : name key ≡ r.chrom
@@ -261,7 +261,7 @@ module _ {K : Type 0} (name : K → List ℕ) where
       pub last_rank : (records : List Interval) (last : Interval) (before : List K) (key : K) (after : List K) → Stand records last before key after → rank_of (map name keys) last.chrom ≡ Some (length before)
       last_rank records last before key after s = rw (← s.is, s.split) (rank_at name before key after (subst (λ (l : List K). AreDistinct (map name l)) s.split distinct))
 
-      -- a chromosome of a higher rank than the last record's lies behind it
+      -- a chromosome of a higher rank than the last record's lies after it
       further : (records : List Interval) (r : Interval) (before : List K) (key : K) (after : List K) (rank : ℕ) → keys ≡ before ++ key ∷ after → NoneOn records after → (name key ≡ r.chrom → ⊥) → rank_of (map name keys) r.chrom ≡ Some rank → length before < rank
           → Found name keys r.chrom rank → GoesTo records r before key after
       further records r before key after rank split none_after other known higher f =

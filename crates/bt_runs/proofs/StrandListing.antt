@@ -48,7 +48,7 @@ true_lies item p t =
       to = leb-true p.stop item.run.stop ends.1;
     }
 
--- a record of a run's strand doesn't reach past the run, or starts further off
+-- a record of a run's strand doesn't reach past the run, or starts beyond the gap
 abbrev pub IsWithinOrFar : ℕ → StrandRun → Feature → Type 0
 IsWithinOrFar gap item p = item.strand ≡ p.strand → item.run.chrom ≡ p.chrom → (p.stop ≤ item.run.stop) ⊎ (item.run.stop + gap < p.start)
 

@@ -44,7 +44,7 @@ module _ {A : Type 0} where
     cond-true (not (test x)) (1 + position_or_len test xs) 0 (not_from_false (test x) f),
   )
 
-  -- it stays the first where more come behind, also by a test that agrees
+  -- it stays the first if more come after it, also by a test that agrees
   found_same : (test other : A → Bool) (xs ys : List A) → Each (λ x. test x ≡ other x) xs
       → Some_of (λ x. other x ≡ true) xs
       → (find test (xs ++ ys) ≡ find other xs)
@@ -115,7 +115,7 @@ map_changed : {A B : Type 0} (h : A → A) (f g : A → B) (xs : List A) → Eac
 map_changed h f g [] e = refl
 map_changed h f g (x ∷ xs) e = ap₂ (λ y ys. y ∷ ys) e.0 (map_changed h f g xs e.1)
 
--- a run starts where it did, with a record that is joined to it
+-- a run keeps its start with a record that is joined to it
 same_start : (gap : ℕ) (r : Feature) (item : StrandRun)
     → locus_of (joined_to gap r item).run ≡ locus_of item.run
 same_start gap r item = elim (cases_Bool (reaches gap r item)) [

@@ -24,7 +24,7 @@ use Rattle.bt_runs.proofs.SettledRuns.{taken_front}
 use Rattle.bt_runs.proofs.SettlingLemmas.{begins, stays}
 use Rattle.bt_runs.proofs.StrandListing.{Lies, Listed, are_listed, join_is, join_not, listing_next, reached}
 
--- the longest front that passes a test
+-- the longest prefix that passes a test
 module _ {A : Type 0} (test : A → Bool) where
   abbrev pub Stops : List A → Type 0
   Stops [] = ⊤
@@ -123,7 +123,7 @@ module _ (gap : ℕ) (r : Feature) where
     | inl t ↦ only_on x xs (λ a b e p f. only_from xs a b e p f) done kept (sym (cond-true (on_its x) (x ∷ filter on_its xs) (filter on_its xs) t) ∙ e) passed few
   ]
 
-  -- a list with the record, by where the last run of its strand stands
+  -- a list with the record, by the place of the last run of its strand
   apart_cond : (b : Bool) (x : StrandRun) (xs ys : List StrandRun) → cond b (x ∷ xs) (x ∷ ys) ≡ x ∷ cond b xs ys
   apart_cond true x xs ys = refl
   apart_cond false x xs ys = refl
@@ -256,7 +256,7 @@ module _ (gap : ℕ) where
         let none = each_weaker (λ item. passes (interval_of r) item ≡ true) (λ item. reaches gap r item ≡ false) (λ item t. passed_unreached gap r item t) items e in
         (map_leaves (joined_to gap r) items (each_weaker (λ item. reaches gap r item ≡ false) (λ item. joined_to gap r item ≡ item) (λ item f. join_not gap r item f) items none), none_from (reaches gap r) items none)
 
-    -- a list of which the record has passed a front: with the record, that front stays
+    -- a list whose first runs the record closes: with the record, these stay
     grown_behind : (front items : List StrandRun) → Each (λ item. passes (interval_of r) item ≡ true) front → map (joined_to gap r) (front ++ items) ++ new_run (list_any (reaches gap r) (front ++ items)) r ≡ front ++ (map (joined_to gap r) items ++ new_run (list_any (reaches gap r) items) r)
     grown_behind front items e =
         let left = all_passed front e in

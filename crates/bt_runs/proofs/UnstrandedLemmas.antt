@@ -39,7 +39,7 @@ module _ (gap : ℕ) (strand : MergeStrand) (past : List Feature) (old : Unstran
       rw (stands.same_gap, stands.kept) (ap interval_lines (next_taken gap strand past r taken).settles
       ∙ flat_map-append interval_line (settled_runs gap strand past) (settled_by gap (kept_runs gap strand past) (interval_of r)))
 
-  -- the merge stands after the record too
+  -- the merge is after the record too
   stands_next : (r : Feature) (out : Output) (new : Unstranded) (grown : Output) → AreTaken (past ++ r ∷ []) → Takes old r out new grown → StandsAfter gap strand (past ++ r ∷ []) new
   stands_next r out new grown taken takes = record {
     same_gap = takes.gap ∙ stands.same_gap;
@@ -104,7 +104,7 @@ module _ (old : Unstranded) (run : OpenRun) (is : kept_at old.chrom run ≡ old.
     left_is : left_by old.gap old.kept (interval_of r) ≡ []
     left_is = rw (sym is) (elsewhere_passes old.gap old.chrom run (interval_of r) apart).1
 
-    -- the run that is kept was written, and another chromosome is entered: what is done with a record on it is done with it as before
+    -- the kept run was written, and another chromosome is entered: what is done with a record on it is what would have been done before
     entered_does : (now : Unstranded) (through : Output) → now.gap ≡ old.gap → now.strand ≡ old.strand → now.chrom ≡ r.chrom → now.kept ≡ [] → Grown out (interval_lines old.kept) through
         → (result : Result (Unit {0}) Fault) (new : Unstranded) (grown : Output) → Does now r through result new grown → Does old r out result new grown
     entered_does now through gap strand on none put (Ok done) new grown p =

@@ -1,4 +1,4 @@
--- An engine that goes through the chromosomes of a genome file: one more record moves what is settled and what is reached as its walk's step says, and at the end what its walk leaves is left. Complement and coverage are such engines; what each owes of one chromosome stands in `ComplementForm` and `CoverageForm`.
+-- An engine that goes through the chromosomes of a genome file: one more record moves what is settled and what is reached as its walk's step says, and at the end what its walk leaves is left. Complement and coverage are such engines; `ComplementForm` and `CoverageForm` have what each owes of one chromosome.
 use Rattle.std.proofs.Common.{◌≡◌, ℕ, ◌+◌, ◌≤◌, inl, inr, List, [], ◌∷◌, ◌++◌, refl, sym, ap, ap₂, ◌∙◌, subst, arith, append-nil, append_assoc, flat_map, length, length-append, slice_range, true, false, Option, Some, None}
 use Rattle.bt_bed.specs.Feature.{Feature, interval_of, intervals_of}
 use Rattle.bt_bed.specs.Genome.{Entry, genome_names}
@@ -48,7 +48,7 @@ taken_front entries past more t =
 pub rank_entry : (entries before : List Entry) (key : Entry) (after : List Entry) (rank : ℕ) → entries ≡ before ++ key ∷ after → rank ≡ length before → entry_at entries rank ≡ key
 rank_entry entries before key after rank split at = rw split (entry_there before key after rank (sym at))
 
--- the chromosomes behind one, up to another or to the last
+-- the chromosomes after one, up to another or to the last
 slice_behind : (entries before : List Entry) (key : Entry) (middle rest : List Entry) (rank stop : ℕ) → entries ≡ before ++ key ∷ (middle ++ rest) → rank ≡ length before → stop ≡ length (before ++ key ∷ middle) → slice_range entries (rank + 1) stop ≡ middle
 slice_behind entries before key middle rest rank stop split at end =
     let one_more = length-append before (key ∷ []) in

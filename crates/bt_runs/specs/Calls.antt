@@ -1,4 +1,4 @@
--- What a caller of an engine's own `feed` and `finish` knows, each fact by itself. Together they say what
+-- What a caller of an engine's own `feed` and `finish` knows, each fact separately. Together they say what
 -- `Feeds` and `Finishes` say.
 use Rattle.std.specs.Prelude.{◌≡◌, ◌⊎◌, ℕ, List, Option, Some, None, Result, IfErr, IfOk, IsOk}
 use Rattle.std.specs.Prelude.{MatchResult}
@@ -9,7 +9,7 @@ use Rattle.bt_lines.specs.declared.fault.Fault.{Fault}
 use Rattle.bt_bed.specs.Feature.{Feature}
 use Rattle.bt_runs.specs.Engine.{AfterEach, FailsToPutLeft, FailsToWrite, PutsLeft, RunsOut, TakesRecord}
 
--- an engine that stands after some records has answered no fault
+-- an engine that is after some records has returned no fault
 abbrev pub IsFaultless : {E : Type 0} → (E → List Feature → E → Type 0) → (E → Option Told) → E → Type 0
 IsFaultless {E} Stands fault now = (first : E) (past : List Feature) → Stands first past now → fault now ≡ None
 
@@ -28,7 +28,7 @@ module _ {E : Type 0} (MayTake : E → List Feature → Type 0)
     (settled : E → List Feature → List ℕ) where
   -- one more record
   module _ (old : E) (r : Feature) (out : Output) where
-    -- where it is taken, the lines that it settles were put, and the engine stands after it too
+    -- if it is taken, the lines that it settles were put, and the engine is after it too
     abbrev pub WritesSettled : {A : Type 0} → Result A Fault → E → Output → Type 0
     WritesSettled result new grown = IfOk result (λ done. TakesRecord MayTake Stands fault settled old r out new grown)
 

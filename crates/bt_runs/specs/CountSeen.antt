@@ -12,7 +12,7 @@ abbrev pub begun_seen : Option BegunDepth → Option Begun
 begun_seen None = None
 begun_seen (Some s) = Some (record { start = s.start; value = s.depth })
 
--- what is known of a chromosome: up to where the open records stand,
+-- what is known of a chromosome: up to where its records are counted,
 -- with the interval that isn't ended
 abbrev pub known_seen : Option BegunDepth → OpenAt → Known
 known_seen begun here = record { to = here.at; begun = begun_seen begun; held = here.spans }

@@ -130,7 +130,7 @@ abbrev pub IsOnChrom : Covering → List ℕ → Type 0
 IsOnChrom coverage chrom =
     IsOnBy coverage.is_here coverage.entries coverage.current coverage.name coverage.length chrom
 
--- with what is at hand of the chromosome
+-- with the interval that is kept in a local
 abbrev pub with_begun : Option BegunDepth → Option (Place Known) → Option (Place Known)
 with_begun begun None = None
 with_begun begun (Some place) =

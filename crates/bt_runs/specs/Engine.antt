@@ -1,5 +1,5 @@
 -- What the calls of an engine do: what they write and what the engine has become, after every list
--- of records that it stands after.
+-- of records that it has taken.
 use Rattle.std.specs.Prelude.{◌≡◌, ℕ, ◌≤◌, ◌⊎◌, true, List, [], ◌∷◌, ◌++◌}
 use Rattle.std.specs.Prelude.{Option, Some, None, Result, Ok, Err, IsOk, ⊤}
 use Rattle.bt_lines.specs.Fault.{Told, no_memory, write_failed}
@@ -22,17 +22,17 @@ pub record IsQuiet (settled : List Feature → List ℕ) (held : List Feature �
 
 module _ {E : Type 0} (MayTake : E → List Feature → Type 0)
     (Stands : E → List Feature → E → Type 0) (old : E) where
-  -- after every past that the engine stands after, where it may take the record after it
+  -- for every past that the engine is after, if it may take the record next
   abbrev pub AfterEach : Feature → (E → List Feature → Type 0) → Type 0
   AfterEach r P = (first : E) (past : List Feature) → Stands first past old
       → MayTake first (past ++ r ∷ []) → P first past
 
-  -- after every past that it stands after and may have taken
+  -- for every past that it is after and may have taken
   abbrev pub AtEnd : (E → List Feature → Type 0) → Type 0
   AtEnd P = (first : E) (past : List Feature) → Stands first past old → MayTake first past
       → P first past
 
-  -- so many items are kept as the records leave open
+  -- as many items are kept as the records leave open
   abbrev pub KeepsHeld : (E → List Feature → ℕ) → ℕ → Type 0
   KeepsHeld held count = AtEnd (λ first past. count ≡ held first past)
 
@@ -46,7 +46,7 @@ module _ {E : Type 0} (MayTake : E → List Feature → Type 0)
       -- no fault was answered
       pub was_going : fault old ≡ None
       pub going : fault new ≡ None
-      -- the engine stands after the record too
+      -- the engine is after the record too
       pub stands : AfterEach MayTake Stands old r (λ first past. Stands first (past ++ r ∷ []) new)
       -- the lines that the record settles were put
       pub puts : AfterEach MayTake Stands old r (λ first past.
@@ -95,7 +95,7 @@ module _ {E : Type 0} (MayTake : E → List Feature → Type 0)
     -- what `feed` does
     pub record Feeds {A : Type 0} (Quiet : E → List Feature → Feature → Type 0)
         (result : Result A Fault) (new : E) (grown : Output) : Type 0 where
-      -- an engine that stands after some records has answered no fault
+      -- an engine that is after some records has returned no fault
       pub going : (first : E) (past : List Feature) → Stands first past old → fault old ≡ None
       pub answers : FeedAnswers result new grown
       -- a quiet record is taken, and the output stays as it is
@@ -179,7 +179,7 @@ module _ {E : Type 0} (MayTake : E → List Feature → Type 0)
 
     -- what `finish` does
     pub record Finishes {A : Type 0} (result : Result A Fault) (grown : Output) : Type 0 where
-      -- an engine that stands after some records has answered no fault
+      -- an engine that is after some records has returned no fault
       pub going : (first : E) (past : List Feature) → Stands first past last → fault last ≡ None
       pub answers : FinishAnswers result grown
       -- what the sink took stays, and nothing happens to an output that has failed

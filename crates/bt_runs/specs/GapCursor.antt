@@ -14,7 +14,7 @@ seen cursor = option_map (λ rank. record { rank = rank; known = cursor.end }) c
 abbrev pub gap_before : GapCursor → ℕ → List Interval
 gap_before cursor start = gap_between cursor.name.now cursor.end (min start cursor.length)
 
--- a record that ends here is taken out of the gap behind it
+-- a record that ends here is taken out of the gap after it
 pub record Covers (old : GapCursor) (stop : ℕ) (new : GapCursor) : Type 0 where
   pub same_entries : entries new.genome.now ≡ entries old.genome.now
   pub same_rank : new.rank ≡ old.rank

@@ -35,7 +35,7 @@ unfoldable pub kept_runs : ℕ → MergeStrand → List Feature → List Interva
 kept_runs gap strand records =
     drop (length (settled_runs gap strand records)) (merged_runs gap strand records)
 
--- records that a merge may take: those of one chromosome stand together, their starts don't fall,
+-- records that a merge may take: those of one chromosome are contiguous, their starts don't fall,
 -- and each has a base
 pub record AreTaken (records : List Feature) : Type 0 where
   pub together : AreTogether (intervals_of records)

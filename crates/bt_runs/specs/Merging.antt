@@ -1,5 +1,5 @@
 -- What a merge holds after the records of the past: with one set of records one open run, and with
--- each strand by itself the runs that wait.
+-- each strand separately the runs that wait.
 use Rattle.std.specs.Prelude.{ℕ, List, [], Option, None}
 use Rattle.bt_lines.specs.Fault.{Told}
 use Rattle.bt_bed.specs.Feature.{Feature}
@@ -42,7 +42,7 @@ stands_after (Apart first) past (Apart now) = ruled_stands strands.stands_after 
 stands_after (Together first) past (Apart now) = ⊥
 stands_after (Apart first) past (Together now) = ⊥
 
--- a merge with this gap and these strands stands after no record
+-- a merge with this gap and these strands is after no record
 abbrev pub StandsNew : ℕ → MergeStrand → Merging → Type 0
 StandsNew gap strand merge = stands_after (merge_begun gap strand) [] merge
 
@@ -76,7 +76,7 @@ abbrev pub kept_places : Merging → List Interval
 kept_places (Together merge) = merge.rule.kept
 kept_places (Apart merge) = places_of merge.rule.kept
 
--- for what memory is wanted: the name of another chromosome, and with each strand by itself a run that has to be opened
+-- what needs memory: the name of another chromosome, and with each strand separately a run that has to be opened
 abbrev pub wants_memory : Merging → Feature → Type 0
 wants_memory (Together old) r = pool_step.IsElsewhere old.rule r
 wants_memory (Apart old) r = strand_step.wants_memory old.rule r

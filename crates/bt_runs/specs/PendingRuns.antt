@@ -1,4 +1,4 @@
--- The runs that wait, without their chromosome: where the last one of each strand stands, how one more
+-- The runs that wait, without their chromosome: the place of the last one of each strand, how one more
 -- record is joined to it, and which of them are passed.
 use Rattle.std.specs.Prelude.{ℕ, suc, Bool, true, false, not, cond, ◌||◌, List, [], ◌∷◌}
 use Rattle.std.specs.Prelude.{drop, length, map, max, set, Option, Some, None, nat_lt}
@@ -11,7 +11,7 @@ use Rattle.bt_runs.specs.StrandRuns.{StrandRun}
 use Rattle.bt_runs.specs.StrandStep.{last_place}
 use Rattle.bt_runs.specs.declared.pending_runs.PendingRun.{PendingRun}
 
--- where the last run of a strand stands
+-- the place of the last run of a strand
 abbrev pub place_of : Strand → List PendingRun → Option ℕ
 place_of strand runs = last_place (λ (w : PendingRun). is_strand w.strand strand) runs
 

@@ -1,4 +1,4 @@
--- The run that a merge with each strand apart has at hand, and the runs that it keeps with it.
+-- The run that a merge of each strand has in a local, and the runs that it keeps with it.
 use Rattle.std.specs.Prelude.{◌≡◌, ℕ, List, [], ◌∷◌, cond}
 use Rattle.bt_runs.specs.PendingRuns.{placed_run}
 use Rattle.bt_runs.specs.StrandRuns.{StrandRun}
@@ -10,11 +10,11 @@ use Rattle.bt_runs.specs.declared.per_strand_merge.OnlyRun.{OnlyRun}
 abbrev pub run_at_hand : OnlyRun → PendingRun
 run_at_hand only = record { strand = only.strand; start = only.start; stop = only.stop }
 
--- the runs that are kept: the one at hand, or else those of the list
+-- the runs that are kept: the one in a local, or else those of the list
 abbrev pub kept_in : List ℕ → OnlyRun → List StrandRun → List StrandRun
 kept_in chrom only listed = cond only.is_any (placed_run chrom (run_at_hand only) ∷ []) listed
 
--- the merge with this run at hand
+-- the merge with this run in a local
 abbrev pub with_on : Stranding → OnlyRun → Stranding
 with_on merge only = record {
   gap = merge.gap;

@@ -90,7 +90,7 @@ pub record Taken {E : Type 0} (takes : E → List Feature → Type 0) (stands : 
   pub feeds : RuleFeeds takes stands settled old r out quiet result new grown
   pub memory : WantsMemory wants old r result
 
--- entering a chromosome: whatever is done with a record on it afterwards is done with that record as it was before
+-- entering a chromosome: what is done with a record on it afterwards is what would have been done with it before
 module _ {E : Type 0} (does taken : E → Feature → Output → Result (Unit {0}) Fault → E → Output → Type 0) where
   abbrev pub EnterAnswers : E → List ℕ → Output → Result (Unit {0}) Fault → E → Output → Type 0
   EnterAnswers old chrom out (Ok done) new grown =

@@ -13,7 +13,7 @@ use Rattle.bt_runs.specs.Merged.{chromosomes, merged}
 use Rattle.bt_runs.specs.MergedRuns.{merged_runs}
 use Rattle.bt_runs.specs.declared.merge_strand.MergeStrand.{MergeStrand}
 
--- a name among names in order: it stands before the first that comes after it
+-- a name among names in order: it is put before the first that comes after it
 abbrev pub put_in_order : Order → List ℕ → List (List ℕ) → List (List ℕ)
 put_in_order order name [] = name ∷ []
 put_in_order order name (n ∷ ns) =

@@ -1,4 +1,4 @@
--- What `bedtools merge -s` gives: the records of each strand are merged by themselves (bedtools
+-- What `bedtools merge -s` gives: the records of each strand are merged separately (bedtools
 -- manual, merge, option -s), and the runs of all strands are listed by their first records.
 use Rattle.std.specs.Prelude.{◌≡◌, ℕ, Bool, not, ◌&&◌, List, [], ◌∷◌, ◌++◌, drop, filter, length}
 use Rattle.std.specs.Prelude.{map, Option, Some, None, nat_le, bytes_eq}
@@ -43,7 +43,7 @@ listed_behind runs before (r ∷ rs) =
 unfoldable pub strand_runs : ℕ → List Feature → List StrandRun
 strand_runs gap records = listed_behind (runs_of_strand gap records) [] records
 
--- the longest front of the listed runs that the last record has passed
+-- the first of the listed runs, as long as the last record closes them
 abbrev pub passed_front : ℕ → List StrandRun → Option Interval → List StrandRun
 passed_front gap items None = []
 passed_front gap items (Some last) = take_while (λ item. is_passed gap last item.run) items

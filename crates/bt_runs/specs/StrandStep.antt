@@ -29,13 +29,13 @@ abbrev pub place_among : Bool → Option ℕ → Option ℕ
 place_among first (Some place) = Some (suc place)
 place_among first None = cond first (Some 0) None
 
--- where the last element stands that passes the test
+-- the index of the last element that passes the test
 abbrev pub last_place : {A : Type 0} → (A → Bool) → List A → Option ℕ
 last_place test [] = None
 last_place test (x ∷ xs) = place_among (test x) (last_place test xs)
 
--- the runs with the record, where the last run of its strand stands at this place: joined to that
--- run, if it hasn't passed it, and else as the last one
+-- the runs with the record, if the last run of its strand is at this place: joined to that
+-- run, unless it closes it, and else as the last one
 abbrev pub added_at : ℕ → List StrandRun → Feature → Option ℕ → List StrandRun
 added_at gap items r None = items ++ run_from r ∷ []
 added_at gap items r (Some place) =

@@ -39,7 +39,7 @@ module _ (old : Stranding) (r : Feature) (out : Output) where
     pub kept : new.kept ≡ kept_with old.gap old.kept r
     pub puts : Grown out (lines_by old r) grown
 
-  -- it wasn't, for want of memory
+  -- it wasn't, since memory ran out
   pub record FailsToKeep (grown : Output) : Type 0 where
     pub wanted : wants_memory old r
     pub puts : Grown out (lines_by old r) grown
@@ -79,7 +79,7 @@ module _ (chrom : List ℕ) (reach : ℕ) (runs : List PendingRun) (run : Pendin
     pub joins : joined_among.0 ≡ false
     pub puts : PutsPassed grown
 
-  -- it answers whether none is left
+  -- it returns true if none is left
   abbrev pub JoinsAmong : Result Bool Failure → List PendingRun → Output → Type 0
   JoinsAmong (Ok true) new grown = LeavesNone new grown
   JoinsAmong (Ok false) new grown = JoinsLeft new grown

@@ -37,7 +37,7 @@ enum Layout {
     Apart,
 }
 
-// Where a record lies: of the mixed ones each seven lie up to 100 further on.
+// Where a record lies: the mixed ones come in groups of seven, each group 100 after the last.
 fn mixed_bounds(number: u64) -> (u64, u64)
     requires { number < RECORDS }
 {
@@ -49,7 +49,7 @@ fn mixed_bounds(number: u64) -> (u64, u64)
 // The ends of those in chains, from their starts on, which are 10 apart: some overlap the next one, some touch it.
 const LENGTHS: [u64; 5] = [12, 3, 25, 10, 4];
 
-// The first ones change the strand at each fifth. The long one comes after 30 of them, and more short runs behind it than
+// The first ones change the strand at each fifth. The long one comes after 30 of them, and more short runs follow it than
 // a merge has room for at first.
 const CHAINED: u64 = 30;
 
@@ -220,7 +220,7 @@ fn lines_apart(alloc: Global) -> Result<Vec<u8>, AllocError> {
     Ok(text)
 }
 
-// The start of the record that comes after the one at which a merge fails, where the output has room for so many lines.
+// The start of the record that comes after the one at which a merge fails, if the output has room for this many lines.
 fn start_after_a_fault(alloc: Global, text: &[u8], room: usize) -> Result<Option<u64>, Fail>
     requires { room < 100 }
 {

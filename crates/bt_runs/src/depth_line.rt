@@ -26,7 +26,7 @@ pub(crate) fn put_depth<K: Sink>(
     put_both(chrom, &text[first..], out)
 }
 
-// Writes what follows the name so that it ends where the text does, and gives where it begins. It stands apart, so
+// Writes what follows the name so that it ends where the text does, and returns where it begins. Out of line, so
 // that the loops over records stay small.
 #[inline(never)]
 fn write_depth(start: u64, stop: u64, depth: u64, text: &mut [u8; ROOM]) -> usize

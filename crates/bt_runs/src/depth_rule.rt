@@ -323,7 +323,7 @@ fn hold(held: &mut OpenRecords, counted: bool, length: u64, stop: u64) -> Result
     Ok(())
 }
 
-// Writes what is left of a chromosome, and lets go of its records.
+// Writes what is left of a chromosome, and drops its records.
 #[cold]
 #[inline(never)]
 fn put_rest<K: Sink>(

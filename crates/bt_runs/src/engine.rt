@@ -31,7 +31,7 @@ pub trait Engine {
     // The fault that was answered, if one was.
     ghost fault: { Self → Option Told };
 
-    // Where this holds of the records and of a further one, that one is taken without a fault and the
+    // If this holds of the records and of one more, that one is taken without a fault and the
     // output stays as it is. An engine that can't promise it gives ⊥.
     ghost quiet: { Self → List Feature → Feature → Type 0 };
 
@@ -55,7 +55,7 @@ pub trait Engine {
             result self.new out.new.output }
         ensures memory { IsWanted wants fault self.old (feature_lent bed.now) result }
     {
-        // No engine asks for the line.
+        // No engine reads the line number.
         let mut one = Single::new(*bed, 0);
         self.feed_batch(&mut one, out)
     }

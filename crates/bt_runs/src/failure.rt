@@ -7,7 +7,7 @@ ghost use Rattle.bt_runs.specs.Failure.{fault_of};
 
 use bt_lines::{Fault, Kind};
 
-// A failed write, or want of memory.
+// A failed write, or out of memory.
 #[derive(Clone, Copy, Debug)]
 pub(crate) enum Failure {
     Write,

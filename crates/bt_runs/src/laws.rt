@@ -37,7 +37,7 @@ pub fn settled_runs_are_a_front()
     ensures kept { one_run_is_kept }
 {}
 
-/// With each strand by itself no later record changes a settled run either, and the kept runs are the
+/// With each strand separately no later record changes a settled run either, and the kept runs are the
 /// others. The runs of one strand are listed in their order, each once.
 pub fn settled_strand_runs_are_a_front()
     ensures stay { strand_runs_stay }

@@ -26,11 +26,11 @@ enum Kind {
     PerStrand(Ruled<PerStrandMerge>),
 }
 
-/// Merges records that come in order, and writes each run once a record has passed it, which may be one
+/// Merges records that come in order, and writes each run once a record closes it, which may be one
 /// that isn't merged. Starts are zero-based, and ends aren't included.
 ///
 /// It keeps one open run. With [`MergeStrand::Each`] the runs of all strands are listed by their first
-/// records, so that a run which is finished waits behind an open one whose first record came earlier: it
+/// records, so that a run which is finished waits for an open one whose first record came earlier: it
 /// keeps the runs from the first open one on.
 #[derive(Drop, Debug)]
 pub struct Merge {
@@ -109,7 +109,7 @@ impl Merge {
         Engine::finish(self, out)
     }
 
-    /// How many runs it keeps: 0 or 1, and with each strand by itself as many as wait to be written.
+    /// How many runs it keeps: 0 or 1, and with each strand separately as many as wait to be written.
     pub fn kept_len(&self) -> usize
         ensures list { result ≡ length (kept_places self.now) }
         ensures held { KeepsHeld may_take stands_after self.now held_count result }
@@ -153,7 +153,7 @@ impl Engine for Merge {
         }
     }
 
-    /// How many runs it keeps: 0 or 1, and with each strand by itself as many as wait to be written.
+    /// How many runs it keeps: 0 or 1, and with each strand separately as many as wait to be written.
     fn kept_len(&self) -> usize
         ensures list { result ≡ length (kept_places self.now) }
         ensures held { KeepsHeld may_take stands_after self.now held_count result }

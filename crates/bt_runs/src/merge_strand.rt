@@ -7,7 +7,7 @@ use bt_bed::Strand;
 pub enum MergeStrand {
     /// All of them.
     All,
-    /// All of them, each strand by itself: records of different strands are never one run (bedtools
+    /// All of them, each strand separately: records of different strands are never one run (bedtools
     /// manual, merge, option -s).
     Each,
     /// Those of one strand (bedtools manual, merge, option -S).

@@ -9,8 +9,8 @@ use std::alloc::{AllocError, Global};
 use std::collections::VecDeque;
 use std::marker::Model;
 
-// For how many runs room is made with the first one. They stand in a ring, and each time round it costs a branch
-// that the processor doesn't foretell, so a small ring would cost one every few runs.
+// For how many runs room is made with the first one. They are in a ring, and each time round it costs a mispredicted
+// branch, so a small ring would cost one every few runs.
 const ROOM: usize = 64;
 
 // A run without its chromosome.
@@ -24,7 +24,7 @@ pub(crate) struct PendingRun {
     pub(crate) stop: u64,
 }
 
-// The runs, and where the last of each strand stands, which alone may still grow. A run is added, joined
+// The runs, and the place of each strand's last one, which alone may still grow. A run is added, joined
 // and taken off without a look at the others, and without a branch on its strand, which nothing predicts.
 #[derive(Drop, Debug)]
 pub(crate) struct PendingRuns {
@@ -95,7 +95,7 @@ impl PendingRuns {
     }
 
     // Joins a record that ends at `stop` to the last run of its strand, unless that ends below `reach`,
-    // and says whether it did.
+    // and returns true if it joined it.
     #[inline]
     pub(crate) fn join(&mut self, strand: Strand, stop: u64, reach: u64) -> bool
         ensures { (result, self.new) ≡ with_joined reach stop self.old (place_of strand self.old) }
@@ -106,7 +106,7 @@ impl PendingRuns {
         lengthen(&mut self.runs, place, stop, reach)
     }
 
-    // Where the last run of a strand stands.
+    // The place of the last run of a strand.
     #[inline]
     fn place(&self, strand: Strand) -> Option<usize>
         ensures { result ≡ place_of strand self.now }

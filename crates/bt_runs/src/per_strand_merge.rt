@@ -16,7 +16,7 @@ use bt_lines::{Fault, Out, Sink, no_memory};
 use std::alloc::{AllocError, Global};
 use std::marker::Model;
 
-// The only run that waits, at hand. Where there is none, or several wait in the list, it means nothing.
+// The only run that waits, in a local. If there is none, or several wait in the list, it is unspecified.
 #[derive(Clone, Copy, Debug)]
 pub(crate) struct OnlyRun {
     is_any: bool,
@@ -32,7 +32,7 @@ const NONE: OnlyRun = OnlyRun {
     stop: 0,
 };
 
-// Merges the records of each strand by themselves. It keeps the runs of one chromosome from the first
+// Merges the records of each strand separately. It keeps the runs of one chromosome from the first
 // one on that a later record may still join, in the order of their first records.
 #[derive(Drop, Debug)]
 pub(crate) struct PerStrandMerge {
@@ -40,7 +40,7 @@ pub(crate) struct PerStrandMerge {
     gap: u64,
     // The chromosome of the runs, whose buffer is used again.
     chrom: Vec<u8>,
-    // The only run, if no others wait. What the list holds then is no longer kept.
+    // The only run, if no others wait. What the list holds then is unspecified.
     only: OnlyRun,
     // In the order of their first records; all of them lie on that chromosome.
     runs: PendingRuns,
@@ -92,7 +92,7 @@ impl PerStrandMerge {
         put_passed(chrom, false, 0, &mut self.runs, out)
     }
 
-    // Takes a record on the chromosome of the runs, which are the one at hand or those of the list.
+    // Takes a record on the chromosome of the runs, which are the one in `only` or those of the list.
     #[inline(always)]
     fn take<R: Record, K: Sink>(
         &mut self,
@@ -252,7 +252,7 @@ fn put_passed<K: Sink>(
 }
 
 // Takes a record among the runs of the list: those that it has passed are written, and it is joined to the last one of
-// its strand that is left, or is one more. It answers whether none is left, where the record isn't taken.
+// its strand that is left, or is one more. If none is left, it returns true and the record isn't taken.
 #[inline(never)]
 fn join_among<K: Sink>(
     chrom: &[u8],
@@ -278,7 +278,7 @@ fn join_among<K: Sink>(
     }
 }
 
-// Puts two runs in the place of what the list holds.
+// Puts two runs instead of what the list holds.
 fn list_both(
     first: PendingRun,
     second: PendingRun,

@@ -18,7 +18,7 @@ pub struct PlainStranded {
     pub span: PlainSpan,
 }
 
-/// The merged runs of each strand of one chromosome by itself, listed by their first records. The
+/// The merged runs of each strand of one chromosome separately, listed by their first records. The
 /// records may come in any order.
 pub fn plain_strand_runs(
     alloc: Global,

@@ -16,7 +16,7 @@ use bt_lines::{Fault, Out, Sink};
 
 // The rule by which an engine takes records, one chromosome after another.
 pub(crate) trait Rule {
-    // What it keeps of the chromosome that it is on, at hand while it takes a batch.
+    // What it keeps of the chromosome that it is on, in a local while it takes a batch.
     type OnChrom;
 
     // The records that a rule that began like this may be given, one after another.
@@ -34,7 +34,7 @@ pub(crate) trait Rule {
     // What a rule that began like this has become once it has taken these records.
     ghost stands: { Self → List Feature → Self → Type 0 };
 
-    // Where this holds of the records and of a further one, that one is taken without a fault and the
+    // If this holds of the records and of one more, that one is taken without a fault and the
     // output stays as it is.
     ghost quiet: { Self → List Feature → Feature → Type 0 };
 
@@ -47,7 +47,7 @@ pub(crate) trait Rule {
     // It has entered this chromosome.
     ghost is_on: { Self → List ℕ → Type 0 };
 
-    // What it becomes when it keeps what it has at hand.
+    // What it becomes when it keeps what was in the local.
     ghost with_on: { Self → Self.OnChrom → Self };
 
     // Goes on to the chromosome of this name, which may be the one that it is on, and writes the lines that this settles.
@@ -74,7 +74,7 @@ pub(crate) trait Rule {
             quiet result (with_on self.new on.new) out.new.output }
         ensures memory { WantsMemory wants (with_on self.old on.old) (R.feature «record».now) result };
 
-    // Keeps what it had at hand.
+    // Keeps what was in the local.
     fn leave(&mut self, on: Self::OnChrom)
         ensures { self.new ≡ with_on self.old on };
 

@@ -60,7 +60,7 @@ pub(crate) fn feed_line<E: Engine, K: Sink>(
     }
 }
 
-// Feeds a record that is taken, with which so many items are kept.
+// Feeds a record that is taken, with which this many items are kept.
 pub(crate) fn feed_kept<E: Engine, K: Sink>(
     rt: &impl Abort,
     engine: &mut E,
@@ -157,7 +157,7 @@ fn feed_failing<E: Engine, K: Sink>(
     same_answer(rt, answer.and(out.flush()), Err(WRITE_FAILED), row.name);
 }
 
-// The same engine over a sink that takes so many bytes, fewer than all, which have to be the first.
+// The same engine over a sink that takes this many bytes, fewer than all, which have to be the first.
 pub(crate) fn check_failing<E: Engine + Drop>(
     rt: &impl Abort,
     alloc: Global,

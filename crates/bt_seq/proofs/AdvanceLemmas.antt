@@ -99,7 +99,7 @@ module _ (how : MaskHow) (full : Bool) where
         wants = rest.wants;
       }
 
-  -- what was given further
+  -- what was given after that
   abbrev pub come_more : (old : MaskStage) (lines more : List TextLine) (records further : List Feature) (out mid later : Output) (middle new : Masking)
       → (first : HasCome how full old lines records out middle mid) → (rest : HasCome how full first.stage more further mid new later)
       → HasCome how full old (lines ++ more) (records ++ further) out new later
@@ -146,7 +146,7 @@ module _ (old : Masking) (lines : BufferedLines) (out : Output) (wants : old.wan
     copied_from : (how : MaskHow) (full : Bool) (stage : MaskStage) → MaskStandsAt how full stage old → LinesCopied how full stage old copies.texts
     copied_from how full stage stands = lines_copied how full copies.texts stage old stands wants copies.stay
 
-    -- no line comes behind those that were copied through
+    -- no line comes after those that were copied through
     pub gave_copied : {B : Type 0} (given : B) → GivesLines old lines out (Ok given) mid left between
     gave_copied given = record {
       texts = copies.texts;
@@ -401,7 +401,7 @@ module _ {C : Type 0} (gives : C → List Feature → C → Type 0) (line_at : C
     comes = λ how full stage stands ahead. (come_nowhere how full stage old out stands, ahead, after_none stage.ahead records);
   }
 
-  -- what is given further
+  -- what is given after that
   module _ {A : Type 0} (done : A) (old mid new : Masking) (lines between left : BufferedLines) (records passing last : C) (out through grown : Output)
       (first : GivesBoth gives line_at has_ended old lines records out (Ok done) mid between passing through) where
     after_both : (was mid_ahead ahead : Option Feature) (taken : List Feature) → ComesAfter gives line_at has_ended was records first.taken mid_ahead → ComesAfter gives line_at has_ended mid_ahead passing taken ahead

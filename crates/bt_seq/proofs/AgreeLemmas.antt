@@ -15,7 +15,7 @@ behind_more : (name : List ℕ) (names more rest : List (List ℕ)) → names_be
 behind_more name [] more rest e = cc
 behind_more name (n ∷ ns) more rest e = more_by (bytes_eq n name) name ns more rest (behind_more name ns more rest) e
 
--- fewer names come behind the one that is found than there are
+-- fewer names come after the one that is found than there are
 fewer_by : (b : Bool) (name : List ℕ) (names rest : List (List ℕ)) → (names_behind name names ≡ Some rest → length rest < length names)
     → cond b (Some names) (names_behind name names) ≡ Some rest → length rest ≤ length names
 fewer_by true name names rest next e = let same : names ≡ rest = cc in omega (arith, ap length same)
@@ -25,7 +25,7 @@ behind_fewer : (name : List ℕ) (names rest : List (List ℕ)) → names_behind
 behind_fewer name [] rest e = cc
 behind_fewer name (n ∷ ns) rest e = let few = fewer_by (bytes_eq n name) name ns rest (behind_fewer name ns rest) e in omega (arith, few)
 
--- where as many names come behind as there are others, it is one of the first
+-- if as many names come after it as there are others, it is one of the first
 record Within (name : List ℕ) (names more all : List (List ℕ)) : Type 0 where
   left : List (List ℕ)
   is : all ≡ left ++ more

@@ -80,7 +80,7 @@ span_is (Some operations) span e =
     let is : span ≡ min (0 + reference_length operations) 1000000000000 = cc in
     record { length = reference_length operations; is = refl; cut = grind (arith, nat_tests) }
 
--- whether there is no base can be told by either
+-- either shows whether there is no base
 zero_same : (span length : ℕ) → span ≡ min length 1000000000000 → eqb length 0 ≡ eqb span 0
 zero_same span length e = grind (arith, nat_tests)
 

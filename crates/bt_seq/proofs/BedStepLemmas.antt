@@ -308,7 +308,7 @@ held_next : (last : Option SequenceLine) (taken : List Feature) (r : Feature)
 held_next None taken r e placed = refl
 held_next (Some line) taken r e placed = held_before line taken r placed e
 
--- behind the last line
+-- after the last line
 module _ (how : MaskHow) (full : Bool) (stage : MaskStage) (none : stage.waiting ≡ None) (old : Masking) (stands : MaskStandsAt how full stage old) (wants : old.want ≡ Bed) where
   ended : (stage.lines_ended ≡ true) × (stage.bed_ended ≡ false)
   ended = wants_bed stage.lines_ended stage.bed_ended (sym (ap (λ (w : Option SequenceLine). want_of (is_some w) stage.lines_ended stage.bed_ended) none) ∙ sym stands.want_is ∙ wants)
@@ -394,7 +394,7 @@ leaves_at old new l r out grown (Ok Yes) t e = absurd (let apart : Ok Yes ≡ Ok
 leaves_at old new l r out grown (Ok No) t e = ap (λ (m : Masking). m.want) t.1
 leaves_at old new l r out grown (Err fault) t e = absurd (let apart : Err fault ≡ Ok No = e in cc)
 
--- a line is asked for behind a record that was left
+-- a line is wanted after a record that was left
 pub leaves_bed : (old new : Masking) (r : Feature) (out grown : Output) (answer : Result Taken Fault) (w : Option Waiting) → is_some w ≡ true
     → ((l : Waiting) → w ≡ Some l → TakesBed old l r out answer new grown) → answer ≡ Ok No → new.want ≡ Line
 leaves_bed old new r out grown answer None e t is = absurd (never e)

@@ -52,7 +52,7 @@ onto_nothing : (byte : ℕ) (bytes : List ℕ) → onto_front (byte ∷ bytes) (
 onto_nothing byte [] = refl
 onto_nothing byte (b ∷ bs) = rw (onto_nothing b bs) refl
 
--- a front without letters that no number begins with
+-- a prefix without letters that no number begins with
 no_number_by : (byte : ℕ) (bytes : List ℕ) (parts : Option (List Part)) → ((more : List ℕ) → value_of ((byte ∷ bytes) ++ more) ≡ None)
     → operations_of_parts (onto_front (byte ∷ bytes) parts) ≡ None
 no_number_by byte bytes None none = rw (onto_none (byte ∷ bytes)) refl
@@ -65,7 +65,7 @@ no_number [] rest some e none = absurd (omega arith)
 no_number (byte ∷ bytes) rest some e none =
     ap operations_of_parts (parts_behind (byte ∷ bytes) rest e) ∙ no_number_by byte bytes (parts_of rest) none
 
--- digits and the letter behind them
+-- digits and the letter after them
 operation_by : (digits : List ℕ) (letter : ℕ) (parts : Option (List Part)) → operations_of_parts (onto_front digits (with_part (record { digits = []; letter = letter }) parts))
     ≡ with_operation (operation_of (record { digits = digits; letter = letter })) (operations_of_parts parts)
 operation_by digits letter None = rw (onto_none digits) (cases (value_of digits))
@@ -95,7 +95,7 @@ digits_no_letters (byte ∷ bytes) e =
 cut_there : (text : List ℕ) (n : ℕ) → n < length text → text ≡ take n text ++ get_or text n 0 ∷ drop (n + 1) text
 cut_there text n inside = sym (take-append-drop n text) ∙ ap (λ l. take n text ++ l) (drop_more text n 0 inside)
 
--- digits, and the letter of an operation behind them
+-- digits, and the letter of an operation after them
 pub first_is : (text : List ℕ) (value end letter : ℕ) → end < length text → 0 < end → value ≡ digits_value 10 (take end text) → list_all is_ascii_digit (take end text) ≡ true
     → value ≤ 999999999999 → letter ≡ get_or text end 0 → is_letter letter ≡ true
     → operations_in text ≡ with_operation (Some (record { length = value; letter = letter })) (operations_in (drop (end + 1) text))
@@ -112,7 +112,7 @@ pub bare_letter : (text : List ℕ) → 0 < length text → is_letter (get_or te
 bare_letter [] some named = absurd (omega arith)
 bare_letter (byte ∷ bytes) some named = first_operation_is [] byte bytes refl named ∙ rw (sym (value_of_empty [] refl)) refl
 
--- digits, and a byte behind them that is neither a digit nor a letter
+-- digits, and a byte after them that is neither a digit nor a letter
 pub other_byte : (text : List ℕ) (end : ℕ) → end < length text → list_all is_ascii_digit (take end text) ≡ true → is_ascii_digit (get_or text end 0) ≡ false
     → is_letter (get_or text end 0) ≡ false → operations_in text ≡ none_left text
 other_byte text end inside digits no_digit no_letter =

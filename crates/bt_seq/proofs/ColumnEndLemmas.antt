@@ -2,7 +2,7 @@
 use Rattle.std.proofs.Common.{ℕ, zero, suc, ◌+◌, ◌<◌, ◌≤◌, List, length, take, get_or, subst, arith}
 use Rattle.bt_lines.proofs.ColumnLemmas.{IsColumn, IsInside, column_more}
 
--- so many more bytes that are no tabs
+-- `n` more bytes that are no tabs
 pub column_on : (text : List ℕ) (at n : ℕ) → at + n ≤ length text → IsColumn (take at text)
     → ((k : ℕ) → at ≤ k → k < at + n → IsInside (get_or text k 0)) → IsColumn (take (at + n) text)
 column_on text at zero within column inside = subst (λ i. IsColumn (take i text)) (omega arith) column

@@ -44,7 +44,7 @@ copied_line to old new line cut closed passes rest at no_header before bases wit
       within = within;
     }
 
--- one more line was consumed behind others
+-- one more line was consumed after others
 pub copied_behind : (to : ℕ) (old mid new : CopyThrough) (lines : List TextLine) (line : TextLine)
     → CopiesLines to old lines mid → CopiesLine to mid line new → CopiesLines to old (lines ++ line ∷ []) new
 copied_behind to old mid new [] line p q = (new, subst (λ (m : CopyThrough). CopiesLine to m line new) p q, refl)
@@ -125,7 +125,7 @@ module _ (to : ℕ) where
       let step = stays p copies.0 line m at named known copies.1 in
       (step.0, copies_stay lines copies.0 q (passed m line.text) step.1 named known copies.2)
 
-  -- the state behind some lines
+  -- the state after some lines
   pub copies_come : (lines : List TextLine) (line : TextLine) (p q : CopyThrough) (m : Masking) → bounds_of p ≡ m.window → is_some m.matched.name ≡ true → IsKnownTo m
       → CopiesLines to p (line ∷ lines) q → passed_all m (line ∷ lines) ≡ record m { window = bounds_of q; waiting = None; want = Line }
   copies_come [] line p q m at named known copies =

@@ -112,14 +112,14 @@ no_extent position (s ∷ ss) far h =
     let none : has_position position s ≡ false = grind (arith, nat_tests) in
     ap (λ b. b || list_any (has_position position) ss) none ∙ no_extent position ss far h.1
 
--- behind all numbers nothing is masked
+-- after all numbers nothing is masked
 unmasked : (how : MaskHow) (extents : List Extent) (position : ℕ) (text : List ℕ) → limit ≤ position → AreShort extents → masked_in how extents position text ≡ text
 unmasked how extents position [] far h = refl
 unmasked how extents position (base ∷ text) far h =
     ap (λ b. cond b (masked_byte how base) base ∷ masked_in how extents (suc position) text) (no_extent position extents far h)
     ∙ ap (λ (bs : List ℕ). base ∷ bs) (unmasked how extents (suc position) text (omega arith) h)
 
--- so bases need not be counted any further
+-- so no more bases need to be counted
 counted_by : (how : MaskHow) (extents : List Extent) (before : ℕ) (text : List ℕ) → AreShort extents → (b : Bool) → nat_le before limit ≡ b → masked_in how extents (min before limit) text ≡ masked_in how extents before text
 counted_by how extents before text h true e =
     let low : before ≤ limit = grind (arith, nat_tests) in

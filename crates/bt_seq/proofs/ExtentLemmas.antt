@@ -29,7 +29,7 @@ by_both how base true false = refl
 by_both how base false true = refl
 by_both how base false false = refl
 
--- extents mask one behind another
+-- extents mask one after another
 pub one_behind : (how : MaskHow) (extents : List Extent) (s : Extent) (position : ℕ) (bases : List ℕ) → masked_in how (extents ++ s ∷ []) position bases ≡ masked_in how (s ∷ []) position (masked_in how extents position bases)
 one_behind how extents s position [] = refl
 one_behind how extents s position (base ∷ bases) =
@@ -44,7 +44,7 @@ module _ (how : MaskHow) (s : Extent) where
   inside : (position base : ℕ) (bases : List ℕ) → has_position position s ≡ true → masked_byte how base ∷ masked_in how (s ∷ []) (suc position) bases ≡ masked_in how (s ∷ []) position (base ∷ bases)
   inside position base bases e = sym (ap (λ b. cond (b || false) (masked_byte how base) base ∷ masked_in how (s ∷ []) (suc position) bases) e)
 
-  -- from a position in or behind the extent on
+  -- from a position in or after the extent on
   from_inside : (bases : List ℕ) (position to : ℕ) → s.start ≤ position → to ≡ min (s.stop - position) (length bases)
       → map (masked_byte how) (take to bases) ++ drop to bases ≡ masked_in how (s ∷ []) position bases
   from_inside [] position zero low e = refl

@@ -248,7 +248,7 @@ module _ (names : List (List ℕ)) (taken : List Feature) (r : Feature) (m : Mat
 
 -- one more sequence
 module _ (names : List (List ℕ)) (n : List ℕ) (taken : List Feature) (m : Matched) where
-  -- behind the names that are left
+  -- after the names that are left
   grown_known : (rs : List Feature) (left : List (List ℕ)) → m.last ≡ last_chrom rs → left_after names rs ≡ Some left → Knows (names ++ n ∷ []) rs (named m n)
   grown_known rs left last e = record {
     last = last;

@@ -9,7 +9,7 @@ abbrev pub is_last : Option (List ℕ) → List ℕ → Bool
 is_last None name = false
 is_last (Some last) name = bytes_eq last name
 
--- what a record leaves behind these names and the last chromosome
+-- what a record leaves after these names and the last chromosome
 abbrev pub one_leaves : Option (List (List ℕ)) → Option (List ℕ) → Feature → Option (List (List ℕ))
 one_leaves left last r = cond (is_last last r.chrom) left (left_by left r.chrom)
 
@@ -53,7 +53,7 @@ with_any : (left : Option (List (List ℕ))) (last : List ℕ) (r : Feature) (bs
 with_any left last r [] = alone left last r (bytes_eq last r.chrom) refl
 with_any left last r (b ∷ bs) = with_first left last r b bs (bytes_eq r.chrom b.chrom) refl
 
--- behind a last chromosome
+-- after a last chromosome
 leave_on : (left : Option (List (List ℕ))) (last : List ℕ) (rs : List Feature) → leave left (Some last) rs ≡ blocks_leave left last (blocks rs)
 leave_on left last [] = refl
 leave_on left last (r ∷ rs) = leave_on (one_leaves left (Some last) r) r.chrom rs ∙ with_any left last r (blocks rs)

@@ -131,7 +131,7 @@ or_rest : (a b : Bool) → (a || b) ≡ true → a ≡ false → b ≡ true
 or_rest true b e d = absurd (never (sym d))
 or_rest false b e d = e
 
--- whether it decides a further line of the sequence, by how far it decides them
+-- whether it decides one more line of the sequence, by how far it decides them
 ahead_decides : (bases : ℕ) (left : Option (List (List ℕ))) (r : Feature) → r.start < limit
     → (left ≡ Some []) ⊎ (left ≡ None)
     → nat_le (min bases limit) (decided_up_to left r) ≡ block_decides bases left (r ∷ [])

@@ -43,7 +43,7 @@ decided_stays line records more e =
     ∙ ap (λ b. is_unnamed line.names || b) (list_any-append decides before after)
     ∙ stays_by (is_unnamed line.names) (list_any decides before) (list_any decides after) (sym (decided_by_tags line records) ∙ e)
 
--- records that start behind these bases
+-- records that start after these bases
 abbrev pub AreBehind : ℕ → List Feature → Type 0
 AreBehind bases rs = AllByRecursion (λ (r : Feature). bases ≤ r.start) rs
 
@@ -68,7 +68,7 @@ blocks_front [] more h = tt
 blocks_front (r ∷ []) more h = tt
 blocks_front (r ∷ s ∷ rs) more h = (h.0, blocks_front (s ∷ rs) more h.1)
 
--- once a record has decided a line: the block belongs to none, or to the last sequence, and the record starts behind the line
+-- once a record has decided a line: the block belongs to none, or to the last sequence, and the record starts after the line
 module _ (bases : ℕ) where
   abbrev IsPast : Option (List (List ℕ)) → Feature → Type 0
   IsPast None r = ⊤

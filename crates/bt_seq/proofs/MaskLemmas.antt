@@ -1,7 +1,7 @@
 -- Lemmas on masked bases.
 use Rattle.std.proofs.Common.{◌≡◌, ℕ, ◌+◌, ◌<◌, zero, suc, length, map, List, [], ◌∷◌, ◌++◌, take, drop, refl, ap, arith, slice_index_or, slice_set}
 
--- a byte is mapped behind those that were
+-- a byte is mapped after those that were
 pub one_mapped : (f : ℕ → ℕ) (bytes : List ℕ) (i : ℕ) → i < length bytes
     → slice_set (map f (take i bytes) ++ drop i bytes) i (f (slice_index_or (map f (take i bytes) ++ drop i bytes) i 0)) ≡ map f (take (i + 1) bytes) ++ drop (i + 1) bytes
 one_mapped f [] i low = absurd (omega arith)

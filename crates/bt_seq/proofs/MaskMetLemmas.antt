@@ -52,7 +52,7 @@ chrom_at m = m.item.chrom
 abbrev pub items : List (Member Feature) → List Feature
 items ms = map (λ (m : Member Feature). m.item) ms
 
--- what is told of a record behind which these names are left, or later
+-- what is reported of a record after which these names are left, or later
 abbrev told_by : Option (List (List ℕ)) → Member Feature → Option Told → Option Told
 told_by None m later = Some (fault_at_line Second m.line NoSequence)
 told_by (Some names) m later = later
@@ -84,7 +84,7 @@ told_tagged : (names : List (List ℕ)) (ms : List (Member Feature)) → no_sequ
 told_tagged names ms =
     told_spread (Some names) (blocks_by chrom_at ms) (blocks_have_one chrom_at ms) ∙ sym (ap told_of (tags_all chrom_at (Some names) ms))
 
--- behind a block that belongs to none, all belong to none
+-- after a block that belongs to none, all belong to none
 pub none_leaves : (last : Option (List ℕ)) (rs : List Feature) → leave None last rs ≡ None
 none_leaves last [] = refl
 none_leaves last (r ∷ rs) = ap (λ left. leave left (Some r.chrom) rs) (none_next (is_last last r.chrom) r.chrom) ∙ none_leaves (Some r.chrom) rs

@@ -44,7 +44,7 @@ runs_of (r ∷ rs) = runs_step r rs (blocks_by (λ r. r.chrom) rs) refl (runs_of
 pub maximal_runs : blocks_are_maximal_runs
 maximal_runs records = let runs = runs_of records in (runs.items, runs.apart, runs.chroms)
 
--- names that differ are told apart
+-- names that differ are distinguished
 apart_names : (n name : List ℕ) → n ≢ name → (t : Bool) → bytes_eq n name ≡ t → t ≡ false
 apart_names n name differ true e = absurd (differ ((bytes_decides n name).0 e))
 apart_names n name differ false e = refl
@@ -52,7 +52,7 @@ apart_names n name differ false e = refl
 other_name : (n name : List ℕ) → bytes_eq n name ≡ false → n ≢ name
 other_name n name e is = let same = (bytes_decides n name).1 is in cc
 
--- the names behind the first of a name divide them there
+-- the names after the first of a name divide them there
 module _ (name : List ℕ) where
   divides_with : (n : List ℕ) (ns behind : List (List ℕ)) → (names_behind name ns ≡ Some behind → DividesAt name ns behind)
       → (t : Bool) → bytes_eq n name ≡ t → cond t (Some ns) (names_behind name ns) ≡ Some behind → DividesAt name (n ∷ ns) behind

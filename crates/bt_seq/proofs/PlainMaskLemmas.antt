@@ -1,4 +1,4 @@
--- Lemmas on bases that are masked one behind another.
+-- Lemmas on bases that are masked one after another.
 use Rattle.std.proofs.Common.{◌≡◌, ℕ, ◌+◌, ◌<◌, zero, suc, cond, length, List, [], ◌∷◌, ◌++◌, take, drop, ap, arith, slice_index_or, slice_set}
 use Rattle.std.specs.List.{list_any}
 use Rattle.bt_bed.specs.Feature.{Feature}
@@ -11,7 +11,7 @@ module _ (how : MaskHow) (records : List Feature) where
   abbrev pub base_at : ℕ → ℕ → ℕ
   base_at position base = cond (list_any (covers position) records) (masked_byte how base) base
 
-  -- a base is masked behind those that were
+  -- a base is masked after those that were
   pub one_masked : (bases : List ℕ) (i position at : ℕ) → i < length bases → at ≡ position + i
       → slice_set (masked_from how records position (take i bases) ++ drop i bases) i (base_at at (slice_index_or (masked_from how records position (take i bases) ++ drop i bases) i 0))
       ≡ masked_from how records position (take (i + 1) bases) ++ drop (i + 1) bases

@@ -18,7 +18,7 @@ use Rattle.bt_seq.specs.Masked.{decided, is_unnamed, masked_line}
 use Rattle.bt_seq.specs.Sequences.{Reached, SequenceLine, is_header, line_says}
 use Rattle.bt_seq.specs.declared.mask_how.MaskHow.{MaskHow}
 
--- how far lines have come behind others
+-- how far lines have come after others
 abbrev reached_behind : Reached → List SequenceLine → Reached
 reached_behind reached [] = reached
 reached_behind reached (item ∷ items) = reached_behind (reached_by (Some item)) items
@@ -112,7 +112,7 @@ module _ (how : MaskHow) (full : Bool) where
   unnamed_decided : (line : SequenceLine) (records : List Feature) → is_unnamed line.names ≡ true → decided line records ≡ true
   unnamed_decided line records e = or_left (is_unnamed line.names) _ e
 
-  -- the record ahead and those behind it follow
+  -- the record ahead and those after it follow
   follow_ahead : (stage : MaskStage) (r : Feature) (records : List Feature) → stage.bed_ended ≡ false → stage.ahead ≡ Some r → (f : MayFollow stage records)
       → records ≡ (stage.taken ++ r ∷ []) ++ f.more
   follow_ahead stage r records going is f =
@@ -194,7 +194,7 @@ module _ (how : MaskHow) (full : Bool) where
     pub line_goes : GoesOn how full stage (line ∷ []) [] (with_line stage item) (bytes_with how stage item)
     line_goes = line_by (is_written_at_once stage item) refl
 
-  -- a record that was taken or is ahead comes behind those seen
+  -- a record that was taken or is ahead comes after those seen
   module _ (stage : MaskStage) (r : Feature) (going : stage.bed_ended ≡ false) where
     seen_by : (o : Option Feature) → stage.ahead ≡ o → IsNext o r → (records more : List Feature) → records ≡ (stage.taken ++ r ∷ []) ++ more → MayFollow stage records
     seen_by None is next records more e = record {

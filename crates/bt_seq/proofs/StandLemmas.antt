@@ -1,4 +1,4 @@
--- Lemmas on where a masking engine stands, by the line given last.
+-- Lemmas on the stage of a masking engine, by the line given last.
 use Rattle.std.proofs.Common.{◌≡◌, ℕ, ◌<◌, Bool, true, false, ◌||◌, List, [], ◌∷◌, ◌++◌, map, Option, Some, None, refl, sym, ap, ◌∙◌, subst, inl, inr, ◌⊎◌}
 use Rattle.std.specs.List.{list_any}
 use Rattle.std.specs.Prelude.{is_none, is_some, option_map, option_to_list}
@@ -17,7 +17,7 @@ use Rattle.bt_seq.specs.Window.{limit}
 use Rattle.bt_seq.specs.declared.mask_how.MaskHow.{MaskHow}
 use Rattle.bt_seq.specs.declared.mask_want.MaskWant.TheVariants.{Line, Bed, Nothing}
 
--- the engine stands there, where this is the last line
+-- the engine is at the stage, if this is the last line
 pub record StandsBy (how : MaskHow) (full : Bool) (stage : MaskStage) (last : Option SequenceLine) (m : Masking) : Type 0 where
   pub how_is : m.how ≡ how
   pub full_is : m.full ≡ full

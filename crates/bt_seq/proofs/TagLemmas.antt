@@ -122,7 +122,7 @@ module _ {A : Type 0} (chrom : A → List ℕ) where
 abbrev pub own_in : List (Tagged Feature) → List Feature
 own_in ts = flat_map (λ t. items_if_last t.left (t.item ∷ [])) ts
 
--- whether a record decides a line up to whose end there are so many bases
+-- whether a record decides a line up to whose end there are this many bases
 abbrev pub tag_decides : ℕ → Tagged Feature → Bool
 tag_decides bases t = block_decides bases t.left (t.item ∷ [])
 

@@ -1,4 +1,4 @@
--- Of the records that a masking engine took no front decides all lines given.
+-- Of the records that a masking engine took no prefix decides all lines given.
 use Rattle.std.proofs.Common.{◌≡◌, true, List, [], ◌∷◌, ◌++◌, Option, Some, None, refl, sym, subst, ◌∙◌, inl, inr}
 use Rattle.std.specs.Prelude.{◌⊎◌}
 use Rattle.std.specs.List.{AllByRecursion}

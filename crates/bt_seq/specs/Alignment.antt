@@ -118,7 +118,7 @@ fields_say (Some fields) =
     (length_of fields.cigar)
 
 -- whether a line says nothing: it is blank, or a header line,
--- which begins with `@`; both may stand anywhere
+-- which begins with `@`; both may come anywhere
 abbrev pub is_skipped : List ℕ → Bool
 is_skipped [] = true
 is_skipped (byte ∷ bytes) = byte == 64

@@ -39,7 +39,7 @@ up_to_skip operations = take_while (λ operation. not (is_skip operation)) opera
 abbrev pub with_bases : ℕ → ℕ → List Span
 with_bases start stop = if nat_lt start stop then record { start = start; stop = stop } ∷ [] else []
 
--- the block that begins at a place, if one does and it has a base: it lies behind the reference
+-- the block that begins at a place, if one does and it has a base: it lies after the reference
 -- bases of all operations before it, and goes on up to the next N
 abbrev pub block_at : ℕ → Cut → List Span
 block_at start cut =

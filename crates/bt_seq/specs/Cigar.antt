@@ -55,7 +55,7 @@ onto_part byte (Some []) = None
 onto_part byte (Some (part ∷ parts)) =
     Some (record { digits = byte ∷ part.digits; letter = part.letter } ∷ parts)
 
--- the parts of a text that is cut behind each letter; there are none where bytes are left behind
+-- the parts of a text that is cut after each letter; there are none if bytes are left after
 -- the last letter
 abbrev pub parts_of : List ℕ → Option (List Part)
 parts_of [] = Some []

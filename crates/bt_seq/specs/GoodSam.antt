@@ -5,7 +5,7 @@ use Rattle.bt_lines.specs.declared.fault.Input.{Input}
 use Rattle.bt_bed.specs.Good.{Format, Good, good_handed}
 use Rattle.bt_seq.specs.Alignment.{Alignment, alignment_of}
 
--- each line says its alignment by itself: the alignments come in any order,
+-- each line says its alignment independently: the alignments come in any order,
 -- and nothing is known of those before
 abbrev pub sam_format : Format Alignment ⊤
 sam_format = record {

@@ -17,7 +17,7 @@ pub record KnowsOwn (names : List (List ℕ)) (records : List Feature) (m : Matc
   pub left : left_after names records ≡ Some []
   pub own : m.own ≡ true
 
--- names are left behind the sequence of the last block, and the last of them is the last of all
+-- names are left after the sequence of the last block, and the last of them is the last of all
 pub record KnowsEarlier (names : List (List ℕ)) (records : List Feature)
     (m : Matched) : Type 0 where
   pub front : List (List ℕ)

@@ -53,7 +53,7 @@ module _ (how : MaskHow) (full : Bool) where
       ⊎ FailsWithLine how full stage line out fault grown))
       ⊎ FailsToCopy stage lines out fault grown
 
-  -- the next record, which stands on this line, failed
+  -- the next record, which is on this line, failed
   abbrev pub FailsAtRecord : Option SequenceLine → MaskStage → Feature → ℕ → Output → Told → Output
       → Type 0
   FailsAtRecord None stage r number out fault grown =
@@ -103,7 +103,7 @@ module _ {C : Type 0} (gives : C → List Feature → C → Type 0) (line_at : C
       → ((was ≡ Some r) × (taken ≡ []))
       ⊎ ((before : C) × (later : C) × gives records taken before × gives before (r ∷ []) later)
 
-  -- what is asked for isn't there
+  -- what is wanted isn't available
   abbrev pub StopsAt : MaskWant → BufferedLines → C → Type 0
   StopsAt Line lines records = lines_in lines ≡ []
   StopsAt Bed lines records = has_ended records

@@ -43,7 +43,7 @@ early_mask_rule how records = record {
   last = None;
 }
 
--- what a front of both inputs decides, and is written, begins what is written for the whole inputs
+-- what a prefix of both inputs decides, and is written, begins what is written for the whole inputs
 abbrev pub masked_are_a_front : Type 0
 masked_are_a_front =
     (how : MaskHow) (names : List (List ℕ)) (first more_first : List SequenceLine)
@@ -69,7 +69,7 @@ owned_lack_none = (names : List (List ℕ)) (members : List (Member Feature))
     → is_some (left_after names (map (λ (m : Member Feature). m.item) members)) ≡ true
     → no_sequence names members ≡ None
 
--- the first record whose block belongs to none is told
+-- the first record whose block belongs to none is reported
 abbrev pub first_unowned_is_told : Type 0
 first_unowned_is_told =
     (names : List (List ℕ)) (past more : List (Member Feature)) (m : Member Feature)

@@ -1,4 +1,4 @@
--- What a masking engine knows inside of the stage at which it stands: which sequence and which block came
+-- What a masking engine knows at its stage: which sequence and which block came
 -- last, how many bases were counted, and how far the record ahead decides lines.
 use Rattle.std.specs.Prelude.{◌≡◌, ◌⊎◌, ⊤, ℕ, ◌≤◌, ◌<◌, Bool, false, true, List, [], ◌∷◌, ◌++◌, min}
 use Rattle.std.specs.Prelude.{Option, Some, None, is_some, option_to_list}
@@ -20,7 +20,7 @@ abbrev pub IsDecided : Option SequenceLine → List Feature → Type 0
 IsDecided None records = ⊤
 IsDecided (Some line) records = decided line records ≡ true
 
--- how many bases of its sequence stand before the line, and up to its end
+-- how many bases of its sequence come before the line, and up to its end
 abbrev pub bases_before : Option SequenceLine → ℕ
 bases_before None = 0
 bases_before (Some line) = line.before
@@ -71,9 +71,9 @@ abbrev pub HasAhead : MaskStage → Type 0
 HasAhead stage = want_at stage ≡ Line → stage.bed_ended ≡ false
     → is_unnamed (reached stage).names ≡ false → is_some stage.ahead ≡ true
 
--- up to which base of the last sequence a record decides lines, where these names are left behind
--- the sequence of its block: up to its start, or all where its block belongs to none (it is asked
--- for where that sequence is the last)
+-- up to which base of the last sequence a record decides lines, if these names are left after
+-- the sequence of its block: up to its start, or all if its block belongs to none (it is used
+-- if that sequence is the last)
 abbrev pub decided_up_to : Option (List (List ℕ)) → Feature → ℕ
 decided_up_to None r = limit
 decided_up_to (Some names) r = r.start

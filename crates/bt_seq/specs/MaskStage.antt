@@ -1,5 +1,5 @@
 -- How far a masking engine has come: which lines of the FASTA input are written, which one waits, and
--- which records of the BED input were taken; what it asks for there, and what it holds.
+-- which records of the BED input were taken; what it wants there, and what it holds.
 use Rattle.std.specs.Prelude.{◌≡◌, ⊤, ◌||◌, ◌&&◌, not, Bool, true, false, cond, List, [], ◌∷◌, ◌++◌}
 use Rattle.std.specs.Prelude.{Option, Some, None, is_some, option_to_list}
 use Rattle.bt_bed.specs.Feature.{Feature}

@@ -1,4 +1,4 @@
--- Where a masking engine stands.
+-- The stage of a masking engine.
 use Rattle.std.specs.Prelude.{◌≡◌, ◌⊎◌, Bool, true, false, List, [], ◌++◌, map, Option, Some}
 use Rattle.std.specs.Prelude.{None, is_some, option_map}
 use Rattle.std.specs.List.{AllByRecursion}
@@ -13,7 +13,7 @@ use Rattle.bt_seq.specs.Owners.{left_after}
 use Rattle.bt_seq.specs.Sequences.{SequenceLine, is_header}
 use Rattle.bt_seq.specs.declared.mask_how.MaskHow.{MaskHow}
 
--- no more records were taken than the lines given ask for: none,
+-- no more records were taken than the lines given need: none,
 -- or the last line isn't decided by them
 abbrev pub IsOpen : Option SequenceLine → List Feature → Type 0
 IsOpen None taken = taken ≡ []
@@ -31,7 +31,7 @@ pub record Waits (stage : MaskStage) (line : SequenceLine) : Type 0 where
   -- a header has no bases before it
   pub header : is_header line.text ≡ true → line.before ≡ 0
 
--- The engine stands there: what waits, what is asked for and what is held are those of the stage.
+-- The engine is at the stage: what waits, what is wanted and what is held are those of the stage.
 pub record MaskStandsAt (how : MaskHow) (full : Bool) (stage : MaskStage)
     (m : Masking) : Type 0 where
   pub how_is : m.how ≡ how
@@ -50,7 +50,7 @@ pub record MaskStandsAt (how : MaskHow) (full : Bool) (stage : MaskStage)
   pub owned : is_some (left_after (reached stage).names stage.taken) ≡ true
   pub inside : KnowsStage stage m
 
--- No front of the records taken decides all lines given: so none was taken after the first record
+-- No prefix of the records taken decides all lines given: so none was taken after the first record
 -- that did.
 abbrev pub taken_are_first : Type 0
 taken_are_first = (lines : List SequenceLine) (front rest : List Feature)

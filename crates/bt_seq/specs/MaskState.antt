@@ -123,7 +123,7 @@ TakesLine old number line out (Err fault) new grown =
     ⊎ ((told fault ≡ no_memory) × (grown ≡ out)
     × (may_grow (moved_to old line.text) line.text ≡ true)))))
 
--- whether the next line, of this text, is known to be written as it is: it is no header but stands
+-- whether the next line, of this text, is known to be written as it is: it is no header but comes
 -- after one, nothing is held, and the records have ended or the record ahead decides it
 abbrev pub stays_as_given : Masking → List ℕ → Bool
 stays_as_given m text =

@@ -61,7 +61,7 @@ module _ (how : MaskHow) (full : Bool) (stage : MaskStage) (line : TextLine) (ou
     pub is : fault ≡ fault_at_line First line.number kind
     pub same_output : grown ≡ out
 
-  -- it can't be written, only where the sink failed, and a front of it was; or there is no memory
+  -- it can't be written, only if the sink failed, and a prefix of it was; or there is no memory
   -- for it, which it may need
   pub record FailsWithLine (fault : Told) (grown : Output) : Type 0 where
     pub item : SequenceLine
@@ -113,7 +113,7 @@ module _ (how : MaskHow) (full : Bool) (stage : MaskStage) (line : SequenceLine)
       (new.want ≡ Nothing) × (FailsToWriteLine (told fault) grown
       ⊎ FailsToHoldRecord (told fault) grown)
 
--- one more record after the last line, which stands on this line
+-- one more record after the last line, which is on this line
 module _ (how : MaskHow) (full : Bool) (stage : MaskStage) (r : Feature) (number : ℕ)
     (out : Output) where
   -- its block belongs to a sequence

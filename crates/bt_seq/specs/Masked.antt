@@ -46,7 +46,7 @@ held_for line records =
     filter (λ r. nat_lt r.start (bases_up_to line) && nat_lt line.before r.stop)
     (own_records line.names records)
 
--- whether there is no name: a line stands before the first header, where it is decided at once
+-- whether there is no name: a line comes before the first header, where it is decided at once
 abbrev pub is_unnamed : List (List ℕ) → Bool
 is_unnamed [] = true
 is_unnamed (name ∷ names) = false
@@ -80,8 +80,8 @@ no_sequence names members =
     no_sequence_for (first_unowned
     (owned_from (Some names) (blocks_by (λ m. m.item.chrom) members)))
 
--- What the good records of the second input, and its fault, make of the lines of the first. At last
--- its first block without a sequence is told, which stands before its fault.
+-- What the good records of the second input, and its fault, make of the lines of the first. At the
+-- end its first block without a sequence is reported, before its fault.
 abbrev pub mask_rule : MaskHow → List (List ℕ) → Good Feature → Rule SequenceLine ℕ Told
 mask_rule how names second = record {
   decided = λ line. is_none second.fault || decided line (items_in second);

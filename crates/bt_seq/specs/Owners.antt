@@ -12,7 +12,7 @@ pub record Block (A : Type 0) : Type 0 where
   pub chrom : List ℕ
   pub items : List A
 
--- the blocks with one more in front: it goes on with the first block, or is one by itself
+-- the blocks with one more record before them: it goes on with the first block, or is a block of its own
 abbrev pub block_with : {A : Type 0} → List ℕ → A → List (Block A) → List (Block A)
 block_with chrom x [] = record { chrom = chrom; items = x ∷ [] } ∷ []
 block_with chrom x (b ∷ bs) =
@@ -39,8 +39,8 @@ abbrev pub names_behind : List ℕ → List (List ℕ) → Option (List (List �
 names_behind name [] = None
 names_behind name (n ∷ ns) = if bytes_eq n name then Some ns else names_behind name ns
 
--- the names after the sequence to which a block belongs, where so many names were left by the
--- block before it; none where it belongs to no sequence
+-- the names after the sequence to which a block belongs, if these names were left by the
+-- block before it; none if it belongs to no sequence
 abbrev pub left_by : Option (List (List ℕ)) → List ℕ → Option (List (List ℕ))
 left_by None name = None
 left_by (Some names) name = names_behind name names
@@ -71,7 +71,7 @@ abbrev pub own_records : List (List ℕ) → List Feature → List Feature
 own_records names records = flat_map (λ o. items_if_last o.left o.block.items) (owned names records)
 
 -- whether a block after which these names are left decides a line of the last sequence, up to
--- whose end there are so many bases: a record of it starts there or later, or the block belongs to
+-- whose end there are this many bases: a record of it starts there or later, or the block belongs to
 -- no sequence up to that one
 abbrev pub block_decides : ℕ → Option (List (List ℕ)) → List Feature → Bool
 block_decides bases None records = true
@@ -132,7 +132,7 @@ goes_on [] r = false
 goes_on (s ∷ []) r = bytes_eq s.chrom r.chrom
 goes_on (s ∷ t ∷ ss) r = goes_on (t ∷ ss) r
 
--- a further record goes on with the last block, or begins one, whose sequence comes after that of
+-- one more record goes on with the last block, or begins one, whose sequence comes after that of
 -- the last one
 abbrev pub next_goes_on_or_begins : Type 0
 next_goes_on_or_begins = (names : List (List ℕ)) (records : List Feature) (r : Feature)

@@ -35,7 +35,7 @@ fields_lent fields = record {
   cigar = fields.cigar.now;
 }
 
--- the first column of a text, and what stands after its tab, if there is one
+-- the first column of a text, and what follows its tab, if there is one
 abbrev pub IsCut : List ℕ → Option (Bor (List ℕ) × Bor (List ℕ)) → Type 0
 IsCut text None = pieces 9 text ≡ text ∷ []
 IsCut text (Some cut) = pieces 9 text ≡ cut.0.now ∷ pieces 9 cut.1.now

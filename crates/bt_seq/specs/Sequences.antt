@@ -12,12 +12,12 @@ use Rattle.bt_lines.specs.declared.fault.Kind.{Kind}
 use Rattle.bt_lines.specs.declared.fault.Kind.TheVariants.{TextBeforeHeader}
 use Rattle.bt_lines.specs.declared.line.LineEnd.{LineEnd}
 
--- a line of a sequence, and where it stands
+-- a line of a sequence, and where it is
 pub record SequenceLine : Type 0 where
   -- the names of the sequences up to its own,
   -- which is the last; before the first header there is none
   pub names : List (List ℕ)
-  -- how many bases of its sequence stand before it
+  -- how many bases of its sequence come before it
   pub before : ℕ
   pub text : List ℕ
   pub ending : LineEnd
@@ -41,7 +41,7 @@ name_in full text =
 abbrev pub bases_in : List ℕ → ℕ
 bases_in text = if is_header text then 0 else length text
 
--- how many bases of its sequence stand before the end of a line
+-- how many bases of its sequence come before the end of a line
 abbrev pub bases_up_to : SequenceLine → ℕ
 bases_up_to line = line.before + bases_in line.text
 
@@ -66,7 +66,7 @@ header_behind full reached line =
       ending = line.ending;
     }
 
--- whether a text may stand after sequences of these names without being a header:
+-- whether a text may follow sequences of these names without being a header:
 -- after none it is blank
 abbrev pub may_stand : List (List ℕ) → List ℕ → Bool
 may_stand [] [] = true
@@ -80,7 +80,7 @@ line_says full reached line =
     else (if may_stand reached.names line.text then Ok (Some (line_behind reached line))
     else Err TextBeforeHeader)
 
--- every line is a member, as long as text stands in sequences
+-- every line is a member, as long as text comes in sequences
 abbrev pub sequence_format : Bool → Format SequenceLine Reached
 sequence_format full = record {
   begin = record { names = []; bases = 0 };

@@ -6,7 +6,7 @@ use Rattle.bt_seq.specs.declared.extent.Extent.{Extent}
 abbrev pub limit : ℕ
 limit = 1000000000000
 
--- how many bases of the sequence stand before the line and up to its end, as far as they are
+-- how many bases of the sequence come before the line and up to its end, as far as they are
 -- counted, and the extents that are held
 pub record Bounds : Type 0 where
   pub before : ℕ
@@ -17,7 +17,7 @@ pub record Bounds : Type 0 where
 abbrev pub no_bases : Bounds
 no_bases = record { before = 0; bases = 0; held = [] }
 
--- with the next line, which has so many bases
+-- with the next line, which has `count` bases
 abbrev pub gone_on : Bounds → ℕ → Bounds
 gone_on w count = record {
   before = w.bases;

@@ -20,7 +20,7 @@ use std::marker::Model;
 pub struct BamToBed {
     // Whether alignments are cut into blocks.
     split: bool,
-    // Whether the CIGAR is a further column.
+    // Whether the CIGAR is one more column.
     with_cigar: bool,
     // Whether a write has failed; it stays so.
     has_failed: bool,

@@ -9,10 +9,10 @@ ghost use Rattle.bt_seq.specs.Sam.{alignment_lent};
 use crate::sam::SamRef;
 use bt_lines::{COLUMN, Fault, Out, Sink, copy_piece, put_both, put_column, write_column};
 
-// The room for what stands between chromosome and name: two columns and a tab.
+// The room for what comes between chromosome and name: two columns and a tab.
 const BOUNDS_ROOM: usize = 2 * COLUMN + 1;
 
-// The room for what stands behind the name, but for the CIGAR: two marks of two bytes, a number of up to
+// The room for what follows the name, except the CIGAR: two marks of two bytes, a number of up to
 // 20 digits, the strand, two tabs, and what ends it.
 const TAIL_ROOM: usize = 28;
 
@@ -21,11 +21,11 @@ const NAME_ROOM: usize = 64;
 
 const CIGAR_ROOM: usize = 64;
 
-// The room for what stands behind the chromosome of such a line.
+// The room for what follows the chromosome of such a line.
 const LINE_ROOM: usize = BOUNDS_ROOM + NAME_ROOM + TAIL_ROOM + CIGAR_ROOM + 1;
 
 // Puts the line of the block from `start` up to `stop`: the chromosome, the bounds, the name, and what
-// stands after it.
+// follows it.
 pub(crate) fn put_line<K: Sink>(
     sam: &SamRef<'_>,
     start: u64,
@@ -59,8 +59,8 @@ fn put_pieces<K: Sink>(
     put_read(sam, with_cigar, out)
 }
 
-// Puts the line of a block by one test of the room, if name and CIGAR aren't long and there is room for the line,
-// and answers whether it did; else nothing is put. What the text holds means nothing before and after.
+// Puts the line of a block by one test of the room and returns true, if name and CIGAR aren't long and there is room
+// for the line; else nothing is put. What the text holds is unspecified before and after.
 #[inline(always)]
 fn hold_line<K: Sink>(
     sam: &SamRef<'_>,
@@ -90,7 +90,7 @@ fn is_short(sam: &SamRef<'_>, with_cigar: bool) -> bool
     sam.name.len() <= NAME_ROOM && (!with_cigar || sam.cigar.len() <= CIGAR_ROOM)
 }
 
-// Writes what stands behind the chromosome of a line so that it ends where the text does, and gives where it begins.
+// Writes what follows the chromosome of a line so that it ends where the text does, and returns where it begins.
 #[inline(always)]
 fn write_behind(
     sam: &SamRef<'_>,
@@ -177,7 +177,7 @@ fn write_bounds(start: u64, stop: u64, text: &mut [u8], end: usize) -> usize
     write_column(start, text, before_stop)
 }
 
-// Writes what stands behind the marks up to an index, but for the CIGAR, and gives where it begins.
+// Writes what follows the marks up to an index, except the CIGAR, and returns where it begins.
 #[inline(always)]
 fn write_quality(sam: &SamRef<'_>, with_cigar: bool, text: &mut [u8], end: usize) -> usize
     requires room { TAIL_ROOM ≤ end }

@@ -11,7 +11,7 @@ use bt_lines::MAX_NUMBER;
 /// A reference length is exact up to here.
 const SPAN_LIMIT: u64 = 1_000_000_000_000;
 
-// A single operation of three digits has so many bytes.
+// How many bytes a single operation of three digits has.
 const SHORT: usize = 4;
 
 /// How many reference bases a CIGAR covers: the sum of the numbers of its M, D, N, `=` and X operations
@@ -72,8 +72,8 @@ fn operations_span(text: &[u8]) -> Option<u64>
     Some(total)
 }
 
-// The first operation of a text, and what stands behind it. There is none where the text is empty, and
-// where it doesn't begin with an operation.
+// The first operation of a text, and what follows it. There is none if the text is empty or
+// doesn't begin with an operation.
 pub(crate) fn first_operation(text: &[u8]) -> Option<(Operation, &[u8])>
     ensures first { IsFirst text.now result }
     ensures within { IsWithin text.now result }

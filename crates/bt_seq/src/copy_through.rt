@@ -1,4 +1,4 @@
-//! Lines of bases that are copied through, as they stand.
+//! Lines of bases that are copied through unchanged.
 
 ghost use Rattle.std.specs.Prelude.{◌≤◌};
 ghost use Rattle.bt_seq.specs.Window.{limit};
@@ -12,9 +12,9 @@ use bt_lines::{BufferedLines, LineText};
 pub(crate) struct CopyThrough<'a> {
     // The lines that come.
     pub(crate) lines: BufferedLines<'a>,
-    // How many bases of the sequence stand before the line that was consumed last.
+    // How many bases of the sequence come before the line that was consumed last.
     pub(crate) before: u64,
-    // How many stand up to its end, at most the limit.
+    // How many come up to its end, at most the limit.
     pub(crate) bases: u64,
     ghost counted: { bases ≤ limit },
 }
@@ -36,7 +36,7 @@ impl<'a> CopyThrough<'a> {
         through
     }
 
-    // Consumes the next line if it is such a line, and returns true if it did.
+    // Consumes the next line and returns true, if it is such a line.
     #[inline(always)]
     fn consume_next(&mut self, to: u64) -> bool
         requires { self.old.lines.is_open ≡ false }

@@ -32,7 +32,7 @@ fn mask_extent(bases: &mut [u8], position: u64, extent: Extent, how: MaskHow)
     }
 }
 
-// How many of so many bases lie before a place.
+// How many of `len` bases, the first of them at `position`, lie before a place.
 fn index_of(place: u64, position: u64, len: usize) -> usize
     ensures { result ≡ min (place - position) len }
 {

@@ -8,7 +8,7 @@ ghost use Rattle.bt_seq.specs.Sam.{IsCut, fields_lent};
 use bstr::ByteSlice;
 use bt_lines::length_before;
 
-// QNAME, FLAG, RNAME, POS, MAPQ and CIGAR as they stand (SAM specification, section 1.4).
+// QNAME, FLAG, RNAME, POS, MAPQ and CIGAR as they are (SAM specification, section 1.4).
 #[derive(Clone, Copy, Debug)]
 pub(crate) struct Fields<'a> {
     pub(crate) name: &'a [u8],
@@ -74,7 +74,7 @@ fn has_tab(text: &[u8]) -> bool
     text.rfind_byte(b'\t').is_some()
 }
 
-// The first column of a text, and what stands after its tab, if it has one.
+// The first column of a text, and what follows its tab, if it has one.
 #[inline(always)]
 fn cut_column(text: &[u8]) -> Option<(&[u8], &[u8])>
     ensures { IsCut text.now result }

@@ -10,7 +10,7 @@ use crate::cigar::{covered_by, first_operation};
 // The letter of a region of the reference that the read skips.
 const SKIP: u8 = b'N';
 
-// Where the operations before the first N end on the reference, what stands behind the N, and from where
+// Where the operations before the first N end on the reference, what follows the N, and from where
 // on that lies.
 #[derive(Clone, Copy, Debug)]
 pub(crate) struct FirstBlock<'a> {

@@ -75,7 +75,7 @@ pub fn operations_without_skips_are_one_block()
     ensures { unskipped_are_one_block }
 {}
 
-/// The blocks of an alignment lie one behind another, from its start to its end, and each has a base.
+/// The blocks of an alignment are disjoint and in order, from its start to its end, and each has a base.
 #[tactic(auto, using(crate::proofs::BetweenLemmas::within))]
 pub fn blocks_lie_within_their_alignment()
     ensures { blocks_are_within }
@@ -92,7 +92,7 @@ pub fn blocks_are_runs()
     ensures { blocks_are_maximal_runs }
 {}
 
-/// A further record goes on with the last block, or begins one after it.
+/// One more record goes on with the last block, or begins one after it.
 pub fn blocks_follow_one_another()
     ensures { next_goes_on_or_begins }
 {}
@@ -108,7 +108,7 @@ pub fn owners_agree_among_more_names()
     ensures were { owners_were }
 {}
 
-/// A block belongs to the first sequence of its name behind that of the block before it, and to none where
+/// A block belongs to the first sequence of its name after that of the block before it, and to none if
 /// none after that one has its name.
 pub fn owners_are_the_first_of_their_name()
     ensures first { owners_are_first }
@@ -128,7 +128,7 @@ pub fn decided_lines_stay()
     ensures before { masked_lines_are_before }
 {}
 
-/// What is written for a front of both inputs begins what is written for the whole of them. Where the
+/// What is written for a prefix of both inputs begins what is written for the whole of them. If the
 /// second input has no fault, all lines are written, masked.
 pub fn masked_fronts_begin()
     ensures front { masked_are_a_front }
@@ -141,7 +141,7 @@ pub fn first_unowned_is_told()
     ensures first { first_unowned_is_told }
 {}
 
-/// Of the records that were taken, no front decides all lines given.
+/// Of the records that were taken, no prefix decides all lines given.
 pub fn taken_records_come_first()
     ensures { taken_are_first }
 {}

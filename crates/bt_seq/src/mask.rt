@@ -18,15 +18,15 @@ use bt_lines::{BufferedLines, Fault, Line, Out, Sink};
 use std::alloc::Global;
 use std::marker::Model;
 
-/// Masks the bases of a FASTA input that records of a BED input cover. It is given what it asks for
+/// Masks the bases of a FASTA input that records of a BED input cover. It is given what it wants
 /// ([`Mask::want`]): the lines of the FASTA input and the records of the BED input, each one after
-/// another, and at last the end of each. A line is written as soon as no later record can change it.
-/// The records of one chromosome that stand together are a block; a block masks the first sequence of
+/// another, and finally the end of each. A line is written as soon as no later record can change it.
+/// Contiguous records of one chromosome are a block; a block masks the first sequence of
 /// its name after that of the block before it. Only one line is kept, and of the records of its
-/// sequence's block those that reach into it. A first fault ends it: then it asks for nothing.
+/// sequence's block those that reach into it. A first fault ends it: then it wants nothing.
 #[derive(Drop)]
 pub struct Mask {
-    // After a fault it asks for nothing.
+    // After a fault it wants nothing.
     state: MaskState,
 }
 
@@ -40,7 +40,7 @@ impl Model for Mask {
 
 impl Mask {
     /// An engine that was given nothing. With `full` a sequence's name is its whole header, and else
-    /// what stands before the first space or tab. It takes no memory.
+    /// what comes before the first space or tab. It doesn't allocate.
     pub fn new(alloc: Global, how: MaskHow, full: bool) -> Mask
         ensures stands { MaskStandsAt how full first_stage result }
     {
@@ -49,7 +49,7 @@ impl Mask {
         }
     }
 
-    /// What it asks for next.
+    /// What it wants next.
     pub fn want(&self) -> MaskWant
         ensures is { result ≡ self.now.want }
         ensures stage { (how : MaskHow) (full : Bool) (stage : MaskStage)
@@ -84,7 +84,7 @@ impl Mask {
         self.state.take_line(line, out)
     }
 
-    /// Takes lines and records, one after another, as long as the next one that it asks for is there. It fails as
+    /// Takes lines and records, one after another, as long as the next one that it wants is available. It fails as
     /// [`Mask::give_line`] and [`Mask::give_bed`] do. Lines that nothing masks are written together.
     pub fn advance<C: Cursor, K: Sink>(
         &mut self,
@@ -100,7 +100,7 @@ impl Mask {
         Ok(())
     }
 
-    // Takes what it asks for next, and returns true if that is there.
+    // Takes what it wants next, and returns true if that is available.
     #[inline(always)]
     fn gives_next<C: Cursor, K: Sink>(
         &mut self,
@@ -157,11 +157,11 @@ impl Mask {
         self.state.end_lines();
     }
 
-    /// Takes the next record, which stands on this line, unless it decides the line that waits: then
-    /// that is written, and the record is to be given again. It fails with `WriteFailed` where the line
-    /// can't be written, with `NoMemory` where the record has to be held and can't be, and behind the
-    /// last line with `NoSequence` where its block belongs to no sequence. A record that neither
-    /// decides nor has to be held takes no memory.
+    /// Takes the next record, which is on this line, unless it decides the line that waits: then
+    /// that is written, and the record is to be given again. It fails with `WriteFailed` if the line
+    /// can't be written, with `NoMemory` if the record has to be held and can't be, and after the
+    /// last line with `NoSequence` if its block belongs to no sequence. For a record that neither
+    /// decides nor has to be held it doesn't allocate.
     pub fn give_bed<K: Sink>(
         &mut self,
         bed: &BedRef<'_>,

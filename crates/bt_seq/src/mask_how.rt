@@ -18,7 +18,7 @@ pub enum MaskHow {
     Hard(u8),
 }
 
-/// Masks bases in place, each byte by itself. It takes no memory.
+/// Masks bases in place, each byte independently. It doesn't allocate.
 pub fn mask_slice(bases: &mut [u8], how: MaskHow)
     ensures { bases.new ≡ map (masked_byte how) bases.old }
 {
@@ -41,7 +41,7 @@ fn mask_by_lanes(bases: &mut [u8], how: MaskHow) -> usize
     at
 }
 
-// Masks the lanes of a vector, each by itself.
+// Masks the lanes of a vector, each independently.
 fn mask_lanes(lanes: u8x32, how: MaskHow) -> u8x32
     ensures { result ≡ map (masked_byte how) lanes }
 {
@@ -111,7 +111,7 @@ mod tests {
         bytes
     }
 
-    // Whether a slice is masked as each of its bytes is by itself, in lower case and by an `x`.
+    // Whether a slice is masked as each of its bytes is alone, in lower case and by an `x`.
     fn masks_each_byte(slice: &[u8]) -> bool {
         let mut soft = [0; 512];
         let mut hard = [0; 512];

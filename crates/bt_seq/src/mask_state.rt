@@ -27,7 +27,7 @@ use bt_lines::{
 use std::alloc::Global;
 use std::marker::Model;
 
-// The line that waits stands in a buffer, which is used again.
+// The line that waits is in a buffer, which is used again.
 #[derive(Drop)]
 pub(crate) struct MaskState {
     // What stands for a masked base.
@@ -221,7 +221,7 @@ impl MaskState {
         Ok(())
     }
 
-    // Copies those of the next lines through that are known beforehand to be written as they stand.
+    // Copies those of the next lines through that are known beforehand to be written unchanged.
     #[inline(always)]
     pub(crate) fn copy_through<K: Sink>(
         &mut self,
@@ -249,7 +249,7 @@ impl MaskState {
         self.has_written(put)
     }
 
-    // Whether a sequence has begun, nothing is held, and bases behind the last line are known to be decided.
+    // Whether a sequence has begun, nothing is held, and bases after the last line are known to be decided.
     fn may_copy(&self) -> bool
         ensures named { result ≡ true → is_some self.now.matched.name ≡ true }
         ensures held { result ≡ true → nat_eq (length self.now.window.held) 0 ≡ true }
@@ -257,7 +257,7 @@ impl MaskState {
         self.window.bases() < self.known_to() && self.matching.is_named() && self.window.is_empty()
     }
 
-    // Up to which base of the sequence lines are known to be decided, where they stand behind a header.
+    // Up to which base of the sequence lines are known to be decided, if they come after a header.
     fn known_to(&self) -> u64
         ensures { result ≡ (if self.now.bed_ended then limit else self.now.decided_to) }
     {

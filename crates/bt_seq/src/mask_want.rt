@@ -1,6 +1,6 @@
-//! What a masking engine asks for, and what it answers to a record.
+//! What a masking engine wants, and what it returns for a record.
 
-/// What a [`crate::Mask`] asks for next.
+/// What a [`crate::Mask`] wants next.
 #[derive(Clone, Copy, Debug, PartialEq, Eq)]
 pub enum MaskWant {
     /// A line of the FASTA input, or its end.

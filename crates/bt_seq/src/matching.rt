@@ -17,7 +17,7 @@ pub(crate) enum Owner {
     Nobody,
 }
 
-// The names stand in two buffers, which are used again. While a block belongs to the sequence given
+// The names are in two buffers, which are used again. While a block belongs to the sequence given
 // last, that one's name is its chromosome; before, `block` is the chromosome of the last block that
 // belongs to a sequence.
 #[derive(Drop)]

@@ -2,14 +2,14 @@
 
 use crate::mask_want::MaskWant;
 
-// What a masking engine asks for, and what for.
+// What a masking engine wants, and what for.
 #[derive(Clone, Copy, Debug)]
 pub(crate) enum Phase {
     // The next line.
     Lines,
     // The record that decides the line that waits.
     Waits,
-    // The records that are left behind the last line.
+    // The records that are left after the last line.
     Checks,
     // Nothing: both inputs have ended, or there was a fault.
     Ended,

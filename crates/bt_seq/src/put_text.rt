@@ -1,4 +1,4 @@
-//! Lines put as they stood.
+//! Lines put unchanged.
 
 ghost use Rattle.std.specs.Prelude.{◌≡◌, ◌++◌};
 ghost use Rattle.bt_lines.specs.Lines.{end_bytes};

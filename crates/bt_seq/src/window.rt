@@ -9,10 +9,10 @@ use crate::mask_how::MaskHow;
 use std::alloc::{AllocError, Global};
 use std::marker::Model;
 
-// How far the bases of a sequence are counted. No record reaches further.
+// How far the bases of a sequence are counted. No record reaches beyond it.
 pub(crate) const LIMIT: u64 = 1_000_000_000_000;
 
-// How many bases of its sequence stand before the line, and up to its end, and the extents of the
+// How many bases of its sequence come before the line, and up to its end, and the extents of the
 // records that start before its end and reach past its start, in file order.
 #[derive(Drop)]
 pub(crate) struct Window {
@@ -56,7 +56,7 @@ impl Window {
         self.held.clear();
     }
 
-    // Goes on to the next line of the sequence, which has so many bases. It takes no memory.
+    // Goes on to the next line of the sequence, which has `count` bases. It doesn't allocate.
     pub(crate) fn go_on(&mut self, count: usize)
         ensures { self.new ≡ gone_on self.old count }
     {
@@ -67,14 +67,14 @@ impl Window {
         }
     }
 
-    // How many bases stand before the line.
+    // How many bases come before the line.
     pub(crate) fn before(&self) -> u64
         ensures { result ≡ self.now.before }
     {
         self.before
     }
 
-    // How many stand up to its end.
+    // How many come up to its end.
     pub(crate) fn bases(&self) -> u64
         ensures bases { result ≡ self.now.bases }
         ensures counted { result ≤ limit }
@@ -82,7 +82,7 @@ impl Window {
         self.bases
     }
 
-    // Stands at a line before which so many bases stand, and up to whose end so many, where nothing is held.
+    // Goes to a line with `before` bases of the sequence before it and `bases` up to its end, if nothing is held.
     pub(crate) fn stand_at(&mut self, before: u64, bases: u64)
         requires held { self.old.held ≡ [] }
         requires within { bases ≤ limit }

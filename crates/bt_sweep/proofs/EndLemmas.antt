@@ -42,7 +42,7 @@ module _ (place : ℕ) where
       ap (λ l. x ∷ l) (stay_rec xs (λ stop some. h stop (one_more x (filter (ends_at stop) xs) (ends_at stop x) some)))
       ∙ sym (ap (λ b. cond b (x ∷ filter stays xs) (filter stays xs)) (lt-ltb place x.stop (h x.stop it)))
 
-  -- where each end that is counted lies behind the place, no record has ended there
+  -- if each end that is counted lies after the place, no record has ended there
   pub none_ended : (ends : BTreeMap ℕ ℕ) (xs : List Feature) → CountsEnds ends xs → ((stop : ℕ) → IsSome (get nat_cmp ends stop) → place < stop) → xs ≡ filter stays xs
   none_ended ends xs counts behind =
       stay_rec xs (λ stop some. behind stop (subst IsSome (sym (counts stop)) (some_of (ending_at stop xs) (omega (arith, some, as_length stop xs)))))
@@ -61,6 +61,6 @@ module _ (place : ℕ) where
         ap if_some (as_length stop (filter stays xs)
         ∙ ap length (filter-both (λ r. false) stays (ends_at stop) (λ x. never_both (stays x) (ends_at stop x) (stop_goes h x)) xs ∙ none_pass xs))
 
-    -- of the records that haven't ended at the place as many end anywhere behind it, and none elsewhere
+    -- of the records that haven't ended at the place as many end anywhere after it, and none elsewhere
     pub kept_ends : if_some (ending_at stop (filter stays xs)) ≡ cond (nat_lt place stop) (if_some (ending_at stop xs)) None
     kept_ends = kept_by (nat_lt place stop) refl

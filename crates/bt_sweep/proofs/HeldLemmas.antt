@@ -29,7 +29,7 @@ module _ {X : Type 0} where
   take_whole (x ∷ xs) zero h = absurd (omega arith)
   take_whole (x ∷ xs) (suc i) h = ap (λ l. x ∷ l) (take_whole xs i (omega arith))
 
-  -- those taken from the front are where they were
+  -- the first n stay where they were
   pub get_took : (xs : List X) (n i : ℕ) → i < n → slice_get (take n xs) i ≡ slice_get xs i
   get_took xs zero i h = absurd (omega arith)
   get_took [] (suc n) i h = refl

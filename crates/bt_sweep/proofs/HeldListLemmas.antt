@@ -15,7 +15,7 @@ use Rattle.bt_sweep.specs.Held.{HaveBases}
 abbrev start_of : Feature → ℕ
 start_of r = r.start
 
--- with one more that starts where the last does or behind it
+-- with one more that starts where the last does or after it
 pub rises_push : (xs : List Feature) (last y : Feature) (n : ℕ) → n ≡ length xs → last ≡ slice_index_or xs (n - 1) last → last.start ≤ y.start
     → IsNonDecreasingBy (λ r. r.start) xs → IsNonDecreasingBy (λ r. r.start) (xs ++ y ∷ [])
 rises_push xs last y n is at h rises =
@@ -24,13 +24,13 @@ rises_push xs last y n is at h rises =
     let same = ap start_of (get_or_default xs (length xs - 1) d last within ∙ ap (λ k. slice_index_or xs (k - 1) last) (sym is) ∙ sym at) in
     omega (arith, same, h))
 
--- whether one passes a test that stands at an index
+-- whether the one at an index passes a test
 passes_at : {X : Type 0} (p : X → Bool) (xs : List X) (i : ℕ) (d : X) → i < length xs → list_any p (option_to_list (slice_get xs i)) ≡ p (slice_index_or xs i d)
 passes_at p [] i d h = absurd (omega (arith, h))
 passes_at p (x ∷ xs) zero d h = or-false (p x)
 passes_at p (x ∷ xs) (suc i) d h = passes_at p xs i d (omega (arith, h))
 
--- so many from the first start before a place, or those from one on there or behind it
+-- the first `n` start before a place, or those from `n` on start there or after it
 abbrev pub ComeBefore : ℕ → List Feature → ℕ → Type 0
 ComeBefore place xs n = (i : ℕ) (d : Feature) → i < n → nat_lt (slice_index_or xs i d).start place ≡ true
 
@@ -44,7 +44,7 @@ module _ (place : ℕ) (xs : List Feature) (rises : IsNonDecreasingBy (λ r. r.s
       let here = sym (passes_at (λ r. nat_lt r.start place) xs middle d h) ∙ e in
       lt-ltb _ place (omega (arith, rises i middle d (omega (arith, low)) h, ltb-true _ place here))
 
-  -- where one starts there or behind it, so do those behind it
+  -- if one starts there or after it, so do those after it in the list
   pub come_from : list_any (λ r. nat_lt r.start place) (option_to_list (slice_get xs middle)) ≡ false → ComeFrom place xs middle
   come_from e = λ i d low high.
       let here = sym (passes_at (λ r. nat_lt r.start place) xs middle d h) ∙ e in

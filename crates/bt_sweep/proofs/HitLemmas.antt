@@ -35,7 +35,7 @@ past_misses order rule a b total kb past =
       | inr here ↦ omega (arith, here.1)
     ]))
 
--- what starts at its end or behind it doesn't either
+-- what starts at its end or after it doesn't either
 behind_misses : (rule : HitRule) (a b : Feature) → a.stop ≤ b.start → hits rule a b ≡ false
 behind_misses rule a b h =
     apart_misses rule a b (nothing_shared (bytes_eq a.chrom b.chrom) (min a.stop b.stop - max a.start b.start) (λ same. omega (arith, h)))
@@ -83,7 +83,7 @@ module _ (rule : HitRule) (a : Feature) where
       ∙ list_any-append (hits rule a) (take n bs) (drop n bs)
       ∙ or_from (list_any (hits rule a) (take n bs)) (list_any (hits rule a) (drop n bs)) none rest
 
-  -- so the lines are those against what stands before that
+  -- so the lines are those against what comes before that
   pub took_lines : (shape : Shape) (bs : List Feature) (n : ℕ) → StartFrom a.stop (drop n bs) → lines_for shape rule a (take n bs) ≡ lines_for shape rule a bs
   unfolding lines_for
   took_lines shape bs n behind =

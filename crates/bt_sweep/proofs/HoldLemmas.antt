@@ -143,7 +143,7 @@ holds_b order gs taken held a b holds e = record {
       (list_any-append (λ a. not (decides order a b)) gs (a ∷ []) ∙ or_right (leaves_some order gs b) (not (decides order a b) || false) (or_left (not (decides order a b)) false (ap not e))) refl);
 }
 
--- ---- which of them lie on a chromosome is told by the first
+-- ---- the first shows which of them lie on a chromosome
 
 first_at : (l x b : Feature) (xs more : List Feature) (c : Bool) → is_held l x ≡ c → (filter (is_held l) xs ≡ b ∷ more → b.chrom ≡ l.chrom)
     → cond c (x ∷ filter (is_held l) xs) (filter (is_held l) xs) ≡ b ∷ more → b.chrom ≡ l.chrom

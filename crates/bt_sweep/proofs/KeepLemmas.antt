@@ -119,7 +119,7 @@ module _ (order : Order) (total : IsTotal order) (shape : Shape) (rule : HitRule
       ap (λ (l : List ℕ). l ++ intersect shape rule newly (taken ++ b ∷ more)) (line_stays a known.0 parts.0)
       ∙ ap (λ (l : List ℕ). lines_for shape rule a taken ++ l) (lines_stay_so newly known.2 parts.1)
 
--- decided by these, behind others too
+-- decided by these, after others too
 pub decided_behind : (order : Order) (newly taken bs : List Feature) → AreDecided order newly bs → AreDecided order newly (taken ++ bs)
 decided_behind order [] taken bs all = refl
 decided_behind order (a ∷ newly) taken bs all =

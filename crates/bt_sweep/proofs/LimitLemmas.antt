@@ -53,7 +53,7 @@ pub within_more : (limit : Option ℕ) (a b : Feature) (held : List Feature) →
     → IfSome limit (λ most. length (held ++ filter (is_held a) (b ∷ [])) ≤ most)
 within_more limit a b held room within = within_at limit b held (is_held a b) room within
 
--- behind fronts that aren't too many
+-- after prefixes that aren't too many
 pub cut_past : (too_many : List Feature → Bool) (before past more : List (Member Feature)) (fault : Option Told)
     → ((front : List (Member Feature)) (m : Member Feature) (rest : List (Member Feature)) → past ≡ front ++ m ∷ rest → too_many (map (λ m. m.item) (before ++ (front ++ m ∷ []))) ≡ false)
     → cut_behind too_many before (past ++ more) fault ≡ cut_behind too_many (before ++ past) more fault
@@ -94,7 +94,7 @@ cut_front too_many past (m ∷ more) fault =
     front_by (too_many (map (λ m. m.item) (past ++ m ∷ []))) (record { members = past ++ m ∷ []; fault = Some (fault_at_line Second m.line TooManyHeld) }) (cut_behind too_many (past ++ m ∷ []) more fault) past more m refl
     (cut_front too_many (past ++ m ∷ []) more fault)
 
--- whatever comes behind them, members stay
+-- whatever comes after them, members stay
 pub cut_keeps : (too_many : List Feature → Bool) (past more : List (Member Feature)) (fault : Option Told) → (rest : List (Member Feature)) × ((cut_behind too_many past more fault).members ≡ past ++ rest)
 cut_keeps too_many past [] fault = ([], sym (append-nil past))
 cut_keeps too_many past (m ∷ more) fault =

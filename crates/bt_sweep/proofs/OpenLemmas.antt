@@ -34,7 +34,7 @@ module _ (last a : Feature) (same : last.chrom ≡ a.chrom) where
   kept_rec [] all = tt
   kept_rec (b ∷ bs) all = kept_at b bs (stays b) refl all.0 (kept_rec bs all.1)
 
--- those that end behind the start of the next record can hit it
+-- those that end after the start of the next record can hit it
 pub open_kept : (last a : Feature) (bs : List Feature) → last.chrom ≡ a.chrom → All (CanHit last) bs → All (CanHit a) (filter (λ b. ltb a.start b.stop) bs)
 open_kept last a bs same all = All-from_recursion (CanHit a) (filter (λ b. ltb a.start b.stop) bs) (kept_rec last a same bs (recursion_from_All (CanHit last) bs all))
 

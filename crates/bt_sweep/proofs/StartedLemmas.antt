@@ -1,4 +1,4 @@
--- Lemmas on records that come by their starts, and where those begin that start at a place or behind it.
+-- Lemmas on records that come by their starts, and where those begin that start at a place or after it.
 use Rattle.std.proofs.Common.{◌≡◌, ℕ, ◌+◌, ◌<◌, ◌≤◌, Bool, true, false, ◌||◌, List, [], ◌∷◌, zero, suc, refl, add-one, arith, drop, length, nat_le, leb-true, option_to_list, take}
 use Rattle.std.specs.List.{AllByRecursion, list_any, slice_get}
 use Rattle.std.proofs.lemmas.Bool.{false≢true, leb-false, or_parts}
@@ -23,7 +23,7 @@ module _ (place : ℕ) where
   abbrev Starts : Feature → Type 0
   Starts b = place ≤ b.start
 
-  -- they all start where the first does or behind that
+  -- they all start where the first does or after that
   all_start : (low : ℕ) (bs : List Feature) → place ≤ low → AreRisingFrom low bs → AllByRecursion Starts bs
   all_start low [] h rises = tt
   all_start low (b ∷ bs) h rises = (omega (arith, rises.0), all_start b.start bs (omega (arith, rises.0)) rises.1)
@@ -37,7 +37,7 @@ module _ (place : ℕ) where
   start_rec low (b ∷ bs) zero e rises = (only b.start e, all_start b.start bs (only b.start e) rises.1)
   start_rec low (b ∷ bs) (suc i) e rises = start_rec b.start bs i e rises.1
 
-  -- those from this one on start there or behind it
+  -- those from this one on start there or after it
   pub start_behind : (bs : List Feature) (i : ℕ) → list_any (λ r. nat_le place r.start) (option_to_list (slice_get bs i)) ≡ true → AreRising bs → StartFrom place (drop i bs)
   start_behind bs i e rises = All-from_recursion Starts (drop i bs) (start_rec 0 bs i e rises)
 

@@ -47,7 +47,7 @@ module _ (name : List ℕ) (start : ℕ) where
   kept_rec [] all = tt
   kept_rec (b ∷ bs) all = kept_at b bs (ltb start b.stop) refl all.0 (kept_rec bs all.1)
 
-  -- those that end behind the start, where the first lies on the chromosome
+  -- those that end after the start, if the first lies on the chromosome
   pub hits_kept : (held : List Feature) → AreTogether held → are_on held name ≡ true → All (CanHitAt name start) (filter (λ b. ltb start b.stop) held)
   hits_kept [] on e = absurd (false≢true e)
   hits_kept (b ∷ more) on e =

@@ -7,7 +7,7 @@ use Rattle.bt_bed.specs.Feature.{Feature}
 abbrev pub AreOn : List ℕ → List Feature → Type 0
 AreOn name held = All (λ b. b.chrom ≡ name) held
 
--- the record b lies on the chromosome, ends behind this start and has a base
+-- the record b lies on the chromosome, ends after this start and has a base
 abbrev pub CanHitAt : List ℕ → ℕ → Feature → Type 0
 CanHitAt name start b = (b.chrom ≡ name) × (start < b.stop) × (b.start < b.stop)
 

@@ -11,21 +11,21 @@ use Rattle.bt_sweep.specs.declared.hit_rule.HitRule.{HitRule}
 abbrev pub shared_bases : Feature → Feature → ℕ
 shared_bases a b = shared (interval_of a) (interval_of b)
 
--- whether so many bases are at least so many billionths of a record's
+-- whether this many bases are at least this many billionths of a record's
 unfoldable pub has_fraction : ℕ → ℕ → Feature → Bool
 has_fraction billionths bases r =
     nat_le (billionths * length_of (interval_of r)) (bases * 1000000000)
 
--- whether so many bases are as much of a as the rule asks for, and of b where it asks for both
+-- whether this many bases are as much of a as the rule requires, and of b if it requires both
 unfoldable pub is_enough : HitRule → ℕ → Feature → Feature → Bool
 is_enough rule bases a b =
     has_fraction rule.billionths bases a && (not rule.both || has_fraction rule.billionths bases b)
 
--- whether the strands of a and b are one, where the rule asks for that
+-- whether the strands of a and b are the same, if the rule requires that
 unfoldable pub strands_agree : HitRule → Feature → Feature → Bool
 strands_agree rule a b = not rule.same_strand || is_strand a.strand b.strand
 
--- whether b hits a: they have a base in common, and what the rule asks for
+-- whether b hits a: they have a base in common, and what the rule requires
 unfoldable pub hits : HitRule → Feature → Feature → Bool
 hits rule a b =
     nat_lt 0 (shared_bases a b) && (strands_agree rule a b && is_enough rule (shared_bases a b) a b)

@@ -32,7 +32,7 @@ held_for (Some a) taken = filter (is_held a) taken
 abbrev pub first_open : Order → List Feature → List Feature → Option Feature
 first_open order first second = find (λ a. not (decided order a second)) first
 
--- whether these records of the second input are too many: of them more than so many are held for
+-- whether these records of the second input are too many: more than `most` of them are held for
 -- the first record that they leave undecided
 abbrev pub are_too_many : Order → ℕ → List Feature → List Feature → Bool
 are_too_many order most first second =
@@ -51,7 +51,7 @@ cut_behind too_many past (m ∷ more) fault =
     }
     else cut_behind too_many (past ++ m ∷ []) more fault
 
--- The second input as the records of the first meet it, where no more than so many are held: up to
+-- The second input as the records of the first meet it, if at most `most` are held: up to
 -- the first record with which they would be too many. Without a limit it is whole.
 abbrev pub limited : Order → Option ℕ → List Feature → Good Feature → Good Feature
 limited order None first second = second
@@ -59,7 +59,7 @@ limited order (Some most) first second =
     cut_behind (are_too_many order most first) [] second.members second.fault
 
 -- a is the first record of the first input that these of the second leave undecided, and more of
--- them than so many are held for it
+-- them than `most` are held for it
 pub record HoldsTooMany (order : Order) (most : ℕ) (before : List Feature) (a : Feature)
     (second : List Feature) : Type 0 where
   pub decided_before : list_all (λ x. decided order x second) before ≡ true
@@ -72,9 +72,9 @@ HoldsEnough order most first second =
     (before after : List Feature) (a : Feature) → first ≡ before ++ a ∷ after
     → HoldsTooMany order most before a second → ⊥
 
--- Where the records up to a line of the second input are too many, and those up to no line before
--- it, the lines of the records before the undecided one are written, and the limit's fault is told
--- at that line.
+-- If the records up to a line of the second input are too many, and those up to no line before
+-- it, the lines of the records before the undecided one are written, and the limit's fault is
+-- reported at that line.
 abbrev pub limit_stops : Type 0
 limit_stops =
     (order : Order) (shape : Shape) (rule : HitRule) (most : ℕ) (first second : Good Feature)

@@ -24,7 +24,7 @@ module _ {B : Type 0} (gives : B → List Feature → B → Type 0) (has_ended :
     pub known : order.knows name ≡ true
     pub compared : order.compare name chrom ≡ is
 
-  -- the next one lies on a chromosome behind
+  -- the next one lies on a later chromosome
   pub record LiesAfter : Type 0 where
     pub b : Feature
     pub after : B

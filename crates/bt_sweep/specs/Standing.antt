@@ -1,4 +1,4 @@
--- Where a sweep stands: after which records of both inputs.
+-- After which records of both inputs a sweep is.
 use Rattle.std.specs.Prelude.{◌≡◌, ℕ, ◌≤◌, Bool, true, false, not, IfSome, IsTrue, cond, List, []}
 use Rattle.std.specs.Prelude.{◌∷◌, ◌++◌, length, Option, Some, None, is_some, option_to_list}
 use Rattle.std.specs.List.{list_any, list_all, take_while}
@@ -66,7 +66,7 @@ phase_of true b_ended = Over
 phase_of false true = First
 phase_of false false = Both
 
--- the sweep stands there
+-- the sweep is after these
 pub record StandsAt (order : Order) (shape : Shape) (rule : HitRule) (limit : Option ℕ)
     (stage : Stage) (sweep : Sweeping) : Type 0 where
   pub shape_is : sweep.shape ≡ shape

@@ -32,7 +32,7 @@ NeedsHit shape = (a : Feature) → lines_of shape a [] ≡ []
 abbrev pub holding : Sweeping → Feature → Feature → Sweeping
 holding old a b = record old { held = old.held ++ filter (is_held a) (b ∷ []) }
 
--- the sweep behind a fault
+-- the sweep after a fault
 abbrev pub stopped : Sweeping → Sweeping
 stopped old = record old { phase = Over }
 

@@ -22,8 +22,8 @@ use Rattle.bt_bed.specs.declared.taken.Taken.{Taken}
 use Rattle.bt_bed.specs.declared.taken.Taken.TheVariants.{Yes, No}
 use Rattle.bt_sweep.specs.declared.want.Want.TheVariants.{Nothing}
 
--- why a call didn't put its lines: they couldn't be written, only where the sink failed, and a
--- front of them was; or memory ran out before any of them was put
+-- why a call didn't put its lines: they couldn't be written, only if the sink failed, and a
+-- prefix of them was; or memory ran out before any of them was put
 abbrev pub Fails : Output → List ℕ → Told → Output → Type 0
 Fails out lines fault grown =
     FailsToAdd out lines fault grown ⊎ ((fault ≡ no_memory) × (grown ≡ out))
@@ -51,7 +51,7 @@ EndsB order shape rule limit stage a out (Ok done) new grown =
 EndsB order shape rule limit stage a out (Err fault) new grown =
     (want_in new ≡ Nothing) × FailsToAdd out (lines_for shape rule a stage.taken) (told fault) grown
 
--- whether one more record may be held beside so many
+-- whether one more record may be held beside `count`
 abbrev pub has_room : Option ℕ → ℕ → Bool
 has_room None count = true
 has_room (Some most) count = nat_lt count most

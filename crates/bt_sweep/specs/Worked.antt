@@ -18,7 +18,7 @@ use Rattle.bt_sweep.specs.declared.hit_rule.HitRule.{HitRule}
 use Rattle.bt_sweep.specs.declared.shape.Shape.{Shape}
 use Rattle.bt_sweep.specs.declared.shape.Shape.TheVariants.{Cut, Pieces}
 
--- a record of chr1, without further columns
+-- a record of chr1, without other columns
 abbrev pub at : ℕ → ℕ → Feature
 at start stop = record { chrom = codes "chr1"; start = start; stop = stop; strand = Dot; rest = [] }
 
@@ -36,14 +36,14 @@ abbrev pub only_chr1 : Order
 only_chr1 = rank_order (codes "chr1" ∷ [])
 
 -- The second input has a fault after 2 to 4 and 50 to 60: of 0 to 10 and 100 to 110 it decides the
--- first, whose lines are written, and then its fault is told.
+-- first, whose lines are written, and then its fault is reported.
 abbrev pub fault_behind_undecided : Type 0
 fault_behind_undecided = (fault : Told)
     → intersect_met only_chr1 Cut any_overlap (two (at 0 10) (at 100 110) None)
     (two (at 2 4) (at 50 60) (Some fault))
     ≡ record { lines = codes "chr1\t2\t4\n"; fault = Some fault }
 
--- where both have one and all records of the first are decided, that of the first is told
+-- if both have one and all records of the first are decided, that of the first is reported
 abbrev pub fault_of_first : Type 0
 fault_of_first = (fault other : Told)
     → intersect_met only_chr1 Cut any_overlap (one (at 0 10) (Some fault))
@@ -78,7 +78,7 @@ three first next last fault = record {
   fault = fault;
 }
 
--- the meeting of two inputs on chr1, where no more records of the second are held than so many
+-- the meeting of two inputs on chr1, if at most `most` records of the second are held
 abbrev pub met_holding : Shape → ℕ → Good Feature → Good Feature → Met ℕ Told
 met_holding shape most first second =
     intersect_met only_chr1 shape any_overlap first

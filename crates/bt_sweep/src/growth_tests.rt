@@ -1,5 +1,5 @@
 //! Growths that are refused, by `rt try --test --fail-alloc N -- refused_growth` for each N from 1. Each
-//! test checks what is left where its call was refused, and then ends with want of memory.
+//! test checks what is left when its call was refused, and then ends with out of memory.
 
 use crate::held::Held;
 use crate::held_index::HeldIndex;
@@ -44,7 +44,7 @@ fn push_or_check<H: Held>(
     Err(Fail::from(AllocError))
 }
 
-// Adds records whose texts are too long to stand inside them, and drops some of them.
+// Adds records whose texts are too long to be inline, and drops some of them.
 fn grow<H: Held>(rt: &impl Abort, alloc: Global, mut held: H) -> Result<(), Fail> {
     for stop in 100u32..120 {
         let line = format!(in alloc; "c\t5\t{stop}\tname and more columns than stand inside")?;

@@ -9,7 +9,7 @@ use bt_bed::Rec;
 pub trait Held: Drop {
     ghost records: { Self → List Feature };
 
-    /// Adds a record behind the others. Where memory runs out, the record is handed back and the list
+    /// Adds a record after the others. If memory runs out, the record is handed back and the list
     /// stays as it was.
     fn push(&mut self, rec: Rec) -> Result<(), Rec>
         ensures pushed { OnOk result (records self.new ≡ records self.old ++ rec ∷ []) }
@@ -24,7 +24,7 @@ pub trait Held: Drop {
     fn clear(&mut self)
         ensures { records self.new ≡ [] };
 
-    /// The record with so many before it, if there is one.
+    /// The record at this index, from 0, if there is one.
     fn nth(&self, index: usize) -> Option<&Rec>
         ensures { option_copied result ≡ slice_get (records self.now) index };
 

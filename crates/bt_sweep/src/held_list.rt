@@ -116,7 +116,7 @@ impl Held for HeldList {
     }
 }
 
-// How many records there are before the first that starts at the place or behind it. Those near the first one
+// How many records there are before the first that starts at the place or after it. Those near the first one
 // are looked at first: each index is at most twice as great as the one before it.
 fn started_in(records: &VecDeque<Rec>, place: u64) -> usize
     ensures within { result ≤ length records.now.items }
@@ -147,14 +147,14 @@ fn starts_before(rec: Option<&Rec>, place: u64) -> bool
     }
 }
 
-// The record with so many before it, if there is one.
+// The record at this index, if there is one.
 fn record_at(records: &VecDeque<Rec>, index: usize) -> Option<&Rec>
     ensures { option_copied result ≡ slice_get records.now.items index }
 {
     records.get(index)
 }
 
-// Whether one of so many records from the first ends at or before the place.
+// Whether one of the first `count` records ends at or before the place.
 fn has_ended(records: &VecDeque<Rec>, count: usize, place: u64) -> bool
     ensures { result ≡ list_any (λ r. nat_le r.stop place) (take count records.now.items) }
 {
@@ -166,7 +166,7 @@ fn has_ended(records: &VecDeque<Rec>, count: usize, place: u64) -> bool
     false
 }
 
-// Drops those of so many records from the first that end at or before the place. The others are moved
+// Drops those of the first `count` records that end at or before the place. The others are moved
 // after those that follow, and back at last.
 #[inline(always)]
 fn drop_ended_of(records: &mut VecDeque<Rec>, count: usize, place: u64)

@@ -25,7 +25,7 @@ fn push_all<H: Held>(alloc: Global, held: &mut H, lines: &[&[u8]]) -> Result<boo
     Ok(true)
 }
 
-// The start of the record with so many before it.
+// The start of the record at this index.
 fn start_of<H: Held>(held: &H, index: usize) -> Option<u64> {
     match held.nth(index) {
         Some(rec) => Some(rec.as_bed().start),

@@ -12,7 +12,7 @@ use crate::hit_rule::HitRule;
 use crate::started::starts_from;
 use bt_bed::{BedRef, Rec, Strand};
 
-// Whether two records of one chromosome hit one another. Those that share no base are told by two
+// Whether two records of one chromosome hit one another. Those that share no base are found by two
 // comparisons.
 #[tactic(auto, unfolding(crate::specs::Hits::hits))]
 pub(crate) fn is_hit(rule: HitRule, a: &BedRef<'_>, b: &BedRef<'_>) -> bool
@@ -22,7 +22,7 @@ pub(crate) fn is_hit(rule: HitRule, a: &BedRef<'_>, b: &BedRef<'_>) -> bool
     a.start < b.stop && b.start < a.stop && strands_agree(rule, a, b) && shares_enough(rule, a, b)
 }
 
-// Whether two records of one chromosome share as many bases as the rule asks for. Where it asks for no
+// Whether two records of one chromosome share as many bases as the rule requires. If it requires no
 // fraction, no length is computed.
 fn shares_enough(rule: HitRule, a: &BedRef<'_>, b: &BedRef<'_>) -> bool
     requires { b.now.chrom.now ≡ a.now.chrom.now }
@@ -43,7 +43,7 @@ fn common_bases(a: &BedRef<'_>, b: &BedRef<'_>) -> u64
     a.stop.min(b.stop).saturating_sub(a.start.max(b.start))
 }
 
-// Whether the strands of two records are what the rule asks for.
+// Whether the strands of two records are what the rule requires.
 #[tactic(auto, unfolding(crate::specs::Hits::strands_agree))]
 pub(crate) fn strands_agree(rule: HitRule, a: &BedRef<'_>, b: &BedRef<'_>) -> bool
     ensures { result ≡ strands_agree rule (feature_lent a.now) (feature_lent b.now) }
@@ -58,8 +58,8 @@ fn is_strand(first: Strand, second: Strand) -> bool
     first == second
 }
 
-// Whether so many bases are as much of the first record as the rule asks for, and of the second where
-// it asks for both.
+// Whether this many bases are as much of the first record as the rule requires, and of the second if
+// it requires both.
 #[tactic(auto, unfolding(crate::specs::Hits::is_enough))]
 pub(crate) fn is_enough(rule: HitRule, bases: u64, a: &BedRef<'_>, b: &BedRef<'_>) -> bool
     ensures { result ≡ is_enough rule bases (feature_lent a.now) (feature_lent b.now) }
@@ -68,7 +68,7 @@ pub(crate) fn is_enough(rule: HitRule, bases: u64, a: &BedRef<'_>, b: &BedRef<'_
         && (!rule.both || has_fraction(rule.billionths, bases, b))
 }
 
-// Whether so many bases are at least so many billionths of a record's. The products may exceed 64 bits.
+// Whether this many bases are at least this many billionths of a record's. The products may exceed 64 bits.
 #[tactic(auto, unfolding(crate::specs::Hits::has_fraction))]
 fn has_fraction(billionths: u64, bases: u64, a: &BedRef<'_>) -> bool
     ensures { result ≡ has_fraction billionths bases (feature_lent a.now) }
@@ -88,8 +88,8 @@ fn is_hit_by(rule: HitRule, a: &BedRef<'_>, b: Option<&Rec>) -> bool
     }
 }
 
-// Whether one of the held records hits the record, where they come by their starts. None is looked at behind
-// the first one that hits it, nor behind the first one that starts at its end or after it.
+// Whether one of the held records hits the record, if they come by their starts. None is tested after
+// the first one that hits it, nor after the first one that starts at its end or after it.
 pub(crate) fn is_any_hit<H: Held>(rule: HitRule, a: &BedRef<'_>, held: &H) -> bool
     requires { AreOn a.now.chrom.now (H.records held.now) }
     ensures { AreRising (H.records held.now)
@@ -107,8 +107,8 @@ pub(crate) fn is_any_hit<H: Held>(rule: HitRule, a: &BedRef<'_>, held: &H) -> bo
     false
 }
 
-// How many of so many held records from the first hit the record, where they start before its end. If
-// one shared base is enough, all of them do, since those that ended before it aren't held any more.
+// How many of the first `count` held records hit the record, if they start before its end. If
+// one shared base is enough, all of them do, since those that ended before it were dropped.
 #[tactic(auto, using(crate::proofs::OpenLemmas::all_hit, crate::proofs::OpenLemmas::on_name))]
 #[inline(always)]
 pub(crate) fn count_started_hits<H: Held>(
@@ -128,7 +128,7 @@ pub(crate) fn count_started_hits<H: Held>(
     count_hits(rule, a, held, count)
 }
 
-// How many of so many held records from the first hit the record.
+// How many of the first `count` held records hit the record.
 fn count_hits<H: Held>(rule: HitRule, a: &BedRef<'_>, held: &H, count: usize) -> usize
     requires { AreOn a.now.chrom.now (H.records held.now) }
     ensures { result ≡ length (hits_among rule (feature_lent a.now) (take count (H.records held.now))) }

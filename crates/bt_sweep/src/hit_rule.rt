@@ -3,8 +3,8 @@
 ghost use Rattle.std.specs.Prelude.{◌≡◌, false, true};
 ghost use Rattle.bt_sweep.specs.Hits.{any_overlap};
 
-/// Which records hit one another: they share a base, and what the rule asks for beside that (bedtools
-/// manual, intersect, options -f, -r and -s). Each pair of records is judged by itself.
+/// Which records hit one another: they share a base, and what the rule requires beside that (bedtools
+/// manual, intersect, options -f, -r and -s). Each pair of records is judged separately.
 #[derive(Clone, Copy, Debug, PartialEq, Eq)]
 pub struct HitRule {
     /// How many billionths of the first record the shared bases have to be at least.
@@ -27,8 +27,8 @@ impl HitRule {
         }
     }
 
-    // Whether one shared base is all that it asks for. Without a fraction it doesn't matter whether that
-    // is asked of both.
+    // Whether it requires nothing but one shared base. Without a fraction it doesn't matter whether that
+    // is required of both.
     pub(crate) fn is_any_overlap(&self) -> bool
         ensures { result ≡ true → (self.now.billionths ≡ 0) × (self.now.same_strand ≡ false) }
     {

@@ -47,7 +47,7 @@ pub fn faultless_inputs_give_all_pairs()
     ensures { faultless_are_all }
 {}
 
-/// What is written after a front of both inputs is a front of what is written for the whole.
+/// What is written after a prefix of both inputs is a prefix of what is written for the whole.
 pub fn fronts_write_fronts()
     ensures { written_are_a_front }
 {}

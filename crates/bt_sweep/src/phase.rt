@@ -7,6 +7,6 @@ pub(crate) enum Phase {
     Both,
     // The second has ended.
     First,
-    // Nothing is asked for any more: the first has ended, or there was a fault.
+    // Nothing more is wanted: the first has ended, or there was a fault.
     Over,
 }

@@ -15,9 +15,9 @@ use crate::hit_rule::HitRule;
 use bt_bed::{BedRef, Rec, put_cut};
 use bt_lines::{Fault, Out, Sink};
 
-// Puts the pieces of a record that its hits leave, among so many held records from the first. The held
+// Puts the pieces of a record that its hits among the first `count` held records leave. The held
 // records lie on its chromosome and come by their starts, so one walk over them meets the pieces in
-// order. It takes no memory.
+// order. It doesn't allocate.
 #[inline(always)]
 pub(crate) fn put_pieces<H: Held, K: Sink>(
     rule: HitRule,

@@ -69,7 +69,7 @@ fn count_hits(rule: HitRule, a: &Rec, second: &[Rec]) -> usize
         .count()
 }
 
-// Whether a record hits another: they share a base, and as much as the rule asks for.
+// Whether a record hits another: they share a base, and as much as the rule requires.
 #[tactic(auto, unfolding(crate::specs::Hits::hits))]
 pub(crate) fn hits(rule: HitRule, a: &BedRef<'_>, b: &BedRef<'_>) -> bool
     ensures { result ≡ hits rule (feature_lent a.now) (feature_lent b.now) }

@@ -16,7 +16,7 @@ pub(crate) enum Relation {
     Before,
     // On theirs.
     Beside,
-    // On one behind it, or the input has ended.
+    // On a later one, or the input has ended.
     After,
 }
 

@@ -2,7 +2,7 @@
 
 /// What is written of a record of the first input and of those of the second that hit it (bedtools
 /// manual, intersect and subtract). A record is written as in BED output: start and end are zero-based
-/// and half-open and printed without leading zeros, and further columns are kept as they stood.
+/// and half-open and printed without leading zeros, and other columns are kept as they are.
 #[derive(Clone, Copy, Debug, PartialEq, Eq)]
 pub enum Shape {
     /// Per hit, the record cut to the shared bases.

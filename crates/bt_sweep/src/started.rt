@@ -7,7 +7,7 @@ ghost use Rattle.bt_sweep.specs.Held.{AreRising, StartBefore, StartFrom};
 use crate::held::Held;
 use bt_bed::Rec;
 
-// How many held records stand before the first one that starts at the place or after it, where they
+// How many held records there are before the first one that starts at the place or after it, if they
 // come by their starts. The last record is looked at first, since mostly it starts before the place, and
 // then those near the first one: each index that is looked at is at most one more than twice the one
 // before it.

@@ -1,6 +1,6 @@
-//! What a sweep asks for, and what it answers to a record of the second input.
+//! What a sweep wants, and what it returns for a record of the second input.
 
-/// What a sweep asks for next: a record of an input or its end.
+/// What a sweep wants next: a record of an input or its end.
 #[derive(Clone, Copy, Debug, PartialEq, Eq)]
 pub enum Want {
     /// The first input.

@@ -408,7 +408,7 @@ fn gives_what_the_plain_program_gives(rt: HostRuntime) -> Result<(), Fail> {
     check_plain(&rt, rt.alloc(), &PLAIN_CASES)
 }
 
-// Feeds runs of one base behind an open one.
+// Feeds runs of one base after an open one.
 fn feed_runs(
     rt: &impl Abort,
     alloc: Global,

@@ -116,7 +116,7 @@ const CASES: [Case; 20] = [
     (b"r\t0\tref\t0\t30\t5M\t*\t0\t0\t*\t*", false, false, b""),
 ];
 
-// Feeds the alignment of a line, if it has one, and answers whether that was taken.
+// Feeds the alignment of a line, if it has one, and returns whether that was taken.
 fn feed_text(engine: &mut BamToBed, text: &[u8], out: &mut Out<ScriptSink>) -> Result<bool, Kind> {
     match sam_line(text) {
         Ok(Some(sam)) => Ok(engine.feed(&sam, out).is_ok()),

@@ -144,7 +144,7 @@ fn give_next(
     Ok(true)
 }
 
-// Gives what is asked for, so many times at most.
+// Gives what is wanted, at most 64 times.
 fn drive(
     mask: &mut Mask,
     lines: &mut LineReader<ScriptSource<'_>>,
@@ -245,7 +245,7 @@ const SOFT: [Row; 2] = [
     ),
 ];
 
-// By the whole text behind the sign of a header.
+// By the whole text after the sign of a header.
 const BY_FULL_HEADER: [Row; 1] = [(b">s d\nACGT\n", b"s d\t0\t1\n", b">s d\nNCGT\n", None)];
 
 #[test]
@@ -256,7 +256,7 @@ fn bases_are_masked_as_asked_for(rt: HostRuntime) {
     assert_eq!(rt; found, None);
 }
 
-// Whether a sink that fails behind so many bytes has taken the row's first ones, and that is told.
+// Whether a sink that fails after `good` bytes has taken the row's first ones, and that is reported.
 fn is_cut_at(alloc: Global, row: &Row, good: usize) -> bool {
     let mut lines = LineReader::new(alloc, ScriptSource::new(row.0, 7, None), Input::First);
     let second = LineReader::new(alloc, ScriptSource::new(row.1, 7, None), Input::Second);

@@ -151,7 +151,7 @@ fn go_on_second<H: Held, O: ChromOrder, K: Sink>(
     }
 }
 
-// Gives the sweep what it asks for of two whole inputs.
+// Gives the sweep what it wants of two whole inputs.
 fn sweep_all<H: Held, O: ChromOrder, K: Sink>(
     sweep: &mut Sweep<'_, H, O>,
     first: &[&[u8]],
@@ -170,8 +170,8 @@ fn sweep_all<H: Held, O: ChromOrder, K: Sink>(
     Err(None)
 }
 
-// Whether a sweep writes what the case wants. To a sink that takes so many bytes it writes the front of
-// that, and asks for nothing after the fault.
+// Whether a sweep writes what the case wants. To a sink that takes `good` bytes it writes the first of
+// that, and wants nothing after the fault.
 fn writes_ruled<H: Held, O: ChromOrder>(
     rt: &HostRuntime,
     held: H,
@@ -252,7 +252,7 @@ fn worked_rows(rt: HostRuntime) -> Result<(), Fail> {
     Ok(())
 }
 
-// The start of the held record with so many before it.
+// The start of the held record at this index.
 fn held_start<H: Held, O: ChromOrder>(sweep: &Sweep<'_, H, O>, index: usize) -> Option<u64> {
     match sweep.held().nth(index) {
         Some(rec) => Some(rec.as_bed().start),

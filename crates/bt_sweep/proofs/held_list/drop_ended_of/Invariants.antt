@@ -2,7 +2,7 @@ use Rattle.std.proofs.Common.{◌≡◌, ◌++◌, drop, filter, length, nat_lt,
 use Rattle.bt_bed.specs.Feature.{Feature}
 use Rattle.bt_sweep.proofs.held_list.drop_ended_of.Given as goal
 
--- those that were passed and haven't ended stand behind the others
+-- those that were visited and haven't ended come after the others
 abbrev pub invariant-loop : goal.invariant-loop
 invariant-loop l = record {
   passed : l.records.items

@@ -3,7 +3,7 @@ use Rattle.std.specs.List.Sorted.{IsNonDecreasingBy}
 use Rattle.bt_sweep.proofs.HeldListLemmas.{ComeBefore, ComeFrom}
 use Rattle.bt_sweep.proofs.held_list.started_in.Given as goal
 
--- those before `low` start before the place, and those from `high` on there or behind it
+-- those before `low` start before the place, and those from `high` on there or after it
 abbrev pub invariant-loop-low : goal.invariant-loop-low
 invariant-loop-low l = record {
   order : l.low ≤ l.high;

@@ -2,7 +2,7 @@ use Rattle.std.proofs.Common.{◌-◌, ◌≤◌, drop, length, take}
 use Rattle.bt_sweep.specs.Held.{AreRising, StartBefore, StartFrom}
 use Rattle.bt_sweep.proofs.started.count_started.Given as goal
 
--- those before `low` start before the place, and those from `high` on there or behind it
+-- those before `low` start before the place, and those from `high` on there or after it
 abbrev pub invariant-loop-low : goal.invariant-loop-low
 invariant-loop-low g l = record {
   order : l.low ≤ l.high;

@@ -124,7 +124,7 @@ fn found_in<O: ChromOrder>(
     Ok(None)
 }
 
-// Small inputs in all shapes, by rules of fractions and strands. The plain program goes over all positions
+// Small inputs in all shapes, by rules of fractions and strands. The plain program tries all positions
 // up to a record's end for its pieces, so it isn't asked for those at the greatest positions.
 #[test]
 fn small_inputs_give_what_the_plain_program_gives(rt: HostRuntime) -> Result<(), Fail> {
