@@ -1,10 +1,10 @@
--- What stands in the place of a standard stream that was closed before the program began.
+-- What replaces a standard stream that was closed before the program began.
 use Rattle.std.specs.Prelude.{ℕ, Option, IfSome, pos, ◌≡◌}
 use Rattle.std.specs.Fd.{file_raw_fd}
 use Rattle.std.specs.declared.fs.File.{File}
 use Rattle.bedtools.specs.declared.stand_ins.StandIns.{StandIns}
 
--- where a file stands in for a stream, it has the stream's descriptor
+-- if a file replaces a stream, it has the stream's descriptor
 abbrev pub HasNumber : ℕ → Option File → Type 0
 HasNumber number held = IfSome held (λ file. file_raw_fd file ≡ pos number)
 

@@ -12,11 +12,11 @@ use std::io::Write;
 pub enum Obstacle<'a> {
     /// A word of the command line isn't UTF-8.
     NotUnicode,
-    /// The words ask for nothing that can be done.
+    /// The words are no valid command line.
     Usage(&'a [String], Usage),
     /// A standard stream is closed, and nothing could be opened in its place.
     ClosedStream,
-    /// A file of this name, which a run of this command asks for, can't be opened.
+    /// A file of this name, which a run of this command needs, can't be opened.
     CannotOpen(&'a str, &'a str),
 }
 

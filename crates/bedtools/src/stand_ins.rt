@@ -1,4 +1,4 @@
-//! What stands in the place of a standard stream that was closed before the program began.
+//! What replaces a standard stream that was closed before the program began.
 
 ghost use Rattle.std.specs.Prelude.{◌≡◌, IfOk, IfSome, Some};
 ghost use Rattle.std.specs.Fd.{file_raw_fd};
@@ -8,7 +8,7 @@ use std::fs::File;
 use std::io;
 use std::os::fd::{AsFd, AsRawFd};
 
-/// The files that stand in for the closed streams. Each is the root directory, which can neither be
+/// The files that replace the closed streams. Each is the root directory, which can neither be
 /// read nor written. Without it the next file to be opened would be that stream.
 #[derive(Drop)]
 pub struct StandIns {
@@ -32,7 +32,7 @@ impl StandIns {
     }
 }
 
-// What stands in for a stream, `None` where it is open. The system gives a file the least descriptor
+// What replaces a stream, `None` if it is open. The system gives a file the least descriptor
 // that is free, so the streams before this one have to be taken.
 fn stand_in<S: AsFd + AsRawFd>(rt: &HostRuntime, stream: &S) -> io::Result<Option<File>>
     ensures { IfOk result (λ held. IfSome held (λ file. IfSome (S.raw_fd stream.now) (λ number.
@@ -65,7 +65,7 @@ mod tests {
     use super::*;
     use std::test::Fail;
 
-    // A file that stands in fails when it is read and when it is written.
+    // A file that replaces a stream fails when it is read and when it is written.
     #[test]
     fn stand_ins_fail(rt: HostRuntime) -> Result<(), Fail> {
         assert!(rt; StandIns::take(&rt).is_ok());

@@ -43,7 +43,7 @@ early_mask_rule how records = record {
   last = None;
 }
 
--- what a prefix of both inputs decides, and is written, begins what is written for the whole inputs
+-- the lines that are decided by a prefix of each input, and so are written, begin what is written for all of the inputs
 abbrev pub masked_are_a_front : Type 0
 masked_are_a_front =
     (how : MaskHow) (names : List (List ℕ)) (first more_first : List SequenceLine)

@@ -38,7 +38,7 @@ faultless_are_all =
     → (meet (sweep_rule order shape rule second None) first fault).lines
     ≡ intersect shape rule first second
 
--- what a prefix of both inputs decides, and is written, begins what is written for the whole inputs,
+-- the bytes that are decided by a prefix of each input, and so are written, begin what is written for all of both,
 -- whatever their faults
 abbrev pub written_are_a_front : Type 0
 written_are_a_front =

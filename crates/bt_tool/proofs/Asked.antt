@@ -1,4 +1,4 @@
--- What a list of words asks for, from the parts of it that the code finds one after another.
+-- What a list of words means, from the parts of it that the code finds one after another.
 use Rattle.std.proofs.Common.{◌≡◌, ℕ, ◌+◌, ◌<◌, ◌≤◌, Bool, true, false, List, [], ◌∷◌, length, Option, Some, None, Err, drop, refl, sym, ap, ◌∙◌, arith, length-drop}
 use Rattle.std.specs.Prelude.{IsTrue, is_some, if◌then◌else◌}
 use Rattle.std.proofs.lemmas.Bool.Decides.{nat_tests}
@@ -28,7 +28,7 @@ module _ (words : List Word) where
       → options words ≡ checked command (items_of (table_of command) (drop 1 words))
   options-checked command h g = options-command command h ∙ rw (g, asked) refl
 
--- a fault of one word, of which there are so many
+-- a fault of one word of `count`
 record IsOfWord (usage : Usage) (at count : ℕ) : Type 0 where
   at_least : 1 ≤ usage.number
   at_most : usage.number ≤ 7
@@ -148,7 +148,7 @@ named-tellable words (Some command) usage n e =
     (sym (options-command words command n) ∙ e) in
     rw (← command_of-some words command n) told
 
--- whatever is told of words can be told
+-- whatever fault the words have can be reported
 pub options-tellable : (words : List Word) (usage : Usage) → options words ≡ Err usage
     → IsTellable usage (length words)
 options-tellable words usage e = named-tellable words (command_of words) usage refl e

@@ -39,7 +39,7 @@ read_as : {G : Type 0} (left : G → Option (List ℕ)) (failed : G → Bool) (g
 read_as left failed genome after P h None reads = absurd reads
 read_as left failed genome after P h (Some handed) reads = h handed reads
 
--- a genome file that was cut off behind lines that made entries
+-- a genome file that was cut off after lines that made entries
 cut_genome : (cut more : List ℕ) (made : List Entry) → genome_of FromGenome (take (line_feeds cut) (text_lines (cut ++ more))) ≡ Ok made
     → genome_handed FromGenome (record { text = cut; is_cut = true }) ≡ Err (read_failed FromGenome (suc (line_feeds cut)))
 cut_genome cut more made e =
@@ -123,7 +123,7 @@ module _ {G : Type 0} (left : G → Option (List ℕ)) (failed end : G → Bool)
   pub lacks_read : (fault : Told) → ReadingStops left failed end old new fault → IsSound left end new → LacksChromosomes left failed (Some genome) (Some after) fault
   lacks_read fault stops next = lacks_by fault stops.bytes next (stops.first clear)
 
-  -- a failed read that is told is of a read that failed then
+  -- a failed read that is reported is of a read that failed then
   module _ (IsRead : G → Option ℕ → G → Type 0) (fault : Told) (own : (input : Input) (line : ℕ) → fault ≡ read_failed input line → IsUnread IsRead old new) where
     own_by : StopCause left failed end old new fault → (other : Input) (line : ℕ) → fault ≡ read_failed other line → (other ≡ FromGenome) × IsOwnFailure IsRead genome after
     own_by (inl wrong) other line e = absurd (false≢true (ap (λ (f : Told). is_genome_kind f.kind) (sym e ∙ wrong.place) ∙ wrong.of_line))

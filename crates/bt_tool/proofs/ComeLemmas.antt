@@ -35,7 +35,7 @@ begins_with None now past c = tt
 begins_with (Some o) None past c = absurd c
 begins_with (Some o) (Some n) past c = (n.members, c.0)
 
--- and those that are still to come lie behind so many lines
+-- and those that are still to come lie after the first `count` lines
 pub begins_beyond : {A : Type 0} (old now : Option (Good A)) (past : List (Member A)) (count : ℕ) → ComeFirst old past now
     → IfSome now (IsBeyond count)
     → IfSome old (λ good. (rest : List (Member A)) × (good.members ≡ past ++ rest)

@@ -167,7 +167,7 @@ pub refused_no_read : (input : Input) (line : TextLine) (out : Output) (fault : 
 refused_no_read input line out fault grown refused other at e =
     line_no_read input line.number refused.kind other at (kinds_of_lines refused.kind (wrong_kinds line.text refused.kind refused.says)) (sym refused.is ∙ some_is fault (read_failed other at) e)
 
--- what bamtobed writes of its alignments: the lines of each, whatever comes behind it
+-- what bamtobed writes of its alignments: the lines of each, whatever comes after it
 abbrev bamtobed_written : Bool → Bool → Written Alignment
 bamtobed_written split cigar = record { whole = alignment_lines split cigar; settled = alignment_lines split cigar }
 
@@ -202,7 +202,7 @@ module _ {S : Type 0} (split cigar : Bool) (left : S → Option (List ℕ)) (fai
         alone_writes left failed (λ source. true) left failed (of_members (IsOneOf is_sam_kind) (bamtobed_written split cigar) sam_format) (of_bamtobed split cigar)
         (λ one two. reported split cigar _ _) (λ two lines. refl) first None out fault last grown (λ t tells. tells)
 
-    -- the whole input was read
+    -- all of the input was read
     pub writes_all : FeedsAll (alignment_lines converting.split converting.with_cigar) (IsOneOf is_sam_kind) (λ past. ⊤) left failed end (λ past. ⊤) (sam_reader reader) out new grown → Writes None
     writes_all fed =
         let is = subst (λ (m : Converting). FeedsAll (alignment_lines m.split m.with_cigar) (IsOneOf is_sam_kind) (λ past. ⊤) left failed end (λ past. ⊤) (sam_reader reader) out new grown) same fed in
@@ -217,7 +217,7 @@ module _ {S : Type 0} (split cigar : Bool) (left : S → Option (List ℕ)) (fai
         (drives_fault (bamtobed_written split cigar) (IsOneOf is_sam_kind) (λ past. ⊤) (λ past. ⊤) more_lines more_lines left failed end sam_format (λ text. tt) (sam_reader reader) first out starts_reader new last ended
         fault grown (subst (λ (m : Converting). FeedsUpTo (alignment_lines m.split m.with_cigar) (IsOneOf is_sam_kind) (λ past. ⊤) left failed end (sam_reader reader) out fault new grown) same fed))
 
-    -- a failed read that is told is of a read that failed then
+    -- a failed read that is reported is of a read that failed then
     pub own_up_to : (IsRead : S → Option ℕ → S → Type 0) → KeepsOwnFault IsRead reader new → (fault : Told) → FeedsUpTo (alignment_lines converting.split converting.with_cigar) (IsOneOf is_sam_kind) (λ past. ⊤) left failed end (sam_reader reader) out fault new grown
         → TellsOwnReads ⊥ (IsOwnFailure IsRead first last) ⊥ (Some fault)
     own_up_to IsRead own fault fed =

@@ -56,7 +56,7 @@ flat_append : (xs ys : List TextLine) → flat_map spelled (xs ++ ys) ≡ flat_m
 flat_append [] ys = refl
 flat_append (x ∷ xs) ys = ap (λ l. spelled x ++ l) (flat_append xs ys) ∙ sym (append_assoc (spelled x) (flat_map spelled xs) (flat_map spelled ys))
 
--- what was consumed are complete lines, so many
+-- what was consumed are `count` complete lines
 pub record Front (bytes : List ℕ) (at count : ℕ) : Type 0 where
   pub fed : is_fed (take at bytes) ≡ true
   pub feeds : line_feeds (take at bytes) ≡ count
@@ -238,7 +238,7 @@ module _ {S : Type 0} (reader : LineReader S) (first last : BufferedLines) (text
         open_is = open_is;
       }
 
-  -- so many lines were taken
+  -- `count` lines were taken
   pub lines_consumed : (consumed : ConsumedLines) → IsWhere last consumed → TakenLines reader consumed (length texts)
   lines_consumed consumed is = lines_taken reader first last consumed (length texts) begins passes is
 

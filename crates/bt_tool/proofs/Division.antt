@@ -79,7 +79,7 @@ allowed table words =
     divided table P (λ _. All-nil (IsItem table))
     (λ item rest items h all. All-cons (IsItem table) item items h all) words
 
--- the items spell a front of the words
+-- the words begin with the items
 abbrev Front : List Word → List Item → Type 0
 Front words items = (rest : List Word) × (words ≡ spelled items ++ rest)
 
@@ -94,7 +94,7 @@ front table words =
     divided table Front (λ words. (words, refl))
     (λ item rest items h spells. Front-item item rest items spells) words
 
--- other items at the front of the words are the first of those that are read
+-- if the words begin with other items, these are the first of those that are read
 items_of-spelled : (table : Table) (others : List Item) (rest : List Word)
     → All (IsItem table) others
     → items_of table (spelled others ++ rest) ≡ others ++ items_of table rest

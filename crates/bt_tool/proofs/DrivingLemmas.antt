@@ -128,7 +128,7 @@ module _ {S A State : Type 0} (written : Written A) (kinds : Kind → Type 0) (S
   begins_by items past rest None e t = let b = begins past rest (subst Taken e t) in (b.0, ap written.whole e ∙ b.1)
   begins_by items past rest (Some fault) e t = let b = stays past rest (subst Taken e t) in (b.0, ap written.settled e ∙ b.1)
 
-  -- a front of the records gives a front of the output
+  -- a prefix of the records gives a prefix of the output
   begins_output : (one : Handed) (past : List (Member A)) → Holds left first one → IfSome (good_coming left old) (λ good. (rest : List (Member A)) × (good.members ≡ past ++ rest))
       → (rest : List ℕ) × ((report one).output ≡ written.settled (member_items past) ++ rest)
   begins_output one past holds b =

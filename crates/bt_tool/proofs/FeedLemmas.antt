@@ -37,7 +37,7 @@ use Rattle.bt_tool.proofs.ComeLemmas.{begins_with}
 use Rattle.bt_tool.proofs.MemberLemmas.{bytes_more, items_take, passes_all, passes_end, passes_fill, passes_start, passes_stop, passes_take, read_alone, read_at_stop, read_before, read_here}
 use Rattle.bt_tool.proofs.PassedLemmas.{line_going, said_in_order}
 
--- a sink that took a front of the lines took a front of all
+-- a sink that took a prefix of the lines took a prefix of all
 pub front_all : (took : Option (List ℕ)) (put : Option (List ℕ)) (before done lines whole : List ℕ) → whole ≡ done ++ lines → put ≡ Some (before ++ done) → IsFrontOf took put lines → IsFrontOf took (Some (before ++ whole)) []
 front_all None put before done lines whole e p f = tt
 front_all (Some took) put before done lines whole e p f =
@@ -263,7 +263,7 @@ module _ {S A State : Type 0} (settled : List A → List ℕ) (Kinds : Kind → 
 
 -- ---- an engine that is given records one after another
 
--- it stands after these, and the lines that they settle were put
+-- it is after these, and the lines that they settle were put
 pub record EngineAt {E : Type 0} (Stands : E → List Feature → E → Type 0) (settled : E → List Feature → List ℕ) (first : E) (out : Output) (past : List Feature) (engine : E) (grown : Output) : Type 0 where
   pub stands : Stands first past engine
   pub grows : Grows out.took grown.took
@@ -430,7 +430,7 @@ module _ {S O E : Type 0} {ghosts : Ghosts O} (MayTake : E → List Feature → 
       stops_feeding =
           not_taken (takes (member_items before ++ f.r ∷ []) sorted_given.0 sorted_given.1) (f.fails.going first (member_items before) at_mid.stands) f.fails.grows f.fails.answers
 
--- an engine that stands after records has failed at one
+-- an engine that is after some records has failed at one
 pub failed_among : {S O E : Type 0} {g : Ghosts O} {left : S → Option (List ℕ)} {failed end : S → Bool} {MayTake : E → List Feature → Type 0} {Stands : E → List Feature → E → Type 0}
     {engine_fault : E → Option Told} {settled : E → List Feature → List ℕ} {Quiet : E → List Feature → Feature → Type 0} {old : Records S O g} {engine : E} {out : Output} {fault : Fault} {new : Records S O g} {fed : E} {grown : Output}
     → FeedsBuffered left failed end MayTake Stands engine_fault settled Quiet old engine out {A = Unit {0}} (Err fault) new fed grown → (first : E) (past : List Feature) → Stands first past engine

@@ -73,7 +73,7 @@ zeros_are_digits zero = refl
 zeros_are_digits (suc n) = zeros_are_digits n
 
 module _ (decimals : List ℕ) where
-  -- the zeros behind decimals are digits
+  -- the zeros after the decimals are digits
   digits_of_nine : list_all is_ascii_digit (nine_decimals decimals) ≡ list_all is_ascii_digit decimals
   digits_of_nine =
       list_all-append is_ascii_digit decimals (replicate (9 - length decimals) 48)
@@ -95,7 +95,7 @@ module _ (decimals : List ℕ) where
       get_or-eq_default decimals 48 past
       ∙ sym (get_or-append_right decimals (replicate (9 - length decimals) 48) i 0 past ∙ get_or-replicate (9 - length decimals) (i - length decimals) 48 0 behind)
 
-  -- what stands at an index, or a zero
+  -- the byte at an index, or a zero
   pub nine_at : (i digit : ℕ) → length decimals ≤ 9 → i < 9 → digit ≡ get_or decimals i 48 → digit ≡ get_or (nine_decimals decimals) i 0
   nine_at i digit few h e = e ∙ nine_at_by i few h (ltb i (length decimals)) refl
 

@@ -25,7 +25,7 @@ use Rattle.bt_tool.specs.declared.tool.Tool.{Tool}
 use Rattle.bt_tool.proofs.Asked.{options-checked}
 use Rattle.bt_tool.proofs.Division.{allowed}
 
--- what the words ask for, once they divide into items
+-- what the words mean, once they divide into items
 pub options-given : (words : List (String Global)) (given : Given) (tool : Tool)
     → table_lent given.table.now ≡ table_of tool → given.words.now ≡ words
     → command_of (words_seen words) ≡ Some tool

@@ -17,7 +17,7 @@ take_and_drop zero xs = refl
 take_and_drop (suc n) [] = refl
 take_and_drop (suc n) (x ∷ xs) = ap (λ l. x ∷ l) (take_and_drop n xs)
 
--- what is left behind some lines but for a block was handed over with these lines and a block
+-- if all but a block of what follows some lines is left, at most these lines and a block were handed over
 pub handed_near : (count : ℕ) (text handed rest : List ℕ) → handed ++ rest ≡ text
     → bytes_in (drop count (text_lines text)) ≤ length rest + block_size
     → length handed ≤ bytes_in (take count (text_lines text)) + block_size
@@ -35,7 +35,7 @@ cut_lines : (cut more : List ℕ) → whole_lines cut ≡ take (line_feeds cut) 
 cut_lines cut more = sym (whole_front 1 cut more)
 
 module _ {A State : Type 0} (format : Format A State) (input : Input) where
-  -- what is good of a text that was cut off behind so many lines: the members of those lines, and then
+  -- what is good of a text that was cut off after these lines: the members of the lines, and then
   -- the failed read
   pub cut_good : (cut more : List ℕ) (past rest : List (Member A)) (fault : Option Told)
       → (good format input (text_lines (cut ++ more))).members ≡ past ++ rest

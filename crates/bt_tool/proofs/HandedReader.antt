@@ -68,7 +68,7 @@ module _ {S : Type 0} (left : S → Option (List ℕ)) (failed : S → Bool) (fi
       reads.is ∙ handed_past (failed last) (nat_le (2 ^ 63) (length reads.bytes)) reads.text reads.bytes
       (past_bound (length reads.bytes) (omega (arith, taken.1, past)))
 
-  -- behind what was cut off lies the rest of the text, and the lines given are as many as its line feeds
+  -- the rest of the text comes after what was cut off, and the lines given are as many as its line feeds
   pub record CutText (handed : Handed) (reads : Reads left failed first last handed) : Type 0 where
     pub more : List ℕ
     pub text : take (2 ^ 63 - 1) reads.bytes ++ more ≡ reads.text

@@ -158,7 +158,7 @@ module _ {A B : Type 0} (a_left : A → Option (List ℕ)) (a_failed a_end : A �
             let none : texts ≡ [] = no_items texts more (sym parts ∙ over (s.lines_over e)) in
             (ap (members_from (suc (lines_given lines))) (none_long items (omega (arith, say_count run.full at texts items say_here, ap length none))), refl)
 
-        -- the engine stands there
+        -- the engine is at the final stage
         pub come_on : (masked : Masking) (now : Output) → MaskStandsAt run.how run.full final masked → Grown grown bytes now → (going : Going (state_behind (sequence_format run.full) at items) new second_now masked now) × (going.stage ≡ final)
         come_on masked now stands puts = (
           record {

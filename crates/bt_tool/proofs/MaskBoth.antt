@@ -1,4 +1,4 @@
--- Lemmas on a turn of masking in which lines and records were given together.
+-- Lemmas on a round of masking in which lines and records were given together.
 use Rattle.std.proofs.Common.{◌≡◌, ℕ, zero, suc, ◌-◌, drop, length-take, ◌+◌, ◌≤◌, ◌<◌, Bool, true, false, List, [], ◌∷◌, ◌++◌, length, take, Option, None, Some, Result, Ok, Err, refl, sym, ap, ◌∙◌, subst, append-nil, append_assoc, option_to_list, arith, inl, inr}
 use Rattle.std.specs.Prelude.{◌⊎◌, OnOk, is_some, nat_eq, option_map}
 use Rattle.std.proofs.lemmas.Bool.{false≢true}
@@ -153,7 +153,7 @@ module _ {A B : Type 0} (a_left : A → Option (List ℕ)) (a_failed a_end : A �
   left_then : left last_beds ≡ second_now.buffered
   left_then = cancel taken (left last_beds) second_now.buffered (sym gave.left_is ∙ lent ∙ has.takes.buffered)
 
-  -- what was given is no longer asked for
+  -- after what was given, something else is wanted
   module _ (masked : Masking) (now : Output) (comes : HasCome run.how run.full s.stage texts taken out masked now) (stops : StopsAt Passes line_in HasEnded masked.want last_lines last_beds) where
     abbrev final : MaskStage
     final = comes.stage

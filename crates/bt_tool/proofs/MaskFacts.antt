@@ -66,7 +66,7 @@ asked_by : (given extra : List SequenceLine) (past : List (Member Feature)) → 
 asked_by given extra past (inl none) = inl (none_taken past none)
 asked_by given extra past (inr some) = inr (asked_of given extra (member_items past) some)
 
--- the last one needed stands after the first lines
+-- the last one needed is after the first lines
 reaches_least : (on : List SequenceLine) (before : List Feature) (rest : List (Member Feature)) (lines : List TextLine) (count : ℕ) → All (λ m. count < m.line) rest
     → bytes_in (take (suc count) lines) ≤ bytes_up_to lines (last_needed on before rest)
 reaches_least on before [] lines count high = take_whole (suc count) lines
@@ -74,7 +74,7 @@ reaches_least on before (m ∷ ms) lines count high =
     least_by (list_all (λ line. decided line (before ++ m.item ∷ [])) on) m (last_needed on (before ++ m.item ∷ []) ms) lines count (All-head (λ (m : Member Feature). count < m.line) m ms high)
     (reaches_least on (before ++ m.item ∷ []) ms lines count (All-tail (λ (m : Member Feature). count < m.line) m ms high))
 
--- what lines ask for lies after the records that were taken for them
+-- what lines need lies after the records that were taken for them
 pub mask_needs : (how : MaskHow) → AreNeeded (mask_making how)
 mask_needs how given extra past rest lines count asked high =
     subst (λ o. bytes_in (take (suc count) lines) ≤ bytes_up_to lines o) (sym (needed_behind (given ++ extra) past rest (asked_by given extra past asked)))

@@ -1,4 +1,4 @@
--- Lemmas on a turn of masking in which an input is read on: a line or a record is buffered, or its end is given.
+-- Lemmas on a round of masking in which an input is read on: a line or a record is buffered, or its end is given.
 use Rattle.std.proofs.Common.{◌≡◌, ℕ, ◌≤◌, ◌<◌, Bool, true, false, List, [], ◌∷◌, length, Option, None, Some, Ok, Err, refl, sym, ap, ◌∙◌, subst, arith, inl, inr}
 use Rattle.std.specs.Prelude.{◌⊎◌, is_some}
 use Rattle.bt_lines.specs.Names.{told}
@@ -46,7 +46,7 @@ some_there : (line : ℕ) (records : List Feature) (m : Member Feature) → firs
 some_there line [] m e = absurd (let apart : None ≡ Some m = e in cc)
 some_there line (r ∷ records) m e = omega arith
 
--- a turn makes what is asked for less
+-- a round leaves less to be wanted
 pub turn_falls : (before filled after : ℕ) (There : Type 0) → (filled < before) ⊎ ((filled ≤ before) × There) → after ≤ filled → (There → after < filled) → after < before
 turn_falls before filled after There (inl less) few some = omega (arith, less, few)
 turn_falls before filled after There (inr at) few some = omega (arith, at.0, some at.1)

@@ -12,7 +12,7 @@ use Rattle.bt_bed.proofs.SaidLemmas.{wrong_is_of_record}
 use Rattle.std.proofs.lemmas.Bool.{false≢true}
 use Rattle.bt_tool.specs.MaskReport.{is_mask_kind}
 
--- what is wrong with a record by itself
+-- what is wrong with a record on its own
 of_record : (kind : Kind) → is_record_kind kind ≡ true → is_mask_kind kind ≡ true
 of_record TooFewColumns e = refl
 of_record EmptyName e = refl

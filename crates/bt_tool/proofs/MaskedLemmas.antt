@@ -1,4 +1,4 @@
--- Lemmas on how far a masking engine over two readers has come: what it asks for, and what its inputs still have then.
+-- Lemmas on how far a masking engine over two readers has come: what it wants, and what its inputs still have then.
 use Rattle.std.proofs.Common.{◌≡◌, ℕ, suc, Bool, true, false, not, ◌||◌, List, [], ◌∷◌, ◌++◌, Option, None, Some, Err, refl, sym, ap, ◌∙◌, subst, append-nil, append_assoc, option_to_list, inl, inr}
 use Rattle.std.specs.Prelude.{◌⊎◌, IfSome, IsSome, IsTrue, is_some, option_map}
 use Rattle.std.proofs.lemmas.Bool.{false≢true, or_left, or_right}

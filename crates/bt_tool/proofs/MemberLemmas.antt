@@ -64,7 +64,7 @@ items_from from (x ∷ items) = ap (λ l. x ∷ l) (items_from (suc from) items)
 pub items_take : {A : Type 0} (past : List (Member A)) (from : ℕ) (taken : List A) → member_items (past ++ members_from from taken) ≡ member_items past ++ taken
 items_take past from taken = map-append (λ m. m.item) past (members_from from taken) ∙ ap (λ l. member_items past ++ l) (items_from from taken)
 
--- members from a line on stand on as many lines
+-- members numbered from a line on are on as many lines
 pub members_low : {A : Type 0} (given : ℕ) (taken : List A) → All (λ m. m.line ≤ given + length taken) (members_from (suc given) taken)
 members_low {A} given [] = All-nil (λ (m : Member A). m.line ≤ given + 0)
 members_low {A} given (x ∷ taken) =
@@ -78,7 +78,7 @@ members_last {A} from (x ∷ xs) a =
     ap (λ (l : List (Member A)). record { line = from; item = x } ∷ l)
     (members_last (suc from) xs a ∙ ap (λ (n : ℕ). members_from (suc from) xs ++ record { line = n; item = a } ∷ []) (let same : suc from + length xs ≡ from + length (x ∷ xs) = omega arith in same))
 
--- members were taken from the front of what was to come
+-- the first members were taken of what was to come
 pub come_taken : {A : Type 0} (old now next : Option (Good A)) (past taken : List (Member A)) → ComeFirst old past now
     → option_map (with_members taken) next ≡ now → ComeFirst old (past ++ taken) next
 come_taken None now next past taken c e = tt
@@ -252,7 +252,7 @@ near_given (Some start) (Some now) (Some rest) given p n =
     let is : now ≡ drop given start = cc in
     omega (arith, ap bytes_in is, n)
 
--- the last of some members lies behind those lines too, and so does what comes after it
+-- the last of some members lies after those lines too, and so does what comes after it
 pub behind_last : {A : Type 0} (count : ℕ) (old : Option (Good A)) (past : List (Member A)) (m : Member A) → suc count ≡ m.line
     → IfSome old (λ good. (rest : List (Member A)) × (good.members ≡ (past ++ m ∷ []) ++ rest) × IsBeyond (suc count) (record { members = rest; fault = good.fault }))
     → IfSome old (λ good. (rest : List (Member A)) × (good.members ≡ past ++ rest) × IsBeyond count (record { members = rest; fault = good.fault }))
@@ -361,7 +361,7 @@ module _ {S A State : Type 0} (left : S → Option (List ℕ)) (failed end : S �
       near = near_none (lines_left left old.below) (lines_left left now.below) (left (source_of new.below)) (lines_given now.below) (lines_given new.below) ended.ends.rises g.lines ended.ends.lines;
     }
 
-    -- nothing is read behind the end
+    -- nothing is read after the end
     pub fails_before_end : (new : MemberReader S A State) (fault : Told) → IsStopped left failed end now fault new → (input : Input) (line : ℕ) → fault ≡ read_failed input line → end_told now.below ≡ false
     fails_before_end new fault stopped input line e =
         elim (stopped.answers.first g.going) [

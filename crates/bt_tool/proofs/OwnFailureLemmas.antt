@@ -1,4 +1,4 @@
--- Lemmas on failed reads that are told: each is of a read that failed in the run, whatever its source did before.
+-- Lemmas on failed reads that are reported: each is of a read that failed in the run, whatever its source did before.
 use Rattle.std.proofs.Common.{◌≡◌, ℕ, Option, None, Some, Err, Bool, List, ap, sym, subst, ◌∙◌, inl, inr, arith}
 use Rattle.std.specs.Prelude.{◌⊎◌, ◌≢◌, ⊤, MatchResult, Ok, Result}
 use Rattle.std.proofs.lemmas.Bool.{false≢true}
@@ -99,7 +99,7 @@ pub serve_same_if : {S : Type 0} (IsRead : S → Option ℕ → S → Type 0) (s
 serve_same_if IsRead None = tt
 serve_same_if IsRead (Some source) = serve_same IsRead source
 
--- no failed read is told
+-- no failed read is reported
 pub tells_none : (G F S : Type 0) (fault : Option Told) → ((input : Input) (line : ℕ) → fault ≡ Some (read_failed input line) → ⊥) → TellsOwnReads G F S fault
 tells_none G F S fault never = record {
   genome_file = λ line e. absurd (never Genome line e);
@@ -120,7 +120,7 @@ tells_first S F fault own = record { genome_file = own.genome_file; first_input 
 -- an input at its end, and what it was at first
 module _ {S A State : Type 0} (left : S → Option (List ℕ)) (failed end : S → Bool) (IsRead : S → Option ℕ → S → Type 0) (format : Format A State) (input : Input) (first : S) (old : MemberReader S A State) (begins : BeginsAt left format input first old)
     (new : MemberReader S A State) (last : S) (ended : source_of new.below ≡ last) (own : KeepsOwnFault IsRead old.below new) where
-  -- a failed read that is told behind some members
+  -- a failed read that is reported after some members
   pub behind_own : (Kinds : Kind → Type 0) → (Kinds ReadFailed → ⊥) → (past : List (Member A)) (fault : Told) → HasFaultBehind left failed end old Kinds past fault new → (other : Input) (line : ℕ) → fault ≡ read_failed other line
       → (other ≡ input) × IsOwnFailure IsRead first last
   behind_own Kinds never past fault (inl wrong) other line e = absurd (never_read Kinds never _ wrong.line wrong.kind wrong.of_kind other line (sym wrong.is ∙ e))
@@ -247,7 +247,7 @@ module _ {A B : Type 0} (a_left : A → Option (List ℕ)) (a_failed a_end : A �
     second_input = λ line e. absurd (read.second_input line (sym written.is ∙ e));
   }
 
-  -- where no failed read is told, the genome file has none
+  -- if no failed read is reported, the genome file has none
   pub genome_no_read : (chromosomes : Result (Option GenomeTable) Fault) → WritesOutput a_left a_failed a_end b_left b_failed command chromosomes first second out fault first_after second_after grown → TellsNoRead fault → AnswersNoRead chromosomes
   genome_no_read (Ok table) written never = tt
   genome_no_read (Err wrong) written never = λ input line e. never input line (written.is ∙ e)

@@ -48,7 +48,7 @@ module _ {X Y : Type 0} (making : Making X Y) where
   abbrev MeetsAs : Good X → Good Y → List ℕ → Option Told → Type 0
   MeetsAs first second bytes fault = ((met_whole making first second).lines ≡ bytes) × ((met_whole making first second).fault ≡ fault)
 
-  -- what is told where all of the first is written
+  -- what is reported when all of the first is written
   abbrev last_of : Good X → Good Y → Option Told
   last_of first second = or_else (making.last (items_in first) second.members) second.fault
 

@@ -89,7 +89,7 @@ pub least_by : (b : Bool) (m : Member Feature) (o : Option (Member Feature)) (li
 least_by true m o lines count low h = take_less (suc count) m.line lines (omega arith)
 least_by false m o lines count low h = h
 
--- members of the first ask for the lines behind those that were taken for the first of them
+-- members of the first need the lines after those that were taken for the first of them
 abbrev pub AreNeeded : {X Y : Type 0} → Making X Y → Type 0
 AreNeeded {X} {Y} making =
     (given extra : List X) (past rest : List (Member Y)) (lines : List TextLine) (count : ℕ) → making.Asks given (member_items past) → All (λ m. count < m.line) rest
@@ -137,7 +137,7 @@ module _ {A B X Y U V : Type 0} (making : Making X Y) (pair : Pair A B X Y U V) 
         let b = of_one (λ good. (rest : List (Member X)) × (good.members ≡ near.past ++ rest) × IsBeyond count (record { members = rest; fault = good.fault })) near.first_near.to.behind in
         ap items_in (first_from first_format First count count 1 first_format.begin (text_lines one) near.past b.0 good_one.fault (omega arith) (lines_are_numbered 1 one) b.1 refl near.first_near.low b.2) ∙ near.items
 
-    -- those that were given stand on them and the next
+    -- those that were given are on them and the next
     given_on : (extra : List (Member X)) × (items_on (take (suc count) (text_lines one)) ≡ member_items near.given_first ++ member_items extra)
     given_on =
         let b = of_one (λ good. (rest : List (Member X)) × (good.members ≡ near.given_first ++ rest)) near.first_near.begins in
@@ -152,7 +152,7 @@ module _ {A B X Y U V : Type 0} (making : Making X Y) (pair : Pair A B X Y U V) 
         ap (flat_map (λ x. making.bytes x (items_in good_two))) on_lines
         ∙ ((near.wrote.settles known).whatever (items_in good_two) good_two.fault (in_order (whole_text two)) may).1
 
-    -- the second input was read as far as they ask for
+    -- the second input was read as far as they need
     beside_by : AsksFor making pair out near.given_first second → HandsUpTo pair.b_left (reaches (whole_text two) (take (suc count) (text_lines one)) + block_size) two_before two_after
     beside_by asks =
         let read = asks.near known in

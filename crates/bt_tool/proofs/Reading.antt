@@ -41,7 +41,7 @@ words-pair words at word value h e f =
     let past : at + 1 + 1 ≡ at + 2 = omega arith in
     rw (one, two, past) refl
 
--- an option that may have a value may not stand alone
+-- an option that may have a value may also have none
 fits-one : (kind : Takes) (value : Word)
     → fits kind (Some value) ≡ true → fits kind None ≡ false
 fits-one Nothing value h = cc

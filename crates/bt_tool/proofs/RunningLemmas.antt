@@ -46,7 +46,7 @@ kept_known None b x e k = cc
 kept_known (Some y) None x e k = absurd k
 kept_known (Some y) (Some z) x e k = ap Some k ∙ e
 
--- what a sink took is a front of the output, where it's a front of what was put
+-- what a sink took is a prefix of the output, if it's a prefix of what was put
 cut_front : (a took : Option (List ℕ)) (before front rest output : List ℕ) → a ≡ Some before → Grows a took → output ≡ front ++ rest → IsFrontOf took (Some (before ++ front)) []
     → (front : List ℕ) × (rest : List ℕ) × (took ≡ Some (before ++ front)) × (output ≡ front ++ rest)
 cut_front None took before front rest output e g o f = cc
@@ -58,7 +58,7 @@ cut_front (Some x) (Some y) before front rest output e g o f =
     let parts : g.0 ++ f.0 ≡ front = append_cancel_left before (g.0 ++ f.0) front joined in
     (g.0, f.0 ++ rest, ap Some grown, o ∙ ap (λ l. l ++ rest) (sym parts) ∙ append_assoc g.0 f.0 rest)
 
--- a fault that stands before a flush
+-- a fault from before a flush
 module _ (out mid new : Output) (fault answer : Option Told) where
   front_by : (before output : List ℕ) → out.took ≡ Some before → Grows out.took mid.took → Grows mid.took new.took
       → (fault ≢ Some write_failed → (front : List ℕ) × (rest : List ℕ) × (output ≡ front ++ rest) × (mid.put ≡ Some (before ++ front)))
@@ -118,7 +118,7 @@ module _ (out mid new : Output) (fault answer : Option Told) where
   served_by (inl (inr fails)) none = absurd (let apart : None ≡ Some write_failed = sym none ∙ fails.is in cc)
   served_by (inr stays) none = absurd (let apart : None ≡ Some write_failed = sym none ∙ stays.is in cc)
 
-  -- the fault that is told is the one before the flush, or a failed write
+  -- the fault that is reported is the one before the flush, or a failed write
   pub named_by : {P : Told → Type 0} → ((t : Told) → fault ≡ Some t → P t ⊎ TellsDevice mid.sink_has_failed t)
       → (FlushesAll mid fault answer new ⊎ FlushFails mid fault answer new) ⊎ StaysFailed mid fault answer new
       → (t : Told) → answer ≡ Some t → P t ⊎ TellsDevice new.sink_has_failed t
@@ -186,7 +186,7 @@ same_is_some (Some table) = refl
 other_chromosomes : (chromosomes : Result (Option (List Entry)) Told) (entries : Option (List Entry)) (wrong : Told) → chromosomes ≡ Ok entries → chromosomes ≡ Err wrong → ⊥
 other_chromosomes chromosomes entries wrong o e = cc
 
--- a failed write is told where the sink failed
+-- a failed write is reported only if the sink failed
 write_by : {P : Type 0} (b : Bool) → (P → ⊥) → P ⊎ TellsDevice b write_failed → b ≡ true
 write_by b other (inl p) = absurd (other p)
 write_by b other (inr (inl write)) = write.1
@@ -197,7 +197,7 @@ write_of_if left failed kinds input None after tells = absurd tells
 write_of_if left failed kinds input (Some before) None tells = absurd tells
 write_of_if left failed kinds input (Some before) (Some after) tells = tells_no_write left failed kinds input before after tells
 
--- an input that wasn't touched was read no further than its first line
+-- an input that wasn't touched was read at most up to its first line
 near_untouched : (Beside : ℕ → Type 0) → ((n : ℕ) → Beside n) → (command : Command) (chromosomes : Result (Option (List Entry)) Told) (second : Option Handed) (text before : List ℕ) (left took more : Option (List ℕ)) → left ≡ Some text → took ≡ Some before → Grows took more
     → (Failed Stops : Type 0) (later : Option (List ℕ)) → Failed ⊎ IsPutTo (length (before ++ [])) later → (Stops → later ≡ Some (before ++ []))
     → ReadsNoFurther Beside (settles_on command chromosomes second) text left before more Failed Stops later
@@ -225,7 +225,7 @@ module _ {G A B K : Type 0} (g_left : G → Option (List ℕ)) (g_failed : G →
   abbrev OthersTell : Told → Type 0
   OthersTell t = TellsOther g_left g_failed a_left a_failed a_end b_left b_failed k_took k_failed command genome first first_after second second_after t
 
-  -- how far the second input was read beside so many lines of the first
+  -- how far the second input was read by the time that this many lines of the first were
   abbrev Beside : Inputs → ℕ → Type 0
   Beside inputs n = IsWithin (a_end first_after) inputs.first.text n
       → HandsUpToIf b_left (reaches_on command (chromosomes_of inputs.genome) inputs.second (take n (text_lines inputs.first.text)) + block_size) second second_after

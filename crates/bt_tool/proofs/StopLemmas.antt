@@ -20,14 +20,14 @@ use Rattle.bt_bed.specs.Reading.{AnswersFault, Cause, LastUnkept, LineIsWrong, L
 use Rattle.bt_bed.proofs.GoodLemmas.{ascend_from, beyond_from}
 
 -- the first `count` lines have none of the members still to come and no fault, and of known bytes those
--- behind one line more are left, but for a block
+-- after one more line are left, except at most a block
 pub record StopsBehind {S A State : Type 0} (left : S → Option (List ℕ)) (old : MemberReader S A State) (count : ℕ) (new : LineReader S) : Type 0 where
   pub passed : IfSome (good_coming left old) (IsBeyond count)
   pub from : lines_given old.below ≤ count
   pub near : IfSome (lines_left left old.below) (λ lines. IfSome (left (source_of new)) (λ rest.
       bytes_in (drop (suc count - lines_given old.below) lines) ≤ length rest + block_size))
 
--- a fault of a line, if there is one, lies behind so many lines
+-- a fault of a line, if there is one, lies after the first `count` lines
 abbrev FaultBeyond : ℕ → Option Told → Type 0
 FaultBeyond count fault = IfSome fault (IsFaultBeyond count)
 
@@ -66,7 +66,7 @@ module _ {A State : Type 0} (format : Format A State) (input : Input) where
       let now = format.after state item in
       All-cons (λ (m : Member A). FaultBeyond m.line (rest now).fault) (record { line = line; item = item }) (rest now).members (f now) (h now)
 
-  -- the fault lies behind every member
+  -- the fault lies after every member
   fault_comes_last : (number : ℕ) (state : State) (lines : List TextLine) → AreNumbered number lines
       → All (λ m. FaultBeyond m.line (good_from format input state lines).fault) (good_from format input state lines).members
   unfolding good_from
@@ -82,7 +82,7 @@ module _ {A State : Type 0} (format : Format A State) (input : Input) where
   ascending_beyond line from (m ∷ ms) h a =
       All-cons (λ (m : Member A). line < m.line) m ms (omega (arith, a.0)) (ascending_beyond line (suc m.line) ms (omega (arith, a.0)) a.1)
 
-  -- a first member, what comes after it and the fault lie behind the lines before its own
+  -- a first member, what comes after it and the fault lie after the lines before its own
   beyond_first : (state : State) (number : ℕ) (lines : List TextLine) (rest : List (Member A)) (m : Member A) (count : ℕ) → AreNumbered number lines
       → (good_from format input state lines).members ≡ m ∷ rest → suc count ≡ m.line → IsBeyond count (good_from format input state lines)
   beyond_first state number lines rest m count n e at =
@@ -95,7 +95,7 @@ module _ {A State : Type 0} (format : Format A State) (input : Input) where
         fault = fault_less count m.line good.fault (omega arith) (All-head (λ (m : Member A). FaultBeyond m.line good.fault) m rest last);
       }
 
--- what lies behind more lines lies behind fewer
+-- what lies after more lines lies after fewer
 pub beyond_less : {A : Type 0} (less more : ℕ) (good : Good A) → less ≤ more → IsBeyond more good → IsBeyond less good
 beyond_less {A} less more good h b = record {
   members = λ k d i. let far = b.members k d i in omega arith;
@@ -117,7 +117,7 @@ beyond_known format input state given (Some bytes) (Some good) e =
     let is : good ≡ good_from format input state (lines_from (suc given) bytes) = cc in
     subst (IsBeyond given) (sym is) (beyond_from format input given state (lines_from (suc given) bytes) (lines_are_numbered (suc given) bytes))
 
--- what is still to come lies behind the lines given
+-- what is still to come lies after the lines given
 pub beyond_now : {S A State : Type 0} (left : S → Option (List ℕ)) (reader : MemberReader S A State) → reader.fault ≡ None
     → IfSome (good_coming left reader) (IsBeyond (lines_given reader.below))
 beyond_now left reader going = beyond_known reader.format (input_of reader.below) reader.state (lines_given reader.below) _ (good_coming left reader) (coming_is left reader going)
@@ -142,7 +142,7 @@ first_beyond format input state number (Some bytes) (Some good) count line e f a
     subst (IsBeyond count) (sym is)
     (beyond_first format input state number (lines_from number bytes) f.1 f.0 count (lines_are_numbered number bytes) (sym (ap (λ g. g.members) is) ∙ f.2) (at ∙ sym f.3))
 
--- of the lines behind those given, where the last call gave one, at most a block was taken
+-- of the lines after those given, if the last call gave one, at most a block was taken
 near_passed : (start now : Option (List TextLine)) (rest : Option (List ℕ)) (passed more : ℕ) → more ≡ passed
     → IfSome start (λ lines. now ≡ Some (drop passed lines))
     → IfSome now (λ lines. IfSome rest (λ rest. bytes_in lines ≤ length rest + block_size))

@@ -39,7 +39,7 @@ module _ (order : Order) where
       skip_by (list_all (λ a. decides order a m.item) as_given) m (decider order as_given (ms ++ rest)) (not_all (λ a. decides order a m.item) as_given here)
       ∙ decider_behind as_given ms rest more
 
-  -- the record that decides all stands behind the first lines
+  -- the record that decides all is after the first lines
   reaches_least : (as_given : List Feature) (rest : List (Member Feature)) (lines : List TextLine) (count : ℕ) → All (λ m. count < m.line) rest
       → bytes_in (take (suc count) lines) ≤ bytes_up_to lines (decider order as_given rest)
   reaches_least as_given [] lines count high = take_whole (suc count) lines
@@ -47,7 +47,7 @@ module _ (order : Order) where
       least_by (list_all (λ a. decides order a m.item) as_given) m (decider order as_given ms) lines count (All-head (λ (m : Member Feature). count < m.line) m ms high)
       (reaches_least as_given ms lines count (All-tail (λ (m : Member Feature). count < m.line) m ms high))
 
-  -- what records of the first ask for lies behind those that were taken for them
+  -- what records of the first need lies after those that were taken for them
   pub sweep_needs : (shape : Shape) (rule : HitRule) (limit : Option ℕ) → AreNeeded (sweep_making order shape rule limit)
   sweep_needs shape rule limit given extra past rest lines count reached high =
       subst (λ o. bytes_in (take (suc count) lines) ≤ bytes_up_to lines o) (sym (decider_behind (given ++ extra) past rest (leaves_more given extra (member_items past) reached)))

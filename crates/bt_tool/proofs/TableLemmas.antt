@@ -44,7 +44,7 @@ takes_lent table word =
     ∙ map-map row_lent (λ row. row.takes) (find (λ row. p (row_lent row)) table.options.now)
 
 module _ (table : Lent) (items : List Item) where
-  -- whether a required option is missing, among those that are lent
+  -- whether a required option is missing, among those of the borrowed table
   required-lent : list_any (λ option. not (is_given items option)) (table_lent table).required
       ≡ list_any (λ option. not (is_given items option.now)) table.required.now
   required-lent = list_any_of-map (λ option. option.now) (λ option. not (is_given items option)) table.required.now

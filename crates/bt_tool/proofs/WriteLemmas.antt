@@ -121,7 +121,7 @@ module _ (order : Order) (total : IsTotal order) where
   merge_settles d strand lines =
       settled_same d strand (items_in (good (bed_format (sorting_of order)) First lines)) (placed_lines First order lines total)
 
-  -- a merge's records were written as the command asks for
+  -- a merge's records were written as the command says
   pub merge_writes : {A : Type 0} (left : A → Option (List ℕ)) (failed : A → Bool) (d : ℕ) (strand : MergeStrand) (merge : Merging) → merge ≡ merge_begun d strand
       → (first : A) (out : Output) (fault : Option Told) (new : A) (grown : Output)
       → WritesRecords left failed (merge_as_they_come merge) order first out fault new grown

@@ -16,7 +16,7 @@ use Rattle.bt_tool.specs.Telling.{IsFaultButWrite, IsOfInput, IsPutTo, IsReporte
 use Rattle.bt_tool.specs.Writing.{WritesAlone, WritesBy}
 use Rattle.bt_tool.specs.declared.plan_type.Command.{Command}
 
--- an input that wasn't touched handed nothing over, and worked as before
+-- an input that wasn't touched handed nothing over, and hasn't failed
 pub hands_none : {S : Type 0} (left : S → Option (List ℕ)) (source : Option S) (handed : Option Handed) (most : ℕ) → HoldsIf left source handed → HandsUpToIf left most source source
 hands_none left None handed most holds = tt
 hands_none left (Some source) handed most holds = record { handed = []; consumed = Consumes-nil (left source); read = omega arith }
@@ -48,12 +48,12 @@ near_as Beside More adds mine yours same text left before took more Cut Failed S
       beside = adds near.n near.beside;
     }
 
--- a fault of one input or of a device, beside an input that isn't there
+-- a fault of one input or of a device, if there is no other input
 pub named_alone : {P D : Type 0} → P ⊎ D → (P ⊎ ⊥) ⊎ D
 named_alone (inl tells) = inl (inl tells)
 named_alone (inr tells) = inr tells
 
--- the whole text is known of an input of which no failed read is told
+-- the whole text is known of an input of which no failed read is reported
 pub is_whole : {S : Type 0} (left : S → Option (List ℕ)) (failed : S → Bool) (first last : S) (fault : Option Told) (handed : Handed) → Holds left first handed → IsOfInput fault → IsWhole left failed first last fault handed
 is_whole left failed first last fault handed holds of_input = record { text = holds.text; known = holds.known; is = holds.is; no_read = of_input.no_read }
 

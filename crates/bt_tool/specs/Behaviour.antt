@@ -1,5 +1,5 @@
 -- What a command does with its inputs: the report on what they hand over, what the first lines of
--- the first input settle and ask for, and which faults a line of each can have.
+-- the first input settle and need, and which faults a line of each can have.
 use Rattle.std.specs.Prelude.{ℕ, Bool, List, [], Option, Some, None, unwrap_or}
 use Rattle.bt_lines.specs.Handed.{Handed}
 use Rattle.bt_lines.specs.Lines.{TextLine}
@@ -38,7 +38,7 @@ pub record Behaviour : Type 1 where
   pub report : Handed → Option Handed → Report
   -- the bytes that the first lines of the first input settle
   pub settles : Option Handed → List TextLine → List ℕ
-  -- how much of the second input these lines ask for: its bytes up to the first record that decides
+  -- how much of the second input these lines need: its bytes up to the first record that decides
   -- all members among them
   pub reaches : Option Handed → List TextLine → ℕ
   -- the kinds of fault that a line of the first input can have, and one of the second

@@ -7,13 +7,13 @@ use Rattle.bt_tool.specs.Inputs.{Reads}
 
 module _ {S : Type 0} (left : S → Option (List ℕ)) (failed : S → Bool) (first last : S)
     (fault : Option Told) where
-  -- it is the whole text, and no failed read is told
+  -- it is the whole text, and no failed read is reported
   pub record IsWhole (handed : Handed) : Type 0 where
     pub text : List ℕ
     pub known : left first ≡ Some text
     pub is : handed ≡ whole_text text
     pub no_read : (input : Input) (line : ℕ) → fault ≢ Some (read_failed input line)
 
-  -- this came of it, or is all of it where no failed read is told
+  -- this came of it, or is all of it if no failed read is reported
   abbrev pub Came : Handed → Type 0
   Came handed = Reads left failed first last handed ⊎ IsWhole handed

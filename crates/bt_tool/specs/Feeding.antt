@@ -35,7 +35,7 @@ pub record PutsFront (old : Output) (lines : List ℕ) (new : Output) : Type 0 w
   pub parts : lines ≡ front ++ rest
   pub puts : PutsLines old front new
 
--- the sink took a front of these lines and of what was put before, and failed
+-- the sink took a prefix of what was put before and these lines, and failed
 pub record CutsLines (old : Output) (lines : List ℕ) (new : Output) : Type 0 where
   pub front : (before : List ℕ) → old.put ≡ Some before
       → IsFrontOf new.took (Some (before ++ lines)) []
@@ -71,16 +71,16 @@ module _ {S A State : Type 0} (settled : List A → List ℕ) (Kinds : Kind → 
   pub record Took (old : MemberReader S A State) (out : Output) (past : List (Member A))
       (new : MemberReader S A State) (grown : Output) : Type 0 where
     pub bytes : (bytes : List ℕ) × Hands left old.below bytes new.below
-    -- they stand as the input's format has them
+    -- they are ordered as the input's format requires
     pub sorted : Sorted (member_items past)
     pub grows : Grows out.took grown.took
-    -- how far the input was read: what the members of the lines before settle was taken but for a
+    -- how far the input was read: what the members of the lines before settle was taken, except at most a
     -- block
     pub before : List (Member A)
     pub read : IsReadFor left failed end old before before new
     pub kept : TookButBlock out (settled (member_items before)) grown
 
-  -- all members were taken, and the engine stands after them
+  -- all members were taken, and the engine is after them
   pub record FeedsAll (Stands : List A → Type 0) (old : MemberReader S A State) (out : Output)
       (new : MemberReader S A State) (grown : Output) : Type 0 where
     pub past : List (Member A)
@@ -137,7 +137,7 @@ module _ {S A State : Type 0} (settled : List A → List ℕ) (Kinds : Kind → 
   FeedsMembers Stands old out (Ok done) new grown = FeedsAll Stands old out new grown
   FeedsMembers Stands old out (Err fault) new grown = FeedsUpTo old out (told fault) new grown
 
--- records stand in the order of their chromosomes, and each has a base
+-- records are in the order of their chromosomes, and each has a base
 abbrev pub AreInOrder : Order → List Feature → Type 0
 AreInOrder order records =
     ArePlaced order (intervals_of records) × AreNonEmpty (intervals_of records)

@@ -32,7 +32,7 @@ module _ {S O E : Type 0} {g : Ghosts O} (left : S → Option (List ℕ)) (faile
     pub taken : TakesEach MayTake Stands engine_fault settled Quiet engine out records mid through
     pub fails : Feeds MayTake Stands engine_fault settled mid r through {A = Unit {0}} Quiet (Err fault) fed grown
 
-  -- or the engine has failed before, and stands after no records
+  -- or the engine has failed before, and is after no records
   abbrev pub IsSpent : Type 0
   IsSpent = (first : E) (past : List Feature) → Stands first past engine → ⊥
 

@@ -13,7 +13,7 @@ pub record FlushesAll (old : Output) (fault : Option Told) (answer : Option Told
   pub was_served : old.has_failed ≡ false
   pub sink_served : new.sink_has_failed ≡ old.sink_has_failed
 
--- the sink failed now, and took a front of what was put
+-- the sink failed now, and took a prefix of what was put
 pub record FlushFails (old : Output) (fault : Option Told) (answer : Option Told)
     (new : Output) : Type 0 where
   pub was : fault ≢ Some write_failed

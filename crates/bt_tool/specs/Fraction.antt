@@ -22,7 +22,7 @@ abbrev pub billionths_in : List ℕ → List ℕ → ℕ
 billionths_in whole decimals =
     digits_value 10 whole * one_in_billionths + digits_value 10 (nine_decimals decimals)
 
--- whether these stand before the point and after it: digits, one at least and at most nine after
+-- whether these come before the point and after it: digits, one at least and at most nine after
 -- the point, of a number of at most one
 abbrev pub are_digits_of_fraction : List ℕ → List ℕ → Bool
 are_digits_of_fraction whole decimals =

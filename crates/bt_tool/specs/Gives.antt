@@ -77,18 +77,18 @@ module _ {G A B K : Type 0} (g_left : G → Option (List ℕ)) (g_failed : G →
         → k_took out ≡ Some before → IsOfInput fault
         → (fault ≡ (report_of command inputs).fault)
         × (k_took out_after ≡ Some (before ++ (report_of command inputs).output))
-    -- Whatever read, write or growth fails of such devices, what was written is a front of the
+    -- Whatever read, write or growth fails of such devices, what was written is a prefix of the
     -- report's output for the whole texts, what wasn't handed over of them included.
     pub front : (inputs : Inputs) (before : List ℕ) → HoldInputs genome first second inputs
         → k_took out ≡ Some before
         → (front : List ℕ) × (rest : List ℕ) × (k_took out_after ≡ Some (before ++ front))
         × ((report_of command inputs).output ≡ front ++ rest)
-    -- However the run ends, where the devices tell their bytes: for some n, the first input handed
-    -- over its first n lines and a block at most, and what its first n - 1 lines settle was written,
-    -- but for a block where a write failed. At any other fault, want of memory among them, what was
-    -- written is just that, no less and no more. Where the first input's end wasn't told, or it has an
-    -- n-th line, the second handed over what those n lines ask for and a block at most: so where it
-    -- handed over more, n is past the last line, and all lines of the first input were settled.
+    -- However the run ends, if the devices tell their bytes: for some n, the first input handed over at
+    -- most its first n lines and a block, and what its first n - 1 lines settle was written, except at
+    -- most a block if a write failed. At any other fault, running out of memory among them, what was
+    -- written is exactly that. If the first input's end wasn't reported, or it has an n-th line, the
+    -- second handed over at most what those n lines need and a block. So if it handed over more, n is
+    -- past the last line, and all lines of the first input were settled.
     pub near : (inputs : Inputs) (before : List ℕ) → HoldInputs genome first second inputs
         → k_took out ≡ Some before
         → ReadsNoFurther (λ n. IsWithin (a_end first_after) inputs.first.text n
@@ -106,7 +106,7 @@ module _ {G A B K : Type 0} (g_left : G → Option (List ℕ)) (g_failed : G →
     pub after_genome : (file : Option Handed) → HoldsIf g_left genome file → (wrong : Told)
         → chromosomes_of file ≡ Err wrong
         → (first_after ≡ first) × (second_after ≡ second)
-    -- Nor was it after a fault that is told of the genome file, whatever the devices do.
+    -- Nor was it after a fault that is reported of the genome file, whatever the devices do.
     pub untouched : (told : Told) → fault ≡ Some told → lies_in_genome told.place ≡ true
         → (first_after ≡ first) × (second_after ≡ second)
     -- What the fault may be, whatever the devices do: one that a line of an input can have (without

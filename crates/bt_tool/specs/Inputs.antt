@@ -4,17 +4,17 @@ use Rattle.std.specs.Prelude.{nat_le, take, Option, Some, None, unwrap_or}
 use Rattle.std.specs.Io.KnownBytes.{Consumes}
 use Rattle.bt_lines.specs.Handed.{Handed, whole_text}
 
--- what came of each input; one that the plan doesn't have isn't there
+-- what came of each input; one that the plan doesn't have is `None`
 pub record Inputs : Type 0 where
   pub genome : Option Handed
   pub first : Handed
   pub second : Option Handed
 
--- an input that isn't there is as an empty one
+-- a missing input is as an empty one
 abbrev pub or_empty : Option Handed → Handed
 or_empty handed = unwrap_or handed (whole_text [])
 
--- a source handed over no more than so many bytes
+-- a source handed over at most this many bytes
 pub record HandsUpTo {S : Type 0} (left : S → Option (List ℕ)) (most : ℕ)
     (before after : S) : Type 0 where
   pub handed : List ℕ
@@ -27,7 +27,7 @@ HandsUpToIf left most None None = ⊤
 HandsUpToIf left most (Some before) (Some after) = HandsUpTo left most before after
 HandsUpToIf left most _ _ = ⊥
 
--- an input that may not be there worked as before
+-- an input that may be missing hasn't failed since
 abbrev pub ServesIf : {S : Type 0} → (S → Bool) → Option S → Option S → Type 0
 ServesIf failed None None = ⊤
 ServesIf failed (Some before) (Some after) = failed after ≡ failed before

@@ -17,19 +17,19 @@ words_of item = item.option ∷ option_to_list item.value
 abbrev pub spelled : List Item → List Word
 spelled items = flat_map words_of items
 
--- the table has the option, and it may stand with this value or without one
+-- the table has the option, and it may have this value or none
 abbrev pub IsItem : Table → Item → Type 0
 IsItem table item =
     (kind : Takes) × (takes table item.option ≡ Some kind) × IsTrue (fits kind item.value)
 
--- the longest front of the words that divides into items is divided into these
+-- the longest prefix of the words that divides into items is divided into these
 pub record IsLongestDivision (table : Table) (words : List Word) (items : List Item) : Type 0 where
   pub allowed : All (IsItem table) items
   pub front : (rest : List Word) × (words ≡ spelled items ++ rest)
   pub longest : (others : List Item) (rest : List Word) → All (IsItem table) others
       → words ≡ spelled others ++ rest → length (spelled others) ≤ length (spelled items)
 
--- the items into which the longest such front is divided
+-- the items into which the longest such prefix is divided
 unfoldable pub items_of : Table → List Word → List Item
 items_of table [] = []
 items_of table (option ∷ []) = elim (takes table option) [

@@ -15,7 +15,7 @@ abbrev pub is_shown_as : MaskHow → Bool
 is_shown_as Soft = true
 is_shown_as (Hard byte) = is_printable byte
 
--- whether so many records may be the limit of those held
+-- whether this many records may be the limit of those held
 abbrev pub is_limit : Option ℕ → Bool
 is_limit None = true
 is_limit (Some most) = nat_le most max_number

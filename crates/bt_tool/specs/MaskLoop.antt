@@ -118,7 +118,7 @@ module _ {A B : Type 0} (a_left : A → Option (List ℕ)) (a_failed a_end : A �
       pub kept_ahead : (r : Feature) → stage.ahead ≡ Some r → item_ahead second ≡ Some r
       pub lines_over : stage.lines_ended ≡ true → has_ended first.below ≡ true
 
--- what giving an engine all that it asks for does
+-- what giving an engine all that it wants does
 abbrev pub FinishesMask : {A B T : Type 0} → (A → Option (List ℕ)) → (A → Bool) → (A → Bool)
     → (B → Option (List ℕ)) → (B → Bool) → (B → Bool)
     → MaskHow → Bool → LineReader A → MemberReader B Feature (Option Locus) → Output

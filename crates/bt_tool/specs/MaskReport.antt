@@ -40,7 +40,7 @@ last_needed lines before (member ∷ members) =
     if list_all (λ line. decided line (before ++ member.item ∷ [])) lines then Some member
     else last_needed lines (before ++ member.item ∷ []) members
 
--- how much of the second input the first lines of the first ask for: its lines up to the first
+-- how much of the second input the first lines of the first need: its lines up to the first
 -- record that with those before it decides all of them
 abbrev pub mask_reaches : Bool → Handed → List TextLine → ℕ
 mask_reaches full second lines =

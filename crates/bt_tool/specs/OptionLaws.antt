@@ -7,7 +7,7 @@ use Rattle.bt_tool.specs.Options.{AnswersAll, PlanSeen, last_item, options, word
 use Rattle.bt_tool.specs.Table.{Word, Table}
 use Rattle.bt_tool.specs.Usage.{IsTellable}
 
--- the longest front that divides into items divides in one way, the one that is read
+-- the longest prefix that divides into items divides in one way, the one that is read
 abbrev pub LongestDivisionIsUnique : Type 0
 LongestDivisionIsUnique = (table : Table) (words : List Word) (items : List Item)
     → IsLongestDivision table words items ↔ (items ≡ items_of table words)

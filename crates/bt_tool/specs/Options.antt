@@ -1,4 +1,4 @@
--- What a list of words asks for: the plan, or the fault of its usage.
+-- What a list of words means: the plan, or the fault of its usage.
 use Rattle.std.specs.Prelude.{◌≡◌, ℕ, ◌+◌, Bool, List, [], ◌∷◌, ◌++◌, ◌||◌, ◌&&◌, false, true, not}
 use Rattle.std.specs.Prelude.{Option, Some, None, Result, Ok, Err, MatchOption, bytes_eq, codes}
 use Rattle.std.specs.Prelude.{count_by, drop, if◌then◌else◌, is_some, length, nat_lt}
@@ -91,7 +91,7 @@ abbrev pub output_by : Option Word → Option Word
 output_by None = None
 output_by (Some name) = if is_standard_output name then None else Some name
 
--- the records that are merged: with -s those of each strand by themselves, else those of the strand
+-- the records that are merged: with -s those of each strand separately, else those of the strand
 -- that is the value of -S, and without one all
 abbrev pub strand_by : Bool → Option Word → MergeStrand
 strand_by true value = Each
@@ -148,7 +148,7 @@ abbrev pub mask_how_by : List Item → MaskHow
 mask_how_by items =
     if is_given items (codes "-soft") then Soft else Hard (mask_by (value_of items (codes "-mc")))
 
--- the command that the items ask for
+-- the command that the items mean
 abbrev pub command_by : Tool → List Item → Command
 command_by Merge items =
     MergeWith (number_by (value_of items (codes "-d")))
@@ -232,7 +232,7 @@ plan_with command named = record {
   output = named.output;
 }
 
--- the plan that the items of a command ask for
+-- the plan that the items of a command mean
 abbrev pub plan_of : Tool → List Item → PlanSeen
 plan_of tool items = plan_with (command_by tool items) (named_by (table_of tool) items)
 
@@ -243,7 +243,7 @@ checked tool items = elim (fault_together (table_of tool) items) [
   | None ↦ Ok (plan_of tool items)
 ]
 
--- what the words after a command ask for
+-- what the words after a command mean
 abbrev pub asked : Tool → List Word → Result PlanSeen Usage
 asked tool words = elim (word_fault (table_of tool) 1 words) [
   | Some usage ↦ Err usage
@@ -255,7 +255,7 @@ abbrev pub command_of : List Word → Option Tool
 command_of [] = None
 command_of (word ∷ words) = command_named word
 
--- what all the words ask for
+-- what all the words mean
 unfoldable pub options : List Word → Result PlanSeen Usage
 options words = elim (command_of words) [
   | None ↦ Err no_command

@@ -1,4 +1,4 @@
--- A failed read is told only where a read of the run failed, whatever its source did before.
+-- A failed read is reported only if a read of the run failed, whatever its source did before.
 use Rattle.std.specs.Prelude.{◌≡◌, ◌≢◌, ℕ, ◌^◌, ◌≤◌, ◌⊎◌, ⊤, Option, Some, None, Result, Ok, Err}
 use Rattle.bt_lines.specs.Device.{ReadsFail, ReadsOn}
 use Rattle.bt_lines.specs.Fault.{Told, read_failed}
@@ -24,7 +24,7 @@ abbrev pub IsOwnFailureIf : {S : Type 0} → (S → Option ℕ → S → Type 0)
 IsOwnFailureIf IsRead (Some before) (Some after) = IsOwnFailure IsRead before after
 IsOwnFailureIf IsRead _ _ = ⊥
 
--- no failed read is told
+-- no failed read is reported
 abbrev pub TellsNoRead : Option Told → Type 0
 TellsNoRead fault = (input : Input) (line : ℕ) → fault ≢ Some (read_failed input line)
 
@@ -45,7 +45,7 @@ ReadsServeIf IsRead None None = ⊤
 ReadsServeIf IsRead (Some before) (Some after) = ReadsServe IsRead before after
 ReadsServeIf IsRead _ _ = ⊥
 
--- a failed read is told of an input only where this holds of it
+-- a failed read is reported of an input only if this holds of it
 pub record TellsOwnReads (OfGenome OfFirst OfSecond : Type 0) (fault : Option Told) : Type 0 where
   pub genome_file : (line : ℕ) → fault ≡ Some (read_failed Genome line) → OfGenome
   pub first_input : (line : ℕ) → fault ≡ Some (read_failed First line) → OfFirst

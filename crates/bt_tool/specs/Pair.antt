@@ -21,11 +21,11 @@ pub record Making (X Y : Type 0) : Type 1 where
   pub limited : List X → Good Y → Good Y
   -- by these members of the first, no limit lies among these of the second
   pub Fits : List X → List (Member Y) → Type 0
-  -- what is told where all members of the first input are written, before the fault of the second
+  -- what is reported when all members of the first input are written, before the fault of the second
   pub last : List X → List (Member Y) → Option Told
-  -- how many bytes of the lines of the second input these members of the first ask for
+  -- how many bytes of the lines of the second input these members of the first need
   pub reaches : List X → List (Member Y) → List TextLine → ℕ
-  -- these members of the first input ask for so many of them
+  -- these members of the first input need these of the second
   pub Asks : List X → List Y → Type 0
   -- the order in which they come
   pub InOrder : List Y → Type 0
@@ -33,7 +33,7 @@ pub record Making (X Y : Type 0) : Type 1 where
   pub first_kinds : Kind → Type 0
   pub second_kinds : Kind → Type 0
 
--- two sources, and the readers of their members as they stood at first
+-- two sources, and the first states of the readers of their members
 pub record Pair (A B X Y U V : Type 0) : Type 0 where
   pub a_left : A → Option (List ℕ)
   pub a_failed : A → Bool
@@ -71,7 +71,7 @@ module _ {X Y : Type 0} (making : Making X Y) where
     last = or_else (making.last all second.members) second.fault;
   }
 
-  -- what is written of two inputs, and the fault that is told
+  -- what is written of two inputs, and the fault that is reported
   abbrev pub met_whole : Good X → Good Y → Met ℕ Told
   met_whole first second = meet (rule_of (items_in first) second) (items_in first) first.fault
 

@@ -20,7 +20,7 @@ use Rattle.bt_tool.specs.Telling.{IsFaultButWrite}
 abbrev pub IsKnown : {A B X Y U V : Type 0} → Pair A B X Y U V → Type 0
 IsKnown pair = IsSome (good_coming pair.b_left pair.second)
 
--- the first input told its end, and it has no more than so many lines
+-- the first input reported its end, and it has at most `count` lines
 abbrev pub HasNoMore : {A B X Y U V : Type 0} → Pair A B X Y U V → MemberReader A X U → ℕ → Type 0
 HasNoMore pair first count = (pair.a_end (source_of first.below) ≡ true)
     × IfSome (lines_left pair.a_left pair.first.below) (λ lines. length lines ≤ count)
@@ -58,7 +58,7 @@ module _ {A B X Y U V : Type 0} (making : Making X Y) (pair : Pair A B X Y U V)
   FirstFails past first fault = HasFaultBehind pair.a_left pair.a_failed pair.a_end pair.first
       making.first_kinds past fault first
 
-  -- all good members of the first input are written, and its fault is told
+  -- all good members of the first input are written, and its fault is reported
   pub record FirstStops (written given : List X) (first : MemberReader A X U)
       (second : MemberReader B Y V) (fault : Told) : Type 0 where
     pub past : List (Member X)
@@ -75,7 +75,7 @@ module _ {A B X Y U V : Type 0} (making : Making X Y) (pair : Pair A B X Y U V)
     pub before_end : ended ≡ true → (input : Input) (line : ℕ) → fault ≡ read_failed input line → ⊥
 
   -- a member of the first waits that the good members of the second don't decide,
-  -- and its fault is told
+  -- and its fault is reported
   pub record SecondStops (written : List X) (ended : Bool) (first : MemberReader A X U)
       (second : MemberReader B Y V) (fault : Told) : Type 0 where
     pub past : List (Member Y)
@@ -89,7 +89,7 @@ module _ {A B X Y U V : Type 0} (making : Making X Y) (pair : Pair A B X Y U V)
     pub serves : Serves pair.a_failed pair.first first
 
   -- a member of the first waits that the members of the second up to one don't decide, and the
-  -- limit's fault is told at the line of that one
+  -- limit's fault is reported at the line of that one
   pub record LimitStops (written : List X) (first : MemberReader A X U)
       (second : MemberReader B Y V) (fault : Told) : Type 0 where
     pub past : List (Member Y)
@@ -110,7 +110,7 @@ module _ {A B X Y U V : Type 0} (making : Making X Y) (pair : Pair A B X Y U V)
     pub serves : Serves pair.a_failed pair.first first
     pub serves_second : Serves pair.b_failed pair.second second
 
-  -- what is told at last, at a line of the second input
+  -- what is reported at the end, at a line of the second input
   pub record LastTold (written : List X) (second : MemberReader B Y V) (fault : Told) : Type 0 where
     pub line : ℕ
     pub kind : Kind
@@ -121,7 +121,7 @@ module _ {A B X Y U V : Type 0} (making : Making X Y) (pair : Pair A B X Y U V)
     pub serves : Serves pair.b_failed pair.second second
 
   -- all of the first is written, and the second was read to its end, to its fault
-  -- or to what is told at last
+  -- or to what is reported at the end
   pub record RestStops (written : List X) (ended : Bool) (first : MemberReader A X U)
       (second : MemberReader B Y V) (fault : Option Told) : Type 0 where
     pub past : List (Member X)
@@ -154,7 +154,7 @@ module _ {A B X Y U V : Type 0} (making : Making X Y) (pair : Pair A B X Y U V)
       ⊎ (((fault ≡ Some no_memory) × PutsLines out bytes grown)
       ⊎ ((fault ≡ Some write_failed) × CutsLines out bytes grown))
 
-  -- of the second input nothing was read but what these members of the first ask for
+  -- of the second input nothing was read except what these members of the first need
   pub record AsksFor (given_first : List (Member X)) (second : MemberReader B Y V) : Type 0 where
     pub past : List (Member Y)
     pub reached : making.Asks (member_items given_first) (member_items past)

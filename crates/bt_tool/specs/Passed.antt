@@ -99,12 +99,12 @@ module _ {S A State : Type 0} (left : S → Option (List ℕ)) (failed end : S �
       pub kept : IsKept left end now.below
       pub served : failed (source_of now.below) ≡ failed (source_of old.below)
       pub ahead : IsSome (good_coming left old) → AheadComes now
-      -- of known bytes, those after the lines given and one line more are left, but for a block at most
+      -- of known bytes, those after the lines given and one more line are left, except at most a block
       pub near : IfSome (lines_left left old.below) (λ lines. IfSome (left (source_of now.below))
           (λ rest. bytes_in (drop (suc (lines_given now.below)) lines) ≤ length rest + block_size))
 
-    -- How far the input was read: so many lines, one more and a block at most, and what is good
-    -- after these members stands after so many lines.
+    -- How far the input was read: the first `count` lines, one more and at most a block, and what is
+    -- good after these members comes after the first `count` lines.
     pub record IsReadTo (past : List (Member A)) (now : MemberReader S A State) : Type 0 where
       pub count : ℕ
       pub near : IfSome (lines_left left old.below) (λ lines. IfSome (left (source_of now.below))
@@ -113,8 +113,8 @@ module _ {S A State : Type 0} (left : S → Option (List ℕ)) (failed end : S �
           × (good.members ≡ past ++ rest)
           × IsBeyond count (record { members = rest; fault = good.fault }))
 
-    -- The members on these so many lines are `past`,
-    -- and all that were given stand on them and the next.
+    -- The members on the first `count` lines are `past`,
+    -- and all that were given are on them and the next.
     pub record IsReadFor (past given : List (Member A))
         (now : MemberReader S A State) : Type 0 where
       pub to : IsReadTo past now
@@ -153,7 +153,7 @@ module _ {S A State : Type 0} (left : S → Option (List ℕ)) (failed end : S �
           × IsBeyond (lines_given new.below) (record { members = rest; fault = good.fault }))
       pub behind : All (λ m. m.line ≤ lines_given new.below) past
 
-    -- the fault of the input lies behind these members
+    -- the fault of the input lies after these members
     abbrev pub HasFaultBehind : (Kind → Type 0) → List (Member A) → Told → MemberReader S A State
         → Type 0
     HasFaultBehind Kinds past fault new =

@@ -11,7 +11,7 @@ abbrev pub IsRefusalOf : List Word → Refusal → Type 0
 IsRefusalOf words (Usage usage) = options words ≡ Err usage
 IsRefusalOf words NoMemory = IsOk (options words)
 
--- a fault that can be told of so many words
+-- a fault that can be reported of this many words
 abbrev pub CanBeTold : ℕ → Refusal → Type 0
 CanBeTold count (Usage usage) = IsTellable usage count
 CanBeTold count NoMemory = ⊤

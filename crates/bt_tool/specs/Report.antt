@@ -47,7 +47,7 @@ settles_on command (Err fault) second lines = []
 settles_on command (Ok chromosomes) second lines =
     (behaviour_of command chromosomes).settles second lines
 
--- how much of the second input they ask for; after that fault nothing
+-- how much of the second input they need; after that fault nothing
 abbrev pub reaches_on : Command → Result (Option (List Entry)) Told → Option Handed
     → List TextLine → ℕ
 reaches_on command (Err fault) second lines = 0

@@ -155,7 +155,7 @@ module _ {S A State : Type 0} (left : S → Option (List ℕ)) (failed end : S �
       → Kinds kind)
       → ChecksRest Kinds result new
 
--- reading on to the end, from wherever the reader stands
+-- reading on to the end, from wherever the reader is
 abbrev pub ReadsRest : {S A State T : Type 0} → (S → Option (List ℕ)) → (S → Bool) → (S → Bool)
     → (Kind → Type 0) → MemberReader S A State → Result T Fault → MemberReader S A State → Type 0
 ReadsRest {S} {A} {State} {T} left failed end Kinds before result new =

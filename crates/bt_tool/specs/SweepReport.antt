@@ -1,5 +1,5 @@
 -- The reports of intersect and subtract: what two inputs make them write, and how much of the
--- second the first lines of the first ask for.
+-- second the first lines of the first need.
 use Rattle.std.specs.Prelude.{◌≡◌, ◌⊎◌, ℕ, Bool, true, List, [], ◌∷◌, take, Option, Some, None}
 use Rattle.std.specs.Prelude.{if◌then◌else◌, is_some}
 use Rattle.std.specs.List.{list_all}
@@ -57,7 +57,7 @@ abbrev pub intersect_settles : Order → Shape → HitRule → Handed → List T
 intersect_settles order shape rule second lines =
     intersect shape rule (records_on order lines) (items_in (bed_good Second order second))
 
--- the report of subtract on its inputs: what is left in pieces, or of whole records
+-- the report of subtract on its inputs: the pieces that are left, or the complete records
 abbrev pub subtract_report : Order → Bool → HitRule → Option ℕ → Handed → Handed → Report
 subtract_report order whole rule limit = intersect_report order (subtract_shape whole) rule limit
 
@@ -78,13 +78,13 @@ abbrev pub bytes_up_to : List TextLine → Option (Member Feature) → ℕ
 bytes_up_to lines None = bytes_in lines
 bytes_up_to lines (Some member) = bytes_in (take member.line lines)
 
--- how much of the second input the records on these lines of the first ask for: its lines up to the
+-- how much of the second input the records on these lines of the first need: its lines up to the
 -- first record that decides all of them; a limit on what is held makes it no more
 abbrev pub intersect_reaches : Order → Handed → List TextLine → ℕ
 intersect_reaches order second lines =
     bytes_up_to (text_lines second.text)
     (decider order (records_on order lines) (bed_good Second order second).members)
 
--- subtract asks for as much of it
+-- subtract needs as much of it
 abbrev pub subtract_reaches : Order → Handed → List TextLine → ℕ
 subtract_reaches = intersect_reaches

@@ -28,7 +28,7 @@ use Rattle.bt_tool.specs.declared.tool.Tool.TheVariants.{Coverage, BamToBed, Mas
 abbrev pub Word : Type 0
 Word = List ℕ
 
--- whether an option may stand with this value, or without one: a file name isn't empty, a number is
+-- whether an option may have this value, or none: a file name isn't empty, a number is
 -- one of bt_lines, a fraction is at most 1, a strand is `+` or `-`,
 -- and a character is a printable one of ASCII
 abbrev pub fits : Takes → Option Word → Bool
@@ -108,7 +108,7 @@ complement_table = record {
   output = None;
 }
 
--- Two shapes of output exclude one another, but for -wa beside -wb, and beside -u, -v and -c,
+-- Two shapes of output exclude one another, except -wa beside -wb, and beside -u, -v and -c,
 -- where it changes nothing.
 abbrev pub intersect_table : Table
 intersect_table = record {

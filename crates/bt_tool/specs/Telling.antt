@@ -27,8 +27,8 @@ pub record TellsLine (Kinds : Kind → Type 0) (input : Input) (fault : Told) : 
   pub of_kind : Kinds kind
   pub is : fault ≡ fault_at_line input line kind
 
--- a failed read, told only where the source has failed or handed over too many bytes (of unknown
--- bytes that can't be told)
+-- a failed read, reported only if the source has failed or handed over too many bytes (of unknown
+-- bytes that can't be said)
 pub record TellsRead {S : Type 0} (left : S → Option (List ℕ)) (failed : S → Bool) (input : Input)
     (before after : S) (fault : Told) : Type 0 where
   pub line : ℕ
@@ -53,11 +53,11 @@ abbrev pub TellsDevice : Bool → Told → Type 0
 TellsDevice sink_failed fault =
     ((fault ≡ write_failed) × (sink_failed ≡ true)) ⊎ (fault ≡ no_memory)
 
--- the bytes put are known, and so many at least
+-- the bytes put are known, and at least this many
 abbrev pub IsPutTo : ℕ → Option (List ℕ) → Type 0
 IsPutTo size put = (bytes : List ℕ) × (put ≡ Some bytes) × (size ≤ length bytes)
 
--- a fault is told, and it isn't a failed write
+-- a fault is reported, and it isn't a failed write
 abbrev pub IsFaultButWrite : Option Told → Type 0
 IsFaultButWrite fault = (fault ≢ None) × (fault ≢ Some write_failed)
 
@@ -65,10 +65,10 @@ IsFaultButWrite fault = (fault ≢ None) × (fault ≢ Some write_failed)
 abbrev pub IsWithin : Bool → List ℕ → ℕ → Type 0
 IsWithin told text n = (told ≡ false) ⊎ (n ≤ length (text_lines text))
 
--- How far an input was read beside what was written: for some n, at least 1, it handed over at most
--- its first n lines and a block, and what its first n - 1 lines settle was taken but for a block.
--- Unless a write failed, all of it was put; and nothing more, where a fault stopped the run. What is
--- said beside it of that n is how far another input was read.
+-- How far an input was read by the time that this was written: for some n, at least 1, it handed over
+-- at most its first n lines and a block, and what its first n - 1 lines settle was taken, except at
+-- most a block. Unless a write failed, all of it was put, and nothing more if a fault stopped the run.
+-- `Beside` says of that n how far another input was read.
 pub record ReadsNoFurther (Beside : ℕ → Type 0) (settles : List TextLine → List ℕ)
     (text : List ℕ) (left : Option (List ℕ)) (before : List ℕ)
     (took : Option (List ℕ)) (WriteFailed Stopped : Type 0) (put : Option (List ℕ)) : Type 0 where

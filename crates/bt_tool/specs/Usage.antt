@@ -1,4 +1,4 @@
--- The faults of a command line, and what is told of each.
+-- The faults of a command line, and what is reported of each.
 use Rattle.std.specs.Prelude.{ℕ, ◌<◌, ◌≤◌, Bool, List, [], ◌∷◌, ◌++◌, ◌&&◌, IsTrue, codes}
 use Rattle.std.specs.Prelude.{if◌then◌else◌, nat_eq, nat_le, slice_index_or}
 use Rattle.bt_tool.specs.declared.usage.Usage.{Usage}
@@ -44,7 +44,7 @@ input_named_twice = record { number = 7; word = 0 }
 abbrev pub names_word : ℕ → Bool
 names_word number = nat_le 2 number && nat_le number 4
 
--- a fault that can be told of so many words
+-- a fault that can be reported of this many words
 pub record IsTellable (usage : Usage) (count : ℕ) : Type 0 where
   pub at_least : 1 ≤ usage.number
   pub at_most : usage.number ≤ 7

@@ -26,17 +26,17 @@ module _ {A B : Type 0} (a_left : A → Option (List ℕ)) (a_failed a_end : A �
         → ReadsIf b_left b_failed second second_after two → out.put ≡ Some before
         → fault ≢ Some write_failed → fault ≢ Some no_memory
         → IsReported (behaviour.report one two) before fault grown
-    -- no device's fault is told: the report on the whole texts
+    -- no device's fault is reported: the report on the whole texts
     pub told : (one : Handed) (two : Option Handed) (before : List ℕ) → Holds a_left first one
         → HoldsIf b_left second two
         → out.put ≡ Some before → IsOfInput fault → IsReported (behaviour.report one two) before fault grown
-    -- where a write failed: the sink took a front of the report's output
+    -- if a write failed: the sink took a prefix of the report's output
     pub cut : fault ≡ Some write_failed → (one : Handed) (two : Option Handed) (before : List ℕ)
         → Holds a_left first one
         → HoldsIf b_left second two → out.put ≡ Some before → (front : List ℕ) × (rest : List ℕ)
         × ((behaviour.report one two).output ≡ front ++ rest)
         × IsFrontOf grown.took (Some (before ++ front)) []
-    -- whatever else fails: a front of the report's output was put
+    -- whatever else fails: a prefix of the report's output was put
     pub kept : fault ≢ Some write_failed → (one : Handed) (two : Option Handed) (before : List ℕ)
         → Holds a_left first one
         → HoldsIf b_left second two → out.put ≡ Some before → (front : List ℕ) × (rest : List ℕ)

@@ -28,8 +28,8 @@ pooled_written order d strand = record {
       (passed_by d (ordered_runs order d strand records) (last_of (intervals_of records)));
 }
 
--- the runs of each strand, all listed by their first records, and the longest front of them that
--- the last record has passed
+-- the runs of each strand, all listed by their first records: the first ones, as long as
+-- the last record closes them
 abbrev pub strands_written : ℕ → Written Feature
 strands_written d = record {
   whole = λ records. interval_lines (places_of (strand_runs d records));

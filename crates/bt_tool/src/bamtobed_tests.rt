@@ -195,7 +195,7 @@ fn single_lines(rt: HostRuntime) -> Result<(), Fail> {
     check_edges(&rt, rt.alloc(), &EDGES)
 }
 
-// Inputs with the line ends as they stand: a name, the input, and its BED lines.
+// Inputs with unchanged line ends: a name, the input, and its BED lines.
 type Ends = (&'static str, &'static [u8], &'static [u8]);
 
 const LINE_ENDS: [Ends; 6] = [

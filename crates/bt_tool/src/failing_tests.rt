@@ -22,7 +22,7 @@ fn word<'a>(row: &Row, at: usize) -> &'a str {
     row.words.get(at).copied().unwrap_or("")
 }
 
-// How an input is read where one of them is cut off: that one serves so many bytes.
+// How an input is read if one of them is cut off: that one serves this many bytes.
 fn script_for(input: Input, cut: Option<(Input, usize)>, step: usize) -> Script {
     match cut {
         Some((of, good)) if of == input => failing_by(step.max(1), good),
@@ -47,7 +47,7 @@ fn run_row(
     )
 }
 
-// What is written and reported where reading this input fails behind so many whole lines.
+// What is written and reported when reading this input fails after this many complete lines.
 fn wanted_of(row: &Row, input: Input, lines: usize) -> Cut {
     let cut = match input {
         Input::Genome => None,
@@ -97,7 +97,7 @@ fn check_cut(
     Ok(())
 }
 
-// Whatever byte of an input fails to come. An input without a byte isn't cut, but for the first.
+// Whatever byte of an input fails to come. Only the first input is cut if it has no byte.
 fn check_cuts(
     rt: &impl Abort,
     alloc: Global,
@@ -115,7 +115,7 @@ fn check_cuts(
     Ok(())
 }
 
-// A sink that takes so many bytes takes the first of the output; where these are all, the run is whole.
+// A sink that takes `good` bytes takes the first of the output; if these are all, the run is complete.
 fn check_outputs(rt: &impl Abort, alloc: Global, row: &Row, step: usize) -> Result<(), Fail> {
     let command = word(row, 0);
     let failed = format!(in alloc; "bedtools {command}: writing failed\n")?;

@@ -1,7 +1,7 @@
 use crate::tests::{INTERSECT, Pair, check_pairs};
 use std::test::Fail;
 
-// What can be wrong with a line of the first input, behind a record whose lines are written.
+// What can be wrong with a line of the first input, after a record whose lines are written.
 const OF_FIRST: [Pair; 7] = [
     Pair {
         name: "too few columns",
@@ -61,7 +61,7 @@ const OF_FIRST: [Pair; 7] = [
     },
 ];
 
-// What can be wrong with a line of the second input, which the first record asks for.
+// What can be wrong with a line of the second input, which the first record needs.
 const OF_SECOND: [Pair; 7] = [
     Pair {
         name: "too few columns",

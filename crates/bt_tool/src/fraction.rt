@@ -11,7 +11,7 @@ use bt_lines::number;
 /// One, the greatest fraction, in billionths.
 const ONE: u64 = 1_000_000_000;
 
-/// How many digits may stand after the point.
+/// How many digits may follow the point.
 const DECIMALS: usize = 9;
 
 /// The fraction that a word denotes, in billionths. Leading zeros are allowed, a sign, a space or an
@@ -65,7 +65,7 @@ fn ones_in(whole: &[u8]) -> Option<u64>
     Some(ones)
 }
 
-// The number of nine digits after the point: zeros stand after those that are there.
+// The number of nine digits after the point: those that are there, and then zeros.
 fn billionths_behind(decimals: &[u8]) -> Option<u64>
     requires { length decimals.now ≤ 9 }
     ensures value { result ≡ if list_all is_ascii_digit decimals.now

@@ -9,7 +9,7 @@ use std::alloc::{AllocError, Global};
 use std::process::Abort;
 use std::test::Fail;
 
-// A line of so many tabs.
+// A line of this many tabs.
 fn tabs(alloc: Global, count: usize) -> Result<Vec<u8>, AllocError> {
     let mut text = Vec::new(alloc);
     for _ in 0..count {
@@ -30,7 +30,7 @@ fn a_line_of_tabs(rt: HostRuntime) -> Result<(), Fail> {
     Ok(())
 }
 
-// An alignment at the first position, of so many of the longest operations.
+// An alignment at the first position, of this many of the longest operations.
 fn long_alignment(alloc: Global, flag: &str, count: usize) -> Result<Vec<u8>, AllocError> {
     let mut text = Vec::new(alloc);
     text.extend_from_slice(b"r\t")?;

@@ -1,7 +1,7 @@
 //! The commands, from a list of words and the bytes of the inputs to the bytes written.
 //!
-//! An example, which is the test in `example.rt`: a command line, over scripts in the place of files.
-//! `strings` makes the words, and `source_if` a source that moves so many bytes a call.
+//! An example, which is the test in `example.rt`: a command line, over scripts instead of files.
+//! `strings` makes the words, and `source_if` a source that moves this many bytes a call.
 //!
 //! ```text
 //! fn a_run(rt: HostRuntime) -> Result<(), Fail> {

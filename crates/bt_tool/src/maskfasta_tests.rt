@@ -164,7 +164,7 @@ const BLOCKS: [Pair; 8] = [
     },
 ];
 
-// Which fault is told, and which lines before it.
+// Which fault is reported, and which lines before it.
 const FAULTS: [Pair; 10] = [
     Pair {
         name: "text before the first header",
@@ -432,7 +432,7 @@ const LINES: [Pair; 14] = [
     },
 ];
 
-// Lines that a record further ahead decides.
+// Lines that a later record decides.
 const AHEAD: [Pair; 12] = [
     Pair {
         name: "a record several lines ahead",
@@ -532,7 +532,7 @@ const AHEAD: [Pair; 12] = [
     },
 ];
 
-// Sixty bases behind the first one of a line.
+// Sixty bases after the first one of a line.
 const BASES_BEHIND: &[u8] = b"CGTACGTACGTACGTACGTACGTACGTACGTACGTACGTACGTACGTACGTACGTACGTA";
 
 // Several blocks of lines, each of which begins with this base or, for the one of this index, with another. One
@@ -551,7 +551,7 @@ fn long_sequence(alloc: Global, index: u64) -> Result<Vec<u8>, AllocError> {
     Ok(text)
 }
 
-// A record on the first base of the line of this index, at most the last one or one behind it.
+// A record on the first base of the line of this index, at most the last one or one after it.
 fn on_first_base(alloc: Global, index: u64) -> Result<String, AllocError> {
     let line = index.min(600);
     let longer = if line > 300 { 199 * 60 } else { 0 };

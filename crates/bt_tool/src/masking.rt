@@ -18,7 +18,7 @@ use bt_lines::{Fault, Input, LineReader, Out, Sink, Source};
 use bt_seq::{Mask, MaskHow, MaskWant};
 use std::alloc::Global;
 
-// Makes what an engine asks for buffered, or gives it that input's end. It returns false once nothing is asked for.
+// Makes what an engine wants buffered, or gives it that input's end. It returns false once nothing is wanted.
 fn fill_wanted<A: Source, B: Source, K: Sink>(
     lines: &mut LineReader<A>,
     records: &mut Blocks<B>,
@@ -51,7 +51,7 @@ fn fill_wanted<A: Source, B: Source, K: Sink>(
     }
 }
 
-// Gives an engine the lines and the records that are buffered, as far as it asks for them.
+// Gives an engine the lines and the records that are buffered, as far as it wants them.
 fn give_buffered<A: Source, B: Source, K: Sink>(
     lines: &mut LineReader<A>,
     records: &mut Blocks<B>,
@@ -77,7 +77,7 @@ fn give_buffered<A: Source, B: Source, K: Sink>(
     masked
 }
 
-// Gives an engine what it asks for, until it asks for nothing more.
+// Gives an engine what it wants, until it wants nothing more.
 fn mask_all<A: Source, B: Source, K: Sink>(
     lines: &mut LineReader<A>,
     records: &mut Blocks<B>,
@@ -103,8 +103,8 @@ fn mask_all<A: Source, B: Source, K: Sink>(
 }
 
 /// Masks the bases of a FASTA input that the records of a BED input cover, and writes its lines. It gives
-/// the sources back, and the fault that the run ends with, if there is one. The records are read no further
-/// than the lines ask for, and once those have ended without a fault, to their end or their first fault.
+/// the sources back, and the fault that the run ends with, if there is one. The records are read only as far
+/// as the lines need, and once those have ended without a fault, to their end or their first fault.
 pub(crate) fn mask<A: Source, B: Source, K: Sink>(
     alloc: Global,
     how: MaskHow,

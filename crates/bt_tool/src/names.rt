@@ -1,4 +1,4 @@
-//! The names of a run's inputs and of its output, as they stand in the words.
+//! The names of a run's inputs and of its output, as the words have them.
 
 ghost use Rattle.std.specs.Prelude.{◌≡◌, option_map};
 ghost use Rattle.bt_tool.specs.Given.{items_in};
@@ -8,7 +8,7 @@ ghost use Rattle.bt_tool.specs.TableLent.{table_lent};
 
 use crate::given::Given;
 
-/// The names that the items give, as they stand in the words.
+/// The names that the items give, as the words have them.
 #[derive(Clone, Copy)]
 pub(crate) struct NamedFiles<'a> {
     pub(crate) genome: Option<&'a str>,

@@ -21,7 +21,7 @@ pub fn division()
     ensures told { FaultsCanBeTold }
 {}
 
-/// Some command lines, and what they ask for.
+/// Some command lines, and what they mean.
 #[tactic(auto, unfolding(crate::specs::Items::items_of, crate::specs::Options::word_fault, crate::specs::Options::options, crate::specs::Fraction::fraction_in, bt_lines::specs::Number::value_of))]
 pub fn worked_cases()
     ensures no_words { options [] ≡ Err no_command }
@@ -125,7 +125,7 @@ pub fn worked_cases()
         ∷ codes "-g" ∷ []) ≡ Err (unknown_option 3) }
 {}
 
-/// Some command lines of bamtobed, which has no genome, and what they ask for.
+/// Some command lines of bamtobed, which has no genome, and what they mean.
 #[tactic(auto, unfolding(crate::specs::Items::items_of, crate::specs::Options::word_fault, crate::specs::Options::options))]
 pub fn worked_conversions()
     ensures no_words { options (codes "bamtobed" ∷ []) ≡ Ok (record {

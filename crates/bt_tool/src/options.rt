@@ -100,7 +100,7 @@ fn limit_of(value: Option<&str>) -> Option<u64>
     }
 }
 
-// What makes a hit; `both` asks for the fraction of both records.
+// What makes a hit; `both` requires the fraction of both records.
 fn rule_of(given: Given<'_>, both: bool) -> HitRule
     ensures rule { result ≡ rule_by (items_in given.entry) both }
     ensures limit { result.billionths ≤ one_in_billionths }
@@ -123,7 +123,7 @@ fn billionths_of(value: Option<&str>) -> u64
     }
 }
 
-// Which records are merged: each strand by itself, those of the strand of a value, or all.
+// Which records are merged: each strand separately, those of the strand of a value, or all.
 fn strand_of(each: bool, value: Option<&str>) -> MergeStrand
     ensures { result ≡ strand_by each (option_map (λ value. value.now) value.entry) }
 {
@@ -191,7 +191,7 @@ fn shape_of(given: Given<'_>) -> Shape
     hit_shape(given.has("-wa"), given.has("-wb"))
 }
 
-// The shape that `-wa` and `-wb` ask for.
+// The shape that `-wa` and `-wb` give.
 fn hit_shape(wa: bool, wb: bool) -> Shape
     ensures { result ≡ hit_shape wa wb }
 {
@@ -233,7 +233,7 @@ fn made(alloc: Global, tool: Tool, given: Given<'_>) -> Result<Plan, AllocError>
     })
 }
 
-/// What the words after the program's name ask for.
+/// What the words after the program's name mean.
 ///
 /// The plan has copies of its names, so memory can run out where the words have a plan.
 pub fn plan(alloc: Global, words: &[String]) -> Result<Plan, Refusal>

@@ -1,4 +1,4 @@
-//! What the words of a command line ask for.
+//! What the words of a command line mean.
 
 ghost use Rattle.bt_tool.specs.Limits.{is_within_limits};
 ghost use Rattle.bt_tool.specs.Table.{table_of, tool_of, IsNamedBy};
@@ -10,7 +10,7 @@ use bt_runs::MergeStrand;
 use bt_seq::MaskHow;
 use bt_sweep::{HitRule, Shape};
 
-/// A tool, with what its options ask for.
+/// A tool, with what its options say.
 #[derive(Clone, Copy, Debug, PartialEq, Eq)]
 pub enum Command {
     /// Features that overlap or touch are merged, and those up to `d` bases apart.
@@ -24,15 +24,15 @@ pub enum Command {
         limit: bool,
     },
     /// What the records of the second input make of those of the first, in this shape and by this rule
-    /// of what hits a record. With `held` no more records of the second input are held than so many.
+    /// of what hits a record. With `held` at most that many records of the second input are held.
     Intersect {
         shape: Shape,
         rule: HitRule,
         held: Option<u64>,
     },
     /// What is left of the records of the first input by those of the second that hit them: pieces, or
-    /// with `whole` the records that none hits. With `held` no more records of the second input are held
-    /// than so many.
+    /// with `whole` the records that none hits. With `held` at most that many records of the second input
+    /// are held.
     Subtract {
         whole: bool,
         rule: HitRule,

@@ -42,8 +42,8 @@ pub struct Ended<G, A, B, K> {
     pub out: K,
 }
 
-/// Runs a plan: reads the genome file whole, if there is one, and then the other inputs once, from the
-/// front, and writes to the sink. Without a genome file the inputs have to come in the order of the bytes
+/// Runs a plan: reads the genome file to its end, if there is one, and then the other inputs once, from their
+/// start, and writes to the sink. Without a genome file the inputs have to come in the order of the bytes
 /// of their chromosomes' names. A fault of the genome file ends the run before any other input is read.
 /// The output is flushed at every ending except after a failed write.
 pub fn run<G: Source, A: Source, B: Source, K: Sink>(

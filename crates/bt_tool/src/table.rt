@@ -1,4 +1,4 @@
-//! What the command line of each tool may say, as data: a further command is a row of this table.
+//! What the command line of each tool may say, as data: one more command is one more row of this table.
 
 use crate::takes::Takes;
 

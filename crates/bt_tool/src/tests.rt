@@ -263,12 +263,12 @@ pub(crate) fn whole(step: usize) -> Script
     Script { step, good: None }
 }
 
-// A device that fails once so many bytes were moved.
+// A device that fails once this many bytes were moved.
 pub(crate) fn failing(good: usize) -> Script {
     failing_by(7, good)
 }
 
-// The same, moving so many bytes a call.
+// The same, moving `step` bytes a call.
 pub(crate) fn failing_by(step: usize, good: usize) -> Script
     requires { 0 < step }
 {
@@ -362,7 +362,7 @@ pub(crate) fn expect_size(rt: &impl Abort, given: usize, wanted: usize) {
     assert_eq!(rt; given, wanted);
 }
 
-// A run of a command of two inputs on the genome of all tests, by these words behind those that name its
+// A run of a command of two inputs on the genome of all tests, by these words after those that name its
 // inputs, and what it gives.
 pub(crate) struct Pair {
     pub(crate) name: &'static str,
@@ -377,7 +377,7 @@ pub(crate) const INTERSECT: &[&str] = &["intersect", "-a", "a.bed", "-b", "b.bed
 
 pub(crate) const SUBTRACT: &[&str] = &["subtract", "-a", "a.bed", "-b", "b.bed", "-g", "g.txt"];
 
-// These words, and those behind them.
+// These words, and those after them.
 pub(crate) fn with_options(
     alloc: Global,
     command: &[&'static str],
@@ -440,7 +440,7 @@ pub(crate) fn text(alloc: Global, row: &str) -> Result<Vec<u8>, Fail> {
     Ok(text)
 }
 
-// A run of a command of one input on rows, by these words behind those that name its input, and what it
+// A run of a command of one input on rows, by these words after those that name its input, and what it
 // gives.
 pub(crate) struct Rows {
     pub(crate) name: &'static str,

@@ -8,7 +8,7 @@ use crate::table::{
     BAM_TO_BED, COMPLEMENT, COVERAGE, INTERSECT, MASK_FASTA, MERGE, SUBTRACT, Table,
 };
 
-/// A tool, apart from what its options ask for.
+/// A tool, without what its options say.
 #[derive(Clone, Copy, Debug, PartialEq, Eq)]
 pub enum Tool {
     Merge,

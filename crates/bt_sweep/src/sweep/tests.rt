@@ -151,7 +151,7 @@ fn go_on_second<H: Held, O: ChromOrder, K: Sink>(
     }
 }
 
-// Gives the sweep what it wants of two whole inputs.
+// Gives the sweep two inputs to their ends, as it wants them.
 fn sweep_all<H: Held, O: ChromOrder, K: Sink>(
     sweep: &mut Sweep<'_, H, O>,
     first: &[&[u8]],

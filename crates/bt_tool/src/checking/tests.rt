@@ -45,7 +45,7 @@ const TABLE: Table = Table {
     output: Some("-o"),
 };
 
-/// The words behind the command, and the number of their fault, 0 without one.
+/// The words after the command, and the number of their fault, 0 without one.
 const CASES: [(&[&str], u8); 19] = [
     (&["-a", "1", "-b", "2", "-x"], 0),
     (&["-a", "1", "-b", "2", "-x", "-y"], 0),

@@ -2,8 +2,8 @@
 
 use crate::tests::GENOME;
 
-// What a run gives where reading an input fails behind so many whole lines: what is written, and the
-// fault line; an empty one stands for the failed read at the line behind them.
+// What a run gives when reading an input fails after some complete lines: what is written, and the
+// fault line; an empty one means the failed read at the line after them.
 pub(crate) type Cut = (&'static [u8], &'static str);
 
 // A run, what it gives, and what it gives where reading an input fails.
@@ -16,7 +16,7 @@ pub(crate) struct Row {
     pub(crate) second: &'static [u8],
     pub(crate) output: &'static [u8],
     pub(crate) line: &'static str,
-    // By how many whole lines came of the first input, and of the second. With none of the genome
+    // By how many complete lines came of the first input, and of the second. With none of the genome
     // file's nothing is written.
     pub(crate) first_cut: &'static [Cut],
     pub(crate) second_cut: &'static [Cut],
@@ -234,7 +234,7 @@ pub(crate) const ONE_INPUT: [Row; 12] = [
         second: b"",
         output: b"chr1\t0\t5\t1\nchr1\t5\t10\t2\nchr1\t10\t12\t0\nchr1\t12\t15\t1\nchr1\t15\t20\t0\nchr2\t0\t5\t0\n",
         line: "",
-        // The third record starts behind the end of the first two; the gap up to it may go on.
+        // The third record starts after the end of the first two; the gap up to it may go on.
         first_cut: &[
             (b"", ""),
             (b"", ""),
@@ -359,8 +359,8 @@ pub(crate) const FAULTY_RUN: Row = Row {
     second_cut: &[(b"", ""), (b"", ""), (HIT, ""), (HIT, START)],
 };
 
-// intersect and subtract. A record is written once a whole line of the second input decides it; a fault
-// of the first input comes before one of the second that no record asks for.
+// intersect and subtract. A record is written once a complete line of the second input decides it; a
+// fault of the first input comes before one of the second that no record needs.
 pub(crate) const SWEPT: [Row; 11] = [
     FAULTY_RUN,
     Row {
@@ -505,7 +505,7 @@ const BEFORE_HEADER: &str = "bedtools maskfasta: a.fa:1: text before the first h
 
 const OUT_OF_ORDER: &str = "bedtools maskfasta: b.bed:2: record is out of order\n";
 
-// Lines are written once a whole record decides them.
+// Lines are written once a complete record decides them.
 pub(crate) const MASKED: [Row; 9] = [
     Row {
         name: "a last line without an end",

@@ -592,7 +592,7 @@ fn words_give_a_plan_or_a_usage_line(rt: HostRuntime) -> Result<(), Fail> {
     check_words(&rt, rt.alloc(), &CASES)
 }
 
-// Each command line of a table gives what stands there.
+// Each command line of a table gives what the table says.
 fn check_all(
     rt: &impl Abort,
     alloc: Global,
