@@ -2,9 +2,8 @@
 
 ghost use Rattle.std.specs.Prelude.{None, true};
 
-use self::runs::{
-    BACK_RUN, Cut, FAULTY_RUN, HIT, MASKED, MERGE, ONE_INPUT, Row, SWEPT, TOUCHING, TOUCHING_RUN,
-};
+use self::runs::{BACK_RUN, Cut, MERGE, ONE_INPUT, Row, TOUCHING, TOUCHING_RUN};
+use self::two_inputs::{FAULTY_RUN, HIT, MASKED, SWEPT};
 use crate::tests::{
     Answer, GENOME, Script, expect, expect_size, failing_by, run_both, source_if, source_of,
     strings, whole,
@@ -16,6 +15,7 @@ use std::process::Abort;
 use std::test::Fail;
 
 mod runs;
+mod two_inputs;
 
 // The word at this place; an empty one where there are fewer.
 fn word<'a>(row: &Row, at: usize) -> &'a str {
