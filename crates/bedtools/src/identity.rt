@@ -8,7 +8,7 @@ use std::os::unix::fs::MetadataExt;
 // The name by which the system knows what standard input reads.
 const STANDARD_INPUT: &str = "/dev/stdin";
 
-// The same on Linux where there is no `/dev`, as in some containers.
+// The same on Linux if there is no `/dev`, as in some containers.
 const FIRST_DESCRIPTOR: &str = "/proc/self/fd/0";
 
 /// Whether a name leads to a regular file that is an input of the plan, as by a link or another spelling.
@@ -30,7 +30,7 @@ struct FileIdentity {
 }
 
 impl FileIdentity {
-    // That of the file to which a name leads. There is none for a device, a pipe or a directory, nor where the
+    // That of the file to which a name leads. There is none for a device, a pipe or a directory, nor if the
     // system doesn't tell.
     fn of(rt: &HostRuntime, name: &str) -> Option<FileIdentity> {
         let found = metadata(rt, name).ok()?;

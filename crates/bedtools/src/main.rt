@@ -93,7 +93,7 @@ fn carry_out(rt: &HostRuntime, plan: &Plan) -> Message
     }
 }
 
-// Runs a plan over its files. `Err` where one can't be opened.
+// Runs a plan over its files. `Err` if one can't be opened.
 fn run_opened(rt: &HostRuntime, plan: &Plan) -> Result<Outcome, Message>
     ensures { IfErr result (CannotBegin (plan_seen plan.now)) }
 {
@@ -105,7 +105,7 @@ fn run_opened(rt: &HostRuntime, plan: &Plan) -> Result<Outcome, Message>
     Ok(ended.outcome)
 }
 
-// Creates the output file of a plan, or takes standard output where it has none. `Err` where it can't be
+// Creates the output file of a plan, or takes standard output if it has none. `Err` if it can't be
 // created, or is one of the inputs: that isn't touched.
 fn open_output(rt: &HostRuntime, plan: &Plan) -> Result<Output, Message>
     ensures { IfErr result (λ message. (word : Word) × ((plan_seen plan.now).output ≡ Some word)
@@ -124,7 +124,7 @@ fn open_output(rt: &HostRuntime, plan: &Plan) -> Result<Output, Message>
     }
 }
 
-// Opens an input that the plan may not have. `Err` where it can't be opened.
+// Opens an input that the plan may not have. `Err` if it can't be opened.
 fn open_if_named(
     rt: &HostRuntime,
     plan: &Plan,
@@ -140,7 +140,7 @@ fn open_if_named(
     }
 }
 
-// Opens an input. `Err` where it can't be opened.
+// Opens an input. `Err` if it can't be opened.
 fn open(rt: &HostRuntime, plan: &Plan, name: &str) -> Result<Opened, Message>
     ensures { IfErr result (ReportsUnopened (plan_seen plan.now) name.now) }
 {

@@ -39,7 +39,7 @@ pub enum MessageLine {
 
 impl Message {
     /// Says what kept a run from beginning. The exit status is 2 for a command line that can't be used,
-    /// else 1. Where the line finds no memory, that is reported, with status 1.
+    /// else 1. If the line finds no memory, that is reported, with status 1.
     pub fn of(alloc: Global, obstacle: &Obstacle<'_>) -> Message
         requires { CanBeReported obstacle.now }
         ensures { Says (line_of obstacle.now) (status_of obstacle.now) result }
@@ -64,7 +64,7 @@ impl Message {
         }
     }
 
-    /// Prints the line on standard error. Where that fails there is nowhere left to say so.
+    /// Prints the line on standard error. If that fails there is nowhere left to say so.
     pub fn print(&self, rt: &HostRuntime) {
         let _ = rt.stderr().write_all(self.line.as_bytes());
     }

@@ -12,7 +12,7 @@ use std::os::fd::{AsFd, AsRawFd};
 /// read nor written. Without it the next file to be opened would be that stream.
 #[derive(Drop)]
 pub struct StandIns {
-    // `None` where the stream is open, here and below.
+    // `None` if the stream is open, here and below.
     input: Option<File>,
     output: Option<File>,
     error: Option<File>,
@@ -20,7 +20,7 @@ pub struct StandIns {
 
 impl StandIns {
     /// Takes the place of each closed stream, until the answer is dropped. It has to come before any
-    /// file is opened. `Err` where a stream is closed and its place can't be taken.
+    /// file is opened. `Err` if a stream is closed and its place can't be taken.
     pub fn take(rt: &HostRuntime) -> io::Result<StandIns>
         ensures { IfOk result StandInPlace }
     {
@@ -57,7 +57,7 @@ fn is_closed<S: AsFd>(stream: &S) -> bool {
     }
 }
 
-// EBADF of POSIX, as Linux numbers it. Where no descriptor is left for the copy the error is another.
+// EBADF of POSIX, as Linux numbers it. If no descriptor is left for the copy the error is another.
 const BAD_DESCRIPTOR: i32 = 9;
 
 #[cfg(test)]

@@ -41,7 +41,7 @@ module _ (batch : Batch) (line : LineText) (cut : Cut (rest_in (cursor_in batch)
       behind : List TextLine → List Feature
       behind l = run_of batch.name.now (record_in raw).start l
 
-  -- none is left where it starts below
+  -- none is left if it starts below
   pub none_below : (raw : RawRecord) → IsOnLine (line_shown line) (chrom_in batch) raw → (record_in raw).start < start_in batch → left batch ≡ []
   unfolding left chrom_in start_in cursor_in
   none_below raw is below =

@@ -79,7 +79,7 @@ pub record LineCame {S : Type 0} (left : S → Option (List ℕ)) (failed : S �
   pub goes : fault_kept new ≡ None
   pub near : length (held new) ≤ block_size
 
--- where lines were taken, bytes were
+-- if lines were taken, bytes were
 pub some_bytes : (count : ℕ) (bytes : List ℕ) → 0 < line_feeds (take count bytes) → 0 < count
 some_bytes zero bytes some = absurd (omega (arith, some))
 some_bytes (suc count) bytes some = omega arith

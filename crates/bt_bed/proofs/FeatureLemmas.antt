@@ -41,7 +41,7 @@ columns_in_kept (x ∷ xs) h = kept_is_cut x xs h.0 h.1
 abbrev pub whole : List ℕ → ℕ → ℕ → List (List ℕ) → Feature
 whole chrom start stop rest = record { chrom = chrom; start = start; stop = stop; strand = strand_of rest; rest = kept_columns rest }
 
--- what was found in three columns, where they say a feature
+-- what was found in three columns, if they say a feature
 pub record IsWhole (chrom : List ℕ) (start stop : Option ℕ) (rest : List (List ℕ)) (f : Feature) : Type 0 where
   pub some : 0 < length chrom
   pub start_is : start ≡ Some f.start

@@ -30,7 +30,7 @@ module _ {A L F : Type 0} where
   all_at rule a members true e some rest = ap (λ l. rule.lines a ++ l) (rest some) ∙ sym (written_at rule a members true e)
   all_at rule a members false e some rest = absurd (false≢true some)
 
-  -- where each member is decided, the lines of all are those before the first that isn't
+  -- if each member is decided, the lines of all are those before the first that isn't
   pub all_written : (rule : Rule A L F) (members : List A) → list_all rule.decided members ≡ true → flat_map rule.lines members ≡ written rule members
   all_written rule [] e = refl
   all_written rule (a ∷ members) e = all_at rule a members (rule.decided a) refl e (all_written rule members)

@@ -74,12 +74,12 @@ wrong_of_bed order last text kind e = (
 
 -- ---- the chromosome of the record ahead
 
--- where it is that of the last record
+-- if it is that of the last record
 pub held_same : (name chrom : List ℕ) (last : Option ℕ) → is_some last && bytes_eq name chrom ≡ true → (name ≡ chrom) × (start_on false last ≡ start_after (start_at name last) chrom)
 held_same name chrom None e = absurd (false≢true e)
 held_same name chrom (Some start) e = ((bytes_eq-Decides name chrom).0 e, rw e refl)
 
--- where it is another
+-- if it is another
 pub held_other : (name chrom : List ℕ) (last : Option ℕ) → is_some last && bytes_eq name chrom ≡ false → start_on true last ≡ start_after (start_at name last) chrom
 held_other name chrom None e = refl
 held_other name chrom (Some start) e = rw e refl

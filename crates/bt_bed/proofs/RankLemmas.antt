@@ -11,7 +11,7 @@ is_some-cond : (b : Bool) (o : Option ℕ) → is_some (cond b (Some 0) (option_
 is_some-cond true o = refl
 is_some-cond false o = is_some-map o
 
--- a name is among the names exactly where it has a rank
+-- a name is among the names exactly if it has a rank
 pub among_ranked : (names : List (List ℕ)) (name : List ℕ) → is_some (rank_of names name) ≡ is_among names name
 among_ranked [] name = refl
 among_ranked (n ∷ ns) name = is_some-cond (bytes_eq n name) (rank_of ns name) ∙ ap (λ b. bytes_eq n name || b) (among_ranked ns name)

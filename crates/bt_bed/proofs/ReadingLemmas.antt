@@ -70,7 +70,7 @@ module _ {A State : Type 0} (format : Format A State) (input : Input) (state : S
   good_fault line (Some xs) None kind g e = absurd g
   good_fault line (Some xs) (Some ys) kind g e = ap (good_from format input state) g ∙ wrong_good line ys kind e
 
-  -- where no line is left, no member is
+  -- if no line is left, no member is
   good_end : (a : Option (List TextLine)) → IfSome a (λ lines. lines ≡ [])
       → IfSome (option_map (good_behind format input None state) a) (λ good. good ≡ ends_with None)
   unfolding good_from

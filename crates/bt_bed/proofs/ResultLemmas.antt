@@ -7,7 +7,7 @@ pub passed_on : {T E : Type 0} (P : Result T E → Type 0) (result : Result T E)
 passed_on P (Ok x) error is p = absurd is
 passed_on P (Err e) error is p = subst P (ap Err (sym is)) p
 
--- what holds where a result is fine and where it isn't, holds
+-- what holds if a result is fine and if it isn't, holds
 pub either_way : {T E : Type 0} {X : Type 0} (P : X → Type 0) (result : Result T E) (new fine kept : X) → OnOk result (new ≡ fine) → OnErr result (new ≡ kept) → P fine → P kept → P new
 either_way P (Ok x) new fine kept p q f k = subst P (sym p) f
 either_way P (Err e) new fine kept p q f k = subst P (sym q) k

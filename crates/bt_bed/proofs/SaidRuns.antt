@@ -208,7 +208,7 @@ says_in_order : (sorting : Sorting) (state : Option Locus) (text : List ℕ) (r 
 unfolding line_says
 says_in_order sorting state text r knows stays says = ap (said_after sorting state) says ∙ rw (knows, stays) refl
 
--- the records of a run are said where they are in order
+-- the records of a run are said if they are in order
 pub order_is_said : (sorting : Sorting) (state : Option Locus) (name : List ℕ) (start : ℕ) (lines : List TextLine) (records : List Feature) → run_of name start lines ≡ records → are_in_order sorting state records ≡ true
     → AreSaid (bed_format sorting) state records
 order_is_said sorting state name start lines [] e o = tt

@@ -135,11 +135,11 @@ module _ {S Q : Type 0} (left : S → Option (List ℕ)) (failed end : S → Boo
       kept = λ was. kept (g.passed.kept was);
     }
 
--- where a line was taken, nothing more was read
+-- if a line was taken, nothing more was read
 read_on : {S : Type 0} (left : S → Option (List ℕ)) (end : S → Bool) (IsRead : S → Option ℕ → S → Type 0) (old mid new : LineReader S) → HasRead IsRead old mid → TakesOne left end mid new → HasRead IsRead old new
 read_on left end IsRead old mid new read one = has_read_then IsRead old mid new read (counts_none IsRead (source_of mid) (source_of new) (bytes_taken mid) (bytes_taken new) one.takes.source_is one.takes.taken_is)
 
--- where no record is known to be ahead, none is buffered
+-- if no record is known to be ahead, none is buffered
 pub none_buffered : {S Q : Type 0} (sorted : SortedReader S Q) → sorted.is_ahead ≡ false → buffered_in sorted ≡ []
 unfolding buffered_in
 none_buffered sorted none = rw none refl

@@ -26,7 +26,7 @@ up_to_by order last place total was is Greater e stays =
 stays_up_to : (order : Order) (last place : Locus) → IsTotal order → IsTrue (order.knows last.chrom) → IsTrue (order.knows place.chrom) → falls_below order (Some last) place ≡ false → IsUpTo order last place
 stays_up_to order last place total was is stays = up_to_by order last place total was is (order.compare place.chrom last.chrom) refl stays
 
--- where the names differ, the order of the chromosomes decides alone
+-- if the names differ, the order of the chromosomes decides alone
 apart_by : (o : Ordering) (start other : ℕ) → (o ≡ Equal → ⊥) → is_less o ≡ is_below_at o start other
 apart_by Less start other apart = refl
 apart_by Equal start other apart = absurd (apart refl)

@@ -33,7 +33,7 @@ use Rattle.bt_bed.specs.Record.{not_skipped}
 use Rattle.bt_bed.specs.GenomeTable.{entries, names_of, entry_seen, IsToldFirst, LineAdded, LineRefused, LineUnkept, ReadsAll, EntryIsWrong, ReadingStops, StopCause}
 use Rattle.bt_bed.specs.declared.genome.Genome.{Genome}
 
--- the kind of an answer is of a line where the kind that it was is
+-- the kind of an answer is of a line if the kind that it was is
 pub same_place : {T : Type 0} (was : Result T Kind) (a kind : Kind) → was ≡ Err a → was ≡ Err kind → is_genome_kind a ≡ true → is_genome_kind kind ≡ true
 same_place was a kind p q placed = let is : a ≡ kind = cc in subst (λ k. is_genome_kind k ≡ true) is placed
 

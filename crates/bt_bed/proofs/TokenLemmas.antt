@@ -28,14 +28,14 @@ none_some : (xs : List Feature) → is_some_left xs ≡ false → xs ≡ []
 none_some [] e = refl
 none_some (x ∷ xs) e = absurd (false≢true (sym e))
 
--- where no line was consumed, no byte was
+-- if no line was consumed, no byte was
 same_place : (first last : BufferedLines) → PassesLines first 0 last → last.at ≡ first.at
 unfolding rest_in
 same_place first last p =
     let gone : take (last.at - first.at) (rest_in first) ≡ [] = fed_none (take (last.at - first.at) (rest_in first)) p.fed p.feeds in
     omega (arith, ap length gone, length-take (last.at - first.at) (rest_in first), length-drop first.at first.all.now, last.within, ap (λ a. length a.now) p.all_is, p.rises)
 
--- where a record is buffered, the next one of the batch is some
+-- if a record is buffered, the next one of the batch is some
 pub one_given : {S Q : Type 0} (sorted : SortedReader S Q) (first last : Batch) (next : Option RawRecord) (r : Feature) (more : List Feature) → buffered_in sorted ≡ r ∷ more → Lends sorted first
     → IfSome next (λ raw. Passes first (record_in raw ∷ []) last) → IfNone next (left first ≡ []) → (one : Feature) × Passes first (one ∷ []) last
 one_given sorted first last (Some raw) r more is lends some none = (record_in raw, some)

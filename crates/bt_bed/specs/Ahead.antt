@@ -7,7 +7,7 @@ use Rattle.bt_bed.specs.Neighbours.{name_in, start_in}
 use Rattle.bt_bed.specs.Run.{run_of}
 use Rattle.bt_bed.specs.declared.neighbours.Neighbours.{Neighbours}
 
--- those on the chromosome of the record ahead: none where none is known to be ahead
+-- those on the chromosome of the record ahead: none if none is known to be ahead
 abbrev pub ahead_of : {S Q : Type 0} → Bool → LineReader S → Neighbours Q → List Feature
 ahead_of is_ahead reader neighbours =
     if is_ahead then run_of (name_in neighbours) (start_in neighbours) (buffered_in reader) else []

@@ -13,7 +13,7 @@ pub record HasBase (r : Interval) (chrom : List ℕ) (p : ℕ) : Type 0 where
 abbrev pub length_of : Interval → ℕ
 length_of r = r.stop - r.start
 
--- how many bases two intervals have in common: the smaller stop less the greater start, where they
+-- how many bases two intervals have in common: the smaller stop less the greater start, if they
 -- lie on one chromosome and this is above 0
 abbrev pub shared : Interval → Interval → ℕ
 shared a b = cond (bytes_eq a.chrom b.chrom) (min a.stop b.stop - max a.start b.start) 0

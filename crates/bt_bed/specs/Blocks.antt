@@ -51,7 +51,7 @@ module _ {S : Type 0} where
   abbrev pub fault_kept : Blocks S → Option Told
   fault_kept blocks = (view_of blocks).fault
 
-  -- what is still to come, the records that are buffered included, where the source's bytes are known
+  -- what is still to come, the records that are buffered included, if the source's bytes are known
   abbrev pub good_left : (S → Option (List ℕ)) → Blocks S → Option (Good Feature)
   good_left left blocks = good_coming left (view_of blocks)
 

@@ -39,7 +39,7 @@ pub record Leads (text : List ℕ) (lead : Leading) : Type 0 where
   pub column : All (λ byte. (byte == 9) ≡ false) (take lead.end text)
   pub value : value_of (take lead.end text) ≡ Some lead.value
 
--- the second and the third column denote the start and the end of a feature, where the first column
+-- the second and the third column denote the start and the end of a feature, if the first column
 -- ends here
 pub record AreBounds (text : List ℕ) (name : ℕ) (start stop : Leading) : Type 0 where
   pub first : Leads (drop (name + 1) text) start

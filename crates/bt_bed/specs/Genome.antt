@@ -47,14 +47,14 @@ is_skipped (byte ∷ bytes) = byte == 35
 unfoldable pub entry_of : List ℕ → Result (Option Entry) Kind
 entry_of text = if is_skipped text then Ok None else not_skipped (columns_give (pieces 9 text))
 
--- an entry, where no entry before it has the name
+-- an entry, if no entry before it has the name
 abbrev pub new_entry : List (List ℕ) → Result (Option Entry) Kind → Result (Option Entry) Kind
 new_entry names (Err kind) = Err kind
 new_entry names (Ok None) = Ok None
 new_entry names (Ok (Some entry)) = if is_among names entry.name then Err RepeatedChrom else Ok
     (Some entry)
 
--- an entry before others, where these have no fault
+-- an entry before others, if these have no fault
 abbrev pub with_entry : Entry → Result (List Entry) Told → Result (List Entry) Told
 with_entry entry (Ok entries) = Ok (entry ∷ entries)
 with_entry entry (Err fault) = Err fault
@@ -77,7 +77,7 @@ genome_from input names (line ∷ lines) = genome_with input line.number names
 abbrev pub genome_of : Input → List TextLine → Result (List Entry) Told
 genome_of input lines = genome_from input [] lines
 
--- the entries, or the first fault, or else this one, where there is one
+-- the entries, or the first fault, or else this one, if there is one
 abbrev pub genome_cut : Option Told → Result (List Entry) Told → Result (List Entry) Told
 genome_cut None result = result
 genome_cut (Some fault) (Ok entries) = Err fault

@@ -62,7 +62,7 @@ pub record LineUnkept (text : List ℕ) (old : Genome) (fault : Told) : Type 0 w
   pub says : new_entry (names_of old) (entry_of text) ≡ Ok (Some entry)
   pub is : fault ≡ no_memory
 
--- where one of the first lines is at fault, its fault is the one told
+-- if one of the first lines is at fault, its fault is the one told
 abbrev pub IsToldFirst : Input → Option (List TextLine) → ℕ → Told → Type 0
 IsToldFirst input lines count fault = IfSome lines
     (λ all. (other : Told) → genome_of input (take count all) ≡ Err other → fault ≡ other)

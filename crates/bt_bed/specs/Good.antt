@@ -60,17 +60,17 @@ good_from format input state (line ∷ lines) =
 abbrev pub good : {A State : Type 0} → Format A State → Input → List TextLine → Good A
 good format input lines = good_from format input format.begin lines
 
--- the first of two faults, where there is one
+-- the first of two faults, if there is one
 abbrev pub or_else : Option Told → Option Told → Option Told
 or_else None other = other
 or_else (Some fault) other = Some fault
 
--- the same members, and after them this fault, where none of theirs comes before
+-- the same members, and after them this fault, if none of theirs comes before
 abbrev pub cut_by : {A : Type 0} → Option Told → Good A → Good A
 cut_by fault good = record { members = good.members; fault = or_else good.fault fault }
 
 -- What is good of an input that may have been cut off: the good members of the lines handed over,
--- and after them the failed read, where none of these lines is at fault.
+-- and after them the failed read, if none of these lines is at fault.
 abbrev pub good_handed : {A State : Type 0} → Format A State → Input → Handed → Good A
 good_handed format input handed =
     cut_by (cut_fault input handed) (good format input (lines_handed handed))

@@ -37,7 +37,7 @@ abbrev pub last_from : Interval → List Interval → Interval
 last_from r [] = r
 last_from r (s ∷ ss) = last_from s ss
 
--- the last of the records, where there is one
+-- the last of the records, if there is one
 abbrev pub last_of : List Interval → Option Interval
 last_of [] = None
 last_of (r ∷ rs) = Some (last_from r rs)

@@ -37,7 +37,7 @@ is_bed_kind OutOfOrder = true
 is_bed_kind _ = false
 
 -- A line of a BED input that is sorted by an order of the chromosomes can be at fault so. For an
--- unknown chromosome it is only where there is a name that the order doesn't know.
+-- unknown chromosome it is only if there is a name that the order doesn't know.
 abbrev pub IsBedKind : Order → Kind → Type 0
 IsBedKind order kind =
     (is_bed_kind kind ≡ true)

@@ -110,7 +110,7 @@ module _ {S A State : Type 0} where
   abbrev pub line_of_ahead : MemberReader S A State → Option ℕ
   line_of_ahead reader = option_map (λ m. m.line) (ahead_in reader)
 
-  -- what is still to come, the members that are buffered included, where the source's bytes are known
+  -- what is still to come, the members that are buffered included, if the source's bytes are known
   unfoldable pub good_coming : (S → Option (List ℕ)) → MemberReader S A State → Option (Good A)
   good_coming left reader =
       option_map
@@ -136,13 +136,13 @@ module _ {S A State : Type 0} where
       (old : MemberReader S A State) (m : Member A) (new : MemberReader S A State) : Type 0 where
     pub ahead : ahead_in new ≡ Some m
     pub state : new.state ≡ old.state
-    -- it is the first of what is still to come, where that is known, and nothing of it is lost
+    -- it is the first of what is still to come, if that is known, and nothing of it is lost
     pub good : Remains (good_coming left old) (good_coming left new)
     pub first : IfSome (good_coming left old) (λ good. (rest : List (Member A))
         × (good.members ≡ m ∷ rest))
     -- known or not, it is what a line says after the member before it
     pub said : IsSaidBehind old.format old.state m.item
-    -- where it was ahead before, nothing is read
+    -- if it was ahead before, nothing is read
     pub again : IsSome (ahead_in old) → new ≡ old
     -- its line comes next, after those given before
     pub at : m.line ≡ suc (lines_given new.below)

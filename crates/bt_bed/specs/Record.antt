@@ -1,4 +1,4 @@
--- What a line of a BED file says: nothing where it is blank or a header, or else a feature (UCSC
+-- What a line of a BED file says: nothing if it is blank or a header, or else a feature (UCSC
 -- BED description, fields chrom, chromStart, chromEnd and strand).
 use Rattle.std.specs.Prelude.{◌≡◌, ℕ, ◌<◌, ◌≤◌, ◌==◌, Bool, true, false, IsTrue, length, List, []}
 use Rattle.std.specs.Prelude.{◌∷◌, ◌++◌, codes, decimal, flat_map, bytes_eq, Option, Some, None}

@@ -57,7 +57,7 @@ module _ {S O : Type 0} {g : Ghosts O} where
   abbrev pub fault_kept : Records S O g → Option Told
   fault_kept records = (view_of records).fault
 
-  -- what is still to come, the records that are buffered included, where the source's bytes are known
+  -- what is still to come, the records that are buffered included, if the source's bytes are known
   abbrev pub good_left : (S → Option (List ℕ)) → Records S O g → Option (Good Feature)
   good_left left records = good_coming left (view_of records)
 

@@ -27,7 +27,7 @@ stretches_are_one =
     → AreStretchesOf (λ p. IsTrue (test p)) ys → xs ≡ ys
 
 -- the position as one more stretch before the others,
--- or as the first position of the first where they touch
+-- or as the first position of the first if they touch
 unfoldable pub with_position : ℕ → List Span → List Span
 with_position p [] = record { start = p; stop = p + 1 } ∷ []
 with_position p (s ∷ ss) =

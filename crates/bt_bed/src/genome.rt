@@ -251,7 +251,7 @@ mod tests {
         assert!(rt; found);
     }
 
-    // Which of two names comes first, where the order knows both.
+    // Which of two names comes first, if the order knows both.
     fn compared<O: ChromOrder>(order: &O, left: &[u8], right: &[u8]) -> Option<Ordering> {
         if order.knows(left) && order.knows(right) {
             Some(order.compare(left, right))

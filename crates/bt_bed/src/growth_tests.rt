@@ -79,7 +79,7 @@ fn become_next(rec: &mut Rec, next: &BedRef<'_>, has_name: bool) -> Result<(), A
     }
 }
 
-// A record becomes longer ones, one after another. Where that is refused it has to be the one before.
+// A record becomes longer ones, one after another. If that is refused it has to be the one before.
 fn become_longer(rt: &impl Abort, alloc: Global, has_name: bool) -> Result<(), Fail> {
     let mut before = parse_bed(GROWING[0])
         .ok()

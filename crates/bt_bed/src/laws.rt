@@ -119,7 +119,7 @@ pub fn blocks_know_each_chromosome()
     ensures { blocks_know_each_chromosome }
 {}
 
-/// Where two inputs meet, what is written early begins what is written in the end, whichever fault is
+/// When two inputs meet, what is written early begins what is written in the end, whichever fault is
 /// reported.
 pub fn early_lines_begin_the_whole<A, L, F>()
     ensures { EarlyLinesBegin A L F }

@@ -15,7 +15,7 @@ pub(crate) struct Neighbours<Q> {
     pub(crate) rule: Q,
     // The chromosome of the last record, while `last` is one.
     last_name: Vec<u8>,
-    // The chromosome of the record ahead, where that is another one.
+    // The chromosome of the record ahead, if that is another one.
     ahead_name: Vec<u8>,
     // The start of the last record; `None` before the first.
     last: Option<u64>,
@@ -137,7 +137,7 @@ impl<Q: Sorted> Neighbours<Q> {
         }
     }
 
-    // Holds the chromosome of the record ahead: its name is copied where it is another than the last. It is false where
+    // Holds the chromosome of the record ahead: its name is copied if it is another than the last. It is false if
     // there is no room for that.
     fn hold(&mut self, is_same: bool, chrom: &[u8]) -> bool
         requires same { is_same ≡ goes_on self.old chrom.now }

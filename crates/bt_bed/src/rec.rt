@@ -79,7 +79,7 @@ impl Rec {
         Ok(())
     }
 
-    /// Becomes the record that is given as [`Rec::copy_from`] does, where both lie on one chromosome:
+    /// Becomes the record that is given as [`Rec::copy_from`] does, if both lie on one chromosome:
     /// its name isn't copied again.
     pub fn copy_rest_from(&mut self, bed: &BedRef<'_>) -> Result<(), AllocError>
         requires { bed.now.chrom.now ≡ self.old.chrom }

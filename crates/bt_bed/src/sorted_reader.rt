@@ -11,7 +11,7 @@ use crate::sorted::Sorted;
 use bt_lines::{Fault, LineReader, Place, Source};
 use std::alloc::Global;
 
-// Where a record is ahead, the reader's next line says it. The fault is that of a line or of a name that had no room, or
+// If a record is ahead, the reader's next line says it. The fault is that of a line or of a name that had no room, or
 // the reader's own.
 #[derive(Drop)]
 pub(crate) struct SortedReader<S, Q> {

@@ -22,7 +22,7 @@ pub(crate) fn second_tab(text: &[u8], from: usize) -> Option<usize>
     }
     let begin = from.min(text.len() - WIDTH);
     let tabs = tab_bits(u8x16::from_slice(&text[begin..])) >> (from - begin);
-    // The lowest bit is that of the first tab; where there is none, none is left.
+    // The lowest bit is that of the first tab; if there is none, none is left.
     let others = tabs & tabs.wrapping_sub(1);
     if others == 0 {
         return None;

@@ -9,7 +9,7 @@ use itoa::Buffer;
 use std::alloc::AllocError;
 
 /// Adds the line of a record, without its line feed: chromosome, start, end and the kept columns, with
-/// tabs between them. Start and end are printed without leading zeros. Where memory runs out, nothing
+/// tabs between them. Start and end are printed without leading zeros. If memory runs out, nothing
 /// is added.
 pub fn write_bed(bed: &BedRef<'_>, line: &mut Vec<u8>) -> Result<(), AllocError>
     ensures appended { OnOk result (line.new.items ≡ line.old.items ++ bed_text (feature_lent bed.now)) }
@@ -39,7 +39,7 @@ pub fn write_cut(
     written
 }
 
-// Adds the columns of a record with this start and this end, or where memory runs out some of their
+// Adds the columns of a record with this start and this end, or if memory runs out some of their
 // bytes.
 fn push_columns(
     bed: &BedRef<'_>,
@@ -67,7 +67,7 @@ mod tests {
     use std::alloc::Global;
     use std::test::Fail;
 
-    // A line, the bounds of the part of its record that is written where it isn't written whole, and
+    // A line, the bounds of the part of its record that is written if it isn't written whole, and
     // what is written.
     type Row = (&'static [u8], Option<(u64, u64)>, &'static [u8]);
 

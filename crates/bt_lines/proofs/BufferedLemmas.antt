@@ -42,7 +42,7 @@ lines_first true lines bytes line cut fed last =
     lines_from-last (suc lines) cut.piece cut.clear ∙ last_line-some (suc lines) cut.piece some ∙ rw (cut.returned, cut.stripped) refl in
     ap (lines_from (suc lines)) front ∙ one ∙ ap (λ l. shown_line true lines line ∷ l) (sym none)
 
--- none is left where there is no line feed
+-- none is left if there is no line feed
 lines_none : (is_open : Bool) (lines : ℕ) (bytes : List ℕ) → NoLineFeed bytes → is_fed bytes ≡ true → buffered_lines is_open lines bytes ≡ []
 lines_none false lines bytes clear fed = whole_lines_from-last (suc lines) bytes clear
 lines_none true lines bytes clear fed = ap (λ l. lines_from (suc lines) (take (length l - 1) l)) (fed_clear bytes fed clear) ∙ lines_from-nil (suc lines)
@@ -58,7 +58,7 @@ unfolding rest_in lines_in
 first_none cursor None first = lines_none cursor.is_open cursor.lines (drop cursor.at cursor.all.now) first cursor.fed
 first_none cursor (Some line) first = tt
 
--- what a cursor keeps where a line is consumed
+-- what a cursor keeps when a line is consumed
 pub record Kept (all : List ℕ) (at lines : ℕ) (is_open : Bool) : Type 0 where
   pub within : at ≤ length all
   pub a_byte_each : lines + length all ≤ 2 ^ 63 + at

@@ -70,7 +70,7 @@ front bytes = record {
   all = λ less. other_is_no_digit (get_or bytes (prefix_len (λ b. not (is_other b)) bytes) 0) (prefix_len_stops (λ b. not (is_other b)) bytes 0 less);
 }
 
--- by the bits of the other bytes, as they are loaded: where there is none, and where there is one
+-- by the bits of the other bytes, as they are loaded: if there is none, and if there is one
 pub front_whole : (bytes : List ℕ) (mask : ℕ) → length bytes ≡ 8 → mask ≡ mask_l (map is_other (chunk 0 8 bytes)) → mask ≡ 0 → AreFront bytes 8
 front_whole bytes mask size is none =
     let whole : chunk 0 8 bytes ≡ bytes = ap (λ n. take n bytes) (sym size) ∙ take-length bytes in

@@ -227,7 +227,7 @@ no_bit a b mask none =
 abbrev pub halves_in : ℕ → ℕ
 halves_in ones = bit_and (bit_or ones ((ones + 434041037028460038) % 18446744073709551616)) 17361641481138401520
 
--- six more are no more than eight bytes hold, where the upper halves are 0
+-- six more are no more than eight bytes hold, if the upper halves are 0
 sixes_fit : (bytes : List ℕ) → length bytes ≡ 8 → AreWithin 0 255 bytes → AreWithin 0 15 (flipped bytes)
     → (ones_in bytes + 434041037028460038) % 18446744073709551616 ≡ ones_in bytes + 434041037028460038
 sixes_fit bytes n all small = let most = ones_up_to bytes n all small in omega arith

@@ -197,7 +197,7 @@ module _ {S : Type 0} (left : S → Option (List ℕ)) (failed end : S → Bool)
   filled : (old mid : LineReader S) (answer : Result Bool Fault) → answer ≡ Ok true → FillsLines left failed end old answer mid → FillsLines left failed end old (Ok true) mid
   filled old mid answer e fills = subst (λ (r : Result Bool Fault). FillsLines left failed end old r mid) e fills
 
-  -- where one is buffered, it is taken
+  -- when one is buffered, it is taken
   pub is_cut : (old mid : LineReader S) (answer : Result Bool Fault) (b : Bool) → answer ≡ Ok true → FillsLines left failed end old answer mid → (b ≡ false → complete mid.buffer ≡ []) → b ≡ true
   is_cut old mid answer b e fills none = let made = (filled old mid answer e fills).answers in cuts_by b mid made.some none
 

@@ -134,13 +134,13 @@ count_by : (n : ℕ) → (n ≡ 0 → ⊥) → 0 < n
 count_by zero none = absurd (none refl)
 count_by (suc n) none = omega arith
 
--- where bytes were consumed, lines were
+-- if bytes were consumed, lines were
 pub some_lines : {S : Type 0} (reader : LineReader S) (consumed : ConsumedLines) (count : ℕ) → TakenLines reader consumed count → (consumed.bytes ≡ 0 → ⊥) → 0 < count
 some_lines reader consumed count are some =
     count_by count (λ none.
     let gone : take consumed.bytes (buffered_bytes reader) ≡ [] = fed_none (take consumed.bytes (buffered_bytes reader)) are.taken.fed (are.feeds ∙ none) in
     some (omega (arith, ap length gone, length-take consumed.bytes (buffered_bytes reader), are.taken.within)))
 
--- and where none were, none were
+-- and if none were, none were
 pub no_lines : {S : Type 0} (reader : LineReader S) (consumed : ConsumedLines) (count : ℕ) → TakenLines reader consumed count → consumed.bytes ≡ 0 → count ≡ 0
 no_lines reader consumed count are none = sym are.feeds ∙ ap (λ n. line_feeds (take n (buffered_bytes reader))) none

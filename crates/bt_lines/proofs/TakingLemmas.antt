@@ -467,7 +467,7 @@ module _ {S : Type 0} (left : S → Option (List ℕ)) (reader : LineReader S) w
   pub near_next : IsNearNext left reader
   near_next = near_by (open_at reader.state) refl
 
--- where a line is buffered, its number is below 2^63
+-- if a line is buffered, its number is below 2^63
 module _ {S : Type 0} (reader : LineReader S) (some : 0 < length (complete reader.buffer)) where
   below_by : (b : Bool) → open_at reader.state ≡ b → reader.lines + 1 ≤ reader.taken
   below_by false e =
@@ -516,7 +516,7 @@ number_by false given bytes line more e =
 pub next_number : {S : Type 0} (reader : LineReader S) (line : TextLine) (more : List TextLine) → buffered_in reader ≡ line ∷ more → line.number ≡ suc (lines_given reader)
 next_number reader line more e = number_by (is_open reader) (lines_given reader) (buffered_bytes reader) line more e
 
--- a line is buffered only where bytes are
+-- a line is buffered only if bytes are
 no_bytes : (b : Bool) (given : ℕ) (line : TextLine) (more : List TextLine) → buffered_lines b given [] ≡ line ∷ more → ⊥
 no_bytes true given line more e = let none : [] ≡ line ∷ more = sym (lines_from-nil (suc given)) ∙ e in cc
 no_bytes false given line more e = let none : [] ≡ line ∷ more = sym (whole_lines_from-last (suc given) [] (λ k d below. absurd (omega (arith, below)))) ∙ e in cc
@@ -528,7 +528,7 @@ some_bytes_by (x ∷ xs) b given line more e = omega arith
 pub next_bytes : {S : Type 0} (reader : LineReader S) (line : TextLine) (more : List TextLine) → buffered_in reader ≡ line ∷ more → 0 < length (buffered_bytes reader)
 next_bytes reader line more e = some_bytes_by (buffered_bytes reader) (is_open reader) (lines_given reader) line more e
 
--- and where bytes are, one is
+-- and if bytes are, one is
 none_buffered : (b : Bool) (given : ℕ) (bytes : List ℕ) → is_fed bytes ≡ true → (b ≡ true → nat_eq (length bytes) 1 ≡ false) → buffered_lines b given bytes ≡ [] → length bytes ≡ 0
 none_buffered false given bytes fed two none = ap length (fed_none bytes fed (sym (whole_count (suc given) bytes) ∙ ap length none))
 none_buffered true given bytes fed two none =

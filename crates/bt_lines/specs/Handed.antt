@@ -18,7 +18,7 @@ whole_text text = record { text = text; is_cut = false }
 abbrev pub lines_handed : Handed → List TextLine
 lines_handed handed = if handed.is_cut then whole_lines handed.text else text_lines handed.text
 
--- the fault after them, where the text was cut off: the failed read,
+-- the fault after them, if the text was cut off: the failed read,
 -- at the line after the last whole one
 abbrev pub cut_fault : Input → Handed → Option Told
 cut_fault input handed =

@@ -6,7 +6,7 @@ use Rattle.std.specs.Io.KnownBytes.{Appends}
 abbrev pub block_size : ℕ
 block_size = 8192
 
--- an output over a sink: the bytes put and the bytes that the sink took, where they are known
+-- an output over a sink: the bytes put and the bytes that the sink took, if they are known
 pub record Output : Type 0 where
   pub put : Option (List ℕ)
   pub took : Option (List ℕ)

@@ -37,7 +37,7 @@ abbrev pub Puts : {A : Type 0} → Output → List ℕ → Result A Fault → Ou
 Puts old bytes (Ok done) new = PutsAll old bytes new
 Puts old bytes (Err fault) new = FailsToPut old bytes (told fault) new
 
--- the output grew by these bytes, which are none where it stays as it is
+-- the output grew by these bytes, which are none if it stays as it is
 pub record Grown (old : Output) (bytes : List ℕ) (new : Output) : Type 0 where
   pub appends : Appends old.put new.put bytes
   pub block : HoldsBlock old.took old.put → HoldsBlock new.took new.put

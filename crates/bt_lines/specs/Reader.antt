@@ -29,7 +29,7 @@ abbrev pub DropsLines : Option (List TextLine) → ℕ → Option (List TextLine
 DropsLines None count new = ⊤
 DropsLines (Some lines) count new = new ≡ Some (drop count lines)
 
--- the lines are the same, where they were known
+-- the lines are the same, if they were known
 abbrev pub SameLines : Option (List TextLine) → Option (List TextLine) → Type 0
 SameLines None new = ⊤
 SameLines (Some lines) new = new ≡ Some lines
@@ -74,11 +74,11 @@ module _ {S : Type 0} where
   abbrev pub room : LineReader S → ℕ
   room reader = (2 ^ 63 - bytes_taken reader) + length (held reader)
 
-  -- the bytes that come after the lines given, where they are known
+  -- the bytes that come after the lines given, if they are known
   unfoldable pub bytes_left : (S → Option (List ℕ)) → LineReader S → Option (List ℕ)
   bytes_left left reader = left_at (end_told reader) (held reader) (left (source_of reader))
 
-  -- the lines that come after those given, where they are known
+  -- the lines that come after those given, if they are known
   abbrev pub lines_left : (S → Option (List ℕ)) → LineReader S → Option (List TextLine)
   lines_left left reader =
       option_map (lines_from (suc (lines_given reader))) (bytes_left left reader)
@@ -119,7 +119,7 @@ module _ {S : Type 0} where
   -- a line was given
   pub record GivesLine (left : S → Option (List ℕ)) (failed : S → Bool) (old : LineReader S)
       (line : TextLine) (new : LineReader S) : Type 0 where
-    -- it is the first of the lines left, where these are known
+    -- it is the first of the lines left, if these are known
     pub first : GivesFirst (lines_left left old) line (lines_left left new)
     -- the bytes taken are the line's and at most a block more, known or not
     pub bytes : (bytes : List ℕ) × Hands left old bytes new
@@ -140,7 +140,7 @@ module _ {S : Type 0} where
   -- the end was reached
   pub record GivesEnd (left : S → Option (List ℕ)) (failed : S → Bool)
       (old new : LineReader S) : Type 0 where
-    -- no line was left, where they are known, and none is
+    -- no line was left, if they are known, and none is
     pub none_left : IfSome (lines_left left old) (λ lines. lines ≡ [])
     pub none_comes : IfSome (lines_left left new) (λ lines. lines ≡ [])
     pub nothing_held : held new ≡ []
@@ -240,7 +240,7 @@ module _ {S : Type 0} where
     pub own_failure : TellsOwnFailure IsRead old answer new
     pub sound : IsSound left end old → IsSound left end new
 
-  -- what a step to the next line gives, or to the end where there is none
+  -- what a step to the next line gives, or to the end if there is none
   abbrev pub StepsTo : (S → Option (List ℕ)) → (S → Bool) → LineReader S → Option TextLine
       → LineReader S → Type 0
   StepsTo left failed old (Some line) new = GivesLine left failed old line new
@@ -309,7 +309,7 @@ module _ {S : Type 0} where
   pub record FillsLines (left : S → Option (List ℕ)) (failed : S → Bool) (end : S → Bool)
       (old : LineReader S) (answer : Result Bool Fault) (new : LineReader S) : Type 0 where
     pub answers : FillAnswers left failed old answer new
-    -- where a line is buffered, nothing changes
+    -- if a line is buffered, nothing changes
     pub unread : 0 < length (buffered_bytes old) → new ≡ old
     pub kept : IsKept left end old → IsKept left end new
 

@@ -110,7 +110,7 @@ StopsWith NoMemory left was_failed is_failed told all complete unread taken =
     ((text : List ℕ) × NoLineFeed text × (all ≡ text ++ unread)) × (complete ≡ []) × (is_failed ≡ was_failed)
 
 module _ {S : Type 0} (left : S → Option (List ℕ)) (failed : S → Bool) (told : S → Bool) where
-  -- lines were buffered, where none was: those among the bytes that were read already, else by reads
+  -- lines were buffered, if none was: those among the bytes that were read already, else by reads
   pub record Buffers (old : S) (old_unread : List ℕ) (old_taken : ℕ) (stop : Stop)
       (new : S) (complete unread : List ℕ) (taken : ℕ) : Type 0 where
     pub bytes : List ℕ

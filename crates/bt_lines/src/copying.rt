@@ -64,7 +64,7 @@ pub(crate) fn copy_wide(to: &mut [u8], piece: &[u8])
     }
 }
 
-/// Copies a piece to as many bytes, as `copy_from_slice` does: without a call where it has 4 to 64 bytes.
+/// Copies a piece to as many bytes, as `copy_from_slice` does: without a call if it has 4 to 64 bytes.
 #[inline(always)]
 pub fn copy_piece(to: &mut [u8], piece: &[u8])
     requires { length to.old ≡ length piece.now }

@@ -10,7 +10,7 @@ pub struct DeviceFailed;
 
 /// Where bytes come from.
 pub trait Source {
-    // The bytes still to come, where they are known; those that a failing source never hands over
+    // The bytes still to come, if they are known; those that a failing source never hands over
     // among them.
     ghost left: { Self → Option (List ℕ) };
 
@@ -42,7 +42,7 @@ pub trait Source {
 
 /// Where bytes go to.
 pub trait Sink {
-    // The bytes that it took, where they are known.
+    // The bytes that it took, if they are known.
     ghost took: { Self → Option (List ℕ) };
 
     // Whether a write or a flush has failed.

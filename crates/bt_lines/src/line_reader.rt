@@ -123,8 +123,8 @@ impl<S: Source> LineReader<S> {
     }
 
     /// The next line, or none at the end of the text. It fails with `ReadFailed`, at the line after
-    /// the last one given, where the source failed in this call or gave more than 2^63 - 1 bytes, and
-    /// with `NoMemory` where the line's buffer can't grow. A fault is answered again, and after it and
+    /// the last one given, if the source failed in this call or gave more than 2^63 - 1 bytes, and
+    /// with `NoMemory` if the line's buffer can't grow. A fault is answered again, and after it and
     /// after the end nothing is read.
     #[inline(always)]
     pub fn next(&mut self) -> Result<Option<Line<'_>>, Fault>
@@ -263,7 +263,7 @@ impl<S: Source> LineReader<S> {
         }
     }
 
-    // Moves on where no line is buffered: reads one, if there is one.
+    // Moves on if no line is buffered: reads one, if there is one.
     fn step(&mut self) -> Result<(), Fault>
         requires { complete self.old.buffer ≡ [] }
         ensures steps { Stepped S.left S.has_failed S.end_told self.old result self.new }
@@ -279,7 +279,7 @@ impl<S: Source> LineReader<S> {
         }
     }
 
-    // Makes a line buffered, or the end, where none is.
+    // Makes a line buffered, or the end, if none is.
     #[cold]
     #[inline(never)]
     fn read_on(&mut self) -> Result<bool, Fault>

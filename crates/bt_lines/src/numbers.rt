@@ -16,7 +16,7 @@ pub const MAX_NUMBER: u64 = 999_999_999_999;
 /// So many digits denote at most [`MAX_NUMBER`], whatever they are.
 pub const MAX_DIGITS: usize = 12;
 
-/// The number that a text of one or more decimal digits denotes, where it is at most
+/// The number that a text of one or more decimal digits denotes, if it is at most
 /// [`MAX_NUMBER`]. Leading zeros are allowed, a sign or a space isn't.
 pub fn number(text: &[u8]) -> Option<u64>
     ensures { result ≡ value_of text.now }

@@ -274,7 +274,7 @@ fn send_all<K: Sink>(sink: &mut K, held: &mut HeldBack) -> Result<(), DeviceFail
     sink.flush()
 }
 
-// Hands on the bytes that are held back. Where the sink fails they are lost, and never sent again.
+// Hands on the bytes that are held back. If the sink fails they are lost, and never sent again.
 fn send<K: Sink>(sink: &mut K, held: &mut HeldBack) -> Result<(), DeviceFailed>
     ensures whole { OnOk result (Appends (K.took sink.old) (K.took sink.new) held.old) }
     ensures empty { held.new ≡ [] }

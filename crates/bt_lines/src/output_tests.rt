@@ -155,7 +155,7 @@ const BOTH: [(usize, usize, bool, usize); 4] = [
     (8192, 0, false, 8192),
 ];
 
-// A piece and its line feed are held back where both fit into the block, also to its last byte.
+// A piece and its line feed are held back if both fit into the block, also to its last byte.
 #[test]
 fn both_are_held_where_both_fit(rt: HostRuntime) -> Result<(), Fail> {
     assert_eq!(rt; first_misheld(rt.alloc(), &BOTH)?, None);
@@ -206,11 +206,11 @@ fn span_behind(
     Ok((is_held, taken))
 }
 
-// Bytes before it, a name, a start and a stop, and the line that is held, which is empty where none is.
+// Bytes before it, a name, a start and a stop, and the line that is held, which is empty if none is.
 type SpanRow = (usize, &'static [u8], u64, u64, &'static [u8]);
 
 // Numbers of few digits and of many, names of each length that is copied otherwise, also the longest that is held, and
-// the last places of a block where there is room.
+// the last places of a block if there is room.
 const SPANS: [SpanRow; 14] = [
     (0, b"c", 0, 7, b"c\t0\t7\n"),
     (0, b"22", 9, 10, b"22\t9\t10\n"),

@@ -19,7 +19,7 @@ pub fn put_column<K: Sink>(column: &[u8], end: &[u8], out: &mut Out<K>) -> Resul
     out.put(end)
 }
 
-/// Puts a text and its line end, by one test of the room where there is room for both.
+/// Puts a text and its line end, by one test of the room if there is room for both.
 #[inline]
 pub fn put_line<K: Sink>(text: &[u8], end: &[u8], out: &mut Out<K>) -> Result<(), Fault>
     ensures { Puts out.old.output (text.now ++ end.now) result out.new.output }
@@ -30,7 +30,7 @@ pub fn put_line<K: Sink>(text: &[u8], end: &[u8], out: &mut Out<K>) -> Result<()
     Err(write_failed())
 }
 
-/// Puts two pieces of a line as [`put_line`] does, by a call that they share. It is fast where both have 1 to 64 bytes.
+/// Puts two pieces of a line as [`put_line`] does, by a call that they share. It is fast if both have 1 to 64 bytes.
 #[inline(always)]
 pub fn put_both<K: Sink>(piece: &[u8], next: &[u8], out: &mut Out<K>) -> Result<(), Fault>
     ensures { Puts out.old.output (piece.now ++ next.now) result out.new.output }

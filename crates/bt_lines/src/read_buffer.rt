@@ -13,7 +13,7 @@ use std::alloc::{AllocError, Global};
 /// How many bytes a reader buffers at most, and an output holds back.
 pub const BLOCK: usize = 8192;
 
-// Complete lines, and what was read after them. The lines are `start..whole` of the block, or where a line is longer than
+// Complete lines, and what was read after them. The lines are `start..whole` of the block, or if a line is longer than
 // the block what comes from `start` on of `spilled`; `whole..end` of the block comes after them.
 #[derive(Drop)]
 pub(crate) struct ReadBuffer {
@@ -119,7 +119,7 @@ impl ReadBuffer {
         self.start += line;
     }
 
-    // Where no complete line is left, finds those in what was read after them.
+    // If no complete line is left, finds those in what was read after them.
     pub(crate) fn find_lines(&mut self) -> bool
         requires { complete self.old ≡ [] }
         ensures finds { FindsLines self.old result self.new }
@@ -189,7 +189,7 @@ impl ReadBuffer {
         }
     }
 
-    // Where no complete line is left, ends what was read after them by a line feed: it is a line then.
+    // If no complete line is left, ends what was read after them by a line feed: it is a line then.
     pub(crate) fn end_line(&mut self)
         requires none { complete self.old ≡ [] }
         requires room { length (unread self.old) < block_size }
@@ -208,7 +208,7 @@ impl ReadBuffer {
         self.searched = self.end;
     }
 
-    // Where no complete line is left, ends the text: a last line without a line feed is given one.
+    // If no complete line is left, ends the text: a last line without a line feed is given one.
     pub(crate) fn end_text(&mut self)
         requires none { complete self.old ≡ [] }
         requires room { length (unread self.old) < block_size }

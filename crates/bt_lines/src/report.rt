@@ -18,7 +18,7 @@ pub struct Names<'a> {
 }
 
 /// The line `bedtools COMMAND: NAME:LINE: TEXT` with its line feed; for a fault without a place
-/// `bedtools COMMAND: TEXT`. `Err` where memory runs out.
+/// `bedtools COMMAND: TEXT`. `Err` if memory runs out.
 pub fn fault_line(
     alloc: Global,
     command: &[u8],

@@ -9,14 +9,14 @@ use std::alloc::Global;
 use std::marker::Model;
 
 /// Takes bytes, at most `step` of them a call, and fails at the next piece with a byte once `good`
-/// bytes were taken. Where it can't grow it has failed. Once failed, it takes nothing more.
+/// bytes were taken. If it can't grow it has failed. Once failed, it takes nothing more.
 #[derive(Drop, Debug)]
 pub struct ScriptSink {
     // What was taken, also once it has failed.
     taken: Vec<u8>,
     // At least 1.
     step: usize,
-    // How many bytes go well; `None` where all do.
+    // How many bytes go well; `None` if all do.
     good: Option<usize>,
     // Whether a call has failed; it stays so.
     has_failed: bool,

@@ -9,14 +9,14 @@ use crate::device::{DeviceFailed, Source};
 use std::marker::Model;
 
 /// Hands over the bytes of a text, at most `step` of them a call, and fails once `good` bytes were
-/// given, also where the text has ended.
+/// given, also if the text has ended.
 #[derive(Drop, Debug)]
 pub struct ScriptSource<'a> {
     // All that it ever gives.
     bytes: &'a [u8],
     // At least 1.
     step: usize,
-    // How many bytes go well; `None` where all do.
+    // How many bytes go well; `None` if all do.
     good: Option<usize>,
     // How many bytes were given, at most all.
     given: usize,

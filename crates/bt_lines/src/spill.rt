@@ -40,7 +40,7 @@ pub(crate) enum More {
     PastBound,
 }
 
-// Makes at least one line buffered, or the end, where none is. It counts all bytes that it takes.
+// Makes at least one line buffered, or the end, if none is. It counts all bytes that it takes.
 pub(crate) fn read_lines<S: Source>(
     source: &mut S,
     buffer: &mut ReadBuffer,
@@ -69,7 +69,7 @@ pub(crate) fn read_lines<S: Source>(
     Stop::LineFeed
 }
 
-// The same where what was read of a line fills the block.
+// The same if what was read of a line fills the block.
 fn read_long<S: Source>(source: &mut S, buffer: &mut ReadBuffer, taken: &mut u64) -> Stop
     requires counted { taken.old < 2 ^ 63 }
     requires none { complete buffer.old ≡ [] }

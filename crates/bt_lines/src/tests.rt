@@ -423,7 +423,7 @@ const FAULT_LINES: [Reported; 13] = [
     (Kind::NoMemory, None, b"bedtools merge: no memory\n"),
 ];
 
-// The fault, where its kind goes with its place.
+// The fault, if its kind goes with its place.
 fn fault_of(kind: Kind, place: Option<Place>) -> Option<Fault> {
     if place.is_some() != kind.has_place() {
         return None;
@@ -431,7 +431,7 @@ fn fault_of(kind: Kind, place: Option<Place>) -> Option<Fault> {
     Some(Fault { kind, place })
 }
 
-// The line that reports a fault, or none where its kind doesn't go with its place.
+// The line that reports a fault, or none if its kind doesn't go with its place.
 fn reported(
     alloc: Global,
     kind: Kind,

@@ -245,6 +245,6 @@ next_open gap spans last done run x o full far = record {
   ends = λ p e. covered_right spans (x ∷ []) p (inl (omega arith, omega arith));
 }
 
--- the runs, where one is open
+-- the runs, if one is open
 pub open_runs : (gap : ℕ) (spans : List Span) (last : ℕ) (done : List Span) (run : Span) → OneOpen gap spans last done run → done ++ run ∷ [] ≡ runs_of gap spans
 open_runs gap spans last done run o = joined_are_runs gap spans (done ++ run ∷ []) o.joined

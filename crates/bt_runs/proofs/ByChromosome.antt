@@ -29,7 +29,7 @@ pub record Form (K T S : Type 0) : Type 0 where
   -- a chromosome's name, and its items after the records
   pub name : K → List ℕ
   pub part : K → List Feature → List T
-  -- of items in their order, those that are over where this is the last record
+  -- of items in their order, those that are over if this is the last record
   pub pick : Interval → List T → List T
   -- the items of all chromosomes, and those that are settled
   pub whole : List Feature → List T
@@ -43,7 +43,7 @@ pub record Form (K T S : Type 0) : Type 0 where
   pub step : K → S → Feature → List T
   pub after : K → S → Feature → S
 
--- what is picked of two lists: all of the first and what is picked of the second, where all of the first is picked; and nothing, where nothing is of either
+-- what is picked of two lists: all of the first and what is picked of the second, if all of the first is picked; and nothing, if nothing is of either
 pub record Picks {T : Type 0} (pick : List T → List T) : Type 0 where
   pub nothing : pick [] ≡ []
   pub all : (xs ys : List T) → pick xs ≡ xs → pick (xs ++ ys) ≡ xs ++ pick ys
@@ -314,7 +314,7 @@ module _ {K T S : Type 0} (f : Form K T S) (At : K → List Feature → ℕ → 
     pub in_order : InOrder (map f.name keys) all
     pub written : (past more : List Feature) → past ++ more ≡ all → Written keys past
 
-  -- where all that it may take is ordered, what is settled begins what is settled later, and the whole
+  -- if all that it may take is ordered, what is settled begins what is settled later, and the whole
   pub settling : (Taken : List Feature → Type 0) → ((past more : List Feature) → Taken (past ++ more) → Taken past) → ((all : List Feature) → Taken all → Ordered all) → Settles f.settled f.whole Taken
   settling Taken front ordered = record {
     front = front;

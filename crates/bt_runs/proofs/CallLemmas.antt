@@ -87,7 +87,7 @@ module _ {E A : Type 0} {MayTake : E → List Feature → Type 0} {Stands : E �
     | inr fails ↦ absurd (none_before fails.was_going some)
   ]
 
--- an engine that wants no memory fails only where a write fails
+-- an engine that wants no memory fails only if a write fails
 module _ {E A : Type 0} {MayTake : E → List Feature → Type 0} {Stands : E → List Feature → E → Type 0} {fault : E → Option Told} {settled : E → List Feature → List ℕ}
     {old : E} {r : Feature} {out : Output} {Quiet : E → List Feature → Feature → Type 0} {new : E} {grown : Output} where
   pub only_writes : (result : Result A Fault) → fault old ≡ None → Feeds MayTake Stands fault settled old r out Quiet result new grown → IsWanted (λ old r. ⊥) fault old r result

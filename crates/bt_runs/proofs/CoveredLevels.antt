@@ -38,7 +38,7 @@ runs_levels gap size spans within =
       whole = λ p b. runs.whole p ((is_bridged-Decides gap spans p).0 b.1);
     })
 
--- where nothing is bridged, a bridged position is covered
+-- if nothing is bridged, a bridged position is covered
 bridged_covered : (spans : List Span) (p : ℕ) → Bridged 0 spans p → IsCovered spans p
 bridged_covered spans p b = elim (cases_eq b.left p) [
   | inl same ↦ subst (IsCovered spans) same b.left_covered
@@ -113,7 +113,7 @@ has_kept value (l ∷ ls) p (inr w) = elim (cases_Bool (has value l)) [
   | inr f ↦ rw f (has_kept value ls p w)
 ]
 
--- an interval differs from the next where its value isn't found at its stop
+-- an interval differs from the next if its value isn't found at its stop
 differs_from : (first : ℕ) (l : Level) (ms : List Level) → (HasValue ms l.stop l.value → ⊥)
     → AreDisjointFrom first ms → DiffersFromNext l ms
 differs_from first l [] none d = tt

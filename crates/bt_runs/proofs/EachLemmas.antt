@@ -55,7 +55,7 @@ some_each P Q R h [] p e = absurd p
 pub some_weaker : {A : Type 0} (P R : A → Type 0) → ((x : A) → P x → R x) → (xs : List A) → Some_of P xs → Some_of R xs
 some_weaker P R h xs p = some_each P (λ x. Unit {0}) R (λ x q u. h x q) xs p (each_all (λ x. Unit {0}) (λ x. tt) xs)
 
--- what is so of each one is so, where there is one
+-- what is so of each one is so, if there is one
 pub some_out : {A : Type 0} (P : A → Type 0) (R : Type 0) → ((x : A) → P x → R) → (xs : List A) → Some_of P xs → R
 some_out P R h [] p = absurd p
 some_out P R h (x ∷ xs) (inl p) = h x p
@@ -122,7 +122,7 @@ filter_passes {A} test (x ∷ xs) =
       | inr f ↦ let is = cond-false (test x) (x ∷ filter test xs) (filter test xs) f in rw is rest
     ]
 
--- a filter of changed elements, where the change doesn't change the test
+-- a filter of changed elements, if the change doesn't change the test
 pub filter_changed : {A : Type 0} (f : A → A) (test : A → Bool) (xs : List A) → Each (λ x. test (f x) ≡ test x) xs → filter test (map f xs) ≡ map f (filter test xs)
 filter_changed f test [] e = refl
 filter_changed f test (x ∷ xs) e = elim (cases_Bool (test x)) [

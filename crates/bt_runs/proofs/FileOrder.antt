@@ -40,7 +40,7 @@ module _ (order : Order) (total : IsTotal order) (keep : Feature → Bool) where
         | false ↦ some_next p rs (skips order p (interval_of r) (intervals_of rs) total t)
       ]
 
-  -- some of the records are in order where all are
+  -- some of the records are in order if all are
   pub some_placed : (records : List Feature) → ArePlaced order (intervals_of records) → ArePlaced order (intervals_of (filter keep records))
   some_placed [] t = tt
   some_placed (r ∷ rs) t =

@@ -61,7 +61,7 @@ module _ (table : List Entry) (place : Place ℕ) (at : IsPlaced table place.ran
   pub not_on : (rank_of (genome_names table) name ≡ Some place.rank → ⊥) → is_on table (Some place) name ≡ false
   not_on other = name_ne (entry_at table place.rank).name name (λ e. other (ap (rank_of (genome_names table)) (sym e) ∙ at.named))
 
--- where no base counts, a record settles nothing
+-- if no base counts, a record settles nothing
 no_gap_before : (name : List ℕ) (end start : ℕ) → gap_between name end (min start 0) ≡ []
 no_gap_before name end start =
     let gap : Interval = record { chrom = name; start = end; stop = min start 0 } in
@@ -72,7 +72,7 @@ place_at end rank = option_map (λ rank. record { rank = rank; known = end }) ra
 
 -- the step of the walk on the chromosome that the records are on
 module _ (limit : Bool) (table : List Entry) (r : Feature) (name : List ℕ) (end bases : ℕ) (is : bases ≡ length_in table r.chrom) where
-  -- where none counts
+  -- if none counts
   nothing : (rank : Option ℕ) → bases ≡ 0 → ◌≡◌ {A = Option (Place ℕ) × List Interval} (place_at end rank, []) (place_at (max end (min r.stop bases)) rank, gap_between name end (min r.start bases))
   nothing rank none =
       let same : end ≡ max end (min r.stop bases) = omega arith in

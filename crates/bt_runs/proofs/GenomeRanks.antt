@@ -119,7 +119,7 @@ module _ {T : Type 0} (bare : Entry → List T) (entries : List Entry) where
       ∙ flat_map-append bare (slice_range entries first rank) (entry_at entries rank ∷ [])
       ∙ ap (λ l. bares_from first rank ++ l) (append-nil (bare (entry_at entries rank)))
 
-  -- what is left before a chromosome, and none lie between where the current one isn't before it
+  -- what is left before a chromosome, and none lie between if the current one isn't before it
   pub before_from : {S : Type 0} (left : Entry → S → List T) (current : Option (Place S)) (first stop : ℕ) → first ≡ min (begun current) stop → left_before left bare entries current stop ≡ left_of left entries current ++ bares_from first stop
   before_from left current first stop is =
       let same : slice_range entries (begun current) stop ≡ slice_range entries first stop = elim (cases_lt stop (begun current)) [

@@ -100,7 +100,7 @@ module _ (at position : ℕ) (first now : List Span) (low : at ≤ position) (sa
       ∙ ap (still_open next) same
       ∙ open_after position next first (omega arith)
 
--- where there are no more than are still open, all of them are
+-- if there are no more than are still open, all of them are
 open_few : (position : ℕ) (spans : List Span) → length (still_open position spans) ≤ length spans
 open_few position spans =
     let test = λ (s : Span). nat_le position s.stop in
@@ -185,7 +185,7 @@ module _ (ends : List ℕ) (spans : List Span) (counts : CountsEnds ends spans) 
   pub as_many : length ends ≡ length spans
   as_many = ap length (sym (all_pass ends)) ∙ counts (λ e. true) ∙ ap length (all_pass spans)
 
-  -- where no end lies before a position, no record ends before it
+  -- if no end lies before a position, no record ends before it
   pub ends_left : (position : ℕ) → All (λ e. position ≤ e) ends → All (λ s. position ≤ s.stop) spans
   ends_left position all = below_none (λ s. s.stop) position spans (sym (counts (λ e. nat_lt e position)) ∙ none_below (λ e. e) position ends all)
 
@@ -275,7 +275,7 @@ pub some_before : (position : ℕ) (xs : List (Reverse ℕ)) → StartsBelow pos
 some_before position [] below = absurd below
 some_before position (y ∷ ys) below = omega arith
 
--- the top is taken out where it lies before the position
+-- the top is taken out if it lies before the position
 top_below : (position : ℕ) (xs : List (Reverse ℕ)) (x : Reverse ℕ) → StartsBelow position (ends_of xs) → x ≡ slice_index_or xs 0 x → x.0 < position
 top_below position [] x below is = absurd below
 top_below position (y ∷ ys) x below is = subst (λ (e : Reverse ℕ). e.0 < position) (sym is) below

@@ -172,7 +172,7 @@ line_cut A chrom here reach runs now w old mid new e p is t grown q =
     let rest = passed_runs here reach (drop 1 now) in
     rw next.front (rw (placed-append chrom (p.done ++ w ∷ []) rest) (cut_lines interval_line old new (places_of (placed_runs chrom (p.done ++ w ∷ []))) (places_of (placed_runs chrom rest)) _ (line_more {A = A} chrom p.done w old mid new (Err e) grown q)))
 
--- where the record lies elsewhere, none is left
+-- if the record lies elsewhere, none is left
 pub left_none : (reach : ℕ) (runs : List PendingRun) → left_runs false reach runs ≡ []
 left_none reach [] = refl
 left_none reach (w ∷ ws) = one_left false reach w ws refl ∙ left_none reach ws

@@ -52,7 +52,7 @@ last_place_map test f (x ∷ xs) = ap (place_among (test (f x))) (last_place_map
 get_map : {A B : Type 0} (f : A → B) (xs : List A) (i : ℕ) (x : A) (d : B) → slice_get xs i ≡ Some x → get_or (map f xs) i d ≡ f x
 get_map f xs i x d e = get_or-map f xs i x d (slice_get_within xs i x e) ∙ ap f (get_or_from_slice_get xs i x x e)
 
--- a run ends more than the gap below a start where it ends below the start less the gap
+-- a run ends more than the gap below a start if it ends below the start less the gap
 below_reach : (stop gap start : ℕ) → nat_lt (stop + gap) start ≡ nat_lt stop (start - gap)
 below_reach stop gap start = elim (cases_lt (stop + gap) start) [
   | inl far ↦ lt-ltb (stop + gap) start far ∙ sym (lt-ltb stop (start - gap) (omega arith))
@@ -287,7 +287,7 @@ none_placed : (chrom other : List ℕ) (runs : List PendingRun) → placed_runs 
 none_placed chrom other [] e = refl
 none_placed chrom other (w ∷ ws) e = absurd (cc)
 
--- where none is kept, none is on another chromosome
+-- if none is kept, none is on another chromosome
 pub kept_nowhere : (chrom other : List ℕ) (only : OnlyRun) (runs : List PendingRun) → kept_in chrom only (placed_runs chrom runs) ≡ [] → kept_in other only (placed_runs other runs) ≡ []
 kept_nowhere chrom other only runs e = kept_placed other only runs ∙ none_placed chrom other (pending_in only runs) (sym (kept_placed chrom only runs) ∙ e)
 
@@ -305,7 +305,7 @@ list_closed gap chrom only runs now f is =
     let kept : kept_in chrom only (placed_runs chrom now) ≡ [] = cond-false only.is_any (placed_run chrom (run_at_hand only) ∷ []) (placed_runs chrom now) f ∙ listed in
     ap₂ (holding gap chrom) kept listed
 
--- what was put, where that didn't fail
+-- what was put, if that didn't fail
 pub put_well : (out grown : Output) (bytes : List ℕ) (result : Result (Unit {0}) Fault) → is_err result ≡ false → Adds out bytes result grown → Grown out bytes grown
 put_well out grown bytes (Ok done) f p = p
 put_well out grown bytes (Err e) f p = absurd (cc)
@@ -357,7 +357,7 @@ module _ (gap : ℕ) (past : List Feature) (merge : Stranding) (stands : StandsA
     kept = takes.kept ∙ sym (keeps_next r taken);
   }
 
-  -- where a run has to be opened and none was settled, the record isn't quiet
+  -- if a run has to be opened and none was settled, the record isn't quiet
   pub loud_next : (r : Feature) → AreTaken (past ++ r ∷ []) → OpensRun merge r → lines_by merge r ≡ [] → length (kept_strand_runs gap (past ++ r ∷ [])) ≤ length (kept_strand_runs gap past) → ⊥
   loud_next r taken opens none more =
       let settled = no_items (front_settled merge.gap merge.kept r) (no_lines (places_of (front_settled merge.gap merge.kept r)) none) in
@@ -380,7 +380,7 @@ module _ (merge : Stranding) (out : Output) where
     none : AfterEach may_take stands_after merge r (λ first past. is_quiet first past r → lines_by merge r ≡ [])
     none first past stands taken quiet = quiet_adds_none may_take stands_after settled_lines merge out (lines_by merge r) held_count r next first past stands taken quiet.0
 
-    -- a record isn't quiet where memory is wanted
+    -- a record isn't quiet if memory is wanted
     loud : wants_memory merge r → AfterEach may_take stands_after merge r (λ first past. is_quiet first past r → ⊥)
     loud (inl opens) first past stands taken quiet = loud_next first.gap past merge stands r taken opens (none first past stands taken quiet) quiet.0.keeps
     loud (inr other) first past stands taken quiet = other (stands.chrom quiet.1.front quiet.1.last quiet.1.is ∙ quiet.1.same)

@@ -27,7 +27,7 @@ pub with_value-last : (xs : List Level) (l : Level) (p v : ℕ) → with_value (
 with_value-last [] l p v = refl
 with_value-last (x ∷ xs) l p v = value_after-last x xs l p v
 
--- where all intervals end before the position, it is one of its own
+-- if all intervals end before the position, it is one of its own
 apart_after : (p v : ℕ) (m : Level) (ms : List Level) → StopIn 0 p (m ∷ ms) → with_value_after m ms p v ≡ (m ∷ ms) ++ record { start = p; stop = p + 1; value = v } ∷ []
 apart_after p v m [] s = rw (ne_eqb m.stop p (λ e. let low = s.1 in absurd (omega arith))) refl
 apart_after p v m (n ∷ ns) s = ap (λ zs. m ∷ zs) (apart_after p v n ns s.2)

@@ -11,7 +11,7 @@ use Rattle.bt_bed.specs.Feature.{Feature}
 use Rattle.bt_runs.specs.Engine.{AfterEach, AtEnd, IsQuiet}
 use Rattle.bt_runs.specs.Rule.{RuleFeeds, RuleFinishes}
 
--- where nothing more is settled, no lines came
+-- if nothing more is settled, no lines came
 none_more : (before lines after : List ℕ) → after ≡ before ++ lines → after ≡ before → lines ≡ []
 none_more before lines after more same = append_cancel_left before lines [] (sym more ∙ same ∙ sym (append-nil before))
 
@@ -22,7 +22,7 @@ module _ {E : Type 0} (MayTake : E → List Feature → Type 0) (Stands : E → 
   quiet_adds_none held r next first past stands taken quiet =
       none_more (settled first past) lines (settled first (past ++ r ∷ [])) (next first past stands taken) quiet.settles
 
-  -- the lines are those that the record settles, and there are none where it is quiet
+  -- the lines are those that the record settles, and there are none if it is quiet
   module _ (Quiet : E → List Feature → Feature → Type 0) (r : Feature) (next : AfterEach MayTake Stands old r (λ first past. settled first (past ++ r ∷ []) ≡ settled first past ++ lines)) (none : AfterEach MayTake Stands old r (λ first past. Quiet first past r → lines ≡ [])) where
     -- the record was taken
     pub rule_taken : {A : Type 0} (done : A) (new : E) (grown : Output) → AfterEach MayTake Stands old r (λ first past. Stands first (past ++ r ∷ []) new) → Grown out lines grown

@@ -40,7 +40,7 @@ module _ {E : Type 0} (MayTake : E → List Feature → Type 0) (Stands : E → 
       (subst (λ (e : E). Feeds MayTake Stands fault settled e p.r out {A = Unit {0}} Quiet (Err answer) new grown) none.0
       (subst (λ (o : Output). Feeds MayTake Stands fault settled p.mid p.r o {A = Unit {0}} Quiet (Err answer) new grown) none.1 p.fails))
 
-  -- where memory ran out, it was for that record
+  -- if memory ran out, it was for that record
   pub single_wants : (one passed : Single) (result : Result (Unit {0}) Fault) (new : E) (grown : Output) → single_left one ≡ r ∷ [] → FeedsBatch MayTake Stands fault settled Quiet wants GivesSingle HasNone old one out result new passed grown
       → IsWanted wants fault old r result
   single_wants one passed (Ok done) new grown is f = tt

@@ -56,7 +56,7 @@ pub later_rank : (o : Option ℕ) (rank : ℕ) → option_map (λ n. suc n) o �
 later_rank None rank e = cc
 later_rank (Some k) rank e = (k, refl, cc)
 
--- the names before a name aren't it, where no name comes twice
+-- the names before a name aren't it, if no name comes twice
 among_both : (xs ys : List (List ℕ)) (name : List ℕ) → is_among (xs ++ ys) name ≡ false → (is_among xs name ≡ false) × (is_among ys name ≡ false)
 among_both [] ys name f = (refl, f)
 among_both (x ∷ xs) ys name f =

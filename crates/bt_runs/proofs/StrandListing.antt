@@ -247,7 +247,7 @@ module _ (gap : ℕ) (past : List Feature) (r : Feature) (taken : AreTaken (past
       ap₂ (λ (a b : List StrandRun). a ++ b) (begun_same before q front e.0) (front_same (before ++ q ∷ []) qs (each_append Stays before (q ∷ []) front (e.0, tt)) e.1)
       ∙ sym (map-append (joined_to gap r) first (listed_behind (runs_of_strand gap past) (before ++ q ∷ []) qs))
 
-  -- the record itself begins a run where it reaches none
+  -- the record itself begins a run if it reaches none
   abbrev begins : StrandRun → Bool
   begins item = is_in item r && not (list_any (is_in item) past)
 
@@ -292,7 +292,7 @@ module _ (gap : ℕ) (past : List Feature) (r : Feature) (taken : AreTaken (past
       listed_append (runs_of_strand gap (past ++ r ∷ [])) [] past (r ∷ [])
       ∙ ap₂ (λ (a b : List StrandRun). a ++ b) (front_same [] past tt stays) (append-nil (begun_by (runs_of_strand gap (past ++ r ∷ []) r.strand) past r) ∙ last_begun)
 
-  -- the new run, where there is one
+  -- the new run, if there is one
   of_new : (P : StrandRun → Type 0) → (some_reached ≡ false → P (run_from r)) → Each P (new_run some_reached r)
   of_new P new = elim (cases_Bool some_reached) [
     | inl t ↦ subst (λ b. Each P (new_run b r)) (sym t) tt

@@ -238,7 +238,7 @@ module _ (gap : ℕ) (past : List Feature) (r : Feature)
             }
       ]
 
-  -- where the runs come before records in order, so do they with the first of those
+  -- if the runs come before records in order, so do they with the first of those
   module _ (order : Order) (total : IsTotal order) where
     before_same : (items : List StrandRun) (rest : List Interval) (a b : Interval)
         → locus_of a ≡ locus_of b

@@ -18,7 +18,7 @@ abbrev pub AnswersAgain : {A : Type 0} → Option Told → Result A Fault → Ty
 AnswersAgain kept result = (before : Told) → kept ≡ Some before
     → MatchResult result (λ done. ⊥) (λ answer. told answer ≡ before)
 
--- where a record isn't taken, a write failed or memory ran out, which is kept
+-- if a record isn't taken, a write failed or memory ran out, which is kept
 abbrev pub KeepsFault : {E A : Type 0} → (E → Option Told) → Result A Fault → E → Type 0
 KeepsFault fault result new = IfErr result (λ answer.
     ((told answer ≡ write_failed) ⊎ (told answer ≡ no_memory)) × (fault new ≡ Some (told answer)))
@@ -32,12 +32,12 @@ module _ {E : Type 0} (MayTake : E → List Feature → Type 0)
     abbrev pub WritesSettled : {A : Type 0} → Result A Fault → E → Output → Type 0
     WritesSettled result new grown = IfOk result (λ done. TakesRecord MayTake Stands fault settled old r out new grown)
 
-    -- where a write fails first, the sink failed, and has a prefix of those lines
+    -- if a write fails first, the sink failed, and has a prefix of those lines
     abbrev pub WritesPrefix : {A : Type 0} → Result A Fault → E → Output → Type 0
     WritesPrefix result new grown = IfErr result (λ answer. fault old ≡ None → told answer ≡ write_failed
         → FailsToWrite MayTake Stands fault settled old r out (told answer) new grown)
 
-    -- where memory runs out first, all of those lines were put
+    -- if memory runs out first, all of those lines were put
     abbrev pub WritesFirst : {A : Type 0} → Result A Fault → E → Output → Type 0
     WritesFirst result new grown = IfErr result (λ answer. fault old ≡ None → told answer ≡ no_memory
         → RunsOut MayTake Stands fault settled old r out (told answer) new grown)
@@ -48,11 +48,11 @@ module _ {E : Type 0} (MayTake : E → List Feature → Type 0)
 
   -- the end of the input
   module _ (whole : E → List Feature → List ℕ) (last : E) (out : Output) where
-    -- where it ends well, the lines that were left were put
+    -- if it ends well, the lines that were left were put
     abbrev pub WritesLeft : {A : Type 0} → Result A Fault → Output → Type 0
     WritesLeft result grown = IfOk result (λ done. PutsLeft MayTake Stands fault settled whole last out grown)
 
-    -- where a write fails first, the sink failed, and has a prefix of those lines
+    -- if a write fails first, the sink failed, and has a prefix of those lines
     abbrev pub WritesLeftPrefix : {A : Type 0} → Result A Fault → Output → Type 0
     WritesLeftPrefix result grown = IfErr result (λ answer. fault last ≡ None
         → FailsToPutLeft MayTake Stands fault settled whole last out (told answer) grown)

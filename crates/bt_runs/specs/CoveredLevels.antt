@@ -39,7 +39,7 @@ gaps_are_levels =
     (size : ℕ) (spans : List Span)
     → map (level_on 0) (gaps_of size spans) ≡ levels_of (one_value (is_bare spans)) size
 
--- a position is covered where its depth is above 0
+-- a position is covered if its depth is above 0
 abbrev pub covered_have_depth : Type 0
 covered_have_depth = (spans : List Span) (p : ℕ) → is_covered spans p ≡ nat_lt 0 (depth_at spans p)
 

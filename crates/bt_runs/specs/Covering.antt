@@ -101,7 +101,7 @@ HasToKeep entries strand r = IsToKeep (length_in entries r.chrom) strand r
 abbrev pub wants_memory : Covering → Feature → Type 0
 wants_memory old r = HasToKeep old.entries old.strand r
 
--- this holds where memory ran out
+-- this holds if memory ran out
 abbrev pub OnWant : {A : Type 0} → Type 0 → Result A Failure → Type 0
 OnWant P (Ok done) = ⊤
 OnWant P (Err Write) = ⊤

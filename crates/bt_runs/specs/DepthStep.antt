@@ -34,7 +34,7 @@ abbrev pub levels_left : Bool → ℕ → Known → List Level
 levels_left zeros size known =
     ended_to zeros known size ++ ended_at (begun_to zeros known size) size
 
--- those that are settled by a record's start: all that are left, where it lies past the length
+-- those that are settled by a record's start: all that are left, if it lies past the length
 abbrev pub levels_by : Bool → ℕ → Known → ℕ → List Level
 levels_by zeros size known start =
     cond (nat_lt size start) (levels_left zeros size known) (ended_to zeros known start)
@@ -43,7 +43,7 @@ levels_by zeros size known start =
 abbrev pub still_open : ℕ → List Span → List Span
 still_open start spans = filter (λ s. nat_le start s.stop) spans
 
--- the record as an open one, cut at the length, where it is counted and starts below
+-- the record as an open one, cut at the length, if it is counted and starts below
 abbrev pub opened : Bool → ℕ → ℕ → ℕ → List Span
 opened counted size start stop =
     let span : Span = record { start = start; stop = min stop size } in

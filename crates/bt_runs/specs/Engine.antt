@@ -9,7 +9,7 @@ use Rattle.bt_lines.specs.Putting.{WorksAsBefore, PutsRest, CutsRest}
 use Rattle.bt_lines.specs.declared.fault.Fault.{Fault}
 use Rattle.bt_bed.specs.Feature.{Feature}
 
--- where memory runs out for the first time, this holds of the engine and the record
+-- if memory runs out for the first time, this holds of the engine and the record
 abbrev pub IsWanted : {E A : Type 0} → (E → Feature → Type 0) → (E → Option Told) → E → Feature → Result A Fault → Type 0
 IsWanted wants fault old r (Ok done) = ⊤
 IsWanted wants fault old r (Err answer) = told answer ≡ no_memory → fault old ≡ None → wants old r
@@ -53,7 +53,7 @@ module _ {E : Type 0} (MayTake : E → List Feature → Type 0)
           PutsRest (settled first past) (settled first (past ++ r ∷ [])) out grown)
       pub works : WorksAsBefore out grown
 
-    -- the lines that the record settles couldn't be written: only where the sink failed
+    -- the lines that the record settles couldn't be written: only if the sink failed
     pub record FailsToWrite (answer : Told) (new : E) (grown : Output) : Type 0 where
       pub is : answer ≡ write_failed
       -- it is the first fault, and is kept
@@ -157,7 +157,7 @@ module _ {E : Type 0} (MayTake : E → List Feature → Type 0)
           PutsRest (settled first past) (whole first past) out grown)
       pub works : WorksAsBefore out grown
 
-    -- they couldn't be written: only where the sink failed
+    -- they couldn't be written: only if the sink failed
     pub record FailsToPutLeft (answer : Told) (grown : Output) : Type 0 where
       pub is : answer ≡ write_failed
       pub was_going : fault last ≡ None

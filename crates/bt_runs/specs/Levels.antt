@@ -17,7 +17,7 @@ abbrev pub HasValue : List Level → ℕ → ℕ → Type 0
 HasValue [] p value = ⊥
 HasValue (l ∷ ls) p value = ((l.start ≤ p) × (p < l.stop) × (l.value ≡ value)) ⊎ HasValue ls p value
 
--- where the next interval touches this one, its value is another
+-- if the next interval touches this one, its value is another
 abbrev pub DiffersFromNext : Level → List Level → Type 0
 DiffersFromNext l [] = ⊤
 DiffersFromNext l (m ∷ ms) = l.stop ≡ m.start → l.value ≡ m.value → ⊥

@@ -23,7 +23,7 @@ settled_by gap runs r = passed_by gap runs (Some r)
 abbrev pub left_by : ℕ → List Interval → Interval → List Interval
 left_by gap runs r = filter (λ run. not (is_passed gap r run)) runs
 
--- the runs that are kept after the record, which is added where it counts
+-- the runs that are kept after the record, which is added if it counts
 abbrev pub kept_then : ℕ → Bool → List Interval → Interval → List Interval
 kept_then gap counts runs r = cond counts (with_record (left_by gap runs r) r) (left_by gap runs r)
 

@@ -15,12 +15,12 @@ use Rattle.bt_runs.specs.declared.pending_runs.PendingRun.{PendingRun}
 abbrev pub place_of : Strand → List PendingRun → Option ℕ
 place_of strand runs = last_place (λ (w : PendingRun). is_strand w.strand strand) runs
 
--- how many elements there are up to the one at a place, that one too; 0 where there is no place
+-- how many elements there are up to the one at a place, that one too; 0 if there is no place
 abbrev pub count_up_to : Option ℕ → ℕ
 count_up_to None = 0
 count_up_to (Some place) = suc place
 
--- how many runs there are up to the last one of a strand, that one too; 0 where none is of it
+-- how many runs there are up to the last one of a strand, that one too; 0 if none is of it
 abbrev pub count_up_to_last : Strand → List PendingRun → ℕ
 count_up_to_last strand runs = count_up_to (place_of strand runs)
 
@@ -61,7 +61,7 @@ placed_run chrom run =
 abbrev pub placed_runs : List ℕ → List PendingRun → List StrandRun
 placed_runs chrom runs = map (placed_run chrom) runs
 
--- the first runs that are passed: all, where the record lies elsewhere,
+-- the first runs that are passed: all, if the record lies elsewhere,
 -- and else those that end below `reach`
 abbrev pub passed_runs : Bool → ℕ → List PendingRun → List PendingRun
 passed_runs here reach runs = take_while (λ (w : PendingRun). not here || nat_lt w.stop reach) runs

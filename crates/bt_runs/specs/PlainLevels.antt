@@ -11,7 +11,7 @@ level_in d = record { start = d.start; stop = d.stop; value = d.depth }
 abbrev pub levels_in : List PlainDepth → List Level
 levels_in depths = map level_in depths
 
--- the first interval and the others, with the next position: it belongs to the last of them where
+-- the first interval and the others, with the next position: it belongs to the last of them if
 -- that ends there and has its value
 abbrev pub with_value_after : Level → List Level → ℕ → ℕ → List Level
 with_value_after l [] p value =

@@ -20,7 +20,7 @@ pub record HasRight (gap : ℕ) (spans : List Span) (left p : ℕ) : Type 0 wher
   pub near : right - left ≤ gap + 1
 
 -- the first span and the others, with the next position:
--- it belongs to the last of them where that ends there
+-- it belongs to the last of them if that ends there
 abbrev pub with_next_after : Span → List Span → ℕ → List Span
 with_next_after s [] p =
     cond (s.stop == p) (record { start = s.start; stop = p + 1 } ∷ [])

@@ -34,7 +34,7 @@ abbrev pub lies_in : Strand → PlainSpan → PlainStranded → Bool
 lies_in strand run r =
     is_strand strand r.strand && (nat_le run.start r.span.start && nat_le r.span.stop run.stop)
 
--- of the runs of its strand the one whose first record this is, where the records `before` come
+-- of the runs of its strand the one whose first record this is, if the records `before` come
 -- before it
 abbrev pub begun_in : List PlainSpan → List PlainStranded → PlainStranded → List PlainStranded
 begun_in runs before r =

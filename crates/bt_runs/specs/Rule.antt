@@ -19,7 +19,7 @@ module _ {E : Type 0} (MayTake : E → List Feature → Type 0) (Stands : E → 
           PutsRest (settled first past) (settled first (past ++ r ∷ [])) out grown)
       pub works : WorksAsBefore out grown
 
-    -- those lines couldn't be written: only where the sink failed
+    -- those lines couldn't be written: only if the sink failed
     pub record RuleFailsToWrite (answer : Told) (grown : Output) : Type 0 where
       pub is : answer ≡ write_failed
       pub cuts : AfterEach MayTake Stands old r (λ first past.
@@ -57,7 +57,7 @@ module _ {E : Type 0} (MayTake : E → List Feature → Type 0) (Stands : E → 
           PutsRest (settled first past) (whole first past) out grown)
       pub works : WorksAsBefore out grown
 
-    -- they couldn't be written: only where the sink failed
+    -- they couldn't be written: only if the sink failed
     pub record RuleFailsAtEnd (answer : Told) (grown : Output) : Type 0 where
       pub is : answer ≡ write_failed
       pub cuts : AtEnd MayTake Stands old (λ first past.
@@ -75,7 +75,7 @@ module _ {E : Type 0} (MayTake : E → List Feature → Type 0) (Stands : E → 
       pub grows : Grows out.took grown.took
       pub after_failure : out.has_failed ≡ true → grown ≡ out
 
--- where memory runs out, this holds of the rule and the record
+-- if memory runs out, this holds of the rule and the record
 abbrev pub WantsMemory : {E A : Type 0} → (E → Feature → Type 0) → E → Feature → Result A Fault → Type 0
 WantsMemory wants old r (Ok done) = ⊤
 WantsMemory wants old r (Err fault) = told fault ≡ no_memory → wants old r

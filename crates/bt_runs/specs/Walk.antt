@@ -33,7 +33,7 @@ pub record IsPlaced (entries : List Entry) (rank : ℕ) : Type 0 where
   pub within : rank < length entries
   pub named : rank_of (genome_names entries) (entry_at entries rank).name ≡ Some rank
 
--- where one was reached, it is so
+-- if one was reached, it is so
 abbrev pub AreReached : {S : Type 0} → List Entry → Option (Place S) → Type 0
 AreReached entries None = ⊤
 AreReached entries (Some place) = IsPlaced entries place.rank

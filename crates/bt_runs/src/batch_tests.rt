@@ -1,4 +1,4 @@
-//! Records that a reader has buffered: an engine that takes them in one call has to write what it writes where it takes
+//! Records that a reader has buffered: an engine that takes them in one call has to write what it writes when it takes
 //! them one after another.
 
 ghost use Rattle.std.specs.Prelude.{◌<◌};

@@ -3,7 +3,7 @@
 ghost use Rattle.bt_runs.specs.Depth.{settled_depths_begin, settled_depths_stay};
 ghost use Rattle.bt_runs.specs.Levels.{levels_are, levels_only, stretches_are_levels};
 
-/// The values of the positions of a chromosome make up one list of intervals, and no other. Where one
+/// The values of the positions of a chromosome make up one list of intervals, and no other. If one
 /// value stands for membership, it is the list of a set of positions.
 pub fn levels_are_determined()
     ensures are { levels_are }

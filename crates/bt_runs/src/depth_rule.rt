@@ -41,7 +41,7 @@ pub(crate) struct DepthRule<'g> {
     genome: &'g Genome,
     // Whether depth 0 is written.
     zeros: bool,
-    // The strand that is counted; `None` where all records are.
+    // The strand that is counted; `None` if all records are.
     strand: Option<Strand>,
     // `None` before the first record on a chromosome of the genome file.
     current: Option<DepthPlace>,
@@ -425,7 +425,7 @@ fn put_bares<K: Sink>(
     Ok(())
 }
 
-// Writes a chromosome that has no records, where depth 0 is reported.
+// Writes a chromosome that has no records, if depth 0 is reported.
 fn put_bare<K: Sink>(
     genome: &Genome,
     zeros: bool,

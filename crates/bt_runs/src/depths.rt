@@ -17,7 +17,7 @@ use bt_lines::{Fault, Out, Sink};
 pub(crate) struct BegunDepth {
     // Below the position up to which depths are known.
     pub(crate) start: u64,
-    // That of each of its positions; 0 only where depth 0 is written.
+    // That of each of its positions; 0 only if depth 0 is written.
     pub(crate) depth: u64,
 }
 
@@ -27,7 +27,7 @@ pub(crate) struct BegunDepth {
 pub(crate) struct DepthPlace {
     // A rank of the genome file.
     pub(crate) rank: usize,
-    // `None` at position 0, past the chromosome's length, and at depth 0 where that isn't written.
+    // `None` at position 0, past the chromosome's length, and at depth 0 if that isn't written.
     pub(crate) begun: Option<BegunDepth>,
 }
 
@@ -69,7 +69,7 @@ fn reported(zeros: bool, depth: u64) -> Option<u64>
     }
 }
 
-// Takes the position with its depth, where that is reported. It writes the interval that ends there,
+// Takes the position with its depth, if that is reported. It writes the interval that ends there,
 // if one does, and gives the one that isn't ended.
 fn put_next<K: Sink>(
     chrom: &[u8],

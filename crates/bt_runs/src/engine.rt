@@ -19,7 +19,7 @@ pub trait Engine {
     // The lines that the records settle: no later record can change them.
     ghost settled: { Self → List Feature → List ℕ };
 
-    // The lines of the output, where these are all records.
+    // The lines of the output, if these are all records.
     ghost whole: { Self → List Feature → List ℕ };
 
     // How many items are kept after the records.
@@ -35,11 +35,11 @@ pub trait Engine {
     // output stays as it is. An engine that can't promise it gives ⊥.
     ghost quiet: { Self → List Feature → Feature → Type 0 };
 
-    // For what memory is wanted: where it runs out for the first time, this holds of the engine and the record.
+    // For what memory is wanted: if it runs out for the first time, this holds of the engine and the record.
     ghost wants: { Self → Feature → Type 0 };
 
     /// Takes the records that a cursor gives, one after another, and writes the lines that they settle. It fails with
-    /// `WriteFailed` where they can't be written, and with `NoMemory` where what is kept can't grow; the record at which it
+    /// `WriteFailed` if they can't be written, and with `NoMemory` if what is kept can't grow; the record at which it
     /// fails was given too. The first fault is answered from then on.
     fn feed_batch<C: Cursor, K: Sink>(
         &mut self,
@@ -61,7 +61,7 @@ pub trait Engine {
     }
 
     /// Writes the lines that are still unsettled, after the last record. It fails with `WriteFailed`
-    /// where they can't be written, and with the fault that was answered before, if one was.
+    /// if they can't be written, and with the fault that was answered before, if one was.
     fn finish<K: Sink>(self, out: &mut Out<K>) -> Result<(), Fault>
         ensures { Finishes takes stands fault settled whole self out.old.output result out.new.output };
 

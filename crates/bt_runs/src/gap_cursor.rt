@@ -19,7 +19,7 @@ pub(crate) struct GapCursor<'g> {
     pub(crate) rank: Option<usize>,
     // Its name.
     pub(crate) name: &'g [u8],
-    // How many bases the chromosome has that the records are on: 0 where the genome file lacks it.
+    // How many bases the chromosome has that the records are on: 0 if the genome file lacks it.
     pub(crate) length: u64,
     pub(crate) end: u64,
     ghost named: { (r : ℕ) → rank ≡ Some r → IsNamed (entries genome.now) r name.now },

@@ -30,7 +30,7 @@ pub(crate) struct PendingRun {
 pub(crate) struct PendingRuns {
     // In the order of their first records.
     runs: VecDeque<PendingRun>,
-    // How many runs there are up to the last one of each strand, that one too, in the strand's slot; 0 where
+    // How many runs there are up to the last one of each strand, that one too, in the strand's slot; 0 if
     // none of it waits.
     up_to_last: [usize; 3],
 }

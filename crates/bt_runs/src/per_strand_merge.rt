@@ -168,7 +168,7 @@ impl Rule for PerStrandMerge {
 
     ghost with_on = { with_on };
 
-    // All runs are written where the chromosome is another one. `NoMemory` is answered where its name can't be kept.
+    // All runs are written if the chromosome is another one. `NoMemory` is answered if its name can't be kept.
     fn enter<K: Sink>(&mut self, chrom: &[u8], out: &mut Out<K>) -> Result<(), Fault> {
         if is_same_name(self.chrom.as_slice(), chrom) {
             return Ok(());
@@ -227,7 +227,7 @@ fn only(run: PendingRun) -> OnlyRun
     }
 }
 
-// Writes the first runs that a record has passed, and takes them off: all, where the record lies on
+// Writes the first runs that a record has passed, and takes them off: all, if the record lies on
 // another chromosome, and else those up to the first that doesn't end below `reach`.
 #[inline]
 fn put_passed<K: Sink>(

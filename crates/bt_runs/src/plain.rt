@@ -80,7 +80,7 @@ fn is_bridged(spans: &[PlainSpan], gap: u64, end: u64, position: u64) -> bool
     false
 }
 
-/// Adds the position to the last run where that ends there, and else as a run of its own.
+/// Adds the position to the last run if that ends there, and else as a run of its own.
 pub(crate) fn add_position(runs: &mut Vec<PlainSpan>, position: u64) -> Result<(), AllocError>
     requires { position + 1 < 2 ^ 64 }
     ensures { OnOk result (spans_in runs.new.items ≡ with_next (spans_in runs.old.items) position) }

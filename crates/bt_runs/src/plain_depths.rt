@@ -56,7 +56,7 @@ fn depth_at(spans: &[PlainSpan], position: u64) -> usize
         .count()
 }
 
-// Adds the position to the last interval where that ends there and has its depth, and else as an
+// Adds the position to the last interval if that ends there and has its depth, and else as an
 // interval of its own.
 fn add_depth(depths: &mut Vec<PlainDepth>, position: u64, depth: u64) -> Result<(), AllocError>
     requires { position + 1 < 2 ^ 64 }

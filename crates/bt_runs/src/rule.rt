@@ -25,7 +25,7 @@ pub(crate) trait Rule {
     // The lines that the records settle: no later record can change them.
     ghost settled: { Self → List Feature → List ℕ };
 
-    // The lines of the output, where these are all records.
+    // The lines of the output, if these are all records.
     ghost whole: { Self → List Feature → List ℕ };
 
     // How many items are kept after the records.
@@ -38,7 +38,7 @@ pub(crate) trait Rule {
     // output stays as it is.
     ghost quiet: { Self → List Feature → Feature → Type 0 };
 
-    // For what memory is wanted: where it runs out, this holds of the rule and the record.
+    // For what memory is wanted: if it runs out, this holds of the rule and the record.
     ghost wants: { Self → Feature → Type 0 };
 
     // What it does with a record, exactly.

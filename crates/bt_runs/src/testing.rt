@@ -134,8 +134,8 @@ const WRITE_FAILED: Fault = Fault {
     place: None,
 };
 
-// Feeds all lines to an engine over a sink that fails, and where a fault came one more, and lets it finish.
-// Once a call has answered the fault, each later one has to, and the flush at the end where none did.
+// Feeds all lines to an engine over a sink that fails, and if a fault came one more, and lets it finish.
+// Once a call has answered the fault, each later one has to, and the flush at the end if none did.
 fn feed_failing<E: Engine, K: Sink>(
     rt: &impl Abort,
     mut engine: E,

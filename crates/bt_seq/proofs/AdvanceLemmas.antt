@@ -239,7 +239,7 @@ module _ {C : Type 0} (gives : C → List Feature → C → Type 0) (line_at : C
     (gives_none : (cursor : C) → gives cursor [] cursor)
     (gives_more : (old mid new : C) (xs ys : List Feature) → gives old xs mid → gives mid ys new → gives old (xs ++ ys) new)
     (gives_same : (old mid new : C) (x y : Feature) (ys : List Feature) → gives old (x ∷ []) mid → gives old (y ∷ ys) new → x ≡ y) where
-  -- where none was taken, the one ahead is the one that was
+  -- if none was taken, the one ahead is the one that was
   after_none : (ahead : Option Feature) (records : C) → ComesAfter gives line_at has_ended ahead records [] ahead
   after_none ahead records r e = inl (e, refl)
 

@@ -46,7 +46,7 @@ up_length : (operation : Operation) (operations : List Operation) → reference_
 up_length operation operations =
     ap reference_length (take_while-cons (λ o. not (is_skip o)) operation operations) ∙ up_by (is_skip operation) operation (up_to_skip operations)
 
--- the block that is open, where none begins here
+-- the block that is open, if none begins here
 abbrev still_open : Bool → ℕ → ℕ → List Operation → List Span
 still_open b start at operations = cond b [] (with_bases start (at + reference_length (up_to_skip operations)))
 

@@ -98,7 +98,7 @@ pub known_up_to : (ended : Bool) (to bases : ℕ) → bases ≤ (if ended then l
 known_up_to true to bases within = refl
 known_up_to false to bases within = grind (arith, nat_tests)
 
--- the bounds of a line where nothing is held
+-- the bounds of a line if nothing is held
 pub bounds_are : (before bases : ℕ) (w : Bounds) → before ≡ w.before → bases ≡ w.bases → w.held ≡ []
     → ◌≡◌ {A = Bounds} (record { before = before; bases = bases; held = [] }) w
 bounds_are before bases w p q none = rw (p, q, ← none) refl
@@ -135,7 +135,7 @@ module _ (to : ℕ) where
       let step = stays p copies.0 line m at named known copies.1 in
       copies_come lines next copies.0 q (passed m line.text) step.1 named known copies.2
 
-  -- where some bytes were put
+  -- if some bytes were put
   pub copies_end : (lines : List TextLine) (p q : CopyThrough) (m : Masking) (window : Bounds) → bounds_of p ≡ m.window → is_some m.matched.name ≡ true → IsKnownTo m → window ≡ bounds_of q
       → CopiesLines to p lines q → (flat_map spelled lines ≡ [] → ⊥) → record m { window = window; waiting = None; want = Line } ≡ passed_all m lines
   copies_end [] p q m window at named known is copies some = absurd (some refl)

@@ -62,7 +62,7 @@ module _ (low : ℕ) where
       let both = or_parts (block_decides low next (r ∷ [])) (list_any (tag_decides low) (tags chrom_of next (Some r.chrom) rs)) e in
       all_both (IsLow low) (items_if_last next (r ∷ [])) (own_in (tags chrom_of next (Some r.chrom) rs)) (item_low next r both.0 h.0) (own_low next (Some r.chrom) rs both.1 h.1)
 
--- what is held goes on to be held by the next line, where it reaches that far
+-- what is held goes on to be held by the next line, if it reaches that far
 module _ (first low high : ℕ) (up : first ≤ low) (further : low ≤ high) where
   abbrev is_old : Feature → Bool
   is_old r = nat_lt r.start low && nat_lt first r.stop

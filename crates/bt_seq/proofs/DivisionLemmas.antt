@@ -88,7 +88,7 @@ lettered : (text : List ℕ) (parts : List Part) → parts_of text ≡ Some part
 lettered [] parts e = let is : [] ≡ parts = cc in ap letters (sym is)
 lettered (byte ∷ bytes) parts e = lettered_by byte bytes (is_letter byte) parts refl e (λ others h. lettered bytes others h)
 
--- where each has an operation, each begins with a number
+-- if each has an operation, each begins with a number
 number_by : (b : Bool) (n : ℕ) → cond b (Some n) None ≡ None → b ≡ false
 number_by true n e = cc
 number_by false n e = refl

@@ -67,7 +67,7 @@ module _ (how : MaskHow) (s : Extent) where
       ap (λ bs. base ∷ bs) (masked_between bases (suc position) from count (omega arith) (omega arith))
       ∙ outside position base bases (grind (arith, nat_tests))
 
-  -- where nothing is between, nothing changes
+  -- if nothing is between, nothing changes
   pub masked_nowhere : (bases : List ℕ) (position from to : ℕ) → from ≡ min (s.start - position) (length bases) → to ≡ min (s.stop - position) (length bases) → to ≤ from
       → bases ≡ masked_in how (s ∷ []) position bases
   masked_nowhere [] position from to d e high = refl

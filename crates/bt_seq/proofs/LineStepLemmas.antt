@@ -100,7 +100,7 @@ no_and : (a b : Bool) → a ≡ true → (not a && b) ≡ false
 no_and true b e = refl
 no_and false b e = absurd (never e)
 
--- the record ahead doesn't decide a header, and where it decides a line there is one
+-- the record ahead doesn't decide a header, and if it decides a line there is one
 header_ahead : (o : Option Feature) (taken : List Feature) (item : SequenceLine) → is_header item.text ≡ true
     → is_written_ahead o taken item ≡ false
 header_ahead None taken item e = refl

@@ -56,7 +56,7 @@ abbrev pub up_to : ℕ → Option ℕ → Option ℕ
 up_to limit None = None
 up_to limit (Some number) = if nat_le number limit then Some number else None
 
--- the number that a text denotes, where it is at most the limit
+-- the number that a text denotes, if it is at most the limit
 abbrev pub value_up_to : ℕ → List ℕ → Option ℕ
 value_up_to limit text = up_to limit (value_of text)
 
@@ -80,7 +80,7 @@ alignment_at fields flag position quality span = record {
   cigar = fields.cigar;
 }
 
--- what these values say: the end is looked at only where the alignment gives a line
+-- what these values say: the end is looked at only if the alignment gives a line
 abbrev pub values_say : Fields → ℕ → ℕ → ℕ → ℕ → Result (Option Alignment) Kind
 values_say fields flag position quality span =
     if gives_nothing flag fields.chrom position span then Ok None
@@ -109,7 +109,7 @@ max_position = 2147483647
 abbrev pub max_quality : ℕ
 max_quality = 255
 
--- what the columns say, where there are enough of them
+-- what the columns say, if there are enough of them
 unfoldable pub fields_say : Option Fields → Result (Option Alignment) Kind
 fields_say None = Err TooFewColumns
 fields_say (Some fields) =

@@ -55,7 +55,7 @@ abbrev pub blocks_in : ℕ → Option (List Operation) → List Span
 blocks_in start None = []
 blocks_in start (Some operations) = blocks_of start operations
 
--- the spans of the reference that are written of an alignment: its blocks where it is cut at each
+-- the spans of the reference that are written of an alignment: its blocks if it is cut at each
 -- N, and else all of it from its first base to its last
 abbrev pub alignment_blocks : Bool → Alignment → List Span
 alignment_blocks split a =

@@ -48,7 +48,7 @@ pub record Divides (text : List ℕ) (parts : List Part) : Type 0 where
 abbrev pub with_part : Part → Option (List Part) → Option (List Part)
 with_part part parts = option_map (λ others. part ∷ others) parts
 
--- a byte before the first of the parts, where there is one
+-- a byte before the first of the parts, if there is one
 abbrev pub onto_part : ℕ → Option (List Part) → Option (List Part)
 onto_part byte None = None
 onto_part byte (Some []) = None
@@ -68,12 +68,12 @@ abbrev pub operation_of : Part → Option Operation
 operation_of part =
     option_map (λ length. record { length = length; letter = part.letter }) (value_of part.digits)
 
--- an operation before others, where all are there
+-- an operation before others, if all are there
 abbrev pub with_operation : Option Operation → Option (List Operation) → Option (List Operation)
 with_operation None operations = None
 with_operation (Some operation) operations = option_map (λ others. operation ∷ others) operations
 
--- the operations of parts, where each has one
+-- the operations of parts, if each has one
 abbrev pub each_operation : List Part → Option (List Operation)
 each_operation [] = Some []
 each_operation (part ∷ parts) = with_operation (operation_of part) (each_operation parts)
@@ -86,14 +86,14 @@ operations_of_parts (Some parts) = each_operation parts
 unfoldable pub operations_in : List ℕ → Option (List Operation)
 operations_in text = operations_of_parts (parts_of text)
 
--- The operations of a CIGAR, where it is well formed: none for `*`, which says that there is no
+-- The operations of a CIGAR, if it is well formed: none for `*`, which says that there is no
 -- information, and else at least one.
 abbrev pub operations_of : List ℕ → Option (List Operation)
 operations_of [] = None
 operations_of (byte ∷ bytes) =
     if bytes_eq (byte ∷ bytes) (codes "*") then Some [] else operations_in (byte ∷ bytes)
 
--- the reference length of a CIGAR, where it is well formed
+-- the reference length of a CIGAR, if it is well formed
 abbrev pub length_of : List ℕ → Option ℕ
 length_of cigar = option_map reference_length (operations_of cigar)
 
@@ -109,7 +109,7 @@ division_is_found =
     (text : List ℕ) (parts : List Part) → Divides text parts
     → operations_in text ≡ each_operation parts
 
--- and where there are operations, there is a division
+-- and if there are operations, there is a division
 abbrev pub operations_are_divided : Type 0
 operations_are_divided =
     (text : List ℕ) (operations : List Operation) → operations_in text ≡ Some operations

@@ -54,7 +54,7 @@ masked_are_a_front =
     × ((meet (mask_rule how names second) (first ++ more_first) fault).lines
     ≡ written (early_mask_rule how seen) first ++ rest)
 
--- where the second input has no fault, all lines are written, masked
+-- if the second input has no fault, all lines are written, masked
 abbrev pub faultless_are_masked : Type 0
 faultless_are_masked =
     (how : MaskHow) (names : List (List ℕ)) (first : List SequenceLine) (fault : Option Told)
@@ -63,7 +63,7 @@ faultless_are_masked =
     → (meet (mask_rule how names second) first fault).lines
     ≡ flat_map (masked_line how (items_in second)) first
 
--- where the block of each record belongs to a sequence, none lacks one
+-- if the block of each record belongs to a sequence, none lacks one
 abbrev pub owned_lack_none : Type 0
 owned_lack_none = (names : List (List ℕ)) (members : List (Member Feature))
     → is_some (left_after names (map (λ (m : Member Feature). m.item) members)) ≡ true

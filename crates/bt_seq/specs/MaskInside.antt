@@ -56,7 +56,7 @@ pub record KnowsAhead (names : List (List ℕ)) (taken : List Feature) (r : Feat
   pub begins : goes_on taken r ≡ false
   pub none : (e : KnowsEarlier names taken m) → names_behind r.chrom e.front ≡ None
 
--- What is known of the sequences and the blocks of records, where one may be ahead. If no line
+-- What is known of the sequences and the blocks of records, if one may be ahead. If no line
 -- waits, the one ahead has decided the last line: its block belongs to the last sequence,
 -- or to none.
 abbrev pub KnowsNext : Bool → List (List ℕ) → List Feature → Option Feature → Matched → Type 0
@@ -86,7 +86,7 @@ AreInRange records = AllByRecursion (λ r. r.stop ≤ max_number) records
 pub record KnowsStage (stage : MaskStage) (m : Masking) : Type 0 where
   pub counts : Counts (line_given_last (given stage)) m.window
   pub name_is : m.matched.name ≡ last_name (reached stage).names
-  -- where no line waits and records may come, those taken and the one ahead decide the last line
+  -- if no line waits and records may come, those taken and the one ahead decide the last line
   pub is_decided : stage.waiting ≡ None → stage.bed_ended ≡ false
       → IsDecided (line_given_last (given stage)) (stage.taken ++ option_to_list stage.ahead)
   pub in_range : AreInRange stage.taken
@@ -94,7 +94,7 @@ pub record KnowsStage (stage : MaskStage) (m : Masking) : Type 0 where
       → KnowsNext (is_some stage.waiting) (reached stage).names stage.taken stage.ahead m.matched
   pub has_ahead : HasAhead stage
   pub ahead_in_range : (r : Feature) → stage.ahead ≡ Some r → r.start < limit
-  -- where no line waits, it is known how far the record ahead decides lines
+  -- if no line waits, it is known how far the record ahead decides lines
   pub decided_to_is : stage.waiting ≡ None → stage.bed_ended ≡ false → (r : Feature)
       → stage.ahead ≡ Some r
       → m.decided_to ≡ decided_up_to (left_after (reached stage).names (stage.taken ++ r ∷ [])) r

@@ -41,7 +41,7 @@ pub record MaskStandsAt (how : MaskHow) (full : Bool) (stage : MaskStage)
   pub bed_ended_is : m.bed_ended ≡ stage.bed_ended
   pub waits : (line : SequenceLine) → stage.waiting ≡ Some line → Waits stage line
   -- what is held is what the line given last needs: after the last line too,
-  -- where the records of each block rise
+  -- if the records of each block rise
   pub holds : (stage.lines_ended ≡ false) ⊎ AreInBlocks stage.taken
       → m.window.held ≡ map extent_of (held_by (line_given_last (given stage)) stage.taken)
   -- no record was taken but those that left the last line undecided

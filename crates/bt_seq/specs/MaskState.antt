@@ -89,7 +89,7 @@ abbrev pub Keeps : {A : Type 0} → Masking → Waiting → Result A Fault → M
 Keeps old line (Ok done) new = new ≡ record old { waiting = Some line; want = Bed }
 Keeps old line (Err fault) new = (new.want ≡ Nothing) × (told fault ≡ no_memory)
 
--- writing a line when it is given: it is kept only where something is held
+-- writing a line when it is given: it is kept only if something is held
 abbrev pub WritesGiven : {A : Type 0} → Masking → Waiting → Output → Result A Fault → Masking
     → Output → Type 0
 WritesGiven old line out (Ok done) new grown =
@@ -99,7 +99,7 @@ WritesGiven old line out (Err fault) new grown =
     × (FailsToAdd out (line_bytes old line) (told fault) grown
     ⊎ ((told fault ≡ no_memory) × (grown ≡ out) × (nat_lt 0 (length old.window.held) ≡ true)))
 
--- the lines that are written once a line is given: itself where it is written at once,
+-- the lines that are written once a line is given: itself if it is written at once,
 -- and else none
 abbrev pub bytes_at_once : Masking → Waiting → List ℕ
 bytes_at_once moved line = cond (writes_at_once moved line.text) (line_bytes moved line) []
@@ -154,8 +154,8 @@ decides_by Nobody bases start = true
 abbrev pub decides : Masking → Feature → Bool
 decides m r = decides_by (owner_of m.matched r.chrom) m.window.bases r.start
 
--- up to which base of the sequence given last a record decides lines, where it decides one: up to
--- its start, or all where its block belongs to nobody
+-- up to which base of the sequence given last a record decides lines, if it decides one: up to
+-- its start, or all if its block belongs to nobody
 abbrev pub decides_up_to : Owner → ℕ → ℕ
 decides_up_to Own start = start
 decides_up_to Earlier start = start
@@ -170,7 +170,7 @@ holds_by Nobody w r = false
 abbrev pub holds : Masking → Feature → Bool
 holds m r = holds_by (owner_of m.matched r.chrom) m.window r
 
--- with the record held, where it has to be
+-- with the record held, if it has to be
 abbrev pub with_extent : Bool → Bounds → ℕ → ℕ → Bounds
 with_extent to_hold w start stop =
     if to_hold then record w { held = w.held ++ record { start = start; stop = stop } ∷ [] } else w

@@ -25,7 +25,7 @@ use Rattle.bt_seq.specs.declared.mask_want.MaskWant.TheVariants.{Nothing}
 use Rattle.bt_bed.specs.declared.taken.Taken.{Taken}
 use Rattle.bt_bed.specs.declared.taken.Taken.TheVariants.{Yes, No}
 
--- the bytes that are written when a line is given: its own where it is written at once,
+-- the bytes that are written when a line is given: its own if it is written at once,
 -- and else none
 abbrev pub bytes_with : MaskHow → MaskStage → SequenceLine → List ℕ
 bytes_with how stage line =
@@ -38,7 +38,7 @@ may_need_memory stage line =
     is_header line.text || (not (is_written_at_once stage line)
     || nat_lt 0 (length (held_for line stage.taken)))
 
--- where a record decides a line, it stays as it is, whatever follows in order
+-- if a record decides a line, it stays as it is, whatever follows in order
 abbrev pub IsSettled : MaskHow → MaskStage → SequenceLine → Type 0
 IsSettled how stage line =
     (r : Feature) → decided line (stage.taken ++ r ∷ []) ≡ true → LineBefore how line stage.taken r

@@ -1,6 +1,6 @@
 -- Which records mask which sequence. A block is a maximal run of records of one chromosome. It
 -- belongs to the first sequence of its name after that of the block before it; it belongs to none
--- where there is no such sequence, or where the block before it belongs to none.
+-- if there is no such sequence, or if the block before it belongs to none.
 use Rattle.std.specs.Prelude.{◌++◌, ◌≡◌, ◌≢◌, ◌↔◌, ℕ, ◌<◌, All, length, Bool, true, false, ⊤, List}
 use Rattle.std.specs.Prelude.{[], ◌∷◌}
 use Rattle.std.specs.Prelude.{Option, Some, None, bytes_eq, flat_map, nat_le, if◌then◌else◌}
@@ -60,7 +60,7 @@ abbrev pub owned : List (List ℕ) → List Feature → List (Owned Feature)
 owned names records = owned_from (Some names) (blocks_by (λ r. r.chrom) records)
 
 -- the things of a block after which these names are left,
--- where it belongs to the last of all names
+-- if it belongs to the last of all names
 abbrev pub items_if_last : {A : Type 0} → Option (List (List ℕ)) → List A → List A
 items_if_last None xs = []
 items_if_last (Some []) xs = xs
@@ -78,7 +78,7 @@ block_decides bases None records = true
 block_decides bases (Some []) records = list_any (λ r. nat_le bases r.start) records
 block_decides bases (Some (name ∷ names)) records = false
 
--- the block, where it belongs to no sequence
+-- the block, if it belongs to no sequence
 abbrev pub unowned_or : {A : Type 0} → Option (List (List ℕ)) → Block A → Option (Block A)
     → Option (Block A)
 unowned_or None block later = Some block
@@ -112,12 +112,12 @@ abbrev pub owners_are_first : Type 0
 owners_are_first = (name : List ℕ) (names behind : List (List ℕ))
     → (names_behind name names ≡ Some behind) ↔ DividesAt name names behind
 
--- and to none where none of these has its name
+-- and to none if none of these has its name
 abbrev pub unowned_find_no_name : Type 0
 unowned_find_no_name = (name : List ℕ) (names : List (List ℕ))
     → (names_behind name names ≡ None) ↔ AllByRecursion (λ other. other ≢ name) names
 
--- the names after the sequence of the last block: these, where there is none
+-- the names after the sequence of the last block: these, if there is none
 abbrev pub left_at_last : {A : Type 0} → Option (List (List ℕ)) → List (Owned A)
     → Option (List (List ℕ))
 left_at_last left [] = left

@@ -54,7 +54,7 @@ impl BamToBed {
     }
 
     /// Writes the lines of an alignment: chromosome, start, end, name with `/1` and `/2` for the first
-    /// and the last segment, mapping quality, strand. It fails only where a write fails, and answers
+    /// and the last segment, mapping quality, strand. It fails only if a write fails, and answers
     /// that fault from then on.
     pub fn feed<K: Sink>(&mut self, sam: &SamRef<'_>, out: &mut Out<K>) -> Result<(), Fault>
         ensures writes { self.old.fault ≡ None

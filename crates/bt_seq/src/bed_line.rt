@@ -150,7 +150,7 @@ fn put_place<K: Sink>(chrom: &[u8], start: u64, stop: u64, out: &mut Out<K>) -> 
     put_both(chrom, &text[first..], out)
 }
 
-// Puts name, marks, mapping quality and strand, and the CIGAR where it is asked for.
+// Puts name, marks, mapping quality and strand, and the CIGAR if it is asked for.
 fn put_read<K: Sink>(sam: &SamRef<'_>, with_cigar: bool, out: &mut Out<K>) -> Result<(), Fault>
     ensures { Puts out.old.output (sam.now.name.now ++ line_tail with_cigar (alignment_lent sam.now)) result out.new.output }
 {
@@ -205,7 +205,7 @@ fn write_marks(first: bool, last: bool, text: &mut [u8], end: usize) -> usize
     write_mark(first, b'1', text, behind)
 }
 
-// Writes a slash and a digit up to an index, where they are asked for.
+// Writes a slash and a digit up to an index, if they are asked for.
 fn write_mark(asked: bool, digit: u8, text: &mut [u8], end: usize) -> usize
     requires room { 2 ≤ end }
     requires within { end ≤ length text.old }

@@ -10,7 +10,7 @@ use crate::sam::SamRef;
 /// They are zero-based, and the end isn't included.
 #[derive(Debug, Drop)]
 pub struct SamBlocks<'a> {
-    // The alignment, where it isn't cut.
+    // The alignment, if it isn't cut.
     whole: Option<(u64, u64)>,
     // The operations that are still to be read, and where they lie.
     rest: &'a [u8],

@@ -16,7 +16,7 @@ const SHORT: usize = 4;
 
 /// How many reference bases a CIGAR covers: the sum of the numbers of its M, D, N, `=` and X operations
 /// (SAM specification, section 1.4, field 6), but no more than 1,000,000,000,000. It is 0 for `*`, and
-/// none where the CIGAR is malformed: it is empty, ends in a number, has another letter, or has a letter
+/// none if the CIGAR is malformed: it is empty, ends in a number, has another letter, or has a letter
 /// without a number of at most 999,999,999,999.
 #[inline(always)]
 pub fn cigar_span(cigar: &[u8]) -> Option<u64>
@@ -41,7 +41,7 @@ fn span_in(text: &[u8]) -> Option<u64>
     operations_span(text)
 }
 
-// The number of a single M operation, where it has at most three digits, as that of most reads without an insertion or
+// The number of a single M operation, if it has at most three digits, as that of most reads without an insertion or
 // a deletion.
 #[inline(always)]
 fn single_span(text: &[u8]) -> Option<u64>

@@ -19,7 +19,7 @@ pub(crate) struct Fields<'a> {
     pub(crate) cigar: &'a [u8],
 }
 
-// The columns of a text, where it has eleven at least.
+// The columns of a text, if it has eleven at least.
 #[inline(always)]
 pub(crate) fn first_fields(text: &[u8]) -> Option<Fields<'_>>
     ensures { option_map fields_lent result ≡ fields_of (pieces 9 text.now) }

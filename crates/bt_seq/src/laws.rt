@@ -170,7 +170,7 @@ pub fn masked_small_texts()
         ≡ record { lines = codes ">s d\nNCGT\n"; fault = None } }
 {}
 
-/// Which sequence is masked where several have a name, or a block has none.
+/// Which sequence is masked if several have a name, or a block has none.
 #[tactic(auto, unfolding(bt_bed::specs::Good::good_from, bt_bed::specs::GoodBed::line_says, bt_bed::specs::Record::record_of, bt_lines::specs::Lines::lines_from, bt_lines::specs::Number::value_of))]
 pub fn masked_sequences_of_blocks()
     ensures each_in_turn { mask_texts (MaskHow.Hard 78) false (codes ">s\nAAAA\n>t\nCCCC\n>s\nGGGG\n") (codes "s\t0\t1\nt\t0\t1\ns\t0\t1\n")

@@ -70,11 +70,11 @@ impl Mask {
         self.state.kept_len()
     }
 
-    /// Takes the next line. It is written at once where the records have ended, where it is a blank line
-    /// before the first header, or where it is no header and the record ahead, which wasn't taken,
-    /// decides it; and else it waits. It fails with `TextBeforeHeader` where it has text before the first
-    /// header, with `NoMemory` where a header can't be named or a line that waits or is to be masked
-    /// can't be kept, and with `WriteFailed` where it can't be written.
+    /// Takes the next line. It is written at once if the records have ended, if it is a blank line
+    /// before the first header, or if it is no header and the record ahead, which wasn't taken,
+    /// decides it; and else it waits. It fails with `TextBeforeHeader` if it has text before the first
+    /// header, with `NoMemory` if a header can't be named or a line that waits or is to be masked
+    /// can't be kept, and with `WriteFailed` if it can't be written.
     pub fn give_line<K: Sink>(&mut self, line: &Line<'_>, out: &mut Out<K>) -> Result<(), Fault>
         requires { self.old.want ≡ MaskWant.Line }
         ensures gives { (how : MaskHow) (full : Bool) (stage : MaskStage) → MaskStandsAt how full stage self.old
@@ -187,7 +187,7 @@ impl Mask {
         Ok(Taken::Yes)
     }
 
-    /// Takes the end of the records, and writes the line that waits. It fails with `WriteFailed` where
+    /// Takes the end of the records, and writes the line that waits. It fails with `WriteFailed` if
     /// that can't be written.
     pub fn end_bed<K: Sink>(&mut self, out: &mut Out<K>) -> Result<(), Fault>
         requires { self.old.want ≡ MaskWant.Bed }

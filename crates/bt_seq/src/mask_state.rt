@@ -296,7 +296,7 @@ impl MaskState {
     }
 
     // Keeps up to which base a record decides lines, since it decides the one that waits: up to its start,
-    // or all where its block belongs to nobody.
+    // or all if its block belongs to nobody.
     fn know(&mut self, owner: Owner, start: u64)
         ensures { self.new ≡ record self.old { decided_to = decides_up_to owner start } }
     {
@@ -380,7 +380,7 @@ impl MaskState {
         self.has_written(written)
     }
 
-    // Asks for the next line, where the last one was written.
+    // Asks for the next line, if the last one was written.
     fn has_written(&mut self, written: Result<(), Fault>) -> Result<(), Fault>
         ensures same { result ≡ written }
         ensures next { IsOk written → self.new ≡ record self.old { waiting = None; want = MaskWant.Line } }

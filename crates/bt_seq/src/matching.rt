@@ -69,7 +69,7 @@ impl Matching {
         self.is_named
     }
 
-    // Goes on to a new sequence. Where memory runs out, nothing is known afterwards.
+    // Goes on to a new sequence. If memory runs out, nothing is known afterwards.
     pub(crate) fn begin(&mut self, name: &[u8]) -> Result<(), AllocError>
         ensures { OnOk result (self.new ≡ named self.old name.now) }
     {

@@ -27,8 +27,8 @@ const FIRST: u64 = 64;
 
 const LAST: u64 = 128;
 
-/// The alignment of a line's text (SAM specification, sections 1.3 and 1.4). There is none where the
-/// line is blank or a header line, which begins with `@`, and where the read is unmapped, has the
+/// The alignment of a line's text (SAM specification, sections 1.3 and 1.4). There is none if the
+/// line is blank or a header line, which begins with `@`, and if the read is unmapped, has the
 /// reference name `*` or the position 0, or covers no reference base. `Err` has the first that
 /// applies: fewer than eleven columns; a flag above 65,535 or no number; an empty reference name; a
 /// position above 2,147,483,647 or no number; a mapping quality above 255 or no number; a malformed
@@ -181,7 +181,7 @@ fn first_eight(text: &[u8]) -> Option<u64>
     eight_digits(text.first_chunk::<8>()?)
 }
 
-// The number that a text denotes, where it is at most the limit. Most have up to three digits.
+// The number that a text denotes, if it is at most the limit. Most have up to three digits.
 #[inline(always)]
 fn number_up_to(text: &[u8], limit: u64) -> Option<u64>
     ensures { result ≡ value_up_to limit text.now }
@@ -189,7 +189,7 @@ fn number_up_to(text: &[u8], limit: u64) -> Option<u64>
     up_to(number_in(text), limit)
 }
 
-// The number that a text denotes, where it is a position. Most have eight or nine digits.
+// The number that a text denotes, if it is a position. Most have eight or nine digits.
 #[inline(always)]
 fn position_in(text: &[u8]) -> Option<u64>
     ensures { result ≡ value_up_to 2147483647 text.now }
@@ -197,7 +197,7 @@ fn position_in(text: &[u8]) -> Option<u64>
     up_to(long_number(text), MAX_POSITION)
 }
 
-// A number, where it is at most the limit.
+// A number, if it is at most the limit.
 #[inline(always)]
 fn up_to(number: Option<u64>, limit: u64) -> Option<u64>
     ensures { result ≡ up_to limit number }

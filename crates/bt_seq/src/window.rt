@@ -135,7 +135,7 @@ impl Window {
     }
 }
 
-// The sum, or the limit where it lies above.
+// The sum, or the limit if it lies above.
 pub(crate) fn up_to_limit(bases: u64, count: usize) -> u64
     requires { bases ≤ limit }
     ensures { result ≡ min (bases + count) limit }

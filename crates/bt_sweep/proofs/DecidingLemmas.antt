@@ -97,7 +97,7 @@ none_by : (order : Order) (a : Feature) (bs : List Feature) (b : Feature) → de
 none_by order a bs b e true f h = absurd (h refl)
 none_by order a bs b e false f h = list_any-append (decides order a) bs (b ∷ []) ∙ or_from (decided order a bs) (decides order a b || false) f (or_from (decides order a b) false e refl)
 
--- where the next record doesn't decide a, none before it did
+-- if the next record doesn't decide a, none before it did
 pub none_before : (order : Order) (a : Feature) (bs : List Feature) (b : Feature) → IsTotal order → IsTrue (order.knows a.chrom) → ArePlaced order (intervals_of (bs ++ b ∷ [])) → decides order a b ≡ false → decided order a (bs ++ b ∷ []) ≡ false
 none_before order a bs b total ka placed e =
     none_by order a bs b e (decided order a bs) refl (λ some. false≢true (sym e ∙ (and_parts (decides order a b) true (later_decide order a bs (b ∷ []) total ka placed some)).0))

@@ -38,7 +38,7 @@ abbrev pub ComeFrom : ℕ → List Feature → ℕ → Type 0
 ComeFrom place xs n = (i : ℕ) (d : Feature) → n ≤ i → i < length xs → nat_lt (slice_index_or xs i d).start place ≡ false
 
 module _ (place : ℕ) (xs : List Feature) (rises : IsNonDecreasingBy (λ r. r.start) xs) (middle : ℕ) (h : middle < length xs) where
-  -- where one starts before the place, so do those before it
+  -- if one starts before the place, so do those before it
   pub come_before : list_any (λ r. nat_lt r.start place) (option_to_list (slice_get xs middle)) ≡ true → ComeBefore place xs (middle + 1)
   come_before e = λ i d low.
       let here = sym (passes_at (λ r. nat_lt r.start place) xs middle d h) ∙ e in
@@ -123,12 +123,12 @@ module _ (place : ℕ) where
         ap (λ l. filter stays (take n xs) ++ l) (sym (all_pass stays (drop n xs) rest_stays))
         ∙ sym (filter-append stays (take n xs) (drop n xs)) ∙ ap (filter stays) (take-append-drop n xs)
 
-    -- where none of those that start before has ended, there is none
+    -- if none of those that start before has ended, there is none
     pub none_dropped : list_any (λ r. nat_le r.stop place) (take n xs) ≡ false → xs ≡ filter stays xs
     none_dropped none =
         sym (take-append-drop n xs) ∙ ap (λ l. l ++ drop n xs) (sym (pass_rec stays (take n xs) (none_rec (take n xs) none))) ∙ dropped
 
--- they rise and have bases where others did of which they are some
+-- they rise and have bases if others did of which they are some
 pub rises_on : (p : Feature → Bool) (xs items : List Feature) → items ≡ filter p xs → IsNonDecreasingBy (λ r. r.start) xs → IsNonDecreasingBy (λ r. r.start) items
 rises_on p xs items is rises = subst (IsNonDecreasingBy start_of) (sym is) (IsNonDecreasingBy-filter start_of p xs rises)
 

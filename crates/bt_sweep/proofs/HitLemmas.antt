@@ -75,7 +75,7 @@ module _ (rule : HitRule) (a : Feature) where
   none_behind [] all = refl
   none_behind (b ∷ bs) all = or_from (hits rule a b) (list_any (hits rule a) bs) (behind_misses rule a b all.0) (none_behind bs all.1)
 
-  -- so where none before it does, none does
+  -- so if none before it does, none does
   pub none_left : (bs : List Feature) (n : ℕ) → list_any (hits rule a) (take n bs) ≡ false → StartFrom a.stop (drop n bs) → list_any (hits rule a) bs ≡ false
   none_left bs n none behind =
       let rest = none_behind (drop n bs) (recursion_from_All (λ (b : Feature). a.stop ≤ b.start) (drop n bs) behind) in

@@ -48,7 +48,7 @@ within_at None b held c room within = tt
 within_at (Some most) b held true room within = omega (arith, ltb-true (length held) most (room refl), length-append held (b ∷ []))
 within_at (Some most) b held false room within = omega (arith, ap length (append-nil held), within)
 
--- with one more, for which there is room where it has to be held
+-- with one more, for which there is room if it has to be held
 pub within_more : (limit : Option ℕ) (a b : Feature) (held : List Feature) → (is_held a b ≡ true → has_room limit (length held) ≡ true) → IfSome limit (λ most. length held ≤ most)
     → IfSome limit (λ most. length (held ++ filter (is_held a) (b ∷ [])) ≤ most)
 within_more limit a b held room within = within_at limit b held (is_held a b) room within
@@ -108,7 +108,7 @@ cut_next too_many past more m fault =
     keeps_by (too_many (map (λ m. m.item) (past ++ m ∷ []))) (record { members = past ++ m ∷ []; fault = Some (fault_at_line Second m.line TooManyHeld) }) (cut_behind too_many (past ++ m ∷ []) more fault) past m refl
     (cut_keeps too_many (past ++ m ∷ []) more fault)
 
--- where none is too many, nothing is cut
+-- if none is too many, nothing is cut
 pub cut_none : (too_many : List Feature → Bool) (past more : List (Member Feature)) (fault : Option Told)
     → ((front : List (Member Feature)) (m : Member Feature) (rest : List (Member Feature)) → more ≡ front ++ m ∷ rest → too_many (map (λ m. m.item) (past ++ (front ++ m ∷ []))) ≡ false)
     → cut_behind too_many past more fault ≡ record { members = past ++ more; fault = fault }
@@ -129,7 +129,7 @@ module _ (order : Order) (most : ℕ) (second : List Feature) where
       let parts = and_parts (decided order x second) (list_all (λ x. decided order x second) before) all in
       ap (λ b. cond (not b) (Some x) (find opens (before ++ a ∷ after))) parts.0 ∙ open_here before after a parts.1 undecided
 
-  -- where all are decided, there is none
+  -- if all are decided, there is none
   pub open_none : (first : List Feature) → list_all (λ x. decided order x second) first ≡ true → first_open order first second ≡ None
   open_none [] all = refl
   open_none (x ∷ first) all =
@@ -161,7 +161,7 @@ module _ (order : Order) (most : ℕ) (second : List Feature) where
   found_at true x first e many rest = found_more x first e (rest many)
   found_at false x first e many rest = ([], first, x, refl, record { decided_before = refl; undecided = e; many = ltb-true most (length (filter (is_held x) second)) many })
 
-  -- where they are too many, there is a record for which they are
+  -- if they are too many, there is a record for which they are
   too_many_for : (first : List Feature) → are_too_many order most first second ≡ true → Found first
   too_many_for [] many = absurd (false≢true (sym (none_many most) ∙ many))
   too_many_for (x ∷ first) many =
@@ -179,7 +179,7 @@ limit_kept order most first second enough =
 met_is : (met : Met ℕ Told) (lines : List ℕ) (fault : Option Told) → met.lines ≡ lines → met.fault ≡ fault → met ≡ record { lines = lines; fault = fault }
 met_is met lines fault e f = ap (λ l. record { lines = l; fault = met.fault }) e ∙ ap (λ (o : Option Told). record { lines = lines; fault = o }) f
 
--- where a record is undecided, and the second input has a fault
+-- if a record is undecided, and the second input has a fault
 met_stops : (order : Order) (shape : Shape) (rule : HitRule) (first second : Good Feature) (before after : List Feature) (a : Feature) (fault : Told) → items_in first ≡ before ++ a ∷ after → second.fault ≡ Some fault
     → list_all (λ x. decided order x (items_in second)) before ≡ true → decided order a (items_in second) ≡ false
     → intersect_met order shape rule first second ≡ record { lines = intersect shape rule before (items_in second); fault = Some fault }

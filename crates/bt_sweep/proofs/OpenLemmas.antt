@@ -59,7 +59,7 @@ module _ (rule : HitRule) (a : Feature) (any : rule.billionths ≡ 0) (no_strand
   hit_rec (b ∷ bs) able before =
       ap (λ c. cond c (b ∷ hits_among rule a bs) (hits_among rule a bs)) (one_hits b able.0 before.0) ∙ ap (λ l. b ∷ l) (hit_rec bs able.1 before.1)
 
--- where one shared base is enough, those that can hit a record and start before its end do
+-- if one shared base is enough, those that can hit a record and start before its end do
 pub all_hit : (rule : HitRule) (a : Feature) (bs : List Feature) (n : ℕ) → rule.billionths ≡ 0 → rule.same_strand ≡ false → a.start < a.stop → n ≤ length bs → All (CanHit a) bs → StartBefore a.stop (take n bs)
     → n ≡ length (hits_among rule a (take n bs))
 all_hit rule a bs n any no_strand some within able before =

@@ -55,6 +55,6 @@ module _ (place : ℕ) where
       let rest = before_rec b.start (next ∷ bs) i (omega (arith, h)) e rises.1 in
       (omega (arith, rest.0, rises.1.0), rest)
 
-  -- where this one starts before it, it and those before it do
+  -- if this one starts before it, it and those before it do
   pub start_ahead : (bs : List Feature) (i : ℕ) → i < length bs → list_any (λ r. nat_le place r.start) (option_to_list (slice_get bs i)) ≡ false → AreRising bs → StartBefore place (take (i + 1) bs)
   start_ahead bs i h e rises = rw add-one (All-from_recursion StartsBefore (take (suc i) bs) (before_rec 0 bs i h e rises))

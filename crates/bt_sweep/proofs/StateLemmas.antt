@@ -17,11 +17,11 @@ use Rattle.bt_sweep.specs.SweepState.{Sweeping}
 use Rattle.bt_sweep.specs.declared.hit_rule.HitRule.{HitRule}
 use Rattle.bt_sweep.specs.declared.shape.Shape.{Shape}
 
--- where none waits
+-- if none waits
 pub ready_none : (current : Option Feature) (held : List Feature) → current ≡ None → AreTogether held → AreReady current held
 ready_none current held none together = record { together = together; hits = λ x e. absurd (let apart : None ≡ Some x = sym none ∙ e in cc) }
 
--- where those that are held can hit the one that waits
+-- if those that are held can hit the one that waits
 pub ready_some : (a : Feature) (held : List Feature) → AreTogether held → All (CanHit a) held → AreReady (Some a) held
 ready_some a held together on = record { together = together; hits = λ x e. subst (λ (f : Feature). All (CanHit f) held) (let same : a ≡ x = cc in same) on }
 

@@ -66,13 +66,13 @@ whole_of a [] = refl
 whole_of a (b ∷ found) = refl
 
 module _ {A : Type 0} (a : Feature) (bs : List Feature) (out grown : Output) (r : Result A Fault) (shape : Shape) (rule : HitRule) where
-  -- a record that is put where something hits it
+  -- a record that is put if something hits it
   pub once_adds : (any : Bool) → shape ≡ Once → any ≡ list_any (hits rule a) bs → Adds out (cond any (line_with (bed_text a ∷ [])) []) r grown → Adds out (lines_for shape rule a bs) r grown
   unfolding lines_for
   once_adds any is e adds =
       rw is (subst (λ (l : List ℕ). Adds out l r grown) (ap (λ (b : Bool). cond b (line_with (bed_text a ∷ [])) []) e ∙ sym (once_of a (hits rule a) bs)) adds)
 
-  -- a record that is put where nothing does
+  -- a record that is put if nothing does
   missing_as : (s : Shape) (none : Bool) → shape ≡ s → lines_of s a (hits_among rule a bs) ≡ cond (not (list_any (hits rule a) bs)) (line_with (bed_text a ∷ [])) [] → none ≡ not (list_any (hits rule a) bs)
       → Adds out (cond none (line_with (bed_text a ∷ [])) []) r grown → Adds out (lines_for shape rule a bs) r grown
   unfolding lines_for
@@ -102,7 +102,7 @@ module _ {A : Type 0} (a : Feature) (bs : List Feature) (out grown : Output) (r 
   pub hits_adds : (shape ≡ Cut) ⊎ ((shape ≡ OrigA) ⊎ ((shape ≡ CutAndB) ⊎ ((shape ≡ OrigBoth) ⊎ (shape ≡ Overlap)))) → Adds out (flat_map (hit_line shape a) (hits_among rule a bs)) r grown → Adds out (lines_for shape rule a bs) r grown
   hits_adds is adds = subst (λ (l : List ℕ). Adds out l r grown) (sym (each_hit a bs shape rule is)) adds
 
--- where nothing is held nothing hits, and what is left of a record is all of it, if it has a base
+-- if nothing is held nothing hits, and what is left of a record is all of it, if it has a base
 pub none_hits : (rule : HitRule) (a : Feature) (held : List Feature) → length held ≡ 0 → true ≡ not (list_any (hits rule a) held)
 none_hits rule a [] e = refl
 none_hits rule a (b ∷ held) e = absurd (omega arith)

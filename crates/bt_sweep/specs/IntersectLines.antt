@@ -43,9 +43,9 @@ hit_line Count a b = []
 hit_line Pieces a b = []
 hit_line Whole a b = []
 
--- what is written of a and all that hit it: a line for each of them; or a, where there are some; or
--- a, where there is none; or a and how many there are; or the pieces of a that they leave; or a,
--- where there is none
+-- what is written of a and all that hit it: a line for each of them; or a, if there are some; or
+-- a, if there is none; or a and how many there are; or the pieces of a that they leave; or a,
+-- if there is none
 abbrev pub lines_of : Shape → Feature → List Feature → List ℕ
 lines_of Cut a found = flat_map (hit_line Cut a) found
 lines_of OrigA a found = flat_map (hit_line OrigA a) found

@@ -1,5 +1,5 @@
 -- A limit on how many records of the second input are held at a time, which is this program's own
--- (option -held of intersect and subtract). Where more would have to be held, that line of the
+-- (option -held of intersect and subtract). If more would have to be held, that line of the
 -- second input is at fault.
 use Rattle.std.specs.Prelude.{◌≡◌, ℕ, ◌<◌, Bool, false, true, not, ◌&&◌, List, [], ◌∷◌}
 use Rattle.std.specs.Prelude.{◌++◌, Option, None, Some, bytes_eq, filter, if◌then◌else◌, length, map}
@@ -39,7 +39,7 @@ are_too_many order most first second =
     nat_lt most (length (held_for (first_open order first second) second))
 
 -- The members after others, up to the first with which they are too many, where the fault of the
--- limit lies; where there is none, all of them and their own fault.
+-- limit lies; if there is none, all of them and their own fault.
 abbrev pub cut_behind : (List Feature → Bool) → List (Member Feature) → List (Member Feature)
     → Option Told → Good Feature
 cut_behind too_many past [] fault = record { members = past; fault = fault }
@@ -90,7 +90,7 @@ limit_stops =
       fault = Some (fault_at_line Second m.line TooManyHeld);
     }
 
--- Where the records up to no line are too many, the limit changes nothing.
+-- If the records up to no line are too many, the limit changes nothing.
 abbrev pub limit_is_kept : Type 0
 limit_is_kept =
     (order : Order) (most : ℕ) (first : List Feature) (second : Good Feature)

@@ -80,7 +80,7 @@ pub record StandsAt (order : Order) (shape : Shape) (rule : HitRule) (limit : Op
   -- a record waits only while neither input has ended
   pub unended : is_some stage.waiting ≡ true → (stage.a_ended ≡ false) × (stage.b_ended ≡ false)
 
--- the stage with one more record of the first input: its lines are written at once where the second
+-- the stage with one more record of the first input: its lines are written at once if the second
 -- input has ended
 abbrev pub with_a : Stage → Feature → Stage
 with_a stage a = cond stage.b_ended
@@ -101,7 +101,7 @@ with_a_ended stage = record stage { a_ended = true }
 abbrev pub with_b_ended : Stage → Stage
 with_b_ended stage = record (with_lines stage) { b_ended = true }
 
--- Where each record taken leaves one of the given undecided, and the next one with those decides
+-- If each record taken leaves one of the given undecided, and the next one with those decides
 -- all, the records taken are those before the first that decides all.
 abbrev pub taken_are_first : Type 0
 taken_are_first =

@@ -28,7 +28,7 @@ held_with held a = cond (are_on held a.chrom) (filter (λ b. nat_lt a.start b.st
 abbrev pub NeedsHit : Shape → Type 0
 NeedsHit shape = (a : Feature) → lines_of shape a [] ≡ []
 
--- the sweep with b held, where a or a later record can be hit by it
+-- the sweep with b held, if a or a later record can be hit by it
 abbrev pub holding : Sweeping → Feature → Feature → Sweeping
 holding old a b = record old { held = old.held ++ filter (is_held a) (b ∷ []) }
 

@@ -28,7 +28,7 @@ abbrev pub Fails : Output → List ℕ → Told → Output → Type 0
 Fails out lines fault grown =
     FailsToAdd out lines fault grown ⊎ ((fault ≡ no_memory) × (grown ≡ out))
 
--- the lines that are written when a is given: its own where the second input has ended,
+-- the lines that are written when a is given: its own if the second input has ended,
 -- and else none
 abbrev pub lines_with : Shape → HitRule → Stage → Feature → List ℕ
 lines_with shape rule stage a = cond stage.b_ended (lines_for shape rule a stage.taken) []

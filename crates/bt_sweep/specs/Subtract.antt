@@ -13,7 +13,7 @@ use Rattle.bt_sweep.specs.declared.hit_rule.HitRule.{HitRule}
 use Rattle.bt_sweep.specs.declared.shape.Shape.{Shape}
 use Rattle.bt_sweep.specs.declared.shape.Shape.TheVariants.{Pieces, Whole}
 
--- what is left of a by those that hit it: its pieces, or whole a where none hits it
+-- what is left of a by those that hit it: its pieces, or whole a if none hits it
 abbrev pub left_lines : Bool → Feature → List Feature → List ℕ
 left_lines false a found = flat_map (piece_line a) (pieces a found)
 left_lines true a [] = line_with (bed_text a ∷ [])
@@ -34,7 +34,7 @@ abbrev pub left_are_lines : Type 0
 left_are_lines = (whole : Bool) (rule : HitRule) (a : Feature) (second : List Feature)
     → lines_for (subtract_shape whole) rule a second ≡ left_lines whole a (hits_among rule a second)
 
--- where the second input has no fault, it is what the meeting of the inputs writes
+-- if the second input has no fault, it is what the meeting of the inputs writes
 abbrev pub subtract_is_met : Type 0
 subtract_is_met =
     (order : Order) (whole : Bool) (rule : HitRule) (first second : List Feature)

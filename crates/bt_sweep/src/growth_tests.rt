@@ -15,7 +15,7 @@ fn holds(rt: &impl Abort, it: bool, name: &str) {
     assert!(rt; it, "{name}");
 }
 
-// Adds a record. Where that is refused, the same record has to come back, and the list to be as it was.
+// Adds a record. If that is refused, the same record has to come back, and the list to be as it was.
 fn push_or_check<H: Held>(
     rt: &impl Abort,
     alloc: Global,

@@ -11,7 +11,7 @@ use bt_bed::Rec;
 use std::alloc::Global;
 use std::collections::VecDeque;
 
-/// Held records as a queue of them. Where they come by their starts, those that ended at a place are
+/// Held records as a queue of them. If they come by their starts, those that ended at a place are
 /// dropped without going over those that start there or after it.
 #[derive(Drop, Debug)]
 pub struct HeldList {
@@ -181,7 +181,7 @@ fn drop_ended_of(records: &mut VecDeque<Rec>, count: usize, place: u64)
     records.rotate_right(kept);
 }
 
-// Drops the first record where it ends at or before the place, and else moves it after the others.
+// Drops the first record if it ends at or before the place, and else moves it after the others.
 // Answers how many were moved there.
 fn pass_first(records: &mut VecDeque<Rec>, place: u64) -> usize
     ensures passed { records.new.items

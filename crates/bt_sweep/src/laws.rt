@@ -37,12 +37,12 @@ pub fn lines_of_one_record_are_what_is_left()
     ensures { left_are_lines }
 {}
 
-/// Where the second input has no fault, what the sweep writes for subtract is what all pairs give.
+/// If the second input has no fault, what the sweep writes for subtract is what all pairs give.
 pub fn faultless_inputs_are_subtracted()
     ensures { subtract_is_met }
 {}
 
-/// Where the second input has no fault, what is written is what all pairs give.
+/// If the second input has no fault, what is written is what all pairs give.
 pub fn faultless_inputs_give_all_pairs()
     ensures { faultless_are_all }
 {}
@@ -57,7 +57,7 @@ pub fn taken_records_come_first()
     ensures { taken_are_first }
 {}
 
-/// Where the number of held records is limited, a run is refused exactly where more of the records up to
+/// If the number of held records is limited, a run is refused exactly if more of the records up to
 /// a line of the second input would have to be held for the first record that they leave undecided, and
 /// at the first such line: the lines of the records before that one are written. Else the limit changes
 /// nothing.
@@ -81,7 +81,7 @@ pub fn small_inputs_meet()
     ensures whole { whole_is_left }
 {}
 
-/// The same, where the number of held records is limited.
+/// The same, if the number of held records is limited.
 pub fn small_inputs_meet_within_a_limit()
     ensures third { third_is_too_many }
     ensures three { three_are_enough }

@@ -62,7 +62,7 @@ fn has_position(b: &Rec, position: u64) -> bool
     b.start <= position && position < b.stop
 }
 
-// Adds the position to the last piece where that begins after it, and else as a piece of its own.
+// Adds the position to the last piece if that begins after it, and else as a piece of its own.
 fn add_position(found: &mut Vec<PlainPiece>, position: u64) -> Result<(), AllocError>
     requires { position + 1 < 2 ^ 64 }
     ensures { OnOk result (pieces_in found.new.items ≡ with_position position (pieces_in found.old.items)) }

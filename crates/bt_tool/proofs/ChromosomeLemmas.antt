@@ -1,4 +1,4 @@
--- Lemmas on the genome file of a run, where it has one.
+-- Lemmas on the genome file of a run, if it has one.
 use Rattle.std.proofs.Common.{◌≡◌, ℕ, suc, ◌-◌, ◌^◌, Bool, true, List, ◌++◌, take, Option, None, Some, Ok, Err, refl, sym, ap, ◌∙◌, subst, arith, inl, inr, ⊎_elim}
 use Rattle.std.specs.Prelude.{◌⊎◌, ◌≢◌, IfSome, option_map}
 use Rattle.std.proofs.lemmas.Bool.{false≢true}

@@ -61,7 +61,7 @@ pub record Front (bytes : List ℕ) (at count : ℕ) : Type 0 where
   pub fed : is_fed (take at bytes) ≡ true
   pub feeds : line_feeds (take at bytes) ≡ count
 
--- where each line has its line feed
+-- if each line has its line feed
 module _ (n m at : ℕ) (bytes : List ℕ) (texts : List TextLine) (fed : is_fed bytes ≡ true) (within : at ≤ length bytes)
     (left : whole_lines_from n bytes ≡ texts ++ whole_lines_from m (drop at bytes)) where
   whole_at : at ≡ length (flat_map spelled texts)
@@ -92,7 +92,7 @@ module _ (n m at : ℕ) (bytes : List ℕ) (texts : List TextLine) (fed : is_fed
     );
   }
 
--- where the line's feed isn't one of the text
+-- if the line's feed isn't one of the text
 few_lines : (n : ℕ) (bytes : List ℕ) → length (lines_from n bytes) ≤ suc (line_feeds bytes)
 few_lines = by_lines (λ n bytes. length (lines_from n bytes) ≤ suc (line_feeds bytes))
     (λ n piece clear. omega (arith, ap length (lines_from-last n piece clear), few_last n piece))

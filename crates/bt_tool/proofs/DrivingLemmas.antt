@@ -221,7 +221,7 @@ module _ {S A State : Type 0} (written : Written A) (kinds : Kind → Type 0) (S
     abbrev Ends : Option Told → Type 0
     Ends fault = WritesAlone left failed (of_members kinds written format) first out fault last finished
 
-    -- the report where all records were taken
+    -- the report if all records were taken
     report_all : (other : Option Told) (handed : Handed) → Came left failed first last other handed → report handed ≡ report_by written (member_items fed.past) None
     report_all other handed came =
         report_of handed fed.past None

@@ -1,4 +1,4 @@
--- What was taken of a reader's members and written of them so far, whatever they are, and what is so where the reading stops; and so feeding an engine with the records of a reader.
+-- What was taken of a reader's members and written of them so far, whatever they are, and what is so when the reading stops; and so feeding an engine with the records of a reader.
 use Rattle.std.proofs.Common.{◌≡◌, ℕ, suc, ◌+◌, ◌<◌, ◌≤◌, Bool, true, List, [], ◌∷◌, ◌++◌, length, Option, None, Some, Ok, Err, refl, sym, ap, ◌∙◌, subst, append-nil, append_assoc, length-append, arith, inl, inr}
 use Rattle.std.specs.Prelude.{◌⊎◌, ◌≢◌, IfSome}
 use Rattle.std.proofs.lemmas.List.{map-append}
@@ -152,7 +152,7 @@ module _ {S A State : Type 0} (settled : List A → List ℕ) (Kinds : Kind → 
   pub fed_fill : (new : MemberReader S A State) → IsFilled left failed end now new → Fed settled left failed end old out past new grown
   fed_fill new fills = record { passes = passes_fill left failed end old past now g.passes new fills; grows = g.grows; puts = g.puts; works = g.works; block = g.block }
 
-  -- these members were taken where the reading stops
+  -- these members were taken when the reading stops
   taken : (new : MemberReader S A State) → (bytes : List ℕ) × Hands left now.below bytes new.below → Sorted (member_items past) → IsReadFor left failed end old past past new
       → Took settled Kinds Sorted left failed end old out past new grown
   taken new hands sorted read = record {

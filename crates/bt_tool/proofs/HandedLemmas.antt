@@ -53,20 +53,20 @@ module _ {A State : Type 0} (format : Format A State) (input : Input) where
       ap (good format input) (cut_lines cut more) ∙ front in
       rw (lines, whole_count 1 cut) refl
 
--- what a source handed over is its whole text, where it worked and passed no bound
+-- what a source handed over is its whole text, if it worked and passed no bound
 pub handed_whole : (failed passed : Bool) (text bytes : List ℕ) → failed ≡ false → passed ≡ false
     → handed_by failed passed text bytes ≡ whole_text text
 handed_whole false false text bytes f p = refl
 handed_whole true passed text bytes f p = cc
 handed_whole false true text bytes f p = cc
 
--- where it failed, it's what was handed over before
+-- if it failed, it's what was handed over before
 pub handed_cut : (failed passed : Bool) (text bytes : List ℕ) → failed ≡ true
     → handed_by failed passed text bytes ≡ record { text = take (2 ^ 63 - 1) bytes; is_cut = true }
 handed_cut true passed text bytes f = refl
 handed_cut false passed text bytes f = cc
 
--- and where it passed the bound
+-- and if it passed the bound
 pub handed_past : (failed passed : Bool) (text bytes : List ℕ) → passed ≡ true
     → handed_by failed passed text bytes ≡ record { text = take (2 ^ 63 - 1) bytes; is_cut = true }
 handed_past true passed text bytes p = refl

@@ -103,7 +103,7 @@ unknown_by : (a b : Option (List ℕ)) (t u : Bool) (h k : List ℕ) (n m : ℕ)
 unknown_by None b t u h k n m e none = ap (λ o. option_map (lines_from m) (left_at u k o)) e ∙ none_by u k m
 unknown_by (Some rest) b t u h k n m e none = absurd (some_by t h n rest none)
 
--- where no lines are known, none are once some were taken
+-- if no lines are known, none are once some were taken
 still_unknown : {S : Type 0} (left : S → Option (List ℕ)) (old new : LineReader S) → source_of new ≡ source_of old → lines_left left old ≡ None → lines_left left new ≡ None
 unfolding bytes_left
 still_unknown left old new same none =

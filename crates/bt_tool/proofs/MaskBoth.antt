@@ -88,7 +88,7 @@ asks_few true WantBed e = absurd (false≢true (sym e))
 asks_few false WantBed e = omega arith
 asks_few waits Nothing e = omega arith
 
--- where nothing was given, a line that waited was written, or the same is asked for
+-- if nothing was given, a line that waited was written, or the same is asked for
 none_front : (newly : List SequenceLine) (o : Option SequenceLine) → newly ++ option_to_list o ≡ [] → o ≡ None
 none_front [] None e = refl
 none_front [] (Some x) e = cc
@@ -114,7 +114,7 @@ not_one zero e h = refl
 not_one (suc zero) e h = absurd (false≢true (sym e))
 not_one (suc (suc n)) e h = absurd (omega (arith, h))
 
--- where bytes are buffered, a line is
+-- if bytes are buffered, a line is
 no_bytes : (is_open : Bool) (lines : ℕ) (bytes : List ℕ) → is_fed bytes ≡ true → IsLast is_open is_open bytes [] → buffered_lines is_open lines bytes ≡ [] → length bytes ≡ 0
 no_bytes false lines bytes fed last none =
     ap length (fed_none bytes fed (sym (whole_count (suc lines) bytes) ∙ ap length none))
@@ -267,7 +267,7 @@ module _ {A B : Type 0} (a_left : A → Option (List ℕ)) (a_failed a_end : A �
           same_ahead : (with_line comes.stage fails.item).ahead ≡ comes.stage.ahead
           same_ahead = ahead_same (is_written_at_once comes.stage fails.item) refl
 
-          -- it waits where memory ran out
+          -- it waits if memory ran out
           abbrev mid : Stage SequenceLine Feature
           mid = record {
             written = comes.stage.written;

@@ -67,7 +67,7 @@ none_by : (o : Option SequenceLine) → is_some o ≡ false → o ≡ None
 none_by None e = refl
 none_by (Some x) e = absurd (false≢true (sym e))
 
--- a line after the first header isn't decided where there is no record
+-- a line after the first header isn't decided if there is no record
 pub named_open : (line : SequenceLine) → is_unnamed line.names ≡ false → decided line [] ≡ false
 named_open line e = ap (λ b. b || false) e
 
@@ -120,7 +120,7 @@ kept_filled {S} {State} left failed end now new r was filled = ap (λ (x : Membe
     some_ahead None r e = cc
     some_ahead (Some m) r e = refl
 
--- none is where nothing is buffered
+-- none is if nothing is buffered
 none_ahead : {S State : Type 0} (now : MemberReader S Feature State) (r : Feature) → now.buffered ≡ [] → item_ahead now ≡ Some r → ⊥
 none_ahead now r none was = let apart : None ≡ Some r = sym (ahead_first now ∙ ap first_of none) ∙ was in cc
 
@@ -161,7 +161,7 @@ module _ {A B : Type 0} (a_left : A → Option (List ℕ)) (a_failed a_end : A �
     pub asks_for : stage.lines_ended ≡ false → AsksFor making pair run.out s.past_first second
     asks_for going = stop.asks_now making pair run.out (stage_of stage) s.past_first s.past_second first second grown s.comes (asked going)
 
-    -- where no line waits, the block of each record taken belongs to a sequence of the lines
+    -- if no line waits, the block of each record taken belongs to a sequence of the lines
     module _ (none : stage.waiting ≡ None) where
       pub names_alone : names_of stage.written ≡ (reached stage).names
       names_alone =
@@ -355,7 +355,7 @@ module _ {A B : Type 0} (a_left : A → Option (List ℕ)) (a_failed a_end : A �
       seen : stage.taken ++ option_to_list (item_ahead second) ≡ stage.taken ++ r ∷ []
       seen = ap (λ (o : Option Feature). stage.taken ++ option_to_list o) next
 
-      -- where it decides the waiting line, that stays as it is
+      -- if it decides the waiting line, that stays as it is
       settles_decided : (a : SequenceLine) → decided a (stage.taken ++ r ∷ []) ≡ true → LineBefore run.how a stage.taken r → IsKnown pair
           → Settles making (stage.written ++ a ∷ []) (s.comes.bytes ++ masked_line run.how stage.taken a) (stage.taken ++ option_to_list (item_ahead second)) stage.bed_ended
       settles_decided a decides settled known =

@@ -186,7 +186,7 @@ come_known None now past c k = absurd (false≢true k)
 come_known (Some o) None past c k = absurd c
 come_known (Some o) (Some n) past c k = refl
 
--- where no line is left after those given later, there are no more than these
+-- if no line is left after those given later, there are no more than these
 no_more : (start now : Option (List TextLine)) (given later : ℕ) → given ≤ later
     → IfSome start (λ lines. now ≡ Some (drop given lines))
     → IfSome now (λ lines. drop (later - given) lines ≡ [])
@@ -197,7 +197,7 @@ no_more (Some start) (Some now) given later h p e =
     let is : now ≡ drop given start = cc in
     omega (arith, h, length-drop given start, ap length is, length-drop (later - given) now, ap length e)
 
--- nothing but a fault is to come where nothing is left
+-- nothing but a fault is to come if nothing is left
 none_taken : {A : Type 0} (now next : Option (Good A)) (taken : List (Member A)) (fault : Option Told) → IsSome now → option_map (with_members taken) next ≡ now
     → IfSome now (λ good. good ≡ ends_with fault) → taken ≡ []
 none_taken None next taken fault k e f = absurd (false≢true k)
@@ -423,7 +423,7 @@ module _ {S A State : Type 0} (left : S → Option (List ℕ)) (failed end : S �
     pub ended_after_all : (new : MemberReader S A State) → IsOver left failed end now new → IfSome (lines_left left old.below) (λ lines. length lines ≤ lines_given new.below)
     ended_after_all new over = no_more (lines_left left old.below) (lines_left left now.below) (lines_given now.below) (lines_given new.below) over.ends.rises g.lines over.ends.lines
 
-    -- where it stops at a fault
+    -- if it stops at a fault
     pub read_at_stop : (new : MemberReader S A State) (fault : Told) → IsStopped left failed end now fault new → IsReadFor left failed end old past past new
     read_at_stop new fault stopped =
         let stops = stops_faulty left failed end now g.going g.kept new fault stopped.answers (stopped.kept g.kept) in

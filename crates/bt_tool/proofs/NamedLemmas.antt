@@ -17,7 +17,7 @@ use Rattle.bt_tool.specs.declared.tool.Tool.{Tool}
 use Rattle.bt_tool.specs.declared.tool.Tool.TheVariants.{Merge, Complement, Intersect, Subtract, Coverage, BamToBed, MaskFasta}
 use Rattle.bt_tool.proofs.GivenLemmas.{valued}
 
--- where nothing is wrong, nothing is lacking
+-- if nothing is wrong, nothing is lacking
 none-lacks : (lacks exclusive twice : Bool)
     → (cond lacks (Some required_missing) (cond exclusive (Some options_exclusive) (cond twice (Some input_named_twice) None))) ≡ None
     → lacks ≡ false
@@ -70,7 +70,7 @@ true-is : (b : Bool) → IsTrue b → b ≡ true
 true-is true h = refl
 true-is false h = absurd (false≢true h)
 
--- the copy of a name is there where its option is required, and isn't where there is no such option
+-- the copy of a name is there if its option is required, and isn't if there is no such option
 pub named : (given : Given) (table : Table) (option : Option Word) (copy : Option (String Global))
     → table_lent given.table.now ≡ table → fault_together table (items_in given) ≡ None
     → ((word : Word) → option ≡ Some word → takes table word ≡ Some FileName)

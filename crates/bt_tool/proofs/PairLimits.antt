@@ -9,13 +9,13 @@ use Rattle.bt_tool.specs.Pair.{Making}
 pub record AreLimits {X Y : Type 0} (making : Making X Y) : Type 0 where
   -- what fits, fits with more of the first input
   pub more : (given later : List X) (past : List (Member Y)) → making.Fits given past → making.Fits (given ++ later) past
-  -- where all of the second fits, it isn't cut
+  -- if all of the second fits, it isn't cut
   pub whole : (first : List X) (past : List (Member Y)) (fault : Option Told) → making.Fits first past
       → making.limited first (record { members = past; fault = fault }) ≡ record { members = past; fault = fault }
   -- what fits stays, and so does the one member after it
   pub keeps : (first : List X) (past : List (Member Y)) (ahead : Option (Member Y)) (rest : List (Member Y)) (fault : Option Told) → making.Fits first past
       → (more : List (Member Y)) × ((making.limited first (record { members = (past ++ option_to_list ahead) ++ rest; fault = fault })).members ≡ (past ++ option_to_list ahead) ++ more)
-  -- where all of the first is decided, the second isn't cut
+  -- if all of the first is decided, the second isn't cut
   pub done : (first : List X) (past : List (Member Y)) (ahead : Option (Member Y)) (rest : List (Member Y)) (fault : Option Told) → making.Fits first past
       → making.InOrder (member_items ((past ++ option_to_list ahead) ++ rest))
       → (making.InOrder (member_items (past ++ option_to_list ahead)) → list_all (λ x. making.decided x (member_items (past ++ option_to_list ahead))) first ≡ true)

@@ -110,7 +110,7 @@ module _ {Y : Type 0} where
   good_is : (good : Good Y) (members : List (Member Y)) (fault : Option Told) → good.members ≡ members → good.fault ≡ fault → good ≡ record { members = members; fault = fault }
   good_is good members fault e f = ap (λ ms. record { members = ms; fault = good.fault }) e ∙ ap (λ (o : Option Told). record { members = members; fault = o }) f
 
-  -- the members that were seen of a second input come first, and are all where it has ended
+  -- the members that were seen of a second input come first, and are all if it has ended
   abbrev Sees : List (Member Y) → Bool → Good Y → Type 0
   Sees seen ended good = ((rest : List (Member Y)) × (good.members ≡ seen ++ rest)) × (ended ≡ true → (good.members ≡ seen) × (good.fault ≡ None))
 
@@ -222,7 +222,7 @@ module _ {A B X Y U V : Type 0} (making : Making X Y) (pair : Pair A B X Y U V) 
         ∙ limits.done firsts w.wrote.taken w.wrote.ahead rest second_good.fault fits_first (subst (λ (g : Good Y). making.InOrder (items_in g)) is ordered) (decided_all e all)
         ∙ sym is
 
-    -- where all of the first is written, the limit changes nothing
+    -- if all of the first is written, the limit changes nothing
     free : firsts ≡ w.written → making.InOrder (items_in second_good) → (rest : List (Member Y)) → second_good.members ≡ w.wrote.seen ++ rest
         → (w.wrote.ended ≡ true → second_good.members ≡ w.wrote.seen) → making.limited firsts second_good ≡ second_good
     free all ordered rest begins ends = free_by w.wrote.ended refl all ordered rest begins ends

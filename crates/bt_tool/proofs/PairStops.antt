@@ -43,7 +43,7 @@ seen_begins {S} {A} {State} left (Some good) now past None e come first =
     subst (λ (l : List (Member A)). (rest : List (Member A)) × (good.members ≡ l ++ rest)) (sym (append-nil past)) (begins_with (Some good) (good_coming left now) past come)
 seen_begins left (Some good) now past (Some m) e come first = begins_more good (good_coming left now) past m come (first refl m e)
 
--- where nothing is buffered, the members seen are on the lines given
+-- if nothing is buffered, the members seen are on the lines given
 seen_low : {S A State : Type 0} (past : List (Member A)) (now : MemberReader S A State) (count : ℕ) → ahead_in now ≡ None → All (λ m. m.line ≤ count) past → All (λ m. m.line ≤ count) (past ++ option_to_list (ahead_in now))
 seen_low {S} {A} {State} past now count none low = subst (λ (l : List (Member A)). All (λ m. m.line ≤ count) l) (sym (ap (λ (o : Option (Member A)). past ++ option_to_list o) none ∙ append-nil past)) low
 
@@ -488,7 +488,7 @@ module _ {A B X Y U V : Type 0} (making : Making X Y) (pair : Pair A B X Y U V) 
               exact = λ stops. absurd (stops.1 (ap Some fails.puts.is));
             }
 
-      -- where all of the first input is written
+      -- if all of the first input is written
       module _ (done : stage.first_ended ≡ true) where
         module _ (second_now : MemberReader B Y V) (low : IsSome second_now.fault → All (λ m. m.line ≤ lines_given second_now.below) (past_second ++ option_to_list (ahead_in second))) (handed : HandsSecond second_now) where
           near_rest : Near first second_now grown

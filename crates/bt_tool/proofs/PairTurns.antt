@@ -111,7 +111,7 @@ read_same {S} {A} {State} left failed end old past given more now new same e rea
   begins = subst (λ (l : List (Member A)). IfSome (good_coming left old) (λ good. (rest : List (Member A)) × (good.members ≡ l ++ rest))) e read.begins;
 }
 
--- where nothing is buffered, nothing is ahead
+-- if nothing is buffered, nothing is ahead
 pub seen_alone : {S A State : Type 0} (taken : List A) (now : MemberReader S A State) → now.buffered ≡ [] → taken ++ option_to_list (item_ahead now) ≡ taken
 seen_alone {S} {A} {State} taken now none =
     ap (λ (l : List A). taken ++ option_to_list (option_map (λ m. m.item) (first_from (suc (lines_given now.below)) l))) none ∙ append-nil taken
@@ -140,7 +140,7 @@ module _ {A B X Y U V : Type 0} (making : Making X Y) (pair : Pair A B X Y U V) 
   }
 
   module _ (stage : Stage X Y) (past_first : List (Member X)) (past_second : List (Member Y)) (first : MemberReader A X U) (second : MemberReader B Y V) (grown : Output) (s : Comes making pair out stage past_first past_second first second grown) where
-    -- where none waits, all are written
+    -- if none waits, all are written
     pub all_written : stage.waiting ≡ None → stage.written ≡ member_items past_first
     all_written none = sym (append-nil stage.written) ∙ ap (λ (o : Option X). stage.written ++ option_to_list o) (sym none) ∙ s.all_given
 
@@ -323,7 +323,7 @@ module _ {A B X Y U V : Type 0} (making : Making X Y) (pair : Pair A B X Y U V) 
         let seen = seen_alone stage.taken second (s.second_all e).1 in
         rw e (rw seen (settles_end making stage.written s.bytes stage.taken stage.second_ended a (subst (λ (l : List Y). Settles making stage.written s.bytes l stage.second_ended) seen (s.settles known))))
 
-    -- where a member waits, the first input hasn't ended
+    -- if a member waits, the first input hasn't ended
     waits_by : (a : X) → stage.waiting ≡ Some a → (b : Bool) → stage.first_ended ≡ b → b ≡ false
     waits_by a waits true e = absurd (let apart : Some a ≡ None = sym waits ∙ (s.first_all e).1 in cc)
     waits_by a waits false e = refl
@@ -331,7 +331,7 @@ module _ {A B X Y U V : Type 0} (making : Making X Y) (pair : Pair A B X Y U V) 
     pub first_waits : (a : X) → stage.waiting ≡ Some a → stage.first_ended ≡ false
     first_waits a waits = waits_by a waits stage.first_ended refl
 
-    -- where the second input ends now
+    -- if the second input ends now
     module _ (goes : stage.second_ended ≡ false) (second_now : MemberReader B Y V) (over : IsOver pair.b_left pair.b_failed pair.b_end second second_now) where
       -- those written are settled by what was taken
       pub settles_ended : IsKnown pair → Settles making stage.written s.bytes stage.taken false

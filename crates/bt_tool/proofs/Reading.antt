@@ -144,7 +144,7 @@ module _ (table : Table) (words : List (String Global)) (at : ℕ) (word : Strin
 pub record HasReadWords (table : Table) (words : List Word) (at : ℕ) : Type 0 where
   pub fault : word_fault table 1 (drop 1 words) ≡ word_fault table at (drop at words)
 
--- and where these do not name an option, what is kept of it
+-- and if these do not name an option, what is kept of it
 pub record Reads (table : Table) (words : List Word) (option : Word) (at : ℕ) (kept : Option Item) : Type 0 where
   pub fault : word_fault table 1 (drop 1 words) ≡ word_fault table at (drop at words)
   pub last : last_item option (items_of table (drop 1 words)) ≡ option_or (last_item option (items_of table (drop at words))) kept

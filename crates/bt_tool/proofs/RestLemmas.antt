@@ -17,7 +17,7 @@ use Rattle.bt_tool.specs.SweepLoop.{ChecksAll, ChecksUpTo, IsReadOn}
 use Rattle.bt_tool.proofs.ComeLemmas.{up_to}
 use Rattle.bt_tool.proofs.MemberLemmas.{fails_before_end, passes_all, passes_end, passes_fill, passes_stop, passes_take}
 
--- something is buffered where a member is ahead
+-- something is buffered if a member is ahead
 pub some_buffered : {A : Type 0} (line : ℕ) (items : List A) (m : Member A) → first_from line items ≡ Some m → 0 < length items
 some_buffered line [] m e = cc
 some_buffered line (x ∷ items) m e = omega arith

@@ -1,4 +1,4 @@
--- Lemmas on the members that were seen and on the lines that were put, where a run stops.
+-- Lemmas on the members that were seen and on the lines that were put, when a run stops.
 use Rattle.std.proofs.Common.{◌≡◌, ℕ, List, [], ◌∷◌, ◌++◌, Option, None, Some, refl, sym, ap, ◌∙◌, append-nil, append_assoc, option_to_list}
 use Rattle.std.specs.Prelude.{IfSome, IsSome, option_map}
 use Rattle.std.proofs.lemmas.List.{map-append}
@@ -24,7 +24,7 @@ pub items_first : {A : Type 0} (good : Option (Good A)) (written extra : List A)
 items_first None written extra b = tt
 items_first (Some good) written extra b = (extra ++ b.0, b.1)
 
--- what holds where a value is known
+-- what holds if a value is known
 pub if_known : {T : Type 0} (o : Option T) (P : Type 0) → (IsSome o → P) → IfSome o (λ x. P)
 if_known None P h = tt
 if_known (Some x) P h = h refl

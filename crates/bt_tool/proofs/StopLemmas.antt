@@ -1,4 +1,4 @@
--- How far a reader of members has come where it stops at a fault.
+-- How far a reader of members has come when it stops at a fault.
 use Rattle.std.proofs.Common.{◌≡◌, ℕ, suc, ◌+◌, ◌-◌, ◌<◌, ◌≤◌, Bool, List, [], ◌∷◌, length, drop, Option, Some, None, Result, Ok, Err, refl, sym, ap, ◌∙◌, subst, arith}
 use Rattle.std.specs.Prelude.{◌⊎◌, All, IfSome, option_map}
 use Rattle.std.proofs.Common.{inl, inr}

@@ -112,7 +112,7 @@ module _ (order : Order) where
         ap (λ l. cut_behind too_many [] l fault) (append_assoc past (m ∷ []) rest) ∙ cut_at past (m ∷ rest) fault within
         ∙ cut_on too_many past rest m fault (few_decided order most (member_items (past ++ m ∷ [])) first all)
 
-    -- where all of the first is decided, the second isn't cut
+    -- if all of the first is decided, the second isn't cut
     cut_done : (past : List (Member Feature)) (ahead : Option (Member Feature)) (rest : List (Member Feature)) (fault : Option Told) → AreWithin order (Some most) first past
         → list_all (λ x. decided order x (member_items (past ++ option_to_list ahead))) first ≡ true
         → cut_behind too_many [] ((past ++ option_to_list ahead) ++ rest) fault ≡ record { members = (past ++ option_to_list ahead) ++ rest; fault = fault }

@@ -31,7 +31,7 @@ use Rattle.bt_tool.proofs.PairSettles.{settles_list}
 use Rattle.bt_tool.proofs.PairTurns as turned
 use Rattle.bt_tool.proofs.SweepLimits.{held_few, within_taken}
 
--- ---- the record that waits is undecided, where the second input gives no more
+-- ---- the record that waits is undecided, if the second input gives no more
 
 module _ (order : Order) (total : IsTotal order) where
   -- the last of the records leaves none undecided that they decide

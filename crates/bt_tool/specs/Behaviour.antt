@@ -96,7 +96,7 @@ of_maskfasta how full = record {
   SecondKinds = IsOneOf is_mask_kind;
 }
 
--- the order in use: that of the genome file, where there is one, else that of the names' bytes
+-- the order in use: that of the genome file, if there is one, else that of the names' bytes
 abbrev pub order_of : Option (List Entry) → Order
 order_of None = byte_order
 order_of (Some entries) = rank_order (genome_names entries)
@@ -105,7 +105,7 @@ order_of (Some entries) = rank_order (genome_names entries)
 abbrev pub entries_in : Option (List Entry) → List Entry
 entries_in chromosomes = unwrap_or chromosomes []
 
--- what each command does, by the chromosomes of the genome file, where there is one
+-- what each command does, by the chromosomes of the genome file, if there is one
 abbrev pub behaviour_of : Command → Option (List Entry) → Behaviour
 behaviour_of (Merge d strand) chromosomes =
     of_records (order_of chromosomes) (merge_written (order_of chromosomes) d strand)

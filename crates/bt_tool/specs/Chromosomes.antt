@@ -1,4 +1,4 @@
--- What reading the genome file of a run does, where it has one.
+-- What reading the genome file of a run does, if it has one.
 use Rattle.std.specs.Prelude.{◌≡◌, ◌≢◌, ℕ, ◌⊎◌, Bool, List, Option, Some, Ok, Err, Result, is_some}
 use Rattle.std.specs.Prelude.{IfSome, option_map}
 use Rattle.bt_lines.specs.Fault.{Told, no_memory, write_failed}
@@ -26,7 +26,7 @@ module _ {G : Type 0} (left : G → Option (List ℕ)) (failed : G → Bool) whe
         → chromosomes_of handed ≡ Ok (option_map entries table)
     pub told : (handed : Option Handed) → HoldsIf left before handed
         → chromosomes_of handed ≡ Ok (option_map entries table)
-    -- there are some exactly where there is a file
+    -- there are some exactly if there is a file
     pub named : is_some table ≡ is_some before
     pub distinct : IfSome table (λ table. AreDistinct (names_of table))
     pub served : ServesIf failed before after

@@ -48,7 +48,7 @@ module _ {G A B K : Type 0} (g_left : G → Option (List ℕ)) (g_failed : G →
 
   -- a fault of an input other than the genome file, of a kind that a line of it can have: with a
   -- genome file by some list of its chromosomes, and without one in the order of the names' bytes,
-  -- where no chromosome is unknown
+  -- if no chromosome is unknown
   pub record TellsOther (command : Command) (genome : Option G) (first first_after : A)
       (second second_after : Option B) (told : Told) : Type 0 where
     pub chromosomes : Option (List Entry)
@@ -62,15 +62,15 @@ module _ {G A B K : Type 0} (g_left : G → Option (List ℕ)) (g_failed : G →
   pub record Runs (command : Command) (genome : Option G) (first : A) (second : Option B) (out : K)
       (fault : Option Told) (genome_after : Option G) (first_after : A) (second_after : Option B)
       (out_after : K) : Type 0 where
-    -- Where the devices tell their bytes, the sink serves and no growth is refused: the fault told
-    -- and the bytes written are those of the report on what the inputs handed over, also where a
+    -- If the devices tell their bytes, the sink serves and no growth is refused: the fault told
+    -- and the bytes written are those of the report on what the inputs handed over, also if a
     -- read failed or an input passes 2^63 - 1 bytes.
     pub whole : (inputs : Inputs) (before : List ℕ)
         → ReadsInputs genome first second genome_after first_after second_after inputs
         → k_took out ≡ Some before → k_failed out_after ≡ false → fault ≢ Some no_memory
         → (fault ≡ (report_of command inputs).fault)
         × (k_took out_after ≡ Some (before ++ (report_of command inputs).output))
-    -- Where the devices tell their bytes, whether they fail or not: where the run ends without a
+    -- If the devices tell their bytes, whether they fail or not: if the run ends without a
     -- fault, or tells a line's, that fault and the bytes written are
     -- those of the report on the whole texts.
     pub told : (inputs : Inputs) (before : List ℕ) → HoldInputs genome first second inputs
@@ -102,7 +102,7 @@ module _ {G A B K : Type 0} (g_left : G → Option (List ℕ)) (g_failed : G →
     pub served : fault ≡ None
         → (ServesIf g_failed genome genome_after × ServesIf b_failed second second_after)
         × ((a_failed first_after ≡ a_failed first) × (k_failed out_after ≡ k_failed out))
-    -- Where the genome file's text is at fault no other input was touched, whatever else failed.
+    -- If the genome file's text is at fault no other input was touched, whatever else failed.
     pub after_genome : (file : Option Handed) → HoldsIf g_left genome file → (wrong : Told)
         → chromosomes_of file ≡ Err wrong
         → (first_after ≡ first) × (second_after ≡ second)
@@ -110,8 +110,8 @@ module _ {G A B K : Type 0} (g_left : G → Option (List ℕ)) (g_failed : G →
     pub untouched : (told : Told) → fault ≡ Some told → lies_in_genome told.place ≡ true
         → (first_after ≡ first) × (second_after ≡ second)
     -- What the fault may be, whatever the devices do: one that a line of an input can have (without
-    -- a genome file none of it, and no unknown chromosome), a failed read only where its source
-    -- failed or may have passed the bound, a failed write only where the sink failed, or want of
+    -- a genome file none of it, and no unknown chromosome), a failed read only if its source
+    -- failed or may have passed the bound, a failed write only if the sink failed, or want of
     -- memory. That a failed read is of this run, whatever its source did before, `run` says beside
     -- this, by `TellsOwnReads` of `OwnReads`.
     pub named : (told : Told) → fault ≡ Some told

@@ -33,7 +33,7 @@ ServesIf failed None None = ⊤
 ServesIf failed (Some before) (Some after) = failed after ≡ failed before
 ServesIf failed _ _ = ⊥
 
--- what came of a text, of which these bytes were handed over: all of it, or where a read failed or
+-- what came of a text, of which these bytes were handed over: all of it, or if a read failed or
 -- 2^63 bytes came, what came before that
 abbrev pub handed_by : Bool → Bool → List ℕ → List ℕ → Handed
 handed_by false false text bytes = whole_text text

@@ -29,7 +29,7 @@ use Rattle.bt_tool.specs.PairComes.{Comes, Stage as PairStage}
 use Rattle.bt_tool.specs.PairEnds.{Finishes}
 use Rattle.bt_tool.specs.Passed.{IsKeptBelow, lines_read}
 
--- a reader of lines as one of the lines of sequences, where those that were given have come so far
+-- a reader of lines as one of the lines of sequences, if those that were given have come so far
 abbrev pub line_members : {S : Type 0} → Bool → Reached → LineReader S
     → MemberReader S SequenceLine Reached
 line_members full reached lines = lines_read (sequence_format full) reached lines
@@ -52,7 +52,7 @@ mask_making how = record {
   -- the first record without a sequence
   last = λ lines members. no_sequence (names_of lines) members;
   reaches = λ lines members text. bytes_up_to text (last_needed lines [] members);
-  -- where records were taken, they leave one of the lines given undecided
+  -- if records were taken, they leave one of the lines given undecided
   Asks = λ lines records. (records ≡ []) ⊎ IsTrue (leaves_some lines records);
   InOrder = AreInBlocks;
   first_kinds = IsOneOf is_fasta_kind;

@@ -23,7 +23,7 @@ asks true WantBed = 3
 asks false WantBed = 1
 asks waits Nothing = 0
 
--- it falls with each line and each record, and where neither comes
+-- it falls with each line and each record, and if neither comes
 abbrev pub left_to_ask : {A B : Type 0} → LineReader A → MemberReader B Feature (Option Locus)
     → Masking → ℕ
 left_to_ask lines second mask =

@@ -17,7 +17,7 @@ abbrev pub AnswerIsUnique : Type 0
 AnswerIsUnique = (words : List Word) (answer : Result PlanSeen Usage)
     → AnswersAll words answer ↔ (answer ≡ options words)
 
--- no word is at fault exactly where all words divide into items
+-- no word is at fault exactly if all words divide into items
 abbrev pub FaultIsOfWhatIsLeft : Type 0
 FaultIsOfWhatIsLeft = (table : Table) (at : ℕ) (words : List Word)
     → (word_fault table at words ≡ None) ↔ (spelled (items_of table words) ≡ words)
@@ -28,7 +28,7 @@ LastItemCounts = (items later : List Item) (item : Item)
     → All (λ other. other.option ≢ item.option) later
     → last_item item.option (items ++ item ∷ later) ≡ Some item
 
--- each fault has its number, and where it is one word's, that word's index
+-- each fault has its number, and if it is one word's, that word's index
 abbrev pub FaultsCanBeTold : Type 0
 FaultsCanBeTold = (words : List Word) (usage : Usage)
     → options words ≡ Err usage → IsTellable usage (length words)

@@ -86,7 +86,7 @@ is_standard_input name = bytes_eq name (codes "-") || bytes_eq name (codes "stdi
 abbrev pub is_standard_output : Word → Bool
 is_standard_output name = bytes_eq name (codes "-") || bytes_eq name (codes "stdout")
 
--- the output of this name: none where it is standard output
+-- the output of this name: none if it is standard output
 abbrev pub output_by : Option Word → Option Word
 output_by None = None
 output_by (Some name) = if is_standard_output name then None else Some name
@@ -188,7 +188,7 @@ named_by table items = record {
 abbrev pub inputs_of : Named → List Word
 inputs_of named = option_to_list named.genome ++ named.first ∷ option_to_list named.second
 
--- whether none of the options is given, of which one has to be, where there are such
+-- whether none of the options is given, of which one has to be, if there are such
 abbrev pub lacks_one_of : List Word → List Item → Bool
 lacks_one_of [] items = false
 lacks_one_of (option ∷ others) items = not (list_any (is_given items) (option ∷ others))

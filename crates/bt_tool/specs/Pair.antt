@@ -44,7 +44,7 @@ pub record Pair (A B X Y U V : Type 0) : Type 0 where
   pub first : MemberReader A X U
   pub second : MemberReader B Y V
 
--- these may be the good members of the second input and its fault, where the first of them were
+-- these may be the good members of the second input and its fault, if the first of them were
 -- seen, and no others once it has ended
 pub record MayCome {Y : Type 0} (seen : List Y) (ended : Bool) (second : List Y)
     (fault : Option Told) : Type 0 where

@@ -26,7 +26,7 @@ ComeFirst (Some old) past (Some now) = (old.members ≡ past ++ now.members) × 
 abbrev pub member_items : {A : Type 0} → List (Member A) → List A
 member_items members = map (λ m. m.item) members
 
--- a reader of lines as one of their members, where so much is known after those that were given
+-- a reader of lines as one of their members, if so much is known after those that were given
 abbrev pub lines_read : {S A State : Type 0} → Format A State → State → LineReader S
     → MemberReader S A State
 lines_read format state lines =

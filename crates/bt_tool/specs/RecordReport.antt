@@ -16,7 +16,7 @@ pub record Report : Type 0 where
   pub output : List ℕ
   pub fault : Option Told
 
--- the lines of all members, or where a line is at fault, those that the members before it settle
+-- the lines of all members, or if a line is at fault, those that the members before it settle
 abbrev pub report_by : {A : Type 0} → Written A → List A → Option Told → Report
 report_by written members None = record { output = written.whole members; fault = None }
 report_by written members (Some fault) =

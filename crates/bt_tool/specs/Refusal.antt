@@ -6,7 +6,7 @@ use Rattle.bt_tool.specs.Options.{options}
 use Rattle.bt_tool.specs.Table.{Word}
 use Rattle.bt_tool.specs.Usage.{IsTellable}
 
--- the fault of these words; memory runs out only where they have a plan
+-- the fault of these words; memory runs out only if they have a plan
 abbrev pub IsRefusalOf : List Word → Refusal → Type 0
 IsRefusalOf words (Usage usage) = options words ≡ Err usage
 IsRefusalOf words NoMemory = IsOk (options words)

@@ -29,7 +29,7 @@ use Rattle.bt_tool.specs.RecordReport.{Report}
 abbrev pub met_report : Met ℕ Told → Report
 met_report met = record { output = met.lines; fault = met.fault }
 
--- what intersect makes of the good records of two inputs, where no more of the second are held than
+-- what intersect makes of the good records of two inputs, if no more of the second are held than
 -- the limit allows
 abbrev pub met_within : Order → Shape → HitRule → Option ℕ → Good Feature → Good Feature
     → Met ℕ Told
@@ -42,7 +42,7 @@ intersect_report order shape rule limit first second =
     met_report (met_within order shape rule limit (bed_good First order first)
     (bed_good Second order second))
 
--- A line of the second input can be at fault as one of any BED input, or where held records are
+-- A line of the second input can be at fault as one of any BED input, or if held records are
 -- limited, as the one with which they are too many.
 abbrev pub IsSweptKind : Order → Option ℕ → Kind → Type 0
 IsSweptKind order limit kind =

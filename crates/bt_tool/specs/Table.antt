@@ -51,7 +51,7 @@ pub record Table : Type 0 where
   pub options : List Row
   -- the options that have to be given
   pub required : List Word
-  -- the options of which one at least has to be given, where the command has such
+  -- the options of which one at least has to be given, if the command has such
   pub one_of : List Word
   -- the pairs of options that exclude one another
   pub exclusive : List (Word × Word)
@@ -61,7 +61,7 @@ pub record Table : Type 0 where
   pub second : Option Word
   pub output : Option Word
 
--- what the option takes, where the table has it
+-- what the option takes, if the table has it
 abbrev pub takes : Table → Word → Option Takes
 takes table option =
     option_map (λ row. row.takes) (find (λ row. bytes_eq option row.option) table.options)
@@ -71,7 +71,7 @@ abbrev pub is_required : Table → Option Word → Bool
 is_required table option =
     option_map_or (λ word. list_any (bytes_eq word) table.required) option false
 
--- a name is there where its option is required, and never where the command has no such option
+-- a name is there if its option is required, and never if the command has no such option
 abbrev pub IsNamedBy : {A : Type 0} → Table → Option Word → Option A → Type 0
 IsNamedBy table option name =
     (IsTrue (is_required table option) → IsSome name) × (IsNone option → IsNone name)

@@ -48,7 +48,7 @@ TellsInputIf left failed Kinds input (Some before) (Some after) fault =
     TellsInput left failed Kinds input before after fault
 TellsInputIf left failed Kinds input _ _ fault = ⊥
 
--- a fault of the output, told only where the sink failed, or of memory
+-- a fault of the output, told only if the sink failed, or of memory
 abbrev pub TellsDevice : Bool → Told → Type 0
 TellsDevice sink_failed fault =
     ((fault ≡ write_failed) × (sink_failed ≡ true)) ⊎ (fault ≡ no_memory)

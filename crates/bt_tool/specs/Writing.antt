@@ -20,7 +20,7 @@ module _ {A B : Type 0} (a_left : A → Option (List ℕ)) (a_failed a_end : A �
   -- the report on what they hand over
   pub record WritesBy (first : A) (second : Option B) (out : Output) (fault : Option Told)
       (first_after : A) (second_after : Option B) (grown : Output) : Type 0 where
-    -- no write and no growth failed: the report on what was handed over, also where a read failed
+    -- no write and no growth failed: the report on what was handed over, also if a read failed
     pub whole : (one : Handed) (two : Option Handed) (before : List ℕ)
         → Reads a_left a_failed first first_after one
         → ReadsIf b_left b_failed second second_after two → out.put ≡ Some before

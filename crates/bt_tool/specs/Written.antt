@@ -14,7 +14,7 @@ use Rattle.bt_runs.specs.StrandRuns.{places_of, settled_strand_runs, strand_runs
 use Rattle.bt_runs.specs.declared.merge_strand.MergeStrand.{MergeStrand}
 use Rattle.bt_runs.specs.declared.merge_strand.MergeStrand.TheVariants.{All, Each, One}
 
--- the lines of the output where these are all members, and those that they settle, which no later
+-- the lines of the output if these are all members, and those that they settle, which no later
 -- member can change
 pub record Written (A : Type 0) : Type 0 where
   pub whole : List A → List ℕ

@@ -111,7 +111,7 @@ fn failed_before(bytes: &'static [u8]) -> FailedBefore {
     }
 }
 
-// One of these bytes where the plan names the input.
+// One of these bytes if the plan names the input.
 fn failed_if(name: &Option<String>, bytes: &'static [u8]) -> Option<FailedBefore>
     ensures { is_some result ≡ is_some name.now }
 {

@@ -17,7 +17,7 @@ use std::test::Fail;
 mod runs;
 mod two_inputs;
 
-// The word at this place; an empty one where there are fewer.
+// The word at this place; an empty one if there are fewer.
 fn word<'a>(row: &Row, at: usize) -> &'a str {
     row.words.get(at).copied().unwrap_or("")
 }

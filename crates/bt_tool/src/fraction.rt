@@ -48,7 +48,7 @@ fn fraction_in(whole: &[u8], decimals: &[u8]) -> Option<u64>
     Some(billionths)
 }
 
-// The number of the digits before the point, 0 without any, where it isn't above one.
+// The number of the digits before the point, 0 without any, if it isn't above one.
 fn ones_in(whole: &[u8]) -> Option<u64>
     ensures { result ≡ if list_all is_ascii_digit whole.now && nat_le (digits_value 10 whole.now) 1
         then Some (digits_value 10 whole.now) else None }

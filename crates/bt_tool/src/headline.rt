@@ -11,7 +11,7 @@ ghost use Rattle.std.specs.Prelude.{◌≡◌, Err};
 
 use bt_lines::{Sink, Source};
 
-/// For every list of words and all bytes of the inputs: where the words can't be used, the line and the
+/// For every list of words and all bytes of the inputs: if the words can't be used, the line and the
 /// status 2 of `report`; else, over devices that serve and with memory, the bytes, the line and the
 /// status that `report` gives from the words and the whole texts.
 pub fn runs_show_the_report<G: Source, A: Source, B: Source, K: Sink>()

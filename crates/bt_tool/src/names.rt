@@ -12,7 +12,7 @@ use crate::given::Given;
 #[derive(Clone, Copy)]
 pub(crate) struct NamedFiles<'a> {
     pub(crate) genome: Option<&'a str>,
-    /// `stdin` where the words name no first input.
+    /// `stdin` if the words name no first input.
     pub(crate) first: &'a str,
     pub(crate) second: Option<&'a str>,
     /// None is standard output.
@@ -27,7 +27,7 @@ fn value_if_any<'a>(given: Given<'a>, option: Option<&str>) -> Option<&'a str>
     given.value_of(option?)
 }
 
-// The output of this name: none where it is standard output.
+// The output of this name: none if it is standard output.
 fn output_named<'a>(name: Option<&'a str>) -> Option<&'a str>
     ensures { option_map (λ name. name.now) result
         ≡ output_by (option_map (λ name. name.now) name.entry) }

@@ -229,7 +229,7 @@ fn worked_cases(rt: HostRuntime) -> Result<(), Fail> {
     check_pairs(&rt, rt.alloc(), &[], &CASES)
 }
 
-// The order of a genome file, where one is named, isn't that of the names' bytes.
+// The order of a genome file, if one is named, isn't that of the names' bytes.
 #[test]
 fn a_genome_file_decides_where_it_is_named(rt: HostRuntime) -> Result<(), Fail> {
     let words = ["intersect", "-a", "a.bed", "-b", "b.bed", "-g", "g.txt"];

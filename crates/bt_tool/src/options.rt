@@ -235,7 +235,7 @@ fn made(alloc: Global, tool: Tool, given: Given<'_>) -> Result<Plan, AllocError>
 
 /// What the words after the program's name mean.
 ///
-/// The plan has copies of its names, so memory can run out where the words have a plan.
+/// The plan has copies of its names, so memory can run out if the words have a plan.
 pub fn plan(alloc: Global, words: &[String]) -> Result<Plan, Refusal>
     ensures asked { IfOk result (λ plan. options (words_seen words.now) ≡ Ok (plan_seen plan)) }
     ensures refused { IfErr result (IsRefusalOf (words_seen words.now)) }

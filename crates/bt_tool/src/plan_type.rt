@@ -91,7 +91,7 @@ impl Command {
 pub struct Plan {
     pub command: Command,
     pub genome: Option<String>,
-    /// `stdin` where the words name no first input.
+    /// `stdin` if the words name no first input.
     pub first: String,
     pub second: Option<String>,
     /// `None` is standard output.

@@ -31,7 +31,7 @@ use bt_seq::MaskHow;
 use bt_sweep::{HitRule, Shape};
 use std::alloc::Global;
 
-/// How a run ended, and the devices that it was given: `genome` and `second` are there exactly where
+/// How a run ended, and the devices that it was given: `genome` and `second` are there exactly if
 /// they were.
 #[derive(Debug, Drop)]
 pub struct Ended<G, A, B, K> {
@@ -115,7 +115,7 @@ fn read_genome<G: Source>(
     }
 }
 
-// Writes the output by the chromosomes of the genome file, if there is one. Where they couldn't be read the
+// Writes the output by the chromosomes of the genome file, if there is one. If they couldn't be read the
 // run ends with that fault, and the other inputs aren't touched.
 fn write_output<A: Source, B: Source, K: Sink>(
     alloc: Global,

@@ -15,7 +15,7 @@ pub(crate) struct Table {
     pub(crate) options: &'static [Row],
     /// The options that have to be given.
     pub(crate) required: &'static [&'static str],
-    /// The options of which one at least has to be given, where the tool has such.
+    /// The options of which one at least has to be given, if the tool has such.
     pub(crate) one_of: &'static [&'static str],
     /// The pairs of options that exclude one another.
     pub(crate) exclusive: &'static [(&'static str, &'static str)],

@@ -278,7 +278,7 @@ pub(crate) fn failing_by(step: usize, good: usize) -> Script
     }
 }
 
-// A source of these bytes where the plan names the input.
+// A source of these bytes if the plan names the input.
 pub(crate) fn source_if<'a>(
     name: &Option<String>,
     bytes: &'a [u8],

@@ -310,7 +310,7 @@ fn give_line(mask: &mut Mask, text: &[u8], out: &mut Out<ScriptSink>) -> bool {
     }
 }
 
-// Whether the record of this line is taken, where one is asked for.
+// Whether the record of this line is taken, if one is asked for.
 fn takes(mask: &mut Mask, line: &[u8], out: &mut Out<ScriptSink>) -> Option<bool> {
     let Ok(Some(bed)) = parse_bed(line) else {
         return None;
@@ -511,7 +511,7 @@ fn drive_buffered(
     Ok(())
 }
 
-// Whether the row gives its bytes and its fault, where all its lines are given together.
+// Whether the row gives its bytes and its fault, if all its lines are given together.
 fn agrees_buffered(alloc: Global, row: &Row) -> bool {
     let mut reader = LineReader::new(alloc, ScriptSource::new(row.0, 64, None), Input::First);
     let mut beds = LineReader::new(alloc, ScriptSource::new(row.1, 64, None), Input::Second);

@@ -102,7 +102,7 @@ fn end_second<H: Held, O: ChromOrder, K: Sink>(
     }
 }
 
-// Gives the end of the first input, where it is asked for.
+// Gives the end of the first input, if it is asked for.
 fn end_first<H: Held, O: ChromOrder>(sweep: &mut Sweep<'_, H, O>) {
     match sweep.want() {
         Want::A => sweep.end_a(),
@@ -111,7 +111,7 @@ fn end_first<H: Held, O: ChromOrder>(sweep: &mut Sweep<'_, H, O>) {
 }
 
 // Gives the line that comes next of the first input, or gives its end, and answers how many lines it
-// took. An error is a fault, or none where the record isn't asked for.
+// took. An error is a fault, or none if the record isn't asked for.
 fn go_on_first<H: Held, O: ChromOrder, K: Sink>(
     sweep: &mut Sweep<'_, H, O>,
     line: Option<&&[u8]>,

@@ -6,7 +6,7 @@ use crate::tests::GENOME;
 // fault line; an empty one means the failed read at the line after them.
 pub(crate) type Cut = (&'static [u8], &'static str);
 
-// A run, what it gives, and what it gives where reading an input fails.
+// A run, what it gives, and what it gives when reading an input fails.
 #[derive(Clone, Copy)]
 pub(crate) struct Row {
     pub(crate) name: &'static str,

@@ -8,7 +8,7 @@ use Rattle.bt_lines.specs.Lines.{pieces}
 use Rattle.memchr.specs.Find.{IsLastByte, is_byte}
 use Rattle.bt_seq.proofs.fields.has_tab.Goals as goal
 
--- a text has two columns where it has a tab
+-- a text has two columns if it has a tab
 two_columns : (text : List ℕ) (r : Option ℕ) → IsLastByte (is_byte 9) text r → is_some r ≡ nat_le 2 (length (pieces 9 text))
 two_columns text None e = rw (pieces_whole 9 text e) refl
 two_columns text (Some at) e =

@@ -16,7 +16,7 @@ front_below text n digits =
     let size : length (take 8 text) ≡ 8 = omega (arith, length-take 8 text) in
     subst (λ (m : ℕ). digits_value 10 (take 8 text) < 10 ^ m) size (digits_below (take 8 text) digits)
 
--- where the first eight denote no number, one of them is no digit
+-- if the first eight denote no number, one of them is no digit
 none_by_front : (text : List ℕ) → length text ≡ 9 → None ≡ value_of (take 8 text) → None ≡ value_of text
 unfolding value_of
 none_by_front text n none =

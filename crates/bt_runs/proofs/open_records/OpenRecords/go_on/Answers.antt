@@ -23,7 +23,7 @@ invariant_of-self c =
     let up : m.at ≤ at = let is = c.max-self-inside.ensures in omega arith in
     rw c.drop_ended.ensures (keeps_later m.at at spans m.ends c.pass.new.self up c.self.invariant c.pass.ensures.counts c.pass.ensures.left)
 
--- where as many are left as there were, all of them are
+-- if as many are left as there were, all of them are
 all_left : (c : goal.Else-left-len) → still_open c.max-self-inside.result (spans_open c.self.inside.spans.items) ≡ spans_open c.self.inside.spans.items
 all_left c =
     let m = c.self.inside in
