@@ -69,7 +69,7 @@ fn words(rt: &HostRuntime) -> io::Result<Vec<String>> {
     Ok(all)
 }
 
-// Makes the plan and carries it out. The answer is what standard error is to say, and the exit
+// Makes the plan and carries it out. The result is what standard error is to say, and the exit
 // status, here and below.
 fn start(rt: &HostRuntime, words: &[String]) -> Message
     ensures usage { (usage : Usage) → options (words_seen words.now) ≡ Err usage

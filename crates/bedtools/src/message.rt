@@ -39,7 +39,7 @@ pub enum MessageLine {
 
 impl Message {
     /// Says what kept a run from beginning. The exit status is 2 for a command line that can't be used,
-    /// else 1. If the line finds no memory, that is reported, with status 1.
+    /// else 1. If there is no memory for the line, that is reported, with status 1.
     pub fn of(alloc: Global, obstacle: &Obstacle<'_>) -> Message
         requires { CanBeReported obstacle.now }
         ensures { Says (line_of obstacle.now) (status_of obstacle.now) result }

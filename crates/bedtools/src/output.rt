@@ -21,7 +21,7 @@ impl Output {
         Output::Standard(ToWrite::new(rt.stdout()))
     }
 
-    /// Creates the file of this name, or empties it if it is there.
+    /// Creates the file of this name, or empties it if it exists.
     pub fn create(rt: &HostRuntime, name: &str) -> io::Result<Output> {
         let file = File::create(rt, name)?;
         Ok(Output::File(ToWrite::new(file)))

@@ -19,7 +19,7 @@ pub struct StandIns {
 }
 
 impl StandIns {
-    /// Takes the place of each closed stream, until the answer is dropped. It has to come before any
+    /// Takes the place of each closed stream, until the result is dropped. It has to come before any
     /// file is opened. `Err` if a stream is closed and its place can't be taken.
     pub fn take(rt: &HostRuntime) -> io::Result<StandIns>
         ensures { IfOk result StandInPlace }

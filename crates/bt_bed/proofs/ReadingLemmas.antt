@@ -114,7 +114,7 @@ module _ {S A State : Type 0} (left : S → Option (List ℕ)) (failed end : S �
   stays_same : (reader : MemberReader S A State) → Stays left reader reader
   stays_same reader = record { bytes = ([], hands_none left reader.below); format = refl }
 
-  -- a fault that is kept is the answer
+  -- a fault that is kept is returned
   pub fault_again : (old : MemberReader S A State) (fault : Told) → old.fault ≡ Some fault → old.buffered ≡ [] → AnswersFault left failed end old fault old
   fault_again old fault kept none = record {
     kept = kept;
@@ -129,7 +129,7 @@ module _ {S A State : Type 0} (left : S → Option (List ℕ)) (failed end : S �
     near = λ going. cc;
   }
 
-  -- the reader was asked for lines, and they came
+  -- lines were read from the reader
   pub record Begun (old : MemberReader S A State) : Type 0 where
     pub was_going : old.fault ≡ None
     pub not_told : has_ended old.below ≡ false
@@ -186,7 +186,7 @@ module _ {S A State : Type 0} (left : S → Option (List ℕ)) (failed end : S �
     stays_more : (now new : MemberReader S A State) → Going old now → (bytes : List ℕ) × Hands left now.below bytes new.below → Follows now new → Stays left old new
     stays_more now new g more follows = record { bytes = more_bytes now new.below g more; format = follows.format ∙ g.format }
 
-    -- the lines passed and the one given
+    -- the lines consumed and the one given
     passed_more : (now new : MemberReader S A State) (line : TextLine) → Going old now → LineCame left failed now.below line new.below → (IsKept left end now.below → IsKept left end new.below) → Came left end old.below new.below
     passed_more now new line g gives sound = came_line left end failed old.below now.below new.below g.passed line gives sound
 

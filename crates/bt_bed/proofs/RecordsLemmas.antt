@@ -72,7 +72,7 @@ module _ {S O : Type 0} {g : Ghosts O} (left : S → Option (List ℕ)) (failed 
       let behind = said_behind (order_in old) (view_of old).state gives.said.0.text m.item total old.placed.last gives.said.1 in
       record { line = m.line; read = gives; feature = behind.feature; known = behind.known; in_order = behind.in_order }
 
-  -- what `fill` of the reader below answers
+  -- what `fill` of the reader below returns
   pub filled : (old new : Records S O g) (result : Result Bool Fault) → IsTotal (order_in old) → MembersAnswers left failed end (view_of old) result (view_of new) → FillAnswers left failed end old result new
   filled old new (Ok true) total makes = (makes.m.item, given old new makes.m total makes.gives)
   filled old new (Ok false) total ends = ends

@@ -16,7 +16,7 @@ use Rattle.bt_bed.specs.Record.{record_of, not_skipped, columns_say, feature_of,
 pub said_features : said_are_features
 said_features text f e = said_is_feature text f (record_said text f e).1
 
--- the kind of an answer is of a record if the kind that it was is
+-- the kind of a result is of a record if the kind that it was is
 same_record_kind : {T : Type 0} (was : Result T Kind) (a kind : Kind) → was ≡ Err a → was ≡ Err kind → is_record_kind a ≡ true → is_record_kind kind ≡ true
 same_record_kind was a kind p q placed = let is : a ≡ kind = cc in subst (λ k. is_record_kind k ≡ true) is placed
 
@@ -62,7 +62,7 @@ bed_of_record kind e = absurd (false≢true e)
 pub wrong_is_of_line : (text : List ℕ) (kind : Kind) → Err kind ≡ record_of text → is_bed_kind kind ≡ true
 wrong_is_of_line text kind e = bed_of_record kind (wrong_is_of_record text kind e)
 
--- the kind of an answer is of a line if the kind that it was is
+-- the kind of a result is of a line if the kind that it was is
 pub same_kind : {T : Type 0} (was : Result T Kind) (a kind : Kind) → was ≡ Err a → was ≡ Err kind → is_bed_kind a ≡ true → is_bed_kind kind ≡ true
 same_kind was a kind p q placed = let is : a ≡ kind = cc in subst (λ k. is_bed_kind k ≡ true) is placed
 

@@ -49,7 +49,7 @@ module _ {S Q : Type 0} (left : S → Option (List ℕ)) (failed end : S → Boo
   unfolding view_with
   still_going old now first neighbours g none = g.going none
 
-  -- a fault that is kept is the answer
+  -- a fault that is kept is returned
   pub sorted_fault_again : (fault : Fault) (reader : LineReader S) (neighbours : Neighbours Q)
       → Fills left failed end (view_with sorting (Some (told fault)) reader neighbours []) (Err fault) (view_with sorting (Some (told fault)) reader neighbours [])
   unfolding view_with

@@ -33,7 +33,7 @@ use Rattle.bt_bed.specs.Record.{not_skipped}
 use Rattle.bt_bed.specs.GenomeTable.{entries, names_of, entry_seen, IsToldFirst, LineAdded, LineRefused, LineUnkept, ReadsAll, EntryIsWrong, ReadingStops, StopCause}
 use Rattle.bt_bed.specs.declared.genome.Genome.{Genome}
 
--- the kind of an answer is of a line if the kind that it was is
+-- the kind of a result is of a line if the kind that it was is
 pub same_place : {T : Type 0} (was : Result T Kind) (a kind : Kind) → was ≡ Err a → was ≡ Err kind → is_genome_kind a ≡ true → is_genome_kind kind ≡ true
 same_place was a kind p q placed = let is : a ≡ kind = cc in subst (λ k. is_genome_kind k ≡ true) is placed
 
@@ -260,7 +260,7 @@ module _ {S : Type 0} (left : S → Option (List ℕ)) (failed end : S → Bool)
     passed = passed_none left end old;
   }
 
-  -- a reader that answers anything but a fault had none from the start
+  -- a reader that returns anything but a fault had none from the start
   had_none : (now : LineReader S) (genome : Genome) → Going left failed end old now genome → fault_kept now ≡ None → fault_kept old ≡ None
   had_none now genome g none = by (fault_kept old) refl
     where

@@ -31,7 +31,7 @@ module _ {S : Type 0} where
   abbrev pub below : Blocks S → LineReader S
   below blocks = (view_of blocks).below
 
-  -- where the record that was passed last started, if there was one
+  -- where the record that was consumed last started, if there was one
   abbrev pub last_locus : Blocks S → Option Locus
   last_locus blocks = (view_of blocks).state
 
@@ -69,7 +69,7 @@ module _ {S : Type 0} where
     pub feature : IsFeature r
     pub in_order : IfSome (last_locus old) (λ last. IsBlockUpTo last (locus_at r))
 
-  -- what `fill` answers: a record is buffered, or there is none, for good or after a fault
+  -- what `fill` returns: a record is buffered, or there is none, for good or after a fault
   abbrev pub FillAnswers : (S → Option (List ℕ)) → (S → Bool) → (S → Bool) → Blocks S
       → Result Bool Fault → Blocks S → Type 0
   FillAnswers left failed end old (Ok true) new = (r : Feature) × GivesRecord left failed old r new
@@ -102,7 +102,7 @@ module _ {S : Type 0} where
       (count : ℕ) (new : Blocks S) : Type 0 where
     pub takes : Takes left end (view_of old) (take count (buffered_in old)) (view_of new)
 
-  -- what `peek` answers
+  -- what `peek` returns
   abbrev pub Answers : (S → Option (List ℕ)) → (S → Bool) → (S → Bool) → Blocks S → Result
       (Option BedRef) Fault → Blocks S → Type 0
   Answers left failed end old (Ok (Some bed)) new = GivesRecord left failed old

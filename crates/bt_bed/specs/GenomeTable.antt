@@ -62,7 +62,7 @@ pub record LineUnkept (text : List ℕ) (old : Genome) (fault : Told) : Type 0 w
   pub says : new_entry (names_of old) (entry_of text) ≡ Ok (Some entry)
   pub is : fault ≡ no_memory
 
--- if one of the first lines is at fault, its fault is the one told
+-- if one of the first lines is at fault, its fault is the one reported
 abbrev pub IsToldFirst : Input → Option (List TextLine) → ℕ → Told → Type 0
 IsToldFirst input lines count fault = IfSome lines
     (λ all. (other : Told) → genome_of input (take count all) ≡ Err other → fault ≡ other)
@@ -112,7 +112,7 @@ module _ {S : Type 0} where
   -- the reading stopped at a fault
   pub record ReadingStops (left : S → Option (List ℕ)) (failed end : S → Bool)
       (old new : LineReader S) (fault : Told) : Type 0 where
-    -- a fault that the reader had is answered again, and nothing is read
+    -- a fault that the reader had is returned again, and nothing is read
     pub again : (before : Told) → fault_kept old ≡ Some before → (fault ≡ before) × (new ≡ old)
     -- a reader that had none meets the first
     pub first : fault_kept old ≡ None → StopCause left failed end old new fault
@@ -124,7 +124,7 @@ module _ {S : Type 0} where
     -- except at most a block
     pub near : fault_kept old ≡ None → IsSound left end old → IsNear left old new
 
-  -- what an answer says
+  -- what a result says
   abbrev pub GenomeAnswers : (S → Option (List ℕ)) → (S → Bool) → (S → Bool) → LineReader S
       → Result Genome Fault → LineReader S → Type 0
   GenomeAnswers left failed end old (Ok genome) new = ReadsAll left failed old new genome

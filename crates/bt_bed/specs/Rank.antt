@@ -23,7 +23,7 @@ rank_of [] name = None
 rank_of (n ∷ ns) name =
     cond (bytes_eq n name) (Some 0) (option_map (λ rank. suc rank) (rank_of ns name))
 
--- ranks compared; if a name has none, nothing is asked
+-- ranks compared; if a name has none, the result doesn't matter
 abbrev pub compare_ranks : Option ℕ → Option ℕ → Ordering
 compare_ranks None right = Equal
 compare_ranks (Some left) None = Equal

@@ -23,7 +23,7 @@ pub record MemberReader (S A State : Type 0) : Type 0 where
   pub format : Format A State
   -- the reader of lines below
   pub below : LineReader S
-  -- what is known after the member that was passed last
+  -- what is known after the member that was consumed last
   pub state : State
   -- the members that are known to come next, on the lines that follow those given
   pub buffered : List A
@@ -234,14 +234,14 @@ module _ {S A State : Type 0} where
       LineIsWrong left failed old fault new ⊎ (LineUnread left failed end old fault new
       ⊎ RunsOut left failed old fault new)
 
-  -- a fault was answered
+  -- a fault was returned
   pub record AnswersFault (left : S → Option (List ℕ)) (failed end : S → Bool)
       (old : MemberReader S A State) (fault : Told) (new : MemberReader S A State) : Type 0 where
     pub kept : new.fault ≡ Some fault
     pub was_none : old.buffered ≡ []
     pub none_buffered : new.buffered ≡ []
     pub state : new.state ≡ old.state
-    -- a fault is answered again, and nothing is read
+    -- a fault is returned again, and nothing is read
     pub again : (before : Told) → old.fault ≡ Some before → (fault ≡ before) × (new ≡ old)
     pub first : old.fault ≡ None → Cause left failed end old fault new
     pub stays : Stays left old new
@@ -258,7 +258,7 @@ module _ {S A State : Type 0} where
     pub m : Member A
     pub gives : GivesMember left failed old m new
 
-  -- what `fill` answers
+  -- what `fill` returns
   abbrev pub FillAnswers : (S → Option (List ℕ)) → (S → Bool) → (S → Bool) → MemberReader S A State
       → Result Bool Fault → MemberReader S A State → Type 0
   FillAnswers left failed end old (Ok true) new = MakesMember left failed old new

@@ -37,7 +37,7 @@ module _ {S O : Type 0} {g : Ghosts O} where
   abbrev pub below : Records S O g → LineReader S
   below records = (view_of records).below
 
-  -- where the record that was passed last started, if there was one
+  -- where the record that was consumed last started, if there was one
   abbrev pub last_locus : Records S O g → Option Locus
   last_locus records = (view_of records).state
 
@@ -76,7 +76,7 @@ module _ {S O : Type 0} {g : Ghosts O} where
     pub known : IsTrue ((order_in old).knows r.chrom)
     pub in_order : IfSome (last_locus old) (λ last. IsUpTo (order_in old) last (locus_at r))
 
-  -- what `fill` answers: a record is buffered, or there is none, for good or after a fault
+  -- what `fill` returns: a record is buffered, or there is none, for good or after a fault
   abbrev pub FillAnswers : (S → Option (List ℕ)) → (S → Bool) → (S → Bool) → Records S O g
       → Result Bool Fault → Records S O g → Type 0
   FillAnswers left failed end old (Ok true) new = (r : Feature) × GivesRecord left failed old r new
@@ -111,7 +111,7 @@ module _ {S O : Type 0} {g : Ghosts O} where
     pub takes : Takes left end (view_of old) (take count (buffered_in old)) (view_of new)
     pub order : order_in new ≡ order_in old
 
-  -- what `peek` answers
+  -- what `peek` returns
   abbrev pub Answers : (S → Option (List ℕ)) → (S → Bool) → (S → Bool) → Records S O g → Result
       (Option BedRef) Fault → Records S O g → Type 0
   Answers left failed end old (Ok (Some bed)) new = GivesRecord left failed old

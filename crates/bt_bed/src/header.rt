@@ -65,7 +65,7 @@ mod tests {
         (b"chr1\t1\t2", false),
     ];
 
-    // The first line of a table that is a header if it says that it isn't, or the other way round.
+    // The first line of a table that is taken for a header and isn't one, or the other way round.
     fn first_misjudged(rows: &[(&'static [u8], bool)]) -> Option<&'static [u8]> {
         for row in rows {
             if is_header(row.0) != row.1 {

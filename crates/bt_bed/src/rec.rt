@@ -41,7 +41,7 @@ impl Model for Rec {
 }
 
 impl Rec {
-    /// The record, which borrows from this one. No memory is taken.
+    /// The record, which borrows from this one. It doesn't allocate.
     #[inline]
     pub fn as_bed(&self) -> BedRef<'_>
         ensures { feature_lent result ≡ self.now }

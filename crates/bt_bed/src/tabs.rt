@@ -6,7 +6,7 @@ ghost use Rattle.bt_bed.specs.FirstColumns.{CutsTwo, is_tab};
 
 use std::simd::prelude::*;
 
-// How many bytes are looked at at once.
+// How many bytes are searched at once.
 const WIDTH: usize = 16;
 
 // The offset of the second tab of a text after an index, counted from there, if that is one of the

@@ -27,7 +27,7 @@ small_bit : (a : Bool) → cond a 1 0 < 2 ^ 1
 small_bit true = omega arith
 small_bit false = omega arith
 
--- the bits of what passes one of two tests
+-- the bits of what one of two tests accepts
 pub or_masks : (p q : ℕ → Bool) (xs : List ℕ) → bit_or (mask_l (map p xs)) (mask_l (map q xs)) ≡ mask_l (map (λ x. p x || q x) xs)
 or_masks p q [] = refl
 or_masks p q (x ∷ xs) =

@@ -60,7 +60,7 @@ fails_before old new xs ys fault p = record {
   again = p.again;
 }
 
--- whatever the second call answers
+-- whatever the second call returns
 pub puts_more : {A : Type 0} (old mid new : Output) (xs ys : List ℕ) (r : Result A Fault) → PutsAll old xs mid → Puts mid ys r new → Puts old (xs ++ ys) r new
 puts_more old mid new xs ys (Ok done) p q = put_more old mid new xs ys p q
 puts_more old mid new xs ys (Err fault) p q = fails_behind old mid new xs ys (told fault) p q

@@ -11,7 +11,7 @@ reader_of s = s.reader
 abbrev pub read_has_failed : {R : Type 0} → FromRead R → Bool
 read_has_failed s = s.has_failed
 
--- whether the reader told its end
+-- whether the reader reported its end
 abbrev pub read_end_told : {R : Type 0} → FromRead R → Bool
 read_end_told s = s.end_told
 

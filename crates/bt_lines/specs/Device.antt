@@ -3,7 +3,7 @@ use Rattle.std.specs.Prelude.{◌≡◌, ℕ, ◌+◌, Bool, true, false, ◌||�
 use Rattle.std.specs.Prelude.{nat_lt}
 use Rattle.std.specs.Prelude.{Option, Some, None, Result, MatchResult}
 
--- a read tells the end by an answer of 0 to a block with room; once told, it stays told
+-- a read reports the end by returning 0 for a block with room; once reported, it stays reported
 abbrev pub TellsEnd : {E : Type 0} → Bool → Bool → Result ℕ E → List ℕ → Type 0
 TellsEnd old new result block =
     MatchResult result (λ n. new ≡ (old || ((n == 0) && nat_lt 0 (length block)))) (λ _. new ≡ old)

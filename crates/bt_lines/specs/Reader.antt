@@ -176,13 +176,13 @@ module _ {S : Type 0} where
       IfSome (lines_left left old) (λ lines. IfSome (left (source_of new)) (λ rest.
       bytes_in (drop (suc (lines_given new) - lines_given old) lines) ≤ length rest + block_size))
 
-  -- a fault was answered
+  -- a fault was returned
   pub record GivesFault (left : S → Option (List ℕ)) (failed : S → Bool) (old : LineReader S)
       (fault : Told) (new : LineReader S) : Type 0 where
     pub kept : fault_kept new ≡ Some fault
     pub bytes : (bytes : List ℕ) × Hands left old bytes new
     pub counted : lines_given new ≡ lines_given old
-    -- a fault is answered again, and nothing is read
+    -- a fault is returned again, and nothing is read
     pub again : (before : Told) → fault_kept old ≡ Some before → (fault ≡ before) × (new ≡ old)
     -- after the end no fault comes
     pub was_going : has_ended old ≡ false
@@ -197,7 +197,7 @@ module _ {S : Type 0} where
     pub near : fault_kept old ≡ None → IsNear left old new
     pub served : fault ≡ no_memory → failed (source_of new) ≡ failed (source_of old)
 
-  -- what an answer says
+  -- what a result says
   abbrev pub Answers : (S → Option (List ℕ)) → (S → Bool) → LineReader S
       → Result (Option Line) Fault → LineReader S → Type 0
   Answers left failed old (Ok (Some line)) new = GivesLine left failed old (line_seen line) new
@@ -268,7 +268,7 @@ module _ {S : Type 0} where
   pub record Stops (left : S → Option (List ℕ)) (failed : S → Bool) (end : S → Bool)
       (IsRead : S → Option ℕ → S → Type 0) (old new : LineReader S) : Type 0 where
     pub kept : IsSome (fault_kept new)
-    -- whatever has this fault for an answer
+    -- whatever has this fault as its result
     pub answers : (fault : Fault) → fault_kept new ≡ Some (told fault)
         → GivesFault left failed old (told fault) new
     pub own_failure : (fault : Fault) → fault_kept new ≡ Some (told fault)

@@ -38,7 +38,7 @@ uncounted_more BadRead = 0
 uncounted_more PastBound = 1
 
 module _ {S : Type 0} (left : S → Option (List ℕ)) (failed : S → Bool) (told : S → Bool) where
-  -- more bytes were asked for
+  -- more bytes were requested
   pub record AsksMore (old : S) (old_unread : List ℕ) (old_taken : ℕ) (more : More)
       (new : S) (unread : List ℕ) (taken : ℕ) : Type 0 where
     pub bytes : List ℕ
@@ -48,7 +48,7 @@ module _ {S : Type 0} (left : S → Option (List ℕ)) (failed : S → Bool) (to
     pub came : MoreComes more (left new) (failed old) (failed new) (told new) bytes old_unread unread taken
 
 module _ {S : Type 0} (IsRead : S → Option ℕ → S → Type 0) where
-  -- the read that was asked for more bytes gave as many as are counted, or failed
+  -- the read for more bytes gave as many as are counted, or failed
   abbrev pub IsCounted : More → S → ℕ → S → ℕ → Type 0
   IsCounted Bytes old old_taken new taken = ReadsCounted IsRead old old_taken new taken
   IsCounted NoBytes old old_taken new taken = ReadsCounted IsRead old old_taken new taken

@@ -17,7 +17,7 @@ pub trait Source {
     // Whether a read has failed.
     ghost has_failed: { Self → Bool };
 
-    // Whether a read has answered the end, by 0 to a block with room.
+    // Whether a read has reported the end, by returning 0 for a block with room.
     ghost end_told: { Self → Bool };
 
     // A read took the one source to the other and gave this many bytes, or failed if there is no count.

@@ -210,7 +210,7 @@ fn whole_blocks_are_served(rt: HostRuntime) {
     assert_eq!(rt; sink.into_inner().as_slice(), bytes.as_slice());
     let mut source = FromRead::new(bytes.as_slice());
     let mut block = [0u8; BLOCK];
-    // The end is answered again, and isn't taken for a failure.
+    // The end is returned again, and isn't taken for a failure.
     for count in [BLOCK, BLOCK, BLOCK, 0, 0] {
         assert_eq!(rt; source.read(&mut block), Ok(count));
     }

@@ -16,7 +16,7 @@ pub struct FromRead<R> {
     reader: R,
     // Whether a read has failed; it stays so.
     has_failed: bool,
-    // Whether a read gave no bytes although it was asked for some.
+    // Whether a read into a block with room gave no bytes.
     end_told: bool,
 }
 

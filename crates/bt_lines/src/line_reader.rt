@@ -124,7 +124,7 @@ impl<S: Source> LineReader<S> {
 
     /// The next line, or none at the end of the text. It fails with `ReadFailed`, at the line after
     /// the last one given, if the source failed in this call or gave more than 2^63 - 1 bytes, and
-    /// with `NoMemory` if the line's buffer can't grow. A fault is answered again, and after it and
+    /// with `NoMemory` if the line's buffer can't grow. A fault is returned again, and after it and
     /// after the end nothing is read.
     #[inline(always)]
     pub fn next(&mut self) -> Result<Option<Line<'_>>, Fault>

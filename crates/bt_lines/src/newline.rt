@@ -5,7 +5,7 @@ ghost use Rattle.bt_lines.specs.Newline.{IsBefore, IsFirstFeed, IsFirstOf, Lacks
 
 use memchr::memchr;
 
-// How many bytes are looked at at once.
+// How many bytes are searched at once.
 const NEAR: usize = 32;
 
 // Where the first line feed of a text is.

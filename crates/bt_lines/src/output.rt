@@ -19,7 +19,7 @@ use std::marker::Model;
 
 /// Puts bytes to a sink in order, a block at a time: at most [`BLOCK`] bytes are held back until a
 /// `flush`. Once the sink has failed, nothing more is written, and each call
-/// answers that writing failed.
+/// says that writing failed.
 #[derive(Drop)]
 pub struct Out<K: Sink> {
     // Not written to after it has failed.

@@ -135,7 +135,7 @@ fn held_behind(alloc: Global, before: usize) -> Result<(usize, bool, usize), Fai
     Ok((room, is_held, output.into_sink().taken().len()))
 }
 
-// The first number of bytes before it where it is held or not, and put, otherwise.
+// The first number of bytes before it at which it isn't held or put as it should be.
 fn first_misheld(
     alloc: Global,
     rows: &[(usize, usize, bool, usize)],

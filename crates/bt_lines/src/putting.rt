@@ -61,7 +61,7 @@ fn put_across<K: Sink>(text: &[u8], end: &[u8], out: &mut Out<K>) -> bool
     put_column(text, end, out).is_ok()
 }
 
-/// Puts a number in decimal, without leading zeros, and what ends it. It takes no memory. One of up to three digits, as
+/// Puts a number in decimal, without leading zeros, and what ends it. It doesn't allocate. One of up to three digits, as
 /// most counts are, is put by the call that [`put_both`] shares.
 pub fn put_number<K: Sink>(number: u64, end: &[u8], out: &mut Out<K>) -> Result<(), Fault>
     ensures { Puts out.old.output (decimal number ++ end.now) result out.new.output }

@@ -22,7 +22,7 @@ pub struct ScriptSource<'a> {
     given: usize,
     // Whether a call has failed; it stays so.
     has_failed: bool,
-    // Whether a call was answered with no bytes although it asked for some.
+    // Whether a call with a block with room was given no bytes.
     end_told: bool,
 }
 

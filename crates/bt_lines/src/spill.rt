@@ -27,7 +27,7 @@ pub(crate) enum Stop {
     NoMemory,
 }
 
-// What came of asking for more bytes.
+// The outcome of a read for more bytes.
 #[derive(Clone, Copy, Debug)]
 pub(crate) enum More {
     // Bytes, in the block.

@@ -114,7 +114,7 @@ const COLUMNS: [Columns; 4] = [
     (b"chr1\t5\t9", &[b"chr1", b"5", b"9"]),
 ];
 
-// Whether a text has these columns, and then no more, however often it is asked for one.
+// Whether a text has these columns, and then no more, however often `next` is called.
 fn has_columns(text: &[u8], want: &[&[u8]]) -> bool {
     let mut rest = columns(text);
     for column in want {

@@ -1,4 +1,5 @@
--- What a complement says of one chromosome, and what it owes of it: its gaps, where they are asked for; those that are done by the last start, and the place up to which they are.
+-- What a complement says of one chromosome: its gaps, if they are wanted; those that are done by the last start, and the place up to which they are.
+-- The file has what it owes of one chromosome.
 use Rattle.std.proofs.Common.{◌≡◌, ℕ, ◌<◌, inl, inr, List, [], ◌∷◌, ◌++◌, refl, ap, ◌∙◌, map, filter, flat_map, cond, not, nat_le, nat_lt, Bool, true, false, bytes_eq, ◌≤◌, sym, arith, max, min}
 use Rattle.std.proofs.lemmas.Bool.{cases_Bool, cases_lt, cond-true, or_right, lt-ltb, le-ltb, lt-leb, le-leb}
 use Rattle.std.specs.declared.cmp.Ordering.TheVariants.{Less, Equal, Greater}
@@ -16,7 +17,7 @@ use Rattle.std.proofs.lemmas.List.{map-append}
 use Rattle.bt_runs.proofs.ByChromosome.{Divides, NoRecords, Owes, Written, intervals_next, picks_by}
 use Rattle.bt_runs.proofs.Walks.{Walked, form_of}
 
--- the gaps of a chromosome, if they are asked for
+-- the gaps of a chromosome, if they are wanted
 abbrev pub part : Bool → List Interval → Entry → List Interval
 part limit records entry = cond (is_asked limit records entry) (gaps_on records entry) []
 

@@ -16,7 +16,7 @@ module _ (zeros : Bool) (at position : ℕ) (first now : List Span) (low : at �
   pub here_depth : depth_of zeros first position ≡ value
   here_depth = run_depth (position + 1) (all_open (position + 1) now) position (omega arith) (omega arith)
 
--- one turn of the walk
+-- one step of the walk
 module _ (u : ℕ → Option ℕ) (from at next : ℕ) (g : Option Begun) (value : Option ℕ) (low : from ≤ at) (up : at < next) (run : (q : ℕ) → at ≤ q → q < next → u q ≡ value) where
   run_is : (q : ℕ) → at ≤ q → q < at + (next - at) → u q ≡ value
   run_is q lower higher = run q lower (omega arith)
@@ -43,7 +43,7 @@ module _ (u : ℕ → Option ℕ) (from at next : ℕ) (g : Option Begun) (value
       ∙ ap (λ n. begun_after u n (next - at) begun) here_is
       ∙ begun_run u value (next - at) at begun (omega arith) run_is
 
--- no turn
+-- no step
 pub no_ended : (u : ℕ → Option ℕ) (p n : ℕ) (g : Option Begun) → n ≡ 0 → ended_after u p n g ≡ []
 unfolding ended_after
 no_ended u p n g none = rw none refl

@@ -50,7 +50,7 @@ one_strand : merged_runs 0 (One Plus) records ≡ on 3 0 4 ∷ []
 unfolding merged runs_of is_bridged stretches_from with_position
 one_strand = refl
 
--- and settle the runs that they have passed
+-- and settle the runs that they close
 settled_by_others : settled_runs 0 (One Plus) records ≡ on 3 0 4 ∷ []
 unfolding merged settled_runs runs_of is_bridged stretches_from with_position
 settled_by_others = refl
@@ -76,7 +76,7 @@ by_first_record : (strand_runs 0 two_strands ≡ of Plus (on 1 0 8) ∷ of Minus
 unfolding strand_runs merged runs_of is_bridged stretches_from with_position settled_strand_runs
 by_first_record = (refl, refl)
 
--- a record that has passed the open run settles all before its own
+-- a record that closes the open run settles all before its own
 abbrev passed_all : List Feature
 passed_all = feature 1 0 3 Plus ∷ feature 1 1 2 Minus ∷ feature 1 4 5 Dot ∷ []
 

@@ -163,7 +163,7 @@ module _ (old : Complementing) (at : AreReached old.entries old.current) (out : 
     gap_feeds (Err e) new grown d =
         rule_cut may_take stands_after settled_lines old out step_lines is_quiet r next_lines none {A = Unit {0}} e new grown d.adds
 
-    -- and no memory is wanted
+    -- and no memory is needed
     pub gap_memory : (result : Result (Unit {0}) Fault) (new : Complementing) (grown : Output) → CoversRecord old r out result new grown → WantsMemory none_wanted old r result
     gap_memory (Ok done) new grown d = tt
     gap_memory (Err e) new grown d = λ memory. absurd (other_fault memory d.adds.puts.is)

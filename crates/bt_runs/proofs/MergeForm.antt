@@ -57,7 +57,7 @@ abbrev later : (gap : ℕ) (spans : List Span) (start more : ℕ) → start ≤ 
 later gap spans start more up last = record { before = last.before; run = last.run; at = last.at; up = let h = last.up in omega arith; one = last.one }
 
 module _ (gap : ℕ) (name : List ℕ) (spans : List Span) where
-  -- a later start settles the run that it has passed
+  -- a later start settles the run that it closes
   passes : (start : ℕ) (done kept : List Interval) (x : Interval) → name ≡ x.chrom → start ≤ x.start → Runs gap name spans start done kept → Runs gap name spans x.start (done ++ settled_by gap kept x) (left_by gap kept x)
   passes start done kept x is up (inl u) = inl (record { none = u.none; done_is = rw (u.done_is, u.kept_is) refl; kept_is = rw u.kept_is refl })
   passes start done kept x is up (inr (inr d)) = inr (inr (record {
@@ -112,7 +112,7 @@ module _ (gap : ℕ) (name : List ℕ) (spans : List Span) where
     kept_is = rw (d.kept_is, is) refl;
   }))
 
-  -- a record elsewhere has passed all
+  -- a record elsewhere closes all
   pub gone : (start : ℕ) (done kept : List Interval) (x : Interval) → bytes_eq name x.chrom ≡ false → Runs gap name spans start done kept → (settled_by gap kept x ≡ kept) × (left_by gap kept x ≡ [])
   gone start done kept x other (inl u) = rw u.kept_is (refl, refl)
   gone start done kept x other (inr (inr d)) = rw d.kept_is (refl, refl)

@@ -53,7 +53,7 @@ last_there x (y ∷ ys) r t =
     let rest = last_there y ys r t.1 in
     (λ e. elim t.0 [ inl s ↦ rest.0 (s.0 ∙ e) | inr gone ↦ absurd (not_gone x r (y ∷ ys) e gone) ], rest)
 
--- one more record and the runs of one strand, of which one at most isn't passed
+-- one more record and the runs of one strand, of which it closes all but one at most
 module _ (gap : ℕ) (x : Interval) where
   abbrev pub is_open : Interval → Bool
   is_open run = not (is_passed gap x run)
@@ -93,7 +93,7 @@ module _ (gap : ℕ) (x : Interval) where
   ]
   grown_runs done (k ∷ l ∷ ls) passed few = absurd (omega arith)
 
--- a record is joined to a run of its strand that it hasn't passed
+-- a record is joined to a run of its strand that it doesn't close
 abbrev pub reaches : ℕ → Feature → StrandRun → Bool
 reaches gap r item = is_strand item.strand r.strand && not (is_passed gap (interval_of r) item.run)
 
@@ -133,7 +133,7 @@ new_on : (b : Bool) (r : Feature) → map (on_strand r.strand) (cond b [] (inter
 new_on true r = refl
 new_on false r = refl
 
--- the merged runs of one strand: those that the record has passed, and one more at most
+-- the merged runs of one strand: those that the record closes, and one more at most
 pub record Parted (gap : ℕ) (r : Feature) (runs : List StrandRun) : Type 0 where
   pub done : List StrandRun
   pub kept : List StrandRun
@@ -145,7 +145,7 @@ module _ (gap : ℕ) (past : List Feature) (r : Feature) (taken : AreTaken (past
   one : List Interval
   one = merged_runs gap (One r.strand) past
 
-  -- what is settled of a strand's runs is passed by the record
+  -- what is settled of a strand's runs is closed by the record
   settled_passed : Each (IsPassed gap (interval_of r)) (settled_runs gap (One r.strand) past)
   unfolding settled_runs
   settled_passed =

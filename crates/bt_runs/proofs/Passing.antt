@@ -1,4 +1,4 @@
--- Which runs a record has passed, and which records are merged, among others.
+-- Which runs a record closes, and which records are merged, among others.
 use Rattle.std.proofs.Common.{◌≡◌, ℕ, ◌+◌, ◌<◌, ◌≤◌, List, [], ◌∷◌, ◌++◌, refl, ap, ◌∙◌, arith, map, filter, true, false, not, bytes_eq, nat_lt, lt-ltb, le-ltb, append-nil, sym, cond, Bool}
 use Rattle.std.proofs.lemmas.Bool.{cond-true, or_from, or_left, or_right, not_from_true, not_from_false, cond-false, or_parts}
 use Rattle.bt_bed.specs.Interval.{Interval, Span, placed_on}
@@ -21,7 +21,7 @@ passed_far gap last run far = or_right (not (bytes_eq run.chrom last.chrom)) (na
 pub not_passed : (gap : ℕ) (last run : Interval) → run.chrom ≡ last.chrom → last.start ≤ run.stop + gap → is_passed gap last run ≡ false
 not_passed gap last run same near = or_from (not (bytes_eq run.chrom last.chrom)) (nat_lt (run.stop + gap) last.start) (not_from_true (bytes_eq run.chrom last.chrom) (name_eq run.chrom last.chrom same)) (le-ltb (run.stop + gap) last.start near)
 
--- a record has passed all runs on other chromosomes than its own
+-- a record closes all runs on other chromosomes than its own
 pub placed_elsewhere : (gap : ℕ) (last : Interval) (name : List ℕ) (spans : List Span) → bytes_eq name last.chrom ≡ false → filter (is_passed gap last) (map (placed_on name) spans) ≡ map (placed_on name) spans
 placed_elsewhere gap last name [] other = refl
 placed_elsewhere gap last name (s ∷ ss) other =
@@ -33,7 +33,7 @@ first_up_to : (gap first : ℕ) (done : List Span) (run : Span) → AreApartBy g
 first_up_to gap first [] run a = a.0
 first_up_to gap first (x ∷ done) run a = let h = first_up_to gap (x.stop + gap + 1) done run a.2 in omega arith
 
--- a record at or past the start of the last run has passed those before that
+-- a record at or past the start of the last run closes those before that
 pub passed_before : (gap first : ℕ) (last : Interval) (name : List ℕ) (done : List Span) (run : Span) → AreApartBy gap first (done ++ run ∷ []) → run.start ≤ last.start → filter (is_passed gap last) (map (placed_on name) done) ≡ map (placed_on name) done
 passed_before gap first last name [] run apart up = refl
 passed_before gap first last name (x ∷ done) run apart up =

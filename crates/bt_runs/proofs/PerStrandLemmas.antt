@@ -380,7 +380,7 @@ module _ (merge : Stranding) (out : Output) where
     none : AfterEach may_take stands_after merge r (λ first past. is_quiet first past r → lines_by merge r ≡ [])
     none first past stands taken quiet = quiet_adds_none may_take stands_after settled_lines merge out (lines_by merge r) held_count r next first past stands taken quiet.0
 
-    -- a record isn't quiet if memory is wanted
+    -- a record isn't quiet if memory is needed
     loud : wants_memory merge r → AfterEach may_take stands_after merge r (λ first past. is_quiet first past r → ⊥)
     loud (inl opens) first past stands taken quiet = loud_next first.gap past merge stands r taken opens (none first past stands taken quiet) quiet.0.keeps
     loud (inr other) first past stands taken quiet = other (stands.chrom quiet.1.front quiet.1.last quiet.1.is ∙ quiet.1.same)

@@ -181,7 +181,7 @@ last_near (q ∷ qs) r last taken is =
     (last_there (interval_of q) (intervals_of qs) (interval_of r) (subst AreTogether (intervals_next (q ∷ qs) r) taken.together)))
 
 module _ (gap : ℕ) where
-  -- whether a record has passed a run
+  -- whether a record closes a run
   abbrev passes : Interval → StrandRun → Bool
   passes last item = is_passed gap last item.run
 
@@ -203,7 +203,7 @@ module _ (gap : ℕ) where
   unfolding settled_strand_runs
   no_strand_settled = refl
 
-  -- a run that was passed by the last record is passed by the next one
+  -- a run that was closed by the last record is closed by the next one
   still_passed : (past : List Feature) (last : Interval) (r : Feature) (item : StrandRun) → Each (λ p. p.chrom ≡ r.chrom → (last.chrom ≡ r.chrom) × (last.start ≤ r.start)) past → Some_of (λ p. Lies item p) past
       → passes last item ≡ true → passes (interval_of r) item ≡ true
   still_passed past last r item near has passed = elim (cases_name item.run.chrom r.chrom) [
@@ -237,7 +237,7 @@ module _ (gap : ℕ) where
         let p = parted gap past r taken in
         only_from gap r (strand_runs gap past) p.done p.kept (listed.split r.strand ∙ p.all) p.passed p.few
 
-    -- with the record, the first run that it hasn't passed stays such a one
+    -- with the record, the first run that it doesn't close stays such a one
     stops_joined : (item : StrandRun) → passes (interval_of r) item ≡ false → passes (interval_of r) (joined_to gap r item) ≡ false
     stops_joined item f = elim (cases_Bool (reaches gap r item)) [
       | inr n ↦ ap (passes (interval_of r)) (join_not gap r item n) ∙ f

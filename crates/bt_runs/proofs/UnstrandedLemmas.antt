@@ -88,7 +88,7 @@ module _ (old : Unstranded) (out : Output) where
       rule_finishes may_take stands_after settled_lines old out (interval_lines old.kept) whole_output
       (λ first past stands taken. unsettled first.gap first.strand past old stands taken) result grown p
 
--- a record on another chromosome passes the run that is kept
+-- a record on another chromosome closes the run that is kept
 elsewhere_passes : (gap : ℕ) (chrom : List ℕ) (run : OpenRun) (r : Interval) → bytes_eq chrom r.chrom ≡ false
     → (settled_by gap (kept_at chrom run) r ≡ kept_at chrom run) × (left_by gap (kept_at chrom run) r ≡ [])
 elsewhere_passes gap chrom run r apart = elim (cases_Bool (run.stop == 0)) [

@@ -13,7 +13,7 @@ use Rattle.bt_runs.specs.Engine.{AfterEach, FailsToPutLeft, FailsToWrite, PutsLe
 abbrev pub IsFaultless : {E : Type 0} → (E → List Feature → E → Type 0) → (E → Option Told) → E → Type 0
 IsFaultless {E} Stands fault now = (first : E) (past : List Feature) → Stands first past now → fault now ≡ None
 
--- a fault that was answered before is answered again
+-- a fault that was returned before is returned again
 abbrev pub AnswersAgain : {A : Type 0} → Option Told → Result A Fault → Type 0
 AnswersAgain kept result = (before : Told) → kept ≡ Some before
     → MatchResult result (λ done. ⊥) (λ answer. told answer ≡ before)

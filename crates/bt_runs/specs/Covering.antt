@@ -97,7 +97,7 @@ pub record IsToKeep (size : ℕ) (strand : Option Strand) (r : Feature) : Type 0
 abbrev pub HasToKeep : List Entry → Option Strand → Feature → Type 0
 HasToKeep entries strand r = IsToKeep (length_in entries r.chrom) strand r
 
--- memory is wanted for records that have to be kept
+-- memory is needed for records that have to be kept
 abbrev pub wants_memory : Covering → Feature → Type 0
 wants_memory old r = HasToKeep old.entries old.strand r
 

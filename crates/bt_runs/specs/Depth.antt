@@ -22,7 +22,7 @@ covers p s = nat_le s.start p && nat_lt p s.stop
 abbrev pub depth_at : List Span → ℕ → ℕ
 depth_at spans p = length (filter (covers p) spans)
 
--- a depth that is reported: any above 0, and 0 if it is asked for
+-- a depth that is reported: any above 0, and 0 if it is wanted
 abbrev pub reported : Bool → ℕ → Option ℕ
 reported zeros depth = cond (zeros || nat_lt 0 depth) (Some depth) None
 

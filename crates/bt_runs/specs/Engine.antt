@@ -43,7 +43,7 @@ module _ {E : Type 0} (MayTake : E → List Feature → Type 0)
   module _ (old : E) (r : Feature) (out : Output) where
     -- the record was taken
     pub record TakesRecord (new : E) (grown : Output) : Type 0 where
-      -- no fault was answered
+      -- no fault was returned
       pub was_going : fault old ≡ None
       pub going : fault new ≡ None
       -- the engine is after the record too
@@ -75,7 +75,7 @@ module _ {E : Type 0} (MayTake : E → List Feature → Type 0)
           PutsRest (settled first past) (settled first (past ++ r ∷ [])) out grown)
       pub works : WorksAsBefore out grown
 
-    -- the first fault is answered again, and nothing happens
+    -- the first fault is returned again, and nothing happens
     pub record Repeats (answer : Told) (new : E) (grown : Output) : Type 0 where
       pub is : fault old ≡ Some answer
       pub kind : (answer ≡ write_failed) ⊎ (answer ≡ no_memory)
@@ -87,7 +87,7 @@ module _ {E : Type 0} (MayTake : E → List Feature → Type 0)
     NotTaken answer new grown =
         Repeats answer new grown ⊎ (FailsToWrite answer new grown ⊎ RunsOut answer new grown)
 
-    -- what the answer says
+    -- what the result says
     abbrev pub FeedAnswers : {A : Type 0} → Result A Fault → E → Output → Type 0
     FeedAnswers (Ok done) new grown = TakesRecord new grown
     FeedAnswers (Err answer) new grown = NotTaken (told answer) new grown
@@ -133,7 +133,7 @@ module _ {E : Type 0} (MayTake : E → List Feature → Type 0)
         pub fails : Feeds mid r through {A = Unit {0}} Quiet (Err answer) new grown
         pub memory : told answer ≡ no_memory → wants mid r
 
-      -- the fault that was answered before is answered again, and nothing happens
+      -- the fault that was returned before is returned again, and nothing happens
       pub record RepeatsBatch (answer : Told) (new : E) (passed : C) (grown : Output) : Type 0 where
         pub going : (first : E) (past : List Feature) → Stands first past old → fault old ≡ None
         pub is : fault old ≡ Some answer
@@ -166,12 +166,12 @@ module _ {E : Type 0} (MayTake : E → List Feature → Type 0)
       pub failed : grown.has_failed ≡ true
       pub sink_failed : grown.sink_has_failed ≡ true
 
-    -- the fault that was answered before is answered again, and nothing happens
+    -- the fault that was returned before is returned again, and nothing happens
     pub record RepeatsAtEnd (answer : Told) (grown : Output) : Type 0 where
       pub is : fault last ≡ Some answer
       pub same_output : grown ≡ out
 
-    -- what the answer says
+    -- what the result says
     abbrev pub FinishAnswers : {A : Type 0} → Result A Fault → Output → Type 0
     FinishAnswers (Ok done) grown = PutsLeft grown
     FinishAnswers (Err answer) grown =

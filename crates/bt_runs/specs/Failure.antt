@@ -1,4 +1,4 @@
--- The fault that an engine answers once it has failed.
+-- The fault that an engine returns once it has failed.
 use Rattle.bt_lines.specs.Fault.{Told, no_memory, write_failed}
 use Rattle.bt_runs.specs.declared.failure.Failure.{Failure}
 use Rattle.bt_runs.specs.declared.failure.Failure.TheVariants.{Write, Memory}

@@ -17,7 +17,7 @@ last_gap entry end = gap_between entry.name end entry.length
 abbrev pub whole_of : Entry → List Interval
 whole_of entry = last_gap entry 0
 
--- one without records, which isn't asked for with -L
+-- one without records, which isn't wanted with -L
 abbrev pub bare_gap : Bool → Entry → List Interval
 bare_gap limit entry = cond limit [] (whole_of entry)
 

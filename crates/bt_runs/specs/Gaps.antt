@@ -39,11 +39,11 @@ abbrev pub gaps_on : List Interval → Entry → List Interval
 gaps_on records entry =
     map (placed_on entry.name) (gaps_of entry.length (spans_on entry.name records))
 
--- whether a chromosome's gaps are asked for: they all are, or with -L if it has records
+-- whether a chromosome's gaps are wanted: they all are, or with -L if it has records
 abbrev pub is_asked : Bool → List Interval → Entry → Bool
 is_asked limit records entry = not limit || has_records entry.name records
 
--- the gaps of the chromosomes that are asked for, in their order
+-- the gaps of the chromosomes whose gaps are wanted, in their order
 unfoldable pub complement : Bool → List Entry → List Feature → List Interval
 complement limit entries records =
     flat_map (gaps_on (intervals_of records))

@@ -15,7 +15,7 @@ abbrev pub with_record : List Interval → Interval → List Interval
 with_record [] r = r ∷ []
 with_record (run ∷ runs) r = joined_run run r ∷ runs
 
--- the runs that the record has passed
+-- the runs that the record closes
 abbrev pub settled_by : ℕ → List Interval → Interval → List Interval
 settled_by gap runs r = passed_by gap runs (Some r)
 

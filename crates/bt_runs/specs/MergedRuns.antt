@@ -15,12 +15,12 @@ abbrev pub merged_runs : ℕ → MergeStrand → List Feature → List Interval
 merged_runs gap strand records =
     merged (chromosomes (counted strand records)) gap (counted strand records)
 
--- whether the last record has passed a run: the run lies on a chromosome before its own, which is
+-- whether the last record closes a run: the run lies on a chromosome before its own, which is
 -- any other one, or ends more than `gap` below its start
 abbrev pub is_passed : ℕ → Interval → Interval → Bool
 is_passed gap last run = not (bytes_eq run.chrom last.chrom) || nat_lt (run.stop + gap) last.start
 
--- the runs that the last record, counted or not, has passed
+-- the runs that the last record, counted or not, closes
 abbrev pub passed_by : ℕ → List Interval → Option Interval → List Interval
 passed_by gap runs None = []
 passed_by gap runs (Some last) = filter (is_passed gap last) runs

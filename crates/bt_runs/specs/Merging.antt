@@ -46,7 +46,7 @@ stands_after (Apart first) past (Together now) = ⊥
 abbrev pub StandsNew : ℕ → MergeStrand → Merging → Type 0
 StandsNew gap strand merge = stands_after (merge_begun gap strand) [] merge
 
--- the fault that it answered, if one
+-- the fault that it returned, if one
 abbrev pub kept_fault : Merging → Option Told
 kept_fault (Together merge) = ruled_fault merge
 kept_fault (Apart merge) = ruled_fault merge

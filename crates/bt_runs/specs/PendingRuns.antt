@@ -1,5 +1,5 @@
 -- The runs that wait, without their chromosome: the place of the last one of each strand, how one more
--- record is joined to it, and which of them are passed.
+-- record is joined to it, and which of them are closed.
 use Rattle.std.specs.Prelude.{ℕ, suc, Bool, true, false, not, cond, ◌||◌, List, [], ◌∷◌}
 use Rattle.std.specs.Prelude.{drop, length, map, max, set, Option, Some, None, nat_lt}
 use Rattle.std.specs.List.{slice_get, take_while}
@@ -61,7 +61,7 @@ placed_run chrom run =
 abbrev pub placed_runs : List ℕ → List PendingRun → List StrandRun
 placed_runs chrom runs = map (placed_run chrom) runs
 
--- the first runs that are passed: all, if the record lies elsewhere,
+-- the first runs that are closed: all, if the record lies elsewhere,
 -- and else those that end below `reach`
 abbrev pub passed_runs : Bool → ℕ → List PendingRun → List PendingRun
 passed_runs here reach runs = take_while (λ (w : PendingRun). not here || nat_lt w.stop reach) runs

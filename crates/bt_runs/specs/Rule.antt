@@ -80,7 +80,7 @@ abbrev pub WantsMemory : {E A : Type 0} → (E → Feature → Type 0) → E →
 WantsMemory wants old r (Ok done) = ⊤
 WantsMemory wants old r (Err fault) = told fault ≡ no_memory → wants old r
 
--- what is done with a record: exactly, after every past, and for what memory is wanted
+-- what is done with a record: exactly, after every past, and what needs memory
 pub record Taken {E : Type 0} (takes : E → List Feature → Type 0) (stands : E → List Feature → E → Type 0)
     (settled : E → List Feature → List ℕ) (quiet : E → List Feature → Feature → Type 0) (wants : E → Feature → Type 0)
     (does : E → Feature → Output → Result (Unit {0}) Fault → E → Output → Type 0)

@@ -6,7 +6,7 @@ use Rattle.bt_runs.specs.Failure.{fault_of}
 use Rattle.bt_runs.specs.declared.rule.Ruled.{Ruled}
 
 module _ {E : Type 0} where
-  -- the failure that was answered, if one was
+  -- the failure that was returned, if one was
   abbrev pub ruled_fault : Ruled E → Option Told
   ruled_fault ruled = option_map fault_of ruled.failure
 
@@ -30,6 +30,6 @@ module _ {E : Type 0} where
   abbrev pub ruled_quiet : (E → List Feature → Feature → Type 0) → Ruled E → List Feature → Feature → Type 0
   ruled_quiet quiet first past r = quiet first.rule past r
 
-  -- for what memory is wanted
+  -- what needs memory
   abbrev pub ruled_wants : (E → Feature → Type 0) → Ruled E → Feature → Type 0
   ruled_wants wants old r = wants old.rule r

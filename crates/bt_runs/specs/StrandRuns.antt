@@ -33,7 +33,7 @@ is_in item r = is_strand item.strand r.strand && lies_in item.run (interval_of r
 abbrev pub begun_by : List StrandRun → List Feature → Feature → List StrandRun
 begun_by runs before r = filter (λ item. is_in item r && not (list_any (is_in item) before)) runs
 
--- for each record in its turn the run that it is the first of, if these come before them
+-- for each record the run that it is the first of, if these come before them
 abbrev pub listed_behind : (Strand → List StrandRun) → List Feature → List Feature → List StrandRun
 listed_behind runs before [] = []
 listed_behind runs before (r ∷ rs) =

@@ -7,7 +7,7 @@ use Rattle.bt_runs.specs.MergedRuns.{is_passed}
 use Rattle.bt_runs.specs.MergeStep.{joined_run}
 use Rattle.bt_runs.specs.StrandRuns.{StrandRun, passed_front}
 
--- the runs that the record settles: those up to the first that it hasn't passed
+-- the runs that the record settles: those up to the first that it doesn't close
 abbrev pub front_settled : ℕ → List StrandRun → Feature → List StrandRun
 front_settled gap items r = passed_front gap items (Some (interval_of r))
 

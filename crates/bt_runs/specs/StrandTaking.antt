@@ -27,7 +27,7 @@ OpensRun old r =
 abbrev pub IsElsewhere : Stranding → Feature → Type 0
 IsElsewhere old r = old.chrom ≡ r.chrom → ⊥
 
--- for what memory is wanted: a run that has to be opened, or the name of another chromosome
+-- what needs memory: a run that has to be opened, or the name of another chromosome
 abbrev pub wants_memory : Stranding → Feature → Type 0
 wants_memory old r = OpensRun old r ⊎ IsElsewhere old r
 
@@ -53,13 +53,13 @@ TakesNext old r out (Err fault) new grown =
 
 -- a record whose start less the gap is `reach`, as a run, among runs on its chromosome
 module _ (chrom : List ℕ) (reach : ℕ) (runs : List PendingRun) (run : PendingRun) (out : Output) where
-  -- whether it is joined to one of the runs that it hasn't passed, and those with it if it is
+  -- whether it is joined to one of the runs that it doesn't close, and those with it if it is
   abbrev pub joined_among : Bool × List PendingRun
   joined_among =
       with_joined reach run.stop (left_runs true reach runs)
       (place_of run.strand (left_runs true reach runs))
 
-  -- those that it has passed were written, and nothing more
+  -- those that it closes were written, and nothing more
   abbrev pub PutsPassed : Output → Type 0
   PutsPassed grown = Grown out (strand_lines (placed_runs chrom (passed_runs true reach runs))) grown
 

@@ -10,7 +10,7 @@ use bt_lines::{COLUMN, Fault, Out, Sink, put_both, write_column};
 // The room for what follows the name: three columns and a line feed.
 const ROOM: usize = 3 * COLUMN + 1;
 
-// Puts the line of an interval: its name, and what follows it in one piece. It takes no memory.
+// Puts the line of an interval: its name, and what follows it in one piece. It doesn't allocate.
 #[inline(always)]
 pub(crate) fn put_depth<K: Sink>(
     chrom: &[u8],

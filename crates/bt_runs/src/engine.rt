@@ -28,19 +28,19 @@ pub trait Engine {
     // What an engine that began like this has become once it has taken these records without a fault.
     ghost stands: { Self → List Feature → Self → Type 0 };
 
-    // The fault that was answered, if one was.
+    // The fault that was returned, if one was.
     ghost fault: { Self → Option Told };
 
     // If this holds of the records and of one more, that one is taken without a fault and the
     // output stays as it is. An engine that can't promise it gives ⊥.
     ghost quiet: { Self → List Feature → Feature → Type 0 };
 
-    // For what memory is wanted: if it runs out for the first time, this holds of the engine and the record.
+    // What needs memory: if it runs out for the first time, this holds of the engine and the record.
     ghost wants: { Self → Feature → Type 0 };
 
     /// Takes the records that a cursor gives, one after another, and writes the lines that they settle. It fails with
     /// `WriteFailed` if they can't be written, and with `NoMemory` if what is kept can't grow; the record at which it
-    /// fails was given too. The first fault is answered from then on.
+    /// fails was given too. The first fault is returned from then on.
     fn feed_batch<C: Cursor, K: Sink>(
         &mut self,
         records: &mut C,
@@ -61,7 +61,7 @@ pub trait Engine {
     }
 
     /// Writes the lines that are still unsettled, after the last record. It fails with `WriteFailed`
-    /// if they can't be written, and with the fault that was answered before, if one was.
+    /// if they can't be written, and with the fault that was returned before, if one was.
     fn finish<K: Sink>(self, out: &mut Out<K>) -> Result<(), Fault>
         ensures { Finishes takes stands fault settled whole self out.old.output result out.new.output };
 

@@ -64,7 +64,7 @@ impl<'g> Rule for GapRule<'g> {
 
     ghost quiet = { is_quiet };
 
-    // It takes no memory.
+    // It doesn't allocate.
     ghost wants = { λ rule r. ⊥ };
 
     ghost does = { CoversRecord };

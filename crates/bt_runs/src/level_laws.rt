@@ -11,7 +11,7 @@ pub fn runs_are_intervals_of_one_value()
 {}
 
 /// The gaps of a chromosome are the intervals of its positions that aren't covered: those of depth 0,
-/// which a coverage gives if depth 0 is asked for.
+/// which a coverage gives if depth 0 is wanted.
 pub fn gaps_are_intervals_of_one_value()
     ensures bare { gaps_are_levels }
     ensures depth { covered_have_depth }

@@ -69,8 +69,8 @@ impl Merge {
     }
 
     /// Takes the next record, and writes the lines that it settles. A record on the chromosome of the one before it that
-    /// joins a run that is kept, or that isn't merged, and that passes none that could be written, is taken without a
-    /// fault. The first fault is answered from then on: `WriteFailed`, or `NoMemory`, only if the chromosome is
+    /// joins a run that is kept, or that isn't merged, and that closes none that could be written, is taken without a
+    /// fault. The first fault is returned from then on: `WriteFailed`, or `NoMemory`, only if the chromosome is
     /// another than that of the record before, and with [`MergeStrand::Each`] if a run has to be opened too.
     pub fn feed<K: Sink>(&mut self, bed: &BedRef<'_>, out: &mut Out<K>) -> Result<(), Fault>
         ensures going { IsFaultless stands_after kept_fault self.old }
@@ -94,7 +94,7 @@ impl Merge {
     }
 
     /// Writes the lines that are still unsettled, after the last record. It fails with `WriteFailed`, or with the
-    /// fault that was answered before.
+    /// fault that was returned before.
     pub fn finish<K: Sink>(self, out: &mut Out<K>) -> Result<(), Fault>
         ensures going { IsFaultless stands_after kept_fault self }
         ensures written { WritesLeft may_take stands_after kept_fault settled_lines whole_output self

@@ -1,4 +1,4 @@
-//! The merged runs of each strand of one chromosome, by a look at each record in its turn: slow, and
+//! The merged runs of each strand of one chromosome, by one look at each record: slow, and
 //! plainly what the definition says.
 
 ghost use Rattle.bt_bed.specs.Strands.{is_strand};

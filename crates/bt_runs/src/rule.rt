@@ -38,7 +38,7 @@ pub(crate) trait Rule {
     // output stays as it is.
     ghost quiet: { Self → List Feature → Feature → Type 0 };
 
-    // For what memory is wanted: if it runs out, this holds of the rule and the record.
+    // What needs memory: if it runs out, this holds of the rule and the record.
     ghost wants: { Self → Feature → Type 0 };
 
     // What it does with a record, exactly.
@@ -91,7 +91,7 @@ pub(crate) trait Rule {
 #[derive(Drop, Debug)]
 pub(crate) struct Ruled<E> {
     pub(crate) rule: E,
-    // It is answered from then on.
+    // It is returned from then on.
     failure: Option<Failure>,
 }
 

@@ -135,7 +135,7 @@ const WRITE_FAILED: Fault = Fault {
 };
 
 // Feeds all lines to an engine over a sink that fails, and if a fault came one more, and lets it finish.
-// Once a call has answered the fault, each later one has to, and the flush at the end if none did.
+// Once a call has returned the fault, each later one has to, and the flush at the end if none did.
 fn feed_failing<E: Engine, K: Sink>(
     rt: &impl Abort,
     mut engine: E,

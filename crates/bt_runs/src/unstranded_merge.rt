@@ -27,7 +27,7 @@ pub(crate) struct OpenRun {
 const NONE: OpenRun = OpenRun { start: 0, stop: 0 };
 
 // Merges records that come in order. It keeps the open run alone, and writes each run once a record
-// has passed it, which may be one that isn't merged. Starts are zero-based, and ends aren't
+// closes it, which may be one that isn't merged. Starts are zero-based, and ends aren't
 // included.
 #[derive(Drop, Debug)]
 pub(crate) struct UnstrandedMerge {

@@ -378,7 +378,7 @@ module _ (how : MaskHow) (full : Bool) (stage : MaskStage) (none : stage.waiting
       same_output = refl;
     }
 
--- after a fault nothing is asked for
+-- after a fault nothing is wanted
 stops_at : (old new : Masking) (l : Waiting) (r : Feature) (out grown : Output) (answer : Result Taken Fault) → TakesBed old l r out answer new grown → OnErr answer (new.want ≡ Nothing)
 stops_at old new l r out grown (Ok Yes) t = tt
 stops_at old new l r out grown (Ok No) t = tt

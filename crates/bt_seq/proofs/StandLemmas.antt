@@ -96,7 +96,7 @@ last_more (l ∷ k ∷ ls) line = last_more (k ∷ ls) line
 pub last_waits : (stage : MaskStage) (line : SequenceLine) → stage.waiting ≡ Some line → line_given_last (given stage) ≡ Some line
 last_waits stage line e = ap (λ (w : Option SequenceLine). line_given_last (stage.written ++ option_to_list w)) e ∙ last_more stage.written line
 
--- what is asked for tells what waits
+-- what is wanted shows what waits
 pub wants_line : (w : Option SequenceLine) (lines_ended bed_ended : Bool) → want_of (is_some w) lines_ended bed_ended ≡ Line → (w ≡ None) × (lines_ended ≡ false)
 wants_line (Some line) lines_ended bed_ended e = absurd (let apart : Bed ≡ Line = e in cc)
 wants_line None false bed_ended e = (refl, refl)

@@ -27,7 +27,7 @@ pub record Alignment : Type 0 where
   pub quality : ℕ
   pub cigar : List ℕ
 
--- the columns that are looked at
+-- the columns that are read
 pub record Fields : Type 0 where
   pub name : List ℕ
   pub flag : List ℕ
@@ -80,7 +80,7 @@ alignment_at fields flag position quality span = record {
   cigar = fields.cigar;
 }
 
--- what these values say: the end is looked at only if the alignment gives a line
+-- what these values say: the end is checked only if the alignment gives a line
 abbrev pub values_say : Fields → ℕ → ℕ → ℕ → ℕ → Result (Option Alignment) Kind
 values_say fields flag position quality span =
     if gives_nothing flag fields.chrom position span then Ok None

@@ -6,7 +6,7 @@ use Rattle.bt_seq.specs.Alignment.{Alignment}
 use Rattle.bt_seq.specs.BedLines.{bed_lines}
 
 -- whether alignments are cut at each N, whether the CIGAR is written,
--- and the fault that was answered
+-- and the fault that was returned
 pub record Converting : Type 0 where
   pub split : Bool
   pub with_cigar : Bool

@@ -7,7 +7,7 @@ use Rattle.bt_bed.specs.Interval.{Span}
 use Rattle.bt_seq.specs.Alignment.{Alignment}
 use Rattle.bt_seq.specs.AlignmentBlocks.{alignment_blocks}
 
--- a text, if it is asked for
+-- a text, if it is requested
 abbrev pub text_if : Bool → List ℕ → List ℕ
 text_if asked text = if asked then text else []
 
@@ -19,7 +19,7 @@ abbrev pub strand_sign : Bool → List ℕ
 strand_sign reverse = if reverse then codes "-" else codes "+"
 
 -- the columns of a block of an alignment: chromosome, start, end, name, mapping quality and strand,
--- and the whole CIGAR if it is asked for
+-- and the whole CIGAR if it is requested
 abbrev pub bed_columns : Bool → Alignment → Span → List (List ℕ)
 bed_columns with_cigar a block =
     a.chrom ∷ decimal block.start ∷ decimal block.stop ∷ read_name a ∷ decimal a.quality

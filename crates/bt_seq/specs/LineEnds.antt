@@ -12,7 +12,7 @@ bounds_text start stop =
 abbrev pub marks : Bool → Bool → List ℕ
 marks first last = text_if first (codes "/1") ++ text_if last (codes "/2")
 
--- after the strand, if the CIGAR is asked for, and if it isn't
+-- what follows the strand: a tab if the CIGAR comes next, and else the line feed
 abbrev pub end_sign : Bool → List ℕ
 end_sign with_cigar = if with_cigar then codes "\t" else codes "\n"
 

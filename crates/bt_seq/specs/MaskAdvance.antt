@@ -20,7 +20,7 @@ use Rattle.bt_seq.specs.declared.mask_how.MaskHow.{MaskHow}
 use Rattle.bt_seq.specs.declared.mask_want.MaskWant.{MaskWant}
 use Rattle.bt_seq.specs.declared.mask_want.MaskWant.TheVariants.{Line, Bed, Nothing}
 
--- a line may still be asked for before the next record
+-- a line may still be wanted before the next record
 abbrev pub asks_more : MaskWant → ℕ
 asks_more Line = 0
 asks_more Bed = 1
@@ -128,7 +128,7 @@ module _ {C : Type 0} (gives : C → List Feature → C → Type 0) (line_at : C
           × FailsAtRecord how full comes.stage.waiting comes.stage r (line_at later) through fault
           grown)
 
-    -- what the answer says
+    -- what the result says
     abbrev pub BothCome : {A : Type 0} → Result A Fault → Masking → C → Output → Type 0
     BothCome (Ok done) new records grown =
         (comes : HasCome how full old lines taken out new grown)

@@ -66,7 +66,7 @@ KnowsNext waits names taken (Some r) m =
     × (waits ≡ false → left_after names (taken ++ r ∷ []) ≡ Some []))
     ⊎ (KnowsAhead names taken r m × (waits ≡ false → left_after names (taken ++ r ∷ []) ≡ None))
 
--- while lines are asked for after the first header, and records may come, one is ahead
+-- while lines are wanted after the first header, and records may come, one is ahead
 abbrev pub HasAhead : MaskStage → Type 0
 HasAhead stage = want_at stage ≡ Line → stage.bed_ended ≡ false
     → is_unnamed (reached stage).names ≡ false → is_some stage.ahead ≡ true

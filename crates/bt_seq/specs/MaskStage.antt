@@ -50,7 +50,7 @@ reached_by (Some line) = record { names = line.names; bases = bases_up_to line }
 abbrev pub reached : MaskStage → Reached
 reached stage = reached_by (line_given_last (given stage))
 
--- what is asked for: a record while a line waits, then a line; after the last line the records
+-- what is wanted: a record while a line waits, then a line; after the last line the records
 -- that are left; and nothing once both inputs have ended
 abbrev pub want_of : Bool → Bool → Bool → MaskWant
 want_of true lines_ended bed_ended = Bed

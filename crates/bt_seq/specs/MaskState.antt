@@ -39,7 +39,7 @@ pub record Masking : Type 0 where
   pub want : MaskWant
   pub bed_ended : Bool
   -- up to which base of the sequence the record ahead decides lines; it means something while a
-  -- line is asked for after the first header and the records haven't ended
+  -- line is wanted after the first header and the records haven't ended
   pub decided_to : ℕ
 
 -- whether a line of this text is at fault: there is text, and no header yet

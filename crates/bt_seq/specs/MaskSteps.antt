@@ -70,7 +70,7 @@ module _ (how : MaskHow) (full : Bool) (stage : MaskStage) (line : TextLine) (ou
         ⊎ ((fault ≡ no_memory) × (grown ≡ out) × (may_need_memory stage item ≡ true))
     pub settled : IsSettled how stage item
 
-  -- what the answer says; after a fault nothing is asked for
+  -- what the result says; after a fault nothing is wanted
   abbrev pub GivesNextLine : {A : Type 0} → Result A Fault → Masking → Output → Type 0
   GivesNextLine (Ok done) new grown = TakesNextLine new grown
   GivesNextLine (Err fault) new grown =
@@ -105,7 +105,7 @@ module _ (how : MaskHow) (full : Bool) (stage : MaskStage) (line : SequenceLine)
     pub is : fault ≡ no_memory
     pub same_output : grown ≡ out
 
-  -- what the answer says
+  -- what the result says
   abbrev pub GivesBed : Result Taken Fault → Masking → Output → Type 0
   GivesBed (Ok Yes) new grown = TakesRecord new grown
   GivesBed (Ok No) new grown = WritesLine new grown
@@ -129,7 +129,7 @@ module _ (how : MaskHow) (full : Bool) (stage : MaskStage) (r : Feature) (number
     pub is : fault ≡ fault_at_line Second number NoSequence
     pub same_output : grown ≡ out
 
-  -- what the answer says
+  -- what the result says
   abbrev pub ChecksRecord : Result Taken Fault → Masking → Output → Type 0
   ChecksRecord (Ok Yes) new grown = HasSequence new grown
   ChecksRecord (Ok No) new grown = ⊥
@@ -144,7 +144,7 @@ EndsRecords how full stage line out (Ok done) new grown =
 EndsRecords how full stage line out (Err fault) new grown =
     (new.want ≡ Nothing) × FailsToAdd out (masked_line how stage.taken line) (told fault) grown
 
--- what it does after the last line: nothing is written, and nothing more is asked for
+-- what it does after the last line: nothing is written, and nothing more is wanted
 abbrev pub EndsCheck : {A : Type 0} → MaskHow → Bool → MaskStage → Output → Result A Fault → Masking
     → Output → Type 0
 EndsCheck how full stage out (Ok done) new grown =

@@ -64,7 +64,7 @@ names_of [] = []
 names_of (line ∷ []) = line.names
 names_of (line ∷ next ∷ lines) = names_of (next ∷ lines)
 
--- that there is no sequence for these records, told at the first of them
+-- that there is no sequence for these records, reported at the first of them
 abbrev pub told_at_first : List (Member Feature) → Option Told
 told_at_first [] = None
 told_at_first (m ∷ ms) = Some (fault_at_line Second m.line NoSequence)

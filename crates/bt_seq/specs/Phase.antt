@@ -5,7 +5,7 @@ use Rattle.bt_seq.specs.declared.mask_want.MaskWant.TheVariants.{Line, Bed, Noth
 use Rattle.bt_seq.specs.declared.phase.Phase.{Phase}
 use Rattle.bt_seq.specs.declared.phase.Phase.TheVariants.{Lines, Waits, Checks, Ended}
 
--- what is asked for
+-- what is wanted
 abbrev pub want_in : Phase → MaskWant
 want_in Lines = Line
 want_in Waits = Bed

@@ -32,7 +32,7 @@ abbrev pub ends_name : ℕ → Bool
 ends_name byte = (byte == 32) || (byte == 9)
 
 -- the name that a header gives: the text after `>` up to the first space or tab, or all of it
--- if the full header is asked for
+-- if the full header is requested
 abbrev pub name_in : Bool → List ℕ → List ℕ
 name_in full text =
     if full then drop 1 text else take_while (λ byte. not (ends_name byte)) (drop 1 text)

@@ -14,7 +14,7 @@ use crate::splitting::blocks;
 use bt_lines::{Fault, Out, Sink, write_failed};
 use std::marker::Model;
 
-/// Writes alignments as BED lines, each at once: it keeps nothing of them, and takes no memory. Start
+/// Writes alignments as BED lines, each at once: it keeps nothing of them, and doesn't allocate. Start
 /// and end are zero-based, and the end isn't included.
 #[derive(Drop, Debug)]
 pub struct BamToBed {
@@ -54,7 +54,7 @@ impl BamToBed {
     }
 
     /// Writes the lines of an alignment: chromosome, start, end, name with `/1` and `/2` for the first
-    /// and the last segment, mapping quality, strand. It fails only if a write fails, and answers
+    /// and the last segment, mapping quality, strand. It fails only if a write fails, and returns
     /// that fault from then on.
     pub fn feed<K: Sink>(&mut self, sam: &SamRef<'_>, out: &mut Out<K>) -> Result<(), Fault>
         ensures writes { self.old.fault ≡ None

@@ -112,7 +112,7 @@ fn write_behind(
     write_bounds(start, stop, text, name)
 }
 
-// Writes a CIGAR and a line feed so that they end where the text does, where they are asked for, and gives where
+// Writes a CIGAR, if it is requested, and a line feed so that they end where the text does, and returns where
 // they begin.
 #[inline(always)]
 fn write_cigar(cigar: &[u8], with_cigar: bool, text: &mut [u8; LINE_ROOM]) -> usize
@@ -128,7 +128,7 @@ fn write_cigar(cigar: &[u8], with_cigar: bool, text: &mut [u8; LINE_ROOM]) -> us
     write_piece(cigar, text, LINE_ROOM - 1)
 }
 
-// Writes a piece up to an index, and gives where it begins.
+// Writes a piece up to an index, and returns where it begins.
 #[inline(always)]
 fn write_piece(piece: &[u8], text: &mut [u8], end: usize) -> usize
     requires room { length piece.now ≤ end }
@@ -150,7 +150,7 @@ fn put_place<K: Sink>(chrom: &[u8], start: u64, stop: u64, out: &mut Out<K>) -> 
     put_both(chrom, &text[first..], out)
 }
 
-// Puts name, marks, mapping quality and strand, and the CIGAR if it is asked for.
+// Puts name, marks, mapping quality and strand, and the CIGAR if it is requested.
 fn put_read<K: Sink>(sam: &SamRef<'_>, with_cigar: bool, out: &mut Out<K>) -> Result<(), Fault>
     ensures { Puts out.old.output (sam.now.name.now ++ line_tail with_cigar (alignment_lent sam.now)) result out.new.output }
 {
@@ -164,7 +164,7 @@ fn put_read<K: Sink>(sam: &SamRef<'_>, with_cigar: bool, out: &mut Out<K>) -> Re
     put_column(sam.cigar, b"\n", out)
 }
 
-// Writes the bounds up to an index, and gives where they begin.
+// Writes the bounds up to an index, and returns where they begin.
 #[inline(always)]
 fn write_bounds(start: u64, stop: u64, text: &mut [u8], end: usize) -> usize
     requires room { BOUNDS_ROOM ≤ end }
@@ -193,7 +193,7 @@ fn write_quality(sam: &SamRef<'_>, with_cigar: bool, text: &mut [u8], end: usize
     write_column(sam.quality, text, end - 3)
 }
 
-// Writes the marks of the first and of the last segment up to an index, and gives where they begin.
+// Writes the marks of the first and of the last segment up to an index, and returns where they begin.
 fn write_marks(first: bool, last: bool, text: &mut [u8], end: usize) -> usize
     requires room { 4 ≤ end }
     requires within { end ≤ length text.old }
@@ -205,7 +205,7 @@ fn write_marks(first: bool, last: bool, text: &mut [u8], end: usize) -> usize
     write_mark(first, b'1', text, behind)
 }
 
-// Writes a slash and a digit up to an index, if they are asked for.
+// Writes a slash and a digit up to an index, if they are requested.
 fn write_mark(asked: bool, digit: u8, text: &mut [u8], end: usize) -> usize
     requires room { 2 ≤ end }
     requires within { end ≤ length text.old }

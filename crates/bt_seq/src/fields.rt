@@ -1,4 +1,4 @@
-//! The columns of an alignment's line that are looked at.
+//! The columns of an alignment's line that are read.
 
 ghost use Rattle.std.specs.Prelude.{◌≡◌, ◌+◌, ◌≤◌, IfNone, IfSome, length, nat_le, option_map};
 ghost use Rattle.bt_lines.specs.Lines.{pieces};

@@ -147,7 +147,7 @@ impl Mask {
         }
     }
 
-    /// Takes the end of the lines. Nothing is written. Records are asked for until they end: each has
+    /// Takes the end of the lines. Nothing is written. Records are wanted until they end: each has
     /// to belong to a sequence.
     pub fn end_lines(&mut self)
         requires { self.old.want ≡ MaskWant.Line }

@@ -26,7 +26,7 @@ pub fn mask_slice(bases: &mut [u8], how: MaskHow)
     mask_each(&mut bases[at..], how);
 }
 
-// Masks as many bases as fill whole vectors, and answers how many those are.
+// Masks as many bases as fill whole vectors, and returns how many those are.
 #[inline(always)]
 fn mask_by_lanes(bases: &mut [u8], how: MaskHow) -> usize
     ensures within { result ≤ length bases.old }

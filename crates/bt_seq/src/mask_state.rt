@@ -42,11 +42,11 @@ pub(crate) struct MaskState {
     text: Vec<u8>,
     // How that line ended.
     ending: LineEnd,
-    // Whether a line waits, and what is asked for.
+    // Whether a line waits, and what is wanted.
     phase: Phase,
     // Whether the end of the records was given.
     bed_ended: bool,
-    // Up to which base of the sequence the record ahead decides lines. Valid while a line is asked for
+    // Up to which base of the sequence the record ahead decides lines. Valid while a line is wanted
     // after the first header and the records haven't ended.
     decided_to: u64,
 }
@@ -97,7 +97,7 @@ impl MaskState {
         }
     }
 
-    // What is asked for.
+    // What is wanted.
     pub(crate) fn want(&self) -> MaskWant
         ensures { result ≡ self.now.want }
     {
@@ -380,7 +380,7 @@ impl MaskState {
         self.has_written(written)
     }
 
-    // Asks for the next line, if the last one was written.
+    // Wants the next line, if the last one was written.
     fn has_written(&mut self, written: Result<(), Fault>) -> Result<(), Fault>
         ensures same { result ≡ written }
         ensures next { IsOk written → self.new ≡ record self.old { waiting = None; want = MaskWant.Line } }

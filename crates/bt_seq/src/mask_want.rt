@@ -7,6 +7,6 @@ pub enum MaskWant {
     Line,
     /// A record of the BED input, or its end.
     Bed,
-    /// Nothing more: both inputs have ended, or a fault was answered.
+    /// Nothing more: both inputs have ended, or a fault was returned.
     Nothing,
 }

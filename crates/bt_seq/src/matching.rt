@@ -84,7 +84,7 @@ impl Matching {
         Ok(())
     }
 
-    // The sequence of the block of the next record. It takes no memory.
+    // The sequence of the block of the next record. It doesn't allocate.
     pub(crate) fn owner(&mut self, chrom: &[u8]) -> Owner
         ensures owner { result ≡ owner_of self.old chrom.now }
         ensures next { self.new ≡ matched_with self.old chrom.now }

@@ -19,7 +19,7 @@ impl Phase {
     ghost use Rattle.std.specs.Prelude.{◌≡◌};
     ghost use Rattle.bt_seq.specs.Phase.{waits_in, want_in};
 
-    // What is asked for.
+    // What is wanted.
     pub(crate) fn want(self) -> MaskWant
         ensures { result ≡ want_in self }
     {

@@ -6,7 +6,7 @@ ghost use Rattle.bt_lines.specs.Putting.{Adds};
 
 use bt_lines::{Fault, LineEnd, Out, Sink, put_line};
 
-// Puts a text and its line end, which mostly is a line feed. It takes no memory.
+// Puts a text and its line end, which mostly is a line feed. It doesn't allocate.
 #[inline(always)]
 pub(crate) fn put_text<K: Sink>(text: &[u8], ending: LineEnd, out: &mut Out<K>) -> Result<(), Fault>
     ensures { Adds out.old.output (text.now ++ end_bytes ending) result out.new.output }

@@ -18,7 +18,7 @@ const MAX_POSITION: u64 = 2_147_483_647;
 
 const MAX_QUALITY: u64 = 255;
 
-// The bits of FLAG that are looked at.
+// The bits of FLAG that are tested.
 const UNMAPPED: u64 = 4;
 
 const REVERSE: u64 = 16;
@@ -33,7 +33,7 @@ const LAST: u64 = 128;
 /// applies: fewer than eleven columns; a flag above 65,535 or no number; an empty reference name; a
 /// position above 2,147,483,647 or no number; a mapping quality above 255 or no number; a malformed
 /// CIGAR; and of an alignment that isn't left out, an end above 999,999,999,999. Leading zeros are
-/// allowed. No memory is taken, and the alignment borrows from the text.
+/// allowed. It doesn't allocate, and the alignment borrows from the text.
 #[inline(always)]
 pub fn sam_line(text: &[u8]) -> Result<Option<SamRef<'_>>, Kind>
     ensures { alignment_seen result ≡ alignment_of text.now }

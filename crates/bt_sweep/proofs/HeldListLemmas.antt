@@ -80,7 +80,7 @@ module _ {X : Type 0} (p : X → Bool) where
     one_more : kept ++ filter p (take 1 items) ≡ filter p (take (suc i) xs)
     one_more = ap (λ l. kept ++ filter p (take 1 l)) parts ∙ sym (filter-append p (take i xs) (split.x ∷ [])) ∙ ap (filter p) (sym split.before)
 
-    -- the first of them is passed
+    -- the first of them is visited
     pub passed_next : drop 1 items ++ filter p (take 1 items) ≡ drop (i + 1) xs ++ filter p (take (i + 1) xs)
     passed_next =
         rw add-one

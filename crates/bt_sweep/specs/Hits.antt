@@ -38,7 +38,7 @@ any_overlap = record { billionths = 0; both = false; same_strand = false }
 abbrev pub hits_among : HitRule → Feature → List Feature → List Feature
 hits_among rule a bs = filter (hits rule a) bs
 
--- without a fraction it doesn't matter whether it is asked of both
+-- without a fraction it doesn't matter whether it is required of both
 abbrev pub both_of_nothing : Type 0
 both_of_nothing = (both same_strand : Bool) (a b : Feature)
     → hits (record { billionths = 0; both = both; same_strand = same_strand }) a b

@@ -31,7 +31,7 @@ first_stage = record { written = []; waiting = None; taken = []; a_ended = false
 abbrev pub given : Stage → List Feature
 given stage = stage.written ++ option_to_list stage.waiting
 
--- what is asked for
+-- what is wanted
 abbrev pub want_at : Stage → Want
 want_at stage = want_of (is_some stage.waiting) stage.a_ended
 

@@ -40,7 +40,7 @@ stopped old = record old { phase = Over }
 abbrev pub has_room_in : Sweeping → Bool
 has_room_in sweep = has_room sweep.limit (length sweep.held)
 
--- why b, at a line, couldn't be held: for want of room, or of memory
+-- why b, at a line, couldn't be held: no room, or no memory
 abbrev pub CannotHold : Sweeping → ℕ → Fault → Type 0
 CannotHold old line fault =
     ((has_room_in old ≡ false) × (told fault ≡ fault_at_line Second line TooManyHeld))

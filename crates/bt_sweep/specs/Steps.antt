@@ -33,7 +33,7 @@ Fails out lines fault grown =
 abbrev pub lines_with : Shape → HitRule → Stage → Feature → List ℕ
 lines_with shape rule stage a = cond stage.b_ended (lines_for shape rule a stage.taken) []
 
--- what a call with the next record of the first input does; after a fault nothing is asked for
+-- what a call with the next record of the first input does; after a fault nothing is wanted
 abbrev pub GivesA : {A : Type 0} → Order → Shape → HitRule → Option ℕ → Stage → Feature → Output
     → Result A Fault → Sweeping → Output → Type 0
 GivesA order shape rule limit stage a out (Ok done) new grown =
@@ -94,7 +94,7 @@ module _ (order : Order) (shape : Shape) (rule : HitRule) (limit : Option ℕ) (
     pub is : fault ≡ no_memory
     pub same_output : grown ≡ out
 
-  -- what the answer says
+  -- what the result says
   abbrev pub GivesB : Result Taken Fault → Sweeping → Output → Type 0
   GivesB (Ok Yes) new grown = TakesB new grown
   GivesB (Ok No) new grown = WritesA new grown

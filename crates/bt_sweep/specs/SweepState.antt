@@ -19,7 +19,7 @@ pub record Sweeping : Type 0 where
   pub held : List Feature
   pub phase : Phase
 
--- what is asked for: the second input while lines are to be written, then the first, and nothing at
+-- what is wanted: the second input while lines are to be written, then the first, and nothing at
 -- last or after a fault
 abbrev pub want_of : Bool → Bool → Want
 want_of true done = B

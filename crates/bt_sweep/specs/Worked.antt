@@ -1,4 +1,4 @@
--- Small inputs, worked by hand: what is written and told of them.
+-- Small inputs, worked by hand: what is written and reported of them.
 use Rattle.std.specs.Prelude.{◌≡◌, ℕ, false, true, [], ◌∷◌, codes, Option, Some, None}
 use Rattle.bt_lines.specs.Fault.{Told}
 use Rattle.bt_lines.specs.declared.fault.Input.TheVariants.{Second}

@@ -100,7 +100,7 @@ fn give_short<H: Held>(
     holds(rt, sweep.held().len() == 0, "nothing is held");
 }
 
-// Memory is taken for the record of the first input alone.
+// Only the record of the first input needs memory.
 #[test]
 fn refused_growth_beside_records_that_are_not_held(rt: HostRuntime) -> Result<(), Fail> {
     let order = ByteOrder;

@@ -20,7 +20,7 @@ pub trait Held: Drop {
     fn drop_ended(&mut self, place: u64)
         ensures { records self.new ≡ filter (λ r. nat_lt place r.stop) (records self.old) };
 
-    /// Drops all records. It takes no memory.
+    /// Drops all records. It doesn't allocate.
     fn clear(&mut self)
         ensures { records self.new ≡ [] };
 

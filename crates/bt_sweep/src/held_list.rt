@@ -27,7 +27,7 @@ impl HeldList {
     ghost use Rattle.std.specs.Prelude.{◌≡◌, [], IsTrue, false, filter, nat_lt};
     ghost use Rattle.bt_sweep.specs.HeldList.{HasRoom, records_in};
 
-    /// No record. It takes no memory.
+    /// No record. It doesn't allocate.
     pub fn new(alloc: Global) -> HeldList
         ensures { records_in result ≡ [] }
     {
@@ -117,7 +117,7 @@ impl Held for HeldList {
 }
 
 // How many records there are before the first that starts at the place or after it. Those near the first one
-// are looked at first: each index is at most twice as great as the one before it.
+// are tested first: each index is at most twice as great as the one before it.
 fn started_in(records: &VecDeque<Rec>, place: u64) -> usize
     ensures within { result ≤ length records.now.items }
     ensures point { IsNonDecreasingBy (λ r. r.start) records.now.items

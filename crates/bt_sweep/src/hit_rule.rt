@@ -9,7 +9,7 @@ ghost use Rattle.bt_sweep.specs.Hits.{any_overlap};
 pub struct HitRule {
     /// How many billionths of the first record the shared bases have to be at least.
     pub billionths: u64,
-    /// The same is asked of the second record.
+    /// The same is required of the second record.
     pub both: bool,
     /// The strands have to be equal; a record without a strand has the same as another without.
     pub same_strand: bool,

@@ -19,7 +19,7 @@ pub fn decided_lines_stay()
     ensures before { lines_are_before }
 {}
 
-/// Without a fraction, asking it of both records changes nothing.
+/// Without a fraction, requiring it of both records changes nothing.
 pub fn no_fraction_is_that_of_both()
     ensures { both_of_nothing }
 {}

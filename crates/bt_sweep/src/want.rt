@@ -7,6 +7,6 @@ pub enum Want {
     A,
     /// The second input.
     B,
-    /// Nothing more: the first input has ended, or a fault was answered.
+    /// Nothing more: the first input has ended, or a fault was returned.
     Nothing,
 }

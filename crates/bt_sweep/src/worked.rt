@@ -74,7 +74,7 @@ const NAMED_A: Lines = &[b"chr1\t10\t30\ta"];
 
 const NAMED_B: Lines = &[b"chr1\t0\t15\tx", b"chr1\t25\t40\ty"];
 
-// If one shared base is a hit.
+// By the rule that one shared base is a hit.
 pub(crate) const ANY_OVERLAP: [RuledCase; 18] = [
     ("touching", Shape::Cut, ANY, TOUCHING_A, TOUCHING_B, b""),
     (

@@ -203,7 +203,7 @@ last_item-counts [] later item h =
     rw (none, same) refl
 last_item-counts (first ∷ items) later item h = rw (last_item-counts items later item h) refl
 
--- the answer by any longest division is the one by the items that are read
+-- the result of any longest division is that of the items that are read
 answer-by : (command : Tool) (words : List Word) (answer : Result PlanSeen Usage)
     (fault : Option Usage) → word_fault (table_of command) 1 words ≡ fault
     → AnswersPlan command words answer → answer ≡ asked command words

@@ -48,7 +48,7 @@ module _ {S : Type 0} (left : S → Option (List ℕ)) (failed : S → Bool) (fi
       let same = consumes_same (left first) (left last) reads.bytes bytes reads.text reads.known reads.consumed (consumed_by bytes hands) in
       (same, ap length same ∙ sym (hands.counted ∙ ap (λ n. n + length bytes) fresh ∙ zero_first (length bytes)))
 
-  -- an input that worked and passed no bound was handed over whole
+  -- an input that worked and passed no bound was handed over completely
   pub handed_all : (handed : Handed) (reads : Reads left failed first last handed) → (bytes : List ℕ) × Hands left old bytes new
       → failed (source_of new) ≡ failed (source_of old) → bytes_taken new < 2 ^ 63 → handed ≡ whole_text reads.text
   handed_all handed reads hands served within =

@@ -67,7 +67,7 @@ module _ {S State : Type 0} (second second_now : MemberReader S Feature State) (
         ahead_first second_now ∙ ap first_of (rest ∙ there.3.left_is)
   ]
 
--- ---- how much is still asked for
+-- ---- how much is still wanted
 
 some_kept : (o : Option SequenceLine) → is_some (option_map kept_line o) ≡ is_some o
 some_kept None = refl
@@ -88,7 +88,7 @@ asks_few true WantBed e = absurd (false≢true (sym e))
 asks_few false WantBed e = omega arith
 asks_few waits Nothing e = omega arith
 
--- if nothing was given, a line that waited was written, or the same is asked for
+-- if nothing was given, a line that waited was written, or the same is wanted
 none_front : (newly : List SequenceLine) (o : Option SequenceLine) → newly ++ option_to_list o ≡ [] → o ≡ None
 none_front [] None e = refl
 none_front [] (Some x) e = cc
@@ -341,7 +341,7 @@ module _ {A B : Type 0} (a_left : A → Option (List ℕ)) (a_failed a_end : A �
     failed_both : EndsAt (Some fault) now
     failed_both = fails_both behind.fails
 
-  -- what the answer says
+  -- what the result says
   pub gives_both : {T : Type 0} (answer : Result T Fault) (masked : Masking) (now : Output) → (ComesNext Passes line_in HasEnded s.stage.ahead first_beds → BothCome Passes line_in HasEnded run.how run.full s.stage texts taken out first_beds answer masked last_beds now)
       → OnOk answer (StopsAt Passes line_in HasEnded masked.want last_lines last_beds) → Gives a_left a_failed a_end b_left b_failed b_end run lines second mask answer new second_now masked now
   gives_both (Ok done) masked now come stops = let both = come comes_next in gave_both masked now both.0 stops both.2 done

@@ -25,7 +25,7 @@ use Rattle.bt_tool.proofs.LineMembers.{gives_over}
 use Rattle.bt_tool.proofs.MaskBoth.{asks_few, waits_is}
 use Rattle.bt_tool.proofs.MaskedLemmas.{ends_alone, ends_lines, ends_waiting, fails_at_end, line_made, lines_done, none_waits, record_made}
 
--- what is asked for at some points
+-- what is wanted at some points
 at_line : (waits : Bool) (want : MaskWant) → want ≡ WantLine → asks waits want ≡ 2
 at_line waits want e = ap (asks waits) e
 

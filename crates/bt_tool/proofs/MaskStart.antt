@@ -91,7 +91,7 @@ module _ {A B : Type 0} (a_left : A → Option (List ℕ)) (a_failed a_end : A �
   }
 
 module _ {A B : Type 0} (a_left : A → Option (List ℕ)) (a_failed a_end : A → Bool) (b_left : B → Option (List ℕ)) (b_failed b_end : B → Bool) where
-  -- the same by what the engine itself says that it was asked for
+  -- the same by what the engine itself says that it wanted
   pub masks_as_new : (how : MaskHow) (full : Bool) (lines : LineReader A) (records : Blocks B) (out : Output) (own : Bool)
       → IsFresh a_left a_end (line_members own nothing_reached lines) → line_fault lines ≡ None → IsFresh b_left b_end (view_of records) → fault_kept records ≡ None
       → HoldsBlock out.took out.put → (mask : Masking) → MaskStandsAt how full first_stage mask

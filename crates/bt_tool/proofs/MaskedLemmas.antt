@@ -44,7 +44,7 @@ use Rattle.bt_tool.proofs.PairSettles.{settles_with}
 use Rattle.bt_tool.proofs.PairStops as stop
 use Rattle.bt_tool.proofs.PairTurns as turned
 
--- what is asked for tells what waits
+-- what is wanted shows what waits
 never_line : (waits lines_ended bed_ended : Bool) → want_of waits lines_ended bed_ended ≡ WantLine → (waits ≡ false) × (lines_ended ≡ false)
 never_line true l b e = absurd (let apart : WantBed ≡ WantLine = e in cc)
 never_line false false b e = (refl, refl)
@@ -191,7 +191,7 @@ module _ {A B : Type 0} (a_left : A → Option (List ℕ)) (a_failed a_end : A �
         let last : line_given_last (given stage) ≡ Some line = ap (λ (o : Option SequenceLine). line_given_last (stage.written ++ option_to_list o)) waits ∙ last_waits stage.written line in
         undecided_by line w.named (subst (λ (o : Option SequenceLine). IsOpen o stage.taken) last (s.stands.is_open w.lines))
 
-    -- a line is asked for
+    -- a line is wanted
     module _ (wants : mask.want ≡ WantLine) where
       no_line : (is_some stage.waiting ≡ false) × (stage.lines_ended ≡ false)
       no_line = never_line (is_some stage.waiting) stage.lines_ended stage.bed_ended (sym s.stands.want_is ∙ wants)
@@ -260,7 +260,7 @@ module _ {A B : Type 0} (a_left : A → Option (List ℕ)) (a_failed a_end : A �
         λ input line e. e,
       )
 
-    -- a record is asked for, only while they may come
+    -- a record is wanted, only while they may come
     module _ (wants : mask.want ≡ WantBed) where
       want_bed : want_of (is_some stage.waiting) stage.lines_ended stage.bed_ended ≡ WantBed
       want_bed = sym s.stands.want_is ∙ wants

@@ -1,4 +1,4 @@
--- Lemmas on what a reader of members has passed.
+-- Lemmas on what a reader of members has consumed.
 use Rattle.std.proofs.Common.{◌≡◌, ℕ, suc, ◌+◌, ◌-◌, ◌≤◌, ◌<◌, Bool, true, false, List, [], ◌∷◌, ◌++◌, length, take, drop, Option, None, Some, Err, refl, sym, ap, ◌∙◌, subst, append_assoc, append-nil, arith, inl, inr}
 use Rattle.std.specs.Prelude.{◌⊎◌, All, IfSome, IsSome, option_map}
 use Rattle.std.proofs.lemmas.List.{drop-drop, length-append, length-drop, map-append, take-append-drop}

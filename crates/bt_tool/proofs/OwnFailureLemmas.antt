@@ -55,7 +55,7 @@ swept_no_read order limit (inr held) = let apart : ReadFailed ≡ TooManyHeld = 
 pub none_kept : {S : Type 0} (IsRead : S → Option ℕ → S → Type 0) (old : LineReader S) (kept : Option Told) (lines : LineReader S) → kept ≡ None → IsOwnFault IsRead old kept lines
 none_kept IsRead old kept lines none input line e = absurd (let apart : None ≡ Some (read_failed input line) = sym none ∙ e in cc)
 
--- one that keeps the fault that it told
+-- one that keeps the fault that it reported
 pub told_kept : {S : Type 0} (IsRead : S → Option ℕ → S → Type 0) (before kept : Option Told) (old lines : LineReader S) (fault : Fault) → kept ≡ Some (told fault) → before ≡ None
     → TellsOwnFailure {T = Unit {0}} IsRead before old (Err fault) lines → IsOwnFault IsRead old kept lines
 told_kept IsRead before kept old lines fault is none own input line e = (own none).unread input line (sym is ∙ e)
@@ -171,7 +171,7 @@ module _ {A B X Y U V : Type 0} (making : Making X Y) (pair : Pair A B X Y U V) 
   of_second past other behind =
       behind_own pair.b_left pair.b_failed pair.b_end b_read second_format Second two_before pair.second begins_second second two_after ended_second own_second making.second_kinds no_second past other behind
 
-  -- the inputs told it
+  -- the inputs reported it
   by_inputs : InputsEnd making pair out w.written w.wrote.given w.wrote.ended first second fault → (input : Input) (line : ℕ) → fault ≡ Some (read_failed input line) → OwnFirst input ⊎ OwnSecond input
   by_inputs (inl stops) input line e = inl (of_first stops.2.past stops.0 stops.2.cause input line (some_is stops.0 (read_failed input line) (sym stops.1 ∙ e)))
   by_inputs (inr (inl stops)) input line e = inr (of_second stops.2.past stops.0 stops.2.fails.cause input line (some_is stops.0 (read_failed input line) (sym stops.1 ∙ e)))
@@ -234,7 +234,7 @@ flushed_no_read old new fault answer flush no_write never input line e = elim fl
   | inr stays ↦ no_write stays.is
 ]
 
--- the genome file was read, or its fault told, and then the other inputs
+-- the genome file was read, or its fault reported, and then the other inputs
 module _ {A B : Type 0} (a_left : A → Option (List ℕ)) (a_failed a_end : A → Bool) (b_left : B → Option (List ℕ)) (b_failed : B → Bool) (command : Command) (first : A) (second : Option B) (out : Output) (fault : Option Told) (first_after : A)
     (second_after : Option B) (grown : Output) where
   pub all_own : (G F S : Type 0) (chromosomes : Result (Option GenomeTable) Fault) → MatchResult chromosomes (λ _. ⊤) (λ fault. TellsOwnReads G ⊥ ⊥ (Some (told fault)))

@@ -165,7 +165,7 @@ module _ {A B X Y U V : Type 0} (making : Making X Y) (pair : Pair A B X Y U V) 
         rw (← is) (needed (member_items near.given_first) (member_items given_on.0) asks.past b.0 (text_lines two) read.count asks.reached b.2.members) in
         record { handed = handed.0; consumed = handed.1; read = omega (arith, handed.2, least) }
 
-    -- the end of the first input wasn't told, or not all of its lines were passed
+    -- the end of the first input wasn't reported, or not all of its lines were consumed
     no_end : HasNoMore pair first count → IsWithin (pair.a_end one_after) one (suc count) → ⊥
     no_end all (inl open_end) = absurd (false≢true (sym open_end ∙ ap pair.a_end (sym ended) ∙ all.0))
     no_end all (inr within) =

@@ -33,7 +33,7 @@ begins_more : {A : Type 0} (old : Good A) (now : Option (Good A)) (past : List (
 begins_more old None past m come first = absurd come
 begins_more old (Some now) past m come first = (first.0, come.0 ∙ ap (λ l. past ++ l) first.1 ∙ sym (append_assoc past (m ∷ []) first.0))
 
--- the members that were passed and the one ahead come first
+-- the members that were consumed and the one ahead come first
 seen_begins : {S A State : Type 0} (left : S → Option (List ℕ)) (old : Option (Good A)) (now : MemberReader S A State) (past : List (Member A)) (o : Option (Member A)) → ahead_in now ≡ o
     → ComeFirst old past (good_coming left now)
     → (IsSome old → (m : Member A) → ahead_in now ≡ Some m → IfSome (good_coming left now) (λ good. (rest : List (Member A)) × (good.members ≡ m ∷ rest)))

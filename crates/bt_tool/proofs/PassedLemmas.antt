@@ -1,4 +1,4 @@
--- Lemmas on what a reader of records has passed, in an order of the chromosomes.
+-- Lemmas on what a reader of records has consumed, in an order of the chromosomes.
 use Rattle.std.proofs.Common.{◌≡◌, ℕ, suc, ◌+◌, ◌<◌, Bool, true, false, List, [], ◌∷◌, ◌++◌, length, take, drop, Option, None, Some, Result, Ok, Err, refl, sym, ap, ◌∙◌, subst, append_assoc, append-nil, arith}
 use Rattle.std.specs.Prelude.{IfSome, IsTrue, map, option_map}
 use Rattle.std.specs.Option.{ForSome}
@@ -98,9 +98,9 @@ pub taken_reads : {S A State : Type 0} (IsRead : S → Option ℕ → S → Type
 taken_reads IsRead left failed end old taken new has =
     counts_none IsRead (source_of old.below) (source_of new.below) (bytes_taken old.below) (bytes_taken new.below) has.takes.source (omega (arith, has.takes.hands.counted))
 
--- ---- the order of records that were passed
+-- ---- the order of records that were consumed
 
--- what is asked of the last place is asked of the last record's
+-- what is required of the last place is required of the last record's
 last_up_to : (last : Option Interval) (P : Locus → Type 0) → IfSome (option_map locus_of last) P → IfSome last (λ r. P (locus_of r))
 last_up_to None P h = tt
 last_up_to (Some r) P h = h

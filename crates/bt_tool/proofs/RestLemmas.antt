@@ -79,7 +79,7 @@ module _ {S A State : Type 0} (left : S → Option (List ℕ)) (failed end : S �
           all = passes_all left failed end old (past ++ was.0) now was.1 new over;
         }
 
-    -- the member that was ahead at first was passed
+    -- the member that was ahead at first was consumed
     low_ahead : (new : MemberReader S A State) → lines_given now.below ≤ lines_given new.below → now.buffered ≡ [] → (o : Option (Member A)) → ahead_in before ≡ o → (past : List (Member A)) → All (λ m. m.line ≤ lines_given new.below) past
         → All (λ m. m.line ≤ lines_given new.below) (past ++ option_to_list o)
     low_ahead new up none None e past low = subst (λ (l : List (Member A)). All (λ m. m.line ≤ lines_given new.below) l) (sym (append-nil past)) low

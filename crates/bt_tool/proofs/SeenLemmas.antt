@@ -29,7 +29,7 @@ pub if_known : {T : Type 0} (o : Option T) (P : Type 0) → (IsSome o → P) →
 if_known None P h = tt
 if_known (Some x) P h = h refl
 
--- the records seen are those that were passed and the one ahead
+-- the records seen are those that were consumed and the one ahead
 pub seen_items : {A : Type 0} (past : List (Member A)) (o : Option (Member A)) → member_items (past ++ option_to_list o) ≡ member_items past ++ option_to_list (option_map (λ m. m.item) o)
 seen_items past None = map-append (λ m. m.item) past []
 seen_items past (Some m) = map-append (λ m. m.item) past (m ∷ [])

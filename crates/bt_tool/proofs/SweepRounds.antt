@@ -1,4 +1,4 @@
--- Lemmas on the rounds of a sweep over two readers: how far each comes, what it reads, and how much is still asked for.
+-- Lemmas on the rounds of a sweep over two readers: how far each comes, what it reads, and how much is still wanted.
 use Rattle.std.proofs.Common.{◌≡◌, ℕ, zero, suc, ◌+◌, ◌*◌, ◌≤◌, ◌<◌, Bool, true, false, List, [], length, length-append, Option, None, Some, Ok, Err, refl, sym, ap, ◌∙◌, subst, arith, inl, inr, option_to_list}
 use Rattle.std.specs.Prelude.{◌⊎◌, is_some}
 use Rattle.std.proofs.lemmas.Bool.{false≢true}
@@ -27,9 +27,9 @@ use Rattle.bt_tool.proofs.OwnFailureLemmas.{none_kept, told_kept}
 use Rattle.bt_tool.proofs.RestLemmas.{reads_taken, some_buffered}
 use Rattle.bt_tool.proofs.SweptLemmas.{ends_first, ends_second, fails_at_end, fails_both, fills_first, fills_second, goes_both, none_waits, over_is, placed_first, placed_second, placed_taken, stops_first, stops_second, waiting}
 
--- ---- how much is still asked for
+-- ---- how much is still wanted
 
--- a record that waits is to be written, and then the first input is asked for
+-- a record that waits is to be written, and then the first input is wanted
 abbrev pub asks : Bool → Bool → ℕ
 asks true done = 2
 asks false true = 0
@@ -277,7 +277,7 @@ module _ {A B O : Type 0} {g : Ghosts O} (a_left : A → Option (List ℕ)) (a_f
   still_done new_first new_second swept later gives =
       done_at new_first new_second swept later (subst (λ (o : Order). GivesBoth a_left a_failed a_end ReadsA b_left b_failed b_end ReadsB o first second sweep grown new_first new_second swept later) is_order gives)
 
-  -- ---- a round makes what is asked for less
+  -- ---- a round leaves less to be wanted
 
   module _ (mid_first new_first : Records A O g) (mid_second new_second : Records B O g) (mid swept : Sweeping) (before later : Output) (f : Filled mid_first mid_second mid before)
       (gives : GivesBoth a_left a_failed a_end ReadsA b_left b_failed b_end ReadsB order mid_first mid_second mid before new_first new_second swept later) (same_done : is_done swept.phase ≡ is_done mid.phase) where

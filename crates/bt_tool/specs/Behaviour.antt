@@ -32,7 +32,7 @@ use Rattle.bt_tool.specs.declared.plan_type.Command.TheVariants.{Merge, Compleme
 use Rattle.bt_tool.specs.declared.plan_type.Command.TheVariants.{Subtract, Coverage, BamToBed}
 use Rattle.bt_tool.specs.declared.plan_type.Command.TheVariants.{MaskFasta}
 
--- what a command does; a second input that it doesn't have isn't looked at
+-- what a command does; a second input that it doesn't have isn't read
 pub record Behaviour : Type 1 where
   -- the report on what the inputs hand over
   pub report : Handed → Option Handed → Report

@@ -1,4 +1,4 @@
--- The report on the alignments of a SAM input: the bytes written and the fault told.
+-- The report on the alignments of a SAM input: the bytes written and the fault reported.
 use Rattle.std.specs.Prelude.{ℕ, Bool, List, flat_map}
 use Rattle.bt_lines.specs.Handed.{Handed}
 use Rattle.bt_lines.specs.Lines.{TextLine}

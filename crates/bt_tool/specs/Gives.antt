@@ -62,7 +62,7 @@ module _ {G A B K : Type 0} (g_left : G → Option (List ℕ)) (g_failed : G →
   pub record Runs (command : Command) (genome : Option G) (first : A) (second : Option B) (out : K)
       (fault : Option Told) (genome_after : Option G) (first_after : A) (second_after : Option B)
       (out_after : K) : Type 0 where
-    -- If the devices tell their bytes, the sink serves and no growth is refused: the fault told
+    -- If the devices tell their bytes, the sink works and no growth is refused: the fault reported
     -- and the bytes written are those of the report on what the inputs handed over, also if a
     -- read failed or an input passes 2^63 - 1 bytes.
     pub whole : (inputs : Inputs) (before : List ℕ)
@@ -111,7 +111,7 @@ module _ {G A B K : Type 0} (g_left : G → Option (List ℕ)) (g_failed : G →
         → (first_after ≡ first) × (second_after ≡ second)
     -- What the fault may be, whatever the devices do: one that a line of an input can have (without
     -- a genome file none of it, and no unknown chromosome), a failed read only if its source
-    -- failed or may have passed the bound, a failed write only if the sink failed, or want of
+    -- failed or may have passed the bound, a failed write only if the sink failed, or running out of
     -- memory. That a failed read is of this run, whatever its source did before, `run` says beside
     -- this, by `TellsOwnReads` of `OwnReads`.
     pub named : (told : Told) → fault ≡ Some told

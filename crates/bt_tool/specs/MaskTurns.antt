@@ -1,4 +1,4 @@
--- What a loop of masking does in one turn, and how much is still asked for.
+-- What a loop of masking does in one round, and how much is still wanted.
 use Rattle.std.specs.Prelude.{◌≡◌, ◌⊎◌, ℕ, ◌+◌, ◌*◌, ◌<◌, ◌≤◌, Bool, true, false, List, Option, Some, is_some, length, Result, Ok, Err}
 use Rattle.bt_lines.specs.Fault.{Told}
 use Rattle.bt_lines.specs.Names.{told}
@@ -16,7 +16,7 @@ use Rattle.bt_seq.specs.declared.mask_want.MaskWant.TheVariants.{Line as WantLin
 use Rattle.bt_tool.specs.MaskLoop.{MaskEnds, MaskRun, Masks, line_members, nothing_reached}
 use Rattle.bt_tool.specs.Passed.{IsKeptBelow}
 
--- what is still to be asked: a line that waits is to be written, then lines come, then records alone
+-- what is still to be wanted: a line that waits is to be written, then lines come, then records alone
 abbrev pub asks : Bool → MaskWant → ℕ
 asks waits WantLine = 2
 asks true WantBed = 3
@@ -29,7 +29,7 @@ abbrev pub left_to_ask : {A B : Type 0} → LineReader A → MemberReader B Feat
 left_to_ask lines second mask =
     4 * (line_room lines + room second) + asks (is_some mask.waiting) mask.want
 
--- what is asked for is buffered
+-- what is wanted is buffered
 abbrev pub IsThere : {A B : Type 0} → MaskWant → LineReader A
     → MemberReader B Feature (Option Locus) → Type 0
 IsThere WantLine lines second = 0 < length (buffered_bytes lines)
@@ -61,7 +61,7 @@ module _ {A B : Type 0} (a_left : A → Option (List ℕ)) (a_failed a_end : A �
 
   module _ (old : LineReader A) (old_second : MemberReader B Feature (Option Locus))
       (old_mask : Masking) where
-    -- what is asked for was made buffered, or the end of that input was given
+    -- what is wanted was made buffered, or the end of that input was given
     abbrev pub Fills : Result Bool Fault → LineReader A → MemberReader B Feature (Option Locus)
         → Masking → Output → Type 0
     Fills (Ok true) lines second mask grown = GoesOn lines second mask grown
@@ -72,7 +72,7 @@ module _ {A B : Type 0} (a_left : A → Option (List ℕ)) (a_failed a_end : A �
         GoesOn lines second mask grown × (mask.want ≡ Nothing)
     Fills (Err fault) lines second mask grown = Ends (Some (told fault)) lines second grown
 
-    -- what is buffered was given, as far as it is asked for
+    -- what is buffered was given, as far as it is wanted
     abbrev pub Gives : {T : Type 0} → Result T Fault → LineReader A
         → MemberReader B Feature (Option Locus) → Masking → Output → Type 0
     Gives (Ok done) lines second mask grown = GoesOn lines second mask grown

@@ -12,7 +12,7 @@ abbrev pub LongestDivisionIsUnique : Type 0
 LongestDivisionIsUnique = (table : Table) (words : List Word) (items : List Item)
     → IsLongestDivision table words items ↔ (items ≡ items_of table words)
 
--- there is one answer to a list of words, the one that is given
+-- there is one result for a list of words, the one that is given
 abbrev pub AnswerIsUnique : Type 0
 AnswerIsUnique = (words : List Word) (answer : Result PlanSeen Usage)
     → AnswersAll words answer ↔ (answer ≡ options words)

@@ -262,7 +262,7 @@ options words = elim (command_of words) [
   | Some tool ↦ asked tool (drop 1 words)
 ]
 
--- the answer to the words after a command, by the items of their longest division
+-- the result for the words after a command, by the items of their longest division
 pub record AnswersPlan (tool : Tool) (words : List Word) (answer : Result PlanSeen Usage)
     : Type 0 where
   pub items : List Item
@@ -272,7 +272,7 @@ pub record AnswersPlan (tool : Tool) (words : List Word) (answer : Result PlanSe
   pub all_divided : fault_past (table_of tool) 1 items words ≡ None
       → answer ≡ checked tool items
 
--- the answer to all the words
+-- the result for all the words
 abbrev pub AnswersAll : List Word → Result PlanSeen Usage → Type 0
 AnswersAll words answer =
     MatchOption (command_of words) (answer ≡ Err no_command)

@@ -34,7 +34,7 @@ pub record Follows {X Y : Type 0} (old : Stage X Y) (firsts newly : List X) (sec
   pub first_is : new.first_ended ≡ old.first_ended
   pub second_is : new.second_ended ≡ old.second_ended
 
--- a reader that had passed some members passed more of them, and read nothing
+-- a reader that had consumed some members consumed more of them, and read nothing
 pub record TakesFurther {S A State : Type 0} (left : S → Option (List ℕ)) (failed end : S → Bool)
     (old : MemberReader S A State) (past more : List (Member A))
     (now new : MemberReader S A State) : Type 0 where

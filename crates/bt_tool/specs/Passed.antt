@@ -1,4 +1,4 @@
--- What a reader of members has passed, and why it stops.
+-- What a reader of members has consumed, and why it stops.
 use Rattle.std.specs.Prelude.{◌≡◌, ℕ, suc, ◌+◌, ◌^◌, ◌<◌, ◌≤◌, ◌⊎◌, ⊤, All, Bool, true, List, []}
 use Rattle.std.specs.Prelude.{◌∷◌, ◌++◌, drop, length, map, Option, Some, None, IfSome, IsSome}
 use Rattle.bt_lines.specs.Fault.{Told, read_failed, no_memory}
@@ -83,7 +83,7 @@ module _ {S A State : Type 0} (left : S → Option (List ℕ)) (failed end : S �
     pub kept : IsKept left end old.below → IsKept left end new.below
 
   module _ (old : MemberReader S A State) where
-    -- these members were passed, and more may be buffered
+    -- these members were consumed, and more may be buffered
     pub record Passes (past : List (Member A)) (now : MemberReader S A State) : Type 0 where
       pub format : now.format ≡ old.format
       pub bytes : (bytes : List ℕ) × Hands left old.below bytes now.below

@@ -1,4 +1,4 @@
--- The report on the members of one input: the bytes written and the fault told.
+-- The report on the members of one input: the bytes written and the fault reported.
 use Rattle.std.specs.Prelude.{ℕ, List, Option, Some, None}
 use Rattle.bt_lines.specs.Fault.{Told}
 use Rattle.bt_lines.specs.Handed.{Handed}

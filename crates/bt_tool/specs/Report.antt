@@ -1,4 +1,4 @@
--- What a run gives: the bytes written, the fault told and the exit status, from the words of the
+-- What a run gives: the bytes written, the fault reported and the exit status, from the words of the
 -- command line and what its inputs hand over.
 use Rattle.std.specs.Prelude.{◌≡◌, ℕ, List, [], Option, Some, None, Result, Ok, Err}
 use Rattle.std.specs.Prelude.{option_map, unwrap_or}

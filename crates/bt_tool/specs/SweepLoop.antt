@@ -126,7 +126,7 @@ module _ {A B O : Type 0} {g : Ghosts O} (a_left : A → Option (List ℕ)) (a_f
 
 module _ {S A State : Type 0} (left : S → Option (List ℕ)) (failed end : S → Bool)
     (old : MemberReader S A State) (past : List (Member A)) (before : MemberReader S A State) where
-  -- the rest of the members were passed
+  -- the rest of the members were consumed
   pub record ChecksAll (new : MemberReader S A State) : Type 0 where
     pub more : List (Member A)
     pub passes : Passes left failed end old (past ++ more) new
@@ -137,7 +137,7 @@ module _ {S A State : Type 0} (left : S → Option (List ℕ)) (failed end : S �
       (new : MemberReader S A State) : Type 0 where
     pub more : List (Member A)
     pub stops : StopsAfter left failed end old Kinds (past ++ more) fault new
-    -- those that were passed and the one ahead are on the lines given
+    -- those that were consumed and the one ahead are on the lines given
     pub low : All (λ m. m.line ≤ lines_given new.below) (past ++ option_to_list (ahead_in before))
     pub before_end : end_told before.below ≡ true → (input : Input) (line : ℕ)
         → fault ≡ read_failed input line → ⊥
@@ -168,7 +168,7 @@ module _ {S A State : Type 0} (left : S → Option (List ℕ)) (failed end : S �
   pub record IsReadOn : Type 0 where
     pub bytes : (bytes : List ℕ) × Hands left before.below bytes now.below
     pub rises : lines_given before.below ≤ lines_given now.below
-    -- the member that was ahead is passed, if any is
+    -- the member that was ahead is consumed, if any is
     pub moves : (now ≡ before) ⊎ (lines_given before.below < lines_given now.below)
     pub going : before.fault ≡ None → now.fault ≡ None
     pub passes : (old : MemberReader S A State) (past : List (Member A))

@@ -48,7 +48,7 @@ TellsInputIf left failed Kinds input (Some before) (Some after) fault =
     TellsInput left failed Kinds input before after fault
 TellsInputIf left failed Kinds input _ _ fault = ⊥
 
--- a fault of the output, told only if the sink failed, or of memory
+-- a fault of the output, reported only if the sink failed, or of memory
 abbrev pub TellsDevice : Bool → Told → Type 0
 TellsDevice sink_failed fault =
     ((fault ≡ write_failed) × (sink_failed ≡ true)) ⊎ (fault ≡ no_memory)
@@ -61,7 +61,7 @@ IsPutTo size put = (bytes : List ℕ) × (put ≡ Some bytes) × (size ≤ lengt
 abbrev pub IsFaultButWrite : Option Told → Type 0
 IsFaultButWrite fault = (fault ≢ None) × (fault ≢ Some write_failed)
 
--- the end of an input wasn't told, or its text has an n-th line
+-- the end of an input wasn't reported, or its text has an n-th line
 abbrev pub IsWithin : Bool → List ℕ → ℕ → Type 0
 IsWithin told text n = (told ≡ false) ⊎ (n ≤ length (text_lines text))
 

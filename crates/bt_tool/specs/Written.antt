@@ -20,7 +20,7 @@ pub record Written (A : Type 0) : Type 0 where
   pub whole : List A → List ℕ
   pub settled : List A → List ℕ
 
--- the merged runs, chromosomes in order, and those that the last record has passed
+-- the merged runs, chromosomes in order, and those that the last record closes
 abbrev pub pooled_written : Order → ℕ → MergeStrand → Written Feature
 pooled_written order d strand = record {
   whole = λ records. interval_lines (ordered_runs order d strand records);

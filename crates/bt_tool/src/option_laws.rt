@@ -1,4 +1,4 @@
-//! What holds of every command line, and the answers to some. These functions do nothing: they
+//! What holds of every command line, and the results of some. These functions do nothing: they
 //! carry facts on which their callers may rely.
 
 ghost use Rattle.std.specs.Prelude.{◌≡◌, true, false, Ok, Err, Some, None, [], ◌∷◌, codes};

@@ -27,7 +27,7 @@ impl Outcome {
     }
 
     /// The line that reports the fault, if there is one, with the names of the plan's inputs. A name that
-    /// the plan lacks is empty. `Err` if memory runs out; none is taken if there is no fault.
+    /// the plan lacks is empty. `Err` if memory runs out; without a fault it doesn't allocate.
     pub fn fault_line(&self, alloc: Global, plan: &Plan) -> Result<Option<Vec<u8>>, AllocError>
         ensures line { IfOk result (λ line. option_map (λ line. line.items) line
             ≡ option_map (λ fault. fault_text (plan_seen plan.now) (told fault)) self.now.fault) }

@@ -342,7 +342,7 @@ pub(crate) fn run_both(
     })
 }
 
-// The line that an answer reports, or an empty one.
+// The line that a result reports, or an empty one.
 pub(crate) fn line_of(answer: &Answer) -> &[u8] {
     match &answer.line {
         Some(line) => line.as_slice(),
@@ -350,7 +350,7 @@ pub(crate) fn line_of(answer: &Answer) -> &[u8] {
     }
 }
 
-// An answer has to be this output and this line, an empty one for none, with the status of that.
+// A result has to be this output and this line, an empty one for none, with the status of that.
 pub(crate) fn expect(rt: &impl Abort, answer: &Answer, output: &[u8], line: &[u8], name: &str) {
     assert_eq!(rt; answer.output.as_slice(), output, "{name}");
     assert_eq!(rt; line_of(answer), line, "{name}");

@@ -12,7 +12,7 @@ fn is_it(bed: BedRef<'_>, want: Found) -> bool {
     bed.chrom == want.1 && bed.start == want.2 && bed.stop == want.3
 }
 
-// Whether the record ahead is this one, also if it is asked for again. It is passed then.
+// Whether the record ahead is this one, also at a second `peek`. It is consumed then.
 fn gives<S: Source>(blocks: &mut Blocks<S>, want: Found) -> bool {
     let is_first = match blocks.peek() {
         Ok(Some(bed)) => is_it(bed, want),

@@ -26,7 +26,7 @@ fn seen(genome: &Genome, line: u64, bed: BedRef<'_>) -> Found {
     (line, genome.rank(bed.chrom), bed.start, bed.stop)
 }
 
-// The records that are left, each if it is given again as it was, and the fault.
+// The records that are left, each only if a second `peek` gives the same, and the fault.
 fn collect<S: Source>(
     alloc: Global,
     genome: &Genome,

@@ -126,7 +126,7 @@ fn give_next_bed(
     Ok(())
 }
 
-// Gives what is asked for, and says whether something was.
+// Gives what is wanted, and returns true if something was.
 fn give_next(
     mask: &mut Mask,
     lines: &mut LineReader<ScriptSource<'_>>,
@@ -159,7 +159,7 @@ fn drive(
     Ok(())
 }
 
-// The same, and flushes the output after each turn.
+// The same, and flushes the output after each round.
 fn drive_flushed(
     mask: &mut Mask,
     lines: &mut LineReader<ScriptSource<'_>>,
@@ -310,7 +310,7 @@ fn give_line(mask: &mut Mask, text: &[u8], out: &mut Out<ScriptSink>) -> bool {
     }
 }
 
-// Whether the record of this line is taken, if one is asked for.
+// Whether the record of this line is taken, if one is wanted.
 fn takes(mask: &mut Mask, line: &[u8], out: &mut Out<ScriptSink>) -> Option<bool> {
     let Ok(Some(bed)) = parse_bed(line) else {
         return None;
@@ -481,7 +481,7 @@ fn advance(
     Ok(!record.is_empty())
 }
 
-// Gives what is asked for, all lines and a record at a time.
+// Gives what is wanted, all lines and a record at a time.
 fn drive_buffered(
     mask: &mut Mask,
     lines: &mut BufferedLines<'_>,

@@ -45,7 +45,7 @@ fn any_overlap<O: ChromOrder>(alloc: Global, shape: Shape, order: &O) -> Sweep<'
     )
 }
 
-// Gives a record of the first input. None: it isn't asked for.
+// Gives a record of the first input. None: it isn't wanted.
 fn give_first<H: Held, O: ChromOrder, K: Sink>(
     sweep: &mut Sweep<'_, H, O>,
     line: &[u8],
@@ -63,7 +63,7 @@ fn give_first<H: Held, O: ChromOrder, K: Sink>(
     }
 }
 
-// Gives a record of the second input, as that of its first line. None: it isn't asked for.
+// Gives a record of the second input, as that of its first line. None: it isn't wanted.
 fn give_second<H: Held, O: ChromOrder, K: Sink>(
     sweep: &mut Sweep<'_, H, O>,
     line: &[u8],
@@ -72,7 +72,7 @@ fn give_second<H: Held, O: ChromOrder, K: Sink>(
     give_second_at(sweep, 1, line, out)
 }
 
-// Gives a record of the second input, as that of the line of this number. None: it isn't asked for.
+// Gives a record of the second input, as that of the line of this number. None: it isn't wanted.
 fn give_second_at<H: Held, O: ChromOrder, K: Sink>(
     sweep: &mut Sweep<'_, H, O>,
     number: u64,
@@ -91,7 +91,7 @@ fn give_second_at<H: Held, O: ChromOrder, K: Sink>(
     }
 }
 
-// Gives the end of the second input. None: it isn't asked for.
+// Gives the end of the second input. None: it isn't wanted.
 fn end_second<H: Held, O: ChromOrder, K: Sink>(
     sweep: &mut Sweep<'_, H, O>,
     out: &mut Out<K>,
@@ -102,7 +102,7 @@ fn end_second<H: Held, O: ChromOrder, K: Sink>(
     }
 }
 
-// Gives the end of the first input, if it is asked for.
+// Gives the end of the first input, if it is wanted.
 fn end_first<H: Held, O: ChromOrder>(sweep: &mut Sweep<'_, H, O>) {
     match sweep.want() {
         Want::A => sweep.end_a(),
@@ -110,8 +110,8 @@ fn end_first<H: Held, O: ChromOrder>(sweep: &mut Sweep<'_, H, O>) {
     }
 }
 
-// Gives the line that comes next of the first input, or gives its end, and answers how many lines it
-// took. An error is a fault, or none if the record isn't asked for.
+// Gives the line that comes next of the first input, or gives its end, and returns how many lines it
+// took. An error is a fault, or none if the record isn't wanted.
 fn go_on_first<H: Held, O: ChromOrder, K: Sink>(
     sweep: &mut Sweep<'_, H, O>,
     line: Option<&&[u8]>,

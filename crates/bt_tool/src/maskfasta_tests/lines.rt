@@ -248,7 +248,7 @@ fn on_first_base(alloc: Global, index: u64) -> Result<String, AllocError> {
     format!(in alloc; "s\t{}\t{}\n", start, start + 1)
 }
 
-// Lines that stay are passed several at once, up to the end of a block, a line that ends otherwise, or the
+// Lines that stay are copied through several at once, up to the end of a block, a line that ends otherwise, or the
 // record.
 #[test]
 fn a_record_behind_several_blocks(rt: HostRuntime) -> Result<(), Fail> {

@@ -125,7 +125,7 @@ fn found_in<O: ChromOrder>(
 }
 
 // Small inputs in all shapes, by rules of fractions and strands. The plain program tries all positions
-// up to a record's end for its pieces, so it isn't asked for those at the greatest positions.
+// up to a record's end for its pieces, so it isn't run on those at the greatest positions.
 #[test]
 fn small_inputs_give_what_the_plain_program_gives(rt: HostRuntime) -> Result<(), Fail> {
     let Ok(genome) = read_genome(rt.alloc()) else {

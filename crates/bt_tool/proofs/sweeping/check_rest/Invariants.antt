@@ -3,7 +3,7 @@ use Rattle.bt_bed.specs.Records.{below, room, view_of}
 use Rattle.bt_tool.specs.SweepLoop.{IsReadOn}
 use Rattle.bt_tool.proofs.sweeping.check_rest.Given as goal
 
--- the records so far were passed
+-- the records so far were consumed
 abbrev pub invariant-loop-second : goal.invariant-loop-second
 invariant-loop-second g l =
     IsReadOn g.B.Source.left g.B.Source.has_failed g.B.Source.end_told (view_of l.initial.second) (view_of l.second)
