@@ -1,8 +1,9 @@
 #!/usr/bin/env python3
-"""Checks that the wrong bodies of must-fail/ and mutants/ still fit the code, and prints a line for each problem.
+"""Checks that the wrong bodies of must-fail/ and mutants/ fit the code, and prints a line for each problem.
 
-Each edit names a file of its crate, and pairs of lines 'old: TEXT' and 'new: TEXT'. The file exists, each old TEXT occurs in
-it exactly once, the new TEXT differs from it, and no two edits of a crate make the same change.
+An edit has lines 'file: NAME', and after each of them pairs of lines 'old: TEXT' and 'new: TEXT'. The file exists in the
+edit's crate, each old TEXT occurs in it exactly once, the new TEXT is another, and no two edits of a crate make the same
+change.
 """
 import sys
 from pathlib import Path
@@ -10,9 +11,9 @@ from pathlib import Path
 CRATES = Path(__file__).resolve().parent.parent / "crates"
 
 
-def read_edit(path):
-    """The file that an edit names, if any, and its pairs of texts."""
-    name, pairs, old = None, [], None
+def changes_of(path):
+    """The changes of an edit: file, old text, new text."""
+    changes, name, old = [], None, None
     for line in path.read_text().splitlines():
         word, _, text = line.partition(": ")
         if word == "file":
@@ -20,45 +21,42 @@ def read_edit(path):
         elif word == "old":
             old = text
         elif word == "new" and old is not None:
-            pairs.append((old, text))
+            changes.append((name, old, text))
             old = None
-    return name, pairs
+    return changes
 
 
 def problems_of(crate, path, seen):
-    """What is wrong with one edit, where `seen` has the changes of the others."""
-    name, pairs = read_edit(path)
-    if name is None or not pairs:
-        return ["no file or no change"]
-    if not (crate / name).is_file():
-        return [f"no file {name}"]
-    source = (crate / name).read_text()
-    found = []
-    for old, new in pairs:
-        count = source.count(old)
-        if count != 1:
+    """What is wrong with one edit. `seen` has the changes of the crate's other edits."""
+    changes = changes_of(path)
+    found = [] if changes else ["no change"]
+    for name, old, new in changes:
+        source = crate / name if name else None
+        if source is None or not source.is_file():
+            found.append(f"no file {name}")
+        elif (count := source.read_text().count(old)) != 1:
             found.append(f"{name} has {count} times: {old.strip()}")
         if old == new:
             found.append(f"changes nothing: {old.strip()}")
-    change = (name, tuple((old.strip(), new.strip()) for old, new in pairs))
-    if change in seen:
-        found.append(f"the same change as {seen[change]}")
-    seen.setdefault(change, path.relative_to(crate))
+    key = tuple((name, old.strip(), new.strip()) for name, old, new in changes)
+    if key in seen:
+        found.append(f"the same change as {seen[key]}")
+    seen.setdefault(key, path.relative_to(crate))
     return found
 
 
 def main():
-    count = bad = 0
+    count, problems = 0, []
     for crate in sorted(CRATES.iterdir()):
         seen = {}
-        for folder in ("must-fail", "mutants"):
-            for path in sorted((crate / folder).glob("*.edit")):
-                count += 1
-                for problem in problems_of(crate, path, seen):
-                    print(f"{path.relative_to(CRATES.parent)}: {problem}")
-                    bad += 1
-    print(f"edits.py: {count} wrong bodies, {bad} problems")
-    sys.exit(1 if bad or not count else 0)
+        for path in sorted(crate.glob("must-fail/*.edit")) + sorted(crate.glob("mutants/*.edit")):
+            count += 1
+            problems += [f"{path.relative_to(CRATES.parent)}: {problem}" for problem in problems_of(crate, path, seen)]
+    for problem in problems:
+        print(problem)
+    print(f"{count} wrong bodies, {len(problems)} problems")
+    return 1 if problems or not count else 0
 
 
-main()
+if __name__ == "__main__":
+    sys.exit(main())

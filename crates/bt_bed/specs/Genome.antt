@@ -1,5 +1,5 @@
--- The chromosomes of a genome file, in its order: a name, a tab and a length on each line, other
--- columns ignored, so that an index of samtools faidx is one too. Blank lines and lines that begin
+-- The chromosomes of a genome file, in its order: a name, a tab and a length on each line. Other
+-- columns are ignored, so that an index of samtools faidx is one too. Blank lines and lines that begin
 -- with `#` are skipped (bedtools manual, genome file format).
 use Rattle.std.specs.Prelude.{◌≡◌, ℕ, Bool, true, ◌==◌, IfErr, List, [], ◌∷◌, ◌++◌, map, take}
 use Rattle.std.specs.Prelude.{Option, Some, None, Result, Ok, Err, if◌then◌else◌}
@@ -83,8 +83,8 @@ genome_cut None result = result
 genome_cut (Some fault) (Ok entries) = Err fault
 genome_cut (Some fault) (Err first) = Err first
 
--- The entries of a genome file that may have been cut off: those of the lines handed over, or the
--- fault of the first line at fault, or else the failed read after them.
+-- The entries of a genome file that may have been cut off: those of the lines handed over. Instead it
+-- is the fault of the first line at fault, or else the failed read after them.
 abbrev pub genome_handed : Input → Handed → Result (List Entry) Told
 genome_handed input handed = genome_cut (cut_fault input handed)
     (genome_of input (lines_handed handed))

@@ -69,8 +69,8 @@ or_else (Some fault) other = Some fault
 abbrev pub cut_by : {A : Type 0} → Option Told → Good A → Good A
 cut_by fault good = record { members = good.members; fault = or_else good.fault fault }
 
--- What is good of an input that may have been cut off: the good members of the lines handed over,
--- and after them the failed read, if none of these lines is at fault.
+-- What is good of an input that may have been cut off: the good members of the lines handed over.
+-- The failed read comes after them, if none of these lines is at fault.
 abbrev pub good_handed : {A State : Type 0} → Format A State → Input → Handed → Good A
 good_handed format input handed =
     cut_by (cut_fault input handed) (good format input (lines_handed handed))

@@ -87,9 +87,9 @@ module _ {S : Type 0} where
     -- the complete lines among the bytes taken in the call are those that were given
     pub cut : IsKept left end old → CutsOff left old new
 
-  -- A failed read is reported for the first time only if a read of this call failed, whatever the
-  -- source did before, or if the text is too long by what its reads gave. Else all reads of the call
-  -- succeeded.
+  -- A failed read is reported for the first time only if a read of this call failed, or if the text is
+  -- too long by what its reads gave. What the source did before doesn't matter. Else all reads of the
+  -- call succeeded.
   abbrev pub TellsOwnFailure : {T : Type 0} → (S → Option ℕ → S → Type 0) → Option Told
       → LineReader S → Result T Fault → LineReader S → Type 0
   TellsOwnFailure IsRead before old (Ok done) new = HasRead IsRead old new

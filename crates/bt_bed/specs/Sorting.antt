@@ -27,8 +27,8 @@ sorting_of order = record {
 abbrev pub block_sorting : Sorting
 block_sorting = record { knows = λ name. true; comes_before = λ name other. false }
 
--- Whether a place falls below the last one, if there is one: it is on its chromosome and has a
--- smaller start, or is on a chromosome that comes before it.
+-- Whether a place falls below the last one, if there is one. It does on its chromosome with a
+-- smaller start, and on a chromosome that comes before it.
 abbrev pub falls_in : Sorting → Option Locus → Locus → Bool
 falls_in sorting None place = false
 falls_in sorting (Some last) place =

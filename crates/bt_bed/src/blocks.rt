@@ -10,9 +10,9 @@ use crate::sorted_reader::SortedReader;
 use bt_lines::{Fault, LineReader, Source};
 use std::alloc::Global;
 
-/// Reads the records of a BED input in blocks, and reports the first line at fault: one that isn't a
+/// Reads the records of a BED input in blocks. It reports the first line at fault: one that isn't a
 /// feature, or starts before the record before it on the same chromosome. A block is a maximal run of
-/// records of one chromosome; the blocks come in any order, and a chromosome may have several. Header
+/// records of one chromosome. The blocks come in any order, and a chromosome may have several. Header
 /// lines and blank lines are skipped. `fill` makes a record buffered, or the end, `buffered` borrows the records, and
 /// `consume` takes some of them.
 #[derive(Drop)]

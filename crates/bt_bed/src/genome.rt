@@ -41,8 +41,8 @@ impl Genome {
     /// are ignored, so that an index of `samtools faidx` serves too. Blank lines and lines that begin
     /// with `#` are skipped (bedtools manual, genome file format).
     ///
-    /// The first line at fault is reported, and nothing after it is read: `TooFewColumns` if it has no
-    /// second column, else `EmptyName`, else `BadLength` if the length is 0 or no number, else
+    /// The first line at fault is reported, and nothing after it is read. The fault is `TooFewColumns` if it
+    /// has no second column, else `EmptyName`, else `BadLength` if the length is 0 or no number, else
     /// `RepeatedChrom` if a line before it has the name. Running out of memory for the table comes after
     /// these, and the reader's own faults, `ReadFailed` and `NoMemory`, before. A fault that the reader
     /// had already is returned again.

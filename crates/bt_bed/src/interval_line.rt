@@ -52,7 +52,7 @@ fn hold_ended<K: Sink>(chrom: &[u8], start: u64, stop: u64, end: u8, out: &mut O
     out.hold_span(chrom, start, stop, end)
 }
 
-// Puts what `put_ended` puts by way of a text that is written beside the output, and returns true if it could: a
+// Puts what `put_ended` puts, by a text that is written beside the output, and returns true if it could. A
 // `Result` with a fault would take room in the loops that this is called from.
 #[cold]
 #[inline(never)]

@@ -87,7 +87,7 @@ pub fn ranks_give_an_order()
     ensures { ranks_are_total }
 {}
 
-/// The bytes of names give a total order of all names, in which only equal names compare as equal: a
+/// The bytes of names give a total order of all names, in which only equal names compare as equal. A
 /// name comes before the longer ones that it begins, and else the first byte that differs decides. No
 /// chromosome is unknown to it.
 pub fn bytes_give_an_order()

@@ -3,7 +3,7 @@
 //! A feature is what a line of a BED file says ([`parse_bed`]). A [`BedRef`] borrows it, and a [`Rec`]
 //! keeps it; both are written whole or in parts ([`write_bed`], [`write_cut`], [`put_bed`],
 //! [`put_cut`]). [`Records`] reads the features of sorted input in an order of the chromosomes
-//! ([`ChromOrder`]), that of a [`Genome`] or of the bytes of their names ([`ByteOrder`]), and [`Blocks`]
+//! ([`ChromOrder`]): that of a [`Genome`] or of the bytes of their names ([`ByteOrder`]). [`Blocks`] reads
 //! those of input in which only contiguous records of a chromosome are sorted. Both give the
 //! records that are buffered as a [`Batch`], and `consume` then takes what was consumed of it.
 //!

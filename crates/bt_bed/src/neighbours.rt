@@ -8,8 +8,8 @@ use crate::sorted::Sorted;
 use bt_lines::{Fault, Kind, Place, no_memory};
 use std::alloc::Global;
 
-// What the next record is checked against. The names of chromosomes are in buffers that are used again: a record on the
-// chromosome of the last one has the name of that, and another one its own in `ahead_name`, as long as it is ahead.
+// What the next record is checked against. The names of chromosomes are in buffers that are used again. A record on the
+// chromosome of the last one has the name of that. Another one has its own in `ahead_name`, as long as it is ahead.
 #[derive(Drop)]
 pub(crate) struct Neighbours<Q> {
     pub(crate) rule: Q,

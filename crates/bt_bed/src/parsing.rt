@@ -12,11 +12,11 @@ use crate::kept_strand::kept_strand;
 use crate::strand::Strand;
 use bt_lines::{Kind, columns, number};
 
-/// The feature of a line's text, or none if the line is blank or a header (UCSC BED description:
-/// columns are divided by tabs, the first base is numbered 0, and the end isn't included). `Err` has
-/// the first that applies: fewer than three columns, an empty name of a chromosome, a start or an end
-/// that isn't a number of at most twelve digits, a start that isn't below the end. It doesn't allocate,
-/// and the feature borrows from the text.
+/// The feature of a line's text, or none if the line is blank or a header. By the UCSC BED description
+/// columns are divided by tabs, the first base is numbered 0, and the end isn't included. `Err` has
+/// the first fault that applies: fewer than three columns; an empty name of a chromosome; a start or an
+/// end that isn't a number of at most twelve digits; a start that isn't below the end. It doesn't
+/// allocate, and the feature borrows from the text.
 pub fn parse_bed(text: &[u8]) -> Result<Option<BedRef<'_>>, Kind>
     ensures said { record_seen result ≡ record_of text.now }
     ensures suffix { EndsWithRest text.now result }

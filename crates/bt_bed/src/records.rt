@@ -11,7 +11,7 @@ use crate::sorted_reader::SortedReader;
 use bt_lines::{Fault, LineReader, Source};
 use std::alloc::Global;
 
-/// Reads the records of a BED input, and reports the first line at fault: one that isn't a feature, has
+/// Reads the records of a BED input, and reports the first line at fault. That is one that isn't a feature, has
 /// a chromosome that the order doesn't know, or lies below the record before it, by chromosome and
 /// then by start. Header lines and blank lines are skipped. `fill` makes a record buffered, or the end, `buffered`
 /// borrows the records, and `consume` takes some of them.

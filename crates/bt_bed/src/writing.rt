@@ -18,8 +18,8 @@ pub fn write_bed(bed: &BedRef<'_>, line: &mut Vec<u8>) -> Result<(), AllocError>
     write_cut(bed, bed.start, bed.stop, line)
 }
 
-/// Adds the line of a record as [`write_bed`] does, with this start, which is zero-based, and this end,
-/// which isn't included, instead of its own: a part of it, with its other columns. If memory
+/// Adds the line of a record as [`write_bed`] does, with this start and this end instead of its own: a part
+/// of it, with its other columns. The start is zero-based, and the end isn't included. If memory
 /// runs out, nothing is added.
 pub fn write_cut(
     bed: &BedRef<'_>,

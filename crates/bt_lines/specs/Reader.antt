@@ -222,9 +222,9 @@ module _ {S : Type 0} where
     pub read : ((input : Input) (line : ℕ) → fault ≢ Some (read_failed input line))
         → HasRead IsRead old new
 
-  -- A failed read is reported for the first time only if a read of this call failed, whatever the
-  -- source did before, or if the text is too long by what its reads gave. Else all reads of the call
-  -- succeeded.
+  -- A failed read is reported for the first time only if a read of this call failed, or if the text is
+  -- too long by what its reads gave. What the source did before doesn't matter. Else all reads of the
+  -- call succeeded.
   abbrev pub TellsOwnFailure : {A : Type 0} → (S → Option ℕ → S → Type 0) → LineReader S
       → Result A Fault → LineReader S → Type 0
   TellsOwnFailure IsRead old (Ok done) new = HasRead IsRead old new

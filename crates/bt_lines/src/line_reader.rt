@@ -31,7 +31,7 @@ pub(crate) enum State {
     NoMemory,
 }
 
-/// Reads the lines of a source, a block of bytes at a time: `fill` makes a line buffered, or the end, `buffered` borrows
+/// Reads the lines of a source, a block of bytes at a time. `fill` makes a line buffered, or the end, `buffered` borrows
 /// the lines, and `consume` takes some of them.
 #[derive(Drop)]
 pub struct LineReader<S> {
@@ -122,9 +122,9 @@ impl<S: Source> LineReader<S> {
         self.lines = consumed.lines;
     }
 
-    /// The next line, or none at the end of the text. It fails with `ReadFailed`, at the line after
-    /// the last one given, if the source failed in this call or gave more than 2^63 - 1 bytes, and
-    /// with `NoMemory` if the line's buffer can't grow. A fault is returned again, and after it and
+    /// The next line, or none at the end of the text. If the source failed in this call or gave more than
+    /// 2^63 - 1 bytes, it fails with `ReadFailed`, at the line after the last one given. If the line's
+    /// buffer can't grow, it fails with `NoMemory`. A fault is returned again, and after it and
     /// after the end nothing is read.
     #[inline(always)]
     pub fn next(&mut self) -> Result<Option<Line<'_>>, Fault>

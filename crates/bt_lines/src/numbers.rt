@@ -37,8 +37,8 @@ pub fn number(text: &[u8]) -> Option<u64>
     Some(value)
 }
 
-// Eight bytes as one number, the first in its lowest byte. The codes of the digits are 0x30 to 0x39: with 0x30
-// taken off by exclusive or they are at most 9, so that their upper halves are 0, and stay 0 when 6 is added.
+// Eight bytes as one number, the first in its lowest byte. The codes of the digits are 0x30 to 0x39. An exclusive or
+// with 0x30 leaves at most 9, so that their upper halves are 0, and stay 0 when 6 is added.
 const UPPER_HALVES: u64 = 0xf0f0_f0f0_f0f0_f0f0;
 
 const ZEROS: u64 = 0x3030_3030_3030_3030;

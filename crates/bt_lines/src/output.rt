@@ -218,7 +218,7 @@ impl<K: Sink> Out<K> {
     }
 }
 
-// Puts a piece for which there is no room after the bytes that are held back: it fills up their block,
+// Puts a piece for which there is no room after the bytes that are held back. It fills up their block,
 // which goes to the sink, as do the next full blocks of the piece. So until a flush the sink is given
 // full blocks, as long as it takes each in full.
 #[cold]

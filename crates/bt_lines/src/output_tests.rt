@@ -209,7 +209,7 @@ fn span_behind(
 // Bytes before it, a name, a start and a stop, and the line that is held, which is empty if none is.
 type SpanRow = (usize, &'static [u8], u64, u64, &'static [u8]);
 
-// Numbers of few digits and of many, names of each length that is copied otherwise, also the longest that is held, and
+// Numbers of few digits and of many, names of each length that is copied otherwise, and the longest that is held. Then
 // the last places of a block if there is room.
 const SPANS: [SpanRow; 14] = [
     (0, b"c", 0, 7, b"c\t0\t7\n"),

@@ -50,7 +50,7 @@ fn hold_pieces<K: Sink>(piece: &[u8], next: &[u8], out: &mut Out<K>) -> bool
     out.hold_short(piece, next)
 }
 
-// Puts both if there is no room for them, or one is long, and returns true if it could: a `Result` with a fault would
+// Puts both if there is no room for them, or one is long, and returns true if it could. A `Result` with a fault would
 // take room in the loops that this is called from.
 #[cold]
 #[inline(never)]

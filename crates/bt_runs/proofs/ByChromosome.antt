@@ -1,12 +1,14 @@
--- Items that come chromosome by chromosome, and are settled by the last record: those of the chromosomes before its own, and of its own those that are over by its start. Here it is proved, once for all engines, that what is settled stays, that it begins the whole, and what one more record adds.
+-- Items that come chromosome by chromosome, and are settled by the last record. Settled are those of the chromosomes before its own, and of its own those that are over by its start. Here it is proved, once for all engines, that what is settled stays, that it begins the whole, and what one more record adds.
 --
--- An engine says two things of one chromosome, in a `Form`: what its items are by the records on it (`part`), and which of them are over by the last record (`pick`). For its code it also says what it keeps while some aren't (`fresh`, `left`, `step`, `after`). A relation `At` says how the items are divided by the last start on the chromosome: those that are done, and what is kept. Then it owes three lemmas, the last fields of `Owes`:
+-- An engine says two things of one chromosome, in a `Form`. These are what its items are by the records on it (`part`), and which of them are over by the last record (`pick`).
+-- For its code it also says what it keeps while some aren't (`fresh`, `left`, `step`, `after`). A relation `At` says how the items are divided by the last start on the chromosome: those that are done, and what is kept. Then it owes three lemmas, the last fields of `Owes`:
 -- 1. `none`: a chromosome without records has its known items (`bare`), and nothing is done on it.
 -- 2. `next`: one more record on it, at or after the last start, adds to what is done what the step settles, and leaves what the step keeps.
 -- 3. `divides`: the items are those that are done and those that are left; by the last start all of the first are over, and none of the others.
 -- The other fields are a line each: a record elsewhere changes no item. On the chromosomes before the last record's all items are over, and on those after it none. `Written` and `Ordered` say that the definitions of the whole and of what is settled go by these parts, in an order of chromosomes.
 --
--- It is given: what one more record settles and what is kept then, on the same chromosome or a later one (`goes_first`, `goes_on`, `goes_to`), which is what `feed` has to do; what is left for `finish` (`whole_left`); and `Settles` (`settling`), from which settled items stay and begin the whole (`SettlingLemmas`). `MergeForm`, `ComplementForm` and `CoverageForm` are the engines' forms; `SettledRuns` is what merge takes from here, and `Walks` what the two others do.
+-- It is given what one more record settles and what is kept then, on the same chromosome or a later one (`goes_first`, `goes_on`, `goes_to`). That is what `feed` has to do. It is also given what is left for `finish` (`whole_left`), and `Settles` (`settling`), from which settled items stay and begin the whole (`SettlingLemmas`).
+-- `MergeForm`, `ComplementForm` and `CoverageForm` are the engines' forms. Merge takes `SettledRuns` from here, and the two others take `Walks`.
 use Rattle.std.proofs.Common.{◌≡◌, ◌⊎◌, ℕ, ◌<◌, ◌≤◌, inl, inr, List, [], ◌∷◌, ◌++◌, append_assoc, append-nil, refl, sym, ap, ap₂, ◌∙◌, subst, arith, length, length-append, map, filter, flat_map, Bool, true, false, bytes_eq, Some}
 use Rattle.std.specs.Prelude.{⊤}
 use Rattle.std.proofs.lemmas.Bool.{or_parts}
@@ -43,7 +45,7 @@ pub record Form (K T S : Type 0) : Type 0 where
   pub step : K → S → Feature → List T
   pub after : K → S → Feature → S
 
--- what is picked of two lists: all of the first and what is picked of the second, if all of the first is picked; and nothing, if nothing is of either
+-- what is picked of two lists: if all of the first is picked, that and what is picked of the second; if nothing is of either, nothing
 pub record Picks {T : Type 0} (pick : List T → List T) : Type 0 where
   pub nothing : pick [] ≡ []
   pub all : (xs ys : List T) → pick xs ≡ xs → pick (xs ++ ys) ≡ xs ++ pick ys

@@ -17,7 +17,7 @@ use Rattle.bt_runs.proofs.StrandSettling.{no_strand_runs}
 use Rattle.bt_runs.specs.Stranding as strands
 use Rattle.bt_runs.specs.declared.rule.Ruled.{Ruled}
 
--- a merge of one kind: it is after records only if it began as one of that kind, and all that is said of the engine inside it holds of the merge
+-- A merge of one kind is after records only if it began as one of that kind. All that is said of the engine inside it holds of the merge.
 module _ {E : Type 0} (merge : E → Merging) (only : (first : Merging) (past : List Feature) (old : E) → stands_after first past (merge old) → (inner : E) × (merge inner ≡ first)) (old : E) where
   abbrev MayTake : E → List Feature → Type 0
   MayTake first past = may_take (merge first) past

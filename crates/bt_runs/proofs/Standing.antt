@@ -1,4 +1,4 @@
--- Chromosomes in an order, each once: where a name is found among them, and which of them records in that order have reached: the chromosome of the last record, with none on any after it. The next record goes on there, or to a later chromosome.
+-- Chromosomes in an order, each once, and where a name is found among them. Records in that order have reached the chromosome of the last record, with none on any after it. The next record goes on there, or to a later chromosome.
 use Rattle.std.proofs.Common.{◌≡◌, ℕ, suc, ◌+◌, ◌<◌, ◌≤◌, inl, inr, List, [], ◌∷◌, ◌++◌, append_assoc, refl, sym, ap, ◌∙◌, subst, arith, length, length-append, map, true, false, bytes_eq, Option, Some, None, option_map, ◌⊎◌, ◌||◌}
 use Rattle.std.specs.Prelude.{⊤, is_some}
 use Rattle.std.specs.Ordering.{nat_cmp}

@@ -1,4 +1,4 @@
--- An engine that goes through the chromosomes of a genome file: one more record moves what is settled and what is reached as its walk's step says, and at the end what its walk leaves is left. Complement and coverage are such engines; `ComplementForm` and `CoverageForm` have what each owes of one chromosome.
+-- An engine that goes through the chromosomes of a genome file. One more record moves what is settled and what is reached as its walk's step says. At the end what its walk leaves is left. Complement and coverage are such engines; `ComplementForm` and `CoverageForm` have what each owes of one chromosome.
 use Rattle.std.proofs.Common.{◌≡◌, ℕ, ◌+◌, ◌≤◌, inl, inr, List, [], ◌∷◌, ◌++◌, refl, sym, ap, ap₂, ◌∙◌, subst, arith, append-nil, append_assoc, flat_map, length, length-append, slice_range, true, false, Option, Some, None}
 use Rattle.bt_bed.specs.Feature.{Feature, interval_of, intervals_of}
 use Rattle.bt_bed.specs.Genome.{Entry, genome_names}

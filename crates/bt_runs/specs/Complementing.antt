@@ -8,8 +8,8 @@ use Rattle.bt_runs.specs.Engine.{IsQuiet}
 use Rattle.bt_runs.specs.Gaps.{AreTaken, complement, kept_place, settled_gaps}
 use Rattle.bt_runs.specs.Walk.{Place, places}
 
--- the chromosomes, whether those without records are left out, the one that was reached and how far its
--- gaps are settled, and how many bases the chromosome has that the records are on, of those that are known
+-- The chromosomes, whether those without records are left out, the one that was reached and how far its
+-- gaps are settled. Last, how many bases the chromosome of the records has, of those that are known.
 pub record Complementing : Type 0 where
   pub entries : List Entry
   pub limit : Bool

@@ -25,8 +25,8 @@ use Rattle.bt_runs.specs.declared.depths.BegunDepth.{BegunDepth}
 use Rattle.bt_runs.specs.declared.failure.Failure.{Failure}
 use Rattle.bt_runs.specs.declared.failure.Failure.TheVariants.{Write, Memory}
 
--- the chromosomes, whether depth 0 is reported, the strand that is counted, the chromosome that was reached with
--- what is known of it, whether the last record lies there, and its name and length
+-- The chromosomes, whether depth 0 is reported, the strand that is counted. Then the chromosome that was
+-- reached with what is known of it, whether the last record lies there, and its name and length.
 pub record Covering : Type 0 where
   pub entries : List Entry
   pub zeros : Bool

@@ -1,5 +1,5 @@
 -- What `bedtools genomecov` gives with -bg: the intervals of equal depth above 0 of each
--- chromosome, in the order of the genome file, and with -bga those of depth 0 too (bedtools
+-- chromosome, in the order of the genome file. With -bga it gives those of depth 0 too (bedtools
 -- manual, genomecov, options -bg, -bga and -strand).
 use Rattle.std.specs.Prelude.{◌≡◌, ℕ, Bool, true, ◌&&◌, ◌||◌, nat_le, nat_lt, cond, min}
 use Rattle.std.specs.Prelude.{List, [], ◌∷◌, ◌++◌, length, map, filter, flat_map, codes, decimal}

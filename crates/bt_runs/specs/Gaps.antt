@@ -1,5 +1,5 @@
 -- What `bedtools complement` gives: the parts of each chromosome that no feature covers, in the
--- order of the genome file, and with -L of those chromosomes alone that
+-- order of the genome file. With -L it gives only those of chromosomes that
 -- have records (bedtools manual, complement).
 use Rattle.std.specs.Prelude.{◌≡◌, ℕ, ◌<◌, ◌≤◌, length, Bool, true, false, not, ◌||◌, List, [], ◌∷◌}
 use Rattle.std.specs.Prelude.{◌++◌, map, filter, flat_map, cond, min, nat_le, bytes_eq, Option}
@@ -49,8 +49,8 @@ complement limit entries records =
     flat_map (gaps_on (intervals_of records))
     (filter (is_asked limit (intervals_of records)) entries)
 
--- whether a gap is settled, once its chromosome is compared with that of the last record: it comes
--- before, or it is the same and the gap ends by the record's start
+-- Whether a gap is settled, once its chromosome is compared with that of the last record. It is if it
+-- comes before, or if it is the same and the gap ends by the record's start.
 abbrev pub is_over_at : Ordering → Bool → Bool
 is_over_at Less ends = true
 is_over_at Equal ends = ends

@@ -28,8 +28,8 @@ const BOUNDS: [(u64, u64); 7] = [
     (98, 99),
 ];
 
-// What the records are like: each on another strand than the one before; in chains of one strand, and then short ones
-// after a long one of another strand; or apart from one another, four of five on one strand.
+// What the records are like. Each is on another strand than the one before; or they are chains of one strand, and then
+// short ones after a long one of another strand; or they are apart from one another, four of five on one strand.
 #[derive(Clone, Copy)]
 enum Layout {
     Mixed,

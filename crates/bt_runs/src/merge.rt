@@ -30,7 +30,7 @@ enum Kind {
 /// that isn't merged. Starts are zero-based, and ends aren't included.
 ///
 /// It keeps one open run. With [`MergeStrand::Each`] the runs of all strands are listed by their first
-/// records, so that a run which is finished waits for an open one whose first record came earlier: it
+/// records. So a run which is finished waits for an open one whose first record came earlier, and it
 /// keeps the runs from the first open one on.
 #[derive(Drop, Debug)]
 pub struct Merge {
@@ -68,9 +68,9 @@ impl Merge {
         Merge { kind }
     }
 
-    /// Takes the next record, and writes the lines that it settles. A record on the chromosome of the one before it that
-    /// joins a run that is kept, or that isn't merged, and that closes none that could be written, is taken without a
-    /// fault. The first fault is returned from then on: `WriteFailed`, or `NoMemory`, only if the chromosome is
+    /// Takes the next record, and writes the lines that it settles. A record on the chromosome of the one before it can't
+    /// fail if it joins a kept run or isn't merged, and closes none that could be written. The first fault is returned from
+    /// then on: `WriteFailed`, or `NoMemory`, only if the chromosome is
     /// another than that of the record before, and with [`MergeStrand::Each`] if a run has to be opened too.
     pub fn feed<K: Sink>(&mut self, bed: &BedRef<'_>, out: &mut Out<K>) -> Result<(), Fault>
         ensures going { IsFaultless stands_after kept_fault self.old }

@@ -227,7 +227,7 @@ fn only(run: PendingRun) -> OnlyRun
     }
 }
 
-// Writes the first runs that a record closes, and takes them off: all, if the record lies on
+// Writes the first runs that a record closes, and takes them off. These are all, if the record lies on
 // another chromosome, and else those up to the first that doesn't end below `reach`.
 #[inline]
 fn put_passed<K: Sink>(
@@ -251,7 +251,7 @@ fn put_passed<K: Sink>(
     Ok(())
 }
 
-// Takes a record among the runs of the list: those that it closes are written, and it is joined to the last one of
+// Takes a record among the runs of the list. Those that it closes are written. It is joined to the last one of
 // its strand that is left, or is one more. If none is left, it returns true and the record isn't taken.
 #[inline(never)]
 fn join_among<K: Sink>(

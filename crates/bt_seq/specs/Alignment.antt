@@ -1,4 +1,4 @@
--- What a line of a SAM file says: nothing, an alignment, or what is wrong with the line (Sequence
+-- What a line of a SAM file says: nothing, an alignment, or what is wrong with it (Sequence
 -- Alignment/Map Format Specification, section 1.3 for header lines, 1.4 for the mandatory fields).
 use Rattle.std.specs.Prelude.{ℕ, ◌+◌, ◌-◌, ◌==◌, ◌||◌, Bool, true, List, [], ◌∷◌, codes, length}
 use Rattle.std.specs.Prelude.{bytes_eq, nat_le, nat_lt, Option, Some, None, Result, Ok, Err}

@@ -1,4 +1,4 @@
--- The blocks of an alignment, one for each maximal list of its operations without N, which is a
+-- The blocks of an alignment, one for each maximal list of its operations without N. An N is a
 -- region of the reference that the read skips (Sequence Alignment/Map Format Specification, section
 -- 1.4, field 6; bedtools manual, bamtobed, option -split).
 use Rattle.std.specs.Prelude.{◌≡◌, ℕ, ◌+◌, ◌==◌, Bool, true, not, List, [], ◌∷◌, ◌++◌, flat_map}
@@ -39,8 +39,8 @@ up_to_skip operations = take_while (λ operation. not (is_skip operation)) opera
 abbrev pub with_bases : ℕ → ℕ → List Span
 with_bases start stop = if nat_lt start stop then record { start = start; stop = stop } ∷ [] else []
 
--- the block that begins at a place, if one does and it has a base: it lies after the reference
--- bases of all operations before it, and goes on up to the next N
+-- The block that begins at a place, if one does and it has a base. It lies after the reference
+-- bases of all operations before it, and goes on up to the next N.
 abbrev pub block_at : ℕ → Cut → List Span
 block_at start cut =
     if begins_block cut.before
@@ -55,8 +55,8 @@ abbrev pub blocks_in : ℕ → Option (List Operation) → List Span
 blocks_in start None = []
 blocks_in start (Some operations) = blocks_of start operations
 
--- the spans of the reference that are written of an alignment: its blocks if it is cut at each
--- N, and else all of it from its first base to its last
+-- The spans of the reference that are written of an alignment: its blocks if it is cut at each
+-- N, and else all of it from its first base to its last.
 abbrev pub alignment_blocks : Bool → Alignment → List Span
 alignment_blocks split a =
     if split then blocks_in a.start (operations_of a.cigar)

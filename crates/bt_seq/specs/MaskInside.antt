@@ -71,9 +71,9 @@ abbrev pub HasAhead : MaskStage → Type 0
 HasAhead stage = want_at stage ≡ Line → stage.bed_ended ≡ false
     → is_unnamed (reached stage).names ≡ false → is_some stage.ahead ≡ true
 
--- up to which base of the last sequence a record decides lines, if these names are left after
--- the sequence of its block: up to its start, or all if its block belongs to none (it is used
--- if that sequence is the last)
+-- Up to which base of the last sequence a record decides lines, if these names are left after
+-- the sequence of its block: up to its start, or all if its block belongs to none. It is used
+-- if that sequence is the last.
 abbrev pub decided_up_to : Option (List (List ℕ)) → Feature → ℕ
 decided_up_to None r = limit
 decided_up_to (Some names) r = r.start

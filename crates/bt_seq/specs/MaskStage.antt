@@ -1,5 +1,5 @@
 -- How far a masking engine has come: which lines of the FASTA input are written, which one waits, and
--- which records of the BED input were taken; what it wants there, and what it holds.
+-- which records of the BED input were taken. Then what it wants there, and what it holds.
 use Rattle.std.specs.Prelude.{◌≡◌, ⊤, ◌||◌, ◌&&◌, not, Bool, true, false, cond, List, [], ◌∷◌, ◌++◌}
 use Rattle.std.specs.Prelude.{Option, Some, None, is_some, option_to_list}
 use Rattle.bt_bed.specs.Feature.{Feature}
@@ -8,9 +8,9 @@ use Rattle.bt_seq.specs.Sequences.{Reached, SequenceLine, bases_up_to, is_header
 use Rattle.bt_seq.specs.declared.mask_want.MaskWant.{MaskWant}
 use Rattle.bt_seq.specs.declared.mask_want.MaskWant.TheVariants.{Line, Bed, Nothing}
 
--- how far it has come: the lines that are written, the one that isn't, the records that were taken,
--- the one that decided the line written last and wasn't taken since,
--- and whether each input has ended
+-- How far it has come: the lines that are written, the one that isn't, and the records that were taken.
+-- Then the one that decided the line written last and wasn't taken since,
+-- and whether each input has ended.
 pub record MaskStage : Type 0 where
   pub written : List SequenceLine
   pub waiting : Option SequenceLine
@@ -77,8 +77,8 @@ abbrev pub is_written_ahead : Option Feature → List Feature → SequenceLine �
 is_written_ahead None taken line = false
 is_written_ahead (Some r) taken line = not (is_header line.text) && decided line (taken ++ r ∷ [])
 
--- whether a line is written as soon as it is given: the records have ended, or no header has come,
--- or it is no header and the record ahead decides it
+-- Whether a line is written as soon as it is given. It is if the records have ended, if no header has
+-- come, or if it is no header and the record ahead decides it.
 abbrev pub is_written_at_once : MaskStage → SequenceLine → Bool
 is_written_at_once stage line =
     stage.bed_ended || (is_unnamed line.names || is_written_ahead stage.ahead stage.taken line)

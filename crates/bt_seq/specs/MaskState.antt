@@ -57,8 +57,8 @@ moved_to m text =
 abbrev pub line_bytes : Masking → Waiting → List ℕ
 line_bytes m line = masked_in m.how m.window.held m.window.before line.text ++ end_bytes line.ending
 
--- whether a line of this text, to which it has moved, is written at once: the records have ended,
--- or no header has come, or it is no header and lies where the record ahead decides it
+-- Whether a line of this text, to which it has moved, is written at once. It is if the records have ended,
+-- if no header has come, or if it is no header and lies where the record ahead decides it.
 abbrev pub writes_at_once : Masking → List ℕ → Bool
 writes_at_once m text =
     m.bed_ended || (is_none m.matched.name
@@ -123,8 +123,8 @@ TakesLine old number line out (Err fault) new grown =
     ⊎ ((told fault ≡ no_memory) × (grown ≡ out)
     × (may_grow (moved_to old line.text) line.text ≡ true)))))
 
--- whether the next line, of this text, is known to be written as it is: it is no header but comes
--- after one, nothing is held, and the records have ended or the record ahead decides it
+-- Whether the next line, of this text, is known to be written as it is. Then it is no header but comes
+-- after one, nothing is held, and the records have ended or the record ahead decides it.
 abbrev pub stays_as_given : Masking → List ℕ → Bool
 stays_as_given m text =
     not (is_header text) && (is_some m.matched.name && (nat_eq (length m.window.held) 0

@@ -4,8 +4,8 @@ use Rattle.std.specs.Prelude.{if◌then◌else◌}
 use Rattle.bt_seq.specs.declared.matching.Owner.{Owner}
 use Rattle.bt_seq.specs.declared.matching.Owner.TheVariants.{Own, Earlier, Nobody}
 
--- the name of the sequence given last, if there is one; the chromosome of the last block that
--- belongs to a sequence, if there is one; and whether that is the sequence given last
+-- The name of the sequence given last, if there is one, and the chromosome of the last block that
+-- belongs to a sequence, if there is one. Then whether that is the sequence given last.
 pub record Matched : Type 0 where
   pub name : Option (List ℕ)
   pub last : Option (List ℕ)

@@ -1,5 +1,5 @@
 -- Which records mask which sequence. A block is a maximal run of records of one chromosome. It
--- belongs to the first sequence of its name after that of the block before it; it belongs to none
+-- belongs to the first sequence of its name after that of the block before it. It belongs to none
 -- if there is no such sequence, or if the block before it belongs to none.
 use Rattle.std.specs.Prelude.{◌++◌, ◌≡◌, ◌≢◌, ◌↔◌, ℕ, ◌<◌, All, length, Bool, true, false, ⊤, List}
 use Rattle.std.specs.Prelude.{[], ◌∷◌}
@@ -70,9 +70,9 @@ items_if_last (Some (name ∷ names)) xs = []
 abbrev pub own_records : List (List ℕ) → List Feature → List Feature
 own_records names records = flat_map (λ o. items_if_last o.left o.block.items) (owned names records)
 
--- whether a block after which these names are left decides a line of the last sequence, up to
--- whose end there are this many bases: a record of it starts there or later, or the block belongs to
--- no sequence up to that one
+-- Whether a block after which these names are left decides a line of the last sequence, up to
+-- whose end there are this many bases. It does if a record of it starts there or later, or if it belongs to
+-- no sequence up to that one.
 abbrev pub block_decides : ℕ → Option (List (List ℕ)) → List Feature → Bool
 block_decides bases None records = true
 block_decides bases (Some []) records = list_any (λ r. nat_le bases r.start) records
@@ -140,8 +140,8 @@ next_goes_on_or_begins = (names : List (List ℕ)) (records : List Feature) (r :
     ≡ (if goes_on records r then left_after names records
     else left_by (left_after names records) r.chrom)
 
--- a block that belongs to a sequence among the first names belongs to it among all names too: after
--- it then come the names that come after it there, and the others
+-- A block that belongs to a sequence among the first names belongs to it among all names too. After
+-- it then come the names that come after it there, and the others.
 abbrev pub owners_stay : Type 0
 owners_stay = (names more : List (List ℕ)) (records : List Feature) (rest : List (List ℕ))
     → left_after names records ≡ Some rest

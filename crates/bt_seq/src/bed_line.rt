@@ -59,8 +59,8 @@ fn put_pieces<K: Sink>(
     put_read(sam, with_cigar, out)
 }
 
-// Puts the line of a block by one test of the room and returns true, if name and CIGAR aren't long and there is room
-// for the line; else nothing is put. What the text holds is unspecified before and after.
+// Puts the line of a block by one test of the room and returns true, if name and CIGAR aren't long and there is room.
+// Else nothing is put. What the text holds is unspecified before and after.
 #[inline(always)]
 fn hold_line<K: Sink>(
     sam: &SamRef<'_>,

@@ -16,7 +16,7 @@ const SHORT: usize = 4;
 
 /// How many reference bases a CIGAR covers: the sum of the numbers of its M, D, N, `=` and X operations
 /// (SAM specification, section 1.4, field 6), but no more than 1,000,000,000,000. It is 0 for `*`, and
-/// none if the CIGAR is malformed: it is empty, ends in a number, has another letter, or has a letter
+/// none if the CIGAR is malformed. That is one that is empty, ends in a number, has another letter, or a letter
 /// without a number of at most 999,999,999,999.
 #[inline(always)]
 pub fn cigar_span(cigar: &[u8]) -> Option<u64>

@@ -72,9 +72,9 @@ impl Mask {
 
     /// Takes the next line. It is written at once if the records have ended, if it is a blank line
     /// before the first header, or if it is no header and the record ahead, which wasn't taken,
-    /// decides it; and else it waits. It fails with `TextBeforeHeader` if it has text before the first
-    /// header, with `NoMemory` if a header can't be named or a line that waits or is to be masked
-    /// can't be kept, and with `WriteFailed` if it can't be written.
+    /// decides it. Else it waits. It fails with `TextBeforeHeader` if it has text before the first
+    /// header, and with `WriteFailed` if it can't be written. It fails with `NoMemory` if a header can't
+    /// be named, or a line that waits or is to be masked can't be kept.
     pub fn give_line<K: Sink>(&mut self, line: &Line<'_>, out: &mut Out<K>) -> Result<(), Fault>
         requires { self.old.want ≡ MaskWant.Line }
         ensures gives { (how : MaskHow) (full : Bool) (stage : MaskStage) → MaskStandsAt how full stage self.old
@@ -159,8 +159,8 @@ impl Mask {
 
     /// Takes the next record, which is on this line, unless it decides the line that waits: then
     /// that is written, and the record is to be given again. It fails with `WriteFailed` if the line
-    /// can't be written, with `NoMemory` if the record has to be held and can't be, and after the
-    /// last line with `NoSequence` if its block belongs to no sequence. For a record that neither
+    /// can't be written, and with `NoMemory` if the record has to be held and can't be. After the
+    /// last line it fails with `NoSequence` if its block belongs to no sequence. For a record that neither
     /// decides nor has to be held it doesn't allocate.
     pub fn give_bed<K: Sink>(
         &mut self,

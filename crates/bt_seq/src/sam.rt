@@ -4,7 +4,7 @@ ghost use Rattle.std.specs.Prelude.{◌<◌, ◌≤◌};
 ghost use Rattle.bt_lines.specs.Number.{max_number};
 ghost use Rattle.bt_seq.specs.AlignmentEnd.{EndsAt};
 
-/// An alignment, which borrows its columns from its line. `name` is QNAME alone, without `/1` or `/2`;
+/// An alignment, which borrows its columns from its line. `name` is QNAME alone, without `/1` or `/2`.
 /// `first` and `last` say whether the read is the first or the last segment of its template, and
 /// `reverse` whether it lies on the reverse strand. The alignment covers the reference `chrom` from
 /// `start`, which is zero-based, up to `stop`, which isn't included (POS of the line is one-based).

@@ -28,7 +28,7 @@ const FIRST: u64 = 64;
 const LAST: u64 = 128;
 
 /// The alignment of a line's text (SAM specification, sections 1.3 and 1.4). There is none if the
-/// line is blank or a header line, which begins with `@`, and if the read is unmapped, has the
+/// line is blank or a header line, which begins with `@`. Nor is there one if the read is unmapped, has the
 /// reference name `*` or the position 0, or covers no reference base. `Err` has the first that
 /// applies: fewer than eleven columns; a flag above 65,535 or no number; an empty reference name; a
 /// position above 2,147,483,647 or no number; a mapping quality above 255 or no number; a malformed

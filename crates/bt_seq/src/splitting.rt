@@ -9,7 +9,7 @@ use crate::block_iter::SamBlocks;
 use crate::sam::SamRef;
 
 /// The blocks of an alignment on the reference, from the first to the last. With `split` it is cut at
-/// each N operation of its CIGAR, also at one of length 0, and a block without a base is left out; else
+/// each N operation of its CIGAR, also at one of length 0, and a block without a base is left out. Else
 /// its one block goes from its first reference base to its last, N included. It doesn't allocate.
 pub fn blocks<'a>(sam: &SamRef<'a>, split: bool) -> SamBlocks<'a>
     ensures { blocks_left result ≡ alignment_blocks split (alignment_lent sam.now) }

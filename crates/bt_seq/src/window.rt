@@ -12,7 +12,7 @@ use std::marker::Model;
 // How far the bases of a sequence are counted. No record reaches beyond it.
 pub(crate) const LIMIT: u64 = 1_000_000_000_000;
 
-// How many bases of its sequence come before the line, and up to its end, and the extents of the
+// How many bases of its sequence come before the line, and up to its end. Then the extents of the
 // records that start before its end and reach past its start, in file order.
 #[derive(Drop)]
 pub(crate) struct Window {

@@ -1,5 +1,5 @@
 -- The pieces of a record are the stretches of the positions that are left of it, and the only list that
--- is; and a walk over those that hit it by their starts meets them in order.
+-- is. A walk over those that hit it by their starts meets them in order.
 use Rattle.std.proofs.Common.{◌≡◌, ℕ, ◌+◌, ◌<◌, ◌≤◌, inl, inr, Bool, true, false, not, ◌&&◌, cond, List, [], ◌∷◌, ◌++◌, refl, sym, ap, ◌∙◌, ltb, arith, append_assoc, append-nil, flat_map, max, Decides, nat_le, nat_lt, leb-true, le-leb}
 use Rattle.std.specs.List.{list_any}
 use Rattle.std.proofs.lemmas.Bool.{cases_lt, false≢true, ltb-true, ltb-false}

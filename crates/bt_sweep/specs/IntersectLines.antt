@@ -1,6 +1,6 @@
--- What intersect and subtract write of a record and of those that hit it (bedtools manual,
--- intersect: default behaviour and the options -wa, -wb, -wo, -u,
--- -v and -c; subtract: default behaviour and -A).
+-- What intersect and subtract write of a record and of those that hit it (bedtools manual). For
+-- intersect these are the default behaviour and the options -wa, -wb, -wo, -u,
+-- -v and -c, for subtract the default behaviour and -A.
 use Rattle.std.specs.Prelude.{◌≡◌, ℕ, IsTrue, List, [], ◌∷◌, ◌++◌, codes, decimal, flat_map, length}
 use Rattle.std.specs.Prelude.{max, min}
 use Rattle.bt_bed.specs.Feature.{Feature, intervals_of}

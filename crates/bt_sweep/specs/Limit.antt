@@ -18,8 +18,8 @@ use Rattle.bt_sweep.specs.SweepMeeting.{intersect_met}
 use Rattle.bt_sweep.specs.declared.hit_rule.HitRule.{HitRule}
 use Rattle.bt_sweep.specs.declared.shape.Shape.{Shape}
 
--- whether a or a later record of the first input can be hit by b, as far as a tells: it lies on the
--- chromosome of a, and ends above its start
+-- Whether a or a later record of the first input can be hit by b, as far as a tells. It can if b lies on
+-- the chromosome of a, and ends above its start.
 abbrev pub is_held : Feature → Feature → Bool
 is_held a b = bytes_eq a.chrom b.chrom && nat_lt a.start b.stop
 
@@ -39,7 +39,7 @@ are_too_many order most first second =
     nat_lt most (length (held_for (first_open order first second) second))
 
 -- The members after others, up to the first with which they are too many, where the fault of the
--- limit lies; if there is none, all of them and their own fault.
+-- limit lies. If there is none, all of them and their own fault.
 abbrev pub cut_behind : (List Feature → Bool) → List (Member Feature) → List (Member Feature)
     → Option Told → Good Feature
 cut_behind too_many past [] fault = record { members = past; fault = fault }
@@ -72,8 +72,8 @@ HoldsEnough order most first second =
     (before after : List Feature) (a : Feature) → first ≡ before ++ a ∷ after
     → HoldsTooMany order most before a second → ⊥
 
--- If the records up to a line of the second input are too many, and those up to no line before
--- it, the lines of the records before the undecided one are written, and the limit's fault is
+-- The case that the records up to a line of the second input are too many, and those up to no line
+-- before it. The lines of the records before the undecided one are written, and the limit's fault is
 -- reported at that line.
 abbrev pub limit_stops : Type 0
 limit_stops =

@@ -14,8 +14,8 @@ use Rattle.bt_sweep.specs.declared.phase.Phase.TheVariants.{Both, First, Over}
 use Rattle.bt_sweep.specs.declared.shape.Shape.{Shape}
 use Rattle.bt_sweep.specs.declared.want.Want.{Want}
 
--- how far a sweep has come: the records of the first input whose lines are written, the one whose
--- lines aren't, the records of the second input that were taken, and whether each input has ended
+-- How far a sweep has come: the records of the first input whose lines are written, the one whose
+-- lines aren't, and the records of the second input that were taken. Last, whether each input has ended.
 pub record Stage : Type 0 where
   pub written : List Feature
   pub waiting : Option Feature

@@ -22,8 +22,8 @@ use Rattle.bt_bed.specs.declared.taken.Taken.{Taken}
 use Rattle.bt_bed.specs.declared.taken.Taken.TheVariants.{Yes, No}
 use Rattle.bt_sweep.specs.declared.want.Want.TheVariants.{Nothing}
 
--- why a call didn't put its lines: they couldn't be written, only if the sink failed, and a
--- prefix of them was; or memory ran out before any of them was put
+-- Why a call didn't put its lines. They couldn't be written, only if the sink failed, and a
+-- prefix of them was. Or memory ran out before any of them was put.
 abbrev pub Fails : Output → List ℕ → Told → Output → Type 0
 Fails out lines fault grown =
     FailsToAdd out lines fault grown ⊎ ((fault ≡ no_memory) × (grown ≡ out))

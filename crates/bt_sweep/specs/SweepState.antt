@@ -8,9 +8,9 @@ use Rattle.bt_sweep.specs.declared.shape.Shape.{Shape}
 use Rattle.bt_sweep.specs.declared.want.Want.{Want}
 use Rattle.bt_sweep.specs.declared.want.Want.TheVariants.{A, B, Nothing}
 
--- the shape of what it writes, the rule of what hits a record, how many records may be held, if
--- that is limited, the record of the first input that waits, if one does, the records of the second
--- input that are held, and how far it has come
+-- The shape of what it writes, the rule of what hits a record, and how many records may be held, if
+-- that is limited. Then the record of the first input that waits, if one does, the records of the second
+-- input that are held, and how far it has come.
 pub record Sweeping : Type 0 where
   pub shape : Shape
   pub rule : HitRule

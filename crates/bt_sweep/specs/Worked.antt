@@ -35,7 +35,7 @@ one first fault = record { members = record { line = 1; item = first } ∷ []; f
 abbrev pub only_chr1 : Order
 only_chr1 = rank_order (codes "chr1" ∷ [])
 
--- The second input has a fault after 2 to 4 and 50 to 60: of 0 to 10 and 100 to 110 it decides the
+-- The second input has a fault after 2 to 4 and 50 to 60. Of 0 to 10 and 100 to 110 it decides the
 -- first, whose lines are written, and then its fault is reported.
 abbrev pub fault_behind_undecided : Type 0
 fault_behind_undecided = (fault : Told)
@@ -99,7 +99,7 @@ three_are_enough =
       fault = None;
     }
 
--- The second of 1 to 2, 30 to 40 and 50 to 60 decides 0 to 10, whose lines are written; with the
+-- The second of 1 to 2, 30 to 40 and 50 to 60 decides 0 to 10, whose lines are written. With the
 -- third two are held for 20 to 100.
 abbrev pub decided_before_the_limit : Type 0
 decided_before_the_limit =

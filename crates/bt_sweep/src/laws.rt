@@ -57,9 +57,9 @@ pub fn taken_records_come_first()
     ensures { taken_are_first }
 {}
 
-/// If the number of held records is limited, a run is refused exactly if more of the records up to
-/// a line of the second input would have to be held for the first record that they leave undecided, and
-/// at the first such line: the lines of the records before that one are written. Else the limit changes
+/// A limit on the number of held records refuses a run exactly if it is passed at a line of the second input:
+/// more records up to there would have to be held for the first one that they leave undecided. At the first such
+/// line the lines of the records before the undecided one are written. Else the limit changes
 /// nothing.
 pub fn limits_stop_at_the_first_too_many()
     ensures stops { limit_stops }
@@ -67,7 +67,7 @@ pub fn limits_stop_at_the_first_too_many()
 {}
 
 /// A record of the second input that neither decides the current record of the first nor has to be
-/// held is taken, so it needs no memory, and nothing is written.
+/// held is taken. So it needs no memory, and nothing is written.
 pub fn quiet_records_are_taken()
     ensures { quiet_are_taken }
 {}

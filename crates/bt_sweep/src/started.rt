@@ -9,7 +9,7 @@ use bt_bed::Rec;
 
 // How many held records there are before the first one that starts at the place or after it, if they
 // come by their starts. The last record is tested first, since mostly it starts before the place, and
-// then those near the first one: each index that is tested is at most one more than twice the one
+// then those near the first one. Each index that is tested is at most one more than twice the one
 // before it.
 pub(crate) fn count_started<H: Held>(held: &H, place: u64) -> usize
     ensures within { result ≤ length (H.records held.now) }

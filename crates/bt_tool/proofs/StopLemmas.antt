@@ -19,8 +19,8 @@ use Rattle.bt_bed.specs.LineKind.{fault_at_line}
 use Rattle.bt_bed.specs.Reading.{AnswersFault, Cause, LastUnkept, LineIsWrong, LinesPass, MemberReader, SaidNothing, good_behind, good_coming}
 use Rattle.bt_bed.proofs.GoodLemmas.{ascend_from, beyond_from}
 
--- the first `count` lines have none of the members still to come and no fault, and of known bytes those
--- after one more line are left, except at most a block
+-- The first `count` lines have none of the members still to come and no fault. Of known bytes those
+-- after one more line are left, except at most a block.
 pub record StopsBehind {S A State : Type 0} (left : S → Option (List ℕ)) (old : MemberReader S A State) (count : ℕ) (new : LineReader S) : Type 0 where
   pub passed : IfSome (good_coming left old) (IsBeyond count)
   pub from : lines_given old.below ≤ count

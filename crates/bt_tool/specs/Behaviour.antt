@@ -1,5 +1,5 @@
 -- What a command does with its inputs: the report on what they hand over, what the first lines of
--- the first input settle and need, and which faults a line of each can have.
+-- the first input settle and need. Then which faults a line of each can have.
 use Rattle.std.specs.Prelude.{ℕ, Bool, List, [], Option, Some, None, unwrap_or}
 use Rattle.bt_lines.specs.Handed.{Handed}
 use Rattle.bt_lines.specs.Lines.{TextLine}

@@ -46,9 +46,9 @@ module _ {G A B K : Type 0} (g_left : G → Option (List ℕ)) (g_failed : G →
     pub first_input : Holds a_left first inputs.first
     pub second_input : HoldsIf b_left second inputs.second
 
-  -- a fault of an input other than the genome file, of a kind that a line of it can have: with a
-  -- genome file by some list of its chromosomes, and without one in the order of the names' bytes,
-  -- if no chromosome is unknown
+  -- A fault of an input other than the genome file, of a kind that a line of it can have. With a
+  -- genome file that is by some list of its chromosomes, and without one in the order of the names'
+  -- bytes, if no chromosome is unknown.
   pub record TellsOther (command : Command) (genome : Option G) (first first_after : A)
       (second second_after : Option B) (told : Told) : Type 0 where
     pub chromosomes : Option (List Entry)
@@ -62,15 +62,15 @@ module _ {G A B K : Type 0} (g_left : G → Option (List ℕ)) (g_failed : G →
   pub record Runs (command : Command) (genome : Option G) (first : A) (second : Option B) (out : K)
       (fault : Option Told) (genome_after : Option G) (first_after : A) (second_after : Option B)
       (out_after : K) : Type 0 where
-    -- If the devices tell their bytes, the sink works and no growth is refused: the fault reported
-    -- and the bytes written are those of the report on what the inputs handed over, also if a
+    -- If the devices tell their bytes, the sink works and no growth is refused, the fault reported
+    -- and the bytes written are those of the report on what the inputs handed over. That is so also if a
     -- read failed or an input passes 2^63 - 1 bytes.
     pub whole : (inputs : Inputs) (before : List ℕ)
         → ReadsInputs genome first second genome_after first_after second_after inputs
         → k_took out ≡ Some before → k_failed out_after ≡ false → fault ≢ Some no_memory
         → (fault ≡ (report_of command inputs).fault)
         × (k_took out_after ≡ Some (before ++ (report_of command inputs).output))
-    -- If the devices tell their bytes, whether they fail or not: if the run ends without a
+    -- The devices tell their bytes, whether they fail or not. If the run ends without a
     -- fault, or tells a line's, that fault and the bytes written are
     -- those of the report on the whole texts.
     pub told : (inputs : Inputs) (before : List ℕ) → HoldInputs genome first second inputs
@@ -83,8 +83,8 @@ module _ {G A B K : Type 0} (g_left : G → Option (List ℕ)) (g_failed : G →
         → k_took out ≡ Some before
         → (front : List ℕ) × (rest : List ℕ) × (k_took out_after ≡ Some (before ++ front))
         × ((report_of command inputs).output ≡ front ++ rest)
-    -- However the run ends, if the devices tell their bytes: for some n, the first input handed over at
-    -- most its first n lines and a block, and what its first n - 1 lines settle was written, except at
+    -- However the run ends, if the devices tell their bytes, there is an n. The first input handed over at
+    -- most its first n lines and a block. What its first n - 1 lines settle was written, except at
     -- most a block if a write failed. At any other fault, running out of memory among them, what was
     -- written is exactly that. If the first input's end wasn't reported, or it has an n-th line, the
     -- second handed over at most what those n lines need and a block. So if it handed over more, n is
@@ -109,9 +109,9 @@ module _ {G A B K : Type 0} (g_left : G → Option (List ℕ)) (g_failed : G →
     -- Nor was it after a fault that is reported of the genome file, whatever the devices do.
     pub untouched : (told : Told) → fault ≡ Some told → lies_in_genome told.place ≡ true
         → (first_after ≡ first) × (second_after ≡ second)
-    -- What the fault may be, whatever the devices do: one that a line of an input can have (without
-    -- a genome file none of it, and no unknown chromosome), a failed read only if its source
-    -- failed or may have passed the bound, a failed write only if the sink failed, or running out of
+    -- What the fault may be, whatever the devices do. It is one that a line of an input can have (without
+    -- a genome file none of it, and no unknown chromosome). Or it is a failed read, only if its source
+    -- failed or may have passed the bound; a failed write, only if the sink failed; or running out of
     -- memory. That a failed read is of this run, whatever its source did before, `run` says beside
     -- this, by `TellsOwnReads` of `OwnReads`.
     pub named : (told : Told) → fault ≡ Some told

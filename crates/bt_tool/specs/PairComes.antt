@@ -11,8 +11,8 @@ use Rattle.bt_tool.specs.Pair.{Making, Pair, Settles, item_ahead}
 use Rattle.bt_tool.specs.PairEnds.{HasNoMore, IsKnown}
 use Rattle.bt_tool.specs.Passed.{AreAll, IsReadFor, Passes}
 
--- how far a run has come: the members of the first input that are written, the one that isn't,
--- the members of the second that were taken, and whether each input has ended
+-- How far a run has come: the members of the first input that are written, the one that isn't, and
+-- the members of the second that were taken. Then whether each input has ended.
 pub record Stage (X Y : Type 0) : Type 0 where
   pub written : List X
   pub waiting : Option X

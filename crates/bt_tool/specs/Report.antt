@@ -23,8 +23,8 @@ abbrev pub of_file : Result (List Entry) Told → Result (Option (List Entry)) T
 of_file (Ok entries) = Ok (Some entries)
 of_file (Err fault) = Err fault
 
--- the chromosomes of the genome file, or its fault; a run without a genome file has no list of them,
--- which isn't an empty one: it goes by the bytes of the names
+-- The chromosomes of the genome file, or its fault. A run without a genome file has no list of them,
+-- which isn't an empty one: it goes by the bytes of the names.
 abbrev pub chromosomes_of : Option Handed → Result (Option (List Entry)) Told
 chromosomes_of None = Ok None
 chromosomes_of (Some genome) = of_file (genome_handed Genome genome)

@@ -42,8 +42,8 @@ intersect_report order shape rule limit first second =
     met_report (met_within order shape rule limit (bed_good First order first)
     (bed_good Second order second))
 
--- A line of the second input can be at fault as one of any BED input, or if held records are
--- limited, as the one with which they are too many.
+-- A line of the second input can be at fault as one of any BED input. If the number of held records is
+-- limited, it can also be the one with which they are too many.
 abbrev pub IsSweptKind : Order → Option ℕ → Kind → Type 0
 IsSweptKind order limit kind =
     IsBedKind order kind ⊎ ((is_some limit ≡ true) × (kind ≡ TooManyHeld))
@@ -78,8 +78,8 @@ abbrev pub bytes_up_to : List TextLine → Option (Member Feature) → ℕ
 bytes_up_to lines None = bytes_in lines
 bytes_up_to lines (Some member) = bytes_in (take member.line lines)
 
--- how much of the second input the records on these lines of the first need: its lines up to the
--- first record that decides all of them; a limit on what is held makes it no more
+-- How much of the second input the records on these lines of the first need: its lines up to the
+-- first record that decides all of them. A limit on what is held makes it no more.
 abbrev pub intersect_reaches : Order → Handed → List TextLine → ℕ
 intersect_reaches order second lines =
     bytes_up_to (text_lines second.text)

@@ -28,9 +28,9 @@ use Rattle.bt_tool.specs.declared.tool.Tool.TheVariants.{Coverage, BamToBed, Mas
 abbrev pub Word : Type 0
 Word = List ℕ
 
--- whether an option may have this value, or none: a file name isn't empty, a number is
+-- Whether an option may have this value, or none. A file name isn't empty, a number is
 -- one of bt_lines, a fraction is at most 1, a strand is `+` or `-`,
--- and a character is a printable one of ASCII
+-- and a character is a printable one of ASCII.
 abbrev pub fits : Takes → Option Word → Bool
 fits Nothing None = true
 fits Nothing (Some value) = false

@@ -65,7 +65,7 @@ IsFaultButWrite fault = (fault ≢ None) × (fault ≢ Some write_failed)
 abbrev pub IsWithin : Bool → List ℕ → ℕ → Type 0
 IsWithin told text n = (told ≡ false) ⊎ (n ≤ length (text_lines text))
 
--- How far an input was read by the time that this was written: for some n, at least 1, it handed over
+-- How far an input was read by the time that this was written. For some n, at least 1, it handed over
 -- at most its first n lines and a block, and what its first n - 1 lines settle was taken, except at
 -- most a block. Unless a write failed, all of it was put, and nothing more if a fault stopped the run.
 -- `Beside` says of that n how far another input was read.

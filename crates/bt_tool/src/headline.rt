@@ -11,8 +11,8 @@ ghost use Rattle.std.specs.Prelude.{◌≡◌, Err};
 
 use bt_lines::{Sink, Source};
 
-/// For every list of words and all bytes of the inputs: if the words can't be used, the line and the
-/// status 2 of `report`; else, over devices that serve and with memory, the bytes, the line and the
+/// What a run gives, for every list of words and all bytes of the inputs. If the words can't be used, it is the
+/// line and the status 2 of `report`. Else, over devices that work and with memory, it is the bytes, the line and the
 /// status that `report` gives from the words and the whole texts.
 pub fn runs_show_the_report<G: Source, A: Source, B: Source, K: Sink>()
     ensures usage { (words : List Word) (usage : Usage) → options words ≡ Err usage

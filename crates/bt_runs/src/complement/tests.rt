@@ -12,8 +12,8 @@ use std::test::Fail;
 // The genome file of the cases.
 const GENOME: &[u8] = b"chr1\t1000\nchr2\t50\n";
 
-// A case: its name, the records, with how many places are kept after each, whether chromosomes without records are left out, and the lines that
-// are wanted: those written with the records, and those written at the end.
+// A case: its name, the records, with how many places are kept after each, and whether chromosomes without records are left out. Then
+// the lines that are wanted: those written with the records, and those written at the end.
 type Case = (
     &'static str,
     &'static [(&'static [u8], usize)],

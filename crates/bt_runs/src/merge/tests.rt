@@ -9,8 +9,8 @@ use std::alloc::AllocError;
 use std::process::Abort;
 use std::test::Fail;
 
-// A case: its name, the gap, the records that are merged, the records' lines with the number of runs
-// that are kept after each, what is written by then, and what is written after the last.
+// A case: its name, the gap, the records that are merged, and the records' lines with the number of runs
+// that are kept after each. Then what is written by then, and what is written after the last.
 #[derive(Clone, Copy)]
 struct Case {
     name: &'static str,

@@ -324,7 +324,7 @@ fn takes(mask: &mut Mask, line: &[u8], out: &mut Out<ScriptSink>) -> Option<bool
     }
 }
 
-// What is done with a mask: a line is given to it, a record that it takes, or one that it leaves; or it is
+// What is done with a mask. A line is given to it, a record that it takes, or one that it leaves. Or it is
 // asked how many records it keeps, or what it wants next.
 #[derive(Clone, Copy)]
 enum Step {

@@ -260,8 +260,8 @@ fn held_start<H: Held, O: ChromOrder>(sweep: &Sweep<'_, H, O>, index: usize) -> 
     }
 }
 
-// What is done with a sweep: a record of the first input is given to it, one of the second, which it takes
-// or not, or the end of that; or it is asked what it wants, how many records it holds, or where one of
+// What is done with a sweep. A record of the first input is given to it, one of the second, which it takes
+// or not, or the end of that. Or it is asked what it wants, how many records it holds, or where one of
 // those starts.
 #[derive(Clone, Copy)]
 enum Step {

@@ -3,7 +3,7 @@
 use crate::tests::GENOME;
 
 // What a run gives when reading an input fails after some complete lines: what is written, and the
-// fault line; an empty one means the failed read at the line after them.
+// fault line. An empty one means the failed read at the line after them.
 pub(crate) type Cut = (&'static [u8], &'static str);
 
 // A run, what it gives, and what it gives when reading an input fails.

@@ -100,8 +100,8 @@ fn first_not_plain<O: ChromOrder>(
     Ok(None)
 }
 
-// The first shape and rule by which a sweep over some of forty pairs of small inputs on these
-// chromosomes, which come in this order, writes something else than the plain program.
+// The first shape and rule by which a sweep writes something else than the plain program. It joins some of forty
+// pairs of small inputs on these chromosomes, which come in this order.
 fn found_in<O: ChromOrder>(
     rt: &HostRuntime,
     order: &O,
