@@ -60,6 +60,7 @@ mutants:
 # link leads somewhere, the completions have the options of the pages, and no page is harder to read than before.
 check-docs: $(PROGRAM)
 	docs/examples.py
+	docs/edits.py
 	docs/links.py
 	docs/completions.py
 	docs/prose.py
