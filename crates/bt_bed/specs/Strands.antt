@@ -3,7 +3,7 @@ use Rattle.std.specs.Prelude.{Bool, true, false}
 use Rattle.bt_bed.specs.declared.strand.Strand.{Strand}
 use Rattle.bt_bed.specs.declared.strand.Strand.TheVariants.{Plus, Minus, Dot}
 
--- whether two strands are one; none is one with none
+-- whether two strands are equal; none equals none
 abbrev pub is_strand : Strand → Strand → Bool
 is_strand Plus Plus = true
 is_strand Minus Minus = true

@@ -7,7 +7,7 @@ use bt_lines::copy_piece;
 use std::alloc::{AllocError, Global};
 use std::marker::Model;
 
-// So many bytes may be left over: a text that has more of them is cut off.
+// At most this many bytes may be left over: a text that has more of them is cut off.
 const MOST_LEFT_OVER: usize = 4096;
 
 // How many bytes fit inline. A record that is kept has 64 bytes with them, and most names and other columns fit.

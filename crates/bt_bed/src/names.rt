@@ -1,4 +1,4 @@
-//! Names of chromosomes: whether two are one.
+//! Names of chromosomes: whether two are equal.
 
 ghost use Rattle.std.specs.Prelude.{◌≡◌, ◌-◌, ◌≤◌, IfSome, bytes_eq, drop, length, take};
 ghost use Rattle.std.specs.Int.{from_le_bytes, w32};
@@ -6,7 +6,7 @@ ghost use Rattle.std.specs.Int.{from_le_bytes, w32};
 // The longest name that two words of four bytes cover.
 const LONGEST: usize = 8;
 
-/// Whether two names are one. The first four and the last four bytes of a name of four to eight bytes are
+/// Whether two names are equal. The first four and the last four bytes of a name of four to eight bytes are
 /// read as one number each: names are compared several times a record.
 #[inline(always)]
 pub fn is_same_name(left: &[u8], right: &[u8]) -> bool

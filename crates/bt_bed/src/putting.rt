@@ -10,8 +10,8 @@ use crate::interval_line::{put_columns, put_ended};
 use bt_lines::{Fault, Out, Sink, put_line};
 
 /// Puts a record and what ends it, as a tab or a line feed: chromosome, start, end and the kept
-/// columns, with tabs between them. Start and end are printed without leading zeros. It takes no
-/// memory.
+/// columns, with tabs between them. Start and end are printed without leading zeros. It doesn't
+/// allocate.
 pub fn put_bed<K: Sink>(bed: &BedRef<'_>, end: &[u8], out: &mut Out<K>) -> Result<(), Fault>
     ensures { Puts out.old.output (bed_text (feature_lent bed.now) ++ end.now) result out.new.output }
 {

@@ -2,7 +2,7 @@
 
 use std::alloc::{AllocError, Global};
 
-// So many bytes `x`, and then an ending.
+// This many bytes `x`, and then an ending.
 pub(crate) fn long_line(
     alloc: Global,
     length: usize,

@@ -25,7 +25,7 @@ pub(crate) const SPAN_ROOM: usize = LAST + MOVED;
 // Its first `len` bytes are held back.
 #[derive(Drop)]
 pub(crate) struct HeldBack {
-    // Only the first `len` mean anything.
+    // Those after the first `len` are unspecified.
     bytes: [u8; BLOCK],
     // At most the block.
     len: usize,
@@ -202,7 +202,7 @@ impl HeldBack {
         self.append(end);
     }
 
-    // Lets go of all.
+    // Drops all.
     pub(crate) fn clear(&mut self)
         ensures { self.new ≡ [] }
     {

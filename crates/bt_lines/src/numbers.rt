@@ -13,7 +13,7 @@ use std::simd::prelude::*;
 /// The greatest number that a text may denote.
 pub const MAX_NUMBER: u64 = 999_999_999_999;
 
-/// So many digits denote at most [`MAX_NUMBER`], whatever they are.
+/// This many digits denote at most [`MAX_NUMBER`], whatever they are.
 pub const MAX_DIGITS: usize = 12;
 
 /// The number that a text of one or more decimal digits denotes, if it is at most

@@ -241,7 +241,7 @@ fn put_across<K: Sink>(sink: &mut K, held: &mut HeldBack, piece: &[u8]) -> Resul
     put_blocks(sink, held, &piece[room..])
 }
 
-// Hands the whole blocks of a piece to the sink, and holds back what is left of it.
+// Hands the full blocks of a piece to the sink, and holds back what is left of it.
 fn put_blocks<K: Sink>(sink: &mut K, held: &mut HeldBack, piece: &[u8]) -> Result<(), DeviceFailed>
     requires { held.old ≡ [] }
     ensures put { OnOk result (Appends (K.took sink.old) (append_known (K.took sink.new) held.new) piece.now) }

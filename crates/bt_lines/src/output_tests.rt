@@ -53,7 +53,7 @@ fn put_drawn(draws: &mut Draws, text: &[u8], output: &mut Out<ScriptSink>) -> Re
     Ok(())
 }
 
-// Whether a sink that takes this many bytes at once has six texts, put so, in their order.
+// Whether a sink that takes this many bytes at once has six texts, put in drawn pieces, in their order.
 fn are_put_in_order(alloc: Global, draws: &mut Draws, step: usize) -> Result<bool, Fail> {
     let mut output = Out::new(ScriptSink::new(alloc, step.max(1), None));
     let mut whole = Vec::new(alloc);

@@ -1,5 +1,5 @@
-//! The engine of `bedtools merge`: the runs of all records, of those of one strand, or of each strand by
-//! itself.
+//! The engine of `bedtools merge`: the runs of all records, of those of one strand, or of each strand
+//! separately.
 
 ghost use Rattle.std.specs.Prelude.{◌≡◌, ◌≤◌, length, true, Some};
 ghost use Rattle.bt_lines.specs.Output.{Grows};

@@ -87,7 +87,7 @@ fn lies_in(strand: Strand, run: PlainSpan, bed: PlainStranded) -> bool
     is_strand(strand, bed.strand) && run.start <= bed.span.start && bed.span.stop <= run.stop
 }
 
-// Whether two strands are one.
+// Whether two strands are equal.
 fn is_strand(first: Strand, second: Strand) -> bool
     ensures { result ≡ is_strand first second }
 {

@@ -7,7 +7,7 @@ use crate::header_name::is_header;
 use crate::window::up_to_limit;
 use bt_lines::{BufferedLines, LineText};
 
-// Goes over lines of a sequence. Nothing but this is written to for each line.
+// Iterates over lines of a sequence. Nothing but this is written to for each line.
 #[derive(Clone, Copy)]
 pub(crate) struct CopyThrough<'a> {
     // The lines that come.

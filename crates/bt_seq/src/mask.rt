@@ -59,7 +59,7 @@ impl Mask {
     }
 
     /// How many records it holds: those of the sequence's block that start before the end of the line
-    /// given last and reach past its start. Behind the last line none is added, since the records of
+    /// given last and reach past its start. After the last line none is added, since the records of
     /// a block rise.
     pub fn kept_len(&self) -> usize
         ensures stage { (how : MaskHow) (full : Bool) (stage : MaskStage)

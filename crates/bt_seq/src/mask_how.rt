@@ -6,7 +6,7 @@ ghost use Rattle.bt_seq.specs.declared.mask_how.MaskHow.TheVariants.{Soft};
 
 use std::simd::prelude::*;
 
-// So many bases are masked at once.
+// How many bases are masked at once.
 const LANES: usize = 32;
 
 /// What stands for a masked base.
@@ -125,7 +125,7 @@ mod tests {
                 return false;
             }
         }
-        // Behind the slice nothing is masked.
+        // After the slice nothing is masked.
         soft[count..].iter().all(|byte| *byte == 0) && hard[count..].iter().all(|byte| *byte == 0)
     }
 

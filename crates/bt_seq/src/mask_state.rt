@@ -296,7 +296,7 @@ impl MaskState {
     }
 
     // Keeps up to which base a record decides lines, since it decides the one that waits: up to its start,
-    // or all if its block belongs to nobody.
+    // or all if its block belongs to no sequence.
     fn know(&mut self, owner: Owner, start: u64)
         ensures { self.new ≡ record self.old { decided_to = decides_up_to owner start } }
     {

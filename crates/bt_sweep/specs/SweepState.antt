@@ -20,7 +20,7 @@ pub record Sweeping : Type 0 where
   pub phase : Phase
 
 -- what is wanted: the second input while lines are to be written, then the first, and nothing at
--- last or after a fault
+-- the end or after a fault
 abbrev pub want_of : Bool → Bool → Want
 want_of true done = B
 want_of false true = Nothing

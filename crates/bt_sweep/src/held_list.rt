@@ -167,7 +167,7 @@ fn has_ended(records: &VecDeque<Rec>, count: usize, place: u64) -> bool
 }
 
 // Drops those of the first `count` records that end at or before the place. The others are moved
-// after those that follow, and back at last.
+// after those that follow, and then back.
 #[inline(always)]
 fn drop_ended_of(records: &mut VecDeque<Rec>, count: usize, place: u64)
     requires { count ≤ length records.old.items }
@@ -182,7 +182,7 @@ fn drop_ended_of(records: &mut VecDeque<Rec>, count: usize, place: u64)
 }
 
 // Drops the first record if it ends at or before the place, and else moves it after the others.
-// Answers how many were moved there.
+// Returns how many were moved there.
 fn pass_first(records: &mut VecDeque<Rec>, place: u64) -> usize
     ensures passed { records.new.items
         ≡ drop 1 records.old.items ++ filter (λ r. nat_lt place r.stop) (take 1 records.old.items) }

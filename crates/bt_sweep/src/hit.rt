@@ -51,7 +51,7 @@ pub(crate) fn strands_agree(rule: HitRule, a: &BedRef<'_>, b: &BedRef<'_>) -> bo
     !rule.same_strand || is_strand(a.strand, b.strand)
 }
 
-// Whether two strands are one.
+// Whether two strands are equal.
 fn is_strand(first: Strand, second: Strand) -> bool
     ensures { result ≡ is_strand first second }
 {

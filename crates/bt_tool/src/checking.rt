@@ -56,7 +56,7 @@ fn overwrites(names: NamedFiles<'_>) -> bool
     names.genome == Some(output) || names.first == output || names.second == Some(output)
 }
 
-// Whether this input is there, and is standard input.
+// Whether the plan has this input, and it is standard input.
 fn is_standard(name: Option<&str>) -> bool
     ensures { result ≡ option_map_or is_standard_input (option_map (λ name. name.now) name.entry) false }
 {

@@ -31,7 +31,7 @@ use bt_seq::MaskHow;
 use bt_sweep::{HitRule, Shape};
 use std::alloc::Global;
 
-/// How a run ended, and the devices that it was given: `genome` and `second` are there exactly if
+/// How a run ended, and the devices that it was given: `genome` and `second` are `Some` exactly if
 /// they were.
 #[derive(Debug, Drop)]
 pub struct Ended<G, A, B, K> {
