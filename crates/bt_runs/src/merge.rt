@@ -69,7 +69,7 @@ impl Merge {
     }
 
     /// Takes the next record, and writes the lines that it settles. A record on the chromosome of the one before it can't
-    /// fail if it joins a kept run or isn't merged, and closes none that could be written. The first fault is returned from
+    /// fail if it opens no run, and closes none that can be written. The first fault is returned from
     /// then on: `WriteFailed`, or `NoMemory`, only if the chromosome is
     /// another than that of the record before, and with [`MergeStrand::Each`] if a run has to be opened too.
     pub fn feed<K: Sink>(&mut self, bed: &BedRef<'_>, out: &mut Out<K>) -> Result<(), Fault>
