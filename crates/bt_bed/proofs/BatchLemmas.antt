@@ -32,6 +32,7 @@ module _ (batch : Batch) (line : LineText) (cut : Cut (rest_in (cursor_in batch)
         ∙ ap (λ l. record_in raw ∷ behind (drop 1 l)) (sym first);
     line = line_shown line;
     cut = cut;
+    text_is = is.text;
     size_is = sym is.size;
   }
     where

@@ -24,6 +24,7 @@ pub mod ReadingLemmas
 pub mod NeighbourLemmas
 pub mod NameKeyLemmas
 pub mod ColumnsLemmas
+pub mod ConsumedLemmas
 pub mod GoodBlocksLemmas
 pub mod IntervalLineLemmas
 pub mod MeetingLemmas

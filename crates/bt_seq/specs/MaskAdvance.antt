@@ -157,6 +157,12 @@ module _ {C : Type 0} (gives : C → List Feature → C → Type 0) (line_at : C
         → ComesNext stage.ahead records
         → BothCome how full stage [] taken out records answer new left grown
 
+-- nothing is taken and nothing is written
+abbrev pub Stays : {C : Type 0} → Masking → BufferedLines → C → Output → Masking → BufferedLines → C
+    → Output → Type 0
+Stays old lines records out new lines_left records_left grown =
+    (new ≡ old) × (lines_left ≡ lines) × (records_left ≡ records) × (grown ≡ out)
+
 -- how much may be given: it falls with each line and each record
 abbrev pub left_to_give : {C : Type 0} → (C → ℕ) → Masking → BufferedLines → C → ℕ
 left_to_give room mask lines records =

@@ -6,7 +6,7 @@ ghost use Rattle.bt_bed.specs.GoodBlocks.{AreInBlocks};
 ghost use Rattle.bt_lines.specs.LentLine.{line_seen};
 ghost use Rattle.bt_seq.specs.MaskStage.{IsNext, MaskStage, first_stage, given, held_by, line_given_last, want_at, with_lines_ended};
 ghost use Rattle.bt_seq.specs.MaskStanding.{MaskStandsAt};
-ghost use Rattle.bt_seq.specs.MaskAdvance.{GivesBoth, GivesRecord, StopsAt, left_to_give};
+ghost use Rattle.bt_seq.specs.MaskAdvance.{GivesBoth, GivesRecord, Stays, StopsAt, left_to_give};
 ghost use Rattle.bt_seq.specs.MaskSteps.{ChecksRecord, EndsCheck, EndsRecords, GivesNextLine, GivesBed};
 ghost use Rattle.bt_seq.specs.Sequences.{SequenceLine};
 
@@ -85,7 +85,8 @@ impl Mask {
     }
 
     /// Takes lines and records, one after another, as long as the next one that it wants is available. It fails as
-    /// [`Mask::give_line`] and [`Mask::give_bed`] do. Lines that nothing masks are written together.
+    /// [`Mask::give_line`] and [`Mask::give_bed`] do. Lines that nothing masks are written together. An engine that wants
+    /// nothing takes nothing.
     pub fn advance<C: Cursor, K: Sink>(
         &mut self,
         lines: &mut BufferedLines<'_>,
@@ -95,6 +96,8 @@ impl Mask {
         ensures gives { GivesBoth C.gives C.line C.has_ended self.old lines.old records.old out.old.output result
             self.new lines.new records.new out.new.output }
         ensures stops { OnOk result (StopsAt C.gives C.line C.has_ended self.new.want lines.new records.new) }
+        ensures idle { self.old.want ≡ MaskWant.Nothing → (result ≡ Ok tt) × Stays self.old lines.old records.old out.old.output
+            self.new lines.new records.new out.new.output }
     {
         while self.gives_next(lines, records, out)? {}
         Ok(())
@@ -113,6 +116,8 @@ impl Mask {
         ensures stops { result ≡ Ok false → StopsAt C.gives C.line C.has_ended self.new.want lines.new records.new }
         ensures shrinks { result ≡ Ok true → left_to_give C.room self.new lines.new records.new
             < left_to_give C.room self.old lines.old records.old }
+        ensures idle { self.old.want ≡ MaskWant.Nothing → (result ≡ Ok false) × Stays self.old lines.old records.old out.old.output
+            self.new lines.new records.new out.new.output }
     {
         match self.want() {
             MaskWant::Line => self.state.give_lines(lines, out),

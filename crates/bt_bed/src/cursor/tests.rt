@@ -55,3 +55,54 @@ fn buffered_records_are_given_in_order(rt: HostRuntime) -> Result<(), Fail> {
     assert!(rt; are_given);
     Ok(())
 }
+
+// Consumes the next record: whether its line ends at this offset, and whether the line is what is written for it.
+fn ends_at<C: Cursor>(records: &mut C, offset: usize, is_canonical: bool) -> bool {
+    match records.next() {
+        None => false,
+        Some(record) => (records.offset(), record.is_canonical()) == (offset, is_canonical),
+    }
+}
+
+// Whether these bytes lie between two offsets of what was consumed.
+fn lies_between<C: Cursor>(records: &C, from: usize, to: usize, bytes: &[u8]) -> bool {
+    records.between(from, to) == bytes
+}
+
+#[test]
+fn lines_that_are_what_is_written_lie_between_offsets(rt: HostRuntime) -> Result<(), Fail> {
+    let text = b"chr1\t1\t5\nchr1\t2\t4\tn\nchr1\t02\t4\nchr1\t3\t9\r\nchr1\t4\t9";
+    let lines = LineReader::new(
+        rt.alloc(),
+        ScriptSource::new(text, 8192, None),
+        Input::First,
+    );
+    let order = ByteOrder;
+    let mut records = Records::new(rt.alloc(), lines, &order);
+    if !records.fill()? {
+        return Err("a record".into());
+    }
+    let mut batch = records.buffered();
+    let ends = ends_at(&mut batch, 9, true)
+        && ends_at(&mut batch, 20, true)
+        && ends_at(&mut batch, 30, false)
+        && ends_at(&mut batch, 40, false);
+    let lies = lies_between(&batch, 0, 20, b"chr1\t1\t5\nchr1\t2\t4\tn\n")
+        && lies_between(&batch, 20, 20, b"")
+        && lies_between(&batch, 20, 30, b"chr1\t02\t4\n");
+    let _ = records.into_reader().into_source();
+    assert!(rt; ends);
+    assert!(rt; lies);
+    Ok(())
+}
+
+#[test]
+fn a_single_record_has_no_line(rt: HostRuntime) -> Result<(), Fail> {
+    let Ok(Some(bed)) = crate::parsing::parse_bed(b"chr1\t2\t4") else {
+        return Err("a record".into());
+    };
+    let mut one = Single::new(bed, 3);
+    assert!(rt; ends_at(&mut one, 0, false));
+    assert!(rt; lies_between(&one, 0, 0, b""));
+    Ok(())
+}

@@ -574,3 +574,27 @@ fn plain_masking_agrees(rt: HostRuntime) -> Result<(), Fail> {
     assert_eq!(rt; second, (4, *b"acGt"));
     Ok(())
 }
+
+#[test]
+fn an_engine_that_wants_nothing_takes_nothing(rt: HostRuntime) -> Result<(), Fail> {
+    let mut lines = LineReader::new(
+        rt.alloc(),
+        ScriptSource::new(b">s\nACGT\n", 8192, None),
+        Input::First,
+    );
+    let is_some = lines.fill()?;
+    assert!(rt; is_some);
+    let mut mask = Mask::new(rt.alloc(), MaskHow::Soft, false);
+    mask.end_lines();
+    let mut out = Out::new(ScriptSink::new(rt.alloc(), 7, None));
+    let mut none = Single::none(b"s");
+    let ended = mask.end_bed(&mut out);
+    let mut buffered = lines.buffered();
+    let advanced = mask.advance(&mut buffered, &mut none, &mut out);
+    let stays = mask.want() == MaskWant::Nothing && buffered.offset() == 0;
+    let _ = lines.into_source();
+    assert!(rt; ended.is_ok());
+    assert!(rt; advanced.is_ok());
+    assert!(rt; stays);
+    Ok(())
+}

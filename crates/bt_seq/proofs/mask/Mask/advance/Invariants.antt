@@ -1,11 +1,14 @@
-use Rattle.std.proofs.Common.{true, Bool, Ok}
-use Rattle.bt_seq.specs.MaskAdvance.{GivesBoth, left_to_give}
+use Rattle.std.proofs.Common.{◌≡◌, true, Bool, Ok}
+use Rattle.bt_seq.specs.MaskAdvance.{GivesBoth, Stays, left_to_give}
+use Rattle.bt_seq.specs.declared.mask_want.MaskWant.TheVariants.{Nothing}
 use Rattle.bt_seq.proofs.mask.Mask.advance.Given as goal
 
 -- lines and records were given, one after another
 abbrev pub invariant-loop : goal.invariant-loop
-invariant-loop g l =
-    GivesBoth g.C.Cursor.gives g.C.Cursor.line g.C.Cursor.has_ended {A = Bool} l.fn.self l.fn.lines l.fn.records l.fn.out.output (Ok true) l.self l.lines l.records l.out.output
+invariant-loop g l = record {
+  gives : GivesBoth g.C.Cursor.gives g.C.Cursor.line g.C.Cursor.has_ended {A = Bool} l.fn.self l.fn.lines l.fn.records l.fn.out.output (Ok true) l.self l.lines l.records l.out.output;
+  idle : l.fn.self.want ≡ Nothing → Stays l.fn.self l.fn.lines l.fn.records l.fn.out.output l.self l.lines l.records l.out.output;
+}
 
 abbrev pub decreases-loop : goal.decreases-loop
 decreases-loop g l = left_to_give g.C.Cursor.room l.self l.lines l.records
