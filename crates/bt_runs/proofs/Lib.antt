@@ -34,9 +34,7 @@ pub mod OpenLemmas
 pub mod DepthWalk
 pub mod DepthLines
 pub mod DepthSteps
-pub mod PlainDepths
 pub mod CoveredLevels
-pub mod PlainStrands
 mod Examples
 mod GapExamples
 mod DepthExamples

@@ -146,14 +146,3 @@ pub next_apart : (front : List PlainSpan) (run : PlainSpan) (p : ℕ) → (run.s
 next_apart front run p other =
     let apart = cond-false (run.stop == p) (record { start = run.start; stop = p + 1 } ∷ []) (span_in run ∷ record { start = p; stop = p + 1 } ∷ []) (ne_eqb run.stop p other) in
     map-append span_in (front ++ run ∷ []) (record { start = p; stop = p + 1 } ∷ []) ∙ ap (λ zs. zs ++ record { start = p; stop = p + 1 } ∷ []) (map-append span_in front (run ∷ [])) ∙ append_assoc (spans_in front) (span_in run ∷ []) (record { start = p; stop = p + 1 } ∷ []) ∙ ap (λ zs. spans_in front ++ zs) (sym apart) ∙ sym (with_next-last (spans_in front) (span_in run) p) ∙ ap (λ zs. with_next zs p) (sym (map-append span_in front (run ∷ [])))
-
--- the stretches of the bare positions below n
-abbrev pub AreGapsBelow : List Span → ℕ → List Span → Type 0
-AreGapsBelow spans n gaps = AreBelow (λ p. IsCovered spans p → ⊥) n gaps
-
-pub gaps_below-all : (size n : ℕ) (spans gaps : List Span) → n ≡ size → AreGapsBelow spans n gaps → gaps ≡ gaps_of size spans
-gaps_below-all size n spans gaps all g = only_gaps size spans gaps (record {
-  apart = g.apart;
-  within = λ p c. let h = g.within p c in record { within = omega (arith, h.0); bare = h.1 };
-  whole = λ p b. let low = b.within in g.whole p (omega arith, b.bare);
-})

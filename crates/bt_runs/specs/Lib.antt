@@ -38,5 +38,3 @@ pub mod CountSeen
 pub mod Covering
 pub mod CountedDepths
 pub mod CoveredLevels
-pub mod PlainLevels
-pub mod PlainStrands

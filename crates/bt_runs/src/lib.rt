@@ -49,10 +49,7 @@ mod open_ends;
 mod open_records;
 mod pending_runs;
 mod per_strand_merge;
-pub mod plain;
-pub mod plain_depths;
-pub mod plain_gaps;
-pub mod plain_strands;
+mod plain;
 mod rule;
 pub mod strand_laws;
 #[cfg(test)]

@@ -10,13 +10,13 @@ use std::alloc::{AllocError, Global};
 
 /// A stretch of one chromosome. Positions count from zero, and the stop isn't included.
 #[derive(Clone, Copy, Debug, PartialEq, Eq)]
-pub struct PlainSpan {
-    pub start: u64,
-    pub stop: u64,
+pub(crate) struct PlainSpan {
+    pub(crate) start: u64,
+    pub(crate) stop: u64,
 }
 
 /// The merged runs of the spans of one chromosome, which may come in any order.
-pub fn plain_runs(
+pub(crate) fn plain_runs(
     alloc: Global,
     spans: &[PlainSpan],
     gap: u64,

@@ -26,7 +26,6 @@ pub mod KnownLemmas
 pub mod StandLemmas
 pub mod LineStepLemmas
 pub mod BedStepLemmas
-pub mod PlainMaskLemmas
 pub mod ColumnEndLemmas
 pub mod ShortNumbers
 pub mod NameLemmas

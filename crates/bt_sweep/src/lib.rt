@@ -37,7 +37,7 @@ mod hit_rule;
 pub mod laws;
 mod phase;
 mod pieces;
-pub mod plain;
+mod plain;
 mod plain_pieces;
 mod reach;
 mod relation;

@@ -17,7 +17,7 @@ use itoa::Buffer;
 use std::alloc::{AllocError, Global};
 
 /// What intersect writes of two lists of records, which may come in any order.
-pub fn plain_intersect(
+pub(crate) fn plain_intersect(
     alloc: Global,
     shape: Shape,
     rule: HitRule,

@@ -1,8 +1,6 @@
 use super::*;
-use crate::plain_gaps::plain_gaps;
 use crate::testing::{
-    Bounds, Row, check_failing, check_row, check_spans, expect_end, feed_kept, genome, lines_of,
-    spans_of,
+    Bounds, Row, check_failing, check_row, check_spans, expect_end, feed_kept, genome, spans_of,
 };
 use bt_lines::ScriptSink;
 use std::alloc::Global;
@@ -193,36 +191,36 @@ fn one_place_is_kept_of_many_records(rt: HostRuntime) -> Result<(), Fail> {
     Ok(())
 }
 
-// An engine has to write the gaps that the plain program gives.
-fn check_plain(rt: &impl Abort, alloc: Global, cases: &[Bounds]) -> Result<(), Fail> {
-    let genome = genome(alloc, GENOME)?;
-    for bounds in cases {
-        let spans = spans_of(alloc, bounds)?;
-        let gaps = plain_gaps(alloc, spans.as_slice(), 50)?;
-        let wanted = lines_of(alloc, "chr2", gaps.as_slice())?;
-        let complement = Complement::new(&genome, true);
-        check_spans(
-            rt,
-            alloc,
-            complement,
-            "chr2",
-            spans.as_slice(),
-            wanted.as_slice(),
-        )?;
-    }
-    Ok(())
-}
-
-const PLAIN_CASES: [Bounds; 6] = [
-    &[(0, 1), (0, 7), (3, 5), (9, 10)],
-    &[(1, 2), (2, 3), (4, 40), (30, 35)],
-    &[(49, 60), (49, 50), (70, 90)],
-    &[(20, 21), (51, 52)],
-    &[(0, 50)],
-    &[(60, 61), (62, 63)],
+// Spans of `chr2`, which has 50 bases, and its gaps.
+const GAPS: [(Bounds, &[u8]); 6] = [
+    (
+        &[(0, 1), (0, 7), (3, 5), (9, 10)],
+        b"chr2\t7\t9\nchr2\t10\t50\n",
+    ),
+    (
+        &[(1, 2), (2, 3), (4, 40), (30, 35)],
+        b"chr2\t0\t1\nchr2\t3\t4\nchr2\t40\t50\n",
+    ),
+    (&[(49, 60), (49, 50), (70, 90)], b"chr2\t0\t49\n"),
+    (&[(20, 21), (51, 52)], b"chr2\t0\t20\nchr2\t21\t50\n"),
+    (&[(0, 50)], b""),
+    (&[(60, 61), (62, 63)], b"chr2\t0\t50\n"),
 ];
 
 #[test]
-fn gives_what_the_plain_program_gives(rt: HostRuntime) -> Result<(), Fail> {
-    check_plain(&rt, rt.alloc(), &PLAIN_CASES)
+fn gaps_lie_between_spans_below_the_length(rt: HostRuntime) -> Result<(), Fail> {
+    let genome = genome(rt.alloc(), GENOME)?;
+    for (bounds, wanted) in &GAPS {
+        let spans = spans_of(rt.alloc(), bounds)?;
+        let complement = Complement::new(&genome, true);
+        check_spans(
+            &rt,
+            rt.alloc(),
+            complement,
+            "chr2",
+            spans.as_slice(),
+            wanted,
+        )?;
+    }
+    Ok(())
 }

@@ -1,6 +1,4 @@
 use super::*;
-use crate::plain::PlainSpan;
-use crate::plain_depths::{PlainDepth, plain_depths};
 use crate::testing::{
     Bounds, Row, check_failing, check_row, check_spans, expect_end, feed_line, feed_row, genome,
     holds, same_answer, spans_of,
@@ -305,97 +303,39 @@ fn thousands_of_records_are_open_at_once(rt: HostRuntime) -> Result<(), Fail> {
     Ok(())
 }
 
-// The lines of intervals of the first chromosome.
-fn lines_of(alloc: Global, depths: &[PlainDepth]) -> Result<Vec<u8>, AllocError> {
-    let mut text = Vec::new(alloc);
-    for depth in depths {
-        let line = format!(in alloc; "chr1\t{}\t{}\t{}\n", depth.start, depth.stop, depth.depth)?;
-        text.extend_from_slice(line.as_bytes())?;
-    }
-    Ok(text)
-}
-
-// An engine has to write the lines of what the plain program gives.
-fn check_as_plain(
-    rt: &impl Abort,
-    alloc: Global,
-    genome: &Genome,
-    spans: &[PlainSpan],
-    length: u64,
-    zeros: bool,
-) -> Result<(), Fail> {
-    let depths = plain_depths(alloc, spans, length, zeros)?;
-    let wanted = lines_of(alloc, depths.as_slice())?;
-    let coverage = Coverage::new(alloc, genome, zeros, None);
-    check_spans(rt, alloc, coverage, "chr1", spans, wanted.as_slice())
-}
-
-fn check_plain(
-    rt: &impl Abort,
-    alloc: Global,
-    genome: &Genome,
-    cases: &[Bounds],
-) -> Result<(), Fail> {
-    for bounds in cases {
-        let spans = spans_of(alloc, bounds)?;
-        check_as_plain(rt, alloc, genome, spans.as_slice(), 20, false)?;
-        check_as_plain(rt, alloc, genome, spans.as_slice(), 20, true)?;
-    }
-    Ok(())
-}
-
-const PLAIN_CASES: [Bounds; 7] = [
-    &[(0, 1), (0, 7), (3, 5), (9, 10)],
-    &[(1, 2), (2, 3), (4, 18), (10, 15)],
-    &[(3, 9), (3, 9), (9, 12), (12, 30)],
-    &[(5, 6), (20, 21), (22, 23)],
-    &[(0, 20)],
-    &[(0, 9), (1, 8), (2, 7), (3, 6), (4, 5), (6, 7), (8, 9)],
-    &[(0, 5), (0, 3), (0, 4), (2, 3), (3, 5), (5, 9), (5, 7)],
+// Spans of `chr1`, which has 20 bases, and its intervals of equal depth.
+const DEPTHS: [(Bounds, &[u8]); 7] = [
+    (
+        &[(0, 1), (0, 7), (3, 5), (9, 10)],
+        b"chr1\t0\t1\t2\nchr1\t1\t3\t1\nchr1\t3\t5\t2\nchr1\t5\t7\t1\nchr1\t9\t10\t1\n",
+    ),
+    (
+        &[(1, 2), (2, 3), (4, 18), (10, 15)],
+        b"chr1\t1\t3\t1\nchr1\t4\t10\t1\nchr1\t10\t15\t2\nchr1\t15\t18\t1\n",
+    ),
+    (
+        &[(3, 9), (3, 9), (9, 12), (12, 30)],
+        b"chr1\t3\t9\t2\nchr1\t9\t20\t1\n",
+    ),
+    (&[(5, 6), (20, 21), (22, 23)], b"chr1\t5\t6\t1\n"),
+    (&[(0, 20)], b"chr1\t0\t20\t1\n"),
+    (
+        &[(0, 9), (1, 8), (2, 7), (3, 6), (4, 5), (6, 7), (8, 9)],
+        b"chr1\t0\t1\t1\nchr1\t1\t2\t2\nchr1\t2\t3\t3\nchr1\t3\t4\t4\nchr1\t4\t5\t5\nchr1\t5\t7\t4\nchr1\t7\t9\t2\n",
+    ),
+    (
+        &[(0, 5), (0, 3), (0, 4), (2, 3), (3, 5), (5, 9), (5, 7)],
+        b"chr1\t0\t2\t3\nchr1\t2\t3\t4\nchr1\t3\t4\t3\nchr1\t4\t7\t2\nchr1\t7\t9\t1\n",
+    ),
 ];
 
 #[test]
-fn gives_what_the_plain_program_gives(rt: HostRuntime) -> Result<(), Fail> {
+fn depths_are_those_of_the_spans_below_the_length(rt: HostRuntime) -> Result<(), Fail> {
     let genome = genome(rt.alloc(), b"chr1\t20\n")?;
-    check_plain(&rt, rt.alloc(), &genome, &PLAIN_CASES)
-}
-
-// All spans below 4, in order.
-const SHORT: [PlainSpan; 10] = [
-    PlainSpan { start: 0, stop: 1 },
-    PlainSpan { start: 0, stop: 2 },
-    PlainSpan { start: 0, stop: 3 },
-    PlainSpan { start: 0, stop: 4 },
-    PlainSpan { start: 1, stop: 2 },
-    PlainSpan { start: 1, stop: 3 },
-    PlainSpan { start: 1, stop: 4 },
-    PlainSpan { start: 2, stop: 3 },
-    PlainSpan { start: 2, stop: 4 },
-    PlainSpan { start: 3, stop: 4 },
-];
-
-// Feeds each three of these spans that come in order.
-fn check_threes(
-    rt: &impl Abort,
-    alloc: Global,
-    genome: &Genome,
-    spans: &[PlainSpan],
-) -> Result<(), Fail> {
-    for first in spans {
-        for second in spans {
-            for third in spans {
-                if first.start <= second.start && second.start <= third.start {
-                    let three = [*first, *second, *third];
-                    check_as_plain(rt, alloc, genome, &three, 4, false)?;
-                }
-            }
-        }
+    for (bounds, wanted) in &DEPTHS {
+        let spans = spans_of(rt.alloc(), bounds)?;
+        let coverage = Coverage::new(rt.alloc(), &genome, false, None);
+        check_spans(&rt, rt.alloc(), coverage, "chr1", spans.as_slice(), wanted)?;
     }
     Ok(())
-}
-
-#[test]
-fn all_small_cases(rt: HostRuntime) -> Result<(), Fail> {
-    let genome = genome(rt.alloc(), b"chr1\t4\n")?;
-    check_threes(&rt, rt.alloc(), &genome, &SHORT)
 }

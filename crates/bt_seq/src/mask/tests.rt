@@ -1,10 +1,8 @@
 ghost use Rattle.std.specs.Prelude.{◌≡◌};
 
 use super::*;
-use crate::plain::plain_mask;
-use bt_bed::{Blocks, Rec, Single, parse_bed};
+use bt_bed::{Blocks, Single, parse_bed};
 use bt_lines::{BufferedLines, Input, Kind, LineEnd, LineReader, Place, ScriptSink, ScriptSource};
-use std::alloc::AllocError;
 use std::test::Fail;
 
 // The FASTA text, the BED text, what is written, and what is wrong at which line of which input.
@@ -532,47 +530,6 @@ fn lines_given_together_are_masked(rt: HostRuntime) {
     for row in &BUFFERED {
         assert!(rt; agrees_buffered(rt.alloc(), row));
     }
-}
-
-// The records of these lines.
-fn records_of(alloc: Global, lines: &[&[u8]]) -> Result<Vec<Rec>, AllocError> {
-    let mut records = Vec::new(alloc);
-    for line in lines {
-        if let Ok(Some(bed)) = parse_bed(line) {
-            records.push(bed.to_rec(alloc)?)?;
-        }
-    }
-    Ok(records)
-}
-
-// How many records these lines say, and four bases from a position on as the plain program masks them by
-// those.
-fn plainly_masked(
-    alloc: Global,
-    bases: &[u8; 4],
-    from: u32,
-    lines: &[&[u8]],
-) -> Result<(usize, [u8; 4]), AllocError> {
-    let records = records_of(alloc, lines)?;
-    let mut masked = *bases;
-    plain_mask(
-        &mut masked,
-        u64::from(from),
-        records.as_slice(),
-        MaskHow::Soft,
-    );
-    Ok((records.len(), masked))
-}
-
-const IN_EIGHT_BASES: [&[u8]; 4] = [b"s\t0\t1", b"s\t3\t6", b"s\t4\t5", b"s\t7\t20"];
-
-#[test]
-fn plain_masking_agrees(rt: HostRuntime) -> Result<(), Fail> {
-    let first = plainly_masked(rt.alloc(), b"ACGT", 0, &IN_EIGHT_BASES)?;
-    let second = plainly_masked(rt.alloc(), b"ACGT", 4, &IN_EIGHT_BASES)?;
-    assert_eq!(rt; first, (4, *b"aCGt"));
-    assert_eq!(rt; second, (4, *b"acGt"));
-    Ok(())
 }
 
 #[test]
