@@ -22,3 +22,14 @@ pub mod PartMaskFaults
 pub mod PartMaskLaws
 pub mod PartOwnGenomes
 pub mod PartSuffice
+pub mod ReadBack
+pub mod Clear
+pub mod TailSays
+pub mod Digits
+pub mod Placing
+pub mod SaidWell
+pub mod LinesBack
+pub mod RunsBack
+pub mod GapsBack
+pub mod SweepBack
+pub mod PipeLaws

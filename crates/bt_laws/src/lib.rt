@@ -4,4 +4,5 @@
 //! `specs/`, in the words of the report of a run (`report_of` of bt_tool).
 #![tactic(auto)]
 
+pub mod pipes;
 pub mod split_laws;
