@@ -33,3 +33,4 @@ pub mod RunsBack
 pub mod GapsBack
 pub mod SweepBack
 pub mod PipeLaws
+pub mod SameLines

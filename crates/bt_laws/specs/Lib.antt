@@ -6,3 +6,4 @@ pub mod OwnGenomeLaws
 pub mod Taken
 pub mod SweepLines
 pub mod Pipes
+pub mod SameLines

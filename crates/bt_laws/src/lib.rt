@@ -5,4 +5,5 @@
 #![tactic(auto)]
 
 pub mod pipes;
+pub mod same_lines;
 pub mod split_laws;
