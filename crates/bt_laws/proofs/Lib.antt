@@ -34,3 +34,6 @@ pub mod GapsBack
 pub mod SweepBack
 pub mod PipeLaws
 pub mod SameLines
+pub mod Covers
+pub mod AlikeRecords
+pub mod RunsAgain

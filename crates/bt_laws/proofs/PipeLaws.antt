@@ -92,7 +92,7 @@ module _ (command : Command) (inputs : Inputs) (chromosomes : Option (List Entry
 
 -- ---- merge
 
-merge_whole : (d : ℕ) (strand : MergeStrand) (inputs : Inputs) (chromosomes : Option (List Entry)) → RunsWell (Merge d strand) inputs chromosomes
+pub merge_whole : (d : ℕ) (strand : MergeStrand) (inputs : Inputs) (chromosomes : Option (List Entry)) → RunsWell (Merge d strand) inputs chromosomes
     → (report_of (Merge d strand) inputs).output ≡ (merge_written (order_of chromosomes) d strand).whole (first_records chromosomes inputs)
 merge_whole d strand inputs chromosomes well =
     output_is (Merge d strand) inputs chromosomes well
@@ -143,7 +143,7 @@ module _ (limit : Bool) (inputs : Inputs) (chromosomes : Option (List Entry)) (w
   abbrev gaps_of_run : List Interval
   gaps_of_run = complement limit (entries_in chromosomes) (first_records chromosomes inputs)
 
-  complement_whole : (report_of (Complement limit) inputs).output ≡ interval_lines gaps_of_run
+  pub complement_whole : (report_of (Complement limit) inputs).output ≡ interval_lines gaps_of_run
   complement_whole = output_is (Complement limit) inputs chromosomes well
       ∙ whole_by (complement_written (entries_in chromosomes) limit) (first_records chromosomes inputs) (bed_good First (order_of chromosomes) inputs.first).fault (well_there (Complement limit) inputs chromosomes well)
 
@@ -172,11 +172,16 @@ depths_input zeros strand genome (Some entries) records e =
     let known = chroms_of genome entries e in
     (coverage_back entries known.0 known.1 zeros strand records, depths_disjoint entries known.0 known.1 zeros strand records)
 
+pub genomecov_whole : (zeros : Bool) (strand : Option Strand) (inputs : Inputs) (chromosomes : Option (List Entry)) → RunsWell (Coverage zeros strand) inputs chromosomes
+    → (report_of (Coverage zeros strand) inputs).output ≡ depth_lines (coverage zeros strand (entries_in chromosomes) (first_records chromosomes inputs))
+genomecov_whole zeros strand inputs chromosomes well =
+    output_is (Coverage zeros strand) inputs chromosomes well
+    ∙ whole_by (coverage_written (entries_in chromosomes) zeros strand) (first_records chromosomes inputs) (bed_good First (order_of chromosomes) inputs.first).fault (well_there (Coverage zeros strand) inputs chromosomes well)
+
 pub genomecov_input : genomecov_is_input
 genomecov_input zeros strand inputs chromosomes well =
     let depths = coverage zeros strand (entries_in chromosomes) (first_records chromosomes inputs) in
-    let e : (report_of (Coverage zeros strand) inputs).output ≡ depth_lines depths = output_is (Coverage zeros strand) inputs chromosomes well
-    ∙ whole_by (coverage_written (entries_in chromosomes) zeros strand) (first_records chromosomes inputs) (bed_good First (order_of chromosomes) inputs.first).fault (well_there (Coverage zeros strand) inputs chromosomes well) in
+    let e = genomecov_whole zeros strand inputs chromosomes well in
     let is = depths_input zeros strand inputs.genome chromosomes (first_records chromosomes inputs) well.genome in
     (depths, e, subst (λ text. IsInput (order_of chromosomes) text (filter is_no_header (map four_columns depths))) (sym e) is.0, is.1)
 

@@ -7,3 +7,4 @@ pub mod Taken
 pub mod SweepLines
 pub mod Pipes
 pub mod SameLines
+pub mod SameRuns

@@ -6,4 +6,5 @@
 
 pub mod pipes;
 pub mod same_lines;
+pub mod same_runs;
 pub mod split_laws;
