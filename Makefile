@@ -66,13 +66,15 @@ check-docs: $(PROGRAM)
 	docs/prose.py
 
 # Closed standard streams, full disks, directories: what no proof says of real files. Then want of memory, in small address
-# spaces and with each growth refused, what is allocated over many records, and random bytes.
+# spaces and with each growth refused, what is allocated over many records, random bytes, and the laws of docs/PIPES.md
+# on random inputs.
 check-program: $(PROGRAM)
 	docs/edges.py
 	docs/scarce.py
 	docs/refusals.py
 	docs/allocations.py
 	docs/hostile.py
+	docs/laws.py
 
 # The instructions a record, beside those in bench/instructions.txt.
 check-speed: $(PROGRAM)

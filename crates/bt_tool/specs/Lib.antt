@@ -40,8 +40,3 @@ pub mod Report
 pub mod Chromosomes
 pub mod Gives
 pub mod Headline
-pub mod Parts
-pub mod SplitLaws
-pub mod GenomeSplitLaws
-pub mod MaskSplitLaws
-pub mod OwnGenomeLaws

@@ -36,7 +36,6 @@ mod options;
 mod outcome;
 mod plan_type;
 mod running;
-pub mod split_laws;
 mod sweeping;
 mod table;
 mod takes;

@@ -1,0 +1,10 @@
+pub mod Parts
+pub mod SplitLaws
+pub mod GenomeSplitLaws
+pub mod MaskSplitLaws
+pub mod OwnGenomeLaws
+pub mod Taken
+pub mod SweepLines
+pub mod Pipes
+pub mod SameLines
+pub mod SameRuns

@@ -1,0 +1,85 @@
+-- Runs of merge, complement and genomecov that write the same bytes.
+use Rattle.std.specs.Prelude.{◌≡◌, ◌≢◌, ℕ, Bool, List, [], ◌∷◌, ◌++◌, Option}
+use Rattle.bt_lines.specs.Handed.{whole_text}
+use Rattle.bt_bed.specs.Feature.{Feature}
+use Rattle.bt_bed.specs.Genome.{Entry}
+use Rattle.bt_bed.specs.declared.strand.Strand.{Strand}
+use Rattle.bt_runs.specs.declared.merge_strand.MergeStrand.{MergeStrand}
+use Rattle.bt_runs.specs.declared.merge_strand.MergeStrand.TheVariants.{All, Each}
+use Rattle.bt_tool.specs.Inputs.{Inputs}
+use Rattle.bt_tool.specs.Report.{report_of}
+use Rattle.bt_tool.specs.declared.plan_type.Command.{Command}
+use Rattle.bt_tool.specs.declared.plan_type.Command.TheVariants.{Merge, Complement, Coverage}
+use Rattle.bt_laws.specs.Pipes.{RunsWell, first_records}
+use Rattle.bt_laws.specs.SameLines.{Writes}
+
+-- the inputs of the next run in a pipe: the output of the first run in place of its first input
+abbrev pub piped : Command → Inputs → Inputs
+piped command inputs = record {
+  genome = inputs.genome;
+  first = whole_text (report_of command inputs).output;
+  second = inputs.second;
+}
+
+-- merge of merge is merge, with the same -d; the first may have been of one strand
+abbrev pub merge_of_merge : Type 0
+merge_of_merge =
+    (d : ℕ) (strand : MergeStrand) (inputs : Inputs) (chromosomes : Option (List Entry))
+    → strand ≢ Each → RunsWell (Merge d strand) inputs chromosomes
+    → Writes (Merge d All) (piped (Merge d strand) inputs) (report_of (Merge d strand) inputs).output
+
+-- complement of merge is complement, with and without -L
+abbrev pub complement_of_merge : Type 0
+complement_of_merge =
+    (limit : Bool) (inputs : Inputs) (chromosomes : Option (List Entry))
+    → RunsWell (Complement limit) inputs chromosomes
+    → Writes (Complement limit) (piped (Merge 0 All) inputs)
+    (report_of (Complement limit) inputs).output
+
+-- the same records, except that two neighbours of one chromosome stand the other way round; where
+-- both lists are in order, the two have one start
+pub record AreExchanged (rs ss : List Feature) : Type 0 where
+  pub before : List Feature
+  pub after : List Feature
+  pub one : Feature
+  pub other : Feature
+  pub same : one.chrom ≡ other.chrom
+  pub first : rs ≡ before ++ one ∷ other ∷ after
+  pub second : ss ≡ before ++ other ∷ one ∷ after
+
+-- the same records, except that one stands there twice
+pub record IsRepeated (rs ss : List Feature) : Type 0 where
+  pub before : List Feature
+  pub after : List Feature
+  pub twice : Feature
+  pub first : rs ≡ before ++ twice ∷ after
+  pub second : ss ≡ before ++ twice ∷ twice ∷ after
+
+-- a command writes the same bytes of two first inputs, where their records are alike and both runs
+-- are without a fault
+abbrev pub WritesSame : (List Feature → List Feature → Type 0) → Command → Type 0
+WritesSame Alike command =
+    (inputs others : Inputs) (chromosomes : Option (List Entry))
+    → RunsWell command inputs chromosomes → RunsWell command others chromosomes
+    → Alike (first_records chromosomes inputs) (first_records chromosomes others)
+    → (report_of command inputs).output ≡ (report_of command others).output
+
+-- records of equal chromosome and start may be exchanged
+abbrev pub exchanged_merge : Type 0
+exchanged_merge =
+    (d : ℕ) (strand : MergeStrand) → strand ≢ Each → WritesSame AreExchanged (Merge d strand)
+
+abbrev pub exchanged_complement : Type 0
+exchanged_complement = (limit : Bool) → WritesSame AreExchanged (Complement limit)
+
+abbrev pub exchanged_genomecov : Type 0
+exchanged_genomecov =
+    (zeros : Bool) (strand : Option Strand) → WritesSame AreExchanged (Coverage zeros strand)
+
+-- a record given twice changes nothing in merge and complement
+abbrev pub repeated_merge : Type 0
+repeated_merge =
+    (d : ℕ) (strand : MergeStrand) → strand ≢ Each → WritesSame IsRepeated (Merge d strand)
+
+abbrev pub repeated_complement : Type 0
+repeated_complement = (limit : Bool) → WritesSame IsRepeated (Complement limit)

@@ -1,0 +1,40 @@
+//! Which outputs the next command takes as they are, in the same order of the chromosomes: each law is the contract
+//! of a function that does nothing.
+
+ghost use Rattle.bt_laws.specs.Pipes.{
+  complement_is_input,
+  cut_intersect_is_input,
+  genomecov_is_input,
+  intersect_is_input,
+  merge_is_input,
+  subtract_is_input,
+  whole_subtract_is_input,
+};
+
+/// What merge writes is an input, whose records are the runs.
+pub fn merge_goes_on()
+    ensures { merge_is_input }
+{}
+
+/// What complement writes is an input, whose records are the gaps.
+pub fn complement_goes_on()
+    ensures { complement_is_input }
+{}
+
+/// What genomecov writes is an input, whose records are the intervals.
+pub fn genomecov_goes_on()
+    ensures { genomecov_is_input }
+{}
+
+/// What intersect writes is an input: with -wa, -u, -v, -c, -wa -wb and -wo always, and else where no two records
+/// of the first input overlap.
+pub fn intersect_goes_on()
+    ensures kept { intersect_is_input }
+    ensures cut { cut_intersect_is_input }
+{}
+
+/// What subtract writes is an input: with -A always, and else where no two records of the first input overlap.
+pub fn subtract_goes_on()
+    ensures kept { whole_subtract_is_input }
+    ensures cut { subtract_is_input }
+{}

@@ -1,0 +1,35 @@
+//! Runs of merge, complement and genomecov that write the same bytes: each law is the contract of a function that does
+//! nothing.
+
+ghost use Rattle.bt_laws.specs.SameRuns.{
+  complement_of_merge,
+  exchanged_complement,
+  exchanged_genomecov,
+  exchanged_merge,
+  merge_of_merge,
+  repeated_complement,
+  repeated_merge,
+};
+
+/// merge of merge is merge, with the same -d.
+pub fn merge_is_merged()
+    ensures { merge_of_merge }
+{}
+
+/// complement of merge is complement.
+pub fn merge_leaves_the_gaps()
+    ensures { complement_of_merge }
+{}
+
+/// Records of equal chromosome and start may be exchanged.
+pub fn equal_starts_may_be_exchanged()
+    ensures merge { exchanged_merge }
+    ensures complement { exchanged_complement }
+    ensures genomecov { exchanged_genomecov }
+{}
+
+/// A record given twice changes nothing in merge and complement.
+pub fn a_record_may_come_twice()
+    ensures merge { repeated_merge }
+    ensures complement { repeated_complement }
+{}

@@ -1,0 +1,285 @@
+#!/usr/bin/env python3
+"""Tries the laws of docs/PIPES.md on random small inputs: docs/laws.py [PROGRAM] [SECONDS].
+
+Each chromosome of a run is a case of its own. A counter-example is printed, and the status is then 1.
+"""
+
+import itertools
+import random
+import subprocess
+import sys
+import tempfile
+import time
+from pathlib import Path
+
+TOP = Path(__file__).resolve().parent.parent
+PROGRAM = Path(sys.argv[1] if len(sys.argv) > 1 else TOP / "bin" / "bedtools").resolve()
+SECONDS = float(sys.argv[2]) if len(sys.argv) > 2 else 20
+NAMES = ["c%03d" % i for i in range(250)]
+
+
+class Counterexample(Exception):
+    pass
+
+
+class World:
+    """Random records of two inputs and random sequences, on chromosomes of one genome file."""
+
+    def __init__(self, folder, rng, apart=False, within=False):
+        self.folder, self.rng, self.files = folder, rng, itertools.count()
+        self.length = {name: rng.randint(1, 40) for name in NAMES}
+        self.a = {name: self.records(name, apart, within) for name in NAMES}
+        self.b = {name: self.records(name, False, within) for name in NAMES}
+        self.genome = self.file("".join("%s\t%d\n" % item for item in self.length.items()))
+        self.fa, self.fb = self.bed(self.a), self.bed(self.b)
+
+    def records(self, name, apart, within):
+        end = self.length[name] if within else 50
+        found = []
+        for _ in range(self.rng.choice((0, 1, 1, 2, 3, 5))):
+            start = self.rng.randrange(end)
+            stop = min(start + self.rng.randint(1, 15), end if within else 70)
+            found.append((start, stop, "n%d" % self.rng.randrange(9), "0", self.rng.choice("+-.")))
+        found.sort(key=lambda record: record[0])
+        if apart:
+            found = [r for i, r in enumerate(found) if all(q[1] <= r[0] for q in found[:i])]
+        return found
+
+    def file(self, text):
+        path = self.folder / ("f%d" % next(self.files))
+        path.write_text(text)
+        return str(path)
+
+    def bed(self, records):
+        return self.file("".join("\t".join([name, *map(str, r)]) + "\n" for name in NAMES for r in records[name]))
+
+    def run(self, *words):
+        done = subprocess.run([PROGRAM, *words], stdin=subprocess.DEVNULL, capture_output=True, text=True)
+        if done.returncode:
+            raise Counterexample("%s: %s" % (" ".join(words), done.stderr))
+        return done.stdout
+
+    def one(self, command, path, *words):
+        return self.run(command, "-i", path, "-g", self.genome, *words)
+
+    def two(self, command, a, b, *words):
+        return self.run(command, "-a", a, "-b", b, "-g", self.genome, *words)
+
+    def rule(self, strand=True, fraction=True, each=True):
+        """Random words for -f, -r and -s."""
+        words = ["-s"] if strand and self.rng.random() < 0.3 else []
+        if fraction and self.rng.random() < 0.5:
+            words += ["-f", self.rng.choice(("0.2", "0.5", "1"))]
+            words += ["-r"] if each and self.rng.random() < 0.5 else []
+        return words
+
+
+def by_chromosome(text):
+    parts = {}
+    for line in text.splitlines():
+        parts.setdefault(line.split("\t")[0], []).append(line)
+    return parts
+
+
+def same(world, left, right, what=""):
+    """Both texts are the same; each chromosome is a case."""
+    left, right = (by_chromosome(t) if isinstance(t, str) else t for t in (left, right))
+    for name in NAMES:
+        if left.get(name, []) != right.get(name, []):
+            raise Counterexample("%s %s of length %d\nA: %s\nB: %s\nleft: %s\nright: %s" % (
+                what, name, world.length[name], world.a[name], world.b[name], left.get(name), right.get(name)))
+    return len(NAMES)
+
+
+def bases(text):
+    return {name: sorted(p for line in lines for p in range(*map(int, line.split("\t")[1:3])))
+            for name, lines in by_chromosome(text).items()}
+
+
+def is_input(world, text):
+    """Taken as the first or the second input the text is without a fault, and no record is lost."""
+    path = world.file(text)
+    counted = world.two("intersect", path, world.fb, "-c")
+    world.two("intersect", world.fa, path, "-u")
+    return same(world, {n: [line.split("\t")[:3] for line in lines] for n, lines in by_chromosome(counted).items()},
+                {n: [line.split("\t")[:3] for line in lines] for n, lines in by_chromosome(text).items()}, "as an input")
+
+
+def depths(world, option):
+    return world.one("genomecov", world.fa, option)
+
+
+def pipe_merge(w):
+    return is_input(w, w.one("merge", w.fa, "-d", str(w.rng.randrange(4)), *w.rng.choice(([], ["-s"], ["-S", "+"]))))
+
+
+def pipe_gaps(w):
+    return is_input(w, w.one("complement", w.fa, *w.rng.choice(([], ["-L"])))) + is_input(w, depths(w, w.rng.choice(("-bg", "-bga"))))
+
+
+def pipe_intersect(w):
+    shape = w.rng.choice((["-wa"], ["-u"], ["-v"], ["-c"], ["-wa", "-wb"], ["-wo"]))
+    return is_input(w, w.two("intersect", w.fa, w.fb, *shape, *w.rule()))
+
+
+def pipe_cut(w):
+    return is_input(w, w.two("intersect", w.fa, w.fb, *w.rng.choice(([], ["-wb"])), *w.rule()))
+
+
+def pipe_whole(w):
+    return is_input(w, w.two("subtract", w.fa, w.fb, "-A", *w.rule(each=False)))
+
+
+def pipe_subtract(w):
+    return is_input(w, w.two("subtract", w.fa, w.fb, *w.rule(each=False)))
+
+
+def pipe_bamtobed(w):
+    rows = ["r\t%d\t%s\t%d\t9\t%s\t*\t0\t0\t*\t*\n" % (w.rng.choice((0, 16)), n, r[0] + 1, w.rng.choice(("5M", "2M3N2M", "1S4M", "3M1D2M")))
+            for n in NAMES for r in w.a[n]]
+    return is_input(w, w.run("bamtobed", "-i", w.file("".join(rows))))
+
+
+def fasta(w):
+    return "".join(">%s\n%s\n" % (n, "\n".join("".join(w.rng.choice("acgtACGTN") for _ in range(7)) for _ in range(w.rng.randint(1, 6)))) for n in NAMES)
+
+
+def sequences(text):
+    return {part.split("\n")[0]: part.split("\n")[1:] for part in text.split(">")[1:]}
+
+
+def mask(w, text, bed, words):
+    out = w.folder / "masked"
+    w.run("maskfasta", "-fi", w.file(text), "-bed", bed, "-fo", str(out), *words)
+    return out.read_text()
+
+
+def pipe_mask(w):
+    text = fasta(w)
+    done = mask(w, text, w.fa, ())
+    layout = lambda t: {name: [len(line) for line in lines] for name, lines in sequences(t).items()}
+    return same(w, layout(text), layout(done))
+
+
+def merge_merge(w):
+    d = ["-d", str(w.rng.randrange(5))]
+    once = w.one("merge", w.fa, *d, *w.rng.choice(([], ["-S", "-"])))
+    return same(w, once, w.one("merge", w.file(once), *d))
+
+
+def complement_merge(w):
+    limit = w.rng.choice(([], ["-L"]))
+    return same(w, w.one("complement", w.fa, *limit), w.one("complement", w.file(w.one("merge", w.fa)), *limit))
+
+
+def complement_twice(w):
+    cut = []
+    for line in w.one("merge", w.fa).splitlines():
+        name, start, stop = line.split("\t")
+        if int(start) < w.length[name]:
+            cut.append("%s\t%s\t%d\n" % (name, start, min(int(stop), w.length[name])))
+    return same(w, w.one("complement", w.file(w.one("complement", w.fa))), "".join(cut))
+
+
+def depth_0(w):
+    lines = depths(w, "-bga").splitlines(keepends=True)
+    bare = "".join(line for line in lines if line.endswith("\t0\n"))
+    gaps = "".join(line + "\t0\n" for line in w.one("complement", w.fa).splitlines())
+    return same(w, bare, gaps) + same(w, "".join(line for line in lines if not line.endswith("\t0\n")), depths(w, "-bg"))
+
+
+def merge_depths(w):
+    return same(w, w.one("merge", w.file(depths(w, "-bg"))), w.one("merge", w.fa))
+
+
+def depth_sum(w):
+    found = by_chromosome(depths(w, "-bg"))
+    total = {n: sum((int(t) - int(s)) * int(d) for _, s, t, d in (line.split("\t") for line in found.get(n, []))) for n in NAMES}
+    return same(w, total, {n: sum(max(0, min(r[1], w.length[n]) - r[0]) for r in w.a[n]) for n in NAMES})
+
+
+def counts(w):
+    rule = w.rule()
+    lines = [line.rsplit("\t", 1) for line in w.two("intersect", w.fa, w.fb, "-c", *rule).splitlines()]
+    write = lambda times: "".join((text + "\n") * times(int(n)) for text, n in lines)
+    u, v, wa = (w.two("intersect", w.fa, w.fb, shape, *rule) for shape in ("-u", "-v", "-wa"))
+    return same(w, u, write(lambda n: n > 0)) + same(w, v, write(lambda n: n == 0)) + same(w, wa, write(lambda n: n))
+
+
+def v_is_whole(w):
+    rule = w.rule(each=False)
+    return same(w, w.two("intersect", w.fa, w.fb, "-v", *rule), w.two("subtract", w.fa, w.fb, "-A", *rule))
+
+
+def subtract_gaps(w):
+    return same(w, w.two("subtract", w.fa, w.fb), w.two("intersect", w.fa, w.file(w.one("complement", w.fb))))
+
+
+def merged_second(w):
+    merged = w.file(w.one("merge", w.fb))
+    return sum(same(w, w.two(*words[:1], w.fa, w.fb, *words[1:]), w.two(*words[:1], w.fa, merged, *words[1:]))
+               for words in (("intersect", "-u"), ("intersect", "-v"), ("subtract",)))
+
+
+def sides(w):
+    rule = w.rng.choice(([], ["-s"], ["-f", "0.3", "-r"], ["-f", "1", "-r", "-s"]))
+    pairs = lambda text, swap: {n: sorted(line.split("\t")[6:] + line.split("\t")[:6] if swap else line.split("\t") for line in lines) for n, lines in by_chromosome(text).items()}
+    return same(w, pairs(w.two("intersect", w.fa, w.fb, "-wa", "-wb", *rule), False), pairs(w.two("intersect", w.fb, w.fa, "-wa", "-wb", *rule), True))
+
+
+def parts_of_a(w):
+    cut, left, whole = bases(w.two("intersect", w.fa, w.fb)), bases(w.two("subtract", w.fa, w.fb)), bases(w.run("intersect", "-a", w.fa, "-b", w.fa, "-g", w.genome, "-u"))
+    return same(w, {n: sorted(set(cut.get(n, [])) | set(left.get(n, []))) for n in NAMES}, {n: whole.get(n, []) for n in NAMES}) + \
+        same(w, {n: sorted(set(cut.get(n, [])) & set(left.get(n, []))) for n in NAMES}, {n: [] for n in NAMES})
+
+
+def masks(w):
+    text, how = fasta(w), w.rng.choice(([], ["-soft"], ["-mc", "x"]))
+    once = mask(w, text, w.fa, how)
+    both = {n: sorted(w.a[n] + w.b[n], key=lambda r: r[0]) for n in NAMES}
+    return same(w, sequences(once), sequences(mask(w, once, w.fa, how))) + \
+        same(w, sequences(once), sequences(mask(w, text, w.file(w.one("merge", w.fa)), how))) + \
+        same(w, sequences(mask(w, once, w.fb, how)), sequences(mask(w, text, w.bed(both), how)))
+
+
+def exchanged(w):
+    other = w.bed({n: sorted(w.rng.sample(w.a[n], len(w.a[n])), key=lambda r: r[0]) for n in NAMES})
+    double = w.bed({n: sorted(w.a[n] + w.a[n][:2], key=lambda r: r[0]) for n in NAMES})
+    d = ["-d", str(w.rng.randrange(3))]
+    merged, gaps = w.one("merge", w.fa, *d), w.one("complement", w.fa)
+    return same(w, merged, w.one("merge", other, *d)) + same(w, gaps, w.one("complement", other)) + \
+        same(w, depths(w, "-bga"), w.one("genomecov", other, "-bga")) + same(w, merged, w.one("merge", double, *d)) + same(w, gaps, w.one("complement", double))
+
+
+# The law, how it is tried, and what is asked of A (and of both inputs).
+LAWS = (
+    ("merge goes on", pipe_merge, {}), ("complement and genomecov go on", pipe_gaps, {}),
+    ("intersect by records of A goes on", pipe_intersect, {}), ("intersect by cuts goes on", pipe_cut, {"apart": True}),
+    ("subtract -A goes on", pipe_whole, {}), ("subtract goes on", pipe_subtract, {"apart": True}),
+    ("bamtobed goes on", pipe_bamtobed, {}), ("maskfasta keeps the layout", pipe_mask, {}),
+    ("merge of merge", merge_merge, {}), ("complement of merge", complement_merge, {}), ("complement of complement", complement_twice, {}),
+    ("depth 0 is complement", depth_0, {}), ("merge of genomecov", merge_depths, {"within": True}), ("sum of depths", depth_sum, {}),
+    ("-u, -v and -wa by -c", counts, {}), ("-v is subtract -A", v_is_whole, {}), ("subtract by complement", subtract_gaps, {"within": True}),
+    ("merge of B", merged_second, {}), ("both sides", sides, {}), ("intersect and subtract part A", parts_of_a, {"apart": True}),
+    ("maskfasta twice, merged, both", masks, {}), ("equal starts, given twice", exchanged, {}),
+)
+
+
+def main():
+    seed = int(sys.argv[3]) if len(sys.argv) > 3 else random.randrange(10**9)
+    failed = False
+    for name, law, asked in LAWS:
+        cases, end, rng = 0, time.monotonic() + SECONDS / len(LAWS), random.Random(seed)
+        try:
+            while not cases or time.monotonic() < end:
+                with tempfile.TemporaryDirectory() as folder:
+                    cases += law(World(Path(folder), rng, **asked))
+            print("%-34s %8d cases" % (name, cases), flush=True)
+        except Counterexample as found:
+            failed = True
+            print("%s: COUNTER-EXAMPLE (seed %d)\n%s" % (name, seed, found), flush=True)
+    sys.exit(1 if failed else 0)
+
+
+if __name__ == "__main__":
+    main()
