@@ -73,21 +73,23 @@ def draw_commands(kept, shown, caption):
             for command, data in shown.items()]
     first, step = 82, 38
     bottom = first + step * len(rows)
-    less = scale(1, 100, 190, 480)
+    ratios = [row["runs"][THEIRS]["seconds"] / row["runs"][OURS]["seconds"] for row in rows]
+    most = 100 if max(ratios) <= 100 else 1000
+    less = scale(1, most, 190, 480)
     memory = scale(1, 10_000, 590, 850)
     parts = [text(190, 24, "times less processor time than bedtools", "title"), text(590, 24, "peak memory", "title"),
              text(190, 40, "below: seconds of bedtools / Dunekettle", "note"),
-             *ticks(less, (1, 2, 5, 10, 20, 50, 100), str, 66, bottom - 6),
+             *ticks(less, [mark for mark in (1, 2, 5, 10, 20, 50, 100, 200, 500, 1000) if mark <= most], str, 66, bottom - 6),
              *ticks(memory, (1, 10, 100, 1000, 10_000), lambda value: f"{value} MB" if value < 1000 else f"{value // 1000} GB", 66, bottom - 6),
              '<circle class="ours" cx="715" cy="20" r="5"/>', text(724, 24, "Dunekettle"), '<circle class="theirs" cx="806" cy="20" r="5"/>', text(815, 24, "bedtools")]
-    for at, row in enumerate(rows):
+    for at, (row, ratio) in enumerate(zip(rows, ratios)):
         top = first + step * at
         ours, theirs = row["runs"][OURS], row["runs"][THEIRS]
-        ratio = theirs["seconds"] / ours["seconds"]
+        end = less(min(max(ratio, 1), most))
         parts += [text(16, top + 8, row["command"], "name"), text(16, top + 22, row["name"].split(", ", 1)[1], "note"),
-                  f'<rect class="ours" x="190" y="{top}" width="{less(ratio) - 190:.1f}" height="18" rx="2"/>',
-                  text(less(ratio) + 5, top + 9, f"{ratio:.0f} times" if ratio >= 9.95 else f"{ratio:.1f} times", "name"),
-                  text(less(ratio) + 5, top + 22, f"{seconds(theirs['seconds'])} / {seconds(ours['seconds'])}", "note")]
+                  f'<rect class="ours" x="190" y="{top}" width="{end - 190:.1f}" height="18" rx="2"/>',
+                  text(end + 5, top + 9, f"{ratio:.0f} times" if ratio >= 9.95 else f"{ratio:.1f} times", "name"),
+                  text(end + 5, top + 22, f"{seconds(theirs['seconds'])} / {seconds(ours['seconds'])}", "note")]
         low, high = (memory(run["kilobytes"] * 1024 / 1e6) for run in (ours, theirs))
         parts += [f'<line class="link" x1="{low:.1f}" x2="{high:.1f}" y1="{top + 9}" y2="{top + 9}"/>',
                   f'<circle class="ours" cx="{low:.1f}" cy="{top + 9}" r="5"/>', f'<circle class="theirs" cx="{high:.1f}" cy="{top + 9}" r="5"/>',

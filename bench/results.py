@@ -231,8 +231,10 @@ def agree(kept, is_written):
         if is_written:
             path.write_text(made[path], encoding="utf-8")
         print(f"{path.relative_to(TOP)}: {'written anew' if is_written else 'not that of bench/results.json: bench/results.py --write'}")
+    if kept["is_trial"]:
+        print("bench/results.json is a trial, which no page may show")
     print(f"{len(made)} pages and charts, {len(differ)} of them differ from bench/results.json")
-    return 1 if differ and not is_written else 0
+    return 1 if kept["is_trial"] or (differ and not is_written) else 0
 
 
 def render(kept, folder):
