@@ -75,7 +75,7 @@ def draw_commands(kept, shown, caption):
     bottom = first + step * len(rows)
     ratios = [row["runs"][THEIRS]["seconds"] / row["runs"][OURS]["seconds"] for row in rows]
     most = 100 if max(ratios) <= 100 else 1000
-    less = scale(1, most, 190, 480)
+    less = scale(1, most, 190, 465)
     memory = scale(1, 10_000, 590, 850)
     parts = [text(190, 24, "times less processor time than bedtools", "title"), text(590, 24, "peak memory", "title"),
              text(190, 40, "below: seconds of bedtools / Dunekettle", "note"),
