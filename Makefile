@@ -23,7 +23,7 @@ PROGRAM := bin/$(if $(CPU),$(CPU)/)bedtools
 LOG := bin/build.log
 SOURCES := crates.txt $(shell find crates -name out -prune -o -type f \( -name '*.rt' -o -name '*.antt' \) -print)
 
-DOCS := README.md CHANGELOG.md LICENSE $(wildcard docs/*.md docs/*.svg) bench/README.md bench/chart.svg \
+DOCS := README.md CHANGELOG.md LICENSE $(wildcard docs/*.md docs/*.svg) $(wildcard bench/*.md bench/*.svg) \
 	$(shell find examples/shards -type f)
 
 .PHONY: all example test mutants check-docs check-program check-speed check-differences check-front check-shards check-packages \
@@ -57,13 +57,15 @@ mutants:
 	rt must-fail; status=$$?; rm -rf $$copy; exit $$status
 
 # The shell examples of the pages write what is below them, the example on each crate's first page is its test, each
-# link leads somewhere, the completions have the options of the pages, and no page is harder to read than before.
+# link leads somewhere, the completions have the options of the pages, no page is harder to read than before, and the
+# tables and charts of the bench are those of its results.
 check-docs: $(PROGRAM)
 	docs/examples.py
 	docs/edits.py
 	docs/links.py
 	docs/completions.py
 	docs/prose.py
+	bench/results.py
 
 # Closed standard streams, full disks, directories: what no proof says of real files. Then want of memory, in small address
 # spaces and with each growth refused, what is allocated over many records, random bytes, and the laws of docs/PIPES.md

@@ -1,98 +1,132 @@
-#!/usr/bin/env python3
-"""Draws what each program took for each workload: a panel of bars for the time, one for the memory.
+"""Draws the results of the bench as SVG files, of one width, in colours for a light page and for a dark one."""
 
-    bench/chart.py
-
-Draws chart.svg anew from chart.txt, which holds what the last bench/compare.py --chart bench/chart.svg measured.
-"""
-
+import math
+import re
 from html import escape
-from itertools import groupby
-from pathlib import Path
-from types import SimpleNamespace
 
-COLOURS = {"dunekettle": "#c2571a", "bedtools": "#5b7c99", "bedops": "#a9b8c4", "plain C": "#86a873", "convert2bed": "#d3dbe2"}
-WIDTH = 830
-LEFT = 260
-BAR = 14
-GAP = 12
-TITLE = 34
-# The longest bars: of more seconds or kilobytes a bar is cut, and shows it.
-MOST_SECONDS = 20
-MOST_KILOBYTES = 150_000
-HEAD = "# The bars of chart.svg: seconds of processor time, kilobytes of memory, the program, the workload.\n"
-
-
-def bar(top, run, value, most, text):
-    """One bar, with its number behind it. One that is cut has a gap near its end."""
-    length = (WIDTH - LEFT - 110) * min(value / most, 1)
-    gap = f'<path d="M{LEFT + length - 18:.1f} {top + BAR} l6 -{BAR + 2} h5 l-6 {BAR + 2} z" fill="white"/>'
-    return [
-        f'<rect x="{LEFT}" y="{top}" width="{length:.1f}" height="{BAR - 2}" fill="{COLOURS[run.program]}"/>',
-        *([gap] if value > most else []),
-        f'<text x="{LEFT + length + 5:.1f}" y="{top + BAR - 4}">{escape(text)}</text>',
-    ]
+STYLE = """<style>
+.ground { fill: #ffffff } text { fill: #1f2328; font: 12px sans-serif } .note { font-size: 11px; fill: #57606a }
+.title { font-weight: bold; font-size: 13px } .name { font-weight: bold } .grid { stroke: #d0d7de }
+.ours { fill: #c2571a } .theirs { fill: #5b7c99 } .link { stroke: #8c959f }
+.line { fill: none; stroke-width: 2 } .line.ours { stroke: #c2571a; fill: none } .line.theirs { stroke: #5b7c99; fill: none }
+@media (prefers-color-scheme: dark) {
+.ground { fill: #0d1117 } text { fill: #e6edf3 } .note { fill: #9da7b1 } .grid { stroke: #30363d } .link { stroke: #6e7681 }
+.ours { fill: #f0883e } .theirs { fill: #79a6d2 } .line.ours { stroke: #f0883e } .line.theirs { stroke: #79a6d2 }
+}
+</style>"""
+WIDTH = 900
+OURS, THEIRS = "dunekettle", "bedtools"
 
 
-def panel(top, title, rows, value, most, text):
-    """One panel from `top` down: its lines, and where it ends."""
-    most = min(most, max(value(run) for _, runs in rows for run in runs))
-    lines = [f'<text x="0" y="{top + 16}" font-weight="bold">{escape(title)}</text>']
-    top += TITLE
-    for name, runs in rows:
-        middle = top + BAR * len(runs) / 2 + 3
-        lines.append(f'<text x="{LEFT - 8}" y="{middle:.0f}" text-anchor="end">{escape(name)}</text>')
-        for run in runs:
-            lines += bar(top, run, value(run), most, text(run))
-            top += BAR
-        top += GAP
-    return lines, top
+def text(left, top, words, kind="", anchor="start"):
+    """A line of text."""
+    return f'<text class="{kind}" x="{left:.1f}" y="{top:.1f}" text-anchor="{anchor}">{escape(words)}</text>'
 
 
-def legend(rows, top):
-    """The programs by their colours."""
-    lines = []
-    programs = dict.fromkeys(run.program for _, runs in rows for run in runs)
-    for place, program in enumerate(programs):
-        left = LEFT + 110 * place
-        lines.append(f'<rect x="{left}" y="{top}" width="12" height="12" fill="{COLOURS[program]}"/>')
-        lines.append(f'<text x="{left + 17}" y="{top + 11}">{escape(program)}</text>')
-    return lines
+def picture(height, parts):
+    """The text of an SVG file."""
+    head = f'<svg xmlns="http://www.w3.org/2000/svg" viewBox="0 0 {WIDTH} {height}" width="{WIDTH}" height="{height}">'
+    return "\n".join([head, STYLE, f'<rect class="ground" width="{WIDTH}" height="{height}"/>', *parts, "</svg>\n"])
 
 
-def seconds_text(run):
-    """The time behind a bar; in whole seconds where the bar is cut."""
-    return f"{run.seconds:.2f} s" if run.seconds < MOST_SECONDS else f"{run.seconds:.0f} s"
+def scale(low, high, left, right):
+    """Where a value is on a scale on which each step times the same is as long."""
+    return lambda value: left + (right - left) * math.log(value / low) / math.log(high / low)
 
 
-def kilobytes_text(run):
-    """The memory behind a bar, likewise."""
-    return f"{run.kilobytes / 1000:.1f} MB" if run.kilobytes < MOST_KILOBYTES else f"{run.kilobytes / 1000:,.0f} MB"
+def seconds(value):
+    """A time of two digits."""
+    return f"{value:.0f} s" if value >= 9.95 else f"{value:.1f} s" if value >= 0.995 else f"{value:.2f} s" if value >= 0.0995 else f"{value:.3f} s"
 
 
-def draw(rows):
-    """The chart as the text of an SVG file. A row is a workload's name and its runs."""
-    times, top = panel(24, "processor time", rows, lambda run: run.seconds, MOST_SECONDS, seconds_text)
-    memory, top = panel(top + 8, "peak memory", rows, lambda run: run.kilobytes, MOST_KILOBYTES, kilobytes_text)
-    head = f'<svg xmlns="http://www.w3.org/2000/svg" viewBox="0 0 {WIDTH} {top}" font-family="sans-serif" font-size="12">'
-    ground = f'<rect width="{WIDTH}" height="{top}" fill="white"/>'
-    return "\n".join([head, ground, *legend(rows, 4), *times, *memory, "</svg>\n"])
+def size(kilobytes):
+    """Memory of two digits."""
+    bytes_ = kilobytes * 1024
+    unit, of = ("GB", 1e9) if bytes_ >= 995e6 else ("MB", 1e6)
+    amount = bytes_ / of
+    return f"{round(amount, -1):.0f} {unit}" if amount >= 99.5 else f"{amount:.0f} {unit}" if amount >= 9.95 else f"{amount:.1f} {unit}"
 
 
-def write_rows(path, rows):
-    """Writes what the runs took, a line each. A program's name is one word there, with a hyphen for a blank."""
-    lines = (f"{run.seconds:8.3f} {run.kilobytes:8}  {run.program.replace(' ', '-'):11}  {name}\n" for name, runs in rows for run in runs)
-    path.write_text(HEAD + "".join(lines), encoding="ascii")
+def foot(top, caption):
+    """The caption, broken where a sentence ends."""
+    words = caption.replace("**", "").strip()
+    lines = re.split(r"(?<=\.) (?=[A-Z])|(?<=;) ", words)
+    merged = [lines[0]]
+    for line in lines[1:]:
+        if len(merged[-1]) + len(line) < 140:
+            merged[-1] += f" {line}"
+        else:
+            merged.append(line)
+    return [text(16, top + 16 * at, line, "note") for at, line in enumerate(merged)], top + 16 * len(merged)
 
 
-def read_rows(path):
-    """The workloads with their runs, as they were written."""
-    lines = [line.split(maxsplit=3) for line in path.read_text(encoding="ascii").splitlines() if not line.startswith("#")]
-    runs = [(name, SimpleNamespace(program=program.replace("-", " "), seconds=float(seconds), kilobytes=int(kilobytes)))
-            for seconds, kilobytes, program, name in lines]
-    return [(name, [run for _, run in group]) for name, group in groupby(runs, key=lambda pair: pair[0])]
+def ticks(where, values, label, top, bottom):
+    """The lines of a scale with their numbers above."""
+    return [part for value in values for part in (
+        f'<line class="grid" x1="{where(value):.1f}" x2="{where(value):.1f}" y1="{top}" y2="{bottom}"/>',
+        text(where(value), top - 5, label(value), "note", "middle"))]
 
 
-if __name__ == "__main__":
-    HERE = Path(__file__).resolve().parent
-    (HERE / "chart.svg").write_text(draw(read_rows(HERE / "chart.txt")), encoding="utf-8")
+def draw_commands(kept, shown, caption):
+    """A row for each command: how many times less processor time it takes than bedtools, and the memory of both."""
+    rows = [next(row for row in kept["workloads"] if row["command"] == command and row["name"].endswith(f", {data}"))
+            for command, data in shown.items()]
+    first, step = 82, 38
+    bottom = first + step * len(rows)
+    ratios = [row["runs"][THEIRS]["seconds"] / row["runs"][OURS]["seconds"] for row in rows]
+    most = 100 if max(ratios) <= 100 else 1000
+    less = scale(1, most, 190, 465)
+    memory = scale(1, 10_000, 590, 850)
+    parts = [text(190, 24, "times less processor time than bedtools", "title"), text(590, 24, "peak memory", "title"),
+             text(190, 40, "below: seconds of bedtools / Dunekettle", "note"),
+             *ticks(less, [mark for mark in (1, 2, 5, 10, 20, 50, 100, 200, 500, 1000) if mark <= most], str, 66, bottom - 6),
+             *ticks(memory, (1, 10, 100, 1000, 10_000), lambda value: f"{value} MB" if value < 1000 else f"{value // 1000} GB", 66, bottom - 6),
+             '<circle class="ours" cx="715" cy="20" r="5"/>', text(724, 24, "Dunekettle"), '<circle class="theirs" cx="806" cy="20" r="5"/>', text(815, 24, "bedtools")]
+    for at, (row, ratio) in enumerate(zip(rows, ratios)):
+        top = first + step * at
+        ours, theirs = row["runs"][OURS], row["runs"][THEIRS]
+        end = less(min(max(ratio, 1), most))
+        parts += [text(16, top + 8, row["command"], "name"), text(16, top + 22, row["name"].split(", ", 1)[1], "note"),
+                  f'<rect class="ours" x="190" y="{top}" width="{end - 190:.1f}" height="18" rx="2"/>',
+                  text(end + 5, top + 9, f"{ratio:.0f} times" if ratio >= 9.95 else f"{ratio:.1f} times", "name"),
+                  text(end + 5, top + 22, f"{seconds(theirs['seconds'])} / {seconds(ours['seconds'])}", "note")]
+        low, high = (memory(run["kilobytes"] * 1024 / 1e6) for run in (ours, theirs))
+        parts += [f'<line class="link" x1="{low:.1f}" x2="{high:.1f}" y1="{top + 9}" y2="{top + 9}"/>',
+                  f'<circle class="ours" cx="{low:.1f}" cy="{top + 9}" r="5"/>', f'<circle class="theirs" cx="{high:.1f}" cy="{top + 9}" r="5"/>',
+                  text(low - 8, top + 13, size(ours["kilobytes"]), "note", "end"), text(high + 8, top + 13, size(theirs["kilobytes"]), "note")]
+    noted, end = foot(bottom + 20, caption)
+    return picture(end + 4, [*parts, *noted])
+
+
+def curve(points, kind):
+    """A line through points, with a dot on each."""
+    path = " ".join(f"{x:.1f},{y:.1f}" for x, y in points)
+    return [f'<polyline class="line {kind}" points="{path}"/>', *(f'<circle class="{kind}" cx="{x:.1f}" cy="{y:.1f}" r="3"/>' for x, y in points)]
+
+
+def draw_growth(kept, caption):
+    """A column for each command: time and memory of both programs by the number of records."""
+    commands = list(kept["growth"])
+    left, wide, gap = 70, 104, 14
+    parts = [text(16, 20, "processor time and peak memory, by millions of records", "title"),
+             '<circle class="ours" cx="560" cy="16" r="5"/>', text(569, 20, "Dunekettle"), '<circle class="theirs" cx="650" cy="16" r="5"/>', text(659, 20, "bedtools")]
+    panels = ((64, 210, 0.01, 100, (0.01, 0.1, 1, 10, 100), lambda run: run["seconds"], lambda value: f"{value:g} s"),
+              (246, 392, 1, 10_000, (1, 10, 100, 1000, 10_000), lambda run: run["kilobytes"] * 1024 / 1e6,
+               lambda value: f"{value:g} MB" if value < 1000 else f"{value / 1000:g} GB"))
+    for top, bottom, low, high, marks, value, label in panels:
+        up = scale(low, high, bottom, top)
+        for mark in marks:
+            parts += [f'<line class="grid" x1="{left}" x2="{left + 7 * wide + 6 * gap}" y1="{up(mark):.1f}" y2="{up(mark):.1f}"/>',
+                      text(left - 6, up(mark) + 4, label(mark), "note", "end")]
+        for at, command in enumerate(commands):
+            begin = left + at * (wide + gap)
+            sizes = kept["growth"][command]
+            across = scale(min(map(int, sizes)), max(map(int, sizes)), begin + 10, begin + wide - 10)
+            if top == panels[0][0]:
+                parts.append(text(begin + wide / 2, 52, command, "name", "middle"))
+            for program, kind in ((THEIRS, "theirs"), (OURS, "ours")):
+                points = [(across(int(records)), up(max(value(runs[program]), low))) for records, runs in sizes.items() if program in runs]
+                parts += curve(points, kind) if points else []
+            parts += [text(across(int(records)), bottom + 16, f"{int(records) / 1e6:g}", "note", "middle") for records in sizes]
+    noted, end = foot(434, caption)
+    return picture(end + 4, [*parts, *noted])

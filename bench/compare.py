@@ -1,7 +1,8 @@
 #!/usr/bin/env python3
 """Times the commands of this repository on sorted records that it makes itself.
 
-    bench/compare.py [RECORDS] [--only WORDS] [--times N] [--discard] [--chart FILE]
+    bench/compare.py [RECORDS] [--only WORDS] [--times N] [--discard]
+    bench/compare.py --results [RECORDS] [--times N] [--trial FILE]
     bench/compare.py --check [--store] [--only WORDS]
 
 Prints, for each command and kind of record, for RECORDS records (5,000,000 where it is missing) and
@@ -12,10 +13,12 @@ instructions a record, where valgrind is there. For `bamtobed` samtools makes th
 reads, and bedops' convert2bed, which writes further columns, isn't compared. With `--only` it takes the
 workloads alone whose names have these words in them; with `--times` each program runs so many times, and
 the least time and the highest memory are printed; with `--discard` the outputs go to /dev/null, and aren't
-compared; with `--chart` it draws the larger runs as an SVG, and writes what they took beside it, as a text
-of the same name.
-It fails where a program fails, where two outputs differ, or where this program's memory grows with its
-input.
+compared. It fails where a program fails, where two outputs differ, or where this program's memory grows
+with its input.
+
+With `--results` it measures in one run, on an idle machine, all that the pages and the charts say, into
+results.json, and writes them anew: results.py says what. With `--trial` the machine may be busy, and FILE is
+written instead, marked as a trial.
 
 With `--check` nothing is timed: the instructions a record of this program are compared with those in
 instructions.txt. It fails where a workload takes over 3 percent more than there, or isn't there, and says
@@ -35,8 +38,6 @@ import sys
 import tempfile
 from dataclasses import dataclass
 from pathlib import Path
-
-from chart import draw, write_rows
 
 PROGRAM = Path(__file__).resolve().parent.parent / "bin" / "bedtools"
 # The plain C program.
@@ -257,7 +258,7 @@ class Workload:
     instructions: int
     # At most such a part of bedtools' time is aimed at.
     part: float
-    is_drawn: bool = True
+    is_reported: bool = True
     # The words of bedtools, where they are others.
     words_of_bedtools: list = None
     # The programs whose instructions are counted, where these aren't all of what is drawn and none of what isn't.
@@ -271,7 +272,7 @@ class Workload:
     is_plain: bool = False
 
     def counts(self, program):
-        return self.is_drawn if self.counted is None else program in self.counted
+        return self.is_reported if self.counted is None else program in self.counted
 
     def name(self):
         without = ", without -g" if self.words[0] in ("merge", "intersect", "subtract") and not self.genome_of else ""
@@ -659,7 +660,8 @@ def main():
     parser.add_argument("--only", metavar="WORDS", default="")
     parser.add_argument("--times", metavar="N", type=int, default=1)
     parser.add_argument("--discard", action="store_true")
-    parser.add_argument("--chart", metavar="FILE")
+    parser.add_argument("--results", action="store_true")
+    parser.add_argument("--trial", metavar="FILE")
     parser.add_argument("--check", action="store_true")
     parser.add_argument("--store", action="store_true")
     asked = parser.parse_args()
@@ -668,6 +670,10 @@ def main():
     if asked.store and not asked.check:
         parser.error("--store goes with --check")
     valgrind = shutil.which("valgrind")
+    if asked.results:
+        import results  # pylint: disable=import-outside-toplevel,cyclic-import
+
+        sys.exit(results.measure(asked.records, asked.times, asked.trial))
     if asked.check:
         sys.exit(check(valgrind, asked.only, asked.store) if valgrind else "valgrind isn't on PATH")
     compare_all(asked, valgrind)
@@ -687,7 +693,6 @@ def found_others(folder):
 
 def compare_all(asked, valgrind):
     """Compares the programs on each workload that is asked for."""
-    rows = []
     with tempfile.TemporaryDirectory() as folder:
         folder = Path(folder)
         others = found_others(folder)
@@ -700,13 +705,8 @@ def compare_all(asked, valgrind):
                 print(f"  at most {workload.part} of bedtools' time aimed at")
             if valgrind:
                 count_instructions(valgrind, workload, others, folder)
-            if workload.is_drawn:
-                rows.append((workload.name(), large))
         for workload in (it for it in COUNTED_WORKLOADS if valgrind and asked.only in it.name()):
             count_instructions(valgrind, workload, others, folder)
-    if asked.chart:
-        write_rows(Path(asked.chart).with_suffix(".txt"), rows)
-        Path(asked.chart).write_text(draw(rows), encoding="utf-8")
 
 
 if __name__ == "__main__":

@@ -1,5 +1,5 @@
 #!/usr/bin/env python3
-"""Makes of front/options.txt the help of `dunekettle`, the options in the manual pages, and the completions for bash,
+"""Makes of front/options.txt the help of `dunekettle`, the options in the manual page, and the completions for bash,
 zsh and fish of the program and of its front.
 
     docs/completions.py            sees that these files have what would be made
@@ -30,7 +30,7 @@ VARIABLES = {
     "DUNEKETTLE_STREAMS=1": "the drop-in takes standard input and pipes as sorted BED without odd lines",
 }
 WIDTH = 80
-# Where a manual page has the options.
+# Where the manual page has the options.
 MAN = re.compile(r'(\.\\" docs/completions.py --write writes from here\n).*?(\.\\" to here\n)', re.DOTALL)
 
 
@@ -269,7 +269,7 @@ def made(kit, commands):
         for shell, lines in (("bash", bash_file), ("zsh", zsh_file), ("fish", fish_file)):
             files[f"completions/{name}.{shell}"] = lines(name, commands)
     texts = {name: "".join(f"{line}\n" for line in lines) for name, lines in files.items()}
-    texts.update((page, with_options(page, commands)) for page in ("man/bedtools.1", "man/dunekettle.1"))
+    texts["man/bedtools.1"] = with_options("man/bedtools.1", commands)
     return texts
 
 

@@ -1,14 +1,13 @@
 #!/usr/bin/env python3
 """Checks that each link of the pages leads to a file, and to a heading of it where it names one, that what is said
-to stand in a file of definitions does and each such file is there, that the pages that name a version name the same
-one, that the pages that say how each command is called say the same, that README.md says how many definitions the
-report stands on, and that ARCHITECTURE.md lists them.
+to be in a file of definitions is and each such file exists, that the pages that name a version name the same
+one, that PROVED.md says how many files define the report, and that ARCHITECTURE.md lists them.
 
     docs/links.py [--write]
 
 The pages are the Markdown files of this repository. Links to other hosts aren't followed. With --write the list of
-ARCHITECTURE.md and the numbers of README.md are written anew. Ends with 1 where a link leads nowhere, a
-definition stands elsewhere, or a command is called otherwise, or a number or the list is another.
+ARCHITECTURE.md and the numbers of PROVED.md are written anew. Ends with 1 if a link leads nowhere, a
+definition is elsewhere, or a number or the list is another.
 """
 
 import re
@@ -35,12 +34,7 @@ VERSIONS = {
     "packaging/bioconda/meta.yaml": r"set version = \"(\d+\.\d+\.\d+)\"",
 }
 
-# How a command is called, by either name of the program and on more lines where it is long, and the pages that say it
-# of all commands.
-SYNOPSIS = re.compile(r"^    (?:dunekettle-)?bedtools (\w+ .*\b(?:FILE|FASTA)\b.*(?:\n {5,}\S.*)*)$", re.MULTILINE)
-SYNOPSES = ("docs/COMMANDS.md", "README.md")
-
-# Where README.md says in how many files and lines the report is defined, and the file that names the others.
+# Where PROVED.md says in how many files and lines the report is defined, and the file that names the others.
 DEFINITIONS = re.compile(r"definitions that it names: (\d+) files with about ([\d,]+) lines")
 REPORT = TOP / "crates" / "bt_tool" / "specs" / "Report.antt"
 
@@ -115,20 +109,6 @@ def versions():
     return found
 
 
-def synopses_of(page):
-    """How a page says that each command is called, each in one line."""
-    return [" ".join(synopsis.split()) for synopsis in SYNOPSIS.findall(page.read_text(encoding="utf-8"))]
-
-
-def synopses_differ():
-    """Whether a page says otherwise than COMMANDS.md how the commands are called."""
-    first, *others = ((name, synopses_of(TOP / name)) for name in SYNOPSES)
-    differ = [name for name, synopses in others if synopses != first[1] or not synopses]
-    for name in differ:
-        print(f"{name}: calls a command otherwise than {first[0]}")
-    return bool(differ)
-
-
 def named_by(definition):
     """The files of definitions of this repository that one imports from."""
     names = re.findall(r"^use Rattle\.(\w+)\.specs\.(\w+)", definition.read_text(encoding="utf-8"), re.MULTILINE)
@@ -153,7 +133,7 @@ def lines_of(definition):
 
 
 def as_said(files):
-    """The words of README.md on these files, whose lines are rounded to tens."""
+    """The words of PROVED.md on these files, whose lines are rounded to tens."""
     return f"definitions that it names: {len(files)} files with about {round(sum(map(lines_of, files)), -1):,} lines"
 
 
@@ -180,10 +160,10 @@ def is_renewed(page, old, new, is_written):
 
 
 def definitions_differ(is_written):
-    """Whether README.md or ARCHITECTURE.md says something else of the files that define the report."""
+    """Whether PROVED.md or ARCHITECTURE.md says something else of the files that define the report."""
     files = definitions()
     between = re.compile(re.escape(LIST_BEGINS) + "(?:(?!<!--).*\n)*" + re.escape(LIST_ENDS))
-    said = is_renewed(TOP / "README.md", DEFINITIONS, as_said(files), is_written)
+    said = is_renewed(TOP / "docs" / "PROVED.md", DEFINITIONS, as_said(files), is_written)
     listed = is_renewed(TOP / "docs" / "ARCHITECTURE.md", between, LIST_BEGINS + as_list(files) + LIST_ENDS, is_written)
     return said or listed
 
@@ -203,8 +183,8 @@ def main():
     if len(set(found.values())) > 1:
         print("versions:", ", ".join(f"{name} {version}" for name, version in found.items()))
     print(f"{len(links)} links, {len(broken)} of them lead nowhere; version {found['README.md']}")
-    differ = [definitions_differ("--write" in sys.argv[1:]), synopses_differ()]
-    return 1 if broken or elsewhere or absent or any(differ) or len(set(found.values())) > 1 else 0
+    differ = definitions_differ("--write" in sys.argv[1:])
+    return 1 if broken or elsewhere or absent or differ or len(set(found.values())) > 1 else 0
 
 
 if __name__ == "__main__":

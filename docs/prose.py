@@ -7,7 +7,8 @@
 Counted are paragraphs over 80 words, sentences over 30, cells of tables over 30, words of this project's dialect (with
 a plainer one for each), and, in pages that describe today, words that tell history. The pages are the Markdown files
 of the repository and the manual pages. Headings and blocks of code aren't counted, and a piece of code in a sentence
-is one word. Ends with 1 if a count has risen, a page has no row, or a row has no page.
+is one word. So counted, all pages together have at most MOST words. Ends with 1 if a count has risen, a page has no
+row, a row has no page, or the words are too many.
 """
 
 import re
@@ -19,6 +20,7 @@ STORED = TOP / "docs" / "prose.txt"
 PAGES = ("*.md", "docs/*.md", "bench/*.md", "packaging/*.md", "man/*.1")
 COUNTS = ("paragraphs", "sentences", "cells", "dialect", "history")
 PARAGRAPH, SENTENCE, CELL = 80, 30, 30
+MOST = 35_000
 # Pages whose subject is what changed.
 HISTORIES = ("CHANGELOG.md", "HISTORY.md")
 
@@ -111,6 +113,11 @@ def found_in(path):
                 yield "history", number, f"history: {match[0]!r}"
 
 
+def words_of(path):
+    """How many words a page has."""
+    return sum(len(plain(text).replace("|", " ").split()) for _, text in paragraphs(path))
+
+
 def counts_of(path):
     """The counts of a page, in their order."""
     kinds = [kind for kind, _, _ in found_in(path)]
@@ -150,10 +157,13 @@ def main():
     else:
         wrong += [f"{name}: no row in prose.txt: docs/prose.py --write" for name in now if name not in before]
         wrong += [f"{name}: a row in prose.txt without a page: docs/prose.py --write" for name in before if name not in every]
+    words = sum(words_of(path) for path in every.values())
+    if words > MOST:
+        wrong.append(f"{words:,} words on all pages, and {MOST:,} are allowed")
     for line in wrong:
         print(line)
     totals = ", ".join(f"{sum(column)} {kind}" for kind, column in zip(COUNTS, zip(*now.values())))
-    print(f"{len(now)} pages: {totals}; {len(wrong)} of the counts have risen")
+    print(f"{len(now)} pages: {totals}, {words:,} words on all pages; {len(wrong)} of the counts have risen")
     return 1 if wrong else 0
 
 

@@ -1,5 +1,5 @@
 #!/bin/bash
-# shard.sh NAME WORD..: bedtools WORD.. over one shard, whose part of each input is put into the folder shards/NAME.
+# shard.sh NAME WORD..: dunekettle-bedtools WORD.. over one shard, whose part of each input is put into the folder shards/NAME.
 set -euo pipefail
 export NAME=$1
 mkdir -p "shards/$NAME"
@@ -25,4 +25,4 @@ for word in "${@:2}"; do
     words+=("$part")
     before=$word
 done
-"${BEDTOOLS:-bedtools}" "${words[@]}"
+"${BEDTOOLS:-dunekettle-bedtools}" "${words[@]}"

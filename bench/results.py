@@ -1,0 +1,263 @@
+#!/usr/bin/env python3
+"""The results of the bench: measures them, writes them into the pages, draws them, and checks that all agree.
+
+    bench/results.py             fails if a table, a number or a chart isn't that of results.json
+    bench/results.py --write     writes them anew
+    bench/results.py --render FILE FOLDER     writes the tables and charts of another file into a folder
+
+bench/compare.py --results measures results.json: in one run of one commit the least time and the highest memory of each
+program over the reported workloads, the instructions a record of this program, and how time and memory grow with the
+input. It ends with 1 if the memory of this program does by over a megabyte. The outputs are compared at a tenth of the
+size, and then go to /dev/null. It needs an idle machine, bedtools, bedops, samtools and valgrind. A page has a table
+between the two lines that MARKS finds, and nothing else of it is touched.
+"""
+
+import json
+import math
+import os
+import re
+import shutil
+import subprocess
+import sys
+import tempfile
+import time
+from pathlib import Path
+
+import chart
+import compare
+
+HERE = Path(__file__).resolve().parent
+TOP = HERE.parent
+RESULTS = HERE / "results.json"
+# What is measured of growth: a workload for each command, also the one that the chart shows, by the name of its data.
+SHOWN = {
+    "merge": "3 columns",
+    "complement": "3 columns",
+    "intersect": "reads and exons",
+    "subtract": "reads and exons",
+    "genomecov": "reads at 30x",
+    "bamtobed": "alignments",
+    "maskfasta": "many records",
+}
+# What is reported beside the workloads that say so: other shapes, and what holds or waits for many records.
+ALSO = (
+    "intersect -sorted -v, reads and exons", "intersect -sorted -c, reads and exons", "intersect -sorted -u, 2,000 in 10,000 nested",
+    "intersect -sorted, 100,000 under a long one", "merge -s, 200,000 behind one of the other strand", "genomecov -bg, peaks",
+)
+SIZES = (1_000_000, 2_000_000, 4_000_000, 8_000_000)
+# A machine with more to do than this isn't idle.
+IDLE = 0.5
+# A table in a page: its name, and what is between the two marks.
+MARKS = re.compile(r"(<!-- bench/results.py --write: (\w+) -->\n).*?(<!-- it ends here -->)", re.DOTALL)
+PAGES = ("README.md", "bench/README.md")
+
+
+def reported():
+    """The workloads that the tables have."""
+    return [it for it in compare.WORKLOADS if (it.is_reported and "without -g" not in it.name()) or it.name() in ALSO]
+
+
+def shown(command):
+    """The workload of a command that the chart shows."""
+    return next(it for it in reported() if it.words[0] == command and it.data.name() == SHOWN[command])
+
+
+def output_of(*words):
+    """What a program writes on standard output, in one line."""
+    return " ".join(subprocess.run(words, cwd=TOP, stdout=subprocess.PIPE, stderr=subprocess.DEVNULL, text=True, check=False).stdout.split())
+
+
+def machine():
+    """What the machine is: its processor, how many there are, and its system."""
+    model = re.search(r"model name\s*: (.*)", Path("/proc/cpuinfo").read_text(encoding="utf-8"))
+    system = re.search(r'PRETTY_NAME="(.*)"', Path("/etc/os-release").read_text(encoding="utf-8"))
+    return f"{model[1] if model else 'x86-64'}, {os.cpu_count()} processors, {system[1] if system else 'Linux'}"
+
+
+def commit():
+    """The commit that is measured."""
+    changed = output_of("git", "status", "--porcelain", "--", "crates")
+    return output_of("git", "rev-parse", "--short", "HEAD") + (" with changes" if changed else "")
+
+
+def version_of(words, pattern):
+    """The version that a program names."""
+    found = re.search(pattern, output_of(*words))
+    return found[1] if found else "unknown"
+
+
+def timed(workload, others, folder, size, times):
+    """What each program took over so many records, with the output to /dev/null: seconds and kilobytes by its name."""
+    place = compare.prepared(workload, folder, size)
+    runs = compare.runs_of(workload, others, place)
+    for _ in range(times):
+        for run in runs:
+            compare.time_run(run, Path(os.devnull))
+    print(f"{workload.name()}, {size}: " + ", ".join(f"{run.program} {run.seconds:.3f} s {run.kilobytes} kB" for run in runs), flush=True)
+    return {run.program: {"seconds": round(run.seconds, 4), "kilobytes": run.kilobytes} for run in runs}
+
+
+def check_outputs(workload, others, folder, size):
+    """Compares the outputs of all programs once."""
+    runs = compare.runs_of(workload, others, compare.prepared(workload, folder, size))
+    outputs = {run.program: folder / f"{run.program}.out" for run in runs}
+    for run in runs:
+        compare.time_run(run, outputs[run.program])
+    compare.check_same(runs, outputs)
+
+
+def measured(workload, others, folder, records, times, valgrind):
+    """The row of a workload."""
+    check_outputs(workload, others, folder, records // 10)
+    row = {"name": workload.name(), "command": workload.words[0], "runs": timed(workload, others, folder, records, times)}
+    place = compare.prepared(workload, folder, compare.COUNTED)
+    run = compare.runs_of(workload, compare.NO_OTHERS, place)[0]
+    row["instructions"] = round(compare.instructions_of(valgrind, run) / compare.lines_of(place / "records.bed"), 1)
+    shutil.rmtree(compare.prepared(workload, folder, records))
+    return row
+
+
+def grown(command, others, folder, sizes, times):
+    """How the time and the memory of a command grow: what each program took, by the size."""
+    rows = {}
+    for size in sizes:
+        runs = timed(shown(command), others, folder, size, times)
+        rows[str(size)] = {program: runs[program] for program in ("dunekettle", "bedtools") if program in runs}
+        shutil.rmtree(compare.prepared(shown(command), folder, size))
+    ours = [row["dunekettle"]["kilobytes"] for row in rows.values()]
+    if max(ours) > min(ours) + compare.SLACK:
+        sys.exit(f"{command}: the memory grows with the input")
+    return rows
+
+
+def measure(records, times, trial):
+    """Measures all and writes it, and the pages unless it is a trial. Returns the exit status."""
+    valgrind = shutil.which("valgrind")
+    absent = [name for name in ("bedtools", "bedops", "samtools", "valgrind") if not shutil.which(name)]
+    if absent:
+        sys.exit(f"not on PATH: {', '.join(absent)}")
+    load = os.getloadavg()[0]
+    if load > IDLE and not trial:
+        sys.exit(f"the machine isn't idle: its load is {load:.1f}")
+    kept = {
+        "commit": commit(), "date": time.strftime("%Y-%m-%d"), "machine": machine(), "records": records, "times": times, "is_trial": bool(trial),
+        "bedtools": version_of(["bedtools", "--version"], r"v(\S+)"), "bedops": version_of(["bedops", "--version"], r"version:\s*(\S+)"),
+    }
+    sizes = [size * records // compare.TIMED for size in SIZES]
+    with tempfile.TemporaryDirectory() as folder:
+        folder = Path(folder)
+        others = compare.found_others(folder)
+        kept["workloads"] = [measured(workload, others, folder, records, times, valgrind) for workload in reported()]
+        kept["growth"] = {command: grown(command, others, folder, sizes, times) for command in SHOWN}
+    Path(trial or RESULTS).write_text(json.dumps(kept, indent=1) + "\n", encoding="utf-8")
+    return 0 if trial else agree(kept, True)
+
+
+def digits(number):
+    """A number of two significant digits."""
+    if number >= 99.5:
+        return f"{round(number, 1 - int(math.log10(number))):,.0f}"
+    return f"{number:.0f}" if number >= 9.95 else f"{number:.1f}" if number >= 0.995 else f"{number:.2f}" if number >= 0.0995 else f"{number:.3f}"
+
+
+def megabytes(kilobytes):
+    """Memory of so many times 1,024 bytes, in units of a million or a thousand million bytes."""
+    size = kilobytes * 1024 / 1e6
+    return f"{digits(size / 1000)} GB" if size >= 995 else f"{digits(size)} MB"
+
+
+def times_less(row):
+    """How many times less processor time this program takes than bedtools."""
+    return row["runs"]["bedtools"]["seconds"] / row["runs"]["dunekettle"]["seconds"]
+
+
+def spread(values, text):
+    """The least and the greatest of some values, or the one that both are."""
+    low, high = text(min(values)), text(max(values))
+    if low == high:
+        return low
+    same_unit = low.split()[1:] == high.split()[1:]
+    return f"{low.split()[0] if same_unit else low} to {high}"
+
+
+def caption(kept, about=""):
+    """How the numbers were measured: what is said first, and then the runs, the machine and the commit."""
+    trial = "**A trial on a busy machine, no result.** " if kept["is_trial"] else ""
+    records = about or f"About {kept['records'] / 1e6:g} million records"
+    runs = "the least of several runs" if not kept["times"] else "one run" if kept["times"] == 1 else f"the least of {kept['times']} runs"
+    note = f" {kept['note']}" if "note" in kept else ""
+    others = f"bedtools {kept['bedtools']}, bedops {kept['bedops']}"
+    return f"{trial}{records}, {runs}. {kept['machine']}; commit {kept['commit']}, {kept['date']}; {others}.{note}\n"
+
+
+def by_command(kept):
+    """The table of README.md: how much less each command takes."""
+    lines = ["| command | times less processor time than bedtools | memory | memory of bedtools |\n|---|---|---|---|\n"]
+    for command in SHOWN:
+        rows = [row for row in kept["workloads"] if row["command"] == command]
+        ours, theirs = ([row["runs"][program]["kilobytes"] for row in rows] for program in ("dunekettle", "bedtools"))
+        lines.append(f"| `{command}` | {spread([times_less(row) for row in rows], digits)} | {spread(ours, megabytes)} | {spread(theirs, megabytes)} |\n")
+    return "".join(lines) + f"\n{caption(kept)}"
+
+
+def by_workload(kept):
+    """The table of bench/README.md: each workload."""
+    lines = ["| workload | Dunekettle, s | bedtools, s | bedops, s | times less than bedtools | MB | of bedtools | instructions a record |\n|" + "---|" * 8 + "\n"]
+    for row in kept["workloads"]:
+        ours, theirs = row["runs"]["dunekettle"], row["runs"]["bedtools"]
+        bedops = row["runs"].get("bedops") or row["runs"].get("convert2bed")
+        cells = [row["name"], digits(ours["seconds"]), digits(theirs["seconds"]), digits(bedops["seconds"]) if bedops else "", digits(times_less(row)),
+                 *(digits(run["kilobytes"] * 1024 / 1e6) for run in (ours, theirs)), f"{row['instructions']:,.0f}" if "instructions" in row else ""]
+        lines.append(f"| {' | '.join(cells)} |\n".replace("|  |", "| |").replace("|  |", "| |"))
+    return "".join(lines) + f"\n{caption(kept)}"
+
+
+def growth(kept):
+    """The chart of growth, if it was measured."""
+    if "growth" not in kept:
+        return "How time and memory grow with the input wasn't measured yet.\n"
+    return "![time and memory of 1, 2, 4 and 8 million records](growth.svg)\n"
+
+
+TABLES = {"by_command": by_command, "by_workload": by_workload, "growth": growth}
+
+
+def charts(kept):
+    """The charts by their files."""
+    drawn = {"chart.svg": chart.draw_commands(kept, SHOWN, caption(kept))}
+    if "growth" in kept:
+        drawn["growth.svg"] = chart.draw_growth(kept, caption(kept, "Each point"))
+    return drawn
+
+
+def agree(kept, is_written):
+    """Writes or compares all that is made of the results. Returns the exit status."""
+    made = {TOP / name: MARKS.sub(lambda match: match[1] + TABLES[match[2]](kept) + match[3], (TOP / name).read_text(encoding="utf-8")) for name in PAGES}
+    made |= {HERE / name: text for name, text in charts(kept).items()}
+    differ = [path for path, text in made.items() if not path.exists() or path.read_text(encoding="utf-8") != text]
+    for path in differ:
+        if is_written:
+            path.write_text(made[path], encoding="utf-8")
+        print(f"{path.relative_to(TOP)}: {'written anew' if is_written else 'not that of bench/results.json: bench/results.py --write'}")
+    if kept["is_trial"]:
+        print("bench/results.json is a trial, which no page may show")
+    print(f"{len(made)} pages and charts, {len(differ)} of them differ from bench/results.json")
+    return 1 if kept["is_trial"] or (differ and not is_written) else 0
+
+
+def render(kept, folder):
+    """Writes the tables and charts of some results into a folder."""
+    folder.mkdir(parents=True, exist_ok=True)
+    for name, text in [*charts(kept).items(), *((f"{name}.md", table(kept)) for name, table in TABLES.items())]:
+        (folder / name).write_text(text, encoding="utf-8")
+    return 0
+
+
+def main():
+    if sys.argv[1:2] == ["--render"]:
+        return render(json.loads(Path(sys.argv[2]).read_text(encoding="utf-8")), Path(sys.argv[3]))
+    return agree(json.loads(RESULTS.read_text(encoding="utf-8")), "--write" in sys.argv[1:])
+
+
+if __name__ == "__main__":
+    sys.exit(main())
