@@ -9,6 +9,7 @@ use crate::leading::Leading;
 use crate::name_key::{LONGEST_KEYED, NameKey};
 use crate::names::is_same_name;
 use bt_lines::{eight_digits, few_digits};
+use std::simd::prelude::*;
 
 // How many bytes have to come behind the name, at most, for its line's columns to be scanned: two tabs, two numbers of
 // nine digits, and as many as are looked at together.
@@ -53,7 +54,7 @@ fn begins_with(bytes: &[u8], name: &[u8], key: NameKey) -> bool
     ensures { IsTrue result → BeginsWithName bytes.now name.now }
 {
     if name.len() <= LONGEST_KEYED {
-        return key.begins(word_at(bytes, 0));
+        return key.begins(&word_at(bytes, 0));
     }
     begins_with_long(bytes, name)
 }
@@ -75,22 +76,19 @@ fn number_at(bytes: &[u8], at: usize) -> Leading
     ensures begins { BeginsWith (drop at bytes.now) result }
     ensures short { result.end ≤ 9 }
 {
-    match eight_digits(word_at(bytes, at)) {
+    match eight_digits(&word_at(bytes, at)) {
         Some(value) => number_of_eight(bytes, at, value),
-        None => number_of_few(word_at(bytes, at)),
+        None => number_of_few(&word_at(bytes, at)),
     }
 }
 
 // The eight bytes from a place on.
 #[inline(always)]
-fn word_at(bytes: &[u8], at: usize) -> &[u8; 8]
+fn word_at(bytes: &[u8], at: usize) -> [u8; 8]
     requires { at + 8 ≤ length bytes.now }
-    ensures { result.now ≡ take 8 (drop at bytes.now) }
+    ensures { result ≡ take 8 (drop at bytes.now) }
 {
-    match bytes[at..].first_chunk::<8>() {
-        Some(word) => word,
-        None => unreachable!(),
-    }
+    u8x8::from_slice(&bytes[at..]).to_array()
 }
 
 // The number of less than eight digits. It stands apart, since most have more.

@@ -1,5 +1,5 @@
 -- The records that are open at a position and at later ones, how many of them cover a position, and their ends, counted by every test of an end.
-use Rattle.std.proofs.Common.{◌≡◌, ℕ, ◌+◌, ◌<◌, ◌≤◌, inl, inr, List, [], ◌∷◌, refl, sym, ap, ◌∙◌, arith, All, filter, length, nat_le, not, false, suc, cond, ◌&&◌, nat_lt, slice_index_or, subst, zero, drop, Bool, MatchBool, true, IfSome, IsSome, Option, Some, None}
+use Rattle.std.proofs.Common.{◌≡◌, ℕ, ◌+◌, ◌<◌, ◌≤◌, inl, inr, List, [], ◌∷◌, ◌++◌, refl, sym, ap, ◌∙◌, arith, All, filter, length, max, nat_le, not, false, suc, cond, ◌&&◌, nat_lt, slice_index_or, subst, zero, drop, Bool, MatchBool, true, IfSome, IsSome, Option, Some, None}
 use Rattle.std.proofs.lemmas.Bool.{cases_Bool, cases_lt, lt-ltb, le-ltb, lt-leb, le-leb}
 use Rattle.std.proofs.lemmas.List.{length-map}
 use Rattle.std.proofs.lemmas.List.Filters.{length-filter_both}
@@ -46,7 +46,7 @@ stay_open position next (s ∷ ss) up all =
     let mine : next ≤ s.stop = All-head (λ s. next ≤ s.stop) s ss all in
     rw (le-leb position s.stop (omega arith)) (ap (λ l. s ∷ l) (stay_open position next ss up (All-tail (λ s. next ≤ s.stop) s ss all)))
 
--- of those that have started, the ones that are open after a position cover it
+-- of those that have started, the ones that are open behind a position cover it
 covers_started : (p : ℕ) (s : Span) → s.start ≤ p → covers p s ≡ nat_le (p + 1) s.stop
 covers_started p s started = elim (cases_lt p s.stop) [
   | inl l ↦ rw (le-leb s.start p started, lt-ltb p s.stop l, le-leb (p + 1) s.stop (omega arith)) refl
@@ -93,14 +93,7 @@ module _ (at position : ℕ) (first now : List Span) (low : at ≤ position) (sa
       ∙ depth_started at q now (omega arith) started
       ∙ ap length (sym (open_after (position + 1) (q + 1) now (omega arith)) ∙ stay_open (q + 1) next (still_open (position + 1) now) (omega arith) ends)
 
-  pub walk_same : (next : ℕ) → position < next → still_open next (still_open (position + 1) now) ≡ still_open next first
-  walk_same next up =
-      open_after (position + 1) next now (omega arith)
-      ∙ sym (open_after position next now (omega arith))
-      ∙ ap (still_open next) same
-      ∙ open_after position next first (omega arith)
-
--- if there are no more than are still open, all of them are
+-- where there are no more than are still open, all of them are
 open_few : (position : ℕ) (spans : List Span) → length (still_open position spans) ≤ length spans
 open_few position spans =
     let test = λ (s : Span). nat_le position s.stop in
@@ -119,40 +112,41 @@ all_stay position (s ∷ ss) many = elim (cases_lt s.stop position) [
       rw (le-leb position s.stop left) (ap (λ l. s ∷ l) (all_stay position ss (omega arith)))
 ]
 
--- one that has ended leaves it, whatever its index
-pub one_dropped : (position i : ℕ) (items : List OpenSpan) (x : OpenSpan) → i < length items → x ≡ slice_index_or items i x → x.stop < position → still_open position (spans_open (remove items i)) ≡ still_open position (spans_open items)
-one_dropped position i [] x below is ended = absurd (omega arith)
-one_dropped position zero (s ∷ ss) x below is ended = rw (← is, lt-leb position x.stop ended) refl
-one_dropped position (suc i) (s ∷ ss) x below is ended =
-    let rest = one_dropped position i ss x (omega arith) is ended in
-    elim (cases_Bool (nat_le position s.stop)) [
-      | inl t ↦ rw t (ap (λ l. span_open s ∷ l) rest)
-      | inr f ↦ rw f rest
-    ]
-
--- all after an index are open: if it is 0, all are
-behind_all : (position : ℕ) (items : List OpenSpan) → All (λ s. position ≤ s.stop) items → still_open position (spans_open items) ≡ spans_open items
-behind_all position [] all = refl
-behind_all position (s ∷ ss) all =
-    let mine : position ≤ s.stop = All-head (λ s. position ≤ s.stop) s ss all in
-    rw (le-leb position s.stop mine) (ap (λ l. span_open s ∷ l) (behind_all position ss (All-tail (λ s. position ≤ s.stop) s ss all)))
-
-pub behind_one : (position i : ℕ) (items : List OpenSpan) (x : OpenSpan) → i < length items → x ≡ slice_index_or items i x → position ≤ x.stop → All (λ s. position ≤ s.stop) (drop (suc i) items) → All (λ s. position ≤ s.stop) (drop i items)
-behind_one position i [] x below is left all = absurd (omega arith)
-behind_one position zero (s ∷ ss) x below is left all = All-cons (λ s. position ≤ s.stop) s ss (subst (λ (s : OpenSpan). position ≤ s.stop) is left) all
-behind_one position (suc i) (s ∷ ss) x below is left all = behind_one position i ss x (omega arith) is left all
-
-pub behind_dropped : (position i : ℕ) (items : List OpenSpan) → i < length items → All (λ s. position ≤ s.stop) (drop (suc i) items) → All (λ s. position ≤ s.stop) (drop i (remove items i))
-behind_dropped position i [] below all = absurd (omega arith)
-behind_dropped position zero (s ∷ ss) below all = all
-behind_dropped position (suc i) (s ∷ ss) below all = behind_dropped position i ss (omega arith) all
-
-pub some_before_index : (position left index : ℕ) (items : List OpenSpan) → left ≡ length (still_open position (spans_open items)) → left < length items → All (λ s. position ≤ s.stop) (drop index items) → 1 ≤ index
-some_before_index position left zero items is more all =
-    let same = ap length (behind_all position items all) in
+-- no more are open than are listed, and none past the end
+pub open_within : (position : ℕ) (items : List OpenSpan) → length (still_open position (spans_open items)) ≤ length items
+open_within position items =
+    let few = open_few position (spans_open items) in
     let long = length-map items span_open in
-    absurd (omega arith)
-some_before_index position left (suc index) items is more all = omega arith
+    omega arith
+
+pub none_past : (items : List OpenSpan) → drop (length items) items ≡ []
+none_past [] = refl
+none_past (s ∷ ss) = none_past ss
+
+-- those of two lists
+pub open_both : (position : ℕ) (first more : List OpenSpan) → still_open position (spans_open (first ++ more)) ≡ still_open position (spans_open first) ++ still_open position (spans_open more)
+open_both position [] more = refl
+open_both position (s ∷ ss) more = elim (cases_Bool (nat_le position s.stop)) [
+  | inl t ↦ rw t (ap (λ l. span_open s ∷ l) (open_both position ss more))
+  | inr f ↦ rw f (open_both position ss more)
+]
+
+-- with the one before, those from an index on
+behind_cons : (i : ℕ) (items : List OpenSpan) (x : OpenSpan) → i < length items → x ≡ slice_index_or items i x → drop i items ≡ x ∷ drop (suc i) items
+behind_cons i [] x below is = absurd (omega arith)
+behind_cons zero (s ∷ ss) x below is = rw is refl
+behind_cons (suc i) (s ∷ ss) x below is = behind_cons i ss x (omega arith) is
+
+module _ (position i : ℕ) (items : List OpenSpan) (x : OpenSpan) (below : i < length items) (is : x ≡ slice_index_or items i x) where
+  abbrev open_behind : ℕ → List Span
+  open_behind n = still_open position (spans_open (drop n items))
+
+  -- the one at an index has ended, or is open
+  pub behind_ended : x.stop < position → open_behind i ≡ open_behind (suc i)
+  behind_ended ended = ap (λ l. still_open position (spans_open l)) (behind_cons i items x below is) ∙ rw (lt-leb position x.stop ended) refl
+
+  pub behind_open : position ≤ x.stop → open_behind i ≡ span_open x ∷ open_behind (suc i)
+  behind_open left = ap (λ l. still_open position (spans_open l)) (behind_cons i items x below is) ∙ rw (le-leb position x.stop left) refl
 
 -- all pass, or none
 all_pass : {X : Type 0} (xs : List X) → filter (λ x. true) xs ≡ xs
@@ -185,7 +179,7 @@ module _ (ends : List ℕ) (spans : List Span) (counts : CountsEnds ends spans) 
   pub as_many : length ends ≡ length spans
   as_many = ap length (sym (all_pass ends)) ∙ counts (λ e. true) ∙ ap length (all_pass spans)
 
-  -- if no end lies before a position, no record ends before it
+  -- where no end lies before a position, no record ends before it
   pub ends_left : (position : ℕ) → All (λ e. position ≤ e) ends → All (λ s. position ≤ s.stop) spans
   ends_left position all = below_none (λ s. s.stop) position spans (sym (counts (λ e. nat_lt e position)) ∙ none_below (λ e. e) position ends all)
 
@@ -231,19 +225,44 @@ open_tested position test (s ∷ ss) =
 
 -- what is kept at a later position, once the ends before it are out
 module _ (first position : ℕ) (spans : List Span) (ends new : List ℕ) (up : first ≤ position) (kept : KeepsOpen first spans ends) (from : CountsFrom position ends new) (all : All (λ e. position ≤ e) new) where
-  pub ends_later : CountsEnds new (still_open position spans)
+  ends_later : CountsEnds new (still_open position spans)
   ends_later test =
       sym (ap length (all_from position test new all))
       ∙ from test
       ∙ kept.counts (λ e. nat_le position e && test e)
-      ∙ ap length (open_tested position test spans)
+      ∙ ap length (open_tested position test (still_open first spans))
+      ∙ ap (λ l. length (filter (λ (s : Span). test s.stop) l)) (open_after first position spans up)
 
-  pub keeps_later : KeepsOpen position (still_open position spans) new
+  pub keeps_later : KeepsOpen position spans new
   keeps_later = record {
-    started = All-filter (λ s. nat_le position s.stop) (λ s. s.start ≤ position) spans (All-weaker (λ s. s.start ≤ first) (λ s. s.start ≤ position) (λ s low. omega arith) spans kept.started);
-    left = all_open position spans;
+    started = All-weaker (λ s. s.start ≤ first) (λ s. s.start ≤ position) (λ s low. omega arith) spans kept.started;
     counts = ends_later;
   }
+
+-- where none ends before a later position, the same are open there
+module _ (first position : ℕ) (spans : List Span) (ends : List ℕ) (kept : KeepsOpen first spans ends) (all : All (λ s. position ≤ s.stop) (still_open first spans)) where
+  abbrev later : ℕ
+  later = max first position
+
+  pub same_open : still_open later spans ≡ still_open first spans
+  same_open =
+      let open_later : All (λ s. later ≤ s.stop) (still_open first spans) = λ k d below.
+      let here = all_open first spans k d below in
+      let there = all k d below in
+      omega arith in
+      sym (open_after first later spans (omega arith)) ∙ stay_open later later (still_open first spans) (omega arith) open_later
+
+  pub keeps_same : KeepsOpen later (still_open later spans) ends
+  keeps_same = record {
+    started = All-filter (λ s. nat_le later s.stop) (λ s. s.start ≤ later) spans (All-weaker (λ s. s.start ≤ first) (λ s. s.start ≤ later) (λ s low. omega arith) spans kept.started);
+    counts = λ test.
+        kept.counts test
+        ∙ ap (λ l. length (filter (λ (s : Span). test s.stop) l)) (sym same_open ∙ sym (open_after later later spans (omega arith)));
+  }
+
+  -- as many as there are ends
+  pub open_count : length ends ≡ length (still_open later spans)
+  open_count = as_many ends (still_open first spans) kept.counts ∙ ap length (sym same_open)
 
 -- the top of a heap whose least is the first
 pub top_least : (xs : List (Reverse ℕ)) (x : Reverse ℕ) → IsUpperBound (λ x y. nat_cmp y.0 x.0) x xs → All (λ e. x.0 ≤ e) (ends_of xs)
@@ -275,7 +294,7 @@ pub some_before : (position : ℕ) (xs : List (Reverse ℕ)) → StartsBelow pos
 some_before position [] below = absurd below
 some_before position (y ∷ ys) below = omega arith
 
--- the top is taken out if it lies before the position
+-- the top is taken out where it lies before the position
 top_below : (position : ℕ) (xs : List (Reverse ℕ)) (x : Reverse ℕ) → StartsBelow position (ends_of xs) → x ≡ slice_index_or xs 0 x → x.0 < position
 top_below position [] x below is = absurd below
 top_below position (y ∷ ys) x below is = subst (λ (e : Reverse ℕ). e.0 < position) (sym is) below

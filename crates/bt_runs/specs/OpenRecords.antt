@@ -5,7 +5,7 @@ use Rattle.bt_bed.specs.Interval.{Span}
 use Rattle.bt_runs.specs.DepthStep.{opened, still_open}
 use Rattle.bt_runs.specs.declared.open_records.OpenSpan.{OpenSpan}
 
--- the records, in file order, of which none ends before the position
+-- a position, and records that start there or before, in file order
 pub record OpenAt : Type 0 where
   pub at : ℕ
   pub spans : List Span
@@ -36,11 +36,10 @@ abbrev pub CountsEnds : List ℕ → List Span → Type 0
 CountsEnds ends spans =
     (test : ℕ → Bool) → length (filter test ends) ≡ length (filter (λ s. test s.stop) spans)
 
--- what is kept at a position: spans that start there or before and end there or past it, and their ends
+-- what is kept at a position: spans that start there or before, and the ends of those that are open
 pub record KeepsOpen (at : ℕ) (spans : List Span) (ends : List ℕ) : Type 0 where
   pub started : All (λ s. s.start ≤ at) spans
-  pub left : All (λ s. at ≤ s.stop) spans
-  pub counts : CountsEnds ends spans
+  pub counts : CountsEnds ends (still_open at spans)
 
 -- the first ended before a position
 abbrev pub StartsEnded : ℕ → List Span → Type 0

@@ -50,11 +50,11 @@ pub(crate) fn go_on<K: Sink>(
     let mut begun = begun;
     while position < stop {
         held.go_on(position + 1);
-        let depth = reported(zeros, held.len() as u64);
+        let depth = reported(zeros, held.depth() as u64);
         begun = put_next(chrom, begun, position, depth, out)?;
         position = held.first_end(stop);
     }
-    held.move_to(stop);
+    held.settle(stop);
     Ok(begun)
 }
 

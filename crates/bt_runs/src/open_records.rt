@@ -1,6 +1,6 @@
 //! The counted records that are open at a position of a chromosome.
 
-ghost use Rattle.std.specs.Prelude.{◌≡◌, ◌≤◌, [], ◌∷◌, ◌++◌, All, IsTrue, OnOk, length, max};
+ghost use Rattle.std.specs.Prelude.{◌≡◌, ◌+◌, ◌≤◌, [], ◌∷◌, ◌++◌, All, IsTrue, OnOk, drop, length, max};
 ghost use Rattle.bt_runs.specs.DepthStep.{still_open};
 ghost use Rattle.bt_runs.specs.OpenRecords.{StartsEnded, none_open_at, open_from, spans_open};
 
@@ -54,18 +54,25 @@ impl OpenRecords {
 
     // The position.
     pub(crate) fn at(&self) -> u64
-        ensures is { result ≡ self.now.at }
-        ensures left { All (λ s. result ≤ s.stop) self.now.spans }
+        ensures { result ≡ self.now.at }
     {
         self.at
     }
 
-    // How many are open.
+    // How many are listed.
     #[inline(always)]
     pub(crate) fn len(&self) -> usize
         ensures { result ≡ length self.now.spans }
     {
         self.spans.len()
+    }
+
+    // How many are open.
+    #[inline(always)]
+    pub(crate) fn depth(&self) -> usize
+        ensures { result ≡ length (still_open self.now.at self.now.spans) }
+    {
+        self.ends.len()
     }
 
     // Goes to a position at which none is open.
@@ -77,27 +84,27 @@ impl OpenRecords {
         self.ends.clear();
     }
 
-    // Goes on to a position. The records that end before it are open no more.
+    // Goes on to a position. The records that end before it are open no more, and stay in the list.
     #[inline(always)]
     pub(crate) fn go_on(&mut self, position: u64)
-        ensures left { self.new ≡ open_from (max self.old.at position) self.old }
+        ensures at { self.new ≡ record { at = max self.old.at position; spans = self.old.spans } }
         ensures started { All (λ s. s.start ≤ self.old.at) self.old.spans }
     {
         self.at = self.at.max(position);
         self.ends.pass(self.at);
+    }
+
+    // Goes on to a position before which none ends, and drops those that aren't open from the list.
+    #[inline(always)]
+    pub(crate) fn settle(&mut self, position: u64)
+        requires { All (λ s. position ≤ s.stop) (still_open self.old.at self.old.spans) }
+        ensures { self.new ≡ open_from (max self.old.at position) self.old }
+    {
+        self.at = self.at.max(position);
         let left = self.ends.len();
         if left < self.spans.len() {
             drop_ended(&mut self.spans, self.at, left);
         }
-    }
-
-    // Moves to a position before which none ends.
-    #[inline(always)]
-    pub(crate) fn move_to(&mut self, position: u64)
-        requires { All (λ s. position ≤ s.stop) self.old.spans }
-        ensures { self.new ≡ open_from (max self.old.at position) self.old }
-    {
-        self.at = self.at.max(position);
     }
 
     // The first position at which one ends, but no more than `stop`. What is written needs no more than
@@ -105,7 +112,7 @@ impl OpenRecords {
     #[inline(always)]
     pub(crate) fn first_end(&self, stop: u64) -> u64
         ensures within { result ≤ stop }
-        ensures ends { All (λ s. result ≤ s.stop) self.now.spans }
+        ensures ends { All (λ s. result ≤ s.stop) (still_open self.now.at self.now.spans) }
         ensures behind { self.now.at ≤ stop → self.now.at ≤ result }
     {
         self.ends.first(stop)
@@ -130,8 +137,8 @@ impl OpenRecords {
     }
 }
 
-// Drops the records that ended before a position, where this many are still open there. Most stand at the front; the
-// others are looked for from the back, where short records stand behind long ones.
+// Drops the records that ended before a position, where this many are still open there. Most are first in the list. The
+// others are looked for from its end, where short records come after long ones.
 #[inline(never)]
 fn drop_ended(spans: &mut VecDeque<OpenSpan>, position: u64, left: usize)
     requires { left ≡ length (still_open position (spans_open spans.old.items)) }
@@ -140,13 +147,46 @@ fn drop_ended(spans: &mut VecDeque<OpenSpan>, position: u64, left: usize)
     while left < spans.len() && begins_with_ended(spans, position) {
         spans.pop_front();
     }
+    if left < spans.len() {
+        let first = first_ended(spans, position, left);
+        drop_from(spans, position, first);
+    }
+}
+
+// The index of the first record that ended before a position, where this many are still open there.
+fn first_ended(spans: &VecDeque<OpenSpan>, position: u64, left: usize) -> usize
+    requires { left ≡ length (still_open position (spans_open spans.now.items)) }
+    ensures within { result ≤ length spans.now.items }
+    ensures count { result + length (still_open position (spans_open (drop result spans.now.items))) ≡ left }
+{
     let mut index = spans.len();
-    while left < spans.len() {
+    let mut ended = index - left;
+    while 0 < ended {
         index -= 1;
         if spans[index].stop < position {
-            spans.remove(index);
+            ended -= 1;
         }
     }
+    index
+}
+
+// Drops those from an index on that ended before a position, where none before it did.
+fn drop_from(spans: &mut VecDeque<OpenSpan>, position: u64, first: usize)
+    requires within { first ≤ length spans.old.items }
+    requires count { first + length (still_open position (spans_open (drop first spans.old.items))) ≡ length (still_open position (spans_open spans.old.items)) }
+    ensures { spans_open spans.new.items ≡ still_open position (spans_open spans.old.items) }
+{
+    let mut kept = first;
+    let mut index = first;
+    while index < spans.len() {
+        let span = spans[index];
+        if position <= span.stop {
+            spans[kept] = span;
+            kept += 1;
+        }
+        index += 1;
+    }
+    spans.truncate(kept);
 }
 
 // Whether the first record ended before a position.

@@ -5,4 +5,4 @@ pub returns-then-name-le-LONGEST_KEYED : goal.returns-then-name-le-LONGEST_KEYED
 returns-then-name-le-LONGEST_KEYED c = λ same.
     let name = c.args.name.now in
     let short = c.if-name-le-LONGEST_KEYED.true in
-    front_begins c.args.bytes.now c.word_at.result.now name c.word_at.ensures short (c.begins.ensures name (c.requires.key short) same)
+    front_begins c.args.bytes.now c.word_at.result name c.word_at.ensures short (c.begins.ensures name (c.requires.key short) same)

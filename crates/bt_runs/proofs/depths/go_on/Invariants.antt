@@ -6,14 +6,14 @@ use Rattle.bt_runs.specs.DepthStep.{levels_on, still_open}
 use Rattle.bt_runs.specs.Levels.{begun_after, ended_after}
 use Rattle.bt_runs.proofs.depths.go_on.Given as goal
 
--- the intervals so far were written, and the records are left that are open here
+-- the intervals so far were written, and none that is open ends before
 abbrev pub invariant-loop-position : goal.invariant-loop-position
 invariant-loop-position g l = record {
   from : l.fn.held.at ≤ l.position;
   to : l.position - l.fn.held.at ≤ l.stop - l.fn.held.at;
   here : l.held.at ≤ l.position;
-  left : All (λ s. l.position ≤ s.stop) l.held.spans;
-  open_here : still_open l.position l.held.spans ≡ still_open l.position l.fn.held.spans;
+  left : All (λ s. l.position ≤ s.stop) (still_open l.held.at l.held.spans);
+  same : l.held.spans ≡ l.fn.held.spans;
   puts : Grown l.fn.out.output (depth_lines (levels_on l.chrom (ended_after (depth_of l.zeros l.fn.held.spans) l.fn.held.at (l.position - l.fn.held.at) (begun_seen l.fn.begun)))) l.out.output;
   begun : begun_seen l.begun ≡ begun_after (depth_of l.zeros l.fn.held.spans) l.fn.held.at (l.position - l.fn.held.at) (begun_seen l.fn.begun);
 }

@@ -1,4 +1,4 @@
-use Rattle.std.proofs.Common.{◌≡◌, ◌≤◌, All, drop}
+use Rattle.std.proofs.Common.{◌≡◌}
 use Rattle.std.specs.VecDeque.{deque_len}
 use Rattle.bt_runs.specs.DepthStep.{still_open}
 use Rattle.bt_runs.specs.OpenRecords.{spans_open}
@@ -10,14 +10,3 @@ invariant-loop-spans l = still_open l.position (spans_open l.spans.items) ≡ st
 
 abbrev pub decreases-loop-spans : goal.decreases-loop-spans
 decreases-loop-spans l = deque_len l.spans
-
--- and those from the index on are still open
-abbrev pub invariant-loop-index : goal.invariant-loop-index
-invariant-loop-index l = record {
-  same : still_open l.position (spans_open l.spans.items) ≡ still_open l.position (spans_open l.fn.spans.items);
-  within : l.index ≤ deque_len l.spans;
-  behind : All (λ s. l.position ≤ s.stop) (drop l.index l.spans.items);
-}
-
-abbrev pub decreases-loop-index : goal.decreases-loop-index
-decreases-loop-index l = l.index
