@@ -156,6 +156,12 @@ pub front_is_name : (text name : List ℕ) → BeginsWithName text name → take
 front_is_name text name e =
     ap (take (length name)) e ∙ take-append_seam name (9 ∷ drop (length name + 1) text)
 
+pub begins_within : (text name : List ℕ) → BeginsWithName text name → length name < length text
+begins_within text name e =
+    let rest = drop (length name + 1) text in
+    let size : length text ≡ length name + length (9 ∷ rest) = ap length e ∙ length-append name (9 ∷ rest) in
+    omega arith
+
 pub name_ends : (text name : List ℕ) → IsName name → BeginsWithName text name → EndsName text (length name)
 name_ends text name named e =
     let rest = drop (length name + 1) text in

@@ -1,7 +1,7 @@
 -- Lemmas on the first columns of a line that was parsed.
 use Rattle.std.proofs.Common.{◌≡◌, ℕ, ◌+◌, ◌<◌, true, false, List, [], ◌∷◌, ◌++◌, length, take, drop, Option, Some, None, Result, Ok, Err, refl, sym, ap, ◌∙◌, subst, arith, append_assoc, length-append, ltb, eqb, inl, inr}
 use Rattle.std.specs.Prelude.{IfSome}
-use Rattle.std.proofs.lemmas.Bool.{cases_lt, false≢true}
+use Rattle.std.proofs.lemmas.Bool.{cases_Bool, cases_lt, false≢true}
 use Rattle.std.proofs.lemmas.List.{drop_at, take_all}
 use Rattle.std.proofs.lemmas.List.Splits.{slice_split_none}
 use Rattle.bt_lines.proofs.ColumnLemmas.{IsColumn, cut_at}
@@ -111,6 +111,13 @@ on_by name (Ok (Some r)) e = (r, refl, (bytes_eq-Decides r.chrom name).0 e)
 -- a text that says a record on the chromosome
 pub parsed_of : (name text : List ℕ) → is_on name (record_of text) ≡ true → (r : Feature) × (record_of text ≡ Ok (Some r)) × (r.chrom ≡ name)
 parsed_of name text e = on_by name (record_of text) e
+
+-- one that doesn't begin with the name says none
+pub not_on : (name text : List ℕ) → (BeginsWithName text name → ⊥) → false ≡ is_on name (record_of text)
+not_on name text other = elim (cases_Bool (is_on name (record_of text))) [
+  | inl is ↦ let p = parsed_of name text is in absurd (other (parsed_begins text name p.0 p.1 p.2))
+  | inr none ↦ sym none
+]
 
 -- where its third column begins
 pub third_at : (text : List ℕ) (n a : ℕ) → drop (a + 1) (drop (n + 1) text) ≡ drop (n + a + 2) text

@@ -7,7 +7,7 @@ ghost use Rattle.bt_bed.specs.NameKey.{HasKey};
 ghost use Rattle.bt_bed.specs.Run.{is_on};
 ghost use Rattle.bt_bed.specs.Record.{record_of};
 
-use crate::columns::{LOOKAHEAD, scan_columns};
+use crate::columns::{LOOKAHEAD, begins_with_long, scan_columns};
 use crate::leading::parse_leading;
 use crate::name_key::NameKey;
 use crate::names::is_same_name;
@@ -224,12 +224,16 @@ fn ends_column(text: &[u8], end: usize) -> bool
     end == text.len()
 }
 
-// Whether a text says a record on the chromosome of this name.
+// Whether a text says a record on the chromosome of this name. Most that don't begin with another name, so that no other
+// column is parsed.
 #[cold]
 #[inline(never)]
 fn is_record_on(text: &[u8], name: &[u8]) -> bool
     ensures { result ≡ is_on name.now (record_of text.now) }
 {
+    if text.len() <= name.len() || !begins_with_long(text, name) {
+        return false;
+    }
     match parse_bed(text) {
         Ok(Some(bed)) => is_same_name(bed.chrom, name),
         _ => false,

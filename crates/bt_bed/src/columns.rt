@@ -59,11 +59,12 @@ fn begins_with(bytes: &[u8], name: &[u8], key: NameKey) -> bool
     begins_with_long(bytes, name)
 }
 
-// The same for a name of any length, by the tab behind it and then the name.
+// The same for a name of any length, by the tab after it and then the name.
 #[inline(always)]
-fn begins_with_long(bytes: &[u8], name: &[u8]) -> bool
+pub(crate) fn begins_with_long(bytes: &[u8], name: &[u8]) -> bool
     requires { length name.now < length bytes.now }
-    ensures { IsTrue result → BeginsWithName bytes.now name.now }
+    ensures same { IsTrue result → BeginsWithName bytes.now name.now }
+    ensures other { BeginsWithName bytes.now name.now → IsTrue result }
 {
     let end = name.len();
     bytes[end] == b'\t' && is_same_name(name, &bytes[..end])
