@@ -37,3 +37,5 @@ pub mod SameLines
 pub mod Covers
 pub mod AlikeRecords
 pub mod RunsAgain
+pub mod DepthParts
+pub mod SameSweeps

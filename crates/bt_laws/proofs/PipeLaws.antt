@@ -202,7 +202,7 @@ cut_whole too past (m ∷ more) fault e =
     cut_whole_by (too (map (λ (m : Member Feature). m.item) (past ++ m ∷ []))) (past ++ m ∷ []) (fault_at_line Second m.line TooManyHeld) (cut_behind too (past ++ m ∷ []) more fault) (record { members = past ++ m ∷ more; fault = fault })
     (λ none. cut_whole too (past ++ m ∷ []) more fault none ∙ ap (λ (ms : List (Member Feature)). record { members = ms; fault = fault }) (append_assoc past (m ∷ []) more)) e
 
-limit_whole : (order : Order) (limit : Option ℕ) (first : List Feature) (second : Good Feature) → (limited order limit first second).fault ≡ None → limited order limit first second ≡ second
+pub limit_whole : (order : Order) (limit : Option ℕ) (first : List Feature) (second : Good Feature) → (limited order limit first second).fault ≡ None → limited order limit first second ≡ second
 limit_whole order None first second e = refl
 limit_whole order (Some most) first second e = cut_whole (are_too_many order most first) [] second.members second.fault e
 

@@ -8,3 +8,4 @@ pub mod SweepLines
 pub mod Pipes
 pub mod SameLines
 pub mod SameRuns
+pub mod SameSweeps

@@ -7,4 +7,5 @@
 pub mod pipes;
 pub mod same_lines;
 pub mod same_runs;
+pub mod same_sweeps;
 pub mod split_laws;
