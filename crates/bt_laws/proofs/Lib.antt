@@ -39,3 +39,4 @@ pub mod AlikeRecords
 pub mod RunsAgain
 pub mod DepthParts
 pub mod SameSweeps
+pub mod GapsHit

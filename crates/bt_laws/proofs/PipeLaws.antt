@@ -69,7 +69,7 @@ no_file : (answer : Result (List Entry) Told) → of_file answer ≡ Ok None →
 no_file (Ok found) e = cc
 no_file (Err fault) e = cc
 
-chroms_of : (genome : Option Handed) (entries : List Entry) → chromosomes_of genome ≡ Ok (Some entries) → AllByRecursion IsChrom entries × AreDistinct (genome_names entries)
+pub chroms_of : (genome : Option Handed) (entries : List Entry) → chromosomes_of genome ≡ Ok (Some entries) → AllByRecursion IsChrom entries × AreDistinct (genome_names entries)
 chroms_of None entries e = cc
 chroms_of (Some genome) entries e = (genome_chroms Genome genome entries (file_is (genome_handed Genome genome) entries e), distinct_in genome entries e)
 

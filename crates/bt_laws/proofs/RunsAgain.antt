@@ -78,11 +78,11 @@ names_so P (r ∷ rs) h = (
 
 -- ---- the spans of runs, name by name
 
-here_all : (name : List ℕ) (ss : List Span) → spans_on name (map (placed_on name) ss) ≡ ss
+pub here_all : (name : List ℕ) (ss : List Span) → spans_on name (map (placed_on name) ss) ≡ ss
 here_all name [] = refl
 here_all name (s ∷ ss) = spans_on-here name (placed_on name s) (map (placed_on name) ss) refl ∙ ap (λ l. s ∷ l) (here_all name ss)
 
-none_there : (name other : List ℕ) (ss : List Span) → bytes_eq other name ≡ false → spans_on name (map (placed_on other) ss) ≡ []
+pub none_there : (name other : List ℕ) (ss : List Span) → bytes_eq other name ≡ false → spans_on name (map (placed_on other) ss) ≡ []
 none_there name other [] e = refl
 none_there name other (s ∷ ss) e = spans_on-elsewhere name (placed_on other s) (map (placed_on other) ss) e ∙ none_there name other ss e
 

@@ -93,7 +93,7 @@ here_back a b bs p from to same (inl here) more =
 here_back a b bs p from to same (inr there) more = longer a b bs p (more there)
 
 -- the positions of a that the second input has, and those that its hits have
-hit_to : (a : Feature) (bs : List Feature) (p : ℕ) → IsCovered (spans_of (hits_among any_overlap a bs)) p → IsCovered (spans_on a.chrom (intervals_of bs)) p
+pub hit_to : (a : Feature) (bs : List Feature) (p : ℕ) → IsCovered (spans_of (hits_among any_overlap a bs)) p → IsCovered (spans_on a.chrom (intervals_of bs)) p
 hit_to a [] p c = absurd c
 hit_to a (b ∷ bs) p c = elim (cases_Bool (hits any_overlap a b)) [
   | inl t ↦
@@ -104,7 +104,7 @@ hit_to a (b ∷ bs) p c = elim (cases_Bool (hits any_overlap a b)) [
       wider a.chrom b bs p (hit_to a bs p there)
 ]
 
-hit_back : (a : Feature) (bs : List Feature) (p : ℕ) → a.start ≤ p → p < a.stop → IsCovered (spans_on a.chrom (intervals_of bs)) p → IsCovered (spans_of (hits_among any_overlap a bs)) p
+pub hit_back : (a : Feature) (bs : List Feature) (p : ℕ) → a.start ≤ p → p < a.stop → IsCovered (spans_on a.chrom (intervals_of bs)) p → IsCovered (spans_of (hits_among any_overlap a bs)) p
 hit_back a [] p from to c = absurd c
 hit_back a (b ∷ bs) p from to c = elim (cases_name b.chrom a.chrom) [
   | inl same ↦ here_back a b bs p from to same (subst (λ l. IsCovered l p) (spans_on-here a.chrom (interval_of b) (intervals_of bs) same) c) (hit_back a bs p from to)
@@ -206,7 +206,7 @@ first_none order shape rule first second None none e =
     alone_none (list_all r.decided (items_in first)) (flat_map r.lines (items_in first)) (written r (items_in first)) first.fault (all_pass (items_in first)) e
 first_none order shape rule first second (Some fault) none e = cc
 
-met_none : (order : Order) (shape : Shape) (rule : HitRule) (first second : Good Feature) → first.fault ≡ None → second.fault ≡ None → (met_within order shape rule None first second).fault ≡ None
+pub met_none : (order : Order) (shape : Shape) (rule : HitRule) (first second : Good Feature) → first.fault ≡ None → second.fault ≡ None → (met_within order shape rule None first second).fault ≡ None
 met_none order shape rule first second one two =
     let r = sweep_rule order shape rule (items_in second) second.fault in
     none_by (list_all r.decided (items_in first)) (flat_map r.lines (items_in first)) (written r (items_in first)) first.fault second.fault one two
@@ -242,7 +242,7 @@ uncut : (is_cut : Bool) (one other : Told) → (if is_cut then Some one else Non
 uncut true one other e = cc
 uncut false one other e = refl
 
-other_input : (order : Order) (handed : Handed) → (bed_good Second order handed).fault ≡ None → (items_in (bed_good First order handed) ≡ items_in (bed_good Second order handed)) × ((bed_good First order handed).fault ≡ None)
+pub other_input : (order : Order) (handed : Handed) → (bed_good Second order handed).fault ≡ None → (items_in (bed_good First order handed) ≡ items_in (bed_good Second order handed)) × ((bed_good First order handed).fault ≡ None)
 other_input order handed e =
     let lines = lines_handed handed in
     let format = bed_format (sorting_of order) in
@@ -251,7 +251,7 @@ other_input order handed e =
     let cut : cut_fault First handed ≡ None = uncut handed.is_cut (read_failed Second (suc (length (whole_lines handed.text)))) (read_failed First (suc (length (whole_lines handed.text)))) parts.1 in
     (like.0, ap (λ f. or_else f (cut_fault First handed)) like.1 ∙ cut)
 
-output_by : (written : Written Feature) (members : List Feature) (fault : Option Told) → fault ≡ None → (report_by written members fault).output ≡ written.whole members
+pub output_by : (written : Written Feature) (members : List Feature) (fault : Option Told) → fault ≡ None → (report_by written members fault).output ≡ written.whole members
 output_by written members None e = refl
 output_by written members (Some fault) e = cc
 

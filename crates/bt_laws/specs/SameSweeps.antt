@@ -52,3 +52,17 @@ merged_second_subtract =
     → RunsWell (Subtract false any_overlap held) inputs chromosomes
     → Writes (Subtract false any_overlap None) (with_second (Merge 0 All) inputs)
     (report_of (Subtract false any_overlap held) inputs).output
+
+-- the records lie within the lengths of the genome file
+abbrev pub AreWithin : List Entry → List Feature → Type 0
+AreWithin entries records = AllByRecursion (λ r. r.stop ≤ length_in entries r.chrom) records
+
+-- subtract is intersect with the complement of the second input, without -f and -s, where the first
+-- lies within the lengths
+abbrev pub subtract_by_complement : Type 0
+subtract_by_complement =
+    (held : Option ℕ) (inputs : Inputs) (entries : List Entry)
+    → RunsWell (Subtract false any_overlap held) inputs (Some entries)
+    → AreWithin entries (first_records (Some entries) inputs)
+    → Writes (Intersect Cut any_overlap None) (with_second (Complement false) inputs)
+    (report_of (Subtract false any_overlap held) inputs).output
