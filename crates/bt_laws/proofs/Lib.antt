@@ -40,3 +40,4 @@ pub mod RunsAgain
 pub mod DepthParts
 pub mod SameSweeps
 pub mod GapsHit
+pub mod LengthLaws

@@ -9,3 +9,4 @@ pub mod Pipes
 pub mod SameLines
 pub mod SameRuns
 pub mod SameSweeps
+pub mod LengthLaws

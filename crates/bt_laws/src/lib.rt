@@ -4,6 +4,7 @@
 //! `specs/`, in the words of the report of a run (`report_of` of bt_tool).
 #![tactic(auto)]
 
+pub mod length_laws;
 pub mod pipes;
 pub mod same_lines;
 pub mod same_runs;
