@@ -85,7 +85,7 @@ shown_by : (b : Bool) (d v : ℕ) → nat_lt 0 d ≡ b → cond b (Some d) None 
 shown_by true d v t e = let same : d ≡ v = cc in (same, subst (λ n. 0 < n) same (ltb-true 0 d t))
 shown_by false d v t e = cc
 
-shown : (d v : ℕ) → cond (nat_lt 0 d) (Some d) None ≡ Some v → (d ≡ v) × (0 < v)
+pub shown : (d v : ℕ) → cond (nat_lt 0 d) (Some d) None ≡ Some v → (d ≡ v) × (0 < v)
 shown d v e = shown_by (nat_lt 0 d) d v refl e
 
 module _ (spans : List Span) (size : ℕ) where

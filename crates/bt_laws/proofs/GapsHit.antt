@@ -80,7 +80,7 @@ complement_spans entries records name distinct =
     ap (λ es. spans_on name (flat_map (gaps_on (intervals_of records)) es)) (filter_all (is_asked false (intervals_of records)) entries (all_any _ entries (λ e. refl)))
     ∙ gaps_there (intervals_of records) name entries distinct
 
-hidden_other : (chrom name : List ℕ) → not (is_header chrom) ≡ false → is_header name ≡ false → bytes_eq chrom name ≡ false
+pub hidden_other : (chrom name : List ℕ) → not (is_header chrom) ≡ false → is_header name ≡ false → bytes_eq chrom name ≡ false
 hidden_other chrom name hidden plain = elim (cases_name chrom name) [
   | inl same ↦ absurd (let e : not (is_header chrom) ≡ true = ap (λ n. not (is_header n)) same ∙ ap not plain in false≢true (sym hidden ∙ e))
   | inr other ↦ other

@@ -41,3 +41,4 @@ pub mod DepthParts
 pub mod SameSweeps
 pub mod GapsHit
 pub mod LengthLaws
+pub mod DepthsMerged
