@@ -42,3 +42,4 @@ pub mod SameSweeps
 pub mod GapsHit
 pub mod LengthLaws
 pub mod DepthsMerged
+pub mod ConvertPipes

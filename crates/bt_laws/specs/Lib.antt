@@ -10,3 +10,4 @@ pub mod SameLines
 pub mod SameRuns
 pub mod SameSweeps
 pub mod LengthLaws
+pub mod ConvertPipes
