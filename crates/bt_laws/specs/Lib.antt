@@ -11,3 +11,4 @@ pub mod SameRuns
 pub mod SameSweeps
 pub mod LengthLaws
 pub mod ConvertPipes
+pub mod PipeExamples
