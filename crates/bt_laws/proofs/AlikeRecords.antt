@@ -120,7 +120,7 @@ repeated_alike rs ss is = record { names = λ keep. repeated_names keep rs ss is
 
 -- ---- merge, complement and genomecov of them
 
-alike_merged : (names : List (List ℕ)) (gap : ℕ) (rs ss : List Interval) → ((name : List ℕ) → SameCover (spans_on name rs) (spans_on name ss)) → merged names gap rs ≡ merged names gap ss
+pub alike_merged : (names : List (List ℕ)) (gap : ℕ) (rs ss : List Interval) → ((name : List ℕ) → SameCover (spans_on name rs) (spans_on name ss)) → merged names gap rs ≡ merged names gap ss
 unfolding merged
 alike_merged names gap rs ss same = flat_map_same (λ name. runs_on name gap rs) (λ name. runs_on name gap ss) names (all_any _ names (λ name. ap (map (placed_on name)) (same_runs gap (spans_on name rs) (spans_on name ss) (same name))))
 

@@ -37,3 +37,9 @@ pub mod SameLines
 pub mod Covers
 pub mod AlikeRecords
 pub mod RunsAgain
+pub mod DepthParts
+pub mod SameSweeps
+pub mod GapsHit
+pub mod LengthLaws
+pub mod DepthsMerged
+pub mod ConvertPipes

@@ -69,7 +69,7 @@ no_file : (answer : Result (List Entry) Told) → of_file answer ≡ Ok None →
 no_file (Ok found) e = cc
 no_file (Err fault) e = cc
 
-chroms_of : (genome : Option Handed) (entries : List Entry) → chromosomes_of genome ≡ Ok (Some entries) → AllByRecursion IsChrom entries × AreDistinct (genome_names entries)
+pub chroms_of : (genome : Option Handed) (entries : List Entry) → chromosomes_of genome ≡ Ok (Some entries) → AllByRecursion IsChrom entries × AreDistinct (genome_names entries)
 chroms_of None entries e = cc
 chroms_of (Some genome) entries e = (genome_chroms Genome genome entries (file_is (genome_handed Genome genome) entries e), distinct_in genome entries e)
 
@@ -202,7 +202,7 @@ cut_whole too past (m ∷ more) fault e =
     cut_whole_by (too (map (λ (m : Member Feature). m.item) (past ++ m ∷ []))) (past ++ m ∷ []) (fault_at_line Second m.line TooManyHeld) (cut_behind too (past ++ m ∷ []) more fault) (record { members = past ++ m ∷ more; fault = fault })
     (λ none. cut_whole too (past ++ m ∷ []) more fault none ∙ ap (λ (ms : List (Member Feature)). record { members = ms; fault = fault }) (append_assoc past (m ∷ []) more)) e
 
-limit_whole : (order : Order) (limit : Option ℕ) (first : List Feature) (second : Good Feature) → (limited order limit first second).fault ≡ None → limited order limit first second ≡ second
+pub limit_whole : (order : Order) (limit : Option ℕ) (first : List Feature) (second : Good Feature) → (limited order limit first second).fault ≡ None → limited order limit first second ≡ second
 limit_whole order None first second e = refl
 limit_whole order (Some most) first second e = cut_whole (are_too_many order most first) [] second.members second.fault e
 

@@ -61,7 +61,7 @@ or_right : (a b : Bool) → b ≡ true → (a || b) ≡ true
 or_right true b e = refl
 or_right false b e = e
 
-back : (rs : List Interval) → intervals_of (map three_columns rs) ≡ rs
+pub back : (rs : List Interval) → intervals_of (map three_columns rs) ≡ rs
 back [] = refl
 back (r ∷ rs) = ap (λ l. r ∷ l) (back rs)
 
@@ -78,11 +78,11 @@ names_so P (r ∷ rs) h = (
 
 -- ---- the spans of runs, name by name
 
-here_all : (name : List ℕ) (ss : List Span) → spans_on name (map (placed_on name) ss) ≡ ss
+pub here_all : (name : List ℕ) (ss : List Span) → spans_on name (map (placed_on name) ss) ≡ ss
 here_all name [] = refl
 here_all name (s ∷ ss) = spans_on-here name (placed_on name s) (map (placed_on name) ss) refl ∙ ap (λ l. s ∷ l) (here_all name ss)
 
-none_there : (name other : List ℕ) (ss : List Span) → bytes_eq other name ≡ false → spans_on name (map (placed_on other) ss) ≡ []
+pub none_there : (name other : List ℕ) (ss : List Span) → bytes_eq other name ≡ false → spans_on name (map (placed_on other) ss) ≡ []
 none_there name other [] e = refl
 none_there name other (s ∷ ss) e = spans_on-elsewhere name (placed_on other s) (map (placed_on other) ss) e ∙ none_there name other ss e
 
@@ -228,7 +228,7 @@ complement_on limit inputs chromosomes text records genome first is =
     report_there (Complement limit) inputs chromosomes genome
     ∙ writes_by (complement_written (entries_in chromosomes) limit) records good.fault (items_in good) (ap (λ t. (bed_good First (order_of chromosomes) t).fault) first ∙ is.faultless First) (ap (λ t. items_in (bed_good First (order_of chromosomes) t)) first ∙ is.records_are First)
 
-writes_is : (command : Command) (inputs : Inputs) (bytes : List ℕ) → report_of command inputs ≡ record { output = bytes; fault = None } → Writes command inputs bytes
+pub writes_is : (command : Command) (inputs : Inputs) (bytes : List ℕ) → report_of command inputs ≡ record { output = bytes; fault = None } → Writes command inputs bytes
 writes_is command inputs bytes e = record { output = ap (λ (r : Report). r.output) e; faultless = ap (λ (r : Report). r.fault) e }
 
 -- what is known of the records of a run
@@ -270,7 +270,7 @@ merge_twice d (One strand) inputs chromosomes_in other well = merged_by d (One s
 
 -- ---- complement of merge
 
-fault_as : (command other : Command) (inputs : Inputs) (chromosomes_in : Option (List Entry)) → RunsWell command inputs chromosomes_in
+pub fault_as : (command other : Command) (inputs : Inputs) (chromosomes_in : Option (List Entry)) → RunsWell command inputs chromosomes_in
     → (((behaviour_of command chromosomes_in).report inputs.first inputs.second).fault ≡ ((behaviour_of other chromosomes_in).report inputs.first inputs.second).fault)
     → RunsWell other inputs chromosomes_in
 fault_as command other inputs chromosomes_in well same = record {
@@ -280,7 +280,7 @@ fault_as command other inputs chromosomes_in well same = record {
       ∙ ap (λ (r : Report). r.fault) (sym (report_there command inputs chromosomes_in well.genome)) ∙ well.faultless;
 }
 
-told_same : (one other : Written Feature) (members : List Feature) (fault : Option Told) → (report_by one members fault).fault ≡ (report_by other members fault).fault
+pub told_same : (one other : Written Feature) (members : List Feature) (fault : Option Told) → (report_by one members fault).fault ≡ (report_by other members fault).fault
 told_same one other members None = refl
 told_same one other members (Some fault) = refl
 

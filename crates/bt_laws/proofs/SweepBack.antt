@@ -163,13 +163,13 @@ clear_record b is = tail_clear b.chrom b.start b.stop is.feature.named is.featur
 said_columns : (a : Feature) (start stop : ℕ) (more : List ℕ) → IsSaid a → start < stop → stop ≤ a.stop → IsTrue (is_kept more) → NoLineFeed more → IsColumns (columns_at (cut_to start stop a) more)
 said_columns a start stop more is below up kept clear = record { named = is.feature.named; clear = is.clear_name; below = below; small = omega (arith, up, is.feature.in_range); kept = kept; clear_tail = clear }
 
-abbrev Hit : HitRule → Feature → Feature → Type 0
+abbrev pub Hit : HitRule → Feature → Feature → Type 0
 Hit rule a b = IsSaid b × (hits rule a b ≡ true)
 
-cut_bounds : (rule : HitRule) (a b : Feature) → hits rule a b ≡ true → max a.start b.start < min a.stop b.stop
+pub cut_bounds : (rule : HitRule) (a b : Feature) → hits rule a b ≡ true → max a.start b.start < min a.stop b.stop
 cut_bounds rule a b h = omega (arith, (overlap_parts a b (hit_overlaps rule a b h)).1)
 
-same_name : (rule : HitRule) (a b : Feature) → hits rule a b ≡ true → a.chrom ≡ b.chrom
+pub same_name : (rule : HitRule) (a b : Feature) → hits rule a b ≡ true → a.chrom ≡ b.chrom
 same_name rule a b h = (bytes_decides a.chrom b.chrom).0 (overlap_parts a b (hit_overlaps rule a b h)).0
 
 whole_columns : (a : Feature) (more : List ℕ) → IsSaid a → IsTrue (is_kept more) → NoLineFeed more → IsColumns (columns_at a more)
@@ -239,7 +239,7 @@ hits_by : (rule : HitRule) (a b : Feature) (found : List Feature) (c : Bool) →
 hits_by rule a b found true e is h = ((is, e), h)
 hits_by rule a b found false e is h = h
 
-all_hits : (rule : HitRule) (a : Feature) (bs : List Feature) → AllByRecursion IsSaid bs → AllByRecursion (Hit rule a) (hits_among rule a bs)
+pub all_hits : (rule : HitRule) (a : Feature) (bs : List Feature) → AllByRecursion IsSaid bs → AllByRecursion (Hit rule a) (hits_among rule a bs)
 all_hits rule a [] h = tt
 all_hits rule a (b ∷ bs) h = hits_by rule a b (hits_among rule a bs) (hits rule a b) refl h.0 (all_hits rule a bs h.1)
 

@@ -8,3 +8,7 @@ pub mod SweepLines
 pub mod Pipes
 pub mod SameLines
 pub mod SameRuns
+pub mod SameSweeps
+pub mod LengthLaws
+pub mod ConvertPipes
+pub mod PipeExamples

@@ -1,9 +1,13 @@
 -- Runs of merge, complement and genomecov that write the same bytes.
-use Rattle.std.specs.Prelude.{◌≡◌, ◌≢◌, ℕ, Bool, List, [], ◌∷◌, ◌++◌, Option}
+use Rattle.std.specs.Prelude.{◌≡◌, ◌≢◌, ◌==◌, ℕ, Bool, true, false, List, [], ◌∷◌, ◌++◌}
+use Rattle.std.specs.Prelude.{Option, None, map, filter, nat_lt}
 use Rattle.bt_lines.specs.Handed.{whole_text}
 use Rattle.bt_bed.specs.Feature.{Feature}
 use Rattle.bt_bed.specs.Genome.{Entry}
+use Rattle.bt_bed.specs.Interval.{Interval}
+use Rattle.bt_bed.specs.IntervalLine.{interval_lines}
 use Rattle.bt_bed.specs.declared.strand.Strand.{Strand}
+use Rattle.bt_runs.specs.Depth.{DepthInterval, depth_lines}
 use Rattle.bt_runs.specs.declared.merge_strand.MergeStrand.{MergeStrand}
 use Rattle.bt_runs.specs.declared.merge_strand.MergeStrand.TheVariants.{All, Each}
 use Rattle.bt_tool.specs.Inputs.{Inputs}
@@ -83,3 +87,27 @@ repeated_merge =
 
 abbrev pub repeated_complement : Type 0
 repeated_complement = (limit : Bool) → WritesSame IsRepeated (Complement limit)
+
+-- a gap, as an interval of depth 0
+abbrev pub without_depth : Interval → DepthInterval
+without_depth r = record { chrom = r.chrom; start = r.start; stop = r.stop; depth = 0 }
+
+-- The lines of depth 0 of genomecov -bga are those of complement with a column 0. One of the two
+-- runs without a fault is enough.
+abbrev pub depth_0_is_complement : Type 0
+depth_0_is_complement =
+    (inputs : Inputs) (chromosomes : Option (List Entry))
+    → RunsWell (Coverage true None) inputs chromosomes
+    → (depths : List DepthInterval) × (gaps : List Interval)
+    × Writes (Coverage true None) inputs (depth_lines depths)
+    × Writes (Complement false) inputs (interval_lines gaps)
+    × (filter (λ r. r.depth == 0) depths ≡ map without_depth gaps)
+
+-- genomecov -bg is -bga without these lines
+abbrev pub bg_is_bga_above_0 : Type 0
+bg_is_bga_above_0 =
+    (strand : Option Strand) (inputs : Inputs) (chromosomes : Option (List Entry))
+    → RunsWell (Coverage true strand) inputs chromosomes
+    → (depths : List DepthInterval)
+    × Writes (Coverage true strand) inputs (depth_lines depths)
+    × Writes (Coverage false strand) inputs (depth_lines (filter (λ r. nat_lt 0 r.depth) depths))

@@ -4,7 +4,9 @@
 //! `specs/`, in the words of the report of a run (`report_of` of bt_tool).
 #![tactic(auto)]
 
+pub mod length_laws;
 pub mod pipes;
 pub mod same_lines;
 pub mod same_runs;
+pub mod same_sweeps;
 pub mod split_laws;

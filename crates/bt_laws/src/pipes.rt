@@ -1,6 +1,8 @@
 //! Which outputs the next command takes as they are, in the same order of the chromosomes: each law is the contract
 //! of a function that does nothing.
 
+ghost use Rattle.bt_laws.specs.ConvertPipes.{bamtobed_is_input};
+ghost use Rattle.bt_laws.specs.PipeExamples.{blocks_go_back, cuts_go_back, pieces_go_back};
 ghost use Rattle.bt_laws.specs.Pipes.{
   complement_is_input,
   cut_intersect_is_input,
@@ -37,4 +39,16 @@ pub fn intersect_goes_on()
 pub fn subtract_goes_on()
     ensures kept { whole_subtract_is_input }
     ensures cut { subtract_is_input }
+{}
+
+/// What bamtobed writes without -split is an input, where the alignments are sorted.
+pub fn bamtobed_goes_on()
+    ensures { bamtobed_is_input }
+{}
+
+/// Outputs that the next command refuses: cuts and pieces of records that overlap, and blocks of -split.
+pub fn some_outputs_go_back()
+    ensures cuts { cuts_go_back }
+    ensures pieces { pieces_go_back }
+    ensures blocks { blocks_go_back }
 {}

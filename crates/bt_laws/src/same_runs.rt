@@ -2,7 +2,9 @@
 //! nothing.
 
 ghost use Rattle.bt_laws.specs.SameRuns.{
+  bg_is_bga_above_0,
   complement_of_merge,
+  depth_0_is_complement,
   exchanged_complement,
   exchanged_genomecov,
   exchanged_merge,
@@ -32,4 +34,10 @@ pub fn equal_starts_may_be_exchanged()
 pub fn a_record_may_come_twice()
     ensures merge { repeated_merge }
     ensures complement { repeated_complement }
+{}
+
+/// The lines of depth 0 of genomecov -bga are complement's, and -bg has the others.
+pub fn depths_leave_the_gaps()
+    ensures zero { depth_0_is_complement }
+    ensures others { bg_is_bga_above_0 }
 {}

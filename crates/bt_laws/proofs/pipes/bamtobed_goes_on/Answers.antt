@@ -1,0 +1,5 @@
+use Rattle.bt_laws.proofs.ConvertPipes.{bamtobed_input}
+use Rattle.bt_laws.proofs.pipes.bamtobed_goes_on.Goals as goal
+
+pub returns : goal.returns
+returns c = bamtobed_input

@@ -1,0 +1,28 @@
+use Rattle.std.proofs.Common.{refl}
+use Rattle.std.specs.Fmt.{digits}
+use Rattle.bt_lines.specs.Lines.{lines_from}
+use Rattle.bt_lines.specs.Number.{value_of}
+use Rattle.bt_bed.specs.Good.{good_from}
+use Rattle.bt_bed.specs.GoodBed.{line_says}
+use Rattle.bt_bed.specs.Record.{record_of}
+use Rattle.bt_bed.specs.Stretches.{stretches_from, with_position}
+use Rattle.bt_seq.specs.Alignment.{alignment_of, fields_say}
+use Rattle.bt_seq.specs.AlignmentBlocks.{blocks_of}
+use Rattle.bt_seq.specs.Cigar.{operations_in}
+use Rattle.bt_sweep.specs.Hits.{has_fraction, hits, is_enough, strands_agree}
+use Rattle.bt_sweep.specs.IntersectLines.{lines_for}
+use Rattle.bt_sweep.specs.Pieces.{pieces}
+use Rattle.bt_tool.specs.Report.{report_of}
+use Rattle.bt_laws.proofs.pipes.some_outputs_go_back.Goals as goal
+
+pub returns-clause-cuts : goal.returns-clause-cuts
+unfolding report_of good_from lines_from line_says record_of value_of lines_for hits strands_agree is_enough has_fraction digits
+returns-clause-cuts c = record { written = refl; refused = refl }
+
+pub returns-clause-pieces : goal.returns-clause-pieces
+unfolding report_of good_from lines_from line_says record_of value_of lines_for hits strands_agree is_enough has_fraction digits pieces stretches_from with_position
+returns-clause-pieces c = record { written = refl; refused = refl }
+
+pub returns-clause-blocks : goal.returns-clause-blocks
+unfolding report_of good_from lines_from line_says record_of value_of digits alignment_of fields_say blocks_of operations_in
+returns-clause-blocks c = record { written = refl; refused = refl }

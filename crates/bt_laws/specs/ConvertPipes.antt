@@ -1,0 +1,33 @@
+-- When the output of bamtobed goes on as an input of the next command.
+use Rattle.std.specs.Prelude.{◌≡◌, Bool, not, false, List, map, filter, None}
+use Rattle.bt_lines.specs.declared.fault.Input.TheVariants.{First}
+use Rattle.bt_bed.specs.Feature.{Feature, intervals_of}
+use Rattle.bt_bed.specs.Good.{items_in}
+use Rattle.bt_bed.specs.Header.{is_header}
+use Rattle.bt_bed.specs.Interval.{Interval}
+use Rattle.bt_bed.specs.Locus.{ArePlaced}
+use Rattle.bt_bed.specs.Order.{Order, IsTotal}
+use Rattle.bt_seq.specs.Alignment.{Alignment}
+use Rattle.bt_seq.specs.GoodSam.{sam_good}
+use Rattle.bt_tool.specs.Inputs.{Inputs}
+use Rattle.bt_tool.specs.Report.{report_of}
+use Rattle.bt_tool.specs.declared.plan_type.Command.{Command}
+use Rattle.bt_tool.specs.declared.plan_type.Command.TheVariants.{BamToBed}
+use Rattle.bt_laws.specs.Pipes.{IsInputAt}
+
+-- where an alignment lies
+abbrev pub aligned_at : Alignment → Interval
+aligned_at a = record { chrom = a.chrom; start = a.start; stop = a.stop }
+
+abbrev pub alignments_of : Inputs → List Alignment
+alignments_of inputs = items_in (sam_good First inputs.first)
+
+-- bamtobed without -split: where the alignments that give a line are sorted by chromosome, in the
+-- order of the next command, and by position. Its records lie where the alignments do; a reference
+-- may be called `track` or `browser`, and its lines are skipped as headers.
+abbrev pub bamtobed_is_input : Type 0
+bamtobed_is_input =
+    (cigar : Bool) (inputs : Inputs) (order : Order) → IsTotal order
+    → inputs.genome ≡ None → ArePlaced order (map aligned_at (alignments_of inputs))
+    → IsInputAt order (report_of (BamToBed false cigar) inputs).output
+    (filter (λ r. not (is_header r.chrom)) (map aligned_at (alignments_of inputs)))
