@@ -6,7 +6,7 @@
 //! - *input*: a file, or standard input if it is named `-` or `stdin`.
 //! - *obstacle*: what kept a run from beginning, as a file that can't be opened.
 //! - *message*: the line that standard error gets, and the exit status that goes with it.
-//! - *stand-in*: a file that replaces a standard stream which was closed before the program began.
+//! - `StandIns`: the files that replace standard streams which were closed before the program began.
 //!
 //! An example, as the stored run in this crate's folder (`args`, `stdin`, `data`, `stdout`) makes it:
 //!

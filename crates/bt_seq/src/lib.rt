@@ -5,12 +5,12 @@
 //!
 //! Words:
 //!
-//! - *alignment*: what a SAM line says of a mapped read. Its start is zero-based, its end isn't included.
+//! - *alignment*: what a SAM line says of a mapped read; its start is zero-based, its end isn't included.
 //! - *alignment block*: a part of it between two N operations of its CIGAR, if it covers a base.
-//! - *sequence*: a FASTA header and its lines of bases. Positions count from 0 through all of them.
-//! - *block*: contiguous BED records of one chromosome. It masks one sequence at most.
+//! - *sequence*: a FASTA header and its lines of bases, through all of which positions count from 0.
+//! - *block*: contiguous BED records of one chromosome, which mask one sequence at most.
 //! - *decided*: a FASTA line is, once no later record can mask it.
-//! - *held*: a record that reaches into the line given last is, until the next line is past its end.
+//! - *held*: kept of the records, since it reaches into the line given last.
 //!
 //! An example, which is the test in `example.rt`: the BED line of an alignment. The two bases that it
 //! deletes count.
