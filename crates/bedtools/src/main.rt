@@ -1,5 +1,13 @@
 //! `bedtools`: makes the plan of a command line, opens its files, runs it, and reports what went wrong.
 //!
+//! Words:
+//!
+//! - *plan*: what the words of a command line mean: a command, and the names of files.
+//! - *input*: a file, or standard input if it is named `-` or `stdin`.
+//! - *obstacle*: what kept a run from beginning, as a file that can't be opened.
+//! - *message*: the line that standard error gets, and the exit status that goes with it.
+//! - `StandIns`: the files that replace standard streams which were closed before the program began.
+//!
 //! An example, as the stored run in this crate's folder (`args`, `stdin`, `data`, `stdout`) makes it:
 //!
 //! ```text

@@ -18,7 +18,7 @@ pub enum Opened {
 }
 
 impl Opened {
-    /// Opens the input of this name.
+    /// Opens the input of this name. `Err` if it can't be opened, or memory runs out.
     pub fn open(rt: &HostRuntime, name: &str) -> io::Result<Opened> {
         match input_named(name) {
             Input::Standard => Ok(Opened::Standard(FromRead::new(rt.stdin()))),

@@ -21,7 +21,7 @@ impl Output {
         Output::Standard(ToWrite::new(rt.stdout()))
     }
 
-    /// Creates the file of this name, or empties it if it exists.
+    /// Creates the file of this name, or empties it if it exists. `Err` if it can't be created, or memory runs out.
     pub fn create(rt: &HostRuntime, name: &str) -> io::Result<Output> {
         let file = File::create(rt, name)?;
         Ok(Output::File(ToWrite::new(file)))

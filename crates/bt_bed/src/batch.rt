@@ -22,7 +22,7 @@ pub struct Batch<'a> {
     lines: BufferedLines<'a>,
     // The chromosome.
     name: &'a [u8],
-    // By which a line on it is told.
+    // By which a line on it is recognized.
     key: NameKey,
     // The start of the record before, or 0.
     start: u64,
@@ -81,8 +81,8 @@ impl<'a> Batch<'a> {
         Some(record)
     }
 
-    /// The next record, which isn't consumed. Its first three columns are scanned where they stand, and the line is parsed
-    /// where they look otherwise than most.
+    /// The next record, which isn't consumed. Its first three columns are scanned in the buffer, and the line is parsed
+    /// if they look otherwise than most.
     #[inline(always)]
     pub fn first(&self) -> Option<RawRecord<'a>>
         ensures some { IfSome result (StandsFirst self.now) }
@@ -173,7 +173,8 @@ impl<'a> Batch<'a> {
         self.name
     }
 
-    /// The line of the record that was consumed last.
+    /// The number of the line, counted from 1, of the record that was consumed last; before the first one that of the
+    /// line before it, or 0.
     #[inline(always)]
     pub fn line(&self) -> u64
         ensures { result ≡ line_in self.now }
@@ -181,7 +182,7 @@ impl<'a> Batch<'a> {
         self.lines.lines()
     }
 
-    /// How many bytes of lines were consumed.
+    /// How many bytes of lines were consumed of this batch, line ends included.
     #[inline(always)]
     pub fn offset(&self) -> usize
         ensures { result ≡ length (consumed_in self.now) }
@@ -189,7 +190,7 @@ impl<'a> Batch<'a> {
         self.lines.offset()
     }
 
-    /// The bytes that were consumed between two offsets.
+    /// The bytes that were consumed between two offsets, both counted as [`Batch::offset`] counts. `to` isn't included.
     #[inline(always)]
     pub fn between(&self, from: usize, to: usize) -> &'a [u8]
         requires ordered { from ≤ to }

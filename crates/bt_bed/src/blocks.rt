@@ -75,7 +75,8 @@ impl<S: Source> Blocks<S> {
         self.sorted.consume(consumed);
     }
 
-    /// The record ahead, or none at the end of the input: `fill`, and the first of those buffered.
+    /// The record ahead, or none at the end of the input: `fill`, and the first of those buffered. It fails as `fill`
+    /// does.
     #[inline]
     pub fn peek(&mut self) -> Result<Option<BedRef<'_>>, Fault>
         ensures* after { sem 𝓛 (Rests (the_row S.row) self.entry
@@ -85,7 +86,7 @@ impl<S: Source> Blocks<S> {
         Ok(self.sorted.first())
     }
 
-    /// Takes the record ahead, which the last `peek` gave: `consume` of one.
+    /// Takes the record ahead, which the last `peek` gave: `consume` of one. It reads nothing and can't fail.
     pub fn advance(&mut self)
         requires { IsSome (line_ahead self.old) }
         ensures { PassesBlocks S.left S.end_told self.old self.new }
@@ -93,7 +94,7 @@ impl<S: Source> Blocks<S> {
         self.sorted.advance();
     }
 
-    /// The line of the record ahead, which the last `peek` gave.
+    /// The number of the line, counted from 1, of the record ahead, which the last `peek` gave.
     pub fn line(&self) -> u64
         requires { IsSome (line_ahead self.now) }
         ensures { line_ahead self.now ≡ Some result }

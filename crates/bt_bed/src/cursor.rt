@@ -36,15 +36,15 @@ pub trait Cursor: Copy {
     fn chrom(&self) -> &[u8]
         ensures { result.now ≡ name self.now };
 
-    /// The line on which the record stands that was consumed last.
+    /// The number of the line, counted from 1, of the record that was consumed last.
     fn line(&self) -> u64
         ensures { result ≡ line self.now };
 
-    /// How many bytes of lines were consumed.
+    /// How many bytes of lines were consumed, line ends included. A [`Single`] has none.
     fn offset(&self) -> usize
         ensures { result ≡ length (consumed self.now) };
 
-    /// The bytes that were consumed between two offsets.
+    /// The bytes that were consumed between two offsets, both counted as [`Cursor::offset`] counts. `to` isn't included.
     fn between(&self, from: usize, to: usize) -> &[u8]
         requires ordered { from ≤ to }
         requires within { to ≤ length (consumed self.now) }
@@ -84,7 +84,7 @@ impl<'a> Single<'a> {
     ghost use Rattle.bt_bed.specs.Bed.{feature_lent};
     ghost use Rattle.bt_bed.specs.Single.{single_left, single_line, single_name};
 
-    /// This record, which stands on a line.
+    /// This record, which is on this line, counted from 1.
     pub fn new(bed: BedRef<'a>, line: u64) -> Single<'a>
         ensures left { single_left result ≡ feature_lent bed.entry ∷ [] }
         ensures chrom { single_name result ≡ bed.entry.chrom.now }

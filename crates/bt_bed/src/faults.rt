@@ -6,7 +6,7 @@ ghost use Rattle.bt_lines.specs.Names.{told};
 
 use bt_lines::{Fault, Kind, Place};
 
-/// A fault of this kind at this line.
+/// A fault of this kind, which is one of a line, at this line.
 pub fn at_line(kind: Kind, place: Place) -> Fault
     requires { is_of_line kind ≡ true }
     ensures { told result ≡ fault_at_line place.input place.line kind }

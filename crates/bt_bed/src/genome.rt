@@ -61,7 +61,7 @@ impl Genome {
         Ok(genome)
     }
 
-    /// The rank of a chromosome, if the genome file has it. Names are compared byte for byte.
+    /// The rank of a chromosome, from 0, if the genome file has it. Names are compared byte for byte.
     pub fn rank(&self, name: &[u8]) -> Option<usize>
         ensures { result ≡ rank_of (names_of self.now) name.now }
     {
@@ -75,7 +75,7 @@ impl Genome {
         self.lengths.len()
     }
 
-    /// The name of the chromosome of this rank.
+    /// The name of the chromosome of this rank, which is below [`Genome::count`].
     pub fn name(&self, rank: usize) -> &[u8]
         requires { rank < length (entries self.now) }
         ensures { slice_get (names_of self.now) rank ≡ Some result.now }
@@ -84,7 +84,7 @@ impl Genome {
         name.as_slice()
     }
 
-    /// The length in bases of the chromosome of this rank.
+    /// The length in bases, at least 1, of the chromosome of this rank, which is below [`Genome::count`].
     pub fn length(&self, rank: usize) -> u64
         requires { rank < length (entries self.now) }
         ensures is { option_map (λ entry. entry.length) (slice_get (entries self.now) rank) ≡ Some result }

@@ -11,7 +11,8 @@ use bt_lines::{COLUMN, Fault, Out, Sink, put_both, put_column, write_column, wri
 // The room for what follows the name: two columns and what ends the second, a byte.
 const ROOM: usize = 2 * COLUMN + 1;
 
-/// Puts the line of an interval. It doesn't allocate. The start is zero-based, and the end isn't included.
+/// Puts the line of an interval. It doesn't allocate. The start is zero-based, and the end isn't included. It fails
+/// with `WriteFailed`, only if the sink has failed: then the sink took a prefix of all bytes put.
 #[inline]
 pub fn put_interval<K: Sink>(
     chrom: &[u8],

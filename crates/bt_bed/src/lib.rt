@@ -7,6 +7,15 @@
 //! those of input in which only contiguous records of a chromosome are sorted. Both give the
 //! records that are buffered as a [`Batch`], and `consume` then takes what was consumed of it.
 //!
+//! Words:
+//!
+//! - *record*: a feature that a line says, with a zero-based start and an end that isn't included.
+//! - *member*: what the lines of an input say: a record, an alignment, or a line of a sequence.
+//! - *good*: before the first line at fault, as are all members that a reader gives.
+//! - *order*: which names of chromosomes are known, and which of two comes first.
+//! - *batch*: the buffered records of one chromosome, given together.
+//! - *block*: contiguous records of one chromosome, as many as there are.
+//!
 //! An example, which is the test in `example.rt`: the records of a source, in the order of a genome
 //! file that has `chr1` first.
 //!

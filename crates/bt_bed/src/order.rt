@@ -14,7 +14,7 @@ pub trait ChromOrder {
     fn knows(&self, name: &[u8]) -> bool
         ensures { result ≡ (order self.now).knows name.now };
 
-    /// Which of two known chromosomes comes first.
+    /// Which of two known chromosomes comes first. Both have to be known.
     fn compare(&self, left: &[u8], right: &[u8]) -> Ordering
         requires left { IsTrue ((order self.now).knows left.now) }
         requires right { IsTrue ((order self.now).knows right.now) }

@@ -11,7 +11,7 @@ use bt_lines::{Fault, Out, Sink, put_line};
 
 /// Puts a record and what ends it, as a tab or a line feed: chromosome, start, end and the kept
 /// columns, with tabs between them. Start and end are printed without leading zeros. It doesn't
-/// allocate.
+/// allocate. It fails with `WriteFailed`, only if the sink has failed: then the sink took a prefix of all bytes put.
 pub fn put_bed<K: Sink>(bed: &BedRef<'_>, end: &[u8], out: &mut Out<K>) -> Result<(), Fault>
     ensures { Puts out.old.output (bed_text (feature_lent bed.now) ++ end.now) result out.new.output }
 {
@@ -19,7 +19,8 @@ pub fn put_bed<K: Sink>(bed: &BedRef<'_>, end: &[u8], out: &mut Out<K>) -> Resul
 }
 
 /// Puts a record as [`put_bed`] does, with this start, which is zero-based, and this end, which isn't
-/// included, instead of its own: a part of it, with its other columns. It doesn't allocate.
+/// included, instead of its own: a part of it, with its other columns. It doesn't allocate, and fails as [`put_bed`]
+/// does.
 pub fn put_cut<K: Sink>(
     bed: &BedRef<'_>,
     start: u64,

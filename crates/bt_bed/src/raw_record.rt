@@ -9,7 +9,7 @@ use crate::kept_strand::kept_strand;
 use crate::leading::Leading;
 use crate::parsing::behind;
 
-/// A line that says a record, of which the start and the end were read. Its further columns aren't looked at until
+/// A line that says a record, of which the start and the end were read. Its other columns aren't looked at until
 /// they are needed.
 #[derive(Clone, Copy, Debug)]
 pub struct RawRecord<'a> {
@@ -54,8 +54,8 @@ impl<'a> RawRecord<'a> {
         }
     }
 
-    /// True only where the record is written as the line stands: neither its start nor its end begins with a zero. It is
-    /// false for a start of `0` too, which is the start of few records.
+    /// True only if the record is written as its line: neither its start nor its end begins with a zero. It is false for
+    /// a start of `0` too, which is the start of few records.
     #[inline(always)]
     pub fn is_as_written(&self) -> bool
         ensures { IsTrue result → IsAsWritten (text_in self.now) }

@@ -79,8 +79,8 @@ impl Rec {
         Ok(())
     }
 
-    /// Becomes the record that is given as [`Rec::copy_from`] does, if both lie on one chromosome:
-    /// its name isn't copied again.
+    /// Becomes the record that is given as [`Rec::copy_from`] does, and fails as it does. Both have to lie on
+    /// one chromosome: its name isn't copied again.
     pub fn copy_rest_from(&mut self, bed: &BedRef<'_>) -> Result<(), AllocError>
         requires { bed.now.chrom.now ≡ self.old.chrom }
         ensures copied { OnOk result (self.new ≡ feature_lent bed.now) }
@@ -103,7 +103,7 @@ impl Rec {
 
 impl BedRef<'_> {
     /// The record with bytes of its own. It allocates once if its name and other columns are longer
-    /// than what a [`Rec`] has inline, and else not.
+    /// than what a [`Rec`] has inline, and else not. `Err` if memory runs out.
     pub fn to_rec(&self, alloc: Global) -> Result<Rec, AllocError>
         ensures { IfOk result (λ rec. rec ≡ feature_lent self.now) }
     {

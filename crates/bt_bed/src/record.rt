@@ -16,18 +16,18 @@ pub trait Record: Copy {
     // The record.
     ghost feature: { Self → Feature };
 
-    // The bytes of its line with its end, if it stands on one that is buffered.
+    // The bytes of its line with its end, if it is on one that is buffered.
     ghost raw: { Self → List ℕ };
 
     /// The record with its columns.
     fn bed(&self) -> BedRef<'_>
         ensures { feature_lent result ≡ feature self.now };
 
-    /// Where it starts, zero-based.
+    /// Where it starts on its chromosome, zero-based.
     fn start(&self) -> u64
         ensures { result ≡ (feature self.now).start };
 
-    /// Where it ends, which isn't included.
+    /// Where it ends on its chromosome, above its start; the end isn't included.
     fn stop(&self) -> u64
         ensures is { result ≡ (feature self.now).stop }
         ensures said { IsFeature (feature self.now) };

@@ -65,7 +65,7 @@ impl<'a> BufferedLines<'a> {
         }
     }
 
-    /// None of them.
+    /// A cursor at the same place that has no line left.
     #[inline(always)]
     pub fn none(&self) -> BufferedLines<'a>
         ensures rest { rest_in result ≡ [] }
@@ -125,7 +125,7 @@ impl<'a> BufferedLines<'a> {
         self.is_open
     }
 
-    /// Consumes the next line, which has so many bytes with its end.
+    /// Consumes the next line. `size` is how many bytes it has with its line end, as [`BufferedLines::first`] says.
     #[inline(always)]
     pub fn consume(&mut self, size: usize)
         requires { (line : Shown) × Cut (rest_in self.old) line × (line.size ≡ size) }
@@ -148,7 +148,7 @@ impl<'a> BufferedLines<'a> {
         &self.all[self.at..]
     }
 
-    /// How many bytes were consumed.
+    /// How many bytes were consumed of those that the reader had buffered, line ends included.
     #[inline(always)]
     pub fn offset(&self) -> usize
         ensures { result ≡ self.now.at }
@@ -164,7 +164,8 @@ impl<'a> BufferedLines<'a> {
         self.lines
     }
 
-    /// The bytes from one offset to another.
+    /// The bytes from one offset to another, both counted from the first byte that the reader had buffered.
+    /// `to` isn't included. They may be consumed, or still come.
     #[inline(always)]
     pub fn between(&self, from: usize, to: usize) -> &'a [u8]
         requires ordered { from ≤ to }
@@ -174,7 +175,7 @@ impl<'a> BufferedLines<'a> {
         &self.all[from..to]
     }
 
-    /// What was consumed.
+    /// What was consumed, for [`LineReader::consume`](crate::LineReader::consume).
     #[inline(always)]
     pub fn consumed(&self) -> ConsumedLines
         ensures { IsWhere self.now result }

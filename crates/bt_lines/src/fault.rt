@@ -18,7 +18,8 @@ pub enum Kind {
     EmptyFeature,
     /// The genome file doesn't have the chromosome.
     UnknownChrom,
-    /// The record's place lies below that of the record before it.
+    /// The record lies below the record before it, by chromosome and then by start; for maskfasta by start alone, on
+    /// one chromosome.
     OutOfOrder,
     /// A chromosome's length isn't a number, or is 0.
     BadLength,

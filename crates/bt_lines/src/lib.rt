@@ -3,6 +3,15 @@
 //! The lowest layer: it reads lines from any [`Source`], hands bytes to any [`Sink`], and reports
 //! what went wrong where. It knows nothing of BED.
 //!
+//! Words:
+//!
+//! - *line*: what comes before a line feed, or a last piece that isn't empty; its number counts from 1.
+//! - *line end*: what follows a line's text: a line feed with or without a carriage return, or nothing.
+//! - *source*, *sink*: a device that hands over bytes, and one that takes them.
+//! - *buffered*: completely read, so that it is given without another read.
+//! - *consume*: take buffered lines out of a reader, after they were used.
+//! - *fault*: what ended a run, with its place: an input and a line of it, if it lies at one.
+//!
 //! An example, which is the test in `example.rt`: the lines of a source.
 //!
 //! ```text

@@ -91,7 +91,7 @@ impl<S: Source> LineReader<S> {
     }
 
     /// Makes at least one line buffered, and returns true if there is one: there is none at the end of the text. It reads
-    /// nothing while one is buffered.
+    /// nothing while one is buffered. It fails as [`LineReader::next`] does.
     #[inline(always)]
     pub fn fill(&mut self) -> Result<bool, Fault>
         ensures fills { FillsLines S.left S.has_failed S.end_told self.old result self.new }
@@ -113,7 +113,7 @@ impl<S: Source> LineReader<S> {
         BufferedLines::new(self.buffer.lines(), self.lines, self.is_open())
     }
 
-    /// Takes the lines that were consumed of what [`LineReader::buffered`] gave.
+    /// Takes the lines that were consumed of what [`LineReader::buffered`] gave. It reads nothing and can't fail.
     pub fn consume(&mut self, consumed: ConsumedLines)
         requires { IsTaken self.old consumed }
         ensures { TakesLines S.left S.end_told self.old consumed self.new }

@@ -7,8 +7,8 @@ use itoa::write_digits;
 /// The room for a tab and a number of up to 20 digits.
 pub const COLUMN: usize = 21;
 
-/// Writes a tab and a number in decimal, without leading zeros, so that they end at an offset, and returns where they
-/// begin. So a line is written from its last column to its first. It doesn't allocate.
+/// Writes a tab and a number in decimal, without leading zeros, so that they end before the offset `end`, and returns
+/// the offset of the tab. So a line is written from its last column to its first. It doesn't allocate.
 #[inline]
 pub fn write_column(number: u64, text: &mut [u8], end: usize) -> usize
     requires room { COLUMN ≤ end }

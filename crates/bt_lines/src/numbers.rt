@@ -48,8 +48,8 @@ const SIXES: u64 = 0x0606_0606_0606_0606;
 // Every second byte.
 const EVEN_BYTES: u64 = 0x00ff_00ff_00ff_00ff;
 
-/// The number that eight decimal digits denote. A sign or a space isn't allowed. All eight are read at
-/// once.
+/// The number that eight decimal digits denote, or none if a byte isn't a digit: a sign or a space isn't allowed.
+/// All eight are read at once.
 #[inline(always)]
 pub fn eight_digits(bytes: &[u8; 8]) -> Option<u64>
     ensures { result ≡ value_of bytes.now }

@@ -72,7 +72,8 @@ impl<K: Sink> Out<K> {
         }
     }
 
-    /// Puts a piece after what was put before. It may stay held back until a `flush`.
+    /// Puts a piece after what was put before. It may not reach the sink until a `flush`. It fails with `WriteFailed`,
+    /// only if the sink has failed: then the sink took a prefix of all bytes put, and each later call fails too.
     pub fn put(&mut self, piece: &[u8]) -> Result<(), Fault>
         ensures put { OnOk result (Appends self.old.output.put self.new.output.put piece.now) }
         ensures block { OnOk result (HoldsBlock self.new.output.took self.new.output.put) }
@@ -102,7 +103,7 @@ impl<K: Sink> Out<K> {
         Ok(())
     }
 
-    /// For how many bytes [`Out::hold_both`] has room, if no write has failed.
+    /// For how many bytes [`Out::hold_both`] has room, if no write has failed: at most [`BLOCK`].
     pub fn room(&self) -> usize
         ensures { result ≤ block_size }
     {
@@ -175,7 +176,8 @@ impl<K: Sink> Out<K> {
         true
     }
 
-    /// Hands on all that is held back. After an `Ok` the sink has taken all bytes put.
+    /// Hands all bytes put to the sink, and flushes it. After an `Ok` the sink has taken them. It fails as [`Out::put`]
+    /// does.
     pub fn flush(&mut self) -> Result<(), Fault>
         ensures put { OnOk result (Keeps self.old.output.put self.new.output.put) }
         ensures taken { OnOk result (Keeps self.new.output.put self.new.output.took) }

@@ -11,7 +11,8 @@ use crate::faults::write_failed;
 use crate::output::Out;
 use itoa::Buffer;
 
-/// Puts a column and what ends it, as a tab or a line feed.
+/// Puts a column and what ends it, as a tab or a line feed. It fails with `WriteFailed`, only if the sink has failed:
+/// then the sink took a prefix of all bytes put.
 pub fn put_column<K: Sink>(column: &[u8], end: &[u8], out: &mut Out<K>) -> Result<(), Fault>
     ensures { Puts out.old.output (column.now ++ end.now) result out.new.output }
 {
@@ -19,7 +20,7 @@ pub fn put_column<K: Sink>(column: &[u8], end: &[u8], out: &mut Out<K>) -> Resul
     out.put(end)
 }
 
-/// Puts a text and its line end, by one test of the room if there is room for both.
+/// Puts a text and its line end, by one test of the room if there is room for both. It fails as [`put_column`] does.
 #[inline]
 pub fn put_line<K: Sink>(text: &[u8], end: &[u8], out: &mut Out<K>) -> Result<(), Fault>
     ensures { Puts out.old.output (text.now ++ end.now) result out.new.output }
@@ -30,7 +31,8 @@ pub fn put_line<K: Sink>(text: &[u8], end: &[u8], out: &mut Out<K>) -> Result<()
     Err(write_failed())
 }
 
-/// Puts two pieces of a line as [`put_line`] does, by a call that they share. It is fast if both have 1 to 64 bytes.
+/// Puts two pieces of a line as [`put_line`] does, by a call that they share, and fails as it does. It is fast if both
+/// have 1 to 64 bytes.
 #[inline(always)]
 pub fn put_both<K: Sink>(piece: &[u8], next: &[u8], out: &mut Out<K>) -> Result<(), Fault>
     ensures { Puts out.old.output (piece.now ++ next.now) result out.new.output }
@@ -62,7 +64,7 @@ fn put_across<K: Sink>(text: &[u8], end: &[u8], out: &mut Out<K>) -> bool
 }
 
 /// Puts a number in decimal, without leading zeros, and what ends it. It doesn't allocate. One of up to three digits, as
-/// most counts are, is put by the call that [`put_both`] shares.
+/// most counts are, is put by the call that [`put_both`] shares. It fails as [`put_column`] does.
 pub fn put_number<K: Sink>(number: u64, end: &[u8], out: &mut Out<K>) -> Result<(), Fault>
     ensures { Puts out.old.output (decimal number ++ end.now) result out.new.output }
 {

@@ -13,8 +13,8 @@ pub fn columns(text: &[u8]) -> Columns<'_>
     Columns { rest: Some(text) }
 }
 
-/// Where the first tab of a text is. It is searched byte by byte, which for a short column takes
-/// less time than `find_byte`.
+/// How many bytes come before the first tab of a text, if it has one. It is searched byte by byte, which for a short
+/// column takes less time than `find_byte`.
 #[inline]
 pub fn first_tab(text: &[u8]) -> Option<usize>
     ensures first { IfSome result (IsFirstTab text.now) }

@@ -18,9 +18,9 @@ use bt_bed::{BedRef, Cursor, Genome};
 use bt_lines::{Fault, Out, Sink};
 use std::marker::Model;
 
-/// The parts of the chromosomes that no record covers, in the order of a genome file. It keeps one
-/// place. A gap is written once a record starts at or past its end, or on a later chromosome. A record
-/// on a chromosome that the genome file doesn't have is skipped.
+/// The parts of the chromosomes that no record covers, in the order of a genome file. Starts are zero-based, and ends
+/// aren't included. It keeps one position. A gap is written once a record starts at or past its end, or on a later
+/// chromosome. A record on a chromosome that the genome file doesn't have is skipped.
 #[derive(Drop, Debug)]
 pub struct Complement<'g> {
     rule: Ruled<GapRule<'g>>,
@@ -49,8 +49,8 @@ impl<'g> Complement<'g> {
         }
     }
 
-    /// Takes the next record, and writes the gap that it settles. It fails only where a write fails, which is
-    /// answered from then on.
+    /// Takes the next record, and writes the gap that it settles. It fails with `WriteFailed`, only if a write
+    /// fails, and returns that from then on.
     pub fn feed<K: Sink>(&mut self, bed: &BedRef<'_>, out: &mut Out<K>) -> Result<(), Fault>
         ensures going { IsFaultless (ruled_stands stands_after) ruled_fault self.old }
         ensures written { WritesSettled (ruled_takes may_take) (ruled_stands stands_after) ruled_fault (ruled_text settled_lines) self.old
@@ -71,7 +71,7 @@ impl<'g> Complement<'g> {
     }
 
     /// Writes the lines that are still unsettled, after the last record. It fails with `WriteFailed`, or with the
-    /// fault that was answered before.
+    /// fault that was returned before.
     pub fn finish<K: Sink>(self, out: &mut Out<K>) -> Result<(), Fault>
         ensures going { IsFaultless (ruled_stands stands_after) ruled_fault self.entry }
         ensures written { WritesLeft (ruled_takes may_take) (ruled_stands stands_after) ruled_fault (ruled_text settled_lines)
@@ -86,7 +86,7 @@ impl<'g> Complement<'g> {
         Engine::finish(self, out)
     }
 
-    /// How many places it keeps: 0 or 1.
+    /// How many positions it keeps: 0 or 1.
     pub fn kept_len(&self) -> usize
         ensures list { result ≡ length (kept_in self.now.rule) }
         ensures held { KeepsHeld (ruled_takes may_take) (ruled_stands stands_after) self.now (ruled_count held_count) result }
@@ -126,7 +126,7 @@ impl Engine for Complement<'_> {
         rule.finish(out)
     }
 
-    /// How many places it keeps: 0 or 1.
+    /// How many positions it keeps: 0 or 1.
     fn kept_len(&self) -> usize
         ensures list { result ≡ length (kept_in self.now.rule) }
         ensures held { KeepsHeld (ruled_takes may_take) (ruled_stands stands_after) self.now (ruled_count held_count) result }

@@ -21,7 +21,7 @@ use std::marker::Model;
 /// The intervals of equal depth of each chromosome, in the order of a genome file, with their depths.
 /// It keeps the counted records that end at the last start or past it, and one unfinished interval. An interval is written
 /// once a record starts past its end, or on a later chromosome. A record on a chromosome that the genome file doesn't have
-/// is passed over.
+/// is skipped. Starts are zero-based, and ends aren't included.
 #[derive(Drop, Debug)]
 pub struct Coverage<'g> {
     rule: Ruled<DepthRule<'g>>,
@@ -55,8 +55,8 @@ impl<'g> Coverage<'g> {
         }
     }
 
-    /// Takes the next record, and writes the intervals that it settles. The first fault is answered from then
-    /// on: `WriteFailed`, or `NoMemory`, only where the record has to be kept.
+    /// Takes the next record, and writes the intervals that it settles. The first fault is returned from then
+    /// on: `WriteFailed`, or `NoMemory`, only if the record has to be kept.
     pub fn feed<K: Sink>(&mut self, bed: &BedRef<'_>, out: &mut Out<K>) -> Result<(), Fault>
         ensures going { IsFaultless (ruled_stands stands_after) ruled_fault self.old }
         ensures written { WritesSettled (ruled_takes may_take) (ruled_stands stands_after) ruled_fault (ruled_text settled_lines) self.old
@@ -79,7 +79,7 @@ impl<'g> Coverage<'g> {
     }
 
     /// Writes the lines that are still unsettled, after the last record. It fails with `WriteFailed`, or with the
-    /// fault that was answered before.
+    /// fault that was returned before.
     pub fn finish<K: Sink>(self, out: &mut Out<K>) -> Result<(), Fault>
         ensures going { IsFaultless (ruled_stands stands_after) ruled_fault self.entry }
         ensures written { WritesLeft (ruled_takes may_take) (ruled_stands stands_after) ruled_fault (ruled_text settled_lines) (ruled_text whole_output) self.entry

@@ -3,6 +3,15 @@
 //! Each is fed one record after another, and writes each line of its output as soon as no later record
 //! can change it. What takes any of them goes by the trait [`Engine`], whose calls are the same.
 //!
+//! Words:
+//!
+//! - *engine*: takes the records of one input in order, and writes the output of one command.
+//! - *run*: an interval of merged records, open as long as a later record can still join it.
+//! - *gap*: an interval of a chromosome that no record covers, as long as it can be.
+//! - *depth*: how many of the counted records cover a position.
+//! - *settled*: a part of the output that no later record can change.
+//! - *kept*: what an engine has in memory from one record to the next.
+//!
 //! An example, which is the test in `example.rt`: two records, merged.
 //!
 //! ```text

@@ -49,7 +49,7 @@ impl Model for Merge {
 }
 
 impl Merge {
-    /// A merge that has taken no record. It bridges up to `d` positions between features: with 0
+    /// A merge that has taken no record. It bridges up to `d` bases between features, at most 999,999,999,999: with 0
     /// those that overlap or touch become one.
     pub fn new(alloc: Global, d: u64, strand: MergeStrand) -> Merge
         requires { d ≤ max_number }

@@ -3,6 +3,15 @@
 //! An alignment is what a line of a SAM file says ([`sam_line`]). [`Mask`] masks
 //! the bases of a FASTA input that records of a BED input cover, and [`mask_slice`] bases in place.
 //!
+//! Words:
+//!
+//! - *alignment*: what a SAM line says of a mapped read; its start is zero-based, its end isn't included.
+//! - *alignment block*: a part of it between two N operations of its CIGAR, if it covers a base.
+//! - *sequence*: a FASTA header and its lines of bases, through all of which positions count from 0.
+//! - *block*: contiguous BED records of one chromosome, which mask one sequence at most.
+//! - *decided*: a FASTA line is, once no later record can mask it.
+//! - *held*: kept of the records, since it reaches into the line given last.
+//!
 //! An example, which is the test in `example.rt`: the BED line of an alignment. The two bases that it
 //! deletes count.
 //!

@@ -22,8 +22,8 @@ use std::marker::Model;
 /// ([`Mask::want`]): the lines of the FASTA input and the records of the BED input, each one after
 /// another, and finally the end of each. A line is written as soon as no later record can change it.
 /// Contiguous records of one chromosome are a block; a block masks the first sequence of
-/// its name after that of the block before it. Only one line is kept, and of the records of its
-/// sequence's block those that reach into it. A first fault ends it: then it wants nothing.
+/// its name after that of the block before it. Positions of a sequence count from 0. Only one line is kept,
+/// and of the records of its sequence's block those that reach into it. A first fault ends it: then it wants nothing.
 #[derive(Drop)]
 pub struct Mask {
     // After a fault it wants nothing.
@@ -162,7 +162,7 @@ impl Mask {
         self.state.end_lines();
     }
 
-    /// Takes the next record, which is on this line, unless it decides the line that waits: then
+    /// Takes the next record, which is on this line, counted from 1, unless it decides the line that waits: then
     /// that is written, and the record is to be given again. It fails with `WriteFailed` if the line
     /// can't be written, and with `NoMemory` if the record has to be held and can't be. After the
     /// last line it fails with `NoSequence` if its block belongs to no sequence. For a record that neither

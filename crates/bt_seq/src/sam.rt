@@ -8,6 +8,7 @@ ghost use Rattle.bt_seq.specs.AlignmentEnd.{EndsAt};
 /// `first` and `last` say whether the read is the first or the last segment of its template, and
 /// `reverse` whether it lies on the reverse strand. The alignment covers the reference `chrom` from
 /// `start`, which is zero-based, up to `stop`, which isn't included (POS of the line is one-based).
+/// `quality` is MAPQ, at most 255 if a line said it, and `cigar` is the column as it is.
 #[derive(Clone, Copy, Debug)]
 pub struct SamRef<'a> {
     pub name: &'a [u8],

@@ -15,8 +15,8 @@ pub trait Held: Drop {
         ensures pushed { OnOk result (records self.new ≡ records self.old ++ rec ∷ []) }
         ensures back { IfErr result (λ back. (back ≡ rec) × (records self.new ≡ records self.old)) };
 
-    /// Drops the records that end at or before the place. The others stay in their order. It doesn't
-    /// allocate.
+    /// Drops the records that end at or before this position, which is zero-based. The others stay in their
+    /// order. It doesn't allocate.
     fn drop_ended(&mut self, place: u64)
         ensures { records self.new ≡ filter (λ r. nat_lt place r.stop) (records self.old) };
 

@@ -11,8 +11,8 @@ use bt_bed::Rec;
 use std::alloc::Global;
 use std::collections::VecDeque;
 
-/// Held records as a queue of them. If they come by their starts, those that ended at a place are
-/// dropped without going over those that start there or after it.
+/// Held records as a queue of them. If they come by their starts, those that ended at a position are
+/// dropped without a look at those that start there or after it.
 #[derive(Drop, Debug)]
 pub struct HeldList {
     // In file order.

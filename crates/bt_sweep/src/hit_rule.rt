@@ -7,9 +7,10 @@ ghost use Rattle.bt_sweep.specs.Hits.{any_overlap};
 /// manual, intersect, options -f, -r and -s). Each pair of records is judged separately.
 #[derive(Clone, Copy, Debug, PartialEq, Eq)]
 pub struct HitRule {
-    /// How many billionths of the first record the shared bases have to be at least.
+    /// How many billionths of the first record's length the shared bases have to be at least: 0 requires no more than
+    /// one shared base, and 1,000,000,000 all of the record.
     pub billionths: u64,
-    /// The same is required of the second record.
+    /// The same is required of the second record's length.
     pub both: bool,
     /// The strands have to be equal; a record without a strand has the same as another without.
     pub same_strand: bool,

@@ -1,5 +1,14 @@
 //! The sweep over two sorted inputs: intersect and subtract.
 //!
+//! Words:
+//!
+//! - *hit*: two records hit one another if they share a base, and as much as the rule requires.
+//! - *decided*: a record of the first input is, once no later record of the second can hit it.
+//! - *held*: kept of the second input, since it can still hit a record of the first.
+//! - *taken*: given by the caller and used: not so a record that decides the one that waits.
+//! - *piece*: a stretch of a record without the bases of those that hit it.
+//! - *stage*: what of the first input is written, what of the second was taken, and what has ended.
+//!
 //! An example, which the test in `example.rt` runs: what one record of the first input shares with one
 //! of the second.
 //!

@@ -16,16 +16,16 @@ use bt_lines::{Fault, MAX_NUMBER, Out, Sink};
 use std::alloc::Global;
 
 /// Compares two inputs that are sorted in one order of the chromosomes, and writes the lines of each
-/// record of the first as soon as no later record of the second can hit it. It is given what it asks
-/// for ([`Sweep::want`]): the records of an input one after another, none below the one before it, by
+/// record of the first as soon as no later record of the second can hit it. It is given what it wants
+/// ([`Sweep::want`]): the records of an input one after another, none below the one before it, by
 /// chromosome and then by start, and at last its end. It holds the records of the second input that lie
 /// on the chromosome of the record of the first given last and end above its start. A first fault ends
-/// it: then it asks for nothing.
+/// it: then it wants nothing.
 #[derive(Drop)]
 pub struct Sweep<'o, H: Held, O: ChromOrder> {
     // Knows the chromosome of each record given.
     order: &'o O,
-    // Always valid; after a fault it asks for nothing.
+    // Always valid; after a fault it wants nothing.
     state: State<H>,
     ghost known: { (a : Feature) → state.current ≡ Some a
         → IsTrue ((O.order order.now).knows a.chrom) },
@@ -46,8 +46,8 @@ impl<'o, H: Held, O: ChromOrder> Sweep<'o, H, O> {
     ghost use Rattle.bt_sweep.specs.SweepView.{order_of, state_of};
     ghost use Rattle.bt_sweep.specs.SweepState.{want_in};
 
-    /// A sweep that was given nothing, over an empty list of held records. Where there is a limit, no
-    /// more records than so many are held. It takes no memory.
+    /// A sweep that was given nothing, over an empty list of held records. With a limit no more records
+    /// than that are held. It doesn't allocate.
     pub fn new(
         alloc: Global,
         held: H,
@@ -66,7 +66,7 @@ impl<'o, H: Held, O: ChromOrder> Sweep<'o, H, O> {
         }
     }
 
-    /// What it asks for next.
+    /// What it wants next.
     pub fn want(&self) -> Want
         ensures is { result ≡ want_in (state_of self.now) }
         ensures stage { (order : Order) (shape : Shape) (rule : HitRule) (limit : Option ℕ) (stage : Stage)
@@ -86,8 +86,8 @@ impl<'o, H: Held, O: ChromOrder> Sweep<'o, H, O> {
     }
 
     /// Takes records of both inputs, one after another, as [`Sweep::give_a`] and [`Sweep::give_b`] do with each, as long as
-    /// the next one of the input that it asks for is there. It stops too once the record is written that waited before.
-    /// Where it asks for nothing, it takes none.
+    /// the input that it wants has a next one. It stops too once the record is written that waited before.
+    /// If it wants nothing, it takes none. It fails as these calls do.
     pub fn advance<A: Cursor, B: Cursor, K: Sink>(
         &mut self,
         a: &mut A,
@@ -110,10 +110,10 @@ impl<'o, H: Held, O: ChromOrder> Sweep<'o, H, O> {
         }
     }
 
-    /// Takes the next record of the first input. Where the second has ended its lines are written at
+    /// Takes the next record of the first input. If the second has ended its lines are written at
     /// once, and else nothing is. For those the records of the second input have to be in order too, since
-    /// pieces are found by their starts. It fails with `NoMemory` where the record can't be kept, and with
-    /// `WriteFailed` where the lines can't be written.
+    /// pieces are found by their starts. It fails with `NoMemory` if the record can't be kept, and with
+    /// `WriteFailed` if the lines can't be written.
     pub fn give_a<K: Sink>(&mut self, a: &BedRef<'_>, out: &mut Out<K>) -> Result<(), Fault>
         requires want { want_in (state_of self.old) ≡ Want.A }
         requires known { IsTrue ((order_of self.old).knows a.now.chrom.now) }
@@ -131,7 +131,7 @@ impl<'o, H: Held, O: ChromOrder> Sweep<'o, H, O> {
         self.state.keep(a)
     }
 
-    /// Takes the end of the first input. Nothing is written, and nothing more is asked for.
+    /// Takes the end of the first input. Nothing is written, and nothing more is wanted.
     pub fn end_a(&mut self)
         requires { want_in (state_of self.old) ≡ Want.A }
         ensures stands { (shape : Shape) (rule : HitRule) (limit : Option ℕ) (stage : Stage) → StandsAt (order_of self.old) shape rule limit stage (state_of self.old)
@@ -142,11 +142,11 @@ impl<'o, H: Held, O: ChromOrder> Sweep<'o, H, O> {
         self.state.end_a();
     }
 
-    /// Takes the next record of the second input, which is at this line, unless it decides the current
-    /// record of the first: then that one's lines are written, and the record is to be given again. It
-    /// fails with `WriteFailed` where they can't be written. Where the record has to be held, it fails with
+    /// Takes the next record of the second input, which is at this line, counted from 1, unless it decides the
+    /// current record of the first: then that one's lines are written, and the record is to be given again. It
+    /// fails with `WriteFailed` if they can't be written. If the record has to be held, it fails with
     /// `TooManyHeld` at the line if as many are held as the limit allows, and else with `NoMemory` if it
-    /// can't be. A record that neither decides nor has to be held takes no memory.
+    /// can't be. For a record that neither decides nor has to be held it doesn't allocate.
     pub fn give_b<K: Sink>(
         &mut self,
         b: &BedRef<'_>,
@@ -185,7 +185,7 @@ impl<'o, H: Held, O: ChromOrder> Sweep<'o, H, O> {
     }
 
     /// Takes the end of the second input, and writes the lines of the current record of the first. It
-    /// fails with `WriteFailed` where they can't be written.
+    /// fails with `WriteFailed` if they can't be written.
     pub fn end_b<K: Sink>(&mut self, out: &mut Out<K>) -> Result<(), Fault>
         requires { want_in (state_of self.old) ≡ Want.B }
         ensures gives { (shape : Shape) (rule : HitRule) (limit : Option ℕ) (stage : Stage) (a : Feature)

@@ -1,5 +1,14 @@
 //! The commands, from a list of words and the bytes of the inputs to the bytes written.
 //!
+//! Words:
+//!
+//! - *plan*: what the words mean: a command with the values of its options, and the names of files.
+//! - *refusal*: why there is no plan: a fault of usage, or memory ran out.
+//! - *report*: what the definition says of a run: the bytes written, the fault and the exit status.
+//! - *outcome*: how a run ended: without a fault, or with the one that is reported.
+//! - *member*: what the lines of an input say: a record, an alignment, or a line of a sequence.
+//! - *settled*: a part of the output that no later member of the input can change.
+//!
 //! An example, which is the test in `example.rt`: a command line, over scripts instead of files.
 //! `strings` makes the words, and `source_if` a source that moves this many bytes a call.
 //!

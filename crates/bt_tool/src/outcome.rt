@@ -26,7 +26,7 @@ impl Outcome {
         }
     }
 
-    /// The line that reports the fault, if there is one, with the names of the plan's inputs. A name that
+    /// The line that reports the fault, if there is one, with its line feed and the names of the plan's inputs. A name that
     /// the plan lacks is empty. `Err` if memory runs out; without a fault it doesn't allocate.
     pub fn fault_line(&self, alloc: Global, plan: &Plan) -> Result<Option<Vec<u8>>, AllocError>
         ensures line { IfOk result (λ line. option_map (λ line. line.items) line

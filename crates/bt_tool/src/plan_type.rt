@@ -13,7 +13,7 @@ use bt_sweep::{HitRule, Shape};
 /// A tool, with what its options say.
 #[derive(Clone, Copy, Debug, PartialEq, Eq)]
 pub enum Command {
-    /// Features that overlap or touch are merged, and those up to `d` bases apart.
+    /// Features that overlap or touch are merged, and those up to `d` bases apart, at most 999,999,999,999.
     Merge {
         d: u64,
         strand: MergeStrand,

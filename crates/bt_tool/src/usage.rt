@@ -126,7 +126,7 @@ impl Usage {
     }
 }
 
-/// The line on standard error that reports a fault of these words.
+/// The line on standard error that reports a fault of these words, with its line feed. `Err` if memory runs out.
 pub fn usage_line(alloc: Global, words: &[String], usage: &Usage) -> Result<Vec<u8>, AllocError>
     requires { IsTellable usage.now (length words.now) }
     ensures { IfOk result (λ line. line.items ≡ usage_text (words_seen words.now) usage.now) }
