@@ -35,6 +35,7 @@ mod held_tests;
 mod hit;
 mod hit_rule;
 pub mod laws;
+mod pending;
 mod phase;
 mod pieces;
 pub mod plain;
@@ -45,6 +46,7 @@ mod shape;
 mod started;
 mod state;
 mod sweep;
+mod unmatched;
 mod want;
 #[cfg(test)]
 mod worked;
