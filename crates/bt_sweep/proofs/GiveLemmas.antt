@@ -295,7 +295,7 @@ module _ {A V : Type 0} (a_gives : A → List Feature → A → Type 0) (a_ended
     firsts = b.firsts;
     seconds = b.seconds;
     newly = b.newly;
-    last = b.last;
+    waiting = b.waiting;
     gives_firsts = subst (λ (fs : List Feature). a_gives from_a fs from_a) (sym b.gives_firsts) a_none;
     gives_seconds = b.gives_seconds;
     are = b.are;
@@ -303,22 +303,22 @@ module _ {A V : Type 0} (a_gives : A → List Feature → A → Type 0) (a_ended
     comes = b.comes;
     settles = b.settles;
     each = b.each;
-    through = b.through;
-    puts = b.puts;
     cause = elim b.cause [
-      | inl cut ↦ inl (record { settled = cut.settled; cuts = cut.cuts })
+      | inl cut ↦ inl (record { cuts = cut.cuts })
       | inr rest ↦ elim rest [
         | inl lack ↦ inr (inl (record {
+          last = lack.last;
+          waits = lack.waits;
           b = lack.b;
           after = lack.after;
           gives = lack.gives;
           chrom = lack.chrom;
           starts = lack.starts;
           ends = lack.ends;
-          same_output = lack.same_output;
+          puts = lack.puts;
           lacks = lack.lacks;
         }))
-        | inr lost ↦ inr (inr (record { is = lost.is; same_output = lost.same_output }))
+        | inr lost ↦ inr (inr (record { last = lost.last; waits = lost.waits; is = lost.is; none = lost.none; both = lost.both; ended = lost.ended; puts = lost.puts }))
       ]
     ];
   }

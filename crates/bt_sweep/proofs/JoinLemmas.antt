@@ -1,5 +1,5 @@
 -- Lemmas on records of both inputs that are joined.
-use Rattle.std.proofs.Common.{◌≡◌, ◌<◌, ◌≤◌, inl, inr, ℕ, true, false, List, [], ◌∷◌, ◌++◌, Option, Some, None, refl, sym, ap, ◌∙◌, subst, append-nil, append_assoc, option_to_list, bytes_eq, length, ltb}
+use Rattle.std.proofs.Common.{◌≡◌, ◌<◌, ◌≤◌, inl, inr, ℕ, true, false, List, [], ◌∷◌, ◌++◌, Option, Some, None, Ok, Err, Result, option_map, refl, sym, ap, ◌∙◌, subst, append-nil, append_assoc, option_to_list, bytes_eq, length, ltb}
 use Rattle.std.specs.Prelude.{All, IfSome}
 use Rattle.std.specs.List.{list_all}
 use Rattle.std.proofs.lemmas.Bool.{and_from, and_parts, ltb-true, or_left, or_right}
@@ -9,14 +9,13 @@ use Rattle.bt_lines.specs.Names.{told}
 use Rattle.bt_lines.specs.Output.{Output}
 use Rattle.bt_lines.specs.Putting.{FailsToAdd, Grown}
 use Rattle.bt_lines.specs.declared.fault.Fault.{Fault}
-use Rattle.bt_lines.proofs.PuttingLemmas.{grown_none}
 use Rattle.bt_bed.specs.Feature.{Feature, intervals_of}
 use Rattle.bt_bed.specs.Locus.{ArePlaced}
 use Rattle.bt_bed.specs.Order.{Order, IsTotal}
 use Rattle.bt_sweep.specs.Deciding.{decided, decides}
 use Rattle.bt_sweep.specs.Held.{CanHit}
-use Rattle.bt_sweep.specs.IntersectLines.{intersect, lines_for}
-use Rattle.bt_sweep.specs.Joining.{AreDecided, AreDecidedOn, Behind, Breaks, CannotBeHeld, CutsOff, EndUpTo, GoesTo, JoinsSo, Keeps, LeavesLast, LeavesOn, LieOn, TakenEach, TakenFor, WaitsOn, Writes, WritesSo}
+use Rattle.bt_sweep.specs.IntersectLines.{intersect}
+use Rattle.bt_sweep.specs.Joining.{AreDecided, AreDecidedOn, Behind, Breaks, CannotBeHeld, Cuts, CutsOff, EndUpTo, GoesTo, GrownWith, Joins, JoinsSo, Keeps, LeavesLast, LeavesOn, LieOn, TakenEach, TakenFor, WaitsOn, Writes, WritesSo}
 use Rattle.bt_sweep.specs.Relating.{GivesKnown}
 use Rattle.bt_sweep.specs.Standing.{held_for, is_held, last_given}
 use Rattle.bt_sweep.specs.StateSteps.{CannotHold, has_room_in, holding}
@@ -25,7 +24,8 @@ use Rattle.bt_sweep.specs.SweepState.{Sweeping}
 use Rattle.bt_sweep.specs.declared.hit_rule.HitRule.{HitRule}
 use Rattle.bt_sweep.specs.declared.shape.Shape.{Shape}
 use Rattle.bt_sweep.proofs.DecidingLemmas.{placed_back}
-use Rattle.bt_sweep.proofs.KeepLemmas.{decided_before, decided_behind, decided_both, decides_beside, keeps_held, keeps_taken, lines_both, lines_stay_so, undecided_beside}
+use Rattle.bt_sweep.proofs.KeepLemmas.{cut_both, decided_before, decided_behind, decided_both, decides_beside, keeps_held, keeps_taken, lines_both, lines_stay_so, undecided_beside}
+use Rattle.bt_sweep.proofs.PendingLemmas.{fails_again, with_none, with_rest, with_rest_cut}
 use Rattle.bt_sweep.proofs.PlacedLemmas.{front_placed, last_given-push}
 use Rattle.bt_sweep.proofs.WriteLemmas.{front_of, split_last, split_more}
 
@@ -97,14 +97,23 @@ module _ (first : Feature) (firsts seconds newly : List Feature) (cur : Feature)
   pub behind_same : (firsts2 : List Feature) (P : Order → Shape → HitRule → Option ℕ → List Feature → List Feature → Type 0) → Behind cur firsts2 [] mid P → Behind first (firsts ++ firsts2) seconds old P
   behind_same firsts2 P behind = subst (λ (l : List Feature). Behind first (firsts ++ firsts2) l old P) (append-nil seconds) (behind_more firsts2 [] P behind)
 
--- what was written behind what was
-pub writes_both : (first : Feature) (firsts seconds newly : List Feature) (cur : Feature) (are : first ∷ firsts ≡ newly ++ cur ∷ []) (old mid : Sweeping) (goes : GoesTo first firsts seconds old mid)
-    (out grown now : Output) → Writes first firsts seconds old newly out grown → (firsts2 newly2 : List Feature) → Writes cur firsts2 [] mid newly2 grown now → Writes first (firsts ++ firsts2) seconds old (newly ++ newly2) out now
-writes_both first firsts seconds newly cur are old mid goes out grown now wrote firsts2 newly2 more order shape rule limit before taken total kept pg pt =
-    lines_both shape rule (taken ++ seconds) out grown now newly newly2
-    (wrote order shape rule limit before taken total kept (front_of order before first firsts firsts2 pg) pt)
-    (behind_same first firsts seconds newly cur are old mid goes firsts2 (λ order shape rule limit as_given taken. Grown grown (intersect shape rule newly2 taken) now) more
-    order shape rule limit before taken total kept pg pt)
+-- ---- what was written behind what was
+
+module _ (first : Feature) (firsts seconds newly : List Feature) (cur : Feature) (are : first ∷ firsts ≡ newly ++ cur ∷ []) (old mid : Sweeping) (goes : GoesTo first firsts seconds old mid)
+    (pending left : List ℕ) (out grown : Output) (wrote : Writes first firsts seconds old newly pending out left grown) (firsts2 newly2 : List Feature) where
+  pub writes_both : (rest : List ℕ) (now : Output) → Writes cur firsts2 [] mid newly2 left grown rest now → Writes first (firsts ++ firsts2) seconds old (newly ++ newly2) pending out rest now
+  writes_both rest now more order shape rule limit before taken total kept pg pt =
+      lines_both shape rule (taken ++ seconds) pending left out grown newly
+      (wrote order shape rule limit before taken total kept (front_of order before first firsts firsts2 pg) pt) newly2 rest now
+      (behind_same first firsts seconds newly cur are old mid goes firsts2 (λ order shape rule limit as_given taken. GrownWith left grown (intersect shape rule newly2 taken) rest now) more
+      order shape rule limit before taken total kept pg pt)
+
+  pub cuts_both : (fault : Told) (now : Output) → Cuts cur firsts2 [] mid newly2 left grown fault now → Cuts first (firsts ++ firsts2) seconds old (newly ++ newly2) pending out fault now
+  cuts_both fault now more order shape rule limit before taken total kept pg pt =
+      cut_both shape rule (taken ++ seconds) pending left out grown newly
+      (wrote order shape rule limit before taken total kept (front_of order before first firsts firsts2 pg) pt) newly2 fault now
+      (behind_same first firsts seconds newly cur are old mid goes firsts2 (λ order shape rule limit as_given taken. FailsToAdd grown (left ++ intersect shape rule newly2 taken) fault now) more
+      order shape rule limit before taken total kept pg pt)
 
 pub are_both : (first : Feature) (firsts newly : List Feature) (cur : Feature) (firsts2 newly2 rest : List Feature) → first ∷ firsts ≡ newly ++ cur ∷ [] → cur ∷ firsts2 ≡ newly2 ++ rest → first ∷ (firsts ++ firsts2) ≡ (newly ++ newly2) ++ rest
 are_both first firsts newly cur firsts2 newly2 rest are more =
@@ -121,16 +130,12 @@ ends_decided order name b bs (a ∷ newly) total known on end =
     (or_left (decides order a b) false (decides_beside order total a b (subst (λ (c : List ℕ). order.knows c ≡ true) (sym end.0) known) (on ∙ sym end.0) end.1)))
     (ends_decided order name b bs newly total known on end.2)
 
-pub end_front : (name : List ℕ) (place : ℕ) (newly more : List Feature) → EndUpTo name place (newly ++ more) → EndUpTo name place newly
-end_front name place [] more end = tt
-end_front name place (a ∷ newly) more end = (end.0, end.1, end_front name place newly more end.2)
-
 module _ {A B : Type 0} (a_gives : A → List Feature → A → Type 0) (a_ended : A → Type 0) (a_none : (x : A) → a_gives x [] x)
     (a_more : (old mid new : A) (xs ys : List Feature) → a_gives old xs mid → a_gives mid ys new → a_gives old (xs ++ ys) new)
     (b_gives : B → List Feature → B → Type 0) (b_ended : B → Type 0) (b_line : B → ℕ) (b_none : (x : B) → b_gives x [] x)
     (b_more : (old mid new : B) (xs ys : List Feature) → b_gives old xs mid → b_gives mid ys new → b_gives old (xs ++ ys) new)
-    (old : Sweeping) (first : Feature) (from_a : A) (from_b : B) (out : Output) where
-  pub joins_first : (For : Order → Type 0) (Settles : List Feature → List Feature → Type 0) → Settles [] [] → All (CanHit first) old.held → (j : JoinsSo a_gives a_ended b_gives b_ended b_line For Settles old first from_a from_b out (Some first) old from_a from_b out) × (j.next ≡ None) × (j.seconds ≡ [])
+    (old : Sweeping) (first : Feature) (from_a : A) (from_b : B) (pending : List ℕ) (out : Output) where
+  pub joins_first : (For : Order → Type 0) (Settles : List Feature → List Feature → Type 0) → Settles [] [] → All (CanHit first) old.held → (j : JoinsSo a_gives a_ended b_gives b_ended b_line For Settles old first from_a from_b pending out (Some first) old from_a from_b pending out) × (j.next ≡ None) × (j.seconds ≡ [])
   joins_first For Settles settles hits = (
     record {
       firsts = [];
@@ -145,7 +150,7 @@ module _ {A B : Type 0} (a_gives : A → List Feature → A → Type 0) (a_ended
       settles = settles;
       each = λ order shape rule limit before taken total kept pg pt. tt;
       goes = λ order shape rule limit before taken total kept pg pt. subst (λ (t : List Feature). Keeps order shape rule limit (before ++ first ∷ []) t old) (sym (append-nil taken)) kept;
-      writes = λ order shape rule limit before taken total kept pg pt. grown_none out;
+      writes = λ order shape rule limit before taken total kept pg pt. with_none pending out;
     },
     refl,
     refl,
@@ -154,13 +159,126 @@ module _ {A B : Type 0} (a_gives : A → List Feature → A → Type 0) (a_ended
   abbrev Decided : List Feature → List Feature → Type 0
   Decided = AreDecidedOn first.chrom
 
-  abbrev So : Option Feature → Sweeping → A → B → Output → Type 0
-  So = JoinsSo a_gives a_ended b_gives b_ended b_line IsTotal Decided old first from_a from_b out
+  abbrev So : Option Feature → Sweeping → A → B → List ℕ → Output → Type 0
+  So = JoinsSo a_gives a_ended b_gives b_ended b_line IsTotal Decided old first from_a from_b pending out
 
-  abbrev BreaksSo : Told → A → B → Output → Type 0
-  BreaksSo = Breaks a_gives a_ended b_gives b_ended b_line IsTotal Decided old first from_a from_b out
+  abbrev BreaksSo : Told → A → B → List ℕ → Output → Type 0
+  BreaksSo = Breaks a_gives a_ended b_gives b_ended b_line IsTotal Decided old first from_a from_b pending out
 
-  module _ (cur : Feature) (s : Sweeping) (to_a : A) (to_b : B) (grown : Output) (j : So (Some cur) s to_a to_b grown) (b : Feature) (after : B) (gives_b : b_gives to_b (b ∷ []) after) (on : b.chrom ≡ first.chrom) where
+  -- ---- the lines that are left pending are put at last
+
+  module _ (to_a : A) (to_b : B) (left : List ℕ) (grown now : Output) where
+    -- it had failed before
+    breaks_rest : (fault : Told) → BreaksSo fault to_a to_b left grown → Grown grown left now → BreaksSo fault to_a to_b [] now
+    breaks_rest fault b puts = record {
+      firsts = b.firsts;
+      seconds = b.seconds;
+      newly = b.newly;
+      waiting = b.waiting;
+      gives_firsts = b.gives_firsts;
+      gives_seconds = b.gives_seconds;
+      are = b.are;
+      next = b.next;
+      comes = b.comes;
+      settles = b.settles;
+      each = b.each;
+      cause = elim b.cause [
+        | inl cut ↦ inl (record {
+          cuts = λ order shape rule limit before taken total kept pg pt.
+              fails_again {T = Unit {0}} grown now (pending ++ intersect shape rule b.newly (taken ++ b.seconds)) left fault out (Ok tt) (cut.cuts order shape rule limit before taken total kept pg pt) puts;
+        })
+        | inr lack ↦ inr (record {
+          last = lack.last;
+          waits = lack.waits;
+          b = lack.b;
+          after = lack.after;
+          gives = lack.gives;
+          chrom = lack.chrom;
+          starts = lack.starts;
+          ends = lack.ends;
+          writes = λ order shape rule limit before taken total kept pg pt.
+              with_rest pending (intersect shape rule b.newly (taken ++ b.seconds)) left out grown (lack.writes order shape rule limit before taken total kept pg pt) now puts;
+          lacks = lack.lacks;
+        })
+      ];
+    }
+
+    breaks_cut : (fault : Told) (failed : Fault) → BreaksSo fault to_a to_b left grown → FailsToAdd grown left (told failed) now → BreaksSo (told failed) to_a to_b [] now
+    breaks_cut fault failed b fails = record {
+      firsts = b.firsts;
+      seconds = b.seconds;
+      newly = b.newly;
+      waiting = b.waiting;
+      gives_firsts = b.gives_firsts;
+      gives_seconds = b.gives_seconds;
+      are = b.are;
+      next = b.next;
+      comes = b.comes;
+      settles = b.settles;
+      each = b.each;
+      cause = inl (record {
+        cuts = λ order shape rule limit before taken total kept pg pt.
+            elim b.cause [
+              | inl cut ↦
+                  let here = cut.cuts order shape rule limit before taken total kept pg pt in
+                  let again = fails_again {T = Unit {0}} grown now (pending ++ intersect shape rule b.newly (taken ++ b.seconds)) left fault out (Err failed) here fails in
+                  subst (λ (f : Told). FailsToAdd out (pending ++ intersect shape rule b.newly (taken ++ b.seconds)) f now) (again.puts.is ∙ sym fails.puts.is) again
+              | inr lack ↦
+                  with_rest_cut pending (intersect shape rule b.newly (taken ++ b.seconds)) left out grown (lack.writes order shape rule limit before taken total kept pg pt) (told failed) now fails
+            ];
+      });
+    }
+
+    -- it hadn't
+    stops_cut : (waiting : Option Feature) (s : Sweeping) (fault : Told) → So waiting s to_a to_b left grown → FailsToAdd grown left fault now → BreaksSo fault to_a to_b [] now
+    stops_cut waiting s fault j fails = record {
+      firsts = j.firsts;
+      seconds = j.seconds;
+      newly = j.newly;
+      waiting = waiting;
+      gives_firsts = j.gives_firsts;
+      gives_seconds = j.gives_seconds;
+      are = j.are;
+      next = j.next;
+      comes = j.comes;
+      settles = j.settles;
+      each = j.each;
+      cause = inl (record {
+        cuts = λ order shape rule limit before taken total kept pg pt. with_rest_cut pending (intersect shape rule j.newly (taken ++ j.seconds)) left out grown (j.writes order shape rule limit before taken total kept pg pt) fault now fails;
+      });
+    }
+
+    module _ {R : Type 0} (feature : R → Feature) (s : Sweeping) where
+      abbrev Answers : Result (Option R) Fault → List ℕ → Output → Type 0
+      Answers result rest put = Joins a_gives a_ended b_gives b_ended b_line IsTotal Decided LeavesOn feature old first from_a from_b pending out result s to_a to_b rest put
+
+      pub joins_rest : (result : Result (Option R) Fault) → Answers result left grown → Grown grown left now → Answers result [] now
+      joins_rest (Ok waiting) (j, stops, leaves) puts = (
+        record {
+          firsts = j.firsts;
+          seconds = j.seconds;
+          newly = j.newly;
+          gives_firsts = j.gives_firsts;
+          gives_seconds = j.gives_seconds;
+          are = j.are;
+          waits = j.waits;
+          next = j.next;
+          comes = j.comes;
+          settles = j.settles;
+          each = j.each;
+          goes = j.goes;
+          writes = λ order shape rule limit before taken total kept pg pt. with_rest pending (intersect shape rule j.newly (taken ++ j.seconds)) left out grown (j.writes order shape rule limit before taken total kept pg pt) now puts;
+        },
+        stops,
+        leaves,
+      )
+      joins_rest (Err fault) b puts = breaks_rest (told fault) b puts
+
+      pub joins_cut : (result : Result (Option R) Fault) (failed : Fault) → Answers result left grown → FailsToAdd grown left (told failed) now → BreaksSo (told failed) to_a to_b [] now
+      joins_cut (Ok waiting) failed (j, stops, leaves) fails = stops_cut (option_map feature waiting) s (told failed) j fails
+      joins_cut (Err fault) failed b fails = breaks_cut (told fault) failed b fails
+
+  module _ (cur : Feature) (s : Sweeping) (to_a : A) (to_b : B) (left : List ℕ) (grown : Output) (j : So (Some cur) s to_a to_b left grown) (b : Feature) (after : B) (gives_b : b_gives to_b (b ∷ []) after) (on : b.chrom ≡ first.chrom) where
     module _ (front : j.next ≡ None) where
       settled : Decided j.newly j.seconds
       settled = subst (λ (l : List Feature). Decided j.newly l) (ap (λ (n : Option Feature). j.seconds ++ option_to_list n) front ∙ append-nil j.seconds) j.settles
@@ -175,9 +293,9 @@ module _ {A B : Type 0} (a_gives : A → List Feature → A → Type 0) (a_ended
       waits_on held (Some a) is = (is.0 ∙ j.waits.0, is.1)
 
       -- records that it decides were written
-      pub joins_write : (s2 : Sweeping) (to_a2 : A) (now : Output) (waiting : Option Feature) → WritesSo a_gives a_ended b.start s cur to_a grown waiting s2 to_a2 now
-          → (k : So waiting s2 to_a2 to_b now) × (k.next ≡ Some b)
-      joins_write s2 to_a2 now waiting w = (
+      pub joins_write : (s2 : Sweeping) (to_a2 : A) (rest : List ℕ) (now : Output) (waiting : Option Feature) → WritesSo a_gives a_ended b.start s cur to_a left grown waiting s2 to_a2 rest now
+          → (k : So waiting s2 to_a2 to_b rest now) × (k.next ≡ Some b)
+      joins_write s2 to_a2 rest now waiting w = (
         record {
           firsts = j.firsts ++ w.firsts;
           seconds = j.seconds;
@@ -191,31 +309,26 @@ module _ {A B : Type 0} (a_gives : A → List Feature → A → Type 0) (a_ended
           settles = both_settled w.newly w.end;
           each = λ order shape rule limit before taken total kept pg pt. each_wider order limit (first ∷ j.firsts) w.firsts taken j.seconds (j.each order shape rule limit before taken total kept (front_of order before first j.firsts w.firsts pg) pt);
           goes = behind_same first j.firsts j.seconds j.newly cur j.are old s j.goes w.firsts (λ order shape rule limit as_given taken. Keeps order shape rule limit as_given taken s2) w.goes;
-          writes = writes_both first j.firsts j.seconds j.newly cur j.are old s j.goes out grown now j.writes w.firsts w.newly w.writes;
+          writes = writes_both first j.firsts j.seconds j.newly cur j.are old s j.goes pending left out grown j.writes w.firsts w.newly rest now w.writes;
         },
         refl,
       )
 
-      -- the lines of one of them couldn't be
-      pub breaks_write : (to_a2 : A) (now : Output) (fault : Told) → CutsOff a_gives a_ended b.start s cur to_a grown fault to_a2 now → BreaksSo fault to_a2 to_b now
-      breaks_write to_a2 now fault cut = record {
+      -- they couldn't all be
+      pub breaks_write : (to_a2 : A) (rest : List ℕ) (now : Output) (fault : Told) → CutsOff a_gives a_ended b.start s cur to_a left grown fault to_a2 now → BreaksSo fault to_a2 to_b rest now
+      breaks_write to_a2 rest now fault cut = record {
         firsts = j.firsts ++ cut.firsts;
         seconds = j.seconds;
         newly = j.newly ++ cut.newly;
-        last = cut.last;
+        waiting = cut.waiting;
         gives_firsts = a_more from_a to_a to_a2 j.firsts cut.firsts j.gives_firsts cut.given;
         gives_seconds = j.gives_seconds;
-        are = are_both first j.firsts j.newly cur cut.firsts cut.newly (cut.last ∷ []) j.are cut.are;
+        are = are_both first j.firsts j.newly cur cut.firsts cut.newly (option_to_list cut.waiting) j.are cut.are;
         next = Some b;
         comes = (after, gives_b);
         each = λ order shape rule limit before taken total kept pg pt. each_wider order limit (first ∷ j.firsts) cut.firsts taken j.seconds (j.each order shape rule limit before taken total kept (front_of order before first j.firsts cut.firsts pg) pt);
-        settles = both_settled cut.newly (end_front cur.chrom b.start cut.newly (cut.last ∷ []) cut.end);
-        through = cut.through;
-        writes = writes_both first j.firsts j.seconds j.newly cur j.are old s j.goes out grown cut.through j.writes cut.firsts cut.newly cut.writes;
-        cause = inl (record {
-          settled = subst (λ (l : List Feature). Decided l (j.seconds ++ b ∷ [])) (sym (append_assoc j.newly cut.newly (cut.last ∷ []))) (both_settled (cut.newly ++ cut.last ∷ []) cut.end);
-          cuts = behind_same first j.firsts j.seconds j.newly cur j.are old s j.goes cut.firsts (λ order shape rule limit as_given taken. FailsToAdd cut.through (lines_for shape rule cut.last taken) fault now) cut.cuts;
-        });
+        settles = both_settled cut.newly cut.end;
+        cause = inl (record { cuts = cuts_both first j.firsts j.seconds j.newly cur j.are old s j.goes pending left out grown j.writes cut.firsts cut.newly fault now cut.cuts });
       }
 
     module _ (next : j.next ≡ Some b) (before_end : b.start < cur.stop) where
@@ -223,7 +336,7 @@ module _ {A B : Type 0} (a_gives : A → List Feature → A → Type 0) (a_ended
       settled_by = subst (λ (l : List Feature). Decided j.newly l) (ap (λ (n : Option Feature). j.seconds ++ option_to_list n) next) j.settles
 
       -- b was taken
-      pub joins_take : (new : Sweeping) → new ≡ holding s cur b → (is_held cur b ≡ true → has_room_in s ≡ true) → All (CanHit cur) new.held → (k : So (Some cur) new to_a after grown) × (k.next ≡ None) × LeavesOn k.seconds cur
+      pub joins_take : (new : Sweeping) → new ≡ holding s cur b → (is_held cur b ≡ true → has_room_in s ≡ true) → All (CanHit cur) new.held → (k : So (Some cur) new to_a after left grown) × (k.next ≡ None) × LeavesOn k.seconds cur
       joins_take new is room hits = (
         record {
           firsts = j.firsts;
@@ -269,7 +382,7 @@ module _ {A B : Type 0} (a_gives : A → List Feature → A → Type 0) (a_ended
               let all = placed_back order before j.newly (front_placed order (before ++ j.newly) (cur ∷ []) (subst (λ (l : List Feature). ArePlaced order (intervals_of l)) (split_last before first j.firsts j.newly cur j.are) pg)) in
               let told_so = subst (λ (l : List Feature). AreDecided order j.newly l) both (decided_behind order j.newly taken (j.seconds ++ b ∷ []) (settled_by order total known)) in
               let same = ap (intersect shape rule j.newly) both ∙ lines_stay_so order total shape rule (taken ++ j.seconds) b [] pt' j.newly all told_so in
-              subst (λ (l : List ℕ). Grown out l grown) (sym same) (j.writes order shape rule limit before taken total kept pg (front_placed order (taken ++ j.seconds) (b ∷ []) pt'));
+              subst (λ (l : List ℕ). GrownWith pending out l left grown) (sym same) (j.writes order shape rule limit before taken total kept pg (front_placed order (taken ++ j.seconds) (b ∷ []) pt'));
         },
         refl,
         leaves_push j.seconds b cur (on ∙ sym j.waits.0) before_end,
@@ -284,12 +397,12 @@ module _ {A B : Type 0} (a_gives : A → List Feature → A → Type 0) (a_ended
       cannot fault line limit taken room (inr lacks) = inr (room ∙ lacks.0, lacks.1)
 
       -- b has to be held, and can't be
-      pub breaks_take : (fault : Fault) → is_held cur b ≡ true → CannotHold s (b_line after) fault → BreaksSo (told fault) to_a to_b grown
+      pub breaks_take : (fault : Fault) → is_held cur b ≡ true → CannotHold s (b_line after) fault → BreaksSo (told fault) to_a to_b left grown
       breaks_take fault held lacks = record {
         firsts = j.firsts;
         seconds = j.seconds;
         newly = j.newly;
-        last = cur;
+        waiting = Some cur;
         gives_firsts = j.gives_firsts;
         gives_seconds = j.gives_seconds;
         are = j.are;
@@ -297,16 +410,16 @@ module _ {A B : Type 0} (a_gives : A → List Feature → A → Type 0) (a_ended
         comes = j.comes;
         settles = j.settles;
         each = j.each;
-        through = grown;
-        writes = j.writes;
         cause = inr (record {
+          last = cur;
+          waits = refl;
           b = b;
           after = after;
           gives = gives_b;
           chrom = on ∙ sym j.waits.0;
           starts = before_end;
           ends = ltb-true cur.start b.stop (and_parts (bytes_eq cur.chrom b.chrom) (ltb cur.start b.stop) held).1;
-          same_output = refl;
+          writes = j.writes;
           lacks = λ order shape rule limit before taken total kept pg pt.
               let k = subst (λ (g : List Feature). Keeps order shape rule limit g (taken ++ j.seconds) s) (split_last before first j.firsts j.newly cur j.are) (j.goes order shape rule limit before taken total kept pg pt) in
               cannot fault (b_line after) limit (taken ++ j.seconds) (room_is order shape rule limit (before ++ j.newly) (taken ++ j.seconds) k) lacks;

@@ -1,14 +1,15 @@
 -- Lemmas on what a sweep keeps as records are given and taken.
-use Rattle.std.proofs.Common.{◌≡◌, ◌≤◌, ◌<◌, inl, inr, ℕ, Bool, true, false, not, ◌||◌, cond, List, [], ◌∷◌, ◌++◌, Option, Ok, refl, sym, ap, ◌∙◌, subst, filter, append-nil, length, ltb}
+use Rattle.std.proofs.Common.{◌≡◌, ◌≤◌, ◌<◌, inl, inr, ℕ, Bool, true, false, not, ◌||◌, cond, List, [], ◌∷◌, ◌++◌, Option, refl, sym, ap, ◌∙◌, subst, filter, append-nil, length, ltb}
 use Rattle.std.specs.Prelude.{IsTrue}
 use Rattle.std.specs.List.{list_all}
 use Rattle.std.specs.declared.cmp.Ordering.{Ordering}
 use Rattle.std.specs.declared.cmp.Ordering.TheVariants.{Equal}
 use Rattle.std.proofs.lemmas.Bool.{lt-ltb, and_parts, and_from, or_left, or_right, cases_Bool}
+use Rattle.std.proofs.lemmas.Grind.{flat_map-append}
 use Rattle.std.proofs.lemmas.List.Folds.{list_any-append, list_all-append}
+use Rattle.bt_lines.specs.Fault.{Told}
 use Rattle.bt_lines.specs.Output.{Output}
-use Rattle.bt_lines.specs.Putting.{Grown}
-use Rattle.bt_lines.proofs.PuttingLemmas.{adds_lines}
+use Rattle.bt_lines.specs.Putting.{FailsToAdd}
 use Rattle.bt_bed.specs.Feature.{Feature, intervals_of}
 use Rattle.bt_bed.specs.Locus.{ArePlaced, is_below_at}
 use Rattle.bt_bed.specs.Order.{Order, IsTotal}
@@ -16,7 +17,7 @@ use Rattle.bt_bed.proofs.NameLemmas.{name_eq}
 use Rattle.bt_sweep.specs.Deciding.{decided, decides}
 use Rattle.bt_sweep.specs.Held.{AreRising}
 use Rattle.bt_sweep.specs.IntersectLines.{intersect, lines_for}
-use Rattle.bt_sweep.specs.Joining.{AreDecided, Keeps}
+use Rattle.bt_sweep.specs.Joining.{AreDecided, GrownWith, Keeps}
 use Rattle.bt_sweep.specs.Standing.{HoldsFor, held_for, is_held, last_given}
 use Rattle.bt_sweep.specs.StateSteps.{has_room_in, held_with, holding}
 use Rattle.bt_sweep.specs.Steps.{has_room}
@@ -28,6 +29,7 @@ use Rattle.bt_sweep.proofs.HeldLines.{held_lines}
 use Rattle.bt_sweep.proofs.HitLemmas.{before_lines, stay_lines}
 use Rattle.bt_sweep.proofs.HoldLemmas.{held_behind, held_is_behind, holds_a, holds_b}
 use Rattle.bt_sweep.proofs.LimitLemmas.{filter_less, held_less, within_less, within_more}
+use Rattle.bt_sweep.proofs.PendingLemmas.{with_cut, with_more}
 use Rattle.bt_sweep.proofs.PlacedLemmas.{last_given-push}
 use Rattle.bt_sweep.proofs.RisingLemmas.{rising_held}
 
@@ -143,9 +145,17 @@ decided_both order xs ys bs first second =
 
 -- ---- lines of one list of records after another
 
-module _ (shape : Shape) (rule : HitRule) (taken : List Feature) (old mid new : Output) where
-  pub lines_both : (xs ys : List Feature) → Grown old (intersect shape rule xs taken) mid → Grown mid (intersect shape rule ys taken) new → Grown old (intersect shape rule (xs ++ ys) taken) new
-  lines_both xs ys first second = adds_lines (λ a. lines_for shape rule a taken) old mid new xs ys {A = Unit {0}} (Ok tt) first second
+module _ (shape : Shape) (rule : HitRule) (taken : List Feature) (pending left : List ℕ) (old mid : Output) (xs : List Feature) (first : GrownWith pending old (intersect shape rule xs taken) left mid) where
+  pub lines_both : (ys : List Feature) (rest : List ℕ) (new : Output) → GrownWith left mid (intersect shape rule ys taken) rest new → GrownWith pending old (intersect shape rule (xs ++ ys) taken) rest new
+  lines_both ys rest new second =
+      rw (flat_map-append (λ a. lines_for shape rule a taken) xs ys) (with_more pending (intersect shape rule xs taken) left old mid first (intersect shape rule ys taken) rest new second)
 
-  pub lines_then : (xs : List Feature) (a : Feature) → Grown old (intersect shape rule xs taken) mid → Grown mid (lines_for shape rule a taken) new → Grown old (intersect shape rule (xs ++ a ∷ []) taken) new
-  lines_then xs a first second = lines_both xs (a ∷ []) first (subst (λ (l : List ℕ). Grown mid l new) (sym (append-nil (lines_for shape rule a taken))) second)
+  pub lines_then : (a : Feature) (rest : List ℕ) (new : Output) → GrownWith left mid (lines_for shape rule a taken) rest new → GrownWith pending old (intersect shape rule (xs ++ a ∷ []) taken) rest new
+  lines_then a rest new second = lines_both (a ∷ []) rest new (subst (λ (l : List ℕ). GrownWith left mid l rest new) (sym (append-nil (lines_for shape rule a taken))) second)
+
+  pub cut_both : (ys : List Feature) (fault : Told) (new : Output) → FailsToAdd mid (left ++ intersect shape rule ys taken) fault new → FailsToAdd old (pending ++ intersect shape rule (xs ++ ys) taken) fault new
+  cut_both ys fault new fails =
+      rw (flat_map-append (λ a. lines_for shape rule a taken) xs ys) (with_cut pending (intersect shape rule xs taken) left old mid first (intersect shape rule ys taken) fault new fails)
+
+  pub cut_then : (a : Feature) (fault : Told) (new : Output) → FailsToAdd mid (left ++ lines_for shape rule a taken) fault new → FailsToAdd old (pending ++ intersect shape rule (xs ++ a ∷ []) taken) fault new
+  cut_then a fault new fails = cut_both (a ∷ []) fault new (subst (λ (l : List ℕ). FailsToAdd mid (left ++ l) fault new) (sym (append-nil (lines_for shape rule a taken))) fails)

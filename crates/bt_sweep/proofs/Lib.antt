@@ -10,6 +10,7 @@ pub mod HeldLemmas
 pub mod StateLemmas
 pub mod HeldLines
 pub mod HoldLemmas
+pub mod PendingLemmas
 pub mod KeepLemmas
 pub mod WriteLemmas
 pub mod JoinLemmas

@@ -8,9 +8,8 @@ use Rattle.std.proofs.lemmas.Bool.{and_from, or_left}
 use Rattle.bt_lines.specs.Names.{told}
 use Rattle.bt_lines.specs.Number.{max_number}
 use Rattle.bt_lines.specs.Output.{Output}
-use Rattle.bt_lines.specs.Putting.{FailsToAdd, Grown}
+use Rattle.bt_lines.specs.Putting.{FailsToAdd}
 use Rattle.bt_lines.specs.declared.fault.Fault.{Fault}
-use Rattle.bt_lines.proofs.PuttingLemmas.{grown_none}
 use Rattle.bt_bed.specs.Feature.{Feature}
 use Rattle.bt_bed.specs.Locus.{is_below_at}
 use Rattle.bt_bed.specs.Order.{Order, IsTotal}
@@ -18,8 +17,8 @@ use Rattle.bt_bed.proofs.NameLemmas.{name_ne}
 use Rattle.bt_sweep.specs.Advancing.{IsThis, Settles}
 use Rattle.bt_sweep.specs.Deciding.{decided, decides}
 use Rattle.bt_sweep.specs.Held.{CanHit}
-use Rattle.bt_sweep.specs.IntersectLines.{intersect, lines_for}
-use Rattle.bt_sweep.specs.Joining.{AreDecided, AreDecidedOn, Behind, BehindFor, CannotBeHeld, ComesNext, GoesToFor, StopsAt, EndUpTo, Joins, Keeps, LeavesLast, LeavesOn, LieOn, TakenEach, WaitsOn, SkipsAll, WritesUpTo}
+use Rattle.bt_sweep.specs.IntersectLines.{intersect}
+use Rattle.bt_sweep.specs.Joining.{AreDecided, AreDecidedOn, Behind, BehindFor, CannotBeHeld, ComesNext, GoesToFor, GrownWith, StopsAt, EndUpTo, Joins, Keeps, LeavesLast, LeavesOn, LieOn, TakenEach, WaitsOn, SkipsAll, WritesUpTo}
 use Rattle.bt_sweep.specs.Relating.{Compares, EndsWhile, Relates}
 use Rattle.bt_sweep.specs.Standing.{HoldsFor, is_held}
 use Rattle.bt_sweep.specs.SweepState.{Sweeping}
@@ -29,8 +28,9 @@ use Rattle.bt_sweep.specs.declared.relation.Relation.TheVariants.{After}
 use Rattle.bt_sweep.specs.declared.shape.Shape.{Shape}
 use Rattle.bt_sweep.proofs.DecidingLemmas.{decides_from}
 use Rattle.bt_sweep.proofs.HoldLemmas.{holds_b}
-use Rattle.bt_sweep.proofs.JoinLemmas.{end_front, joins_first, leaves_none}
+use Rattle.bt_sweep.proofs.JoinLemmas.{joins_first, leaves_none}
 use Rattle.bt_sweep.proofs.KeepLemmas.{keeps_held}
+use Rattle.bt_sweep.proofs.PendingLemmas.{with_none}
 
 lie_last : (name : List ℕ) (before : List Feature) (b : Feature) → LieOn name (before ++ b ∷ []) → b.chrom ≡ name
 lie_last name [] b on = on.0
@@ -78,7 +78,7 @@ module _ {A B R : Type 0} (a_gives : A → List Feature → A → Type 0) (a_end
   first = feature r
 
   abbrev Decides : Result (Option R) Fault → Sweeping → A → B → Output → Type 0
-  Decides = Joins a_gives a_ended b_gives (EndsWhile b_ended old.phase) b_line (IsThis order) (Settles order old.phase) (LeavesLast order) feature old first from_a from_b out
+  Decides result new to_a to_b grown = Joins a_gives a_ended b_gives (EndsWhile b_ended old.phase) b_line (IsThis order) (Settles order old.phase) (LeavesLast order) feature old first from_a from_b [] out result new to_a to_b [] grown
 
   abbrev Lies : List ℕ → Ordering → Type 0
   Lies name is = Compares b_gives b_ended name order old.phase first.chrom from_b is
@@ -86,7 +86,7 @@ module _ {A B R : Type 0} (a_gives : A → List Feature → A → Type 0) (a_end
   -- none of the second input was there
   pub decides_none : b_ended from_b × (old.phase ≡ First → ⊥) → Decides (Ok (Some r)) old from_a from_b out
   decides_none ended =
-      let j = joins_first a_gives a_ended a_none a_more b_gives (EndsWhile b_ended old.phase) b_line b_none b_more old first from_a from_b out (IsThis order) (Settles order old.phase) (inr refl) hits in
+      let j = joins_first a_gives a_ended a_none a_more b_gives (EndsWhile b_ended old.phase) b_line b_none b_more old first from_a from_b [] out (IsThis order) (Settles order old.phase) (inr refl) hits in
       (j.0, ended, leaves_none order j.0.seconds first j.2)
 
   keeps_one : (name : List ℕ) (b : Feature) (other : Order) (shape : Shape) (rule : HitRule) (limit : Option ℕ) (before taken : List Feature) → IsThis order other → order.compare name first.chrom ≡ Less → b.chrom ≡ name
@@ -150,7 +150,7 @@ module _ {A B R : Type 0} (a_gives : A → List Feature → A → Type 0) (a_end
       settles = inr refl;
       each = λ other shape rule limit before taken this kept pg pt. each_before name skip.seconds other shape rule limit before taken this lies.compared skip.on kept;
       goes = keeps_before name skip.seconds lies.compared skip.on;
-      writes = λ other shape rule limit before taken this kept pg pt. grown_none out;
+      writes = λ other shape rule limit before taken this kept pg pt. with_none [] out;
     },
     (skip.ended, lies.going),
     λ before b e. undecided_before order total first known name lies.compared b (lie_last name before b (subst (LieOn name) e skip.on)),
@@ -160,11 +160,11 @@ module _ {A B R : Type 0} (a_gives : A → List Feature → A → Type 0) (a_end
   to_this firsts seconds P behind other shape rule limit before taken this kept pg pt = behind other shape rule limit before taken (subst IsTotal (sym this) total) kept pg pt
 
   abbrev JoinsBeside : Result (Option R) Fault → Sweeping → A → B → Output → Type 0
-  JoinsBeside = Joins a_gives a_ended b_gives b_ended b_line IsTotal (AreDecidedOn first.chrom) LeavesOn feature old first from_a from_b out
+  JoinsBeside result new to_a to_b grown = Joins a_gives a_ended b_gives b_ended b_line IsTotal (AreDecidedOn first.chrom) LeavesOn feature old first from_a from_b [] out result new to_a to_b [] grown
 
   stops_beside : (waiting : Option R) (to_a : A) (to_b : B) → (old.phase ≡ First → ⊥)
-      → StopsAt a_gives a_ended b_gives b_ended b_line IsTotal (AreDecidedOn first.chrom) old first from_a from_b out (option_map feature waiting) to_a to_b
-      → StopsAt a_gives a_ended b_gives (EndsWhile b_ended old.phase) b_line (IsThis order) (Settles order old.phase) old first from_a from_b out (option_map feature waiting) to_a to_b
+      → StopsAt a_gives a_ended b_gives b_ended b_line IsTotal (AreDecidedOn first.chrom) old first from_a from_b [] out (option_map feature waiting) to_a to_b
+      → StopsAt a_gives a_ended b_gives (EndsWhile b_ended old.phase) b_line (IsThis order) (Settles order old.phase) old first from_a from_b [] out (option_map feature waiting) to_a to_b
   stops_beside None to_a to_b going ended = ended
   stops_beside (Some a) to_a to_b going ended = (ended, going)
 
@@ -188,7 +188,7 @@ module _ {A B R : Type 0} (a_gives : A → List Feature → A → Type 0) (a_end
       settles = inr (j.settles order total known);
       each = λ other shape rule limit before taken this kept pg pt. j.each other shape rule limit before taken (subst IsTotal (sym this) total) kept pg pt;
       goes = to_this j.firsts j.seconds (λ order shape rule limit as_given taken. Keeps order shape rule limit as_given taken new) j.goes;
-      writes = to_this j.firsts j.seconds (λ order shape rule limit as_given taken. Grown out (intersect shape rule j.newly taken) grown) j.writes;
+      writes = to_this j.firsts j.seconds (λ order shape rule limit as_given taken. GrownWith [] out (intersect shape rule j.newly taken) [] grown) j.writes;
     },
     stops_beside waiting to_a to_b going stops,
     leaves_beside waiting new.held j.seconds j.waits leaves,
@@ -197,7 +197,7 @@ module _ {A B R : Type 0} (a_gives : A → List Feature → A → Type 0) (a_end
     firsts = b.firsts;
     seconds = b.seconds;
     newly = b.newly;
-    last = b.last;
+    waiting = b.waiting;
     gives_firsts = b.gives_firsts;
     gives_seconds = b.gives_seconds;
     are = b.are;
@@ -205,22 +205,21 @@ module _ {A B R : Type 0} (a_gives : A → List Feature → A → Type 0) (a_end
     comes = b.comes;
     settles = inr (b.settles order total known);
     each = λ other shape rule limit before taken this kept pg pt. b.each other shape rule limit before taken (subst IsTotal (sym this) total) kept pg pt;
-    through = b.through;
-    writes = to_this b.firsts b.seconds (λ order shape rule limit as_given taken. Grown out (intersect shape rule b.newly taken) b.through) b.writes;
     cause = elim b.cause [
       | inl cut ↦ inl (record {
-        settled = inr (cut.settled order total known);
-        cuts = to_this b.firsts b.seconds (λ order shape rule limit as_given taken. FailsToAdd b.through (lines_for shape rule b.last taken) (told fault) grown) cut.cuts;
+        cuts = to_this b.firsts b.seconds (λ order shape rule limit as_given taken. FailsToAdd out ([] ++ intersect shape rule b.newly taken) (told fault) grown) cut.cuts;
       })
       | inr lack ↦ inr (record {
+        last = lack.last;
+        waits = lack.waits;
         b = lack.b;
         after = lack.after;
         gives = lack.gives;
         chrom = lack.chrom;
         starts = lack.starts;
         ends = lack.ends;
-        same_output = lack.same_output;
-        lacks = to_this b.firsts b.seconds (λ order shape rule limit as_given taken. CannotBeHeld limit b.last taken (b_line lack.after) (told fault)) lack.lacks;
+        writes = to_this b.firsts b.seconds (λ order shape rule limit as_given taken. GrownWith [] out (intersect shape rule b.newly taken) [] grown) lack.writes;
+        lacks = to_this b.firsts b.seconds (λ order shape rule limit as_given taken. CannotBeHeld limit lack.last taken (b_line lack.after) (told fault)) lack.lacks;
       })
     ];
   }
@@ -243,7 +242,7 @@ module _ {A B R : Type 0} (a_gives : A → List Feature → A → Type 0) (a_end
       inr (after_decided order lies.b first.chrom newly max_number total known (ap (λ (c : List ℕ). order.compare c first.chrom) lies.on ∙ lies.compares.compared) end)
 
   -- each is written
-  pub decides_after : (name : List ℕ) (result : Result (Option R) Fault) (new : Sweeping) (to_a : A) (grown : Output) → IsBehind name → WritesUpTo a_gives a_ended feature max_number old first from_a out result new to_a grown
+  pub decides_after : (name : List ℕ) (result : Result (Option R) Fault) (new : Sweeping) (to_a : A) (grown : Output) → IsBehind name → WritesUpTo a_gives a_ended feature max_number old first from_a [] out result new to_a [] grown
       → Decides result new to_a from_b grown
   decides_after name (Ok (Some a)) new to_a grown behind w = absurd (omega (arith, w.1.0, w.1.1))
   decides_after name (Ok None) new to_a grown behind (w, ended) = (
@@ -260,7 +259,7 @@ module _ {A B R : Type 0} (a_gives : A → List Feature → A → Type 0) (a_end
       settles = settles_of name behind w.newly w.end;
       each = λ other shape rule limit before taken this kept pg pt. tt;
       goes = to_this w.firsts [] (λ order shape rule limit as_given taken. Keeps order shape rule limit as_given taken new) w.goes;
-      writes = to_this w.firsts [] (λ order shape rule limit as_given taken. Grown out (intersect shape rule w.newly taken) grown) w.writes;
+      writes = to_this w.firsts [] (λ order shape rule limit as_given taken. GrownWith [] out (intersect shape rule w.newly taken) [] grown) w.writes;
     },
     ended,
     tt,
@@ -269,18 +268,13 @@ module _ {A B R : Type 0} (a_gives : A → List Feature → A → Type 0) (a_end
     firsts = cut.firsts;
     seconds = [];
     newly = cut.newly;
-    last = cut.last;
+    waiting = cut.waiting;
     gives_firsts = cut.given;
     gives_seconds = b_none from_b;
     are = cut.are;
     next = next_of name behind;
     comes = comes_of name behind;
     each = λ other shape rule limit before taken this kept pg pt. tt;
-    settles = settles_of name behind cut.newly (end_front first.chrom max_number cut.newly (cut.last ∷ []) cut.end);
-    through = cut.through;
-    writes = to_this cut.firsts [] (λ order shape rule limit as_given taken. Grown out (intersect shape rule cut.newly taken) cut.through) cut.writes;
-    cause = inl (record {
-      settled = settles_of name behind (cut.newly ++ cut.last ∷ []) cut.end;
-      cuts = to_this cut.firsts [] (λ order shape rule limit as_given taken. FailsToAdd cut.through (lines_for shape rule cut.last taken) (told fault) grown) cut.cuts;
-    });
+    settles = settles_of name behind cut.newly cut.end;
+    cause = inl (record { cuts = to_this cut.firsts [] (λ order shape rule limit as_given taken. FailsToAdd out ([] ++ intersect shape rule cut.newly taken) (told fault) grown) cut.cuts });
   }

@@ -12,9 +12,9 @@ use Rattle.bt_bed.specs.Locus.{ArePlaced}
 use Rattle.bt_bed.specs.Order.{Order, IsTotal}
 use Rattle.bt_bed.specs.Single.{GivesSingle, single_left}
 use Rattle.bt_bed.specs.declared.cursor.Single.{Single}
-use Rattle.bt_sweep.specs.Advancing.{Advances, AdvancesSo, AtEach, FailsAt, IsThis, Settles, StopsFor, stage_after}
-use Rattle.bt_sweep.specs.IntersectLines.{intersect, lines_for}
-use Rattle.bt_sweep.specs.Joining.{BehindFor, Breaks, CannotBeHeld, JoinsSo, Keeps, LeavesLast, TakenEach, TakesEachFor}
+use Rattle.bt_sweep.specs.Advancing.{Advances, AdvancesSo, AtEach, FailsAt, IsThis, PutsEach, Settles, StopsFor, stage_after}
+use Rattle.bt_sweep.specs.IntersectLines.{intersect}
+use Rattle.bt_sweep.specs.Joining.{BehindFor, Breaks, CannotBeHeld, JoinsSo, Keeps, LeavesLast, TakenEach, TakesEachFor, WritesFor}
 use Rattle.bt_sweep.specs.Standing.{HoldsFor, Stage, StandsAt, given, phase_of}
 use Rattle.bt_sweep.specs.StateSteps.{KeepsOne, held_with}
 use Rattle.bt_sweep.specs.SweepState.{Sweeping, is_over, want_in, want_of}
@@ -26,6 +26,7 @@ use Rattle.bt_sweep.specs.declared.want.Want.{Want}
 use Rattle.bt_sweep.specs.declared.want.Want.TheVariants.{A as WantA, B as WantB, Nothing}
 use Rattle.bt_sweep.proofs.JoinLemmas.{leaves_none}
 use Rattle.bt_sweep.proofs.KeepLemmas.{keeps_first}
+use Rattle.bt_sweep.proofs.PendingLemmas.{with_no_pending}
 use Rattle.bt_sweep.proofs.PlacedLemmas.{front_placed}
 
 pub keeps_of : (order : Order) (shape : Shape) (rule : HitRule) (limit : Option ℕ) (stage : Stage) (s : Sweeping) → StandsAt order shape rule limit stage s → Keeps order shape rule limit (given stage) stage.taken s
@@ -36,6 +37,12 @@ pub both_open : (a b : Bool) (phase : Phase) → phase ≡ phase_of a b → (pha
 both_open true b phase e first over = absurd (over e)
 both_open false true phase e first over = absurd (first e)
 both_open false false phase e first over = (refl, refl)
+
+-- both go on
+still_both : (phase : Phase) → (phase ≡ First → ⊥) → (phase ≡ Over → ⊥) → phase ≡ Both
+still_both Both first over = refl
+still_both First first over = absurd (first refl)
+still_both Over first over = absurd (over refl)
 
 -- ---- where none waits
 
@@ -122,6 +129,11 @@ module _ (order : Order) (old mid : Sweeping) (first : Feature) (pre : List Feat
       let front = front_placed order (stage.written ++ first ∷ []) firsts (subst (λ (l : List Feature). ArePlaced order (intervals_of l)) (sym (append_assoc stage.written (first ∷ []) firsts)) pg') in
       behind order shape rule limit stage.written stage.taken refl (keeps shape rule limit stage st front) pg' pt
 
+  puts_each : (firsts seconds newly : List Feature) (out grown : Output) → WritesFor (IsThis order) first firsts seconds mid newly [] out [] grown → PutsEach order old (pre ++ firsts) seconds newly out grown
+  puts_each firsts seconds newly out grown writes =
+      at_each firsts seconds (λ order shape rule limit as_given taken. Grown out (intersect shape rule newly taken) grown)
+      (λ other shape rule limit before taken this kept pg pt. with_no_pending out grown (intersect shape rule newly (taken ++ seconds)) (writes other shape rule limit before taken this kept pg pt))
+
   abbrev IsOpen : Option Feature → Type 0
   IsOpen waiting = is_some waiting ≡ true → (shape : Shape) (rule : HitRule) (limit : Option ℕ) (stage : Stage) → StandsAt order shape rule limit stage old → (stage.a_ended ≡ false) × (stage.b_ended ≡ false)
 
@@ -144,7 +156,7 @@ module _ (order : Order) (old mid : Sweeping) (first : Feature) (pre : List Feat
 
   module _ {A B U : Type 0} (a_gives : A → List Feature → A → Type 0) (a_ended : A → Type 0) (b_gives : B → List Feature → B → Type 0) (b_ended b_ended' : B → Type 0) (b_line : B → ℕ)
       (u_gives : U → List Feature → U → Type 0) (u_ended : U → Type 0) (from_u to_u : U) (from_a to_a : A) (from_b to_b : B) (out grown : Output) (new : Sweeping) where
-    pub advances_from : (waiting : Option Feature) (final : Sweeping) (j : JoinsSo a_gives a_ended b_gives b_ended' b_line (IsThis order) (Settles order mid.phase) mid first from_a from_b out waiting new to_a to_b grown)
+    pub advances_from : (waiting : Option Feature) (final : Sweeping) (j : JoinsSo a_gives a_ended b_gives b_ended' b_line (IsThis order) (Settles order mid.phase) mid first from_a from_b [] out waiting new to_a to_b [] grown)
         → u_gives from_u (pre ++ j.firsts) to_u → new.phase ≡ old.phase → final ≡ record new { current = waiting } → IsOpen waiting → IfSome waiting (LeavesLast order j.seconds) → AdvancesSo u_gives u_ended b_gives b_ended b_line order old from_u from_b out final to_u to_b grown
     advances_from waiting final j gives same is goes_on leaves = record {
       firsts = pre ++ j.firsts;
@@ -161,17 +173,17 @@ module _ (order : Order) (old mid : Sweeping) (first : Feature) (pre : List Feat
       stands = λ shape rule limit stage st pg pt.
           stands_from shape rule limit stage j.firsts j.seconds j.newly waiting new final st
           (at_each j.firsts j.seconds (λ order shape rule limit as_given taken. Keeps order shape rule limit as_given taken new) j.goes shape rule limit stage st pg pt) j.are same is goes_on;
-      puts = at_each j.firsts j.seconds (λ order shape rule limit as_given taken. Grown out (intersect shape rule j.newly taken) grown) j.writes;
+      puts = puts_each j.firsts j.seconds j.newly out grown j.writes;
     }
 
     -- it failed at one of them
-    pub fails_from : (fault : Told) (b : Breaks a_gives a_ended b_gives b_ended' b_line (IsThis order) (Settles order mid.phase) mid first from_a from_b out fault to_a to_b grown)
+    pub fails_from : (fault : Told) (b : Breaks a_gives a_ended b_gives b_ended' b_line (IsThis order) (Settles order mid.phase) mid first from_a from_b [] out fault to_a to_b [] grown)
         → u_gives from_u (pre ++ b.firsts) to_u → FailsAt u_gives u_ended b_gives b_ended b_line order old from_u from_b out fault to_u to_b grown
     fails_from fault b gives = record {
       firsts = pre ++ b.firsts;
       seconds = b.seconds;
       newly = b.newly;
-      last = b.last;
+      waiting = b.waiting;
       gives_firsts = gives;
       gives_seconds = b.gives_seconds;
       are = sym (append_assoc (option_to_list old.current) pre b.firsts) ∙ ap (λ (l : List Feature). l ++ b.firsts) pre_is ∙ b.are;
@@ -179,34 +191,33 @@ module _ (order : Order) (old mid : Sweeping) (first : Feature) (pre : List Feat
       comes = b.comes;
       settles = subst (λ (p : Phase). Settles order p b.newly (b.seconds ++ option_to_list b.next)) phase b.settles;
       each = each_from b.firsts b.seconds b.each;
-      through = b.through;
-      puts = at_each b.firsts b.seconds (λ order shape rule limit as_given taken. Grown out (intersect shape rule b.newly taken) b.through) b.writes;
       cause = elim b.cause [
         | inl cut ↦ inl (record {
-          settled = subst (λ (p : Phase). Settles order p (b.newly ++ b.last ∷ []) (b.seconds ++ option_to_list b.next)) phase cut.settled;
-          cuts = at_each b.firsts b.seconds (λ order shape rule limit as_given taken. FailsToAdd b.through (lines_for shape rule b.last taken) fault grown) cut.cuts;
+          cuts = at_each b.firsts b.seconds (λ order shape rule limit as_given taken. FailsToAdd out (intersect shape rule b.newly taken) fault grown) cut.cuts;
         })
         | inr lack ↦ inr (inl (record {
+          last = lack.last;
+          waits = lack.waits;
           b = lack.b;
           after = lack.after;
           gives = lack.gives;
           chrom = lack.chrom;
           starts = lack.starts;
           ends = lack.ends;
-          same_output = lack.same_output;
-          lacks = at_each b.firsts b.seconds (λ order shape rule limit as_given taken. CannotBeHeld limit b.last taken (b_line lack.after) fault) lack.lacks;
+          puts = puts_each b.firsts b.seconds b.newly out grown lack.writes;
+          lacks = at_each b.firsts b.seconds (λ order shape rule limit as_given taken. CannotBeHeld limit lack.last taken (b_line lack.after) fault) lack.lacks;
         }))
       ];
     }
 
     -- the one that waits can't be kept
-    pub lacks_from : (a : Feature) (fault : Told) (j : JoinsSo a_gives a_ended b_gives b_ended' b_line (IsThis order) (Settles order mid.phase) mid first from_a from_b out (Some a) new to_a to_b grown)
-        → u_gives from_u (pre ++ j.firsts) to_u → fault ≡ no_memory → FailsAt u_gives u_ended b_gives b_ended b_line order old from_u from_b out fault to_u to_b grown
-    lacks_from a fault j gives is = record {
+    pub lacks_from : (a : Feature) (fault : Told) (j : JoinsSo a_gives a_ended b_gives b_ended' b_line (IsThis order) (Settles order mid.phase) mid first from_a from_b [] out (Some a) new to_a to_b [] grown)
+        → u_gives from_u (pre ++ j.firsts) to_u → old.current ≡ None → old.phase ≡ Both → b_ended to_b → fault ≡ no_memory → FailsAt u_gives u_ended b_gives b_ended b_line order old from_u from_b out fault to_u to_b grown
+    lacks_from a fault j gives none both ended is = record {
       firsts = pre ++ j.firsts;
       seconds = j.seconds;
       newly = j.newly;
-      last = a;
+      waiting = Some a;
       gives_firsts = gives;
       gives_seconds = j.gives_seconds;
       are = sym (append_assoc (option_to_list old.current) pre j.firsts) ∙ ap (λ (l : List Feature). l ++ j.firsts) pre_is ∙ j.are;
@@ -214,20 +225,18 @@ module _ (order : Order) (old mid : Sweeping) (first : Feature) (pre : List Feat
       comes = j.comes;
       settles = subst (λ (p : Phase). Settles order p j.newly (j.seconds ++ option_to_list j.next)) phase j.settles;
       each = each_from j.firsts j.seconds j.each;
-      through = grown;
-      puts = at_each j.firsts j.seconds (λ order shape rule limit as_given taken. Grown out (intersect shape rule j.newly taken) grown) j.writes;
-      cause = inr (inr (record { is = is; same_output = refl }));
+      cause = inr (inr (record { last = a; waits = refl; is = is; none = none; both = both; ended = ended; puts = puts_each j.firsts j.seconds j.newly out grown j.writes }));
     }
 
     -- it is kept, or can't be
-    pub kept_or_not : {T : Type 0} (a : Feature) (j : JoinsSo a_gives a_ended b_gives b_ended' b_line (IsThis order) (Settles order mid.phase) mid first from_a from_b out (Some a) new to_a to_b grown) → b_ended to_b → (mid.phase ≡ First → ⊥)
+    pub kept_or_not : {T : Type 0} (a : Feature) (j : JoinsSo a_gives a_ended b_gives b_ended' b_line (IsThis order) (Settles order mid.phase) mid first from_a from_b [] out (Some a) new to_a to_b [] grown) → old.current ≡ None → b_ended to_b → (mid.phase ≡ First → ⊥)
         → u_gives from_u (pre ++ j.firsts) to_u → new.phase ≡ old.phase → (old.phase ≡ Over → ⊥) → LeavesLast order j.seconds a → (result : Result T Fault) (final : Sweeping) → KeepsOne new a result final
         → Advances u_gives u_ended b_gives b_ended b_line order old from_u from_b out result final to_u to_b grown
-    kept_or_not a j ended not_first gives same not_over leaves (Ok t) final is = (
+    kept_or_not a j none ended not_first gives same not_over leaves (Ok t) final is = (
       advances_from (Some a) final j gives same is (λ w shape rule limit stage st. both_open stage.a_ended stage.b_ended old.phase st.phase_is (λ e. not_first (phase ∙ e)) not_over) leaves,
       stops_b u_gives u_ended b_gives b_ended b_line order old from_u to_u from_b to_b out final (want_b final a (ap (λ (s : Sweeping). s.current) is)) ended,
     )
-    kept_or_not a j ended not_first gives same not_over leaves (Err fault) final is = lacks_from a (told fault) j gives is.1
+    kept_or_not a j none ended not_first gives same not_over leaves (Err fault) final is = lacks_from a (told fault) j gives none (still_both old.phase (λ e. not_first (phase ∙ e)) not_over) ended is.1
 
 -- ---- where nothing is given or taken
 

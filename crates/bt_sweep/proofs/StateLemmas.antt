@@ -5,15 +5,11 @@ use Rattle.std.specs.List.{AllByRecursion}
 use Rattle.std.specs.Result.{is_err}
 use Rattle.std.proofs.lemmas.Bool.{false≢true, ltb-true}
 use Rattle.std.proofs.lemmas.List.Elements.{All-filter, All-push, All-from_recursion, recursion_from_All}
-use Rattle.bt_lines.specs.Output.{Output}
-use Rattle.bt_lines.specs.Putting.{Grown}
-use Rattle.bt_lines.proofs.PuttingLemmas.{grown_none}
 use Rattle.bt_bed.specs.Feature.{Feature}
 use Rattle.bt_bed.proofs.NameLemmas.{same_name}
 use Rattle.bt_sweep.specs.Held.{AreReady, AreTogether, CanHit, CanHitAt}
-use Rattle.bt_sweep.specs.IntersectLines.{lines_for}
-use Rattle.bt_sweep.specs.StateSteps.{NeedsHit, are_on}
-use Rattle.bt_sweep.specs.SweepState.{Sweeping}
+use Rattle.bt_sweep.specs.IntersectLines.{lines_for, lines_of}
+use Rattle.bt_sweep.specs.StateSteps.{are_on}
 use Rattle.bt_sweep.specs.declared.hit_rule.HitRule.{HitRule}
 use Rattle.bt_sweep.specs.declared.shape.Shape.{Shape}
 
@@ -70,12 +66,8 @@ pub on_ok_of : {T E : Type 0} {P : Type 0} (r : Result T E) → is_err r ≡ fal
 on_ok_of (Ok done) e h = h
 on_ok_of (Err f) e h = absurd (false≢true (sym e))
 
-none_of : (shape : Shape) (rule : HitRule) (a : Feature) (held : List Feature) → NeedsHit shape → length held ≡ 0 → lines_for shape rule a held ≡ []
+-- a record beside which nothing is held is one that nothing hits
+pub none_against : (shape : Shape) (rule : HitRule) (a : Feature) (held : List Feature) → length held ≡ 0 → lines_of shape a [] ≡ lines_for shape rule a held
 unfolding lines_for
-none_of shape rule a [] needs none = needs a
-none_of shape rule a (b ∷ held) needs none = absurd (omega arith)
-
--- a record has no line, since nothing is held
-pub writes_none : (inside now : Sweeping) (a : Feature) (out : Output) → inside ≡ now → NeedsHit inside.shape → length inside.held ≡ 0 → Grown out (lines_for now.shape now.rule a now.held) out
-writes_none inside now a out e needs none =
-    rw (← e) (subst (λ (l : List ℕ). Grown out l out) (sym (none_of inside.shape inside.rule a inside.held needs none)) (grown_none out))
+none_against shape rule a [] none = refl
+none_against shape rule a (b ∷ held) none = absurd (omega arith)

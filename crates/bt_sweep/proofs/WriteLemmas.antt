@@ -4,18 +4,18 @@ use Rattle.std.specs.Prelude.{All}
 use Rattle.bt_lines.specs.Output.{Output}
 use Rattle.bt_lines.specs.Putting.{FailsToAdd, Grown}
 use Rattle.bt_lines.specs.Fault.{Told}
-use Rattle.bt_lines.proofs.PuttingLemmas.{grown_none}
 use Rattle.bt_bed.specs.Feature.{Feature, intervals_of}
 use Rattle.bt_bed.specs.Locus.{ArePlaced}
 use Rattle.bt_bed.specs.Order.{Order, IsTotal}
 use Rattle.bt_sweep.specs.Held.{AreRising, CanHit}
-use Rattle.bt_sweep.specs.IntersectLines.{lines_for}
-use Rattle.bt_sweep.specs.Joining.{CutsOff, EndUpTo, Keeps, Writes, WritesSo}
+use Rattle.bt_sweep.specs.IntersectLines.{intersect, lines_for}
+use Rattle.bt_sweep.specs.Joining.{CutsOff, EndUpTo, GrownWith, Keeps, Writes, WritesSo}
 use Rattle.bt_sweep.specs.SweepState.{Sweeping}
 use Rattle.bt_sweep.specs.declared.hit_rule.HitRule.{HitRule}
 use Rattle.bt_sweep.specs.declared.shape.Shape.{Shape}
-use Rattle.bt_sweep.proofs.KeepLemmas.{keeps_lines, keeps_next, keeps_rising, lines_then}
+use Rattle.bt_sweep.proofs.KeepLemmas.{cut_then, keeps_lines, keeps_next, keeps_rising, lines_then}
 use Rattle.bt_sweep.proofs.OpenLemmas.{open_kept}
+use Rattle.bt_sweep.proofs.PendingLemmas.{with_none, with_rest, with_rest_cut}
 use Rattle.bt_sweep.proofs.PlacedLemmas.{front_placed}
 
 -- ---- lists, behind others
@@ -38,11 +38,11 @@ end_more name place (x ∷ newly) a end on up = (end.0, end.1, end_more name pla
 
 module _ {A : Type 0} (gives : A → List Feature → A → Type 0) (has_ended : A → Type 0) (gives_none : (x : A) → gives x [] x)
     (gives_more : (old mid new : A) (xs ys : List Feature) → gives old xs mid → gives mid ys new → gives old (xs ++ ys) new)
-    (place : ℕ) (old : Sweeping) (first : Feature) (from : A) (out : Output) where
-  abbrev So : Option Feature → Sweeping → A → Output → Type 0
-  So = WritesSo gives has_ended place old first from out
+    (place : ℕ) (old : Sweeping) (first : Feature) (from : A) (pending : List ℕ) (out : Output) where
+  abbrev So : Option Feature → Sweeping → A → List ℕ → Output → Type 0
+  So = WritesSo gives has_ended place old first from pending out
 
-  pub writes_first : All (CanHit first) old.held → So (Some first) old from out
+  pub writes_first : All (CanHit first) old.held → So (Some first) old from pending out
   writes_first hits = record {
     firsts = [];
     newly = [];
@@ -51,10 +51,35 @@ module _ {A : Type 0} (gives : A → List Feature → A → Type 0) (has_ended :
     end = tt;
     waits = (refl, hits);
     goes = λ order shape rule limit before taken total kept pg pt. subst (λ (t : List Feature). Keeps order shape rule limit (before ++ first ∷ []) t old) (sym (append-nil taken)) kept;
-    writes = λ order shape rule limit before taken total kept pg pt. grown_none out;
+    writes = λ order shape rule limit before taken total kept pg pt. with_none pending out;
   }
 
-  module _ (cur : Feature) (s : Sweeping) (to : A) (grown : Output) (so : So (Some cur) s to grown) where
+  -- those that are left pending were put too
+  pub writes_rest : (waiting : Option Feature) (s : Sweeping) (to : A) (left : List ℕ) (grown now : Output) → So waiting s to left grown → Grown grown left now → So waiting s to [] now
+  writes_rest waiting s to left grown now so puts = record {
+    firsts = so.firsts;
+    newly = so.newly;
+    given = so.given;
+    are = so.are;
+    end = so.end;
+    waits = so.waits;
+    goes = so.goes;
+    writes = λ order shape rule limit before taken total kept pg pt. with_rest pending (intersect shape rule so.newly (taken ++ [])) left out grown (so.writes order shape rule limit before taken total kept pg pt) now puts;
+  }
+
+  -- or couldn't all be
+  pub cuts_rest : (waiting : Option Feature) (s : Sweeping) (to : A) (left : List ℕ) (grown now : Output) (fault : Told) → So waiting s to left grown → FailsToAdd grown left fault now → CutsOff gives has_ended place old first from pending out fault to now
+  cuts_rest waiting s to left grown now fault so fails = record {
+    firsts = so.firsts;
+    newly = so.newly;
+    waiting = waiting;
+    given = so.given;
+    are = so.are;
+    end = so.end;
+    cuts = λ order shape rule limit before taken total kept pg pt. with_rest_cut pending (intersect shape rule so.newly (taken ++ [])) left out grown (so.writes order shape rule limit before taken total kept pg pt) fault now fails;
+  }
+
+  module _ (cur : Feature) (s : Sweeping) (to : A) (left : List ℕ) (grown : Output) (so : So (Some cur) s to left grown) where
     -- what is kept, by the one that waits
     kept_so : (order : Order) (shape : Shape) (rule : HitRule) (limit : Option ℕ) (before taken : List Feature) → IsTotal order → Keeps order shape rule limit (before ++ first ∷ []) taken old
         → ArePlaced order (intervals_of (before ++ first ∷ so.firsts)) → ArePlaced order (intervals_of (taken ++ [])) → Keeps order shape rule limit ((before ++ so.newly) ++ cur ∷ []) (taken ++ []) s
@@ -62,16 +87,16 @@ module _ {A : Type 0} (gives : A → List Feature → A → Type 0) (has_ended :
         subst (λ (g : List Feature). Keeps order shape rule limit g (taken ++ []) s) (split_last before first so.firsts so.newly cur so.are)
         (so.goes order shape rule limit before taken total kept pg pt)
 
-    module _ (now : Output) (adds : AreRising s.held → Grown grown (lines_for s.shape s.rule cur s.held) now) where
-      written_one : Writes first so.firsts [] old (so.newly ++ cur ∷ []) out now
+    module _ (rest : List ℕ) (now : Output) (adds : AreRising s.held → GrownWith left grown (lines_for s.shape s.rule cur s.held) rest now) where
+      written_one : Writes first so.firsts [] old (so.newly ++ cur ∷ []) pending out rest now
       written_one order shape rule limit before taken total kept pg pt =
           let k = kept_so order shape rule limit before taken total kept pg pt in
-          lines_then shape rule (taken ++ []) out grown now so.newly cur (so.writes order shape rule limit before taken total kept pg pt)
-          (subst (λ (l : List ℕ). Grown grown l now) (keeps_lines order shape rule limit (before ++ so.newly) cur (taken ++ []) s k)
+          lines_then shape rule (taken ++ []) pending left out grown so.newly (so.writes order shape rule limit before taken total kept pg pt) cur rest now
+          (subst (λ (l : List ℕ). GrownWith left grown l rest now) (keeps_lines order shape rule limit (before ++ so.newly) cur (taken ++ []) s k)
           (adds (keeps_rising order shape rule limit (before ++ so.newly) cur (taken ++ []) s k total pt)))
 
       -- its lines were written, and there is no other
-      pub writes_last : cur.stop ≤ place → So None s to now
+      pub writes_last : cur.stop ≤ place → So None s to rest now
       writes_last up = record {
         firsts = so.firsts;
         newly = so.newly ++ cur ∷ [];
@@ -85,7 +110,7 @@ module _ {A : Type 0} (gives : A → List Feature → A → Type 0) (has_ended :
 
       -- its lines were written, and the next one waits
       pub writes_more : (r : Feature) (new : Sweeping) (to' : A) → cur.stop ≤ place → gives to (r ∷ []) to' → r.chrom ≡ first.chrom → new ≡ record s { held = filter (λ b. ltb r.start b.stop) s.held }
-          → So (Some r) new to' now
+          → So (Some r) new to' rest now
       writes_more r new to' up given on is = record {
         firsts = so.firsts ++ r ∷ [];
         newly = so.newly ++ cur ∷ [];
@@ -104,18 +129,17 @@ module _ {A : Type 0} (gives : A → List Feature → A → Type 0) (has_ended :
       }
 
     -- its lines couldn't be written
-    pub cuts_off : (fault : Told) (now : Output) → cur.stop ≤ place → (AreRising s.held → FailsToAdd grown (lines_for s.shape s.rule cur s.held) fault now) → CutsOff gives has_ended place old first from out fault to now
+    pub cuts_off : (fault : Told) (now : Output) → cur.stop ≤ place → (AreRising s.held → FailsToAdd grown (left ++ lines_for s.shape s.rule cur s.held) fault now) → CutsOff gives has_ended place old first from pending out fault to now
     cuts_off fault now up fails = record {
       firsts = so.firsts;
-      newly = so.newly;
-      last = cur;
+      newly = so.newly ++ cur ∷ [];
+      waiting = None;
       given = so.given;
-      are = so.are;
+      are = so.are ∙ sym (append-nil (so.newly ++ cur ∷ []));
       end = end_more first.chrom place so.newly cur so.end so.waits.0 up;
-      through = grown;
-      writes = so.writes;
       cuts = λ order shape rule limit before taken total kept pg pt.
           let k = kept_so order shape rule limit before taken total kept pg pt in
-          subst (λ (l : List ℕ). FailsToAdd grown l fault now) (keeps_lines order shape rule limit (before ++ so.newly) cur (taken ++ []) s k)
-          (fails (keeps_rising order shape rule limit (before ++ so.newly) cur (taken ++ []) s k total pt));
+          cut_then shape rule (taken ++ []) pending left out grown so.newly (so.writes order shape rule limit before taken total kept pg pt) cur fault now
+          (subst (λ (l : List ℕ). FailsToAdd grown (left ++ l) fault now) (keeps_lines order shape rule limit (before ++ so.newly) cur (taken ++ []) s k)
+          (fails (keeps_rising order shape rule limit (before ++ so.newly) cur (taken ++ []) s k total pt)));
     }

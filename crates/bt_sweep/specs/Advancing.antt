@@ -1,6 +1,6 @@
 -- What a sweep does with records of both inputs that come one after another.
-use Rattle.std.specs.Prelude.{◌≡◌, ◌⊎◌, ℕ, ◌<◌, ⊤, Bool, true, false, List, [], ◌∷◌, ◌++◌, Option, None}
-use Rattle.std.specs.Prelude.{IfSome, Result, Ok, Err, is_some, option_to_list}
+use Rattle.std.specs.Prelude.{◌≡◌, ◌⊎◌, ℕ, ◌<◌, ⊤, Bool, true, false, List, [], ◌∷◌, ◌++◌, Option, Some, None}
+use Rattle.std.specs.Prelude.{IfSome, IsOk, Result, Ok, Err, is_some, option_to_list}
 use Rattle.bt_lines.specs.Fault.{Told, no_memory}
 use Rattle.bt_lines.specs.Names.{told}
 use Rattle.bt_lines.specs.Output.{Output}
@@ -9,13 +9,13 @@ use Rattle.bt_lines.specs.declared.fault.Fault.{Fault}
 use Rattle.bt_bed.specs.Feature.{Feature, intervals_of}
 use Rattle.bt_bed.specs.Locus.{ArePlaced}
 use Rattle.bt_bed.specs.Order.{Order}
-use Rattle.bt_sweep.specs.IntersectLines.{intersect, lines_for}
+use Rattle.bt_sweep.specs.IntersectLines.{intersect}
 use Rattle.bt_sweep.specs.Joining.{AreDecided, CannotBeHeld, ComesNext, LeavesLast, TakenEach}
 use Rattle.bt_sweep.specs.Standing.{Stage, StandsAt, given}
 use Rattle.bt_sweep.specs.SweepState.{Sweeping, want_in}
 use Rattle.bt_sweep.specs.declared.hit_rule.HitRule.{HitRule}
 use Rattle.bt_sweep.specs.declared.phase.Phase.{Phase}
-use Rattle.bt_sweep.specs.declared.phase.Phase.TheVariants.{First}
+use Rattle.bt_sweep.specs.declared.phase.Phase.TheVariants.{Both, First}
 use Rattle.bt_sweep.specs.declared.shape.Shape.{Shape}
 use Rattle.bt_sweep.specs.declared.want.Want.{Want}
 use Rattle.bt_sweep.specs.declared.want.Want.TheVariants.{A, B, Nothing}
@@ -83,41 +83,49 @@ module _ {U V : Type 0} (a_gives : U → List Feature → U → Type 0) (a_ended
   StopsFor B to_a to_b = b_ended to_b
   StopsFor Nothing to_a to_b = ⊤
 
-  module _ (firsts seconds newly : List Feature) (last : Feature) (to_b : V) (through : Output)
-      (fault : Told) (grown : Output) where
-    -- the lines of the last one are settled, and couldn't be written
-    pub record FailsToWrite (next : Option Feature) : Type 0 where
-      pub settled : Settles order old.phase (newly ++ last ∷ []) (seconds ++ option_to_list next)
+  module _ (firsts seconds newly : List Feature) (waiting : Option Feature) (to_b : V) (fault : Told)
+      (grown : Output) where
+    -- the lines couldn't all be written
+    pub record FailsToWrite : Type 0 where
       pub cuts : AtEach order old firsts seconds
-          (λ shape rule limit stage. FailsToAdd through
-          (lines_for shape rule last (stage.taken ++ seconds)) fault grown)
+          (λ shape rule limit stage. FailsToAdd out
+          (intersect shape rule newly (stage.taken ++ seconds)) fault grown)
 
-    -- the next record of the second input shares a base with the last one, and can't be held
+    -- they were written; the next record of the second input shares a base with the one that waits, and
+    -- can't be held
     pub record FailsToTake : Type 0 where
+      pub last : Feature
+      pub waits : waiting ≡ Some last
       pub b : Feature
       pub after : V
       pub gives : b_gives to_b (b ∷ []) after
       pub chrom : b.chrom ≡ last.chrom
       pub starts : b.start < last.stop
       pub ends : last.start < b.stop
-      pub same_output : grown ≡ through
+      pub puts : PutsEach order old firsts seconds newly out grown
       pub lacks : AtEach order old firsts seconds
           (λ shape rule limit stage. CannotBeHeld limit last (stage.taken ++ seconds) (b_line after) fault)
 
-    -- the last one waits, and can't be kept
+    -- they were written; neither input has ended, none waited before, all records of the second input that
+    -- there are were taken, and the one of the first that waits can't be kept
     pub record FailsToKeep : Type 0 where
+      pub last : Feature
+      pub waits : waiting ≡ Some last
       pub is : fault ≡ no_memory
-      pub same_output : grown ≡ through
+      pub none : old.current ≡ None
+      pub both : old.phase ≡ Both
+      pub ended : b_ended to_b
+      pub puts : PutsEach order old firsts seconds newly out grown
 
-  -- it failed at the last one of the first input
+  -- it failed once the lines of these records of the first input were settled
   pub record FailsAt (fault : Told) (to_a : U) (to_b : V) (grown : Output) : Type 0 where
     pub firsts : List Feature
     pub seconds : List Feature
     pub newly : List Feature
-    pub last : Feature
+    pub waiting : Option Feature
     pub gives_firsts : a_gives from_a firsts to_a
     pub gives_seconds : b_gives from_b seconds to_b
-    pub are : option_to_list old.current ++ firsts ≡ newly ++ last ∷ []
+    pub are : option_to_list old.current ++ firsts ≡ newly ++ option_to_list waiting
     pub next : Option Feature
     pub comes : ComesNext b_gives to_b next
     pub settles : Settles order old.phase newly (seconds ++ option_to_list next)
@@ -125,11 +133,9 @@ module _ {U V : Type 0} (a_gives : U → List Feature → U → Type 0) (a_ended
     pub each : AtEach order old firsts seconds
         (λ shape rule limit stage. TakenEach order limit (option_to_list old.current ++ firsts)
         stage.taken seconds)
-    pub through : Output
-    pub puts : PutsEach order old firsts seconds newly out through
-    pub cause : FailsToWrite firsts seconds newly last to_b through fault grown next
-        ⊎ (FailsToTake firsts seconds newly last to_b through fault grown
-        ⊎ FailsToKeep firsts seconds newly last to_b through fault grown)
+    pub cause : FailsToWrite firsts seconds newly waiting to_b fault grown
+        ⊎ (FailsToTake firsts seconds newly waiting to_b fault grown
+        ⊎ FailsToKeep firsts seconds newly waiting to_b fault grown)
 
   -- what the answer says
   abbrev pub Advances : {T : Type 0} → Result T Fault → Sweeping → U → V → Output → Type 0
@@ -145,6 +151,12 @@ module _ {U V : Type 0} (a_gives : U → List Feature → U → Type 0) (a_ended
   AdvancesOn (Ok done) new to_a to_b grown =
       AdvancesSo new to_a to_b grown × (StopsFor (want_in new) to_a to_b ⊎ HasWritten new)
   AdvancesOn (Err fault) new to_a to_b grown = FailsAt (told fault) to_a to_b grown
+
+-- a sweep that wants nothing takes nothing, and writes nothing
+abbrev pub IsIdle : {T U V : Type 0} → Sweeping → U → V → Output → Result T Fault → Sweeping → U → V → Output
+    → Type 0
+IsIdle old from_a from_b out result new to_a to_b grown =
+    IsOk result × (new ≡ old) × (to_a ≡ from_a) × (to_b ≡ from_b) × (grown ≡ out)
 
 -- no record of the first input was given
 abbrev pub NoneGiven : Unit {0} → List Feature → Unit {0} → Type 0

@@ -16,7 +16,7 @@ use Rattle.bt_bed.specs.Locus.{ArePlaced}
 use Rattle.bt_bed.specs.Order.{Order, IsTotal}
 use Rattle.bt_sweep.specs.Deciding.{decided, decides}
 use Rattle.bt_sweep.specs.Held.{CanHit}
-use Rattle.bt_sweep.specs.IntersectLines.{intersect, lines_for}
+use Rattle.bt_sweep.specs.IntersectLines.{intersect}
 use Rattle.bt_sweep.specs.Standing.{HoldsFor, held_for, is_held}
 use Rattle.bt_sweep.specs.Steps.{has_room}
 use Rattle.bt_sweep.specs.SweepState.{Sweeping}
@@ -31,6 +31,17 @@ pub record Keeps (order : Order) (shape : Shape) (rule : HitRule) (limit : Optio
   pub limit_is : sweep.limit ≡ limit
   pub holds : HoldsFor order as_given taken sweep.held
   pub within : IfSome limit (λ most. length sweep.held ≤ most)
+
+-- these lines were put after those that were pending, but not the ones that are left pending
+pub record GrownWith (pending : List ℕ) (out : Output) (lines left : List ℕ) (grown : Output) : Type 0 where
+  pub bytes : List ℕ
+  pub parts : pending ++ lines ≡ bytes ++ left
+  pub puts : Grown out bytes grown
+
+-- what putting them does, where none of them could be left out
+abbrev pub AddsWith : {T : Type 0} → List ℕ → Output → List ℕ → Result T Fault → List ℕ → Output → Type 0
+AddsWith pending out lines (Ok done) left grown = GrownWith pending out lines left grown
+AddsWith pending out lines (Err fault) left grown = FailsToAdd out (pending ++ lines) (told fault) grown
 
 -- In such orders, wherever it stands with `first` given last: once these are given and taken.
 abbrev pub BehindFor : (Order → Type 0) → Feature → List Feature → List Feature → Sweeping
@@ -49,19 +60,19 @@ GoesToFor For first firsts seconds old new =
     BehindFor For first firsts seconds old
     (λ order shape rule limit as_given taken. Keeps order shape rule limit as_given taken new)
 
--- the lines of these were written
+-- the lines of these were written after those that were pending, but for the ones that are left pending
 abbrev pub WritesFor : (Order → Type 0) → Feature → List Feature → List Feature → Sweeping
-    → List Feature → Output → Output → Type 0
-WritesFor For first firsts seconds old newly out grown =
+    → List Feature → List ℕ → Output → List ℕ → Output → Type 0
+WritesFor For first firsts seconds old newly pending out left grown =
     BehindFor For first firsts seconds old
-    (λ order shape rule limit as_given taken. Grown out (intersect shape rule newly taken) grown)
+    (λ order shape rule limit as_given taken. GrownWith pending out (intersect shape rule newly taken) left grown)
 
--- the lines of the last one couldn't be
-abbrev pub CutsFor : (Order → Type 0) → Feature → List Feature → List Feature → Sweeping → Feature
-    → Output → Told → Output → Type 0
-CutsFor For first firsts seconds old last out fault grown =
+-- they couldn't all be
+abbrev pub CutsFor : (Order → Type 0) → Feature → List Feature → List Feature → Sweeping → List Feature
+    → List ℕ → Output → Told → Output → Type 0
+CutsFor For first firsts seconds old newly pending out fault grown =
     BehindFor For first firsts seconds old
-    (λ order shape rule limit as_given taken. FailsToAdd out (lines_for shape rule last taken) fault grown)
+    (λ order shape rule limit as_given taken. FailsToAdd out (pending ++ intersect shape rule newly taken) fault grown)
 
 -- the same in every order
 abbrev pub Behind : Feature → List Feature → List Feature → Sweeping
@@ -71,12 +82,12 @@ Behind = BehindFor IsTotal
 abbrev pub GoesTo : Feature → List Feature → List Feature → Sweeping → Sweeping → Type 0
 GoesTo = GoesToFor IsTotal
 
-abbrev pub Writes : Feature → List Feature → List Feature → Sweeping → List Feature → Output → Output
-    → Type 0
+abbrev pub Writes : Feature → List Feature → List Feature → Sweeping → List Feature → List ℕ → Output
+    → List ℕ → Output → Type 0
 Writes = WritesFor IsTotal
 
-abbrev pub Cuts : Feature → List Feature → List Feature → Sweeping → Feature → Output → Told → Output
-    → Type 0
+abbrev pub Cuts : Feature → List Feature → List Feature → Sweeping → List Feature → List ℕ → Output → Told
+    → Output → Type 0
 Cuts = CutsFor IsTotal
 
 -- the records of the second input decide each
@@ -126,10 +137,10 @@ WaitsOn name held waiting = IfSome waiting (λ a. (a.chrom ≡ name) × All (Can
 
 -- records of the first input alone, from `first` on
 module _ {A : Type 0} (gives : A → List Feature → A → Type 0) (has_ended : A → Type 0) (place : ℕ)
-    (old : Sweeping) (first : Feature) (from : A) (out : Output) where
-  -- their lines were written, but for the last one, where that waits
-  pub record WritesSo (waiting : Option Feature) (new : Sweeping) (to : A) (grown : Output)
-      : Type 0 where
+    (old : Sweeping) (first : Feature) (from : A) (pending : List ℕ) (out : Output) where
+  -- their lines were written or are left pending, but for the last one, where that waits
+  pub record WritesSo (waiting : Option Feature) (new : Sweeping) (to : A) (left : List ℕ)
+      (grown : Output) : Type 0 where
     pub firsts : List Feature
     pub newly : List Feature
     pub given : gives from firsts to
@@ -137,32 +148,31 @@ module _ {A : Type 0} (gives : A → List Feature → A → Type 0) (has_ended :
     pub end : EndUpTo first.chrom place newly
     pub waits : WaitsOn first.chrom new.held waiting
     pub goes : GoesTo first firsts [] old new
-    pub writes : Writes first firsts [] old newly out grown
+    pub writes : Writes first firsts [] old newly pending out left grown
 
   -- one waits that ends behind the place, or there is none
   abbrev pub StopsBehind : Option Feature → A → Type 0
   StopsBehind None to = has_ended to
   StopsBehind (Some a) to = (place < a.stop) × (a.stop ≤ max_number)
 
-  -- those of the last one couldn't be written
+  -- they couldn't all be written
   pub record CutsOff (fault : Told) (to : A) (grown : Output) : Type 0 where
     pub firsts : List Feature
     pub newly : List Feature
-    pub last : Feature
+    pub waiting : Option Feature
     pub given : gives from firsts to
-    pub are : first ∷ firsts ≡ newly ++ last ∷ []
-    pub end : EndUpTo first.chrom place (newly ++ last ∷ [])
-    pub through : Output
-    pub writes : Writes first firsts [] old newly out through
-    pub cuts : Cuts first firsts [] old last through fault grown
+    pub are : first ∷ firsts ≡ newly ++ option_to_list waiting
+    pub end : EndUpTo first.chrom place newly
+    pub cuts : Cuts first firsts [] old newly pending out fault grown
 
 abbrev pub WritesUpTo : {A R : Type 0} → (A → List Feature → A → Type 0) → (A → Type 0) → (R → Feature) → ℕ
-    → Sweeping → Feature → A → Output → Result (Option R) Fault → Sweeping → A → Output → Type 0
-WritesUpTo gives has_ended feature place old first from out (Ok waiting) new to grown =
-    WritesSo gives has_ended place old first from out (option_map feature waiting) new to grown
-    × StopsBehind gives has_ended place old first from out (option_map feature waiting) to
-WritesUpTo gives has_ended feature place old first from out (Err fault) new to grown =
-    CutsOff gives has_ended place old first from out (told fault) to grown
+    → Sweeping → Feature → A → List ℕ → Output → Result (Option R) Fault → Sweeping → A → List ℕ → Output
+    → Type 0
+WritesUpTo gives has_ended feature place old first from pending out (Ok waiting) new to left grown =
+    WritesSo gives has_ended place old first from pending out (option_map feature waiting) new to left grown
+    × StopsBehind gives has_ended place old first from pending out (option_map feature waiting) to
+WritesUpTo gives has_ended feature place old first from pending out (Err fault) new to left grown =
+    CutsOff gives has_ended place old first from pending out (told fault) to grown
 
 -- all records that there were are given
 pub record SkipsAll {B : Type 0} (gives : B → List Feature → B → Type 0) (has_ended : B → Type 0)
@@ -187,9 +197,9 @@ ComesNext {B} gives to next = IfSome next (λ b. (after : B) × gives to (b ∷ 
 module _ {A B : Type 0} (a_gives : A → List Feature → A → Type 0) (a_ended : A → Type 0)
     (b_gives : B → List Feature → B → Type 0) (b_ended : B → Type 0) (b_line : B → ℕ)
     (For : Order → Type 0) (Settles : List Feature → List Feature → Type 0)
-    (old : Sweeping) (first : Feature) (from_a : A) (from_b : B) (out : Output) where
-  -- the lines of those of the first were written, but for the last one, where that waits
-  pub record JoinsSo (waiting : Option Feature) (new : Sweeping) (to_a : A) (to_b : B)
+    (old : Sweeping) (first : Feature) (from_a : A) (from_b : B) (pending : List ℕ) (out : Output) where
+  -- the lines of those of the first were written or are left pending, but for the last one, where that waits
+  pub record JoinsSo (waiting : Option Feature) (new : Sweeping) (to_a : A) (to_b : B) (left : List ℕ)
       (grown : Output) : Type 0 where
     pub firsts : List Feature
     pub seconds : List Feature
@@ -203,67 +213,66 @@ module _ {A B : Type 0} (a_gives : A → List Feature → A → Type 0) (a_ended
     pub settles : Settles newly (seconds ++ option_to_list next)
     pub each : TakesEachFor For first firsts seconds old
     pub goes : GoesToFor For first firsts seconds old new
-    pub writes : WritesFor For first firsts seconds old newly out grown
+    pub writes : WritesFor For first firsts seconds old newly pending out left grown
 
   -- one waits and there is none of the second input, or there is none of the first
   abbrev pub StopsAt : Option Feature → A → B → Type 0
   StopsAt None to_a to_b = a_ended to_a
   StopsAt (Some a) to_a to_b = b_ended to_b
 
-  module _ (firsts seconds newly : List Feature) (last : Feature) (to_b : B) (through : Output)
-      (fault : Told) (grown : Output) where
-    -- the lines of the last one are settled, and couldn't be written
-    pub record CutsLines (next : Option Feature) : Type 0 where
-      pub settled : Settles (newly ++ last ∷ []) (seconds ++ option_to_list next)
-      pub cuts : CutsFor For first firsts seconds old last through fault grown
+  module _ (firsts seconds newly : List Feature) (waiting : Option Feature) (to_b : B) (fault : Told)
+      (left : List ℕ) (grown : Output) where
+    -- the lines couldn't all be written
+    pub record CutsLines : Type 0 where
+      pub cuts : CutsFor For first firsts seconds old newly pending out fault grown
 
-    -- the next record of the second input shares a base with the last one, and can't be held
+    -- the next record of the second input shares a base with the one that waits, and can't be held
     pub record LacksRoom : Type 0 where
+      pub last : Feature
+      pub waits : waiting ≡ Some last
       pub b : Feature
       pub after : B
       pub gives : b_gives to_b (b ∷ []) after
       pub chrom : b.chrom ≡ last.chrom
       pub starts : b.start < last.stop
       pub ends : last.start < b.stop
-      pub same_output : grown ≡ through
+      pub writes : WritesFor For first firsts seconds old newly pending out left grown
       pub lacks : BehindFor For first firsts seconds old
           (λ order shape rule limit as_given taken. CannotBeHeld limit last taken (b_line after) fault)
 
-  -- it failed at the last one
-  pub record Breaks (fault : Told) (to_a : A) (to_b : B) (grown : Output) : Type 0 where
+  -- it failed once these lines of the first were settled
+  pub record Breaks (fault : Told) (to_a : A) (to_b : B) (left : List ℕ) (grown : Output) : Type 0 where
     pub firsts : List Feature
     pub seconds : List Feature
     pub newly : List Feature
-    pub last : Feature
+    pub waiting : Option Feature
     pub gives_firsts : a_gives from_a firsts to_a
     pub gives_seconds : b_gives from_b seconds to_b
-    pub are : first ∷ firsts ≡ newly ++ last ∷ []
+    pub are : first ∷ firsts ≡ newly ++ option_to_list waiting
     pub next : Option Feature
     pub comes : ComesNext b_gives to_b next
     pub settles : Settles newly (seconds ++ option_to_list next)
     pub each : TakesEachFor For first firsts seconds old
-    pub through : Output
-    pub writes : WritesFor For first firsts seconds old newly out through
-    pub cause : CutsLines firsts seconds newly last to_b through fault grown next
-        ⊎ LacksRoom firsts seconds newly last to_b through fault grown
+    pub cause : CutsLines firsts seconds newly waiting to_b fault left grown
+        ⊎ LacksRoom firsts seconds newly waiting to_b fault left grown
 
 abbrev pub Joins : {A B R : Type 0} → (A → List Feature → A → Type 0) → (A → Type 0)
     → (B → List Feature → B → Type 0) → (B → Type 0) → (B → ℕ) → (Order → Type 0)
     → (List Feature → List Feature → Type 0)
     → (List Feature → Feature → Type 0)
-    → (R → Feature) → Sweeping → Feature → A → B → Output → Result (Option R) Fault → Sweeping → A → B
-    → Output → Type 0
-Joins a_gives a_ended b_gives b_ended b_line For Settles Leaves feature old first from_a from_b out (Ok waiting) new
-    to_a to_b grown =
-    (j : JoinsSo a_gives a_ended b_gives b_ended b_line For Settles old first from_a from_b out
-    (option_map feature waiting) new to_a to_b grown)
-    × StopsAt a_gives a_ended b_gives b_ended b_line For Settles old first from_a from_b out
+    → (R → Feature) → Sweeping → Feature → A → B → List ℕ → Output → Result (Option R) Fault → Sweeping → A → B
+    → List ℕ → Output → Type 0
+Joins a_gives a_ended b_gives b_ended b_line For Settles Leaves feature old first from_a from_b pending out
+    (Ok waiting) new to_a to_b left grown =
+    (j : JoinsSo a_gives a_ended b_gives b_ended b_line For Settles old first from_a from_b pending out
+    (option_map feature waiting) new to_a to_b left grown)
+    × StopsAt a_gives a_ended b_gives b_ended b_line For Settles old first from_a from_b pending out
     (option_map feature waiting) to_a to_b
     × IfSome (option_map feature waiting) (Leaves j.seconds)
-Joins a_gives a_ended b_gives b_ended b_line For Settles Leaves feature old first from_a from_b out (Err fault) new
-    to_a to_b grown =
-    Breaks a_gives a_ended b_gives b_ended b_line For Settles old first from_a from_b out (told fault)
-    to_a to_b grown
+Joins a_gives a_ended b_gives b_ended b_line For Settles Leaves feature old first from_a from_b pending out
+    (Err fault) new to_a to_b left grown =
+    Breaks a_gives a_ended b_gives b_ended b_line For Settles old first from_a from_b pending out (told fault)
+    to_a to_b left grown
 
 -- the record of the second input that was taken last leaves it undecided
 abbrev pub LeavesLast : Order → List Feature → Feature → Type 0

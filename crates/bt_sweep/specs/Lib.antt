@@ -11,6 +11,7 @@ pub mod Standing
 pub mod Walking
 pub mod Steps
 pub mod StateSteps
+pub mod Pending
 pub mod Joining
 pub mod Relating
 pub mod Reaching

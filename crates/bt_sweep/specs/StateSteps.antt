@@ -1,5 +1,5 @@
 -- What the steps of a sweep do to what it keeps. Callers know them by `Steps` and `Advancing`.
-use Rattle.std.specs.Prelude.{◌≡◌, ◌⊎◌, ℕ, Bool, true, false, cond, List, [], ◌∷◌, ◌++◌}
+use Rattle.std.specs.Prelude.{◌≡◌, ◌⊎◌, ◌<◌, ℕ, Bool, true, false, cond, decimal, List, [], ◌∷◌, ◌++◌}
 use Rattle.std.specs.Prelude.{Some, Result, Ok, Err, filter, length, nat_lt, bytes_eq}
 use Rattle.bt_lines.specs.Fault.{no_memory}
 use Rattle.bt_lines.specs.Names.{told}
@@ -8,12 +8,15 @@ use Rattle.bt_lines.specs.declared.fault.Input.TheVariants.{Second}
 use Rattle.bt_lines.specs.declared.fault.Kind.TheVariants.{TooManyHeld}
 use Rattle.bt_bed.specs.Feature.{Feature}
 use Rattle.bt_bed.specs.LineKind.{fault_at_line}
-use Rattle.bt_sweep.specs.IntersectLines.{lines_of}
+use Rattle.bt_bed.specs.Record.{bed_text}
+use Rattle.bt_sweep.specs.IntersectLines.{line_with, lines_of}
 use Rattle.bt_sweep.specs.Standing.{is_held}
 use Rattle.bt_sweep.specs.Steps.{has_room}
 use Rattle.bt_sweep.specs.SweepState.{Sweeping}
 use Rattle.bt_sweep.specs.declared.phase.Phase.TheVariants.{Over}
 use Rattle.bt_sweep.specs.declared.shape.Shape.{Shape}
+use Rattle.bt_sweep.specs.declared.unmatched.Unmatched.{Unmatched}
+use Rattle.bt_sweep.specs.declared.unmatched.Unmatched.TheVariants.{Nothing, Itself, Counted}
 
 -- whether the records lie on the chromosome, if there are any
 abbrev pub are_on : List Feature → List ℕ → Bool
@@ -27,6 +30,12 @@ held_with held a = cond (are_on held a.chrom) (filter (λ b. nat_lt a.start b.st
 -- a record that nothing hits has no line in this shape
 abbrev pub NeedsHit : Shape → Type 0
 NeedsHit shape = (a : Feature) → lines_of shape a [] ≡ []
+
+-- what is written in this shape of a record that nothing hits
+abbrev pub IsUnmatched : Unmatched → Shape → Type 0
+IsUnmatched Nothing shape = NeedsHit shape
+IsUnmatched Itself shape = (a : Feature) → a.start < a.stop → lines_of shape a [] ≡ line_with (bed_text a ∷ [])
+IsUnmatched Counted shape = (a : Feature) → lines_of shape a [] ≡ line_with (bed_text a ∷ decimal 0 ∷ [])
 
 -- the sweep with b held, if a or a later record can be hit by it
 abbrev pub holding : Sweeping → Feature → Feature → Sweeping

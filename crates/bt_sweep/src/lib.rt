@@ -44,6 +44,7 @@ mod held_tests;
 mod hit;
 mod hit_rule;
 pub mod laws;
+mod pending;
 mod phase;
 mod pieces;
 mod plain;
@@ -54,6 +55,7 @@ mod shape;
 mod started;
 mod state;
 mod sweep;
+mod unmatched;
 mod want;
 #[cfg(test)]
 mod worked;

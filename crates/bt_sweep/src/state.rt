@@ -1,25 +1,28 @@
 //! What a sweep keeps, and its steps.
 
-ghost use Rattle.std.specs.Prelude.{◌≡◌, ◌∷◌, ◌++◌, ◌<◌, [], All, IfErr, IfSome, IsTrue, None, Some, filter, is_some, nat_lt, true, OnOk, OnErr};
+ghost use Rattle.std.specs.Prelude.{◌≡◌, ◌∷◌, ◌++◌, ◌<◌, [], All, IfErr, IfOk, IfSome, IsTrue, None, Some, false, filter, is_some, nat_lt, true, OnOk, OnErr};
 ghost use Rattle.bt_lines.specs.Names.{told};
+ghost use Rattle.bt_lines.specs.Number.{max_number};
 ghost use Rattle.bt_lines.specs.Putting.{Adds};
 ghost use Rattle.bt_bed.specs.LineKind.{fault_at_line};
 ghost use Rattle.bt_bed.specs.Order.{IsTotal};
 ghost use Rattle.bt_sweep.specs.Held.{AreReady, AreRising, CanHit, CanHitAt};
 ghost use Rattle.bt_sweep.specs.IntersectLines.{lines_for};
-ghost use Rattle.bt_sweep.specs.Joining.{AreDecidedOn, Joins, LeavesOn, SkipsAll, WritesUpTo};
+ghost use Rattle.bt_sweep.specs.Joining.{AddsWith, AreDecidedOn, Joins, LeavesOn, SkipsAll, WritesUpTo};
+ghost use Rattle.bt_sweep.specs.Pending.{IsQuiet, PutsOr, line_in, pending_in};
 ghost use Rattle.bt_sweep.specs.StateSteps.{CannotHold, KeepsOne, Takes, are_on, has_room_in, held_with, stopped};
 ghost use Rattle.bt_sweep.specs.SweepState.{want_in};
 
 use crate::held::Held;
 use crate::hit_rule::HitRule;
+use crate::pending::{Pending, put_copied};
 use crate::phase::Phase;
 use crate::shape::Shape;
+use crate::unmatched::{Unmatched, unmatched_in};
 use crate::want::Want;
-use crate::writing::{needs_hit, put_lines};
-use crate::written::Written;
+use crate::writing::put_against;
 use bt_bed::{Cursor, Rec, Record, at_line, is_same_name};
-use bt_lines::{Fault, Input, Kind, Out, Place, Sink, no_memory};
+use bt_lines::{Fault, Input, Kind, MAX_NUMBER, Out, Place, Sink, no_memory, write_failed};
 use std::alloc::{AllocError, Global};
 use std::marker::Model;
 
@@ -193,16 +196,14 @@ impl<H: Held> State<H> {
     // Writes the lines of a record against what is held.
     #[inline(always)]
     pub(crate) fn put<R: Record, K: Sink>(&mut self, a: &R, out: &mut Out<K>) -> Result<(), Fault>
-        requires { All (CanHit (R.feature a.now)) self.old.held }
+        requires filled { (R.feature a.now).start < (R.feature a.now).stop }
+        requires hits { All (CanHit (R.feature a.now)) self.old.held }
         ensures same { OnOk result (self.new ≡ self.old) }
         ensures stops { OnErr result (self.new ≡ stopped self.old) }
         ensures puts { AreRising self.old.held
             → Adds out.old.output (lines_for self.old.shape self.old.rule (R.feature a.now) self.old.held) result out.new.output }
     {
-        if needs_hit(self.shape) && self.held.len() == 0 {
-            return Ok(());
-        }
-        let put = put_lines(self.shape, self.rule, &Written::of(a), &self.held, out);
+        let put = put_against(self.shape, self.rule, a, &self.held, out);
         if put.is_err() {
             self.phase = Phase::Over;
         }
@@ -227,30 +228,33 @@ impl<H: Held> State<H> {
         if b.stop() <= a.start() {
             return Ok(());
         }
-        self.hold(a.start(), b, line)
+        let given = *b;
+        if self.hold(a.start(), &given) {
+            return Ok(());
+        }
+        if self.has_room() {
+            return Err(no_memory());
+        }
+        Err(too_many_held(line))
     }
 
-    // Holds it: it ends behind where that one starts.
+    // Holds it, as it ends after that one's start. It returns false if there is no room for it, or memory runs out.
     #[inline(never)]
-    fn hold<B: Record>(&mut self, start: u64, b: &B, line: u64) -> Result<(), Fault>
+    fn hold<B: Record>(&mut self, start: u64, b: &B) -> bool
         requires none { self.old.current ≡ None }
         requires ends { start < (B.feature b.now).stop }
         requires filled { (B.feature b.now).start < (B.feature b.now).stop }
         requires hits { All (CanHitAt (B.feature b.now).chrom start) self.old.held }
-        ensures held { OnOk result ((self.new ≡ record self.old { held = self.old.held ++ B.feature b.now ∷ [] })
-            × (has_room_in self.old ≡ true)) }
-        ensures lacks { IfErr result (λ fault. (self.new ≡ stopped self.old) × CannotHold self.old line fault) }
-        ensures hits { OnOk result (All (CanHitAt (B.feature b.now).chrom start) self.new.held) }
+        ensures held { result ≡ true → (self.new ≡ record self.old { held = self.old.held ++ B.feature b.now ∷ [] })
+            × (has_room_in self.old ≡ true) }
+        ensures lacks { result ≡ false → self.new ≡ stopped self.old }
+        ensures hits { result ≡ true → All (CanHitAt (B.feature b.now).chrom start) self.new.held }
     {
-        if !self.has_room() {
+        if !self.has_room() || hold_copy(self.alloc, &mut self.held, b).is_err() {
             self.phase = Phase::Over;
-            return Err(too_many_held(line));
+            return false;
         }
-        if hold_copy(self.alloc, &mut self.held, b).is_err() {
-            self.phase = Phase::Over;
-            return Err(no_memory());
-        }
-        Ok(())
+        true
     }
 
     // Whether one more record may be held.
@@ -263,29 +267,108 @@ impl<H: Held> State<H> {
         }
     }
 
-    // Writes records of the first input, from this one on, as long as they end at the place or before it. It returns the
-    // first one that doesn't, if there is one.
+    // Puts the lines of a record after those that are pending. Where the line of one that nothing hits is what is written, it
+    // is left pending too.
     #[inline(always)]
-    pub(crate) fn write_up_to<A: Cursor, K: Sink>(
+    fn write<A: Cursor, K: Sink>(
+        &mut self,
+        a: &A::Record,
+        firsts: &mut Pending<A>,
+        out: &mut Out<K>,
+    ) -> Result<(), Fault>
+        requires filled { (A.Record.feature a.now).start < (A.Record.feature a.now).stop }
+        requires hits { All (CanHit (A.Record.feature a.now)) self.old.held }
+        requires line { line_in (A.consumed firsts.old.cursor) firsts.old.to ≡ A.Record.raw a.now }
+        requires quiet { IsQuiet self.old.shape (pending_in (A.consumed firsts.old.cursor) firsts.old.from firsts.old.to) }
+        ensures same { OnOk result (self.new ≡ self.old) }
+        ensures stops { OnErr result (self.new ≡ stopped self.old) }
+        ensures cursor { firsts.new.cursor ≡ firsts.old.cursor }
+        ensures line { OnOk result (line_in (A.consumed firsts.new.cursor) firsts.new.to ≡ []) }
+        ensures quiet { OnOk result (IsQuiet self.old.shape (pending_in (A.consumed firsts.new.cursor) firsts.new.from firsts.new.to)) }
+        ensures puts { AreRising self.old.held
+            → AddsWith (pending_in (A.consumed firsts.old.cursor) firsts.old.from firsts.old.to) out.old.output
+            (lines_for self.old.shape self.old.rule (A.Record.feature a.now) self.old.held) result
+            (pending_in (A.consumed firsts.new.cursor) firsts.new.from firsts.new.to) out.new.output }
+    {
+        if self.held.len() == 0 {
+            match unmatched_in(self.shape) {
+                Unmatched::Nothing => {
+                    firsts.clear();
+                    return Ok(());
+                }
+                Unmatched::Itself => {
+                    if a.is_canonical() {
+                        firsts.add_line();
+                        return Ok(());
+                    }
+                }
+                Unmatched::Counted => {}
+            }
+        }
+        let given = *a;
+        if !self.put_after(firsts.lines(), &given, out) {
+            return Err(write_failed());
+        }
+        firsts.clear();
+        Ok(())
+    }
+
+    // Puts lines, and then those of a record, and returns true if it could. It is out of line, so that the loops over the
+    // records stay small.
+    #[inline(never)]
+    fn put_after<R: Record, K: Sink>(&mut self, lines: &[u8], a: &R, out: &mut Out<K>) -> bool
+        requires filled { (R.feature a.now).start < (R.feature a.now).stop }
+        requires hits { All (CanHit (R.feature a.now)) self.old.held }
+        ensures same { result ≡ true → self.new ≡ self.old }
+        ensures stops { result ≡ false → self.new ≡ stopped self.old }
+        ensures puts { AreRising self.old.held → PutsOr result out.old.output
+            (lines.now ++ lines_for self.old.shape self.old.rule (R.feature a.now) self.old.held) out.new.output }
+    {
+        self.put_pending(lines, out).is_ok() && self.put(a, out).is_ok()
+    }
+
+    // Puts lines, of which there may be none.
+    #[inline(always)]
+    fn put_pending<K: Sink>(&mut self, lines: &[u8], out: &mut Out<K>) -> Result<(), Fault>
+        ensures same { OnOk result (self.new ≡ self.old) }
+        ensures stops { OnErr result (self.new ≡ stopped self.old) }
+        ensures puts { Adds out.old.output lines.now result out.new.output }
+    {
+        let put = put_copied(lines, out);
+        if put.is_err() {
+            self.phase = Phase::Over;
+        }
+        put
+    }
+
+    // Writes records of the first input, from this one on, as long as they end at the place or before it. It returns the
+    // first one that doesn't, if there is one. Lines may be left pending.
+    #[inline(always)]
+    fn write_up_to<A: Cursor, K: Sink>(
         &mut self,
         place: u64,
         first: A::Record,
-        firsts: &mut A,
+        firsts: &mut Pending<A>,
         out: &mut Out<K>,
     ) -> Result<Option<A::Record>, Fault>
         requires none { self.old.current ≡ None }
         requires hits { All (CanHit (A.Record.feature first)) self.old.held }
-        requires on { A.name firsts.old ≡ (A.Record.feature first).chrom }
-        ensures writes { WritesUpTo A.gives A.has_ended A.Record.feature place self.old (A.Record.feature first) firsts.old
-            out.old.output result self.new firsts.new out.new.output }
-        ensures on { A.name firsts.new ≡ A.name firsts.old }
+        requires on { A.name firsts.old.cursor ≡ (A.Record.feature first).chrom }
+        requires line { line_in (A.consumed firsts.old.cursor) firsts.old.to ≡ A.Record.raw first }
+        requires quiet { IsQuiet self.old.shape (pending_in (A.consumed firsts.old.cursor) firsts.old.from firsts.old.to) }
+        ensures writes { WritesUpTo A.gives A.has_ended A.Record.feature place self.old (A.Record.feature first) firsts.old.cursor
+            (pending_in (A.consumed firsts.old.cursor) firsts.old.from firsts.old.to) out.old.output result self.new firsts.new.cursor
+            (pending_in (A.consumed firsts.new.cursor) firsts.new.from firsts.new.to) out.new.output }
+        ensures on { A.name firsts.new.cursor ≡ A.name firsts.old.cursor }
+        ensures line { IfOk result (λ waiting. IfSome waiting (λ a. line_in (A.consumed firsts.new.cursor) firsts.new.to ≡ A.Record.raw a)) }
+        ensures quiet { OnOk result (IsQuiet self.new.shape (pending_in (A.consumed firsts.new.cursor) firsts.new.from firsts.new.to)) }
         ensures none { self.new.current ≡ None }
         ensures phase { OnOk result (self.new.phase ≡ self.old.phase) }
         ensures stops { OnErr result (self.new.phase ≡ Phase.Over) }
     {
         let mut current = first;
         while current.stop() <= place {
-            self.put(&current, out)?;
+            self.write(&current, firsts, out)?;
             let Some(next) = firsts.next() else {
                 return Ok(None);
             };
@@ -295,23 +378,79 @@ impl<H: Held> State<H> {
         Ok(Some(current))
     }
 
+    // Writes all records of the first input, from this one on.
+    #[inline(never)]
+    pub(crate) fn write_all<A: Cursor, K: Sink>(
+        &mut self,
+        first: A::Record,
+        firsts: &mut Pending<A>,
+        out: &mut Out<K>,
+    ) -> Result<Option<A::Record>, Fault>
+        requires none { self.old.current ≡ None }
+        requires hits { All (CanHit (A.Record.feature first)) self.old.held }
+        requires on { A.name firsts.old.cursor ≡ (A.Record.feature first).chrom }
+        requires line { line_in (A.consumed firsts.old.cursor) firsts.old.to ≡ A.Record.raw first }
+        requires pending { pending_in (A.consumed firsts.old.cursor) firsts.old.from firsts.old.to ≡ [] }
+        ensures writes { WritesUpTo A.gives A.has_ended A.Record.feature max_number self.old (A.Record.feature first) firsts.old.cursor
+            [] out.old.output result self.new firsts.new.cursor [] out.new.output }
+        ensures none { self.new.current ≡ None }
+        ensures phase { OnOk result (self.new.phase ≡ self.old.phase) }
+        ensures stops { OnErr result (self.new.phase ≡ Phase.Over) }
+    {
+        let written = self.write_up_to(MAX_NUMBER, first, firsts, out)?;
+        self.put_pending(firsts.lines(), out)?;
+        Ok(written)
+    }
+
     // Joins records of both inputs on one chromosome, from this one of the first on. Where all that there are of the
     // second are taken, it returns the record that they leave undecided, and none where one of them decides all of the first.
     #[inline(never)]
     pub(crate) fn join<A: Cursor, B: Cursor, K: Sink>(
         &mut self,
         first: A::Record,
-        firsts: &mut A,
+        firsts: &mut Pending<A>,
         seconds: &mut B,
         out: &mut Out<K>,
     ) -> Result<Option<A::Record>, Fault>
         requires none { self.old.current ≡ None }
         requires hits { All (CanHit (A.Record.feature first)) self.old.held }
-        requires on { A.name firsts.old ≡ (A.Record.feature first).chrom }
+        requires on { A.name firsts.old.cursor ≡ (A.Record.feature first).chrom }
         requires beside { B.name seconds.old ≡ (A.Record.feature first).chrom }
+        requires line { line_in (A.consumed firsts.old.cursor) firsts.old.to ≡ A.Record.raw first }
+        requires pending { pending_in (A.consumed firsts.old.cursor) firsts.old.from firsts.old.to ≡ [] }
         ensures joins { Joins A.gives A.has_ended B.gives B.has_ended B.line IsTotal (AreDecidedOn (A.Record.feature first).chrom) LeavesOn
-            A.Record.feature self.old (A.Record.feature first) firsts.old seconds.old out.old.output result self.new
-            firsts.new seconds.new out.new.output }
+            A.Record.feature self.old (A.Record.feature first) firsts.old.cursor seconds.old [] out.old.output result self.new
+            firsts.new.cursor seconds.new [] out.new.output }
+        ensures none { self.new.current ≡ None }
+        ensures phase { OnOk result (self.new.phase ≡ self.old.phase) }
+        ensures stops { OnErr result (self.new.phase ≡ Phase.Over) }
+    {
+        let mut ahead = *seconds;
+        let joined = self.join_pending(first, firsts, &mut ahead, out);
+        *seconds = ahead;
+        self.put_pending(firsts.lines(), out)?;
+        joined
+    }
+
+    // The same, but lines may be left pending.
+    #[inline(always)]
+    fn join_pending<A: Cursor, B: Cursor, K: Sink>(
+        &mut self,
+        first: A::Record,
+        firsts: &mut Pending<A>,
+        seconds: &mut B,
+        out: &mut Out<K>,
+    ) -> Result<Option<A::Record>, Fault>
+        requires none { self.old.current ≡ None }
+        requires hits { All (CanHit (A.Record.feature first)) self.old.held }
+        requires on { A.name firsts.old.cursor ≡ (A.Record.feature first).chrom }
+        requires beside { B.name seconds.old ≡ (A.Record.feature first).chrom }
+        requires line { line_in (A.consumed firsts.old.cursor) firsts.old.to ≡ A.Record.raw first }
+        requires quiet { IsQuiet self.old.shape (pending_in (A.consumed firsts.old.cursor) firsts.old.from firsts.old.to) }
+        ensures joins { Joins A.gives A.has_ended B.gives B.has_ended B.line IsTotal (AreDecidedOn (A.Record.feature first).chrom) LeavesOn
+            A.Record.feature self.old (A.Record.feature first) firsts.old.cursor seconds.old
+            (pending_in (A.consumed firsts.old.cursor) firsts.old.from firsts.old.to) out.old.output result self.new
+            firsts.new.cursor seconds.new (pending_in (A.consumed firsts.new.cursor) firsts.new.from firsts.new.to) out.new.output }
         ensures none { self.new.current ≡ None }
         ensures phase { OnOk result (self.new.phase ≡ self.old.phase) }
         ensures stops { OnErr result (self.new.phase ≡ Phase.Over) }

@@ -5,6 +5,7 @@ ghost use Rattle.bt_bed.specs.Feature.{Feature};
 
 use crate::held::Held;
 use crate::hit_rule::HitRule;
+use crate::pending::Pending;
 use crate::phase::Phase;
 use crate::reach::{Reach, reach_of};
 use crate::relation::{Relation, relation_of};
@@ -12,7 +13,7 @@ use crate::shape::Shape;
 use crate::state::{State, skip};
 use crate::want::Want;
 use bt_bed::{BedRef, ChromOrder, Cursor, Record, Single, Taken};
-use bt_lines::{Fault, MAX_NUMBER, Out, Sink};
+use bt_lines::{Fault, Out, Sink};
 use std::alloc::Global;
 
 /// Compares two inputs that are sorted in one order of the chromosomes, and writes the lines of each
@@ -39,9 +40,10 @@ impl<'o, H: Held, O: ChromOrder> Sweep<'o, H, O> {
     ghost use Rattle.bt_bed.specs.Order.{Order};
     ghost use Rattle.bt_sweep.specs.Standing.{IsInOrder, Stage, StandsAt, first_stage, given, held_for, last_given, want_at, with_a, with_a_ended};
     ghost use Rattle.bt_sweep.specs.Steps.{EndsB, GivesA, GivesB};
-    ghost use Rattle.bt_sweep.specs.Advancing.{Advances, AdvancesOn, DecidesCurrent, IsThis, Settles};
+    ghost use Rattle.bt_sweep.specs.Advancing.{Advances, AdvancesOn, DecidesCurrent, IsIdle, IsThis, Settles};
     ghost use Rattle.bt_sweep.specs.Held.{CanHit};
     ghost use Rattle.bt_sweep.specs.Joining.{Joins, LeavesLast};
+    ghost use Rattle.bt_sweep.specs.Pending.{line_in, pending_in};
     ghost use Rattle.bt_sweep.specs.Relating.{EndsWhile, GivesKnown};
     ghost use Rattle.bt_sweep.specs.SweepView.{order_of, state_of};
     ghost use Rattle.bt_sweep.specs.SweepState.{want_in};
@@ -98,6 +100,8 @@ impl<'o, H: Held, O: ChromOrder> Sweep<'o, H, O> {
         requires known_b { GivesKnown B.gives (order_of self.old) b.old }
         ensures advances { AdvancesOn A.gives A.has_ended B.gives B.has_ended B.line (order_of self.old) (state_of self.old)
             a.old b.old out.old.output result (state_of self.new) a.new b.new out.new.output }
+        ensures idle { want_in (state_of self.old) ≡ Want.Nothing
+            → IsIdle (state_of self.old) a.old b.old out.old.output result (state_of self.new) a.new b.new out.new.output }
         ensures stops { OnErr result (want_in (state_of self.new) ≡ Want.Nothing) }
         ensures order { order_of self.new ≡ order_of self.old }
     {
@@ -219,7 +223,8 @@ impl<'o, H: Held, O: ChromOrder> Sweep<'o, H, O> {
             return Ok(false);
         };
         let bed = current.as_bed();
-        let Some(_) = self.decide(bed, &mut Single::none(bed.chrom), b, out)? else {
+        let mut none = Pending::new(Single::none(bed.chrom));
+        let Some(_) = self.decide(bed, &mut none, b, out)? else {
             return Ok(false);
         };
         self.state.put_back(current);
@@ -238,17 +243,22 @@ impl<'o, H: Held, O: ChromOrder> Sweep<'o, H, O> {
         requires known_b { GivesKnown B.gives (order_of self.old) b.old }
         ensures advances { Advances A.gives A.has_ended B.gives B.has_ended B.line (order_of self.old) (state_of self.old)
             a.old b.old out.old.output result (state_of self.new) a.new b.new out.new.output }
+        ensures idle { want_in (state_of self.old) ≡ Want.Nothing
+            → IsIdle (state_of self.old) a.old b.old out.old.output result (state_of self.new) a.new b.new out.new.output }
         ensures stops { OnErr result (want_in (state_of self.new) ≡ Want.Nothing) }
         ensures order { order_of self.new ≡ order_of self.old }
     {
         if let Phase::Over = self.state.phase() {
             return Ok(());
         }
-        let Some(first) = a.next() else {
+        let mut firsts = Pending::new(*a);
+        let Some(first) = firsts.next() else {
             return Ok(());
         };
         self.state.enter(&first);
-        let Some(waiting) = self.decide(first, a, b, out)? else {
+        let decided = self.decide(first, &mut firsts, b, out);
+        *a = firsts.cursor;
+        let Some(waiting) = decided? else {
             return Ok(());
         };
         self.state.keep(&waiting)
@@ -259,18 +269,20 @@ impl<'o, H: Held, O: ChromOrder> Sweep<'o, H, O> {
     fn decide<A: Cursor, B: Cursor, K: Sink>(
         &mut self,
         first: A::Record,
-        a: &mut A,
+        a: &mut Pending<A>,
         b: &mut B,
         out: &mut Out<K>,
     ) -> Result<Option<A::Record>, Fault>
         requires none { (state_of self.old).current ≡ None }
         requires hits { All (CanHit (A.Record.feature first)) (state_of self.old).held }
-        requires on { A.name a.old ≡ (A.Record.feature first).chrom }
+        requires on { A.name a.old.cursor ≡ (A.Record.feature first).chrom }
+        requires line { line_in (A.consumed a.old.cursor) a.old.to ≡ A.Record.raw first }
+        requires pending { pending_in (A.consumed a.old.cursor) a.old.from a.old.to ≡ [] }
         requires known { IsTrue ((order_of self.old).knows (A.Record.feature first).chrom) }
         requires known_b { GivesKnown B.gives (order_of self.old) b.old }
         ensures joins { Joins A.gives A.has_ended B.gives (EndsWhile B.has_ended (state_of self.old).phase) B.line (IsThis (order_of self.old)) (Settles (order_of self.old) (state_of self.old).phase)
-            (LeavesLast (order_of self.old)) A.Record.feature (state_of self.old) (A.Record.feature first) a.old b.old out.old.output result (state_of self.new)
-            a.new b.new out.new.output }
+            (LeavesLast (order_of self.old)) A.Record.feature (state_of self.old) (A.Record.feature first) a.old.cursor b.old [] out.old.output result (state_of self.new)
+            a.new.cursor b.new [] out.new.output }
         ensures none { (state_of self.new).current ≡ None }
         ensures phase { OnOk result ((state_of self.new).phase ≡ (state_of self.old).phase) }
         ensures stops { OnErr result (want_in (state_of self.new) ≡ Want.Nothing) }
@@ -283,7 +295,7 @@ impl<'o, H: Held, O: ChromOrder> Sweep<'o, H, O> {
                 Ok(Some(first))
             }
             Relation::Beside => self.state.join(first, a, b, out),
-            Relation::After => self.state.write_up_to(MAX_NUMBER, first, a, out),
+            Relation::After => self.state.write_all(first, a, out),
         }
     }
 }

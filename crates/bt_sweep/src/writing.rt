@@ -8,7 +8,6 @@ ghost use Rattle.bt_sweep.specs.Held.{AreOn, AreRising, CanHit};
 ghost use Rattle.std.specs.List.{list_any};
 ghost use Rattle.bt_sweep.specs.Hits.{hits, hits_among, shared_bases};
 ghost use Rattle.bt_sweep.specs.IntersectLines.{hit_line, line_with, lines_for};
-ghost use Rattle.bt_sweep.specs.StateSteps.{NeedsHit};
 
 use crate::held::Held;
 use crate::hit::{count_started_hits, is_any_hit, is_hit};
@@ -16,23 +15,29 @@ use crate::hit_rule::HitRule;
 use crate::pieces::put_pieces;
 use crate::shape::Shape;
 use crate::started::count_started;
+use crate::unmatched::put_unmatched;
 use crate::written::{Written, put_written};
-use bt_bed::{BedRef, Rec, put_bed, put_cut};
+use bt_bed::{BedRef, Rec, Record, put_bed, put_cut};
 use bt_lines::{Fault, Out, Sink, put_number};
 
-// Whether a record that nothing hits has no line in this shape.
-pub(crate) fn needs_hit(shape: Shape) -> bool
-    ensures { IsTrue result → NeedsHit shape }
+// Puts the lines of a record against these, which can hit it and come by their starts.
+#[inline(always)]
+pub(crate) fn put_against<R: Record, H: Held, K: Sink>(
+    shape: Shape,
+    rule: HitRule,
+    a: &R,
+    held: &H,
+    out: &mut Out<K>,
+) -> Result<(), Fault>
+    requires filled { (R.feature a.now).start < (R.feature a.now).stop }
+    requires hits { All (CanHit (R.feature a.now)) (H.records held.now) }
+    ensures { AreRising (H.records held.now)
+        → Adds out.old.output (lines_for shape rule (R.feature a.now) (H.records held.now)) result out.new.output }
 {
-    match shape {
-        Shape::Cut
-        | Shape::OrigA
-        | Shape::CutAndB
-        | Shape::OrigBoth
-        | Shape::Overlap
-        | Shape::Once => true,
-        Shape::Missing | Shape::Whole | Shape::Pieces | Shape::Count => false,
+    if held.len() == 0 {
+        return put_unmatched(shape, a, out);
     }
+    put_lines(shape, rule, &Written::of(a), held, out)
 }
 
 // Puts the lines of a record against these, which can hit it and come by their starts. Those that start

@@ -214,29 +214,37 @@ module _ {A B O : Type 0} {g : Ghosts O} (a_left : A → Option (List ℕ)) (a_f
     firsts = fails.firsts;
     seconds = fails.seconds;
     newly = fails.newly;
-    last = fails.last;
+    waiting = fails.waiting;
     takes = takes_both fails.firsts fails.seconds fails.gives_firsts fails.gives_seconds;
     are = fails.are;
     settles = seen_then fails.seconds fails.newly fails.next fails.gives_seconds fails.comes fails.settles;
     each = fails.each;
-    through = fails.through;
-    puts = fails.puts;
     cause = elim fails.cause [
-      | inl write ↦ inl (record { settled = seen_then fails.seconds (fails.newly ++ fails.last ∷ []) fails.next fails.gives_seconds fails.comes write.settled; cuts = write.cuts })
+      | inl write ↦ inl (record { cuts = write.cuts })
       | inr others ↦ elim others [
         | inl lack ↦ inr (inl (record {
+          last = lack.last;
+          waits = lack.waits;
           m = record { line = suc (lines_given (below new_second)); item = lack.b };
           ahead = first_then second seconds lends_second last_seconds fails.seconds fails.gives_seconds second_consumed second_is b_left b_failed b_end comes_second new_second second_takes lack.b lack.after lack.gives;
           chrom = lack.chrom;
           starts = lack.starts;
           ends = lack.ends;
-          same_output = lack.same_output;
+          puts = lack.puts;
           lacks = λ shape rule limit stage stands placed placed_second.
-              subst (λ (n : ℕ). CannotBeHeld limit fails.last (stage.taken ++ fails.seconds) n (told fault))
+              subst (λ (n : ℕ). CannotBeHeld limit lack.last (stage.taken ++ fails.seconds) n (told fault))
               (line_then second seconds lends_second last_seconds fails.seconds fails.gives_seconds second_consumed second_is b_left b_failed b_end comes_second new_second second_takes lack.b lack.after lack.gives)
               (lack.lacks shape rule limit stage stands placed placed_second);
         }))
-        | inr keep ↦ inr (inr (record { is = keep.is; same_output = keep.same_output }))
+        | inr keep ↦ inr (inr (record {
+          last = keep.last;
+          waits = keep.waits;
+          is = keep.is;
+          none = keep.none;
+          both = keep.both;
+          ended = ended_then second seconds lends_second last_seconds fails.seconds fails.gives_seconds second_consumed second_is b_left b_failed b_end comes_second new_second second_takes keep.ended;
+          puts = keep.puts;
+        }))
       ]
     ];
   }

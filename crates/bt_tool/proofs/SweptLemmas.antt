@@ -9,6 +9,7 @@ use Rattle.bt_lines.specs.Fault.{Told, no_memory}
 use Rattle.bt_lines.specs.Lines.{TextLine}
 use Rattle.bt_lines.specs.Names.{told}
 use Rattle.bt_lines.specs.Output.{Output}
+use Rattle.bt_lines.proofs.PuttingLemmas.{grown_none}
 use Rattle.bt_lines.specs.Putting.{FailsToAdd, Grown}
 use Rattle.bt_lines.specs.Reader.{lines_given}
 use Rattle.bt_lines.specs.declared.fault.Fault.{Fault}
@@ -433,6 +434,19 @@ module _ {A B O : Type 0} {g : Ghosts O} (a_left : A → Option (List ℕ)) (a_f
             (sym s.comes.all_taken) placed_second (decided_first known) (subst (λ (o : Option Feature). TakenEach order limit (option_to_list o ++ fs) stage.taken ss) s.stands.current_is each)
             (subst (λ (l : List Feature). AreWithin order limit l s.past_second) (sym whole) (within_given order limit (given stage) fs s.past_second (s.fits known))))
 
+        -- the lines of some more, which are settled then, weren't all written
+        cuts_later : TakenEach order limit (option_to_list sweep.current ++ fs) stage.taken ss → SettlesEach order sweep.phase newly (ss ++ option_to_list (item_ahead (view_of second_now)))
+            → (fault : Told) (now : Output) → FailsToAdd grown (intersect shape rule newly (stage.taken ++ ss)) fault now → Ends (Some fault) first_now second_now now
+        cuts_later each settles fault now fails =
+            let items : given later ≡ given stage ++ member_items more_first = given_later ∙ ap (λ (l : List Feature). given stage ++ l) (sym items_first) in
+            stop.fails_to_write making pair out (stage_of stage) s.past_first s.past_second (view_of first) (view_of second) grown s.comes asks_here s.fits more_first more_second (view_of first_now) (view_of second_now) further further_second
+            (stage.written ++ newly) (option_to_list w) items
+            (λ known. subst (λ (l : List Feature). AreWithin order limit l (s.past_second ++ more_second)) items (fits_later each known))
+            ended_second [] (intersect shape rule newly (stage.taken ++ ss))
+            (λ known. subst (λ (l : List Feature). Settles making (stage.written ++ newly) (s.comes.bytes ++ intersect shape rule newly (stage.taken ++ ss)) ((stage.taken ++ l) ++ option_to_list (item_ahead (view_of second_now))) stage.b_ended) (sym items_second)
+            (settled_more stage.written newly s.comes.bytes newly_placed settles (settled_seen known)))
+            grown now fault (grown_none grown) fails
+
         module _ (each : SettlesEach order sweep.phase newly (ss ++ option_to_list (item_ahead (view_of second_now)))) (now : Output) (puts : PutsEach order sweep fs ss newly grown now) where
           comes_later : Comes making pair out (stage_of later) (s.past_first ++ more_first) (s.past_second ++ more_second) (view_of first_now) (view_of second_now) now
           comes_later =
@@ -467,34 +481,34 @@ module _ {A B O : Type 0} {g : Ghosts O} (a_left : A → Option (List ℕ)) (a_f
     fails_both fault first_now second_now now fails =
         let fs = fails.firsts in
         let ss = fails.seconds in
-        let last = fails.last in
         let placed = placed_first first_now second_now fs ss fails.takes in
         let placed_taken = placed_second first_now second_now fs ss fails.takes in
-        let comes = comes_later first_now second_now fs ss fails.takes fails.newly (Some last) fails.are fails.settles fails.through fails.puts in
-        let fits = fits_later first_now second_now fs ss fails.takes fails.newly (Some last) fails.are (fails.each shape rule limit stage s.stands placed placed_taken) in
-        let later = stage_of (stage_after stage fails.newly (Some last) ss) in
+        let each = fails.each shape rule limit stage s.stands placed placed_taken in
         let past_first = s.past_first ++ members_from (suc (lines_given (below first))) fs in
         let past_second = s.past_second ++ members_from (suc (lines_given (below second))) ss in
         let asks : stage.a_ended ≡ false → AsksFor making pair out past_first (view_of second_now) =
         λ going. stop.asks_then making pair out (stage_of stage) s.past_first s.past_second (view_of first) (view_of second) grown s.comes asked (λ more asks. leaves_more order (given stage) more stage.taken asks)
         (members_from (suc (lines_given (below first))) fs) (members_from (suc (lines_given (below second))) ss) (view_of second_now) (further_second first_now second_now fs ss fails.takes) in
-        let placed_last = placed_back order (stage.written ++ fails.newly) (last ∷ []) (subst (λ (l : List Feature). ArePlaced order (intervals_of l)) (sym (given_later first_now second_now fs ss fails.takes fails.newly (Some last) fails.are)) placed) in
         elim fails.cause [
-          | inl write ↦
-              let all = last_settled order sweep.phase fails.newly last (ss ++ option_to_list (item_ahead (view_of second_now))) write.settled in
-              stop.fails_waiting making pair out later past_first past_second (view_of first_now) (view_of second_now) fails.through comes asks fits last refl (lines_for shape rule last (stage.taken ++ ss))
-              (λ known.
-              subst (λ (l : List ℕ). Settles making ((stage.written ++ fails.newly) ++ last ∷ []) (comes.bytes ++ l) ((stage.taken ++ ss) ++ option_to_list (item_ahead (view_of second_now))) stage.b_ended) (append-nil (lines_for shape rule last (stage.taken ++ ss)))
-              (settled_more first_now second_now fs ss fails.takes (stage.written ++ fails.newly) (last ∷ []) comes.bytes placed_last all (comes.settles known)))
-              fault now (write.cuts shape rule limit stage s.stands placed placed_taken)
+          | inl write ↦ cuts_later first_now second_now fs ss fails.takes fails.newly fails.waiting fails.are each fails.settles fault now (write.cuts shape rule limit stage s.stands placed placed_taken)
           | inr others ↦ elim others [
-            | inl lack ↦ rw lack.same_output (elim (lack.lacks shape rule limit stage s.stands placed placed_taken) [
-              | inl full ↦
-                  limit_case fault first_now second_now (fails.takes.second_order ∙ s.second_order ∙ same_order) s.second_begins (stage_after stage fails.newly (Some last) ss) last refl
-                  (not_ended_with first_now second_now fs ss fails.takes lack.m lack.ahead stage.b_ended refl) past_first past_second fails.through comes asks fits lack.m lack.ahead lack.chrom lack.starts lack.ends placed_last.0 full.0 full.1
-              | inr ran ↦ stop.lacks_memory making pair out later past_first past_second (view_of first_now) (view_of second_now) fails.through comes asks fits fault ran.1
-            ])
-            | inr keep ↦ rw keep.same_output (stop.lacks_memory making pair out later past_first past_second (view_of first_now) (view_of second_now) fails.through comes asks fits fault keep.is)
+            | inl lack ↦
+                let last = lack.last in
+                let are = fails.are ∙ ap (λ (o : Option Feature). fails.newly ++ option_to_list o) lack.waits in
+                let comes = comes_later first_now second_now fs ss fails.takes fails.newly (Some last) are fails.settles now lack.puts in
+                let fits = fits_later first_now second_now fs ss fails.takes fails.newly (Some last) are each in
+                let placed_last = placed_back order (stage.written ++ fails.newly) (last ∷ []) (subst (λ (l : List Feature). ArePlaced order (intervals_of l)) (sym (given_later first_now second_now fs ss fails.takes fails.newly (Some last) are)) placed) in
+                elim (lack.lacks shape rule limit stage s.stands placed placed_taken) [
+                  | inl full ↦
+                      limit_case fault first_now second_now (fails.takes.second_order ∙ s.second_order ∙ same_order) s.second_begins (stage_after stage fails.newly (Some last) ss) last refl
+                      (not_ended_with first_now second_now fs ss fails.takes lack.m lack.ahead stage.b_ended refl) past_first past_second now comes asks fits lack.m lack.ahead lack.chrom lack.starts lack.ends placed_last.0 full.0 full.1
+                  | inr ran ↦ stop.lacks_memory making pair out (stage_of (stage_after stage fails.newly (Some last) ss)) past_first past_second (view_of first_now) (view_of second_now) now comes asks fits fault ran.1
+                ]
+            | inr keep ↦
+                let are = fails.are ∙ ap (λ (o : Option Feature). fails.newly ++ option_to_list o) keep.waits in
+                let comes = comes_later first_now second_now fs ss fails.takes fails.newly (Some keep.last) are fails.settles now keep.puts in
+                let fits = fits_later first_now second_now fs ss fails.takes fails.newly (Some keep.last) are each in
+                stop.lacks_memory making pair out (stage_of (stage_after stage fails.newly (Some keep.last) ss)) past_first past_second (view_of first_now) (view_of second_now) now comes asks fits fault keep.is
           ]
         ]
 

@@ -16,11 +16,12 @@ use Rattle.bt_bed.specs.Records.{FillsRecords, order_in, view_of}
 use Rattle.bt_bed.specs.declared.order.ChromOrder.{Ghosts}
 use Rattle.bt_bed.specs.declared.records.Records.{Records}
 use Rattle.bt_sweep.specs.Advancing.{AtEach, PutsEach, Settles, stage_after}
-use Rattle.bt_sweep.specs.IntersectLines.{lines_for}
+use Rattle.bt_sweep.specs.IntersectLines.{intersect, lines_for}
 use Rattle.bt_sweep.specs.Joining.{CannotBeHeld, TakenEach}
 use Rattle.bt_sweep.specs.Standing.{Stage, StandsAt, with_a_ended, with_b_ended}
 use Rattle.bt_sweep.specs.SweepState.{Sweeping, want_in}
 use Rattle.bt_sweep.specs.declared.hit_rule.HitRule.{HitRule}
+use Rattle.bt_sweep.specs.declared.phase.Phase.TheVariants.{Both}
 use Rattle.bt_sweep.specs.declared.shape.Shape.{Shape}
 use Rattle.bt_sweep.specs.declared.want.Want.{Want}
 use Rattle.bt_sweep.specs.declared.want.Want.TheVariants.{A as WantA, B as WantB, Nothing}
@@ -142,48 +143,52 @@ module _ {A B O : Type 0} {g : Ghosts O} (a_left : A → Option (List ℕ)) (a_f
     pub stops : NotBuffered (want_in swept) new_first new_second
         ⊎ ((is_some sweep.current ≡ true) × (swept.current ≡ None))
 
-  module _ (firsts seconds newly : List Feature) (last : Feature) (new_second : Records B O g)
-      (through : Output) (fault : Told) (grown : Output) where
-    -- the lines of the last one are settled, and couldn't be written
+  module _ (firsts seconds newly : List Feature) (waiting : Option Feature) (new_second : Records B O g)
+      (fault : Told) (grown : Output) where
+    -- the lines couldn't all be written
     pub record FailsToWrite : Type 0 where
-      pub settled : Settles order sweep.phase (newly ++ last ∷ [])
-          (seconds ++ option_to_list (item_ahead (view_of new_second)))
       pub cuts : AtEach order sweep firsts seconds (λ shape rule limit stage.
-          FailsToAdd through (lines_for shape rule last (stage.taken ++ seconds)) fault grown)
+          FailsToAdd out (intersect shape rule newly (stage.taken ++ seconds)) fault grown)
 
-    -- the record ahead of the second has to be held for it, and can't be
+    -- they were written; the record ahead of the second has to be held for the one that waits, and can't be
     pub record FailsToTake : Type 0 where
+      pub last : Feature
+      pub waits : waiting ≡ Some last
       pub m : Member Feature
       pub ahead : ahead_in (view_of new_second) ≡ Some m
       pub chrom : m.item.chrom ≡ last.chrom
       pub starts : m.item.start < last.stop
       pub ends : last.start < m.item.stop
-      pub same_output : grown ≡ through
+      pub puts : PutsEach order sweep firsts seconds newly out grown
       pub lacks : AtEach order sweep firsts seconds (λ shape rule limit stage.
           CannotBeHeld limit last (stage.taken ++ seconds) m.line fault)
 
-    -- it waits, and can't be kept
+    -- they were written; neither input has ended, none waited before, none of the second is buffered, and
+    -- the one that waits can't be kept
     pub record FailsToKeep : Type 0 where
+      pub last : Feature
+      pub waits : waiting ≡ Some last
       pub is : fault ≡ no_memory
-      pub same_output : grown ≡ through
+      pub none : sweep.current ≡ None
+      pub both : sweep.phase ≡ Both
+      pub ended : (view_of new_second).buffered ≡ []
+      pub puts : PutsEach order sweep firsts seconds newly out grown
 
-  -- it failed at the last one of the first
+  -- it failed once the lines of these records of the first were settled
   pub record FailsAmong (fault : Told) (new_first : Records A O g) (new_second : Records B O g)
       (grown : Output) : Type 0 where
     pub firsts : List Feature
     pub seconds : List Feature
     pub newly : List Feature
-    pub last : Feature
+    pub waiting : Option Feature
     pub takes : TakesBoth firsts seconds new_first new_second
-    pub are : option_to_list sweep.current ++ firsts ≡ newly ++ last ∷ []
+    pub are : option_to_list sweep.current ++ firsts ≡ newly ++ option_to_list waiting
     pub settles : Settles order sweep.phase newly (seconds ++ option_to_list (item_ahead (view_of new_second)))
     pub each : AtEach order sweep firsts seconds (λ shape rule limit stage.
         TakenEach order limit (option_to_list sweep.current ++ firsts) stage.taken seconds)
-    pub through : Output
-    pub puts : PutsEach order sweep firsts seconds newly out through
-    pub cause : FailsToWrite firsts seconds newly last new_second through fault grown
-        ⊎ (FailsToTake firsts seconds newly last new_second through fault grown
-        ⊎ FailsToKeep firsts seconds newly last new_second through fault grown)
+    pub cause : FailsToWrite firsts seconds newly waiting new_second fault grown
+        ⊎ (FailsToTake firsts seconds newly waiting new_second fault grown
+        ⊎ FailsToKeep firsts seconds newly waiting new_second fault grown)
 
   abbrev pub AdvancesBoth : {T : Type 0} → Result T Fault → Records A O g → Records B O g → Sweeping
       → Output → Type 0

@@ -1,4 +1,4 @@
-use Rattle.std.proofs.Common.{◌≡◌, [], ◌∷◌, Option, None, ap, sym, ◌∙◌}
+use Rattle.std.proofs.Common.{◌≡◌, [], ◌∷◌, Option, None, ap, subst, sym, ◌∙◌}
 use Rattle.std.proofs.lemmas.Bool.{false≢true}
 use Rattle.std.proofs.lemmas.Result.{err_from_is_err_and}
 use Rattle.bt_lines.specs.Names.{told}
@@ -18,10 +18,10 @@ returns-in-Over-clause-advances g c = (
 
 pub returns-in_default-next-clause-advances : goal.returns-in_default-next-clause-advances
 returns-in_default-next-clause-advances g c =
-    rw c.in_default-next.ensures.unchanged (
+    let ended = subst (λ (x : g.row.A.Denot). g.A.Cursor.has_ended x) c.new-firsts.ensures.cursor c.in_default-next.ensures.none in (
       advances_none g.A.Cursor.gives g.A.Cursor.has_ended g.B.Cursor.gives g.B.Cursor.has_ended g.B.Cursor.line (order_of c.args.self.now) (state_of c.args.self.now) c.args.a.now c.args.b.now c.args.out.now.output (g.met.A.Cursor.gives_none _) (g.met.B.Cursor.gives_none _),
       stops_a g.A.Cursor.gives g.A.Cursor.has_ended g.B.Cursor.gives g.B.Cursor.has_ended g.B.Cursor.line (order_of c.args.self.now) (state_of c.args.self.now) c.args.a.now c.args.a.now c.args.b.now c.args.b.now c.args.out.now.output (state_of c.args.self.now)
-          (want_a (state_of c.args.self.now) c.requires.none (λ e. c.in_default.not-Over (c.phase.ensures ∙ e))) c.in_default-next.ensures.none,
+          (want_a (state_of c.args.self.now) c.requires.none (λ e. c.in_default.not-Over (c.phase.ensures ∙ e))) ended,
     )
 
 pub returns-in_err-waiting-clause-advances : goal.returns-in_err-waiting-clause-advances
@@ -29,6 +29,7 @@ returns-in_err-waiting-clause-advances g c =
     let order = order_of c.args.self.now in
     let old = state_of c.args.self.now in
     let first = g.A.Record.Record.feature c.in-Some.first in
+    let given = subst (λ (x : g.row.A.Denot). g.A.Cursor.gives x (first ∷ []) c.next.new.self.cursor) c.new-firsts.ensures.cursor c.in-Some.ensures.some in
     let mid = c.enter.new.self in
     let phase : mid.phase ≡ old.phase = ap (λ (s : Sweeping). s.phase) c.enter.ensures.entered in
     let e = err_from_is_err_and c.from_residual.result c.from_residual.ensures.1 in
@@ -37,27 +38,28 @@ returns-in_err-waiting-clause-advances g c =
     (fails_from order old mid first (first ∷ []) (pre_next order (g.met.O.ChromOrder.total c.args.self.now.order.now) old c.requires.none first mid c.enter.ensures.entered)
     (keeps_entered order (g.met.O.ChromOrder.total c.args.self.now.order.now) old c.requires.none first mid c.enter.ensures.entered) phase
     g.A.Cursor.gives g.A.Cursor.has_ended g.B.Cursor.gives g.B.Cursor.has_ended (EndsWhile g.B.Cursor.has_ended c.enter.new.self.phase) g.B.Cursor.line
-    g.A.Cursor.gives g.A.Cursor.has_ended c.args.a.now c.decide.new.a c.next.new.self c.decide.new.a c.args.b.now c.decide.new.b c.args.out.now.output c.decide.new.out.output (state_of c.decide.new.self)
-    (told c.in_err-waiting.field-0.0) b (g.met.A.Cursor.gives_more _ _ _ (first ∷ []) b.firsts c.in-Some.ensures.some b.gives_firsts))
+    g.A.Cursor.gives g.A.Cursor.has_ended c.args.a.now c.decide-decided.new.a.cursor c.next.new.self.cursor c.decide-decided.new.a.cursor c.args.b.now c.decide-decided.new.b c.args.out.now.output c.decide-decided.new.out.output (state_of c.decide-decided.new.self)
+    (told c.in_err-waiting.field-0.0) b (g.met.A.Cursor.gives_more _ _ _ (first ∷ []) b.firsts given b.gives_firsts))
 
 pub returns-in_default-2-clause-advances : goal.returns-in_default-2-clause-advances
 returns-in_default-2-clause-advances g c =
     let order = order_of c.args.self.now in
     let old = state_of c.args.self.now in
     let first = g.A.Record.Record.feature c.in-Some.first in
+    let given = subst (λ (x : g.row.A.Denot). g.A.Cursor.gives x (first ∷ []) c.next.new.self.cursor) c.new-firsts.ensures.cursor c.in-Some.ensures.some in
     let mid = c.enter.new.self in
     let phase : mid.phase ≡ old.phase = ap (λ (s : Sweeping). s.phase) c.enter.ensures.entered in
     let j = rw c.in_default-2.is at c.in_ok-waiting.ensures.joins in
-    let final = state_of c.decide.new.self in
+    let final = state_of c.decide-decided.new.self in
     let same : final.phase ≡ old.phase = c.in_ok-waiting.ensures.phase ∙ phase in (
       advances_from order old mid first (first ∷ []) (pre_next order (g.met.O.ChromOrder.total c.args.self.now.order.now) old c.requires.none first mid c.enter.ensures.entered)
           (keeps_entered order (g.met.O.ChromOrder.total c.args.self.now.order.now) old c.requires.none first mid c.enter.ensures.entered) phase
           g.A.Cursor.gives g.A.Cursor.has_ended g.B.Cursor.gives g.B.Cursor.has_ended (EndsWhile g.B.Cursor.has_ended c.enter.new.self.phase) g.B.Cursor.line
-          g.A.Cursor.gives g.A.Cursor.has_ended c.args.a.now c.decide.new.a c.next.new.self c.decide.new.a c.args.b.now c.decide.new.b c.args.out.now.output c.decide.new.out.output (state_of c.decide.new.self)
-          None final j.0 (g.met.A.Cursor.gives_more _ _ _ (first ∷ []) j.0.firsts c.in-Some.ensures.some j.0.gives_firsts) same
-          (ap (λ (o : Option Feature). record final { current = o }) c.decide.ensures.none) (λ bad. absurd (false≢true bad)) tt,
-      stops_a g.A.Cursor.gives g.A.Cursor.has_ended g.B.Cursor.gives g.B.Cursor.has_ended g.B.Cursor.line order old c.args.a.now c.decide.new.a c.args.b.now c.decide.new.b c.args.out.now.output final
-          (want_a final c.decide.ensures.none (λ e. c.in_default.not-Over (c.phase.ensures ∙ sym same ∙ e))) j.1,
+          g.A.Cursor.gives g.A.Cursor.has_ended c.args.a.now c.decide-decided.new.a.cursor c.next.new.self.cursor c.decide-decided.new.a.cursor c.args.b.now c.decide-decided.new.b c.args.out.now.output c.decide-decided.new.out.output (state_of c.decide-decided.new.self)
+          None final j.0 (g.met.A.Cursor.gives_more _ _ _ (first ∷ []) j.0.firsts given j.0.gives_firsts) same
+          (ap (λ (o : Option Feature). record final { current = o }) c.decide-decided.ensures.none) (λ bad. absurd (false≢true bad)) tt,
+      stops_a g.A.Cursor.gives g.A.Cursor.has_ended g.B.Cursor.gives g.B.Cursor.has_ended g.B.Cursor.line order old c.args.a.now c.decide-decided.new.a.cursor c.args.b.now c.decide-decided.new.b c.args.out.now.output final
+          (want_a final c.decide-decided.ensures.none (λ e. c.in_default.not-Over (c.phase.ensures ∙ sym same ∙ e))) j.1,
     )
 
 pub returns-clause-advances : goal.returns-clause-advances
@@ -65,6 +67,7 @@ returns-clause-advances g c =
     let order = order_of c.args.self.now in
     let old = state_of c.args.self.now in
     let first = g.A.Record.Record.feature c.in-Some.first in
+    let given = subst (λ (x : g.row.A.Denot). g.A.Cursor.gives x (first ∷ []) c.next.new.self.cursor) c.new-firsts.ensures.cursor c.in-Some.ensures.some in
     let mid = c.enter.new.self in
     let phase : mid.phase ≡ old.phase = ap (λ (s : Sweeping). s.phase) c.enter.ensures.entered in
     let j = rw c.in-Some-2.is at c.in_ok-waiting.ensures.joins in
@@ -72,6 +75,6 @@ returns-clause-advances g c =
     kept_or_not order old mid first (first ∷ []) (pre_next order (g.met.O.ChromOrder.total c.args.self.now.order.now) old c.requires.none first mid c.enter.ensures.entered)
     (keeps_entered order (g.met.O.ChromOrder.total c.args.self.now.order.now) old c.requires.none first mid c.enter.ensures.entered) phase
     g.A.Cursor.gives g.A.Cursor.has_ended g.B.Cursor.gives g.B.Cursor.has_ended (EndsWhile g.B.Cursor.has_ended c.enter.new.self.phase) g.B.Cursor.line
-    g.A.Cursor.gives g.A.Cursor.has_ended c.args.a.now c.decide.new.a c.next.new.self c.decide.new.a c.args.b.now c.decide.new.b c.args.out.now.output c.decide.new.out.output (state_of c.decide.new.self)
-    a j.0 j.1.0 j.1.1 (g.met.A.Cursor.gives_more _ _ _ (first ∷ []) j.0.firsts c.in-Some.ensures.some j.0.gives_firsts) (c.in_ok-waiting.ensures.phase ∙ phase)
+    g.A.Cursor.gives g.A.Cursor.has_ended c.args.a.now c.decide-decided.new.a.cursor c.next.new.self.cursor c.decide-decided.new.a.cursor c.args.b.now c.decide-decided.new.b c.args.out.now.output c.decide-decided.new.out.output (state_of c.decide-decided.new.self)
+    a j.0 c.requires.none j.1.0 j.1.1 (g.met.A.Cursor.gives_more _ _ _ (first ∷ []) j.0.firsts given j.0.gives_firsts) (c.in_ok-waiting.ensures.phase ∙ phase)
     (λ e. c.in_default.not-Over (c.phase.ensures ∙ e)) j.2 c.keep.result c.keep.new.self c.keep.ensures

@@ -5,7 +5,7 @@ use Rattle.std.proofs.lemmas.Result.{err_from_is_err_and}
 use Rattle.bt_lines.specs.Names.{told}
 use Rattle.bt_bed.specs.Bed.{feature_lent}
 use Rattle.bt_bed.specs.Feature.{Feature}
-use Rattle.bt_bed.specs.Single.{GivesSingle, HasNone}
+use Rattle.bt_bed.specs.Single.{GivesSingle, HasNone, single_left}
 use Rattle.bt_sweep.specs.Advancing.{AdvancesSo, NoneGiven}
 use Rattle.bt_sweep.specs.Held.{CanHit}
 use Rattle.bt_sweep.specs.Relating.{EndsWhile}
@@ -37,8 +37,8 @@ returns-in_err-decide-clause-decides g c =
     let b = c.in_err-decide.ensures.joins in
     rw (e.1, e.2)
     (fails_from order old mid first [] (pre_current order old first some mid taken) (keeps_current order old first some mid taken) phase GivesSingle HasNone g.B.Cursor.gives g.B.Cursor.has_ended (EndsWhile g.B.Cursor.has_ended c.take_current.new.self.phase) g.B.Cursor.line
-    NoneGiven (λ u. ⊤) tt tt c.none.result c.decide.new.a c.args.b.now c.decide.new.b c.args.out.now.output c.decide.new.out.output (state_of c.decide.new.self)
-    (told c.in_err-decide.field-0.0) b (single_none c.none.result c.decide.new.a b.firsts c.none.ensures.left b.gives_firsts))
+    NoneGiven (λ u. ⊤) tt tt c.new-none.result.cursor c.decide.new.a.cursor c.args.b.now c.decide.new.b c.args.out.now.output c.decide.new.out.output (state_of c.decide.new.self)
+    (told c.in_err-decide.field-0.0) b (single_none c.new-none.result.cursor c.decide.new.a.cursor b.firsts (ap single_left c.new-none.ensures.cursor ∙ c.none.ensures.left) b.gives_firsts))
 
 pub returns-in_default-2-clause-decides : goal.returns-in_default-2-clause-decides
 returns-in_default-2-clause-decides g c =
@@ -52,8 +52,8 @@ returns-in_default-2-clause-decides g c =
     let j = rw c.in_default-2.is at c.in_ok-decide.ensures.joins in
     let final = state_of c.decide.new.self in (
       advances_from order old mid first [] (pre_current order old first some mid taken) (keeps_current order old first some mid taken) phase GivesSingle HasNone g.B.Cursor.gives g.B.Cursor.has_ended (EndsWhile g.B.Cursor.has_ended c.take_current.new.self.phase) g.B.Cursor.line
-          NoneGiven (λ u. ⊤) tt tt c.none.result c.decide.new.a c.args.b.now c.decide.new.b c.args.out.now.output c.decide.new.out.output (state_of c.decide.new.self)
-          None final j.0 (single_none c.none.result c.decide.new.a j.0.firsts c.none.ensures.left j.0.gives_firsts) (c.in_ok-decide.ensures.phase ∙ phase)
+          NoneGiven (λ u. ⊤) tt tt c.new-none.result.cursor c.decide.new.a.cursor c.args.b.now c.decide.new.b c.args.out.now.output c.decide.new.out.output (state_of c.decide.new.self)
+          None final j.0 (single_none c.new-none.result.cursor c.decide.new.a.cursor j.0.firsts (ap single_left c.new-none.ensures.cursor ∙ c.none.ensures.left) j.0.gives_firsts) (c.in_ok-decide.ensures.phase ∙ phase)
           (ap (λ (o : Option Feature). record final { current = o }) c.decide.ensures.none) (λ bad. absurd (false≢true bad)) tt,
       c.decide.ensures.none,
     )
@@ -62,7 +62,7 @@ pub put_back-requires : goal.put_back-requires
 put_back-requires g c =
     let j = rw c.in-Some-2.is at c.in_ok-decide.ensures.joins in
     let first = feature_lent c.as_bed-bed.result in
-    let alone = single_none c.none.result c.decide.new.a j.0.firsts c.none.ensures.left j.0.gives_firsts in
+    let alone = single_none c.new-none.result.cursor c.decide.new.a.cursor j.0.firsts (ap single_left c.new-none.ensures.cursor ∙ c.none.ensures.left) j.0.gives_firsts in
     let same = only_first first (feature_lent c.in-Some-2.field-0) j.0.newly (ap (λ (l : List Feature). first ∷ l) (sym alone) ∙ j.0.are) in
     subst (λ (f : Feature). All (CanHit f) (state_of c.decide.new.self).held) (sym same ∙ c.as_bed-bed.ensures) j.0.waits.1
 
@@ -77,12 +77,12 @@ returns-clause-decides g c =
     let phase : mid.phase ≡ old.phase = ap (λ (s : Sweeping). s.phase) taken in
     let j = rw c.in-Some-2.is at c.in_ok-decide.ensures.joins in
     let final = c.put_back.new.self in
-    let alone = single_none c.none.result c.decide.new.a j.0.firsts c.none.ensures.left j.0.gives_firsts in
+    let alone = single_none c.new-none.result.cursor c.decide.new.a.cursor j.0.firsts (ap single_left c.new-none.ensures.cursor ∙ c.none.ensures.left) j.0.gives_firsts in
     let last = feature_lent c.in-Some-2.field-0 in
     let same = only_first first last j.0.newly (ap (λ (l : List Feature). first ∷ l) (sym alone) ∙ j.0.are) in
     let back : final ≡ record (state_of c.decide.new.self) { current = Some last } = c.put_back.ensures ∙ ap (λ (f : Feature). record (state_of c.decide.new.self) { current = Some f }) (sym c.as_bed-bed.ensures ∙ same) in (
       advances_from order old mid first [] (pre_current order old first some mid taken) (keeps_current order old first some mid taken) phase GivesSingle HasNone g.B.Cursor.gives g.B.Cursor.has_ended (EndsWhile g.B.Cursor.has_ended c.take_current.new.self.phase) g.B.Cursor.line
-          NoneGiven (λ u. ⊤) tt tt c.none.result c.decide.new.a c.args.b.now c.decide.new.b c.args.out.now.output c.decide.new.out.output (state_of c.decide.new.self)
+          NoneGiven (λ u. ⊤) tt tt c.new-none.result.cursor c.decide.new.a.cursor c.args.b.now c.decide.new.b c.args.out.now.output c.decide.new.out.output (state_of c.decide.new.self)
           (Some last) final j.0 alone (c.in_ok-decide.ensures.phase ∙ phase) back
           (λ waits shape rule limit stage st. st.unended (ap is_some (sym st.current_is ∙ some))) j.2,
       (want_b final last (ap (λ (s : Sweeping). s.current) back), j.1.0),
