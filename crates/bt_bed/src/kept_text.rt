@@ -1,26 +1,20 @@
 //! The text of a record that is kept.
 
-ghost use Rattle.std.specs.Prelude.{◌≡◌, ◌+◌, ◌≤◌, ◌++◌, ◌-◌, length, take, IfOk, IfSome, IsNone, OnOk, OnErr};
-ghost use Rattle.bt_bed.specs.KeptText.{short_text};
+ghost use Rattle.std.specs.Prelude.{◌≡◌, ◌+◌, ◌≤◌, ◌++◌, ◌-◌, length, take, IfOk, IfSome};
 
 use bt_lines::copy_piece;
 use std::alloc::{AllocError, Global};
 use std::marker::Model;
 
-// So many bytes may be left over: a text that has more of them is cut off.
-const MOST_LEFT_OVER: usize = 4096;
-
-// So many bytes stand inside. A record that is kept takes 64 bytes with them, and most names and further columns fit.
+// That many bytes stand inside. A record that is kept takes 64 bytes with them, and most names and further columns fit.
 const SHORT: usize = 31;
 
-// The bytes of a record that is kept, of which some at the end may mean nothing. A sweep keeps each record that it
+// The bytes of a record that is kept, of which some at the end may be unspecified. A sweep keeps each record that it
 // holds: a short text stands inside, so that no memory is taken for it and none given back. A longer one is in a
-// buffer, which then serves for shorter texts too.
+// buffer.
 #[derive(Debug, Drop)]
 pub(crate) struct KeptText {
     form: Form,
-    // Where a buffer comes from.
-    alloc: Global,
 }
 
 #[derive(Debug, Drop)]
@@ -40,22 +34,18 @@ impl Model for KeptText {
 }
 
 impl KeptText {
-    // Whether they stand in a buffer, which stays where a shorter text is put there.
-    pub(crate) fn has_buffer(&self) -> bool {
-        match self.form {
-            Form::Short(_) => false,
-            Form::Long(_) => true,
-        }
-    }
-
-    // Bytes that stand inside and mean nothing yet. It takes no memory.
-    pub(crate) fn new(alloc: Global) -> KeptText
-        ensures { length result ≡ short_text }
+    // A name and what comes after it, and how many bytes at its end are unspecified.
+    pub(crate) fn of(alloc: Global, name: &[u8], rest: &[u8]) -> Result<(KeptText, u32), AllocError>
+        ensures within { IfOk result (λ kept. kept.1 ≤ length kept.0) }
+        ensures filled { IfOk result (λ kept. take (length kept.0 - kept.1) kept.0 ≡ name.now ++ rest.now) }
     {
-        KeptText {
-            form: Form::Short([0; SHORT]),
-            alloc,
+        let mut bytes = [0; SHORT];
+        if let Some(left) = put_both(&mut bytes, name, rest) {
+            let form = Form::Short(bytes);
+            return Ok((KeptText { form }, left));
         }
+        let form = Form::Long(joined(alloc, name, rest)?);
+        Ok((KeptText { form }, 0))
     }
 
     // All its bytes.
@@ -68,116 +58,36 @@ impl KeptText {
             Form::Long(text) => text.as_slice(),
         }
     }
-
-    // Becomes a name and what stands after it, or where memory runs out stays as it was. A longer text mostly stays as
-    // long as it is: it answers how many bytes at its end mean nothing then.
-    pub(crate) fn fill(&mut self, name: &[u8], rest: &[u8]) -> Result<u32, AllocError>
-        ensures within { IfOk result (λ left. left ≤ length self.new) }
-        ensures filled { IfOk result (λ left. take (length self.new - left) self.new ≡ name.now ++ rest.now) }
-        ensures unchanged { OnErr result (self.new ≡ self.old) }
-    {
-        let put = match &mut self.form {
-            Form::Short(bytes) => put_both(bytes, name, rest),
-            Form::Long(text) => put_both(text, name, rest),
-        };
-        if let Some(left) = put {
-            return Ok(left);
-        }
-        self.replace(name, rest)?;
-        Ok(0)
-    }
-
-    // Keeps its first bytes, so many, with others behind them, or where memory runs out stays as it was. It answers as
-    // `fill` does.
-    #[inline(always)]
-    pub(crate) fn refill(&mut self, kept: usize, rest: &[u8]) -> Result<u32, AllocError>
-        requires { kept ≤ length self.old }
-        ensures within { IfOk result (λ left. left ≤ length self.new) }
-        ensures filled { IfOk result (λ left. take (length self.new - left) self.new ≡ take kept self.old ++ rest.now) }
-        ensures unchanged { OnErr result (self.new ≡ self.old) }
-    {
-        let put = match &mut self.form {
-            Form::Short(bytes) => put_behind(bytes, kept, rest),
-            Form::Long(text) => put_behind(text, kept, rest),
-        };
-        if let Some(left) = put {
-            return Ok(left);
-        }
-        self.replace_behind(kept, rest)?;
-        Ok(0)
-    }
-
-    // Becomes a piece and another behind it, in a buffer, or where memory runs out stays as it was.
-    #[inline(never)]
-    fn replace(&mut self, piece: &[u8], next: &[u8]) -> Result<(), AllocError>
-        ensures replaced { OnOk result (self.new ≡ piece.now ++ next.now) }
-        ensures unchanged { OnErr result (self.new ≡ self.old) }
-    {
-        if let Form::Long(text) = &mut self.form {
-            return replace_all(text, piece, next);
-        }
-        self.form = Form::Long(joined(self.alloc, piece, next)?);
-        Ok(())
-    }
-
-    // Keeps its first bytes, so many, with a piece behind them and nothing else, in a buffer, or where memory runs out
-    // stays as it was.
-    #[inline(never)]
-    fn replace_behind(&mut self, kept: usize, piece: &[u8]) -> Result<(), AllocError>
-        requires { kept ≤ length self.old }
-        ensures replaced { OnOk result (self.new ≡ take kept self.old ++ piece.now) }
-        ensures unchanged { OnErr result (self.new ≡ self.old) }
-    {
-        if let Form::Long(text) = &mut self.form {
-            return replace_from(text, kept, piece);
-        }
-        self.form = Form::Long(joined(self.alloc, &self.as_slice()[..kept], piece)?);
-        Ok(())
-    }
 }
 
-// Writes two pieces over bytes from the first on, and answers how many are left over behind them. Where the pieces
-// don't fit, or more than a few were left over, it writes none.
+// Writes two pieces over bytes from the first on, and returns how many are left after them. If the pieces don't fit, it
+// writes none.
 #[inline(always)]
 fn put_both(bytes: &mut [u8], piece: &[u8], next: &[u8]) -> Option<u32>
+    requires { length bytes.old ≤ SHORT }
     ensures within { IfSome result (λ left. left ≤ length bytes.new) }
     ensures put { IfSome result (λ left. take (length bytes.new - left) bytes.new ≡ piece.now ++ next.now) }
-    ensures unchanged { IsNone result → bytes.new ≡ bytes.old }
 {
     let middle = piece.len();
     let used = middle + next.len();
-    let left = left_over(bytes.len(), used)?;
+    let left = left_after(bytes.len(), used)?;
     copy_piece(&mut bytes[..middle], piece);
     copy_piece(&mut bytes[middle..used], next);
     Some(left)
 }
 
-// Writes a piece over what stands behind the first bytes, so many. It answers as `put_both` does.
-#[inline(always)]
-fn put_behind(bytes: &mut [u8], kept: usize, piece: &[u8]) -> Option<u32>
-    requires { kept ≤ length bytes.old }
-    ensures within { IfSome result (λ left. left ≤ length bytes.new) }
-    ensures put { IfSome result (λ left. take (length bytes.new - left) bytes.new
-        ≡ take kept bytes.old ++ piece.now) }
-    ensures unchanged { IsNone result → bytes.new ≡ bytes.old }
-{
-    let used = kept + piece.len();
-    let left = left_over(bytes.len(), used)?;
-    copy_piece(&mut bytes[kept..used], piece);
-    Some(left)
-}
-
-// How many of so many bytes are left over behind those that are used, if these fit in and only a few are.
-fn left_over(len: usize, used: usize) -> Option<u32>
+// How many of `len` bytes are left after those that are used, if these fit.
+fn left_after(len: usize, used: usize) -> Option<u32>
+    requires { len ≤ SHORT }
     ensures { IfSome result (λ left. left + used ≡ len) }
 {
-    if used > len || len - used > MOST_LEFT_OVER {
+    if len < used {
         return None;
     }
     Some((len - used) as u32)
 }
 
-// Two pieces, one behind the other, for which memory is taken once.
+// Two pieces, one after the other, for which memory is taken once.
 fn joined(alloc: Global, piece: &[u8], next: &[u8]) -> Result<Vec<u8>, AllocError>
     ensures { IfOk result (λ text. text.items ≡ piece.now ++ next.now) }
 {
@@ -185,29 +95,4 @@ fn joined(alloc: Global, piece: &[u8], next: &[u8]) -> Result<Vec<u8>, AllocErro
     text.extend_from_slice(piece)?;
     text.extend_from_slice(next)?;
     Ok(text)
-}
-
-// Makes a text of a piece and what stands after it, or where memory runs out leaves it as it was.
-fn replace_all(text: &mut Vec<u8>, piece: &[u8], next: &[u8]) -> Result<(), AllocError>
-    ensures filled { OnOk result (text.new.items ≡ piece.now ++ next.now) }
-    ensures unchanged { OnErr result (text.new.items ≡ text.old.items) }
-{
-    let size = piece.len() + next.len();
-    text.reserve(size.saturating_sub(text.len()))?;
-    text.clear();
-    text.extend_from_slice(piece)?;
-    text.extend_from_slice(next)
-}
-
-// Puts a piece behind the first bytes of a text, so many, and nothing behind it, or where memory runs out leaves it as
-// it was.
-fn replace_from(text: &mut Vec<u8>, kept: usize, piece: &[u8]) -> Result<(), AllocError>
-    requires { kept ≤ length text.old.items }
-    ensures filled { OnOk result (text.new.items ≡ take kept text.old.items ++ piece.now) }
-    ensures unchanged { OnErr result (text.new.items ≡ text.old.items) }
-{
-    let whole = kept + piece.len();
-    text.reserve(whole.saturating_sub(text.len()))?;
-    text.truncate(kept);
-    text.extend_from_slice(piece)
 }
