@@ -7,7 +7,7 @@ use Rattle.std.specs.Str.Parse.{digits_value}
 use Rattle.std.proofs.lemmas.Bool.{eqb-true, and_parts}
 use Rattle.std.proofs.lemmas.Bool.Decides.{nat_tests}
 use Rattle.std.proofs.Math.Seq.{get_or-append_seam, take-append_seam}
-use Rattle.std.proofs.lemmas.List.{drop-drop, drop_more, drop_all, length-append, length-drop, take_all, take-append-drop}
+use Rattle.std.proofs.lemmas.List.{drop-drop, drop_more, drop_all, length-append, take_all, take-append-drop}
 use Rattle.std.proofs.lemmas.List.Elements.{All-nil, All-cons}
 use Rattle.std.proofs.lemmas.List.Splits.{slice_split_none, length-slice_split}
 use Rattle.std.proofs.lemmas.Slice.Eq.{bytes_eq-Decides}
@@ -22,7 +22,7 @@ use Rattle.bt_bed.proofs.HeaderLemmas.{header_before_tab}
 use Rattle.bt_bed.specs.Feature.{Feature}
 use Rattle.bt_bed.specs.FirstColumns.{AreBounds, BeginsWith, BeginsWithName, EndsName, IsRecordName, Leads}
 use Rattle.bt_bed.specs.Header.{is_header}
-use Rattle.bt_bed.specs.Record.{IsFeature, IsName, columns_in, columns_say, feature_of, is_kept, kept_columns, record_of, strand_of}
+use Rattle.bt_bed.specs.Record.{IsName, columns_in, columns_say, feature_of, is_kept, kept_columns, record_of, strand_of}
 use Rattle.bt_bed.specs.declared.leading.Leading.{Leading}
 use Rattle.bt_bed.specs.declared.strand.Strand.{Strand}
 
@@ -102,9 +102,6 @@ leads_by text value end some within tab is digits small =
       value = sym (value_of_digits (take end text) size digits low) ∙ ap Some (sym is);
     }
 
-pub direct_feature_is : (text : List ℕ) (f : Feature) → Ok f ≡ columns_say (pieces 9 text) → IsFeature f
-direct_feature_is text f e = said_is_feature text f (sym e)
-
 pub digit_bound : (byte : ℕ) → is_ascii_digit byte ≡ true → byte ≤ 57
 digit_bound byte digit = grind (arith, nat_tests)
 
@@ -136,13 +133,7 @@ bounds_say text rest name start stop strand ends bounds r t =
     let second = drop (start.end + 1) first in
     direct_say text first second rest name start stop strand refl refl (r ∙ rest_stands text first second (drop stop.end second) name start.end stop.end refl refl refl) t ends bounds.first bounds.inside bounds.second bounds.below
 
--- it ends within the text
-pub bounds_within : (text : List ℕ) (name : ℕ) (start stop : Leading) → EndsName text name → AreBounds text name start stop → name + start.end + stop.end + 2 ≤ length text
-bounds_within text name start stop ends bounds =
-    let inside = ends.within in
-    omega (arith, bounds.inside, bounds.second.within, length-drop (name + 1) text, length-drop (start.end + 1) (drop (name + 1) text))
-
--- a text that begins with a name and a tab
+-- a text that has a name and a tab at its front
 pub name_in_front : (text name : List ℕ) → length name < length text → get_or text (length name) 0 ≡ 9 → bytes_eq name (take (length name) text) ≡ true → BeginsWithName text name
 name_in_front text name within tab same =
     let front : name ≡ take (length name) text = (bytes_eq-Decides name (take (length name) text)).0 same in

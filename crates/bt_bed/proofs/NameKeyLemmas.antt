@@ -4,7 +4,7 @@ use Rattle.std.proofs.Math.Nat.{add-mul-mod_self_right, eq_of_mul-eq-mul_left, m
 use Rattle.std.proofs.lemmas.Bool.{cases_lt}
 use Rattle.std.proofs.lemmas.Nat.{one_shl, pow-add}
 use Rattle.std.proofs.lemmas.List.{length-append, take-append-drop, take-take}
-use Rattle.std.proofs.Math.Seq.{take-append_seam, take-length}
+use Rattle.std.proofs.Math.Seq.{take-length}
 use Rattle.std.specs.Int.{from_le_bytes, w64}
 use Rattle.bt_bed.specs.FirstColumns.{BeginsWithName}
 use Rattle.bt_bed.specs.NameKey.{IsKey}
@@ -126,10 +126,3 @@ front_begins text bytes name are short front =
     sym (ap (take (length name + 1)) are ∙ take-take (length name + 1) 8 text (omega arith)) ∙ front in
     sym (take-append-drop (length name + 1) text) ∙ ap (λ (l : List ℕ). l ++ drop (length name + 1) text) same
     ∙ append_assoc name (9 ∷ []) (drop (length name + 1) text)
-
--- the first bytes of a text that begins with a name and a tab
-pub front_of_name : (text name : List ℕ) → BeginsWithName text name → take (length name + 1) text ≡ name ++ 9 ∷ []
-front_of_name text name begins =
-    ap (take (length name + 1)) (begins ∙ sym (append_assoc name (9 ∷ []) (drop (length name + 1) text)))
-    ∙ ap (λ (n : ℕ). take n ((name ++ 9 ∷ []) ++ drop (length name + 1) text)) (sym (length-append name (9 ∷ [])))
-    ∙ take-append_seam (name ++ 9 ∷ []) (drop (length name + 1) text)

@@ -91,10 +91,6 @@ none_ahead : {A : Type 0} (line : ℕ) (items : List A) → items ≡ [] → IsS
 none_ahead line [] e some = false≢true some
 none_ahead line (x ∷ xs) e some = cc
 
-pub is_some_line : {T U : Type 0} (f : T → U) (o : Option T) → IsSome (option_map f o) → (x : T) × (o ≡ Some x)
-is_some_line f None h = absurd (false≢true h)
-is_some_line f (Some x) h = (x, refl)
-
 all_given : (a b : Option (List TextLine)) (i k : ℕ) → IfSome a (λ all. b ≡ Some (drop i all)) → IfSome b (λ lines. lines ≡ []) → k ≡ i → IfSome a (λ all. drop k all ≡ [])
 all_given None b i k p q e = tt
 all_given (Some all) None i k p q e = cc

@@ -1,5 +1,5 @@
 -- A record, put column by column, and what ends it.
-use Rattle.std.proofs.Common.{◌≡◌, ℕ, ◌-◌, List, [], ◌∷◌, ◌++◌, Result, ap, subst, sym, ◌∙◌, append_assoc, arith, length, length-append, codes, drop, take}
+use Rattle.std.proofs.Common.{◌≡◌, ℕ, ◌-◌, List, [], ◌∷◌, ◌++◌, Result, ap, subst, ◌∙◌, append_assoc, arith, length, length-append, codes, drop, take}
 use Rattle.std.proofs.lemmas.List.{length-drop, take_at}
 use Rattle.bt_lines.specs.Fault.{Told}
 use Rattle.bt_lines.specs.Output.{Output}
@@ -33,12 +33,6 @@ record_parts r end = simp append_assoc
 module _ (r : Feature) (end : List ℕ) where
   front_parts : (r.chrom ++ bounds_text r.start r.stop) ++ (r.rest ++ end) ≡ bed_text r ++ end
   front_parts = append_assoc r.chrom (bounds_text r.start r.stop) (r.rest ++ end) ∙ record_parts r end
-
-  -- a record without other columns, and a byte that ends it
-  pub bare_parts : (byte : ℕ) → r.rest ≡ [] → end ≡ byte ∷ [] → r.chrom ++ span_text r.start r.stop byte ≡ bed_text r ++ end
-  bare_parts byte bare one =
-      ap (λ l. r.chrom ++ l) (span_is_bounds r.start r.stop byte) ∙ sym (append_assoc r.chrom (bounds_text r.start r.stop) (byte ∷ []))
-      ∙ ap (λ l. (r.chrom ++ bounds_text r.start r.stop) ++ l) (sym (ap (λ l. l ++ end) bare ∙ one)) ∙ front_parts
 
   -- the record was cut off in its name or in its bounds
   pub cut_in_front : (old new : Output) (fault : Told) → FailsToPut old (r.chrom ++ bounds_text r.start r.stop) fault new → FailsToPut old (bed_text r ++ end) fault new

@@ -1,5 +1,5 @@
 -- Lemmas on results and options that are passed on.
-use Rattle.std.specs.Prelude.{◌≡◌, Option, Some, None, Result, Ok, Err, IfSome, IsErrAnd, OnOk, OnErr}
+use Rattle.std.specs.Prelude.{◌≡◌, Result, Ok, Err, IsErrAnd, OnOk, OnErr}
 use Rattle.std.proofs.Common.{sym, subst, ap}
 
 -- what holds of the error holds of the result that passes it on
@@ -11,8 +11,3 @@ passed_on P (Err e) error is p = subst P (ap Err (sym is)) p
 pub either_way : {T E : Type 0} {X : Type 0} (P : X → Type 0) (result : Result T E) (new fine kept : X) → OnOk result (new ≡ fine) → OnErr result (new ≡ kept) → P fine → P kept → P new
 either_way P (Ok x) new fine kept p q f k = subst P (sym p) f
 either_way P (Err e) new fine kept p q f k = subst P (sym q) k
-
--- what holds of a value, if there is one, and says something else
-pub if_some_weaker : {T : Type 0} (o : Option T) (P Q : T → Type 0) → ((x : T) → P x → Q x) → IfSome o P → IfSome o Q
-if_some_weaker None P Q f h = h
-if_some_weaker (Some x) P Q f h = f x h

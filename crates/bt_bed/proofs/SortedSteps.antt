@@ -10,7 +10,7 @@ use Rattle.bt_lines.specs.declared.line_reader.LineReader.{LineReader}
 use Rattle.bt_bed.proofs.CameLemmas.{LineCame, line_came}
 use Rattle.bt_bed.proofs.NeighbourLemmas.{says_of_line}
 use Rattle.bt_bed.proofs.OwnFailureLemmas.{lost_is_own}
-use Rattle.bt_bed.proofs.ReadingLemmas.{Follows, Going, fault_again, gives_again, going_end, going_member, going_more, going_start, going_unkept, going_unread, going_wrong}
+use Rattle.bt_bed.proofs.ReadingLemmas.{Follows, Going, gives_again, going_end, going_member, going_more, going_start, going_unkept, going_unread, going_wrong}
 use Rattle.bt_bed.proofs.SaidLemmas.{bed_of_line}
 use Rattle.bt_bed.proofs.FirstColumnLemmas.{said_record_name}
 use Rattle.bt_bed.proofs.SaidRuns.{FirstOfRun, first_of_run, order_is_said, says_again}
@@ -48,15 +48,6 @@ module _ {S Q : Type 0} (left : S → Option (List ℕ)) (failed end : S → Boo
   pub still_going : (old now : LineReader S) (first neighbours : Neighbours Q) → Going left failed end (view_with sorting None old first []) (view_with sorting None now neighbours []) → line_fault old ≡ None → line_fault now ≡ None
   unfolding view_with
   still_going old now first neighbours g none = g.going none
-
-  -- a fault that is kept is returned
-  pub sorted_fault_again : (fault : Fault) (reader : LineReader S) (neighbours : Neighbours Q)
-      → Fills left failed end (view_with sorting (Some (told fault)) reader neighbours []) (Err fault) (view_with sorting (Some (told fault)) reader neighbours [])
-  unfolding view_with
-  sorted_fault_again fault reader neighbours = record {
-    answers = fault_again left failed end (view_with sorting (Some (told fault)) reader neighbours []) (told fault) refl refl;
-    kept = λ was. was;
-  }
 
   module _ (old : MemberReader S Feature (Option Locus)) (now : LineReader S) (mid new : SortedReader S Q) (makes : MakesLine left failed now mid.reader) (kept : IsKept left end now → IsKept left end mid.reader)
       (g : Going left failed end old (view_with sorting None now mid.neighbours [])) (line : TextLine) (more : List TextLine) (first : lines_buffered mid.reader ≡ line ∷ more)

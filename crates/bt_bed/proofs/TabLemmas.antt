@@ -11,7 +11,6 @@ use Rattle.std.specs.Simd.Lanes.{chunk, mask_l}
 use Rattle.bt_lines.specs.Lines.{pieces}
 use Rattle.bt_lines.proofs.ColumnLemmas.{IsColumn}
 use Rattle.bt_lines.proofs.ColumnLemmas.{cut_at}
-use Rattle.bt_lines.specs.Columns.{IsFirstTab}
 use Rattle.bt_bed.specs.FirstColumns.{CutsTwo, is_tab}
 use lib.Count.{count_trailing_zeros}
 
@@ -212,17 +211,3 @@ tabs_from text begin from tabs low high is =
     is ∙ mask_behind (take 16 (drop begin text)) k
     ∙ ap (λ (l : List ℕ). mask_l (map is_tab l))
     (front ∙ ap (take (begin + 16 - from)) behind)
-
--- the first of all tabs of sixteen bytes is the first of the text
-pub early_tab_is : (text : List ℕ) (tabs : ℕ) → 16 ≤ length text
-    → tabs ≡ mask_l (map is_tab (chunk 0 16 text)) → 0 < tabs
-    → IsFirstTab text (count_trailing_zeros 64 tabs)
-early_tab_is text tabs room is some =
-    let one = first_tab_is text 0 16 tabs _ room (omega arith) is some refl in
-    let inside = one.inside in
-    record {
-      within = omega arith;
-      tab = ap (λ (m : ℕ). get_or text m 0) (omega arith) ∙ one.tab;
-      column = column_by text _ (omega arith) (λ k d below. one.none k d (omega arith)
-          (omega arith));
-    }

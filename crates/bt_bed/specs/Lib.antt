@@ -33,7 +33,6 @@ pub mod SortedReader
 pub mod Records
 pub mod Blocks
 pub mod Meeting
-pub mod KeptText
 pub mod KeptForm
 pub mod Rec
 pub mod Single

@@ -11,13 +11,6 @@ const LINE: &[u8] = b"chr1\t7\t100\tn\t5\t+\tand more columns than stand inside"
 
 const PART: &[u8] = b"chr1\t30\t90\tn\t5\t+\tand more columns than stand inside";
 
-// A record whose text fits inline, one that is a byte too long for that, and a longer one.
-const GROWING: [&[u8]; 3] = [
-    b"chr1\t1\t2\tshort",
-    b"chr1\t3\t4\tn\t5\t+\twith one more byte in",
-    LINE,
-];
-
 // The record of the line.
 fn record() -> Option<BedRef<'static>> {
     parse_bed(LINE).ok().flatten()
@@ -68,43 +61,6 @@ fn refused_growth_of_a_kept_record(rt: HostRuntime) -> Result<(), Fail> {
     let rec = bed.to_rec(rt.alloc())?;
     holds(&rt, is_same(rec.as_bed(), &bed), "the record that is kept");
     Ok(())
-}
-
-// Makes a record the next one, or the one after its name alone.
-fn become_next(rec: &mut Rec, next: &BedRef<'_>, has_name: bool) -> Result<(), AllocError> {
-    if has_name || rec.as_bed().chrom != next.chrom {
-        rec.copy_from(next)
-    } else {
-        rec.copy_rest_from(next)
-    }
-}
-
-// A record becomes longer ones, one after another. If that is refused it has to be the one before.
-fn become_longer(rt: &impl Abort, alloc: Global, has_name: bool) -> Result<(), Fail> {
-    let mut before = parse_bed(GROWING[0])
-        .ok()
-        .flatten()
-        .ok_or("a short record")?;
-    let mut rec = before.to_rec(alloc)?;
-    for line in &GROWING[1..] {
-        let next = parse_bed(line).ok().flatten().ok_or("a longer record")?;
-        let became = become_next(&mut rec, &next, has_name);
-        let want = if became.is_ok() { next } else { before };
-        holds(rt, is_same(rec.as_bed(), &want), "a record that grows");
-        became?;
-        before = next;
-    }
-    Ok(())
-}
-
-#[test]
-fn refused_growth_of_a_copied_record(rt: HostRuntime) -> Result<(), Fail> {
-    become_longer(&rt, rt.alloc(), true)
-}
-
-#[test]
-fn refused_growth_of_a_copied_rest(rt: HostRuntime) -> Result<(), Fail> {
-    become_longer(&rt, rt.alloc(), false)
 }
 
 // A genome file with names that are kept, and lines that are skipped. Its bytes come seven at a time, so

@@ -1,6 +1,6 @@
 //! Records that are kept.
 
-ghost use Rattle.std.specs.Prelude.{◌≡◌, OnOk, OnErr, IfOk};
+ghost use Rattle.std.specs.Prelude.{◌≡◌, IfOk};
 ghost use Rattle.bt_bed.specs.Bed.{feature_lent};
 
 use crate::bed::BedRef;
@@ -13,8 +13,8 @@ use std::marker::Model;
 /// one in a buffer. Contracts see the feature itself, so a list of records is a list of features.
 #[derive(Debug, Drop)]
 pub struct Rec {
-    // The chromosome's name, and after it the columns from the fourth on, each with the tab before it. After these may come
-    // unspecified bytes, left of a longer record.
+    // The chromosome's name, and after it the columns from the fourth on, each with the tab before it. Bytes that are
+    // unspecified may come last.
     text: KeptText,
     // How much of the text is the name. The fields below are always those of one feature.
     name_len: usize,
@@ -57,48 +57,6 @@ impl Rec {
             rest,
         }
     }
-
-    /// Whether its name and other columns are in a buffer, which it keeps until it is dropped: so once they were
-    /// too long to be inline.
-    #[inline]
-    pub fn has_buffer(&self) -> bool {
-        self.text.has_buffer()
-    }
-
-    /// Becomes the record that is given, in the memory that it has: it allocates only if that is
-    /// too small for the name and the other columns. If memory runs out, it stays as it was.
-    pub fn copy_from(&mut self, bed: &BedRef<'_>) -> Result<(), AllocError>
-        ensures copied { OnOk result (self.new ≡ feature_lent bed.now) }
-        ensures unchanged { OnErr result (self.new ≡ self.old) }
-    {
-        self.left_over = self.text.fill(bed.chrom, bed.rest)?;
-        self.name_len = bed.chrom.len();
-        self.start = bed.start;
-        self.stop = bed.stop;
-        self.strand = bed.strand;
-        Ok(())
-    }
-
-    /// Becomes the record that is given as [`Rec::copy_from`] does, and fails as it does. Both have to lie on
-    /// one chromosome: its name isn't copied again.
-    pub fn copy_rest_from(&mut self, bed: &BedRef<'_>) -> Result<(), AllocError>
-        requires { bed.now.chrom.now ≡ self.old.chrom }
-        ensures copied { OnOk result (self.new ≡ feature_lent bed.now) }
-        ensures unchanged { OnErr result (self.new ≡ self.old) }
-    {
-        let BedRef {
-            start,
-            stop,
-            strand,
-            rest,
-            ..
-        } = *bed;
-        self.left_over = self.text.refill(self.name_len, rest)?;
-        self.start = start;
-        self.stop = stop;
-        self.strand = strand;
-        Ok(())
-    }
 }
 
 impl BedRef<'_> {
@@ -107,8 +65,7 @@ impl BedRef<'_> {
     pub fn to_rec(&self, alloc: Global) -> Result<Rec, AllocError>
         ensures { IfOk result (λ rec. rec ≡ feature_lent self.now) }
     {
-        let mut text = KeptText::new(alloc);
-        let left_over = text.fill(self.chrom, self.rest)?;
+        let (text, left_over) = KeptText::of(alloc, self.chrom, self.rest)?;
         Ok(Rec {
             text,
             name_len: self.chrom.len(),
@@ -189,58 +146,9 @@ mod tests {
         Ok(None)
     }
 
-    // The first line of a table whose record reads otherwise once another has become it.
-    fn first_miscopied(rec: &mut Rec, rows: &[Row]) -> Result<Option<&'static [u8]>, AllocError> {
-        for row in rows {
-            if let Ok(Some(bed)) = parse_bed(row.0) {
-                rec.copy_from(&bed)?;
-            }
-            if !is_seen_as(rec.as_bed(), row.1) {
-                return Ok(Some(row.0));
-            }
-        }
-        Ok(None)
-    }
-
-    // The first line of a table whose record, which lies on the same chromosome, reads otherwise once
-    // it has become it.
-    fn first_misfilled(rec: &mut Rec, rows: &[Row]) -> Result<Option<&'static [u8]>, AllocError> {
-        for row in rows {
-            if let Ok(Some(bed)) = parse_bed(row.0) {
-                if rec.as_bed().chrom == bed.chrom {
-                    rec.copy_rest_from(&bed)?;
-                }
-            }
-            if !is_seen_as(rec.as_bed(), row.1) {
-                return Ok(Some(row.0));
-            }
-        }
-        Ok(None)
-    }
-
     #[test]
     fn records_are_kept_and_lent_as_they_were(rt: HostRuntime) -> Result<(), Fail> {
         assert_eq!(rt; first_miskept(rt.alloc(), &RECORDS)?, None);
-        Ok(())
-    }
-
-    // Longer ones follow shorter ones, and the other way round.
-    #[test]
-    fn a_record_becomes_another(rt: HostRuntime) -> Result<(), Fail> {
-        for row in &RECORDS {
-            let Ok(Some(first)) = parse_bed(row.0) else {
-                assert!(rt; false);
-                return Ok(());
-            };
-            assert_eq!(rt;
-                first_miscopied(&mut first.to_rec(rt.alloc())?, &RECORDS)?,
-                None
-            );
-            assert_eq!(rt;
-                first_misfilled(&mut first.to_rec(rt.alloc())?, &RECORDS)?,
-                None
-            );
-        }
         Ok(())
     }
 }

@@ -255,21 +255,6 @@ front_to bytes moved from to end h k b e =
     ap (λ (l : List ℕ). slice_range l 0 (to - from)) e ∙ front_moved bytes from end (to - from) (omega arith) b (omega arith)
     ∙ ap (λ (n : ℕ). slice_range bytes from n) at
 
--- ---- bytes that were read after the first ones
-
-pub record ReadsBehind (old new : List ℕ) (end count : ℕ) : Type 0 where
-  pub size : length (slice_range new end (end + count)) ≡ count
-  pub joined : slice_range new 0 (end + count) ≡ slice_range old 0 end ++ slice_range new end (end + count)
-
-pub reads_behind : (old new : List ℕ) (end count : ℕ) → take end new ≡ take end old → end + count ≤ length new → ReadsBehind old new end count
-reads_behind old new end count e h =
-    let parts : end + count - end ≡ count = omega arith in
-    record {
-      size = length-range new end (end + count) h ∙ parts;
-      joined = range_split new 0 end (end + count) (omega arith) (omega arith)
-          ∙ ap (λ (l : List ℕ). l ++ slice_range new end (end + count)) (range_same old new 0 end end e (omega arith) (omega arith));
-    }
-
 -- the first bytes are the same
 pub front_same : (old new : List ℕ) (a b end : ℕ) → take end new ≡ take end old → a ≤ b → b ≤ end → IsSearched (slice_range old a b) → IsSearched (slice_range new a b)
 front_same old new a b end e h k is = subst IsSearched (sym (range_same old new a b end e h k)) is

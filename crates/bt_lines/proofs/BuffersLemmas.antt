@@ -1,5 +1,5 @@
 -- Lemmas on reads that buffer lines.
-use Rattle.std.proofs.Common.{◌≡◌, inl, inr, ℕ, zero, suc, nat_eq, ◌+◌, ◌-◌, ◌^◌, ◌<◌, ◌≤◌, Bool, true, false, List, [], ◌∷◌, ◌++◌, length, Option, refl, sym, ap, ◌∙◌, append_assoc, append-nil, length-append, add-zero, eqb, arith}
+use Rattle.std.proofs.Common.{◌≡◌, inl, ℕ, zero, suc, nat_eq, ◌+◌, ◌-◌, ◌^◌, ◌<◌, ◌≤◌, Bool, true, false, List, [], ◌∷◌, ◌++◌, length, Option, refl, sym, ap, ◌∙◌, append_assoc, append-nil, length-append, add-zero, eqb, arith}
 use Rattle.std.proofs.KnownBytes.{Consumes-nil, Consumes-trans}
 use Rattle.std.proofs.lemmas.Bool.Decides.{nat_tests}
 use Rattle.std.proofs.lemmas.List.Elements.{All-nil}
@@ -78,18 +78,6 @@ module _ {S : Type 0} (left : S → Option (List ℕ)) (failed told : S → Bool
   }
 
   module _ (old : S) (old_unread : List ℕ) (old_taken : ℕ) (mid : S) (unread : List ℕ) (taken : ℕ) (so_far : ReadSoFar old old_unread old_taken mid unread taken) where
-    -- one of them is a line feed
-    pub found_lines : (complete rest : List ℕ) → complete ++ rest ≡ unread → 0 < length complete → Buffers left failed told old old_unread old_taken LineFeed mid complete rest taken
-    found_lines complete rest e some = record {
-      bytes = so_far.bytes;
-      consumed = so_far.consumed;
-      counted = add-zero taken ∙ so_far.counted;
-      within = so_far.within;
-      ready = so_far.ready;
-      first = inr refl;
-      stopped = (sym so_far.joined ∙ sym e, some, so_far.served);
-    }
-
     -- none does
     module _ (same : List ℕ) (is : same ≡ unread) (clear : NoLineFeed same) where
       never : 0 < line_feeds old_unread → ⊥

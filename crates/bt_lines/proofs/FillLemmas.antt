@@ -13,7 +13,7 @@ use Rattle.bt_lines.specs.LentLine.{GivesFirst}
 use Rattle.bt_lines.specs.Lines.{TextLine, line_feeds, lines_from}
 use Rattle.bt_lines.specs.Names.{told}
 use Rattle.bt_lines.specs.ReadBuffer.{complete, unread}
-use Rattle.bt_lines.specs.Reader.{CutsFirst, FillsLines, HasRead, TellsOwnFailure, GivesLine, MakesLine, SameLines, Stepped, StepsTo, buffered_bytes, bytes_left, bytes_taken, end_told, fault_kept, feeds_taken, has_ended, held, input_of, left_at, line_at, lines_given, lines_left, source_of}
+use Rattle.bt_lines.specs.Reader.{CutsFirst, FillsLines, HasRead, TellsOwnFailure, GivesLine, MakesLine, SameLines, Stepped, StepsTo, buffered_bytes, bytes_left, bytes_taken, end_told, fault_kept, feeds_taken, has_ended, held, input_of, left_at, lines_given, lines_left, source_of}
 use Rattle.bt_lines.specs.ReaderState.{ended_at, fault_at, lends_at, open_at, taken_at, text_at}
 use Rattle.bt_lines.specs.Shape.{held_at}
 use Rattle.bt_lines.specs.declared.fault.Fault.{Fault}
@@ -171,16 +171,6 @@ module _ {S : Type 0} (left : S → Option (List ℕ)) (failed end : S → Bool)
     answers = subst (λ l. StepsTo left failed old l new) (sym cuts.at) (gives_after old mid new cuts.line fills.answers cuts.gives);
     sound = λ h. cuts.sound (fills.kept (record { end = h.end; within = h.within }));
   }
-
-  pub steps_to_end : (old new : LineReader S) → FillsLines left failed end old (Ok false) new → Stepped left failed end old (Ok (tt {0})) new
-  unfolding line_at has_ended
-  steps_to_end old new fills =
-      let none : line_at new ≡ None = ap (option_map _) (text_none new.state new.lines _ fills.answers.ends) in
-      record {
-        answers = subst (λ l. StepsTo left failed old l new) (sym none) fills.answers;
-        sound = λ h. let kept = fills.kept (record { end = h.end; within = h.within }) in
-            record { end = kept.end; within = kept.within; near = λ e. rw fills.answers.nothing_held (omega arith) };
-      }
 
   pub steps_to_fault : (old new : LineReader S) (fault : Fault) → FillsLines left failed end old (Err fault) new → Stepped {A = Unit {0}} left failed end old (Err fault) new
   steps_to_fault old new fault fills = record {

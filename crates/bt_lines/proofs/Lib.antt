@@ -25,4 +25,3 @@ pub mod FillLemmas
 pub mod BufferedLemmas
 pub mod PassingLemmas
 pub mod TakingLemmas
-pub mod HeldLines

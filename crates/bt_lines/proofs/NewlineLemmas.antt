@@ -54,9 +54,6 @@ before_feed value text n first = record { within = omega (arith, first.0); clear
 pub before_all : (value : ℕ) (text : List ℕ) (n : ℕ) → n ≡ length text → Lacks value (take n text) → IsBefore value text n
 before_all value text n e clear = record { within = omega (arith, e); clear = clear; cut = λ h. absurd (omega (arith, h, e)) }
 
-pub feed_of : (value : ℕ) (text : List ℕ) (n : ℕ) → IsBefore value text n → n < length text → IsFirstOf value text (Some n)
-feed_of value text n is some = (some, is.cut some, is.clear)
-
 pub none_of : (value : ℕ) (text : List ℕ) (n : ℕ) → IsBefore value text n → (n < length text → ⊥) → IsFirstOf value text None
 none_of value text n is none = subst (Lacks value) (take_all n text (omega arith)) is.clear
 

@@ -1,5 +1,5 @@
 -- Lemmas on lines that were consumed, one after another.
-use Rattle.std.proofs.Common.{◌≡◌, ℕ, zero, suc, ◌+◌, ◌-◌, ◌<◌, ◌≤◌, Bool, true, List, [], ◌∷◌, ◌++◌, length, take, drop, take-add, refl, sym, ap, ◌∙◌, append_assoc, append-nil, length-append, length-take, arith, inl, inr}
+use Rattle.std.proofs.Common.{◌≡◌, ℕ, zero, suc, ◌+◌, ◌-◌, ◌<◌, true, List, [], ◌∷◌, ◌++◌, length, take, drop, take-add, refl, sym, ap, ◌∙◌, append_assoc, append-nil, length-append, length-take, arith, inl, inr}
 use Rattle.std.specs.Prelude.{◌⊎◌}
 use Rattle.std.proofs.Math.Seq.{take-append_seam}
 use Rattle.std.proofs.lemmas.List.{drop-drop}
@@ -8,8 +8,8 @@ use Rattle.bt_lines.proofs.BufferedLemmas.{lines_first}
 use Rattle.bt_lines.proofs.TextLemmas.{line_feeds-append, line_feeds-fed}
 use Rattle.bt_lines.specs.Buffered.{BeginsLines, IsWhere, PassesLines, buffered_lines, lines_in, rest_in}
 use Rattle.bt_lines.specs.FirstLine.{Cut, Shown}
-use Rattle.bt_lines.specs.Lines.{TextLine, line_feeds}
-use Rattle.bt_lines.specs.Reader.{TakenLines, buffered_bytes, buffered_in, is_open, lines_given}
+use Rattle.bt_lines.specs.Lines.{line_feeds}
+use Rattle.bt_lines.specs.Reader.{TakenLines, buffered_bytes, is_open, lines_given}
 use Rattle.bt_lines.specs.Shape.{is_fed}
 use Rattle.bt_lines.specs.declared.buffered_lines.BufferedLines.{BufferedLines}
 use Rattle.bt_lines.specs.declared.buffered_lines.ConsumedLines.{ConsumedLines}

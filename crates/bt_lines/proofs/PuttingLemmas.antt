@@ -141,36 +141,6 @@ appends_first : (old : Option (List ℕ)) (xs : List ℕ) → Appends old (appen
 appends_first None xs = tt
 appends_first (Some o) xs = refl
 
--- what was put at once, and is held back, is as if it was put in two pieces
-pub record PutsInTwo (old : Output) (xs ys : List ℕ) (new : Output) : Type 0 where
-  pub mid : Output
-  pub first : Grown old xs mid
-  pub second : PutsAll mid ys new
-  pub untaken : new.took ≡ mid.took
-
-pub put_in_two : (old new : Output) (xs ys : List ℕ) → (xs ≡ [] → ⊥) → PutsAll old (xs ++ ys) new → new.took ≡ old.took → PutsInTwo old xs ys new
-put_in_two old new xs ys some p untaken = record {
-  mid = record { put = append_known old.put xs; took = old.took; has_failed = old.has_failed; sink_has_failed = old.sink_has_failed; sink_is_flushed = old.sink_is_flushed };
-  first = record {
-    appends = appends_first old.put xs;
-    block = λ was. holds_first old.took old.put new.put xs ys was p.appends (subst (λ (t : Option (List ℕ)). HoldsBlock t new.put) untaken p.block);
-    grows = grows_nothing old.took;
-    served = refl;
-    sink_served = refl;
-    again = λ e. absurd (false≢true (sym p.was_served ∙ e));
-    nothing = λ e. absurd (some e);
-  };
-  second = record {
-    appends = appends_second old.put new.put xs ys p.appends;
-    block = p.block;
-    grows = p.grows;
-    was_served = p.was_served;
-    served = p.served;
-    sink_served = p.sink_served;
-  };
-  untaken = untaken;
-}
-
 pub grown_none : (old : Output) → Grown old [] old
 grown_none old = record {
   appends = Appends-nil old.put;

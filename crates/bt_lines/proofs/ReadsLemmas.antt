@@ -1,12 +1,11 @@
 -- Lemmas on what the reads of a source gave.
-use Rattle.std.proofs.Common.{◌∙◌, ◌≡◌, ℕ, suc, ◌+◌, ◌-◌, ◌^◌, inl, inr, Option, Some, None, refl, sym, ap, add-zero, add_assoc, arith}
+use Rattle.std.proofs.Common.{◌∙◌, ◌≡◌, ℕ, ◌+◌, inl, inr, Option, Some, None, sym, ap, add-zero, add_assoc, arith}
 use Rattle.bt_lines.specs.Device.{ReadsCounted, ReadsFail, ReadsOn, begun, gave}
 use Rattle.bt_lines.specs.Fault.{Told, no_memory, read_failed}
 use Rattle.bt_lines.specs.declared.fault.Input.{Input}
 use Rattle.bt_lines.specs.declared.fault.Kind.TheVariants.{NoMemory as OutOfMemory, ReadFailed}
 use Rattle.bt_lines.specs.Reader.{HasRead, IsUnread, TellsReads, bytes_taken, source_of}
 use Rattle.bt_lines.specs.declared.line_reader.LineReader.{LineReader}
-use Rattle.bt_lines.specs.declared.line_reader.State.TheVariants.{NoMemory, TooLong}
 
 module _ {S : Type 0} (IsRead : S → Option ℕ → S → Type 0) where
   -- reads, and then others
@@ -62,20 +61,10 @@ module _ {S : Type 0} (IsRead : S → Option ℕ → S → Type 0) (old new : Li
   pub reads_same : new ≡ old → HasRead IsRead old new
   reads_same same = counts_none IsRead (source_of old) (source_of new) (bytes_taken old) (bytes_taken new) (ap source_of same) (ap bytes_taken same)
 
-  -- a line couldn't grow
-  pub reads_up_to : bytes_taken old ≡ old.taken → new.state ≡ NoMemory → ReadsCounted IsRead old.source old.taken new.source new.taken → HasRead IsRead old new
-  unfolding bytes_taken
-  reads_up_to was full counted = has_read old.taken new.taken was (rw full refl) counted
-
   -- a read failed
   pub unread_by : ReadsFail IsRead old.source new.source → IsUnread IsRead old new
   unfolding source_of
   unread_by fails = inl fails
-
-  -- too many bytes came
-  pub unread_past : bytes_taken old ≡ old.taken → new.state ≡ TooLong → new.taken ≡ 2 ^ 63 - 1 → ReadsCounted IsRead old.source old.taken new.source (suc new.taken) → IsUnread IsRead old new
-  unfolding bytes_taken
-  unread_past was long full counted = inr (has_read old.taken (suc new.taken) was (rw long refl) counted, rw long (omega (arith, full)))
 
 module _ {S : Type 0} (IsRead : S → Option ℕ → S → Type 0) (a b c : LineReader S) where
   -- what was read, and then more

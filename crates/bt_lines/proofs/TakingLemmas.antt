@@ -17,7 +17,7 @@ use Rattle.bt_lines.specs.LentLine.{NoLineFeed}
 use Rattle.bt_lines.specs.Lines.{AreNumbered, TextLine, bytes_in, fed_line, last_line, line_feeds, lines_from, whole_lines_from}
 use Rattle.bt_lines.specs.Output.{block_size}
 use Rattle.bt_lines.specs.ReadBuffer.{complete, unread}
-use Rattle.bt_lines.specs.Reader.{DropsLines, Hands, IsKept, IsNearNext, IsPrefix, bytes_taken, buffered_in, fault_kept, feeds_taken, has_ended, input_of, buffered_bytes, bytes_left, is_open, end_told, held, left_at, lines_given, lines_left, source_of}
+use Rattle.bt_lines.specs.Reader.{DropsLines, Hands, IsKept, IsPrefix, bytes_taken, buffered_in, fault_kept, feeds_taken, has_ended, input_of, buffered_bytes, bytes_left, is_open, end_told, held, left_at, lines_given, lines_left, source_of}
 use Rattle.bt_lines.specs.ReaderState.{ended_at, fault_at, lends_at, open_at, taken_at, told_at}
 use Rattle.bt_lines.specs.Shape.{AreComplete, IsLast, held_at, is_fed}
 use Rattle.bt_lines.specs.declared.fault.Input.{Input}
@@ -454,7 +454,12 @@ near_open number lines None fed one = tt
 near_open number lines (Some rest) fed one = omega (arith, ap bytes_in (open_few number lines fed one))
 
 module _ {S : Type 0} (left : S → Option (List ℕ)) (reader : LineReader S) where
-  near_by : (b : Bool) → open_at reader.state ≡ b → IsNearNext left reader
+  -- of known bytes, those after the next line are left at the source, except a block at most
+  abbrev IsNearNext : Type 0
+  IsNearNext = IfSome (lines_left left reader) (λ lines. IfSome (left (source_of reader)) (λ rest.
+      bytes_in (drop 1 lines) ≤ length rest + block_size))
+
+  near_by : (b : Bool) → open_at reader.state ≡ b → IsNearNext
   unfolding bytes_left source_of
   near_by true e =
       let opened : held reader ≡ held_at true (complete reader.buffer) (unread reader.buffer) = open_held reader e in
@@ -464,7 +469,7 @@ module _ {S : Type 0} (left : S → Option (List ℕ)) (reader : LineReader S) w
       let plain : held reader ≡ complete reader.buffer ++ unread reader.buffer = closed_held reader e in
       rw plain (near_closed reader.buffer.is_spilled reader.buffer (suc (lines_given reader)) (end_told reader) (left reader.source) refl)
 
-  pub near_next : IsNearNext left reader
+  pub near_next : IsNearNext
   near_next = near_by (open_at reader.state) refl
 
 -- if a line is buffered, its number is below 2^63

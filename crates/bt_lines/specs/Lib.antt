@@ -21,4 +21,3 @@ pub mod FirstLine
 pub mod Buffered
 pub mod Reader
 pub mod Spill
-pub mod Whole

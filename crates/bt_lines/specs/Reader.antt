@@ -87,7 +87,8 @@ module _ {S : Type 0} where
   unfoldable pub feeds_taken : LineReader S → ℕ
   feeds_taken reader = lines_given reader + line_feeds (held reader)
 
-  -- what holds of a reader at all times: `new` establishes it, and each call keeps it
+  -- what holds of a reader whose lines are given one at a time: `new` establishes it, and `next` keeps it; `fill` and
+  -- `consume` keep `IsKept`
   pub record IsSound (left : S → Option (List ℕ)) (told : S → Bool)
       (reader : LineReader S) : Type 0 where
     -- once the end was reported to a reader, its source has reported it, and none of the known bytes is left
@@ -333,11 +334,6 @@ module _ {S : Type 0} where
   abbrev pub IsPrefix : (S → Option (List ℕ)) → LineReader S → Type 0
   IsPrefix left reader = IfSome (lines_left left reader) (λ lines.
       take (length (buffered_in reader)) lines ≡ buffered_in reader)
-
-  -- of known bytes, those after the next line are left at the source, except at most a block
-  abbrev pub IsNearNext : (S → Option (List ℕ)) → LineReader S → Type 0
-  IsNearNext left reader = IfSome (lines_left left reader) (λ lines. IfSome (left (source_of reader)) (λ rest.
-      bytes_in (drop 1 lines) ≤ length rest + block_size))
 
   -- lines were consumed of those that are buffered
   pub record IsTaken (reader : LineReader S) (consumed : ConsumedLines) : Type 0 where

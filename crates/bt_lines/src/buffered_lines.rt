@@ -212,9 +212,9 @@ pub(crate) fn ending_of(has_return: bool, is_open: bool) -> LineEnd
     }
 }
 
-/// A line without its line feed, without a carriage return at its end.
+// A line without its line feed, without a carriage return at its end.
 #[inline(always)]
-pub fn without_return(line: &[u8]) -> &[u8]
+fn without_return(line: &[u8]) -> &[u8]
     ensures { result.now ≡ strip_last 13 line.now }
 {
     if ends_with_return(line) {

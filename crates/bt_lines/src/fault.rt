@@ -50,9 +50,8 @@ pub enum Kind {
 }
 
 impl Kind {
-    /// Whether a fault of this kind lies at a line of an input. A failed write and running out of memory
-    /// don't.
-    pub fn has_place(self) -> bool
+    // Whether a fault of this kind lies at a line of an input: a failed write and no memory don't.
+    pub(crate) fn has_place(self) -> bool
         ensures { result ≡ has_place self }
     {
         !matches!(self, Kind::WriteFailed | Kind::NoMemory)

@@ -4,10 +4,8 @@ ghost use Rattle.std.specs.Prelude.{◌≡◌, ◌+◌, ◌-◌, ◌≤◌, ◌<
 ghost use Rattle.bt_lines.specs.Copying.{IsShort};
 ghost use Rattle.bt_lines.specs.Output.{block_size};
 ghost use Rattle.bt_lines.specs.Span.{span_text};
-ghost use Rattle.bt_lines.specs.Whole.{AreLines, ended_by};
 
-use crate::copying::{copy_end, copy_piece, copy_short, copy_wide, is_end, is_wide};
-use crate::newline::find_newline;
+use crate::copying::{copy_end, copy_short, copy_wide, is_end, is_wide};
 use crate::number_column::{COLUMN, write_column};
 use crate::read_buffer::BLOCK;
 use std::marker::Model;
@@ -95,71 +93,12 @@ impl HeldBack {
         self.len = stop;
     }
 
-    // Holds back lines too, each with this end instead of its line feed, if there is room for all of them; else
-    // nothing changes.
-    #[inline(always)]
-    pub(crate) fn append_lines(&mut self, lines: &[u8], end: &[u8]) -> bool
-        ensures held { result ≡ true → (texts : List (List ℕ)) → AreLines lines.now texts
-            → self.new ≡ self.old ++ ended_by end.now texts }
-        ensures unchanged { result ≡ false → self.new ≡ self.old }
-        ensures block { length self.new ≤ block_size }
-    {
-        let len = self.len();
-        if self.append_each(lines, end) {
-            return true;
-        }
-        self.cut_off(len);
-        false
-    }
-
-    // Holds back lines too, up to the first for which there is no room; returns true if there is room for all.
-    #[inline(always)]
-    fn append_each(&mut self, lines: &[u8], end: &[u8]) -> bool
-        ensures held { result ≡ true → (texts : List (List ℕ)) → AreLines lines.now texts
-            → self.new ≡ self.old ++ ended_by end.now texts }
-        ensures front { (more : List ℕ) × (self.new ≡ self.old ++ more) }
-        ensures block { length self.old ≤ block_size → length self.new ≤ block_size }
-    {
-        let mut rest = lines;
-        while let Some(length) = find_newline(rest) {
-            let room = self.room();
-            if room < length || room - length < end.len() {
-                return false;
-            }
-            self.append_line(&rest[..length], end);
-            rest = &rest[length + 1..];
-        }
-        rest.is_empty()
-    }
-
-    // Holds back a text and an end too.
-    #[inline(always)]
-    fn append_line(&mut self, text: &[u8], end: &[u8])
-        requires { length self.old + (length text.now + length end.now) ≤ block_size }
-        ensures { self.new ≡ self.old ++ (text.now ++ end.now) }
-    {
-        let len = self.len;
-        let middle = len + text.len();
-        let stop = middle + end.len();
-        copy_piece(&mut self.bytes[len..middle], text);
-        self.bytes[middle..stop].copy_from_slice(end);
-        self.len = stop;
-    }
-
     // How many bytes are held back.
     fn len(&self) -> usize
         ensures is { result ≡ length self.now }
         ensures within { length self.now ≤ block_size }
     {
         self.len
-    }
-
-    // Drops the bytes after the first `len`.
-    fn cut_off(&mut self, len: usize)
-        requires { len ≤ length self.old }
-        ensures { self.new ≡ take len self.old }
-    {
-        self.len = len;
     }
 
     // Holds back two short pieces too.

@@ -53,7 +53,7 @@ mod spill;
 mod split;
 mod to_write;
 
-pub use buffered_lines::{BufferedLines, ConsumedLines, LineText, without_return};
+pub use buffered_lines::{BufferedLines, ConsumedLines, LineText};
 pub use column_iter::Columns;
 pub use copying::copy_piece;
 pub use device::{DeviceFailed, Sink, Source};
@@ -64,7 +64,7 @@ pub use line::{Line, LineEnd};
 pub use line_reader::LineReader;
 pub use newline::length_before;
 pub use number_column::{COLUMN, write_column};
-pub use numbers::{MAX_DIGITS, MAX_NUMBER, eight_digits, few_digits, number};
+pub use numbers::{MAX_NUMBER, eight_digits, few_digits, number};
 pub use output::Out;
 pub use putting::{put_both, put_column, put_line, put_number};
 pub use read_buffer::BLOCK;

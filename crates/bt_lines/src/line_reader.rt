@@ -140,23 +140,15 @@ impl<S: Source> LineReader<S> {
         Ok(self.line())
     }
 
-    /// The line that the last `next` gave, once more. There is none before the first line, at the end
-    /// and after a fault. It reads nothing.
-    pub fn line(&self) -> Option<Line<'_>>
+    // The line that the last `next` gave, once more. There is none before the first line, at the end
+    // and after a fault. It reads nothing.
+    fn line(&self) -> Option<Line<'_>>
         ensures { option_map line_seen result ≡ line_at self.now }
     {
         if self.lines == 0 || !self.is_open() && !self.is_going() {
             return None;
         }
         Some(self.last_line())
-    }
-
-    /// The text of the line that [`LineReader::line`] has. It reads nothing.
-    pub fn text(&self) -> &[u8]
-        requires { IsSome (line_at self.now) }
-        ensures { option_map (λ line. line.text) (line_at self.now) ≡ Some result.now }
-    {
-        self.buffer.text()
     }
 
     /// How many lines were given.

@@ -13,8 +13,8 @@ use std::simd::prelude::*;
 /// The greatest number that a text may denote.
 pub const MAX_NUMBER: u64 = 999_999_999_999;
 
-/// This many digits denote at most [`MAX_NUMBER`], whatever they are.
-pub const MAX_DIGITS: usize = 12;
+// That many digits denote at most [`MAX_NUMBER`], whatever they are.
+const MAX_DIGITS: usize = 12;
 
 /// The number that a text of one or more decimal digits denotes, if it is at most
 /// [`MAX_NUMBER`]. Leading zeros are allowed, a sign or a space isn't.

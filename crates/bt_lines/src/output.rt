@@ -7,7 +7,6 @@ ghost use Rattle.bt_lines.specs.Fault.{write_failed};
 ghost use Rattle.bt_lines.specs.Names.{told};
 ghost use Rattle.bt_lines.specs.Putting.{PutsAll};
 ghost use Rattle.bt_lines.specs.Span.{span_text};
-ghost use Rattle.bt_lines.specs.Whole.{AreLines, ended_by};
 
 use crate::copying::is_short;
 use crate::device::{DeviceFailed, Sink};
@@ -124,22 +123,6 @@ impl<K: Sink> Out<K> {
         }
         self.held.append_both(piece, end);
         true
-    }
-
-    /// Puts lines, each with this end instead of its line feed, and returns true, if no write has failed and there is room
-    /// for them; else nothing changes. It writes nothing to the sink.
-    #[inline(always)]
-    pub fn hold_lines(&mut self, lines: &[u8], end: &[u8]) -> bool
-        ensures held { result ≡ true → (texts : List (List ℕ)) → AreLines lines.now texts
-            → PutsAll self.old.output (ended_by end.now texts) self.new.output }
-        ensures untaken { self.new.output.took ≡ self.old.output.took }
-        ensures unasked { self.new.sink ≡ self.old.sink }
-        ensures unchanged { result ≡ false → self.new.output ≡ self.old.output }
-    {
-        if self.has_failed {
-            return false;
-        }
-        self.held.append_lines(lines, end)
     }
 
     // Puts two short pieces, as `hold_both` does, and no others: so nothing is called where they are put.

@@ -162,33 +162,7 @@ fn both_are_held_where_both_fit(rt: HostRuntime) -> Result<(), Fail> {
     Ok(())
 }
 
-// What the sink has of `before` bytes and of two lines, with another end each, and whether the lines were held.
-fn lines_behind(alloc: Global, before: usize) -> Result<(bool, Vec<u8>), Fail> {
-    let mut output = Out::new(ScriptSink::new(alloc, BLOCK, None));
-    output.put(long_line(alloc, before, b"")?.as_slice())?;
-    let is_held = output.hold_lines(b"ab\n\n", b"\t0\n");
-    output.flush()?;
-    let sink = output.into_sink();
-    let mut taken = Vec::new(alloc);
-    taken.extend_from_slice(sink.taken().get(before..).unwrap_or(b""))?;
-    Ok((is_held, taken))
-}
-
-// All lines are held back, also to the block's last byte, or none of them.
-#[test]
-fn lines_are_held_with_another_end(rt: HostRuntime) -> Result<(), Fail> {
-    let alloc = rt.alloc();
-    let all = b"ab\t0\n\t0\n".as_slice();
-    let (is_held, taken) = lines_behind(alloc, 0)?;
-    assert_eq!(rt; (is_held, taken.as_slice()), (true, all));
-    let (is_held, taken) = lines_behind(alloc, 8184)?;
-    assert_eq!(rt; (is_held, taken.as_slice()), (true, all));
-    let (is_held, taken) = lines_behind(alloc, 8185)?;
-    assert_eq!(rt; (is_held, taken.as_slice()), (false, b"".as_slice()));
-    Ok(())
-}
-
-// Whether a name, a start and a stop are held back after `before` bytes, and what the sink has of them then.
+// Whether a name, a start and a stop are held back behind so many bytes, and what the sink has of them then.
 fn span_behind(
     alloc: Global,
     before: usize,
@@ -315,9 +289,7 @@ fn nothing_is_held_behind_a_failure(rt: HostRuntime) -> Result<(), Fail> {
     let mut failed = Out::new(ScriptSink::new(rt.alloc(), BLOCK, Some(0)));
     failed.put(b"line")?;
     let is_told = failed.flush().is_err();
-    let is_held = failed.hold_both(b"line", b"\n")
-        || failed.hold_lines(b"line\n", b"\n")
-        || failed.hold_span(b"chr1", 5, 9, b'\n');
+    let is_held = failed.hold_both(b"line", b"\n") || failed.hold_span(b"chr1", 5, 9, b'\n');
     assert!(rt; is_told && !is_held);
     Ok(())
 }

@@ -221,42 +221,7 @@ fn lines_of_texts(rt: HostRuntime) {
     assert_eq!(rt; first_misdivided_text(rt.alloc(), &TEXTS), None);
 }
 
-// Whether the next line is this one, and is given once more.
-fn lends_again<S: Source>(
-    reader: &mut LineReader<S>,
-    number: u64,
-    text: &[u8],
-    ending: LineEnd,
-) -> bool {
-    if !gives(reader, number, text, ending) {
-        return false;
-    }
-    match reader.line() {
-        Some(line) => is_it(&line, number, text, ending) && reader.text() == text,
-        None => false,
-    }
-}
-
-// Whether each line is given once more, and none before the first and after the last, if the text comes in
-// pieces of this many bytes.
-fn are_lent_once_more(alloc: Global, step: usize) -> bool {
-    let source = ScriptSource::new(b"a\r\nb", step.max(1), None);
-    let mut reader = LineReader::new(alloc, source, Input::First);
-    let none_before = reader.line().is_none();
-    let are_lent = lends_again(&mut reader, 1, b"a", LineEnd::CrLf)
-        && lends_again(&mut reader, 2, b"b", LineEnd::Absent);
-    let has_ended = has_ended(&mut reader);
-    let none_behind = reader.line().is_none();
-    let _ = reader.into_source();
-    none_before && are_lent && has_ended && none_behind
-}
-
-#[test]
-fn the_line_given_is_lent_once_more(rt: HostRuntime) {
-    assert!(rt; are_lent_once_more(rt.alloc(), 1) && are_lent_once_more(rt.alloc(), 7));
-}
-
-// Whether this many lines are given.
+// Whether so many lines are given.
 fn gives_some<S: Source>(reader: &mut LineReader<S>, count: u64) -> bool {
     for _ in 0..count {
         match reader.next() {

@@ -131,23 +131,6 @@ open_both position (s ∷ ss) more = elim (cases_Bool (nat_le position s.stop)) 
   | inr f ↦ rw f (open_both position ss more)
 ]
 
--- with the one before, those from an index on
-behind_cons : (i : ℕ) (items : List OpenSpan) (x : OpenSpan) → i < length items → x ≡ slice_index_or items i x → drop i items ≡ x ∷ drop (suc i) items
-behind_cons i [] x below is = absurd (omega arith)
-behind_cons zero (s ∷ ss) x below is = rw is refl
-behind_cons (suc i) (s ∷ ss) x below is = behind_cons i ss x (omega arith) is
-
-module _ (position i : ℕ) (items : List OpenSpan) (x : OpenSpan) (below : i < length items) (is : x ≡ slice_index_or items i x) where
-  abbrev open_behind : ℕ → List Span
-  open_behind n = still_open position (spans_open (drop n items))
-
-  -- the one at an index has ended, or is open
-  pub behind_ended : x.stop < position → open_behind i ≡ open_behind (suc i)
-  behind_ended ended = ap (λ l. still_open position (spans_open l)) (behind_cons i items x below is) ∙ rw (lt-leb position x.stop ended) refl
-
-  pub behind_open : position ≤ x.stop → open_behind i ≡ span_open x ∷ open_behind (suc i)
-  behind_open left = ap (λ l. still_open position (spans_open l)) (behind_cons i items x below is) ∙ rw (le-leb position x.stop left) refl
-
 -- all pass, or none
 all_pass : {X : Type 0} (xs : List X) → filter (λ x. true) xs ≡ xs
 all_pass [] = refl

@@ -89,12 +89,6 @@ module _ (gap : ℕ) (chrom : List ℕ) (r : Feature) where
   abbrev pub Fits : List PendingRun → Type 0
   Fits rest = (here ≡ true) ⊎ (rest ≡ [])
 
-  pub left_fits : (runs : List PendingRun) → Fits (left_runs here reach runs)
-  left_fits runs = elim (cases_Bool here) [
-    | inl t ↦ inl t
-    | inr f ↦ inr (ap (λ b. left_runs b reach runs) f ∙ left_none reach runs)
-  ]
-
   -- a record that is joined to the last run of its strand, and one that isn't
   pub record Added (rest : List PendingRun) (joined : Bool) (new : List PendingRun) : Type 0 where
     pub one : joined ≡ true → with_added gap (placed_runs chrom rest) r ≡ placed_runs chrom new

@@ -33,7 +33,11 @@ fn gives_lines(batch: Batch<'_>) -> bool {
     let (Some(first), Some(second)) = (ahead.next(), ahead.next()) else {
         return false;
     };
-    let between = batch.between(batch.offset(), ahead.offset());
+    let (from, to) = (batch.offset(), ahead.offset());
+    if to < from {
+        return false;
+    }
+    let between = ahead.between(from, to);
     let Some(third) = ahead.next() else {
         return false;
     };

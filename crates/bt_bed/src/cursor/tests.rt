@@ -66,7 +66,7 @@ fn ends_at<C: Cursor>(records: &mut C, offset: usize, is_canonical: bool) -> boo
 
 // Whether these bytes lie between two offsets of what was consumed.
 fn lies_between<C: Cursor>(records: &C, from: usize, to: usize, bytes: &[u8]) -> bool {
-    records.between(from, to) == bytes
+    from <= to && to <= records.offset() && records.between(from, to) == bytes
 }
 
 #[test]
