@@ -43,3 +43,5 @@ pub mod GapsHit
 pub mod LengthLaws
 pub mod DepthsMerged
 pub mod ConvertPipes
+pub mod MaskPipes
+pub mod MaskTwice

@@ -24,7 +24,7 @@ use Rattle.bt_laws.proofs.PartLists.{all_back}
 
 -- ---- a byte at the end
 
-ends_both : (byte : ℕ) (front back : List ℕ) → 0 < length back → ends_with_byte byte (front ++ back) ≡ ends_with_byte byte back
+pub ends_both : (byte : ℕ) (front back : List ℕ) → 0 < length back → ends_with_byte byte (front ++ back) ≡ ends_with_byte byte back
 ends_both byte front back some =
     let size : length (front ++ back) ≡ length front + length back = length-append front back in
     let at : length (front ++ back) - 1 ≡ length front + (length back - 1) = omega (arith, size) in

@@ -12,3 +12,4 @@ pub mod SameSweeps
 pub mod LengthLaws
 pub mod ConvertPipes
 pub mod PipeExamples
+pub mod MaskPipes

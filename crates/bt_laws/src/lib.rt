@@ -5,6 +5,7 @@
 #![tactic(auto)]
 
 pub mod length_laws;
+pub mod mask_laws;
 pub mod pipes;
 pub mod same_lines;
 pub mod same_runs;
