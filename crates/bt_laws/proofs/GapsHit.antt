@@ -100,7 +100,7 @@ unhidden name (r ∷ rs) e = elim (cases_Bool (is_no_header (three_columns r))) 
 
 -- ---- what a has in the gaps
 
-abbrev cut_span : Feature → Feature → Span
+abbrev pub cut_span : Feature → Feature → Span
 cut_span a g = record { start = max a.start g.start; stop = min a.stop g.stop }
 
 cut_lines : (a : Feature) (found : List Feature) → flat_map (hit_line Cut a) found ≡ flat_map (piece_line a) (map (cut_span a) found)
@@ -112,12 +112,12 @@ from_pairs first [] all pairs = tt
 from_pairs first (s ∷ ss) all pairs =
     (all.0.0, all.0.1, from_pairs (s.stop + 1) ss (all_zip (λ (t : Span). (first ≤ t.start) × (t.start < t.stop)) (λ (t : Span). s.stop < t.start) (λ (t : Span). (s.stop + 1 ≤ t.start) × (t.start < t.stop)) ss (λ t h k. (omega (arith, k), h.1)) all.1 pairs.0) pairs.1)
 
-cut_covered : (a : Feature) (found : List Feature) (p : ℕ) → IsCovered (map (cut_span a) found) p → IsCovered (spans_of found) p × (a.start ≤ p) × (p < a.stop)
+pub cut_covered : (a : Feature) (found : List Feature) (p : ℕ) → IsCovered (map (cut_span a) found) p → IsCovered (spans_of found) p × (a.start ≤ p) × (p < a.stop)
 cut_covered a [] p c = absurd c
 cut_covered a (g ∷ found) p (inl here) = (inl (omega (arith, here.0), omega (arith, here.1)), omega (arith, here.0), omega (arith, here.1))
 cut_covered a (g ∷ found) p (inr there) = let more = cut_covered a found p there in (inr more.0, more.1, more.2)
 
-covered_cut : (a : Feature) (found : List Feature) (p : ℕ) → a.start ≤ p → p < a.stop → IsCovered (spans_of found) p → IsCovered (map (cut_span a) found) p
+pub covered_cut : (a : Feature) (found : List Feature) (p : ℕ) → a.start ≤ p → p < a.stop → IsCovered (spans_of found) p → IsCovered (map (cut_span a) found) p
 covered_cut a [] p from to c = absurd c
 covered_cut a (g ∷ found) p from to (inl here) = inl (omega (arith, here.0, from), omega (arith, here.1, to))
 covered_cut a (g ∷ found) p from to (inr there) = inr (covered_cut a found p from to there)

@@ -45,3 +45,4 @@ pub mod DepthsMerged
 pub mod ConvertPipes
 pub mod MaskPipes
 pub mod MaskTwice
+pub mod PartBases

@@ -13,3 +13,4 @@ pub mod LengthLaws
 pub mod ConvertPipes
 pub mod PipeExamples
 pub mod MaskPipes
+pub mod PartBases
