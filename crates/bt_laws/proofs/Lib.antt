@@ -46,3 +46,4 @@ pub mod ConvertPipes
 pub mod MaskPipes
 pub mod MaskTwice
 pub mod PartBases
+pub mod PairSides

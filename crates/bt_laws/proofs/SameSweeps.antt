@@ -212,7 +212,7 @@ met_none order shape rule first second one two =
     none_by (list_all r.decided (items_in first)) (flat_map r.lines (items_in first)) (written r (items_in first)) first.fault second.fault one two
 
 -- a run without a fault has inputs without one
-met_faultless : (order : Order) (shape : Shape) (rule : HitRule) (limit : Option ℕ) (first second : Good Feature) → (met_within order shape rule limit first second).fault ≡ None → (first.fault ≡ None) × (second.fault ≡ None)
+pub met_faultless : (order : Order) (shape : Shape) (rule : HitRule) (limit : Option ℕ) (first second : Good Feature) → (met_within order shape rule limit first second).fault ≡ None → (first.fault ≡ None) × (second.fault ≡ None)
 met_faultless order shape rule limit first second e =
     let seen = limited order limit (items_in first) second in
     let r = sweep_rule order shape rule (items_in seen) seen.fault in
@@ -226,19 +226,19 @@ like_with sorting n last one other (Err kind) ls ms h e = cc
 like_with sorting n last one other (Ok None) ls ms h e = h last e
 like_with sorting n last one other (Ok (Some r)) ls ms h e = let rest = h ((bed_format sorting).after last r) e in (ap (λ l. r ∷ l) rest.0, rest.1)
 
-like_from : (sorting : Sorting) (one other : Input) (last : Option Locus) (lines : List TextLine) → (good_from (bed_format sorting) one last lines).fault ≡ None
+pub like_from : (sorting : Sorting) (one other : Input) (last : Option Locus) (lines : List TextLine) → (good_from (bed_format sorting) one last lines).fault ≡ None
     → (items_in (good_from (bed_format sorting) other last lines) ≡ items_in (good_from (bed_format sorting) one last lines)) × ((good_from (bed_format sorting) other last lines).fault ≡ None)
 unfolding good_from
 like_from sorting one other last [] e = (refl, refl)
 like_from sorting one other last (line ∷ lines) e =
     like_with sorting line.number last one other (line_says sorting last line.text) (λ now. good_from (bed_format sorting) one now lines) (λ now. good_from (bed_format sorting) other now lines) (λ now none. like_from sorting one other now lines none) e
 
-cut_none : (fault cut : Option Told) → or_else fault cut ≡ None → (fault ≡ None) × (cut ≡ None)
+pub cut_none : (fault cut : Option Told) → or_else fault cut ≡ None → (fault ≡ None) × (cut ≡ None)
 cut_none None None e = (refl, refl)
 cut_none None (Some c) e = cc
 cut_none (Some f) cut e = cc
 
-uncut : (is_cut : Bool) (one other : Told) → (if is_cut then Some one else None) ≡ None → (if is_cut then Some other else None) ≡ None
+pub uncut : (is_cut : Bool) (one other : Told) → (if is_cut then Some one else None) ≡ None → (if is_cut then Some other else None) ≡ None
 uncut true one other e = cc
 uncut false one other e = refl
 

@@ -14,3 +14,4 @@ pub mod ConvertPipes
 pub mod PipeExamples
 pub mod MaskPipes
 pub mod PartBases
+pub mod PairSides

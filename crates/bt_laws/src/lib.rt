@@ -6,6 +6,7 @@
 
 pub mod length_laws;
 pub mod mask_laws;
+pub mod pair_sides;
 pub mod part_bases;
 pub mod pipes;
 pub mod same_lines;
